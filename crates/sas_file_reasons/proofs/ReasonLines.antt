@@ -1,4 +1,4 @@
--- Each line of reasons begins with two spaces, and holds neither LF nor CR.
+-- Each line of reasons begins with two spaces, and contains neither LF nor CR.
 use Rattle.std.proofs.Common.{◌+◌, ℕ, ◌/◌, ◌%◌, ◌<◌, Bool, true, false, List, [], ◌∷◌, ◌++◌, codes, flat_map, refl, arith, ap, IsTrue, not}
 use Rattle.std.specs.Prelude.{nat_lt, ◌&&◌, ◌==◌, if◌then◌else◌, decimal}
 use Rattle.std.specs.List.{list_all}
@@ -62,7 +62,7 @@ shown_plain : (bytes : List ℕ) (more : Bool) → IsPlain (shown bytes more)
 shown_plain bytes true = plain-append (flat_map shown_byte bytes) (codes " ..") (bytes_plain bytes) refl
 shown_plain bytes false = whole_plain bytes
 
--- ---- where a line stands, and what is expected there
+-- ---- the location of a line, and what is expected there
 
 location_plain : (at : Location) → IsPlain (location_words at)
 location_plain at.Version = refl

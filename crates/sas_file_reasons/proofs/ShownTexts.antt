@@ -1,4 +1,4 @@
--- A whole text is shown byte by byte, but for a space at its end.
+-- A whole text is shown byte by byte, except for a space at its end.
 use Rattle.std.proofs.Common.{◌≡◌, ◌≢◌, ℕ, ◌-◌, Bool, true, false, List, [], ◌∷◌, ◌++◌, ◌==◌, length, take, drop, append_assoc, append-nil, codes, flat_map, refl, sym, ap, ◌∙◌, eqb-true, arith, length-append}
 use Rattle.std.specs.Prelude.{if◌then◌else◌, nat_eq}
 use Rattle.std.specs.Cmp.Lexicographic.{pointwise, same_text, other_text}
@@ -13,7 +13,7 @@ behind_front (b ∷ next ∷ front) =
     ap (λ (l : List ℕ). shown_byte b ++ l) (behind_front (next ∷ front))
     ∙ sym (append_assoc (shown_byte b) (flat_map shown_byte (next ∷ front)) (in_digits 32))
 
--- where the last byte is a space
+-- the last byte is a space
 pub space_at_end : (bytes front : List ℕ) → pointwise nat_eq (drop (length bytes - 1) bytes) (32 ∷ []) ≡ true → front ≡ take (length bytes - 1) bytes
     → shown_whole bytes ≡ flat_map shown_byte front ++ codes "\\x20"
 space_at_end bytes front same is =
@@ -33,7 +33,7 @@ by_bytes (b ∷ []) none = other (b == 32) (λ is. none [] (ap (λ (x : ℕ). x 
 by_bytes (b ∷ next ∷ bytes) none =
     ap (λ (l : List ℕ). shown_byte b ++ l) (by_bytes (next ∷ bytes) (λ front is. none (b ∷ front) (ap (λ (l : List ℕ). b ∷ l) is)))
 
--- and where it isn't
+-- the last byte isn't a space
 pub no_space_at_end : (bytes : List ℕ) → pointwise nat_eq (drop (length bytes - 1) bytes) (32 ∷ []) ≡ false → shown_whole bytes ≡ flat_map shown_byte bytes ++ []
 no_space_at_end bytes other = by_bytes bytes (λ front is.
     let n : length bytes - 1 ≡ length front = omega (arith, ap length is, length-append front (32 ∷ [])) in

@@ -13,24 +13,24 @@ use Rattle.sas_file_reasons.specs.Shown.{shown}
 
 -- a line as data
 pub data FileLine : Type 0 where
-  -- where in a task the line stands
+  -- the location of the line in a task
   At : Location → FileLine
   -- what is expected there
   Expected : Due → FileLine
-  -- what is expected in a plan where it has a fault of this kind
+  -- what is expected in a plan at a fault of this kind
   ExpectedInPlan : Kind → FileLine
-  -- the first number that may not stand there, and what may
+  -- the first wrong number, and which numbers are allowed
   NumberMustBe : WrongWord → FileLine
-  -- what was judged: its first bytes, and whether more follow
+  -- the wrong line or the byte after the end: its first bytes, and whether more follow
   Found : List ℕ → Bool → FileLine
-  -- it was an empty line
+  -- the wrong line is empty
   EmptyLine : FileLine
-  -- what follows the last line end, in the same way
+  -- the unfinished last line: its first bytes, and whether more follow
   Unfinished : List ℕ → Bool → FileLine
-  -- nothing stands there
+  -- nothing follows the last line end
   EndOfFile : FileLine
 
--- the words for where a line of a task stands
+-- the words for a location in a task
 abbrev pub location_words : Location → List ℕ
 location_words at.Version = codes "version"
 location_words at.Metric = codes "metric"
@@ -64,7 +64,7 @@ plan_due_words kinds.Shape = codes "; cost = N (unit cost) or ; cost = N (genera
 plan_due_words kinds.Trailing = codes "end of file"
 plan_due_words _ = codes "(NAME) or ; cost = N (unit cost) or ; cost = N (general cost)"
 
--- the least number that may stand in place of a wrong one
+-- the least number that is allowed in place of a wrong one
 abbrev pub least_words : Bool → List ℕ
 least_words true = codes "-1"
 least_words false = codes "0"
@@ -82,6 +82,6 @@ file_line_bytes EmptyLine = line 2 (codes "empty line" ∷ [])
 file_line_bytes (Unfinished bytes more) = line 2 (codes "unfinished" ∷ shown bytes more ∷ [])
 file_line_bytes EndOfFile = line 2 (codes "end of file" ∷ [])
 
--- and with it
+-- the bytes of a line, with its end
 abbrev pub ended : FileLine → List ℕ
 ended l = file_line_bytes l ++ 10 ∷ []

@@ -1,4 +1,4 @@
--- How bytes of a file are shown.
+-- How bytes of a file are printed.
 use Rattle.std.specs.Prelude.{ℕ, ◌+◌, ◌/◌, ◌%◌, ◌==◌, nat_lt, Bool, true, false, ◌&&◌, not, if◌then◌else◌}
 use Rattle.std.specs.Prelude.{List, [], ◌∷◌, ◌++◌, flat_map, codes}
 
@@ -6,11 +6,11 @@ use Rattle.std.specs.Prelude.{List, [], ◌∷◌, ◌++◌, flat_map, codes}
 abbrev pub is_shown : ℕ → Bool
 is_shown b = nat_lt 31 b && nat_lt b 127 && not (b == 92)
 
--- the hexadecimal digit of a number below 16, a small letter from 10 on
+-- the hexadecimal digit of a number below 16, in lower case
 abbrev pub hex_digit_of : ℕ → ℕ
 hex_digit_of n = if nat_lt n 10 then 48 + n else 87 + n
 
--- a byte as `\x` and its two digits
+-- a byte as `\x` and two hexadecimal digits
 abbrev pub in_digits : ℕ → List ℕ
 in_digits b = 92 ∷ 120 ∷ hex_digit_of (b / 16) ∷ hex_digit_of (b % 16) ∷ []
 
@@ -24,7 +24,7 @@ shown_whole [] = []
 shown_whole (b ∷ []) = if b == 32 then in_digits b else shown_byte b
 shown_whole (b ∷ next ∷ bytes) = shown_byte b ++ shown_whole (next ∷ bytes)
 
--- the first bytes of a text as they are shown, and ` ..` where more follow
+-- the first bytes of a text as they are shown, and ` ..` if more follow
 abbrev pub shown : List ℕ → Bool → List ℕ
 shown bytes true = flat_map shown_byte bytes ++ codes " .."
 shown bytes false = shown_whole bytes

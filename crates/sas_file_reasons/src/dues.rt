@@ -1,4 +1,4 @@
-// Lines about where a line stands, and what is expected there.
+// Lines with the location of a line, and with what is expected there.
 ghost use Rattle.std.specs.Prelude.{◌≡◌, ◌++◌, [], ◌∷◌, decimal, codes, OnOk};
 ghost use Rattle.sas_file_reasons.specs.FileLine as line;
 ghost use Rattle.sas_file_reasons.specs.FileLine.{due_words, ended, location_words, plan_due_words};
@@ -8,7 +8,7 @@ use sas_reader::Kind;
 use sas_task_format::{Due, Location, WrongWord};
 use std::alloc::AllocError;
 
-/// Appends the line of where a line stands.
+/// Appends the line with a location.
 pub(crate) fn push_location(out: &mut Vec<u8>, at: Location) -> Result<(), AllocError>
     ensures { OnOk result (out.new.items ≡ out.old.items ++ ended (line.At at)) }
 {
@@ -18,7 +18,7 @@ pub(crate) fn push_location(out: &mut Vec<u8>, at: Location) -> Result<(), Alloc
     Ok(())
 }
 
-/// Appends the words for where a line stands.
+/// Appends the words for a location.
 fn push_location_words(out: &mut Vec<u8>, at: Location) -> Result<(), AllocError>
     ensures { OnOk result (out.new.items ≡ out.old.items ++ location_words at) }
 {
@@ -39,7 +39,7 @@ fn push_location_words(out: &mut Vec<u8>, at: Location) -> Result<(), AllocError
     }
 }
 
-/// Appends these bytes and the number.
+/// Appends the bytes and the number.
 fn push_counted(out: &mut Vec<u8>, bytes: &[u8], n: u32) -> Result<(), AllocError>
     ensures { OnOk result (out.new.items ≡ out.old.items ++ (bytes.now ++ decimal n)) }
 {
@@ -47,7 +47,7 @@ fn push_counted(out: &mut Vec<u8>, bytes: &[u8], n: u32) -> Result<(), AllocErro
     push_number(out, u128::from(n))
 }
 
-/// Appends the line of what is expected in a task.
+/// Appends the line with what is expected in a task.
 pub(crate) fn push_due(out: &mut Vec<u8>, due: Due) -> Result<(), AllocError>
     ensures { OnOk result (out.new.items ≡ out.old.items ++ ended (line.Expected due)) }
 {
@@ -75,7 +75,7 @@ fn push_due_words(out: &mut Vec<u8>, due: Due) -> Result<(), AllocError>
     }
 }
 
-/// Appends the words for a number from the least to the most.
+/// Appends the words for a number from `least` to `most`.
 fn push_range(out: &mut Vec<u8>, least: u32, most: u32) -> Result<(), AllocError>
     ensures { OnOk result (out.new.items
         ≡ out.old.items ++ codes "number " ++ decimal least ++ codes " to " ++ decimal most) }
@@ -84,7 +84,7 @@ fn push_range(out: &mut Vec<u8>, least: u32, most: u32) -> Result<(), AllocError
     push_counted(out, b" to ", most)
 }
 
-/// Appends the line of the number that may not stand there.
+/// Appends the line with the wrong number, and which numbers are allowed.
 pub(crate) fn push_wrong_word(out: &mut Vec<u8>, wrong: WrongWord) -> Result<(), AllocError>
     ensures { OnOk result (out.new.items ≡ out.old.items ++ ended (line.NumberMustBe wrong)) }
 {
@@ -99,7 +99,7 @@ pub(crate) fn push_wrong_word(out: &mut Vec<u8>, wrong: WrongWord) -> Result<(),
     Ok(())
 }
 
-/// Appends the line of what is expected in a plan where it has a fault of this kind.
+/// Appends the line with what is expected in a plan at a fault of this kind.
 pub(crate) fn push_plan_due(out: &mut Vec<u8>, kind: Kind) -> Result<(), AllocError>
     ensures { OnOk result (out.new.items ≡ out.old.items ++ ended (line.ExpectedInPlan kind)) }
 {
@@ -107,7 +107,7 @@ pub(crate) fn push_plan_due(out: &mut Vec<u8>, kind: Kind) -> Result<(), AllocEr
     push_line(out, plan_due(kind))
 }
 
-/// Returns the words for what is expected in a plan where it has a fault of this kind.
+/// Returns the words for what is expected in a plan at a fault of this kind.
 fn plan_due(kind: Kind) -> &'static [u8]
     ensures { result.now ≡ plan_due_words kind }
 {

@@ -1,4 +1,4 @@
-// The line about what was found at a fault.
+// The line with the text at a fault.
 ghost use Rattle.std.specs.Prelude.{◌≡◌, ◌<◌, ◌++◌, [], ◌∷◌, flat_map, OnOk};
 ghost use Rattle.sas_reader.specs.Found.{bytes_of};
 ghost use Rattle.sas_file_reasons.specs.FileLine.{ended};
@@ -9,7 +9,7 @@ use sas_lines::push_line;
 use sas_reader::{Found, Kind};
 use std::alloc::AllocError;
 
-/// Appends the line of what was found at a fault of this kind.
+/// Appends the line with the text at a fault of this kind.
 pub(crate) fn push_found(out: &mut Vec<u8>, kind: Kind, found: &Found) -> Result<(), AllocError>
     ensures { OnOk result (out.new.items ≡ out.old.items
         ++ ended (found_line kind (bytes_of found.now) found.now.more)) }
@@ -20,7 +20,7 @@ pub(crate) fn push_found(out: &mut Vec<u8>, kind: Kind, found: &Found) -> Result
     }
 }
 
-/// Appends the line of what is left of a file that ends too early.
+/// Appends the line with the unfinished last line of a file.
 fn push_rest(out: &mut Vec<u8>, found: &Found) -> Result<(), AllocError>
     ensures { OnOk result (out.new.items ≡ out.old.items
         ++ ended (rest_line (bytes_of found.now) found.now.more)) }
@@ -31,7 +31,7 @@ fn push_rest(out: &mut Vec<u8>, found: &Found) -> Result<(), AllocError>
     push_text(out, b"  unfinished ", found)
 }
 
-/// Appends the line of what was judged: a line, or the byte behind the end.
+/// Appends the line with the wrong line, or with the byte after the end.
 fn push_judged(out: &mut Vec<u8>, found: &Found) -> Result<(), AllocError>
     ensures { OnOk result (out.new.items ≡ out.old.items
         ++ ended (judged_line (bytes_of found.now) found.now.more)) }
@@ -42,7 +42,7 @@ fn push_judged(out: &mut Vec<u8>, found: &Found) -> Result<(), AllocError>
     push_text(out, b"  found ", found)
 }
 
-/// Appends the line that begins with these bytes and shows what was found.
+/// Appends a line that begins with these bytes and shows the text.
 fn push_text(out: &mut Vec<u8>, front: &[u8], found: &Found) -> Result<(), AllocError>
     ensures { OnOk result (out.new.items ≡ out.old.items
         ++ (front.now ++ (shown (bytes_of found.now) found.now.more ++ 10 ∷ []))) }
@@ -53,7 +53,7 @@ fn push_text(out: &mut Vec<u8>, front: &[u8], found: &Found) -> Result<(), Alloc
     Ok(())
 }
 
-/// Appends what was found, as it is shown.
+/// Appends the text as it is shown.
 fn push_shown(out: &mut Vec<u8>, found: &Found) -> Result<(), AllocError>
     ensures { OnOk result (out.new.items
         ≡ out.old.items ++ shown (bytes_of found.now) found.now.more) }
@@ -75,7 +75,7 @@ fn push_whole(out: &mut Vec<u8>, bytes: &[u8]) -> Result<(), AllocError>
     }
 }
 
-/// Appends the bytes, each as it is shown, and then the last ones as they are.
+/// Appends each byte as it is shown, and then `last` unchanged.
 fn push_bytes(out: &mut Vec<u8>, bytes: &[u8], last: &[u8]) -> Result<(), AllocError>
     ensures { OnOk result (out.new.items
         ≡ out.old.items ++ (flat_map shown_byte bytes.now ++ last.now)) }
@@ -105,7 +105,7 @@ fn stands_for_itself(byte: u8) -> bool
     (32..=126).contains(&byte) && byte != b'\\'
 }
 
-/// Returns the hexadecimal digit of a number below 16, a small letter from 10 on.
+/// Returns the hexadecimal digit of a number below 16, in lower case.
 fn hex_digit(n: u8) -> u8
     requires { n < 16 }
     ensures { result ≡ hex_digit_of n }

@@ -1,5 +1,5 @@
-//! Why a file is refused: the lines that `--why` prints behind the refusal. They say where in a task the line stands, what is
-//! expected there, which number may not stand there, and what was found. No file is read.
+//! Writes the reasons why a file is refused: the lines that `--why` prints after the refusal. They give the location in a task, what is
+//! expected there, which number is wrong, and what was found. This crate reads no file.
 #![tactic(auto)]
 
 mod dues;

@@ -9,8 +9,8 @@ use sas_reader::{Found, Kind};
 use sas_task_format::{Mark, WrongWord};
 use std::alloc::AllocError;
 
-/// Appends the reasons why a task is refused for a fault of this kind: where the line stands, what is expected there, which number
-/// may not stand there, if one may not, and what was found.
+/// Appends the reasons why a task is refused for a fault of this kind: the location of the line, what is expected there, which number is
+/// wrong, if any, and what was found. Returns `Err` if out of memory.
 pub fn push_task_reasons(
     out: &mut Vec<u8>,
     kind: Kind,
@@ -29,7 +29,8 @@ pub fn push_task_reasons(
     push_found(out, kind, found)
 }
 
-/// Appends the reasons why a plan is refused for a fault of this kind: what is expected, and what was found.
+/// Appends the reasons why a plan is refused for a fault of this kind: what is expected, and what was found. Returns `Err` if out of
+/// memory.
 pub fn push_plan_reasons(out: &mut Vec<u8>, kind: Kind, found: &Found) -> Result<(), AllocError>
     ensures { OnOk result (out.new.items ≡ out.old.items
         ++ file_text (plan_reasons kind (bytes_of found.now) found.now.more)) }

@@ -1,4 +1,4 @@
--- The operators of numbered names, noted from the last operator to the first.
+-- The operators of numbered names, stored from the last operator to the first.
 use Rattle.std.proofs.Common.{◌≡◌, ℕ, ◌+◌, ◌<◌, ◌≤◌, ◌≢◌, List, length, get_or, slice_set, Option, None, Some, sym, ap, subst, ◌∙◌, inl, inr, arith}
 use Rattle.std.proofs.Math.Nat.{eq-or-lt_of_le}
 use Rattle.std.proofs.lemmas.Bool.{cases_eq}
@@ -9,14 +9,15 @@ use Rattle.sas_core.specs.Grounded.{operator_at}
 use Rattle.sas_names.specs.Names.{IsNextNamed}
 use Rattle.sas_names.proofs.NamesFrom.{IsNextNamed-pass}
 
--- Of each numbered name the first list has the lowest operator from this place on, and of each operator from this place on
--- that has such a name the other list has the next one of this name.
+-- Considers the operators from number `from` on. The first list has the lowest operator of each
+-- numbered name. The other list has, for each operator with such a name, the next operator of the
+-- same name.
 pub record AreChainsFrom (p : Parts) (from : ℕ) (number : List ℕ → Option ℕ) (first table : List (Option ℕ)) : Type 0 where
   pub lowest : (name : List ℕ) (k : ℕ) → number name ≡ Some k → IsNextNamed p name from (get_or first k None)
   pub next : (operator k : ℕ) → from ≤ operator → operator < length p.operators → number (operator_at p operator).name ≡ Some k
       → IsNextNamed p (operator_at p operator).name (operator + 1) (get_or table operator None)
 
--- behind the last operator nothing is noted
+-- after the last operator nothing is stored
 pub AreChainsFrom-end : (p : Parts) (from : ℕ) (number : List ℕ → Option ℕ) (first table : List (Option ℕ)) → from ≡ length p.operators
     → ((k : ℕ) → get_or first k None ≡ None) → AreChainsFrom p from number first table
 AreChainsFrom-end p from number first table all none = record {
@@ -27,7 +28,7 @@ AreChainsFrom-end p from number first table all none = record {
 
 module _ (p : Parts) (operator : ℕ) (number : List ℕ → Option ℕ) (first table : List (Option ℕ))
     (within : operator < length p.operators) (are : AreChainsFrom p (operator + 1) number first table) where
-  -- an operator whose name has no number is passed over
+  -- an operator whose name has no number is skipped
   pub AreChainsFrom-pass : number (operator_at p operator).name ≡ None → AreChainsFrom p operator number first table
   AreChainsFrom-pass none = record {
     lowest = λ name k is. IsNextNamed-pass p name operator

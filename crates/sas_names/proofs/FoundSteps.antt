@@ -1,4 +1,4 @@
--- What is found of the names of steps.
+-- The operators that are found for the names of steps.
 use Rattle.std.proofs.Common.{◌≡◌, ℕ, ◌+◌, ◌<◌, List, [], length, get_or, None, ap, subst, ◌∙◌, arith}
 use Rattle.sas_core.specs.declared.parts.Parts.{Parts}
 use Rattle.sas_core.specs.Grounded.{operator_at}

@@ -13,7 +13,7 @@ use Rattle.sas_names.specs.declared.names.Names.{Names}
 use Rattle.sas_names.specs.NameTable.{AreMappedFrom, AreNamesFrom, Exist, IsEmptyTable, Puts, value_of, operator_names, operator_of}
 use Rattle.sas_names.proofs.TablePuts.{Exist-empty, value_of-empty}
 
--- behind the last operator nothing is told
+-- after the last operator no name has an operator
 pub AreMappedFrom-end : (p : Parts) (from : ℕ) (tells : List ℕ → Option ℕ) (table : List (Option ℕ)) → from ≡ length p.operators
     → length table ≡ length p.operators → ((name : List ℕ) → tells name ≡ None) → AreMappedFrom p from tells table
 AreMappedFrom-end p from tells table all one_each none = record {
@@ -23,7 +23,7 @@ AreMappedFrom-end p from tells table all one_each none = record {
   next = λ operator from_on within. absurd (omega (arith, all));
 }
 
--- an operator that doesn't have the name is passed over
+-- an operator that doesn't have the name is skipped
 pub IsNextNamed-pass : (p : Parts) (name : List ℕ) (operator : ℕ) → (IsNamed p name operator → ⊥) → (r : Option ℕ)
     → IsNextNamed p name (operator + 1) r → IsNextNamed p name operator r
 IsNextNamed-pass p name operator other None none = λ lower from_on named.
@@ -82,9 +82,9 @@ module _ (p : Parts) (operator : ℕ) (tells after : List ℕ → Option ℕ) (t
     next = next_of;
   }
 
--- ---- a table with the names where they stand
+-- ---- a table of borrowed names
 
--- the name of an operator, where it stands, and the operator
+-- the borrowed name of an operator, and the operator
 abbrev name_of : NamedOperator → List ℕ
 name_of named = named.name.now
 
@@ -114,7 +114,7 @@ module _ (p : Parts) (operator : ℕ) (named : NamedOperator) (old new : NameTab
 
 -- ---- a table with the numbers of operators
 
--- behind the last operator there is none
+-- after the last operator the table is empty
 pub AreNamesFrom-end : (p : Parts) (from : ℕ) (names : Names) → from ≡ length p.operators → length names.next.items ≡ length p.operators
     → IsEmptyTable names.first → AreNamesFrom p from names
 AreNamesFrom-end p from names all one_each empty = record {

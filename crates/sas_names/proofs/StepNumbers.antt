@@ -1,4 +1,4 @@
--- The numbers of steps' names, where one name more is numbered.
+-- The numbers of steps' names, after one more name is numbered.
 use Rattle.std.proofs.Common.{◌≡◌, ℕ, ◌<◌, ◌⊎◌, Bool, true, false, List, [], ◌∷◌, ◌++◌, length, nat_eq, get_or, Option, None, Some, refl, sym, ap, subst, ◌∙◌, inl, inr, if◌then◌else◌, arith}
 use Rattle.std.specs.Cmp.Lexicographic.{pointwise, bytes_decides}
 use Rattle.std.proofs.Math.ListN.{get_or-append, length-append}
@@ -74,7 +74,7 @@ module _ (steps : List (List ℕ)) (m n : NameTable ℕ) (step : ℕ) (within : 
     };
   }
 
--- the next step has its number, too
+-- the next step has its number as well
 pub numbers_one_more : (steps : List (List ℕ)) (m n : NameTable ℕ) (of_steps : List ℕ) (number : ℕ) → HaveNumbers steps m of_steps
     → Numbers steps (get_or steps (length of_steps) []) number m n → HaveNumbers steps n (of_steps ++ number ∷ [])
 numbers_one_more steps m n of_steps number each next step lt = elim (cases_lt step (length of_steps)) [

@@ -1,4 +1,4 @@
--- What a table of names has for each name after a value was put for one.
+-- The value of each name in a table after one value was put.
 use Rattle.std.proofs.Common.{◌≡◌, ℕ, ◌≢◌, Bool, true, false, List, nat_eq, Option, None, Some, refl, sym, ap, subst, ◌∙◌, if◌then◌else◌, true≢false}
 use Rattle.std.specs.BTreeMap as tree
 use Rattle.std.specs.BTreeMap.{BTreeMap, is_at}
@@ -17,7 +17,7 @@ use Rattle.sas_names.specs.NameTable.{IsEmptyTable, Exist, Puts, PutsDigest, Put
 
 -- ---- the two maps
 
--- two digests that differ ask for different keys
+-- different digests are different keys
 digests_apart : (digest other : ℕ) → nat_eq digest other ≡ false → AreApart (nat_eq digest) (nat_eq other)
 digests_apart digest other differs = λ key is.
     let same : digest ≡ key = eqb-true digest key is in
@@ -34,7 +34,7 @@ module _ {V S : Type 0} (m n : IndexMap ℕ V S) (value : V) where
       by false differs =
           updates.3 (nat_eq other) (nat_eq_equiv.congr other) (digests_apart digest other differs)
 
--- the keys that are this name
+-- which keys equal this name
 abbrev asks : List ℕ → Vec ℕ → Bool
 asks name = is_at (λ key. slice_cmp nat_cmp name key.items)
 
@@ -69,7 +69,7 @@ module _ {V : Type 0} (m n : BTreeMap (Vec ℕ) V) (key : Vec ℕ) (value : V) w
 pub Exist-empty : {V : Type 0} (exists : V → Type 0) (table : NameTable V) → IsEmptyTable table → Exist exists table
 Exist-empty exists table empty = λ digest value is. absurd (none-some value (sym (empty.first digest) ∙ is))
 
--- so no name has one
+-- so no name has a value
 pub value_of-empty : {V : Type 0} (names : V → List ℕ) (table : NameTable V) → IsEmptyTable table → (name : List ℕ) → value_of names table name ≡ None
 value_of-empty names table empty name =
     ap (λ had. own_else names name had (other_of table.others name)) (empty.first (digest_of name)) ∙ empty.others name
@@ -78,17 +78,17 @@ module _ {V : Type 0} (names : V → List ℕ) (value : V) (old new : NameTable 
   abbrev own : List ℕ
   own = names value
 
-  -- that of the digest is one of this name, or none
+  -- the digest has a value of this name, or none
   abbrev pub IsFree : Option V → Type 0
   IsFree None = Unit {0}
   IsFree (Some k) = names k ≡ own
 
-  -- that of the digest is one of another name, or none
+  -- the digest has a value of another name, or none
   abbrev pub IsAnothers : Option V → Type 0
   IsAnothers None = Unit {0}
   IsAnothers (Some k) = names k ≢ own
 
-  -- another name isn't found by what is free for this one
+  -- other names aren't found at a digest that is free
   passed : (other : List ℕ) → own ≢ other → (had : Option V) → IsFree had → (d : Option V) → own_else names other had d ≡ d
   passed other apart None free d = refl
   passed other apart (Some k) free d = by (pointwise nat_eq (names k) other) refl

@@ -1,4 +1,4 @@
--- The operators of some names, each with the next one of its name.
+-- The operators of some names, each with the next operator of the same name.
 use Rattle.std.specs.Prelude.{◌≡◌, ℕ, ◌+◌, ◌<◌, ◌≤◌, List, length, Option, None, Some, slice_index, slice_index_or}
 use Rattle.sas_core.specs.declared.parts.Parts.{Parts}
 use Rattle.sas_core.specs.Grounded.{operator_at}
@@ -9,17 +9,17 @@ use Rattle.sas_names.specs.Named.{IsNamed}
 use Rattle.sas_names.specs.NameTable.{value_of}
 use Rattle.sas_names.specs.StepNames.{step_names}
 
--- the list has, for each operator of the first one's name, the next one of this name
+-- for each operator with the name of `first`, the list has the next operator of this name
 abbrev pub IsChain : Parts → ℕ → List (Option ℕ) → Type 0
 IsChain p first nexts = (operator : ℕ) → IsNamed p (operator_at p first).name operator
     → IsNextNamed p (operator_at p first).name (operator + 1) (slice_index_or nexts operator None)
 
--- so it is for each of these operators
+-- `IsChain` for each of these operators
 abbrev pub HaveChains : Parts → List ℕ → List (Option ℕ) → Type 0
 HaveChains p firsts nexts = (step : ℕ) → step < length firsts
     → IsChain p (slice_index firsts step) nexts
 
--- for each of the names the lowest operator, and for each operator of one of them the next one
+-- the lowest operator of each name, and for each operator of one of these names the next one
 pub record AreChains (p : Parts) (steps : List (List ℕ)) (names : StepNames) (chains : Chains)
     : Type 0 where
   pub one_each : length chains.first.items ≡ length steps
@@ -31,7 +31,7 @@ pub record AreChains (p : Parts) (steps : List (List ℕ)) (names : StepNames) (
       → IsNextNamed p (operator_at p operator).name (operator + 1)
       (slice_index_or chains.next.items operator None)
 
--- what a list has for each of these numbers, up to the first one for which it has nothing
+-- the entries of a list at these numbers, up to the first number without an entry
 pub record AreFound (first : List (Option ℕ)) (numbers found : List ℕ) : Type 0 where
   pub within : length found ≤ length numbers
   pub each : (i : ℕ) → i < length found

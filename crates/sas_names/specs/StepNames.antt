@@ -1,4 +1,4 @@
--- The names of a plan's steps, by their numbers.
+-- The names of a plan's steps, numbered.
 use Rattle.std.specs.Prelude.{◌≡◌, ℕ, ◌<◌, List, [], length, Some, slice_index, slice_index_or}
 use Rattle.sas_names.specs.declared.name_table.NameTable.{NameTable}
 use Rattle.sas_names.specs.declared.step_names.StepNames.{StepNames}
@@ -8,7 +8,7 @@ use Rattle.sas_names.specs.NameTable.{Exist, value_of}
 abbrev pub step_names : List (List ℕ) → ℕ → List ℕ
 step_names steps step = slice_index_or steps step []
 
--- the number of a name is a step that has it
+-- the number of a name is a step with this name
 pub record AreStepsOf (steps : List (List ℕ)) (table : NameTable ℕ) : Type 0 where
   pub exist : Exist (λ step. step < length steps) table
   pub below : (name : List ℕ) (k : ℕ) → value_of (step_names steps) table name ≡ Some k
@@ -16,7 +16,7 @@ pub record AreStepsOf (steps : List (List ℕ)) (table : NameTable ℕ) : Type 0
   pub named : (name : List ℕ) (k : ℕ) → value_of (step_names steps) table name ≡ Some k
       → step_names steps k ≡ name
 
--- a name has this number, and each name that had one keeps it
+-- the name has this number now; names that had a number keep it
 pub record Numbers (steps : List (List ℕ)) (name : List ℕ) (number : ℕ) (old new : NameTable ℕ)
     : Type 0 where
   pub is : value_of (step_names steps) new name ≡ Some number
@@ -24,13 +24,13 @@ pub record Numbers (steps : List (List ℕ)) (name : List ℕ) (number : ℕ) (o
       → value_of (step_names steps) new other ≡ Some k
   pub numbers : AreStepsOf steps new
 
--- for each of the first steps the number of its name
+-- the number of the name of each of the first steps
 abbrev pub HaveNumbers : List (List ℕ) → NameTable ℕ → List ℕ → Type 0
 HaveNumbers steps table of_steps = (step : ℕ) → step < length of_steps
     → value_of (step_names steps) table (step_names steps step)
     ≡ Some (slice_index of_steps step)
 
--- the names of these steps
+-- the numbered names of these steps
 pub record AreStepNames (steps : List (List ℕ)) (names : StepNames) : Type 0 where
   pub numbers : AreStepsOf steps names.numbers
   pub one_each : length names.of_steps.items ≡ length steps

@@ -1,4 +1,4 @@
-// The operators that the steps of a plan may mean.
+// The operators whose names occur in a plan.
 ghost use Rattle.std.specs.Prelude.{◌≡◌, ◌<◌, length, All, IfOk, None, slice_index_or};
 ghost use Rattle.sas_names.specs.Chains.{AreChains, AreFound};
 ghost use Rattle.sas_names.specs.StepNames.{AreStepsOf};
@@ -7,8 +7,8 @@ use crate::step_names::StepNames;
 use sas_core::{Grounded, Stepwise};
 use std::alloc::{AllocError, Global};
 
-/// For each name of a plan's steps the lowest operator, by the name's number, and for each operator of one of these names the next one
-/// of the same name.
+/// The operators whose names occur in a plan. `first` has the lowest operator of each name, by the name's number. `next` has the next
+/// operator of the same name, by operator.
 pub struct Chains {
     first: Vec<Option<u32>>,
     next: Vec<Option<u32>>,
@@ -23,8 +23,7 @@ impl Drop for Chains {
 }
 
 impl Chains {
-    /// Returns the operators of these names. It goes from the last operator to the first, so that the lowest operator of each
-    /// name is noted last.
+    /// Finds the operators of these names. Visits the operators from last to first, so the lowest operator of a name is stored last.
     pub fn new<T: Grounded, P: Stepwise>(
         alloc: Global,
         task: &T,
@@ -49,7 +48,7 @@ impl Chains {
         Ok(Chains { first, next })
     }
 
-    /// Returns the lowest operators of the names of these numbers, up to the first name that no operator has.
+    /// Returns the lowest operator for each of these numbers of names. Stops at the first name that no operator has.
     pub fn firsts(&self, alloc: Global, numbers: &[usize]) -> Result<Vec<u32>, AllocError>
         requires { All (λ number. number < length self.now.first.items) numbers.now }
         ensures { IfOk result (λ firsts. AreFound self.now.first.items numbers.now firsts.items) }
@@ -64,7 +63,7 @@ impl Chains {
         Ok(firsts)
     }
 
-    /// Returns for each operator of one of the names the next one of the same name, and lets all else go.
+    /// Returns, for each operator of one of the names, the next operator of the same name. Drops everything else.
     pub fn into_next(self) -> Vec<Option<u32>>
         ensures { result ≡ self.next }
     {
@@ -73,7 +72,7 @@ impl Chains {
     }
 }
 
-/// Returns what the list has for the operator.
+/// Returns the entry of an operator in the list: the next operator of the same name. `None` if the list is too short.
 pub fn next_in(nexts: &[Option<u32>], operator: u32) -> Option<u32>
     ensures { result ≡ slice_index_or nexts.now operator None }
 {

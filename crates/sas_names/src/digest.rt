@@ -4,8 +4,8 @@ ghost use Rattle.sas_names.specs.NameDigest.{digest_of};
 
 use std::hash::{FoldHasher, Hasher};
 
-/// Returns the digest of the name: a number by which a map finds it. Names that share one are easy to write, so nothing rests on that
-/// they don't, and no look-up gets slow by it (`NameTable`).
+/// Returns the digest of a name, a hash by which a map finds the name. Anyone can write names with the same digest. So no answer depends on
+/// digests being unique, and equal digests don't make a look-up slow (see `NameTable`).
 pub fn digest(name: &[u8]) -> u64
     ensures { result ≡ digest_of name.now }
 {

@@ -1,4 +1,4 @@
-//! How operators are found by their names: those of a task, and those that the steps of a plan may mean.
+//! Finds operators by their names: all operators of a task, or those whose names occur in a plan.
 #![tactic(auto)]
 
 mod chains;

@@ -1,4 +1,4 @@
-// The operators of the names of a plan's steps, looked up among those of a task.
+// Looks up the names of a plan's steps among the operators of a task.
 ghost use Rattle.std.specs.Prelude.{◌<◌, [], length, IfOk, slice_index_or};
 ghost use Rattle.sas_core.specs.declared.parts.Parts.{Parts};
 ghost use Rattle.sas_names.specs.Names.{AreFirsts, HaveFirsts, IsNextNamed};
@@ -6,19 +6,19 @@ ghost use Rattle.sas_names.specs.Names.{AreFirsts, HaveFirsts, IsNextNamed};
 use sas_core::Stepwise;
 use std::alloc::{AllocError, Global};
 
-/// What tells the operators of a task by their names.
+/// Finds the operators of a task by their names.
 pub trait FirstNamed {
-    /// The parts that the task represents.
+    /// The parts of the task.
     ghost parts: { Self → Parts };
 
-    /// Returns the lowest operator of this name, if there is one. It takes no memory.
+    /// Returns the lowest operator of this name, or `None` if no operator has it. It takes no memory.
     fn first(&self, name: &[u8]) -> Option<u32>
         ensures { IsNextNamed (parts self.now) name.now 0 result };
 }
 
-/// Returns, for each step up to the first one whose name no operator has, the lowest operator of its name. A name that
-/// comes several times in a row is looked up once. All names are looked up before the first step, since each look-up
-/// waits for memory that is read in no order. So the look-ups of several steps wait at the same time.
+/// Returns the lowest operator of the name of each step. Stops at the first step whose name no operator has. A name that occurs several
+/// times in a row is looked up once. All names are looked up before the first step is made: a look-up reads memory in random order, and the
+/// processor waits for several look-ups at once only if they follow each other directly.
 pub fn first_operators<N: FirstNamed, P: Stepwise>(
     alloc: Global,
     named: &N,
@@ -36,7 +36,7 @@ pub fn first_operators<N: FirstNamed, P: Stepwise>(
     Ok(firsts)
 }
 
-/// Returns the lowest operator of the name of the next step, if there is one. `firsts` are those of the steps before it.
+/// Returns the lowest operator of the next step's name, or `None` if no operator has it. `firsts` has those of the steps before it.
 fn next_first<N: FirstNamed, P: Stepwise>(named: &N, plan: &P, firsts: &[u32]) -> Option<u32>
     requires step { length firsts.now < length (P.says plan.now).steps }
     requires firsts { HaveFirsts (N.parts named.now) (P.says plan.now).steps firsts.now }

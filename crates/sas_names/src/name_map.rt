@@ -10,9 +10,9 @@ use sas_core::Grounded;
 use std::alloc::{AllocError, Global};
 use std::marker::Model;
 
-/// For each name the lowest operator of it, and for each operator the next one of the same name. The names are read where they
-/// stand in the task. So a look-up takes fewer reads that wait for another than one in `Names`, and the map can't be kept beside
-/// its task. In a contract its value is the parts that the task represents.
+/// The lowest operator of each name, and for each operator the next one of the same name. The map borrows the names from the task. So a
+/// look-up needs fewer dependent reads than one in `Names`, but the map can't be stored beside its task. In a contract its value is the
+/// parts of the task.
 pub struct NameMap<'a, T: Grounded> {
     task: &'a T,
     first: NameTable<NamedOperator<'a>>,
@@ -57,7 +57,7 @@ impl<'a, T: Grounded> NameMap<'a, T> {
         }
     }
 
-    /// Returns for each operator the next one of the same name, and lets all else go.
+    /// Returns, for each operator, the next one of the same name. Drops everything else.
     pub fn into_next(self) -> Vec<Option<u32>>
         ensures { (first : ℕ) → IsChain self.entry first result.items }
     {
@@ -78,8 +78,8 @@ impl<'a, T: Grounded> FirstNamed for NameMap<'a, T> {
     }
 }
 
-/// Gives each name the lowest operator of it, and returns for each operator the next one of the same name. It goes from the last
-/// operator to the first, so that the lowest operator of each name is put last.
+/// Maps each name to its lowest operator. Returns, for each operator, the next one of the same name. Visits the operators from last to
+/// first, so the lowest operator of a name is stored last.
 fn put_all<'a, T: Grounded>(
     alloc: Global,
     task: &'a T,

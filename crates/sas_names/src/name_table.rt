@@ -1,4 +1,4 @@
-//! A table that has a value for each of some names.
+//! A table from names to values.
 ghost use Rattle.std.specs.Prelude.{◌≡◌, IfOk, OnOk};
 ghost use Rattle.sas_names.specs.NameTable.{IsEmptyTable, Exist, Puts, PutsDigest, PutsEither, PutsOther};
 ghost use Rattle.sas_names.specs.NameTable.{value_of, other_of};
@@ -10,25 +10,25 @@ use std::alloc::{AllocError, Global};
 use std::collections::BTreeMap;
 use std::hash::BuildHasher;
 
-/// How many names there are for each group of the map, at most.
+/// How many names each group of the map has on average, at most.
 const NAMES_A_GROUP: usize = 6;
 
-/// How many digests the map holds for each of its groups before it grows.
+/// How many digests per group the map contains before it grows.
 const LOAD: usize = 9;
 
-/// How many digests a group of the map has room for.
+/// How many digests fit into a group of the map.
 const ROOM: u8 = 12;
 
-/// A table that has a value for each of some names. A value stands for its name, which is stored elsewhere. A map finds a name by its
-/// digest. Another name of the same digest is found by its bytes, in an ordered map, and so is a name where the map would look through
-/// more than one group of its places for it. So whatever the names are, a look-up takes no more steps than the logarithm of their count.
-/// Few names of ordinary tasks are in the ordered map.
+/// A table from names to values. A value identifies its name, which is stored elsewhere, so a hash map can find the name by its digest
+/// without storing it. An ordered map, which stores names, contains every other name of the same digest, and every name for which the hash
+/// map would have to search more than one group. So a look-up takes at most logarithmic time, whatever the names are. In ordinary tasks few
+/// names are in the ordered map.
 pub struct NameTable<V: Copy> {
-    /// For each of some digests the value of a name that has it.
+    /// For each digest the value of one name with this digest.
     first: IndexMap<u64, V>,
     /// The values of all other names.
     others: BTreeMap<Vec<u8>, V>,
-    /// How many digests begin in each group of the map.
+    /// For each group of the map, how many digests have it as their first group.
     loads: Vec<u8>,
 }
 
@@ -46,7 +46,7 @@ impl<V: Copy> Drop for NameTable<V> {
 }
 
 impl<V: Copy> NameTable<V> {
-    /// Returns a table of no names, with room for so many.
+    /// Returns an empty table with room for this many names.
     pub fn new(alloc: Global, count: usize) -> Result<NameTable<V>, AllocError>
         ensures { IfOk result IsEmptyTable }
     {
@@ -60,7 +60,7 @@ impl<V: Copy> NameTable<V> {
         })
     }
 
-    /// Returns the value of this name, if it has one. It takes no memory.
+    /// Returns the value of this name, or `None` if it has none. It takes no memory.
     pub fn get<L>(&self, place: &L, name: &[u8]) -> Option<V>
     where
         V: Named<L>,
@@ -73,7 +73,7 @@ impl<V: Copy> NameTable<V> {
         }
     }
 
-    /// Gives the name of the value this value, and returns the one that it had before, if any.
+    /// Maps the name of the value to the value. Returns the value that the name had before, if any.
     pub fn put<L>(&mut self, alloc: Global, place: &L, value: V) -> Result<Option<V>, AllocError>
     where
         V: Named<L>,
@@ -96,7 +96,7 @@ impl<V: Copy> NameTable<V> {
         }
     }
 
-    /// Gives a name this value whose digest isn't in the map, and returns the one that it had before, if any.
+    /// Maps a name whose digest isn't in the map to this value. Returns the value that the name had before, if any.
     fn put_new(
         &mut self,
         alloc: Global,
@@ -116,7 +116,7 @@ impl<V: Copy> NameTable<V> {
         }
     }
 
-    /// Returns whether the group in which the map begins to look for this digest has room for it, and counts it there.
+    /// Returns whether the first group of this digest has room for it. If so, counts the digest there.
     fn takes(&mut self, digest: u64) -> bool
         ensures first { self.new.first ≡ self.old.first }
         ensures others { self.new.others ≡ self.old.others }
@@ -131,7 +131,7 @@ impl<V: Copy> NameTable<V> {
         }
     }
 
-    /// Returns the group in which the map begins to look for this digest.
+    /// Returns the group in which the map starts its search for this digest.
     fn group_of(&self, digest: u64) -> usize {
         let hash = self.first.hasher().hash_one(digest);
         let mask = self.loads.len().wrapping_sub(1);
@@ -139,7 +139,7 @@ impl<V: Copy> NameTable<V> {
     }
 }
 
-/// Returns how many groups the map is to have for so many names: a power of two.
+/// Returns the number of groups for this many names, a power of two.
 fn groups_for(count: usize) -> usize {
     match (count / NAMES_A_GROUP + 1).checked_next_power_of_two() {
         Some(groups) => groups,
@@ -159,7 +159,7 @@ fn put_digest<V: Copy>(
     Ok(())
 }
 
-/// Gives the name this value, and returns the one that it had before, if any.
+/// Maps the name to this value. Returns the value that the name had before, if any.
 fn put_other<V: Copy>(
     alloc: Global,
     others: &mut BTreeMap<Vec<u8>, V>,

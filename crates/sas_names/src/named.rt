@@ -1,19 +1,19 @@
-//! What stands for a name.
+//! Values that identify a name.
 ghost use Rattle.std.specs.Prelude.{◌≡◌, ◌<◌, ⊤, List, ℕ, length};
 ghost use Rattle.sas_core.specs.Grounded.{operator_at};
 ghost use Rattle.sas_core.specs.Stepwise.{step_at};
 
 use sas_core::{Grounded, Stepwise};
 
-/// A value that a table has for a name, which is stored in an `L`.
+/// A value that identifies a name, which is stored in an `L`.
 pub trait Named<L> {
-    /// That the value stands for a name in there.
+    /// The value identifies a name of this `L`.
     ghost exists: { L → Self → Type 0 };
 
-    /// The name.
+    /// The name that the value identifies.
     ghost names: { L → Self → List ℕ };
 
-    /// Returns the name.
+    /// Returns the name that the value identifies.
     fn name<'n>(&'n self, place: &'n L) -> &'n [u8]
         requires { exists place.now self.now }
         ensures { result.now ≡ names place.now self.now };
@@ -41,7 +41,7 @@ impl<P: Stepwise> Named<P> for usize {
     }
 }
 
-/// An operator of a task, with its name where it stands there.
+/// An operator of a task, with its name borrowed from the task.
 #[derive(Clone, Copy)]
 pub struct NamedOperator<'a> {
     pub name: &'a [u8],

@@ -11,11 +11,12 @@ use sas_core::Grounded;
 use std::alloc::{AllocError, Global};
 use std::marker::Model;
 
-/// The operators of a task by their names, to be kept beside the task: no name is stored twice, and none is borrowed.
+/// The operators of a task by their names. It borrows nothing from the task, so it can be stored beside it, and copies no name that is
+/// found by its digest.
 pub struct Names {
-    /// For each name the lowest operator that has it.
+    /// The lowest operator of each name.
     first: NameTable<u32>,
-    /// For each operator the next one of the same name.
+    /// The next operator of the same name, for each operator.
     next: Vec<Option<u32>>,
 }
 
@@ -28,8 +29,7 @@ impl Drop for Names {
 }
 
 impl Names {
-    /// Returns the names of the task's operators. It goes from the last operator to the first, so that the lowest operator of
-    /// each name is put last.
+    /// Finds the names of the task's operators. Visits the operators from last to first, so the lowest operator of a name is stored last.
     pub fn new<T: Grounded>(alloc: Global, task: &T) -> Result<Names, AllocError>
         ensures { IfOk result (λ names. AreNames (T.says task.now) names) }
     {
@@ -41,7 +41,7 @@ impl Names {
         Ok(names)
     }
 
-    /// Adds the operators of the task to the names of none.
+    /// Adds all operators of the task to an empty table.
     fn add_all<T: Grounded>(&mut self, alloc: Global, task: &T) -> Result<(), AllocError>
         requires { AreNamesFrom (T.says task.now) (length (T.says task.now).operators) self.old }
         ensures { OnOk result (AreNames (T.says task.now) self.new) }
@@ -54,7 +54,7 @@ impl Names {
         Ok(())
     }
 
-    /// Adds the operator, where those behind it were added.
+    /// Adds an operator. All higher operators have been added already.
     fn add<T: Grounded>(&mut self, alloc: Global, task: &T, operator: u32) -> Result<(), AllocError>
         requires exists { operator < length (T.says task.now).operators }
         requires behind { AreNamesFrom (T.says task.now) (operator + 1) self.old }
@@ -64,7 +64,7 @@ impl Names {
         Ok(())
     }
 
-    /// Returns the lowest operator of this name in the task that these names are of, if there is one. It takes no memory.
+    /// Returns the lowest operator of this name, or `None` if no operator has it. `task` is the task of these names. It takes no memory.
     pub fn first<T: Grounded>(&self, task: &T, name: &[u8]) -> Option<u32>
         requires { AreNames (T.says task.now) self.now }
         ensures { IsNextNamed (T.says task.now) name.now 0 result }
@@ -72,7 +72,7 @@ impl Names {
         self.first.get(task, name)
     }
 
-    /// Returns for each operator the next one of the same name. It takes no memory.
+    /// Returns, for each operator, the next one of the same name. It takes no memory.
     pub fn next(&self) -> &[Option<u32>]
         ensures { (p : Parts) → AreNames p self.now → (first : ℕ) → IsChain p first result.now }
     {
@@ -80,7 +80,7 @@ impl Names {
     }
 }
 
-/// A task, and the names of its operators. In a contract its value is the parts that the task represents.
+/// A task with the names of its operators. In a contract its value is the parts of the task.
 #[derive(Drop)]
 pub struct NamedTask<'n, T: Grounded> {
     pub task: &'n T,

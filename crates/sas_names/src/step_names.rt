@@ -7,7 +7,7 @@ use crate::name_table::NameTable;
 use sas_core::Stepwise;
 use std::alloc::{AllocError, Global};
 
-/// The names of a plan's steps. The number of a name is that of the first step that has it, from 0 on.
+/// The names of a plan's steps. The number of a name is that of the first step with this name, from 0.
 pub struct StepNames {
     numbers: NameTable<usize>,
     of_steps: Vec<usize>,
@@ -22,7 +22,7 @@ impl Drop for StepNames {
 }
 
 impl StepNames {
-    /// Returns the names of the plan's steps.
+    /// Numbers the names of the plan's steps.
     pub fn new<P: Stepwise>(alloc: Global, plan: &P) -> Result<StepNames, AllocError>
         ensures { IfOk result (λ names. AreStepNames (P.says plan.now).steps names) }
     {
@@ -36,7 +36,7 @@ impl StepNames {
         }
     }
 
-    /// Returns the number of the name, if a step of the plan that these names are of has it. It takes no memory.
+    /// Returns the number of the name, or `None` if no step has it. `plan` is the plan of these names. It takes no memory.
     pub fn number<P: Stepwise>(&self, plan: &P, name: &[u8]) -> Option<usize>
         requires { AreStepsOf (P.says plan.now).steps self.now.numbers }
         ensures { result ≡ value_of (step_names (P.says plan.now).steps) self.now.numbers name.now }
@@ -44,7 +44,7 @@ impl StepNames {
         self.numbers.get(plan, name)
     }
 
-    /// Returns for each step the number of its name. It takes no memory.
+    /// Returns the number of the name of each step. It takes no memory.
     pub fn of_steps(&self) -> &[usize]
         ensures { result.now ≡ self.now.of_steps.items }
     {
@@ -52,7 +52,7 @@ impl StepNames {
     }
 }
 
-/// Numbers the names of the plan's steps, and returns for each step the number of its name.
+/// Numbers the names of the plan's steps. Returns the number of the name of each step.
 fn number_all<P: Stepwise>(
     alloc: Global,
     plan: &P,
@@ -73,8 +73,8 @@ fn number_all<P: Stepwise>(
     Ok(of_steps)
 }
 
-/// Returns the number of the next step's name. `of_steps` has those of the steps before it. A name that comes several times in a
-/// row is looked up once.
+/// Returns the number of the next step's name. `of_steps` has those of the steps before it. A name that occurs several times in a row is
+/// looked up once.
 fn next_number<P: Stepwise>(
     alloc: Global,
     plan: &P,
@@ -96,7 +96,7 @@ fn next_number<P: Stepwise>(
     }
 }
 
-/// Returns the number of this step's name, which is the step's own for a name that is new.
+/// Returns the number of this step's name. If the name is new, that is the step's own number.
 fn number_of<P: Stepwise>(
     alloc: Global,
     plan: &P,

@@ -1,4 +1,4 @@
-// The operators that the steps of one plan may mean.
+// The operators whose names occur in one plan.
 ghost use Rattle.std.specs.Prelude.{◌≡◌, IfOk};
 ghost use Rattle.sas_names.specs.Chains.{HaveChains};
 ghost use Rattle.sas_names.specs.Names.{AreFirsts};
@@ -10,11 +10,11 @@ use crate::step_names::StepNames;
 use sas_core::{Grounded, Stepwise};
 use std::alloc::{AllocError, Global};
 
-/// The operators that the steps of one plan may mean.
+/// The operators whose names occur in one plan.
 pub struct StepOperators {
-    /// The lowest operators of the steps' names, up to the first name that no operator has.
+    /// The lowest operator of each step's name, up to the first name that no operator has.
     pub firsts: Vec<u32>,
-    /// For each operator of the name of one of these, the next one of its name.
+    /// The next operator of the same name, for each operator of one of these names.
     pub next: Vec<Option<u32>>,
 }
 
@@ -26,18 +26,18 @@ impl Drop for StepOperators {
     }
 }
 
-/// What the names of a plan's steps mean.
+/// The operators whose names occur in one plan, borrowed.
 #[derive(Clone, Copy)]
 pub struct Found<'f> {
-    /// The lowest operators of the steps.
+    /// The lowest operator of each step's name, up to the first name that no operator has.
     pub firsts: &'f [u32],
-    /// For each operator of the name of one of these, the next one of its name.
+    /// The next operator of the same name, for each operator of one of these names.
     pub nexts: &'f [Option<u32>],
 }
 
 impl StepOperators {
-    /// Returns the operators that the steps of the plan may mean. For a plan of half as many steps as there are operators or more, a
-    /// map of all operators' names is faster than a table of the steps' names.
+    /// Finds the operators whose names occur in the plan. For a long plan (`is_long`), a map of all operators' names is faster than a table
+    /// of the steps' names.
     pub fn new<T: Grounded, P: Stepwise>(
         alloc: Global,
         task: &T,
@@ -53,7 +53,7 @@ impl StepOperators {
         }
     }
 
-    /// Looks up the operators' names among those of the plan's steps.
+    /// Looks up the names of the operators among those of the plan's steps.
     fn by_step_names<T: Grounded, P: Stepwise>(
         alloc: Global,
         task: &T,
@@ -88,15 +88,14 @@ impl StepOperators {
         })
     }
 
-    /// Returns the lowest operators of the steps' names, up to the first name that no operator has. It takes no
-    /// memory.
+    /// Returns the lowest operator of each step's name, up to the first name that no operator has. It takes no memory.
     pub fn firsts(&self) -> &[u32]
         ensures { result.now ≡ self.now.firsts.items }
     {
         self.firsts.as_slice()
     }
 
-    /// Returns what the names of the steps mean. It takes no memory.
+    /// Returns both lists, borrowed. It takes no memory.
     pub fn found(&self) -> Found<'_>
         ensures firsts { result.firsts.now ≡ self.now.firsts.items }
         ensures nexts { result.nexts.now ≡ self.now.next.items }
@@ -107,7 +106,7 @@ impl StepOperators {
         }
     }
 
-    /// Returns for each operator of the name of one of these the next one of its name. It takes no memory.
+    /// Returns the next operator of the same name, for each operator of one of the steps' names. It takes no memory.
     pub fn nexts(&self) -> &[Option<u32>]
         ensures { result.now ≡ self.now.next.items }
     {
@@ -115,8 +114,8 @@ impl StepOperators {
     }
 }
 
-/// Returns whether the plan has half as many steps as the task has operators, or more. Then a map of all operators' names takes
-/// no longer than the steps do.
+/// Returns whether the plan has at least half as many steps as the task has operators. Then building a map of all operators' names takes no
+/// longer than making the steps.
 pub fn is_long<T: Grounded, P: Stepwise>(task: &T, plan: &P) -> bool {
     plan.steps() >= task.operators() as usize / 2
 }

@@ -9,7 +9,7 @@ use Rattle.sas_output.specs.Ending.{Output, Ends, EndsCounting, IsWrite}
 use Rattle.sas_output.proofs.Sent.{counting_ends}
 
 module _ (o : Output) (Sent : List ℕ → Type 0) where
-  -- what ends with this output ends with an output that is right
+  -- if the writing ends with this output, it ends with a right output
   pub ends_as : (Out : Option Output → Type 0) (r : Result Status ToolFault) → Out (Some o) → Ends (λ output. output ≡ Some o) Sent r → Ends Out Sent r
   ends_as Out (Ok status) right (output, is, same, sent) = (output, subst Out (sym is) right, same, sent)
   ends_as Out (Err (tool_fault.Write written)) right (output, is, less, sent) = (output, subst Out (sym is) right, less, sent)
@@ -17,7 +17,7 @@ module _ (o : Output) (Sent : List ℕ → Type 0) where
   ends_as Out (Err tool_fault.Memory) right is = tt
   ends_as Out (Err tool_fault.Read) right is = tt
 
-  -- and so it does where the number of bytes is exact if it can be
+  -- the same if the number of bytes is exact when it can be
   pub ends_counting_as : (Out : Option Output → Type 0) (r : Result Status ToolFault) → Out (Some o) → EndsCounting (λ output. output ≡ Some o) Sent r → EndsCounting Out Sent r
   ends_counting_as Out (Ok status) right (output, is, same, sent) = (output, subst Out (sym is) right, same, sent)
   ends_counting_as Out (Err (tool_fault.Write written)) right (number, counts, (output, is, less, sent)) = (number, counts, (output, subst Out (sym is) right, less, sent))
@@ -25,7 +25,7 @@ module _ (o : Output) (Sent : List ℕ → Type 0) where
   ends_counting_as Out (Err tool_fault.Memory) right is = tt
   ends_counting_as Out (Err tool_fault.Read) right is = tt
 
-  -- and where it ends well, all of the output went out
+  -- if it succeeds, the whole output was written
   pub ends_counting_well : (P : Status → Type 0) (r : Result Status ToolFault) → EndsCounting (λ output. output ≡ Some o) Sent r → ((status : Status) → status ≡ o.status → Sent o.text → P status) → IfOk r P
   ends_counting_well P (Ok status) (output, is, same_status, sent) so =
       let same : output ≡ o = cc in
@@ -35,7 +35,7 @@ module _ (o : Output) (Sent : List ℕ → Type 0) where
   pub ends_well : (P : Status → Type 0) (r : Result Status ToolFault) → Ends (λ output. output ≡ Some o) Sent r → ((status : Status) → status ≡ o.status → Sent o.text → P status) → IfOk r P
   ends_well P r ends = ends_counting_well P r (counting_ends (λ output. output ≡ Some o) Sent r ends)
 
--- what ends before an answer is known says of the output only that there is none
+-- a run that ends before an answer is known claims at most that there is no output
 pub ends_err : (Out : Option Output → Type 0) (Sent : List ℕ → Type 0) (why : ToolFault) → (IsWrite why → ⊥) → (why ≡ tool_fault.TooLong → Out None) → EndsCounting Out Sent (Err why)
 ends_err Out Sent (tool_fault.Write written) other long = absurd (other tt)
 ends_err Out Sent tool_fault.TooLong other long = long refl

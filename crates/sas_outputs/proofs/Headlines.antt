@@ -1,4 +1,4 @@
--- A plan is told as valid exactly where it is.
+-- A plan is reported as valid exactly if it is.
 use Rattle.std.proofs.Common.{◌≡◌, ◌≢◌, ℕ, ◌<◌, ◌⊎◌, List, [], ◌∷◌, ◌++◌, length, codes, get_or, arith, refl, sym, ap, subst, ◌∙◌, inl, inr, Option, Some, None, Result, Ok, Err}
 use Rattle.std.specs.Prelude.{option_map}
 use Rattle.std.specs.Io.KnownBytes.{Appends}
@@ -33,14 +33,14 @@ use Rattle.sas_outputs.proofs.Outputs.{refused_kind}
 use Rattle.sas_outputs.proofs.PlanOutputs.{IsRefusal, Refuses}
 use Rattle.sas_answers.proofs.VerdictAnswers.{one_verdict_answer}
 
--- ---- what any output about a plan says
+-- ---- properties of all outputs about a plan
 
--- the answer is no, and not by the line of a valid plan
+-- the answer is no, and its line isn't that of a valid plan
 pub record IsOther (o : Output) : Type 0 where
   pub status : o.status ≡ No
   pub text : (steps cost : ℕ) → o.text ≡ valid_line steps cost → ⊥
 
--- the answer is yes, by the line of a valid plan
+-- the answer is yes, and its line is that of a valid plan
 record IsSolved (b c : List ℕ) (o : Output) : Type 0 where
   status : o.status ≡ Yes
   solves : Solves b c o.text
@@ -65,7 +65,7 @@ plan_refusal_apart line steps cost w e = not_same 114 118 (omega arith) (sym (ap
 invalid_line_apart : (steps cost : ℕ) (w : List ℕ) → invalid_line w ≡ valid_line steps cost → ⊥
 invalid_line_apart steps cost w e = not_same 105 118 (omega arith) (sym (ap (λ (t : List ℕ). get_or t 5 0) e))
 
--- nor is the refusal of a task for a fault of its layers, whatever stands behind
+-- nor is the refusal of a task for a fault of its layers, whatever follows it
 line_begins : (words : Option (List ℕ)) (o : Output) → option_map (λ w. record { text = layers_line w; status = No }) words ≡ Some o → (get_or o.text 0 0 ≡ 116) × (o.status ≡ No)
 line_begins None o is = absurd (none-some o is)
 line_begins (Some w) o is =
@@ -85,15 +85,15 @@ refusal_other fault o r =
       text = λ steps cost e. not_same 112 116 (omega arith) (sym begins ∙ ap (λ (t : List ℕ). get_or t 0 0) e);
     }
 
--- what an answer about a plan says of whether it is valid: it is that of a valid plan, or another
--- one; and of a valid plan it is that
+-- an answer about a plan is that of a valid plan or another one; for a valid plan it is that of a
+-- valid plan
 pub record TellsValid (Verdict : Parts → PlanParts → Output → Type 0) : Type 0 where
   pub told : (p : Parts) (plan : PlanParts) (o : Output) → Verdict p plan o
       → (((operators : List ℕ) × IsValid p plan operators) × (o ≡ valid_answer plan)) ⊎ IsOther o
   pub valid : (p : Parts) (plan : PlanParts) (o : Output) (operators : List ℕ) → IsLayered p
       → IsValid p plan operators → Verdict p plan o → o ≡ valid_answer plan
 
--- so do answers without reasons
+-- answers without reasons have this property
 pub tells_valid : TellsValid VerdictAnswer
 tells_valid = record {
   told = λ p plan o verdict. elim verdict [
@@ -103,7 +103,7 @@ tells_valid = record {
   valid = λ p plan o operators layered valid verdict. one_verdict_answer p layered plan o (valid_answer plan) verdict (inl ((operators, valid), refl));
 }
 
--- ---- what the output is where a plan solves a task
+-- ---- the output for a plan that solves the task
 
 -- a text is read as its value, unless it is too long
 pub text_read : {V I S : Type 0} (F : Format V I S) → Laws F → (bytes : List ℕ) (v : V) (r : Result V Fault) → Reads F bytes v → ((f : Fault) → r ≡ Err f → f.kind ≢ TooLong) → ReadsAs F most_bytes bytes r → r ≡ Ok v
@@ -111,13 +111,13 @@ text_read F laws bytes v (Ok w) is short reads = ap Ok (laws.one_value bytes w v
 text_read F laws bytes v (Err f) is short (inl fault) = absurd (laws.fault_is_no_text most_bytes bytes [] f v fault (short f refl) (subst (λ (x : List ℕ). Reads F x v) (sym (append-nil bytes)) is))
 text_read F laws bytes v (Err f) is short (inr early) = absurd (early.none v is)
 
--- the refusal of a file is none for its length
+-- the refusal of a file isn't for its length
 pub not_long : (name : List ℕ) (f : Fault) (o : Output) → Some o ≡ refusal name f → f.kind ≢ TooLong
 not_long name f o is = refused_kind f.kind TooLong _ o refl (sym is)
 
 -- ---- both
 
--- where a device tells its bytes, one text went out
+-- if a device reports its bytes, one text was written
 pub sent_same : (old new : Option (List ℕ)) (before x y : List ℕ) → old ≡ Some before → Appends old new x → Appends old new y → x ≡ y
 sent_same None new before x y e f g = absurd (none-some before e)
 sent_same (Some xs) None before x y e f g = absurd f

@@ -1,4 +1,4 @@
--- The lines of some bytes are no longer than they.
+-- The lines of some bytes aren't longer than the bytes.
 use Rattle.std.proofs.Common.{ℕ, ◌+◌, ◌≤◌, Bool, true, false, ◌==◌, if◌then◌else◌, List, [], ◌∷◌, ◌++◌, length, length-append, arith}
 use Rattle.sas_lines.specs.Lines.{text, lines, lines_among, without_return}
 use Rattle.sas_lines.specs.Parts.{parts, onto_first}
@@ -12,7 +12,7 @@ without_short (b ∷ []) = only (b == 13)
     only false = omega arith
 without_short (b ∷ c ∷ bytes) = omega (arith, without_short (c ∷ bytes))
 
--- how many bytes these parts and the separators between them are, and one more
+-- the length of these parts and of the separators between them, plus one
 spread : List (List ℕ) → ℕ
 spread [] = 1
 spread (p ∷ []) = length p + 1

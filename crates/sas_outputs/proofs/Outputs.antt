@@ -29,18 +29,18 @@ refused_kind k other said o none e same =
 pub too_long_else : (k : Kind) (other : Kind) → k ≡ TooLong → (TooLong ≡ other → ⊥) → k ≢ other
 too_long_else k other e apart same = apart (sym e ∙ same)
 
--- the fault of bytes that a device gave
+-- the fault of bytes that were read from a device
 pub reading_of_refusal : {V I S : Type 0} (F : Format V I S) (bytes : List ℕ) (At_end : Type 0) (f : Fault) → Refuses F bytes At_end f → f.kind ≢ Read → ReadsAs F most_bytes bytes (Err f)
 reading_of_refusal F bytes At_end f (unread_at live line kind) other = absurd (other kind)
 reading_of_refusal F bytes At_end f (ended_at at_end early) other = inr early
 reading_of_refusal F bytes At_end f (faulty_at fault other_kind) other = inl fault
 
--- nothing is taken of a device that stays as it is
+-- nothing was read from a device that is unchanged
 pub takes_nothing : (remaining : Option (List ℕ)) → Consumes remaining remaining []
 takes_nothing None = tt
 takes_nothing (Some bytes) = refl
 
--- the fault is that of the input, unless memory was refused or a read failed
+-- the fault is that of the input, unless memory ran out or a read failed
 abbrev pub IsFaultOf : {V I S : Type 0} → Format V I S → List ℕ → Fault → Type 0
 IsFaultOf F input f = f.kind ≢ Memory → f.kind ≢ Read → ReadsAs F most_bytes input (Err f)
 
@@ -73,7 +73,7 @@ module _ {V I S : Type 0} (F : Format V I S) (name : List ℕ) (IsAnswer : V →
   pub file_too_long : (f : Fault) → f.kind ≡ TooLong → IsFaultOf F bytes f → FileOut F name IsAnswer bytes None
   file_too_long f e fault = (Err f, fault (too_long_else f.kind Memory e (λ h. absurd cc)) (too_long_else f.kind Read e (λ h. absurd cc)), rw e refl)
 
-  -- a reading has one output where a value has one answer
+  -- the result of reading has one output if a value has one answer
   one_reading_output : OneAnswer IsAnswer → (r : Result V Fault) (o p : Option Output) → IsAnswerOrRefusal name IsAnswer r o → IsAnswerOrRefusal name IsAnswer r p → o ≡ p
   one_reading_output one (Ok value) o p a b = a.2 ∙ ap Some (one value a.0 b.0 a.1 b.1) ∙ sym b.2
   one_reading_output one (Err fault) o p a b = a ∙ sym b
@@ -83,7 +83,7 @@ module _ {V I S : Type 0} (F : Format V I S) (name : List ℕ) (IsAnswer : V →
       let same = laws.one_reading most_bytes bytes b.0 a.0 b.1 a.1 in
       one_reading_output one a.0 o p a.2 (subst (λ (r : Result V Fault). IsAnswerOrRefusal name IsAnswer r p) same b.2)
 
-  -- and some output where a value has some answer
+  -- it has some output if a value has some answer
   some_reading_output : SomeAnswer IsAnswer → (r : Result V Fault) → ((o : Option Output) → IsAnswerOrRefusal name IsAnswer r o → ⊥) → ⊥
   some_reading_output some (Ok value) none = some value (λ answer is. none (Some answer) (answer, is, refl))
   some_reading_output some (Err fault) none = none (refusal name fault) refl

@@ -1,4 +1,4 @@
--- Lines that refuse a file or a task, and verdicts on a plan, hold no end of a line.
+-- Lines that refuse a file or a task, and verdicts on a plan, contain no line end.
 use Rattle.std.proofs.Common.{◌≡◌, ℕ, List, ◌++◌, codes, refl, subst, Some}
 use Rattle.std.specs.Prelude.{decimal}
 use Rattle.std.proofs.lemmas.Option.{none-some}
@@ -90,6 +90,6 @@ fault_plain cost (plan_fault.CostDiffers sum) w e =
     (plain-decimal cost))
 fault_plain cost plan_fault.Memory w e = absurd (none-some w e)
 
--- the verdict that says no, without the end of its line
+-- a verdict with the answer no, without its line end
 pub invalid_plain : (cost : ℕ) (fault : PlanFault) (w : List ℕ) → fault_words cost fault ≡ Some w → IsPlain (codes "plan invalid: " ++ w)
 invalid_plain cost fault w e = plain-append (codes "plan invalid: ") w (plain_bytes (codes "plan invalid: ") refl) (fault_plain cost fault w e)

@@ -1,4 +1,4 @@
--- What is said of a task and a plan: one thing, and always something.
+-- A task and a plan have exactly one output.
 use Rattle.std.proofs.Common.{◌≡◌, ◌≢◌, ℕ, ◌<◌, Bool, true, false, List, [], ◌++◌, length, codes, append-nil, refl, sym, subst, ◌∙◌, inl, inr, Option, Some, None, Result, Ok, Err}
 use Rattle.std.specs.Prelude.{◌↔◌, ◌||◌, IsTrue}
 use Rattle.std.proofs.lemmas.Option.{none-some}
@@ -26,13 +26,13 @@ use Rattle.sas_outputs.proofs.Outputs.{one_file_output, some_file_output, no_fil
 use Rattle.sas_answers.proofs.CheckAnswers.{some_check_answer}
 use Rattle.sas_answers.proofs.AnswerLaws.{OneAnswer, SomeAnswer}
 
--- ---- what serves all answers about a plan
+-- ---- lemmas for all answers about a plan
 
--- no task is answered by reading it alone
+-- no output is an answer about a task alone
 abbrev pub NoAnswer : Parts → Output → Type 0
 NoAnswer p output = ⊥
 
--- the refusal of a file that is read as no task
+-- the refusal of a file that isn't a task
 abbrev pub RefusedOut : List ℕ → Option Output → Type 0
 RefusedOut = FileOut task_format (codes "task") NoAnswer
 
@@ -40,7 +40,7 @@ RefusedOut = FileOut task_format (codes "task") NoAnswer
 pub told_fault : (fault : LayerFault) (o : Output) → layers_refusal fault ≡ Some o → fault ≢ layer_fault.Memory
 told_fault fault o told is = none-some o (subst (λ (f : LayerFault). layers_refusal f ≡ Some o) is told)
 
--- one of two is true, where the other is false
+-- of two alternatives one is true if the other is false
 pub first_alone : (a b : Bool) → b ≡ false → IsTrue (a || b) ↔ IsTrue a
 first_alone true b e = (λ t. refl, λ t. refl)
 first_alone false b e = (λ t. sym e ∙ t, λ t. e ∙ t)
@@ -49,14 +49,14 @@ pub second_alone : (a b : Bool) → (IsTrue a → ⊥) → IsTrue (a || b) ↔ I
 second_alone true b e = absurd (e refl)
 second_alone false b e = (λ t. t, λ t. t)
 
--- one answer about a plan of a layered task, and always one
+-- there is exactly one answer about a plan of a layered task
 abbrev pub OneVerdictAnswer : (Parts → PlanParts → Output → Type 0) → Type 0
 OneVerdictAnswer Verdict = (p : Parts) → IsLayered p → OneAnswer (Verdict p)
 
 abbrev pub SomeVerdictAnswer : (Parts → PlanParts → Output → Type 0) → Type 0
 SomeVerdictAnswer Verdict = (p : Parts) → WellRanged p → IsLayered p → SomeAnswer (Verdict p)
 
--- the output is the refusal without reasons for this fault, with something behind
+-- the output begins with the refusal without reasons for this fault
 pub record IsRefusal (fault : LayerFault) (o : Output) : Type 0 where
   pub plain : Output
   pub is : layers_refusal fault ≡ Some plain
@@ -64,7 +64,7 @@ pub record IsRefusal (fault : LayerFault) (o : Output) : Type 0 where
   pub behind : List ℕ
   pub text : o.text ≡ plain.text ++ behind
 
--- so are these refusals, and there is one for each fault that is refused without reasons
+-- these refusals do so, and there is one for each fault that is refused without reasons
 pub record Refuses (refused : Parts → LayerFault → Option Output) : Type 0 where
   pub some : (p : Parts) (fault : LayerFault) (plain : Output) → layers_refusal fault ≡ Some plain → (o : Output) × (refused p fault ≡ Some o)
   pub told : (p : Parts) (fault : LayerFault) (o : Output) → refused p fault ≡ Some o → IsRefusal fault o
@@ -75,7 +75,8 @@ plain_refuses = record {
   told = λ p fault o is. record { plain = o; is = is; status = refl; behind = []; text = sym (append-nil o.text) };
 }
 
--- `Verdict` is asked which outputs are answers about a plan of a layered task, and `refused` is the refusal of one that isn't layered
+-- `Verdict` holds for the outputs that are answers about a plan of a layered task, and `refused` is
+-- the refusal of a task that isn't layered
 module _ (Verdict : Parts → PlanParts → Output → Type 0) (refused : Parts → LayerFault → Option Output) where
   -- ---- a task and a plan have one output
 
@@ -104,7 +105,7 @@ module _ (Verdict : Parts → PlanParts → Output → Type 0) (refused : Parts 
   some_plan_output some b c none =
       task_laws_hold.some_reading most_bytes b (λ r reads. some_judged_output some r b c reads (λ o is. none o (r, reads, is)))
 
-  -- ---- and none only where one of them is too long
+  -- ---- there is no output only if one of them is too long
 
   long_layers : Refuses refused → (p : Parts) (first : Option LayerFault) (c : List ℕ) → (first ≡ None → IsLayered p) → (((o : Output) → layers_verdict first ≡ Some o → ⊥) → ⊥) → LayersOut Verdict refused p first c None → IsLayered p × (most_bytes < length c)
   long_layers refuses p (Some fault) c layered told out = absurd (told (λ plain is. let o = refuses.some p fault plain is in none-some o.0 (out ∙ o.1)))
@@ -119,7 +120,7 @@ module _ (Verdict : Parts → PlanParts → Output → Type 0) (refused : Parts 
   pub no_plan_output : Refuses refused → (b c : List ℕ) → PlanOutBy Verdict refused b c None → IsLong Plan b c
   no_plan_output refuses b c out = long_judged refuses out.0 b c out.1 out.2
 
-  -- ---- how the answer comes about
+  -- ---- how the answer is computed
 
   refused_reading : (b c : List ℕ) (o : Option Output) (r : Result Parts Fault) → ReadsAs task_format most_bytes b r → IsAnswerOrRefusal (codes "task") NoAnswer r o → PlanOutBy Verdict refused b c o
   refused_reading b c o (Ok p) reads answer = absurd answer.1
@@ -128,7 +129,7 @@ module _ (Verdict : Parts → PlanParts → Output → Type 0) (refused : Parts 
   pub refused_out : (b c : List ℕ) (o : Option Output) → RefusedOut b o → PlanOutBy Verdict refused b c o
   refused_out b c o out = refused_reading b c o out.0 out.1 out.2
 
-  -- the output about the plan of a layered task
+  -- the output for the plan of a layered task
   pub judged_out : (p : Parts) → IsLayered p → (b c : List ℕ) → ReadsAs task_format most_bytes b (Ok p) → (o : Option Output) → VerdictOut Verdict p c o → PlanOutBy Verdict refused b c o
   judged_out p layered b c reads o out =
       (Ok p, reads, subst (λ (first : Option LayerFault). LayersOut Verdict refused p first c o) (sym ((checks_are_rules p).1 layered)) out)

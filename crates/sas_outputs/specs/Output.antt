@@ -24,7 +24,7 @@ use Rattle.sas_outputs.specs.declared.Request.{Request}
 use Rattle.sas_outputs.specs.declared.Request.TheVariants.{Show, Print, Steps, Check, Plan, Mutex}
 use Rattle.sas_summary.specs.Summary.{summary_lines}
 
--- the word for what is wrong with a file; the other kinds say that it was not read as a whole
+-- the word for a kind of fault; the kinds without a word mean that the file was not read as a whole
 abbrev pub word_of : Kind → Option (List ℕ)
 word_of Keyword = Some (codes "keyword")
 word_of Name = Some (codes "name")
@@ -36,7 +36,7 @@ word_of TooLong = None
 word_of Read = None
 word_of Memory = None
 
--- the line that refuses the file of this name
+-- the line that refuses the file with this name
 abbrev pub refusal_line : List ℕ → ℕ → List ℕ → List ℕ
 refusal_line name line word =
     name ++ codes " refused: line " ++ decimal line ++ codes ": " ++ word ++ codes "\n"
@@ -47,30 +47,30 @@ refusal name fault =
     option_map (λ word. record { text = refusal_line name fault.line word; status = No })
     (word_of fault.kind)
 
--- the output about what the file of this name is read as: an answer about its value, or the
--- refusal. `IsAnswer` holds of the outputs that are answers about a value
+-- The output for the result of reading the file with this name: an answer about its value, or the
+-- refusal. `IsAnswer` holds for the outputs that are answers about a value.
 abbrev pub IsAnswerOrRefusal : {V : Type 0} → List ℕ → (V → Output → Type 0) → Result V Fault
     → Option Output → Type 0
 IsAnswerOrRefusal name IsAnswer (Ok value) output =
     (answer : Output) × IsAnswer value answer × (output ≡ Some answer)
 IsAnswerOrRefusal name IsAnswer (Err fault) output = output ≡ refusal name fault
 
--- a task is shown by the lines of its summary, each ended by LF
+-- the answer of `show` is the lines of the task's summary, each ended by LF
 abbrev pub ShowAnswer : Parts → Output → Type 0
 ShowAnswer p output = output ≡ record { text = text (summary_lines (outline_of p)); status = Yes }
 
 module _ {V I S : Type 0} (F : Format V I S) where
-  -- a value is printed as its lines, each ended by LF
+  -- the answer of `print` and `steps` is the lines of the value, each ended by LF
   abbrev pub PrintAnswer : V → Output → Type 0
   PrintAnswer value output = output ≡ record { text = text (lines_of F value); status = Yes }
 
-  -- the output about the bytes of the file of this name
+  -- the output for the bytes of the file with this name
   abbrev pub FileOut : List ℕ → (V → Output → Type 0) → List ℕ → Option Output → Type 0
   FileOut name IsAnswer bytes output = (read : Result V Fault)
       × ReadsAs F most_bytes bytes read
       × IsAnswerOrRefusal name IsAnswer read output
 
--- the output of `show`, `print`, `steps`, `check` and `mutex` about the bytes of their file
+-- the outputs of `show`, `print`, `steps`, `check` and `mutex` for the bytes of their file
 abbrev pub ShowOut : List ℕ → Option Output → Type 0
 ShowOut = FileOut task_format (codes "task") ShowAnswer
 
@@ -86,26 +86,26 @@ CheckOut = FileOut task_format (codes "task") CheckAnswer
 abbrev pub MutexOut : List ℕ → Option Output → Type 0
 MutexOut = FileOut task_format (codes "task") MutexAnswer
 
--- `Verdict` holds of the outputs that are answers about a plan of a layered task.
+-- `Verdict` holds for the outputs that are answers about a plan of a layered task.
 module _ (Verdict : Parts → PlanParts → Output → Type 0) where
-  -- the output about the plan's bytes for a layered task
+  -- the output for the plan's bytes and a layered task
   abbrev pub VerdictOut : Parts → List ℕ → Option Output → Type 0
   VerdictOut p = FileOut plan_format (codes "plan") (Verdict p)
 
   -- `refused` is the refusal of a task for a fault of its layers.
   module _ (refused : Parts → LayerFault → Option Output) where
-    -- the output about the plan's bytes for a task, by the first fault of its layers if they have
-    -- one: the task is refused for it, and only the plan of a layered task is judged
+    -- the output for the plan's bytes and a task, by the first fault of its layers, if any: with a
+    -- fault the task is refused, so only the plan of a layered task is judged
     abbrev pub LayersOut : Parts → Option LayerFault → List ℕ → Option Output → Type 0
     LayersOut p (Some fault) c output = output ≡ refused p fault
     LayersOut p None c output = VerdictOut p c output
 
-    -- the output about the plan's bytes for what the task's bytes are read as
+    -- the output for the plan's bytes and the result of reading the task's bytes
     abbrev pub JudgedOut : Result Parts Fault → List ℕ → Option Output → Type 0
     JudgedOut (Err fault) c output = output ≡ refusal (codes "task") fault
     JudgedOut (Ok p) c output = LayersOut p (first_fault (layer_checks p)) c output
 
-    -- the output about the bytes b of the task and c of the plan
+    -- the output for the bytes b of the task and c of the plan
     abbrev pub PlanOutBy : List ℕ → List ℕ → Option Output → Type 0
     PlanOutBy b c output =
         (read : Result Parts Fault) × ReadsAs task_format most_bytes b read × JudgedOut read c output
@@ -114,12 +114,12 @@ module _ (Verdict : Parts → PlanParts → Output → Type 0) where
 abbrev pub plain_refusal : Parts → LayerFault → Option Output
 plain_refusal p fault = layers_refusal fault
 
--- the output of `plan` about the bytes b of the task and c of the plan
+-- the output of `plan` for the bytes b of the task and c of the plan
 abbrev pub PlanOut : List ℕ → List ℕ → Option Output → Type 0
 PlanOut = PlanOutBy VerdictAnswer plain_refusal
 
--- the output for the bytes b of the task and c of the plan, or none if the file that decides it is
--- too long
+-- the output of a request for the bytes b of the task and c of the plan, or none if the file that
+-- decides it is too long
 abbrev pub Out : Request → List ℕ → List ℕ → Option Output → Type 0
 Out Show b c output = ShowOut b output
 Out Print b c output = PrintOut b output
@@ -148,17 +148,17 @@ reads_plan Check = false
 reads_plan Plan = true
 reads_plan Mutex = false
 
--- the bytes are a text, within the limit, of a layered task
+-- the bytes are within the limit and a text of a layered task
 abbrev pub IsLayeredText : List ℕ → Type 0
 IsLayeredText b = (p : Parts) × ReadsAs task_format most_bytes b (Ok p) × IsLayered p
 
--- the inputs that the request reads have these bytes: b the task, c the plan
+-- the inputs that the request reads are b for the task and c for the plan
 abbrev pub AreInputs : Request → Option (List ℕ) → Option (List ℕ) → List ℕ → List ℕ → Type 0
 AreInputs request task plan b c =
     (IsTrue (reads_task request) → task ≡ Some b) × (IsTrue (reads_plan request) → plan ≡ Some c)
 
--- an input passes the limit: the one that the request reads, or of `plan` the task, or the plan for
--- a task that is layered
+-- an input exceeds the limit: the one that the request reads; for `plan` the task, or the plan if
+-- the task is layered
 abbrev pub IsLong : Request → List ℕ → List ℕ → Type 0
 IsLong Show b c = most_bytes < length b
 IsLong Print b c = most_bytes < length b
@@ -174,11 +174,11 @@ abbrev pub OneOutput : Type 0
 OneOutput = (request : Request) (b c : List ℕ) (o p : Option Output) → Out request b c o
     → Out request b c p → o ≡ p
 
--- and it can't have nothing
+-- a request has some output (stated with a double negation)
 abbrev pub SomeOutput : Type 0
 SomeOutput = (request : Request) (b c : List ℕ) → ((o : Option Output) → Out request b c o → ⊥) → ⊥
 
--- there is none only where an input passes the limit
+-- a request prints nothing only if an input exceeds the limit
 abbrev pub NoneIsLong : Type 0
 NoneIsLong = (request : Request) (b c : List ℕ) → Out request b c None → IsLong request b c
 

@@ -1,4 +1,4 @@
-//! The outputs: what is printed for one task and one plan, as definitions, and the refusal of a file.
+//! Defines what is printed for one task and one plan, and writes the line that refuses a file.
 #![tactic(auto)]
 
 mod refusals;
@@ -8,16 +8,16 @@ pub use refusals::refuse_file;
 /// A request.
 #[derive(Clone, Copy, Debug, PartialEq, Eq)]
 pub enum Request {
-    /// The summary of a task.
+    /// Print the summary of a task.
     Show,
-    /// A task, printed again.
+    /// Print a task again, as a task file.
     Print,
-    /// The steps of a plan and its cost, printed again.
+    /// Print a plan again, as a plan file.
     Steps,
-    /// Whether a task is layered.
+    /// Check whether a task is layered.
     Check,
-    /// Whether a plan solves a task.
+    /// Check whether a plan solves a task.
     Plan,
-    /// Which mutex groups of a task are exclusive.
+    /// Check which mutex groups of a task are exclusive.
     Mutex,
 }

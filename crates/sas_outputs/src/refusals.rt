@@ -1,4 +1,4 @@
-// Refusals of files.
+// Writes refusals of files.
 ghost use Rattle.std.specs.Prelude.{◌≡◌, ◌↔◌, Some, IfOk, IfErr, IsErrOf};
 ghost use Rattle.sas_output.specs.Ending.{IsWrite, output_told};
 ghost use Rattle.sas_outputs.specs.Output.{refusal, refusal_line, word_of};
@@ -8,7 +8,8 @@ use sas_output::{Status, Told, ToolFault};
 use sas_reader::{Fault, Kind};
 use std::alloc::{AllocError, Global};
 
-/// Returns the refusal of a file for its fault, or why the run ends at it.
+/// Returns the refusal of the file called `name` for its fault: one line, with status `No`. Returns `Err` if the run ends without an
+/// answer: `TooLong` and `Read` for a fault of this kind, or `Memory` if out of memory.
 pub fn refuse_file(alloc: Global, name: &str, fault: Fault) -> Result<Told, ToolFault>
     ensures ok { IfOk result (λ t. refusal name.now fault ≡ Some (output_told t)) }
     ensures long { IsErrOf result ToolFault.TooLong ↔ (fault.kind ≡ Kind.TooLong) }
@@ -22,7 +23,7 @@ pub fn refuse_file(alloc: Global, name: &str, fault: Fault) -> Result<Told, Tool
     })
 }
 
-/// Returns the word for what is wrong with a file, or why the run ends at this kind.
+/// Returns the word for this kind of fault, or `Err` if the run ends without an answer.
 fn word(kind: Kind) -> Result<&'static str, ToolFault>
     ensures ok { IfOk result (λ w. word_of kind ≡ Some w.now) }
     ensures memory { IsErrOf result ToolFault.Memory ↔ (kind ≡ Kind.Memory) }
@@ -43,7 +44,7 @@ fn word(kind: Kind) -> Result<&'static str, ToolFault>
     }
 }
 
-/// Returns the line that refuses the file of this name.
+/// Returns the line that refuses the file called `name`.
 fn refusal_text(alloc: Global, name: &str, line: u64, word: &str) -> Result<Vec<u8>, AllocError>
     ensures { IfOk result (λ t. t.items ≡ refusal_line name.now line word.now) }
 {

@@ -1,4 +1,4 @@
--- A step whose line stands first in some bytes.
+-- A step on the first line of some bytes.
 use Rattle.std.proofs.Common.{◌≡◌, ◌⊎◌, inl, inr, ℕ, suc, ◌+◌, ◌<◌, ◌≤◌, List, [], ◌∷◌, ◌++◌, length, get_or, take, drop, refl, subst, Ok, sym, ap, ◌∙◌, append_assoc, length-append, arith, None, true, false, Bool, not, ◌&&◌, ◌==◌}
 use Rattle.std.specs.Prelude.{codes}
 use Rattle.std.specs.List.{list_all}
@@ -18,7 +18,7 @@ use Rattle.sas_plan_file.specs.PlanMachine.{plan_line_ok}
 use Rattle.sas_plan_file.specs.PlanLine.{EndsLine, StepStandsFirst}
 use Rattle.sas_plan_file.proofs.PlanGrammar.{plain-step}
 
--- what stands between the first and the last byte
+-- the bytes between the first and the last byte
 pub between : (line : List ℕ) (n : ℕ) → length line ≡ n + 2 → get_or line 0 0 ≡ 40 → get_or line (n + 1) 0 ≡ 41 → line ≡ codes "(" ++ (take n (drop 1 line) ++ codes ")")
 between [] n l first last = absurd (omega arith)
 between (b ∷ rest) n l first last =
@@ -27,7 +27,7 @@ between (b ∷ rest) n l first last =
     let close : get_or rest n 0 ≡ 41 = ap (λ (i : ℕ). get_or (b ∷ rest) i 0) (let e : suc n ≡ n + 1 = omega arith in e) ∙ last in
     ap (λ (x : ℕ). x ∷ rest) first ∙ ap (λ (x : List ℕ). 40 ∷ x) in_two ∙ rw (close, end) refl
 
--- no LF and no CR stands before the end of the line
+-- there is no LF and no CR before the end of the line
 module _ (bytes : List ℕ) (end : ℕ) (first : NoneBefore (Passes (is_byte2 10 13) bytes) 0 (length bytes) end) where
   module _ (name : List ℕ) (line : take end bytes ≡ codes "(" ++ (name ++ codes ")")) where
     inside : length name + 2 ≡ end
@@ -61,7 +61,7 @@ module _ (bytes : List ℕ) (end : ℕ) (first : NoneBefore (Passes (is_byte2 10
         subst (LineStandsFirst bytes (plan_line_bytes (step name))) (omega (arith, inside, h.1, length-append name (codes ")")))
         (return_stands_first (plan_line_bytes (step name)) (plain-step name is) bytes rest (whole (13 ∷ 10 ∷ rest) h.0))
 
-    -- so what stands in parentheses before a line's end is a step
+    -- so bytes in parentheses before a line end are a step
     pub step_before_end : 0 < length name → (taken : ℕ) → EndsLine (drop end bytes) taken → StepStandsFirst bytes name (end + taken)
     step_before_end some taken ends = record {
       is_name = names some;
@@ -76,7 +76,7 @@ module _ (bytes name : List ℕ) (taken : ℕ) (h : StepStandsFirst bytes name t
   pub taken_within : taken ≤ length bytes
   taken_within = let t = h.first.taken in omega (arith, ap length t.3, length-append t.0 (10 ∷ t.1), t.4)
 
-  -- one byte behind the parentheses is LF
+  -- the byte after the parentheses is LF
   pub bytes_of_line : taken ≡ length name + 2 + 1 → take taken bytes ≡ plan_line_bytes (step name) ++ 10 ∷ []
   bytes_of_line e =
       let t = h.first.taken in
@@ -88,7 +88,7 @@ module _ (bytes name : List ℕ) (taken : ℕ) (h : StepStandsFirst bytes name t
   pub step_ahead_taken : Takes plan_format PlanLineFits tt plan_line_ok (step name)
   step_ahead_taken = record { slot = refl; fits = tt; good = h.is_name }
 
-  -- a machine that the step leads on takes its line
+  -- a machine that adds the step accepts its line
   pub accepts_step : {M : Type 0} (led_by : List (List ℕ) → M → Type 0) (old new : M)
       → ((before : List (List ℕ)) → led_by before old → led_by (before ++ plan_line_bytes (step name) ∷ []) new)
       → AcceptsAhead led_by old bytes new (Ok (record { lines = 1; bytes = taken }))

@@ -14,7 +14,7 @@ use Rattle.sas_plan_file.specs.PlanLaws.{PlanIsFilled, filling}
 abbrev step_lines : List (List ℕ) → List (List ℕ)
 step_lines steps = map plan_line_bytes (map step steps)
 
--- lines in front of some steps and a last line are these all, or the lines of the first of these steps
+-- first lines of some steps and a last line are all of them, or the lines of the first steps
 record Front (steps begun : List (List ℕ)) : Type 0 where
   names : List (List ℕ)
   good : AllByRecursion IsName names

@@ -21,7 +21,7 @@ use Rattle.sas_plan_file.proofs.PlanLines.{one_plan_line, one_plan_kind, some_pl
 abbrev plan_with : List (List ℕ) → ℕ → CostKind → PlanParts
 plan_with steps n k = record { steps = steps; cost = n; kind = k }
 
--- ---- what leads to the end is the lines of a plan
+-- ---- lines that lead to the end are the lines of a plan
 
 record Found (steps : List (List ℕ)) (is : List PlanLine) (p : PlanParts) : Type 0 where
   more : List (List ℕ)
@@ -52,12 +52,12 @@ leads : (more steps : List (List ℕ)) (n : ℕ) (k : CostKind) → AllByRecursi
 leads [] steps n k g f = (record { slot = refl; fits = f; good = refl }, ap (λ (x : List (List ℕ)). let t : Node PlanState PlanParts PlanLine (Unit {0}) = ended (plan_with x n k) in t) (sym (append-nil steps)))
 leads (b ∷ more) steps n k g f = (record { slot = refl; fits = tt; good = g.0 }, subst (λ (x : List (List ℕ)). LeadsToEnd plan_format PlanLineFits plan_node (going (steps ++ b ∷ [])) (map step more ++ cost n k ∷ []) (plan_with x n k)) (append_assoc steps (b ∷ []) more) (leads more (steps ++ b ∷ []) n k g.1 f))
 
--- what came is completed by the cost 0
+-- the cost 0 completes any steps
 plan_filled : (p : PlanState) → (more : List PlanLine) × (v : PlanParts) × LeadsToEnd plan_format PlanLineFits plan_node p more v
 plan_filled (going steps) = (cost 0 costs.Unit ∷ [], plan_with steps 0 costs.Unit, (record { slot = refl; fits = omega arith; good = refl }, refl))
 plan_filled (closed p) = ([], p, refl)
 
--- ---- no line holds LF or CR
+-- ---- no line contains LF or CR
 
 plain-words : (k : CostKind) → IsPlain (cost_words k)
 plain-words costs.Unit = plain_bytes (cost_words costs.Unit) refl

@@ -1,4 +1,4 @@
--- A plan's text that is kept line by line.
+-- The text of a plan, stored line by line.
 use Rattle.std.proofs.Common.{◌≡◌, ℕ, true, List, [], ◌∷◌, ◌++◌, refl, sym, ap, ◌∙◌, IsTrue}
 use Rattle.std.specs.Prelude.{◌↔◌}
 use Rattle.std.proofs.lemmas.Grind.{flat_map-append}
@@ -23,7 +23,7 @@ text-push ls line = flat_map-append (λ (l : List ℕ). l ++ 10 ∷ []) ls (line
 kept_text : (ls : List (List ℕ)) (line old new : List ℕ) → old ≡ text ls → new ≡ old ++ (line ++ 10 ∷ []) → new ≡ text (ls ++ line ∷ [])
 kept_text ls line old new o n = n ∙ ap (λ (x : List ℕ). x ++ (line ++ 10 ∷ [])) o ∙ sym (text-push ls line)
 
--- ---- one line more
+-- ---- one more line
 
 step_kept : (ls : List (List ℕ)) (p : PlanState) (m n : PlanText) (name line : List ℕ) → Leads plan_format PlanLineFits plan_node plan_start ls p → m.text.items ≡ text ls → (IsTrue m.closed ↔ HasCost p) → (IsTrue m.closed → ⊥) → Takes plan_format PlanLineFits tt plan_line_ok (step name) → plan_line_bytes (step name) ≡ line
     → n.text.items ≡ m.text.items ++ (line ++ 10 ∷ []) → n.closed ≡ m.closed → KeepsLines (ls ++ line ∷ []) n
@@ -72,6 +72,6 @@ text_follows ls m h = record {
   refuses = λ line k going_on j. refused h.state line k (λ d. going_on (h.closed.1 d)) j;
 }
 
--- the text of what was read, where all is read as a plan
+-- the text of what was read, if it was read as a plan
 pub text_is : (m : PlanText) (bytes : List ℕ) (p : PlanParts) → KeepsLines (lines bytes) m → Reads plan_format bytes p → m.text.items ≡ text (lines_of plan_format p)
 text_is m bytes p h r = h.kept ∙ ap text r.lines

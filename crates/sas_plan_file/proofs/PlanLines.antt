@@ -14,7 +14,7 @@ use Rattle.sas_plan_file.specs.PlanFormat.{PlanLine, step, cost, plan_line_bytes
 
 -- ---- the digits of a cost
 
--- what stands before the first space, and what behind it
+-- the bytes before the first space, and those after it
 pub same_first : (w v a b : List ℕ) → NoSpace w → NoSpace v → w ++ 32 ∷ a ≡ v ++ 32 ∷ b → (w ≡ v) × (a ≡ b)
 same_first [] [] a b h g e = (refl, cc)
 same_first [] (x ∷ v) a b h g e = absurd (g.0 (let q : x ≡ 32 = cc in q))

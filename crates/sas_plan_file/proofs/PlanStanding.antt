@@ -1,4 +1,4 @@
--- What a reader of plans stands for, in terms of the plan format.
+-- What a reader of plans represents, in terms of the plan format.
 use Rattle.std.proofs.Common.{◌≡◌, ℕ, ◌≤◌, List, length, refl, ap, Ok}
 use Rattle.sas_core.specs.PlanParts.{PlanParts}
 use Rattle.sas_reader.specs.Format.{ReadsAs}

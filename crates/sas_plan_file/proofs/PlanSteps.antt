@@ -1,4 +1,4 @@
--- One line more of a plan.
+-- One more line of a plan.
 use Rattle.std.proofs.Common.{◌≡◌, ℕ, List, [], ◌∷◌, ◌++◌, refl, sym, subst, ◌∙◌, Option, None, Some}
 use Rattle.sas_core.specs.declared.plan.CostKind.{CostKind}
 use Rattle.sas_reader.specs.System.{Takes, Leads}
@@ -9,7 +9,7 @@ use Rattle.sas_reader.proofs.Live.{leads_line}
 abbrev Led : List (List ℕ) → PlanState → Type 0
 Led lines p = Leads plan_format PlanLineFits plan_node plan_start lines p
 
--- a line that may stand leads on
+-- a line that may stand leads to a next state
 pub led_on : (before : List (List ℕ)) (steps : List (List ℕ)) (q : PlanState) (i : PlanLine) (line : List ℕ) → Leads plan_format PlanLineFits plan_node plan_start before (going steps) → Takes plan_format PlanLineFits tt plan_line_ok i → plan_line_bytes i ≡ line → plan_next steps i ≡ q → Leads plan_format PlanLineFits plan_node plan_start (before ++ line ∷ []) q
 led_on before steps q i line h t e n = subst (λ (l : List ℕ). Led (before ++ l ∷ []) q) e (leads_line plan_format PlanLineFits plan_node plan_start (going steps) q before i h (t, n))
 

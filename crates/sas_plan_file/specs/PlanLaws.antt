@@ -1,4 +1,4 @@
--- A law of plan files beside those of every format.
+-- A law of plan files, in addition to those of every format.
 use Rattle.std.specs.Prelude.{◌≡◌, ℕ, ◌⊎◌, List, [], ◌∷◌, ◌++◌}
 use Rattle.sas_core.specs.declared.plan.CostKind.TheVariants as costs
 use Rattle.sas_core.specs.PlanParts.{PlanParts}
@@ -10,7 +10,7 @@ use Rattle.sas_plan_file.specs.PlanFormat.{cost, plan_line_bytes, plan_format}
 abbrev pub filling : List ℕ
 filling = plan_line_bytes (cost 0 costs.Unit)
 
--- lines that begin a plan are all lines of one, or are with the filling behind them
+-- lines that begin a plan are all lines of some plan, with or without the filling at the end
 abbrev pub PlanIsFilled : Type 0
 PlanIsFilled = (begun : List (List ℕ)) → IsBegun plan_format begun → (p : PlanParts)
     × WellNamed p

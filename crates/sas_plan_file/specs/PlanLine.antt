@@ -1,4 +1,4 @@
--- What the code reads off a line of a plan file.
+-- How the code parses a line of a plan file.
 use Rattle.std.specs.Prelude.{◌≡◌, ◌⊎◌, ℕ, ◌+◌, List, ◌∷◌, ◌++◌, length, take, codes, Result, Ok, Err}
 use Rattle.std.specs.Fmt.{decimal}
 use Rattle.sas_core.specs.declared.plan.CostKind.{CostKind}
@@ -12,32 +12,32 @@ use Rattle.sas_plan_file.specs.PlanFormat.{PlanLine, step, cost, plan_line_bytes
 use Rattle.sas_plan_file.specs.PlanMachine.{plan_line_ok}
 use Rattle.sas_reader.specs.System.{Takes, Judged}
 
--- behind its opening parenthesis a step is its name and the closing one
+-- after the opening parenthesis, a step is its name and the closing parenthesis
 abbrev pub Names : List ℕ → List ℕ → Type 0
 Names rest name = IsName name × (rest ≡ name ++ codes ")")
 
--- behind its first words the cost is its digits and its last words
+-- after its first words, the cost is its digits and its last words
 abbrev pub Costs : List ℕ → ℕ → CostKind → Type 0
 Costs rest n kind = IsPlanCost n × (rest ≡ decimal n ++ cost_words kind)
 
--- the line that the code found
+-- the line that the code's result represents
 abbrev pub line_said : code.PlanLine → PlanLine
 line_said (variants.Step name) = step name.now
 line_said (variants.Cost n kind) = cost n kind
 
--- the line spells what was found; or it may not stand in a plan, and the kind is that of its fault
+-- the line spells the result; or it may not stand in a plan, and this is the kind of its fault
 abbrev pub JudgesPlanLine : List ℕ → Result code.PlanLine Kind → Type 0
 JudgesPlanLine line (Ok said) =
     Takes plan_format PlanLineFits tt plan_line_ok (line_said said)
     × (plan_line_bytes (line_said said) ≡ line)
 JudgesPlanLine line (Err kind) = Judged plan_format PlanLineFits tt plan_line_ok line kind
 
--- the bytes begin with a line's end, which takes so many of them: LF, or CR LF
+-- the bytes begin with a line end of `taken` bytes: LF or CR LF
 abbrev pub EndsLine : List ℕ → ℕ → Type 0
 EndsLine bytes taken = (rest : List ℕ)
     × (((bytes ≡ 10 ∷ rest) × (taken ≡ 1)) ⊎ ((bytes ≡ 13 ∷ 10 ∷ rest) × (taken ≡ 2)))
 
--- the line of this step stands first in the bytes, and takes so many of them with its end
+-- the bytes begin with the line of this step, which takes `taken` bytes with its line end
 pub record StepStandsFirst (bytes name : List ℕ) (taken : ℕ) : Type 0 where
   pub is_name : IsName name
   pub first : LineStandsFirst bytes (plan_line_bytes (step name)) taken

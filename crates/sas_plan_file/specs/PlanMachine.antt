@@ -1,4 +1,4 @@
--- What may still come in a plan file, by what came.
+-- The states while a plan file is read.
 use Rattle.std.specs.Prelude.{◌≡◌, ℕ, Bool, true, List, [], ◌∷◌, ◌++◌, Option, Some, None}
 use Rattle.sas_core.specs.declared.plan.CostKind.{CostKind}
 use Rattle.sas_core.specs.Names.{is_name}
@@ -7,7 +7,7 @@ use Rattle.sas_reader.specs.declared.fault.Kind.{Kind}
 use Rattle.sas_plan_file.specs.PlanFormat.{PlanLine, step, cost}
 use Rattle.sas_reader.specs.System.{Node, ended, before}
 
--- these steps came; or the cost came too, and with it the end
+-- only these steps were read so far; or the cost was read as well, and the plan is complete
 pub data PlanState : Type 0 where
   going : List (List ℕ) → PlanState
   closed : PlanParts → PlanState
@@ -20,7 +20,7 @@ abbrev pub plan_next : List (List ℕ) → PlanLine → PlanState
 plan_next steps (step name) = going (steps ++ name ∷ [])
 plan_next steps (cost n kind) = closed (record { steps = steps; cost = n; kind = kind })
 
--- as long as no cost came, a step or the cost may come
+-- until the cost is read, a step or the cost may follow
 abbrev pub plan_node : PlanState → Node PlanState PlanParts PlanLine (Unit {0})
 plan_node (going steps) = before tt plan_line_ok (plan_next steps)
 plan_node (closed p) = ended p
@@ -28,21 +28,21 @@ plan_node (closed p) = ended p
 abbrev pub plan_start : PlanState
 plan_start = going []
 
--- by the steps so far, and the cost where it came
+-- the state with these steps, and the cost if it was read
 abbrev pub plan_state : List (List ℕ) → Option (ℕ × CostKind) → PlanState
 plan_state steps None = going steps
 plan_state steps (Some c) = closed (record { steps = steps; cost = c.0; kind = c.1 })
 
--- the cost came
+-- the cost was read
 abbrev pub HasCost : PlanState → Type 0
 HasCost (going steps) = ⊥
 HasCost (closed p) = Unit {0}
 
--- a line that is refused leaves all as it was
+-- a refused line doesn't change the state
 abbrev pub plan_stays : PlanState → List ℕ → Kind → PlanState → Type 0
 plan_stays old line k new = new ≡ old
 
--- the name is one step more
+-- the name is added as a step
 abbrev pub StepsOn : PlanState → List ℕ → PlanState → Type 0
 StepsOn (going steps) name new = new ≡ going (steps ++ name ∷ [])
 StepsOn (closed p) name new = ⊥

@@ -9,17 +9,17 @@ use Rattle.sas_plan_file.specs.declared.plan_reader.PlanReader.{PlanReader}
 use Rattle.sas_plan_file.specs.PlanFormat.{PlanLine, PlanLineFits, plan_format}
 use Rattle.sas_plan_file.specs.PlanMachine.{PlanState, plan_node, plan_start, HasCost, plan_stays}
 
--- the lines lead a plan here
+-- the lines lead from the start to this state
 abbrev pub plan_led : List (List ℕ) → PlanState → Type 0
 plan_led lines p = Leads plan_format PlanLineFits plan_node plan_start lines p
 
--- the line may not follow, and the kind of its fault
+-- the line may not follow, and this is the kind of its fault
 abbrev pub plan_rejects : PlanState → List ℕ → Kind → Type 0
 plan_rejects p line k = Rejects plan_format PlanLineFits (plan_node p) line k
 
 -- How contracts view a reader of plans. Without a fault it represents the bytes that it has taken:
--- their complete lines are those that it accepted, their rest is the line that has begun, and their
--- length is what it counted. With a fault, memory aside, that fault is theirs.
+-- it has accepted their complete lines, their rest is the pending line, and their length was
+-- counted. With a fault other than `Memory`, the bytes have this fault.
 abbrev pub plan_view : View PlanParts PlanLine (Unit {0}) PlanReader
 plan_view = record {
   format = plan_format;

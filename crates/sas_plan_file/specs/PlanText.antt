@@ -1,4 +1,4 @@
--- A plan's text that is kept as its lines come.
+-- The text of a plan, stored while its lines are read.
 use Rattle.std.specs.Prelude.{◌≡◌, ℕ, List, IsTrue, ◌↔◌}
 use Rattle.sas_lines.specs.Lines.{text}
 use Rattle.sas_plan_file.specs.declared.plan_text.PlanText.{PlanText}
@@ -7,14 +7,14 @@ use Rattle.sas_plan_file.specs.PlanMachine.{PlanState, plan_node, plan_start, Ha
 use Rattle.sas_reader.specs.System.{Leads}
 use Rattle.sas_reader.specs.declared.fault.Kind.{Kind}
 
--- the lines may begin a plan and are kept as a text, and the text holds whether the cost is among
--- them
+-- a plan may begin with the lines; they are stored as a text, and `closed` is whether the cost is
+-- among them
 pub record KeepsLines (lines : List (List ℕ)) (m : PlanText) : Type 0 where
   pub state : PlanState
   pub leads : Leads plan_format PlanLineFits plan_node plan_start lines state
   pub kept : m.text.items ≡ text lines
   pub closed : IsTrue m.closed ↔ HasCost state
 
--- a line that is refused leaves all as it was
+-- a refused line doesn't change the text
 abbrev pub text_stays : PlanText → List ℕ → Kind → PlanText → Type 0
 text_stays old line k new = new ≡ old

@@ -1,4 +1,4 @@
-//! The plan file, read in pieces and written. Each fault is reported at its exact place.
+//! Reads plan files in pieces, and writes them. A fault is reported with its line and kind.
 #![tactic(auto)]
 
 mod laws;

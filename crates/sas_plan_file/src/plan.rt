@@ -1,4 +1,4 @@
-// Plan files: read from a device.
+// Reads plan files from a device.
 ghost use Rattle.std.specs.Prelude.{◌≡◌, ◌≢◌, false, Ok, Err, IfOk, IfErr};
 ghost use Rattle.sas_reader.specs.Devices.{ReadsAll, ValueOf, TextOf};
 ghost use Rattle.sas_reader.specs.Format.{ReadsAs};
@@ -17,11 +17,11 @@ use sas_reader::{Fault, Kind, LIMIT, Reader, read_all, read_all_large};
 use std::alloc::Global;
 use std::io::Read;
 
-/// Reads a plan from a device: in pieces of at most 4,096 bytes, to its end or to the first fault. A failed read is reported as
-/// `Kind::Read`, and that memory was refused as `Kind::Memory`. Not to be called with a device that has failed.
+/// Reads a plan from a device, to its end or to the first fault, in pieces of at most 4,096 bytes. A failed read is reported as
+/// `Kind::Read`, and out of memory as `Kind::Memory`. The device must not have failed before.
 ///
-/// The clauses about bytes are about those that the device makes known (`remaining`). A reader over memory makes them
-/// known. A file or standard input makes none known, and then the clauses state only that there are such bytes.
+/// The clauses are about the bytes that the device reports (`remaining`). A reader over memory reports them. A file or standard input
+/// doesn't. For these, the clauses state only that there are such bytes.
 pub fn read_plan<R: Read>(alloc: Global, reader: &mut Watched<R>) -> Result<Plan, Fault>
     requires { reader.old.failed ≡ false }
     ensures { ReadsAll R.remaining plan_format (ValueOf plan_format) reader.old reader.new result }
@@ -32,9 +32,9 @@ pub fn read_plan<R: Read>(alloc: Global, reader: &mut Watched<R>) -> Result<Plan
     }
 }
 
-/// Reads a plan from a device as `read_plan` does, in pieces of at most 65,536 bytes, into one block of memory for all names.
-/// A refusal has the fault of `read_plan`, and the first bytes of what stood there: of the line that may not stand there, of
-/// the byte behind a whole plan, or of the rest at an early end.
+/// Reads a plan from a device like `read_plan`, but in pieces of at most 65,536 bytes, and stores all names in one block of memory. An
+/// error has the fault and the first bytes of the text there: of the wrong line, of what follows a whole plan, or of an unfinished last
+/// line.
 pub fn read_flat_plan<R: Read>(
     alloc: Global,
     reader: &mut Watched<R>,
@@ -48,7 +48,7 @@ pub fn read_flat_plan<R: Read>(
     }
 }
 
-/// Reads a plan from bytes that are all at hand, as `read_flat_plan` does from a device. It takes no memory for pieces of them.
+/// Reads a plan from bytes in memory, like `read_flat_plan` from a device. It takes no memory for pieces.
 pub fn flat_plan_of(alloc: Global, bytes: &[u8]) -> Result<FlatPlan, PlanRefusal>
     ensures read { IfOk result (λ plan. ReadsAs plan_format most_bytes bytes.now (Ok plan)) }
     ensures fault { IfErr result (λ r. r.fault.kind ≢ Kind.Memory
@@ -64,8 +64,8 @@ pub fn flat_plan_of(alloc: Global, bytes: &[u8]) -> Result<FlatPlan, PlanRefusal
     }
 }
 
-/// Reads a plan from a device as `read_flat_plan` does, and returns its text: its lines, each ended by LF. It keeps no plan.
-/// The refusals are those of `read_flat_plan`.
+/// Reads a plan from a device like `read_flat_plan`, but returns only its text: its lines, each ended by LF. The errors are those of
+/// `read_flat_plan`.
 pub fn read_plan_text<R: Read>(
     alloc: Global,
     reader: &mut Watched<R>,

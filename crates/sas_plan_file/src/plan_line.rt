@@ -1,4 +1,4 @@
-// One line of a plan file.
+// Parses one line of a plan file.
 ghost use Rattle.std.specs.Prelude.{◌≡◌, ◌<◌, ◌++◌, ℕ, List, codes, length, drop, MatchOption, IfSome, IfNone};
 ghost use Rattle.std.specs.Fmt.{decimal};
 ghost use Rattle.sas_core.specs.Numbers.{IsPlanCost};
@@ -10,21 +10,21 @@ use sas_core::{CostKind, is_name};
 use sas_lines::cost;
 use sas_reader::Kind;
 
-/// What a line of a plan file holds: a step, by its name, or the cost.
+/// The content of a line of a plan file: the name of a step, or the cost.
 #[derive(Clone, Copy, Debug, PartialEq, Eq)]
 pub enum PlanLine<'a> {
     Step(&'a [u8]),
     Cost(u64, CostKind),
 }
 
-/// A step whose line stands first in some bytes: its name, and how many of the bytes the line takes with its end.
+/// A step whose line is the first of some bytes: its name, and the number of bytes of the line with its end.
 #[derive(Clone, Copy, Debug, PartialEq, Eq)]
 pub struct StepAhead<'a> {
     pub name: &'a [u8],
     pub taken: usize,
 }
 
-/// Returns what follows the front, if the line begins with it.
+/// Returns the rest of the line after `front`, or `None` if the line doesn't begin with `front`.
 fn behind<'a>(line: &'a [u8], front: &[u8]) -> Option<&'a [u8]>
     ensures { MatchOption result (BeginsWith front.now line.now → ⊥)
         (λ rest. line.now ≡ front.now ++ rest.now) }
@@ -32,7 +32,7 @@ fn behind<'a>(line: &'a [u8], front: &[u8]) -> Option<&'a [u8]>
     line.strip_prefix(front)
 }
 
-/// Returns what stands before the back, where the line ends with it.
+/// Returns the line without `back` at its end, or `None` if the line doesn't end with `back`.
 fn before<'a>(line: &'a [u8], back: &[u8]) -> Option<&'a [u8]>
     ensures { MatchOption result
         ((rest : List ℕ) → line.now ≡ rest ++ back.now → ⊥)
@@ -41,7 +41,7 @@ fn before<'a>(line: &'a [u8], back: &[u8]) -> Option<&'a [u8]>
     line.strip_suffix(back)
 }
 
-/// Returns the name that stands before the closing parenthesis.
+/// Returns the name before the closing parenthesis, or `None` if there is no such name.
 fn step_name(rest: &[u8]) -> Option<&[u8]>
     ensures found { IfSome result (λ name. Names rest.now name.now) }
     ensures none { IfNone result ((name : List ℕ) → Names rest.now name → ⊥) }
@@ -52,7 +52,7 @@ fn step_name(rest: &[u8]) -> Option<&[u8]>
     }
 }
 
-/// Returns the cost that stands before the words.
+/// Returns the cost before the words, or `None` if there is no such cost.
 fn cost_before(rest: &[u8], words: &[u8]) -> Option<u64>
     ensures found { IfSome result (λ n. IsPlanCost n × (rest.now ≡ decimal n ++ words.now)) }
     ensures none { IfNone result ((n : ℕ) → IsPlanCost n → rest.now ≡ decimal n ++ words.now → ⊥) }
@@ -63,7 +63,7 @@ fn cost_before(rest: &[u8], words: &[u8]) -> Option<u64>
     }
 }
 
-/// Returns the cost and its words.
+/// Returns the cost and its kind, or `None` if the line has another form.
 fn cost_of(rest: &[u8]) -> Option<(u64, CostKind)>
     ensures found { IfSome result (λ c. Costs rest.now c.0 c.1) }
     ensures none { IfNone result ((n : ℕ) (kind : CostKind) → Costs rest.now n kind → ⊥) }
@@ -77,7 +77,7 @@ fn cost_of(rest: &[u8]) -> Option<(u64, CostKind)>
     }
 }
 
-/// Returns what the line spells: a step or the cost, or else the kind of its fault.
+/// Parses a line as a step or the cost. Returns the kind of its fault if it is neither.
 pub fn plan_line(line: &[u8]) -> Result<PlanLine<'_>, Kind>
     ensures { JudgesPlanLine line.now result }
 {
@@ -96,8 +96,8 @@ pub fn plan_line(line: &[u8]) -> Result<PlanLine<'_>, Kind>
     }
 }
 
-/// Returns what stands between the parentheses that the line begins and ends with. Returns `None` where there are none,
-/// or nothing stands between them.
+/// Returns the bytes between the parentheses with which the line begins and ends. Returns `None` if it has no such parentheses or no bytes
+/// between them.
 fn in_parentheses(line: &[u8]) -> Option<&[u8]>
     ensures { IfSome result
         (λ name. 0 < length name.now × (line.now ≡ codes "(" ++ (name.now ++ codes ")"))) }
@@ -108,7 +108,7 @@ fn in_parentheses(line: &[u8]) -> Option<&[u8]>
     }
 }
 
-/// Returns how many bytes the line end takes that stands at this place: LF, or CR LF.
+/// Returns the number of bytes of the line end at `place` (LF or CR LF), or `None` if there is none.
 #[inline(always)]
 fn end_of_line(bytes: &[u8], place: usize) -> Option<usize>
     requires { place < length bytes.now }
@@ -123,8 +123,8 @@ fn end_of_line(bytes: &[u8], place: usize) -> Option<usize>
     }
 }
 
-/// Returns the step whose line stands first in the bytes, where that is quick to see: its end begins with the first LF or CR. All
-/// else is left to `plan_line`.
+/// Returns the step on the first line of the bytes, if the line ends at the first LF or CR. Otherwise returns `None`, and the line has to
+/// be read by `plan_line`.
 pub fn step_ahead(bytes: &[u8]) -> Option<StepAhead<'_>>
     ensures { IfSome result (λ step. StepStandsFirst bytes.now step.name.now step.taken) }
 {

@@ -1,4 +1,4 @@
-// What takes the lines of a plan file, one after another.
+// Accepts the lines of a plan file, one after another.
 ghost use Rattle.std.specs.Prelude.{◌≡◌, [], OnOk, IfErr};
 ghost use Rattle.std.specs.List.{AllByRecursion};
 
@@ -11,7 +11,7 @@ use sas_reader::{Front, Kind, Machine};
 use std::alloc::Global;
 use std::marker::Model;
 
-/// The steps so far, and the cost once it has come.
+/// The steps so far, and the cost if its line has been read.
 #[derive(Drop)]
 pub struct PlanMachine<S: StepNames = Items<Items<u8>>> {
     alloc: Global,
@@ -35,7 +35,7 @@ impl<S: StepNames> PlanMachine<S> {
     ghost use Rattle.sas_core.specs.Names.{IsName};
     ghost use Rattle.sas_plan_file.specs.PlanMachine.{closed, plan_start, HasCost, StepsOn};
 
-    /// Makes a machine that has taken no line: there are no steps yet.
+    /// Returns a machine that has accepted no line. `steps` is empty.
     fn of_none(alloc: Global, steps: S) -> Self
         requires { S.names steps ≡ [] }
         ensures { result ≡ plan_start }
@@ -47,7 +47,7 @@ impl<S: StepNames> PlanMachine<S> {
         }
     }
 
-    /// Adds a step behind those so far.
+    /// Appends a step.
     fn add_step(&mut self, name: &[u8]) -> Result<(), Kind>
         requires open_still { HasCost self.old → ⊥ }
         requires name { IsName name.now }
@@ -58,7 +58,7 @@ impl<S: StepNames> PlanMachine<S> {
         Ok(())
     }
 
-    /// Returns the steps, the cost and its words, once all lines have come.
+    /// Returns the steps, the cost and its kind after all lines have been read.
     fn into_parts(self) -> (S, u64, CostKind)
         requires { HasCost self }
         ensures names { AllByRecursion IsName (S.names result.0) }
@@ -76,14 +76,14 @@ impl<S: StepNames> PlanMachine<S> {
 impl PlanMachine<Items<Items<u8>>> {
     ghost use Rattle.sas_plan_file.specs.PlanMachine.{closed, plan_start, HasCost};
 
-    /// Makes a machine that has taken no line.
+    /// Returns a machine that has accepted no line.
     pub fn new(alloc: Global) -> Self
         ensures { result ≡ plan_start }
     {
         PlanMachine::of_none(alloc, Items::new(alloc))
     }
 
-    /// Returns the plan whose lines have all come.
+    /// Returns the plan after all its lines have been read.
     pub fn into_plan(self) -> Plan
         requires { HasCost self }
         ensures { self ≡ closed result }
@@ -96,14 +96,14 @@ impl PlanMachine<Items<Items<u8>>> {
 impl PlanMachine<Lists<u8>> {
     ghost use Rattle.sas_plan_file.specs.PlanMachine.{closed, plan_start, HasCost};
 
-    /// Makes a machine that has taken no line, and stores the names in one block of memory.
+    /// Returns a machine that has accepted no line and stores all names in one block of memory.
     pub fn new_flat(alloc: Global) -> Self
         ensures { result ≡ plan_start }
     {
         PlanMachine::of_none(alloc, Lists::new(alloc))
     }
 
-    /// Returns the plan whose lines have all come.
+    /// Returns the plan after all its lines have been read.
     pub fn into_flat_plan(self) -> FlatPlan
         requires { HasCost self }
         ensures { self ≡ closed result }

@@ -1,4 +1,4 @@
-// Reads a plan that comes in pieces.
+// Reads a plan file in pieces.
 ghost use Rattle.std.specs.Prelude.{◌≤◌};
 ghost use Rattle.sas_reader.specs.Limit.{most_bytes};
 ghost use Rattle.sas_reader.specs.Reading.{Starts, Feeds, Finishes};
@@ -8,7 +8,7 @@ use sas_core::Plan;
 use sas_reader::{Fault, LIMIT, Reader};
 use std::alloc::Global;
 
-/// Reads a plan file that comes in pieces, cut anywhere.
+/// Reads a plan file in pieces, which may be cut anywhere.
 #[derive(Drop)]
 pub struct PlanReader {
     reader: Reader<PlanMachine>,
@@ -17,14 +17,14 @@ pub struct PlanReader {
 impl PlanReader {
     ghost use Rattle.sas_plan_file.specs.PlanReader.{plan_view};
 
-    /// Makes a reader that has taken nothing, and takes at most 4 GiB. It takes no memory.
+    /// Returns a reader that has read nothing yet and refuses more than 4 GiB. It takes no memory.
     pub fn new(alloc: Global) -> Self
         ensures { Starts plan_view most_bytes result }
     {
         PlanReader::within(alloc, LIMIT)
     }
 
-    /// Makes such a reader that takes at most `limit` bytes.
+    /// Returns a reader that has read nothing yet and refuses more than `limit` bytes.
     pub(crate) fn within(alloc: Global, limit: u64) -> Self
         requires { limit ≤ most_bytes }
         ensures { Starts plan_view limit result }
@@ -34,15 +34,14 @@ impl PlanReader {
         }
     }
 
-    /// Takes the next piece. Once there is a fault, this call and each later one return the first fault, and no byte
-    /// behind it is looked at.
+    /// Reads the next piece. Once there is a fault, this call and all later calls return the first fault and ignore all bytes after it.
     pub fn feed(&mut self, piece: &[u8]) -> Result<(), Fault>
         ensures { Feeds plan_view self.old piece.now self.new result }
     {
         self.reader.feed(piece)
     }
 
-    /// Returns the plan, once all has come, or the fault. It takes no memory: `Memory` is returned only if `feed` returned it.
+    /// Returns the plan if it is complete, or else the fault. It takes no memory: `Memory` is returned only if `feed` returned it.
     pub fn finish(self) -> Result<Plan, Fault>
         ensures { Finishes plan_view self result }
     {

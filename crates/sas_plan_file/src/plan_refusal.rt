@@ -3,7 +3,7 @@ ghost use Rattle.std.specs.Prelude.{◌≡◌};
 
 use sas_reader::{Fault, Found, Refused};
 
-/// Why a plan is refused: its first fault, and what stood there.
+/// Why a plan is refused: its first fault, and the text at the fault.
 #[derive(Clone, Copy, Debug, PartialEq, Eq)]
 pub struct PlanRefusal {
     pub fault: Fault,
@@ -11,7 +11,7 @@ pub struct PlanRefusal {
 }
 
 impl PlanRefusal {
-    /// Keeps of a reader's refusal the fault, and what stood there.
+    /// Takes the fault and the text at the fault from a reader's refusal.
     pub(crate) fn of<M: Drop>(refused: Refused<M>) -> PlanRefusal
         ensures fault { result.fault ≡ refused.fault }
         ensures found { result.found ≡ refused.found }

@@ -1,4 +1,4 @@
-// What takes the lines of a plan file and keeps them as a text, without a plan.
+// Accepts the lines of a plan file and stores them as a text.
 ghost use Rattle.std.specs.Prelude.{◌≡◌, [], ◌∷◌, ◌++◌, IsTrue, OnOk, IfErr, false};
 
 use crate::plan_line::{PlanLine, plan_line, step_ahead};
@@ -6,7 +6,7 @@ use sas_lines::push_line;
 use sas_reader::{Front, Kind, Machine};
 use std::alloc::Global;
 
-/// The lines so far, each ended by LF, and whether the cost has come.
+/// The lines so far, each ended by LF, and whether the cost has been read.
 #[derive(Drop)]
 pub struct PlanText {
     text: Vec<u8>,
@@ -16,7 +16,7 @@ pub struct PlanText {
 impl PlanText {
     ghost use Rattle.sas_plan_file.specs.PlanText.{KeepsLines};
 
-    /// Makes a text without lines.
+    /// Returns an empty text.
     pub fn new(alloc: Global) -> Self
         ensures { KeepsLines [] result }
     {
@@ -34,7 +34,7 @@ impl PlanText {
         text
     }
 
-    /// Keeps one line more.
+    /// Appends a line.
     fn keep(&mut self, line: &[u8]) -> Result<(), Kind>
         ensures ok { OnOk result
             (self.new.text.items ≡ self.old.text.items ++ (line.now ++ 10 ∷ [])) }

@@ -1,4 +1,4 @@
-// Plan files: written.
+// Writes plan files.
 ghost use Rattle.std.specs.Prelude.{◌≡◌, [], ◌∷◌, ◌++◌, IfOk, OnOk};
 ghost use Rattle.sas_lines.specs.Lines.{text};
 ghost use Rattle.sas_reader.specs.Format.{lines_of};
@@ -8,7 +8,7 @@ use sas_core::{CostKind, Plan};
 use sas_lines::{push_line, push_number};
 use std::alloc::{AllocError, Global};
 
-/// Appends the line of a step and its end.
+/// Appends the line of a step, with its line end.
 fn push_step(out: &mut Vec<u8>, name: &[u8]) -> Result<(), AllocError>
     ensures { OnOk result
         (out.new.items ≡ out.old.items ++ (plan_line_bytes (step name.now) ++ 10 ∷ [])) }
@@ -18,7 +18,7 @@ fn push_step(out: &mut Vec<u8>, name: &[u8]) -> Result<(), AllocError>
     push_line(out, b")")
 }
 
-/// Returns the words behind a cost.
+/// Returns the words after a cost.
 fn words_of(kind: CostKind) -> &'static [u8]
     ensures { result.now ≡ cost_words kind }
 {
@@ -28,7 +28,7 @@ fn words_of(kind: CostKind) -> &'static [u8]
     }
 }
 
-/// Appends the line of the cost and its end.
+/// Appends the line of the cost, with its line end.
 fn push_cost(out: &mut Vec<u8>, n: u64, kind: CostKind) -> Result<(), AllocError>
     ensures { OnOk result
         (out.new.items ≡ out.old.items ++ (plan_line_bytes (cost n kind) ++ 10 ∷ [])) }
@@ -38,7 +38,7 @@ fn push_cost(out: &mut Vec<u8>, n: u64, kind: CostKind) -> Result<(), AllocError
     push_line(out, words_of(kind))
 }
 
-/// Returns the text of a plan: its lines, each ended by LF. An `Err` is returned only if it is out of memory.
+/// Returns the text of a plan: its lines, each ended by LF. Returns `Err` only if out of memory.
 pub fn encode_plan(alloc: Global, plan: &Plan) -> Result<Vec<u8>, AllocError>
     ensures { IfOk result (λ t. t.items ≡ text (lines_of plan_format plan.now)) }
 {

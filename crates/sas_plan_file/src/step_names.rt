@@ -1,18 +1,18 @@
-// What keeps the names of a plan's steps as they come.
+// Stores the names of a plan's steps while they are read.
 ghost use Rattle.std.specs.Prelude.{◌≡◌, ◌∷◌, ◌++◌, [], OnOk, OnErr};
 
 use sas_core::Items;
 use sas_lists::Lists;
 use std::alloc::{AllocError, Global};
 
-/// The names of the steps so far, however they are stored.
+/// A list of the names of the steps so far.
 pub trait StepNames: Drop {
     ghost use Rattle.std.specs.Prelude.{List, ℕ};
 
     /// The names, in order.
     ghost names: { Self → List (List ℕ) };
 
-    /// Adds a name behind those so far. After an `Err` the names are as they were.
+    /// Appends a name. Returns `Err` and changes nothing if out of memory.
     fn add(&mut self, alloc: Global, name: &[u8]) -> Result<(), AllocError>
         ensures ok { OnOk result (names self.new ≡ names self.old ++ name.now ∷ []) }
         ensures err { OnErr result (names self.new ≡ names self.old) };
@@ -28,7 +28,7 @@ impl StepNames for Items<Items<u8>> {
     }
 }
 
-/// All names stand in one block of memory.
+/// All names are stored in one block of memory.
 impl StepNames for Lists<u8> {
     ghost names = { λ names. names };
 

@@ -1,4 +1,4 @@
--- One step of a reader: it takes a piece up to and with the first line end, or all of it.
+-- One step of a reader: it takes a piece up to and including the first line end, or all of it.
 use Rattle.std.proofs.Common.{◌≡◌, ◌≢◌, ℕ, ◌+◌, ◌-◌, ◌≤◌, ◌<◌, Bool, true, false, not, List, [], ◌∷◌, ◌++◌, length, take, drop, refl, sym, ap, subst, ◌∙◌, append_assoc, arith, length-append, length-drop, Result, Ok, Err}
 use Rattle.std.proofs.lemmas.List.{append-nil, length-take, take_all, take-append-drop}
 use Rattle.std.proofs.Math.Seq.{take-add}
@@ -25,23 +25,23 @@ is_true : (b : Bool) → not b ≡ false → b ≡ true
 is_true true h = refl
 is_true false h = absurd cc
 
--- What is said of the bytes that are taken of a piece, behind what was pending.
+-- Properties of the bytes that are taken from a piece, after pending bytes.
 pub record Fed (pending : List ℕ) (next : Progress) (piece : List ℕ) (n : ℕ) (complete : Bool) : Type 0 where
   pub taken : TakesLine piece n complete
   pub lines : lines (pending ++ take n piece) ≡ completed complete next.line
   pub rest : unfinished (pending ++ take n piece) ≡ next.pending
 
--- where nothing was pending, it is the line that comes
+-- if nothing was pending, it is the next line
 fed_whole : (pending piece line : List ℕ) (n : ℕ) → pending ≡ [] → LineStandsFirst piece line n → Fed pending (record { line = line; pending = [] }) piece n true
 fed_whole pending piece line n p w = record { taken = w.taken; lines = rw p w.line; rest = rw p w.rest }
 
--- a front has no more lines than bytes, and no more of these than there are
+-- a prefix has at most as many lines as bytes, and at most all bytes
 pub front_few : (first : List (List ℕ)) (bytes : List ℕ) (front : Front) → IsFront first bytes front → front.lines ≤ front.bytes
 front_few first bytes front h =
     let l = lines-few (take front.bytes bytes) in
     omega (arith, h.many, ap length h.stand.lines, l, length-take front.bytes bytes)
 
--- what is taken of a piece is some of it
+-- the bytes taken from a piece are part of it
 pub takes_some : (piece : List ℕ) (n : ℕ) (complete : Bool) → TakesLine piece n complete → 0 < length piece → 0 < n
 takes_some piece n true t l = omega (arith, t.4)
 takes_some piece n false t l = omega (arith, t.1, l)
@@ -59,16 +59,16 @@ rest_is i piece = take_all (length piece - i) (drop i piece) (omega (arith, leng
 whole_is : (i : ℕ) (piece : List ℕ) → take i piece ++ rest i piece ≡ piece
 whole_is i piece = ap (λ (x : List ℕ). take i piece ++ x) (rest_is i piece) ∙ take-append-drop i piece
 
--- bytes, a front of the piece, and a front of its rest
+-- bytes, a prefix of the piece, and a prefix of its rest
 joined : (bytes piece : List ℕ) (i n : ℕ) → (bytes ++ take i piece) ++ take n (rest i piece) ≡ bytes ++ take (i + n) piece
 joined bytes piece i n =
     ap (λ (x : List ℕ). (bytes ++ take i piece) ++ take n x) (rest_is i piece) ∙ append_assoc bytes (take i piece) (take n (drop i piece)) ∙ ap (λ (x : List ℕ). bytes ++ x) (sym (take-add i n piece))
 
--- the front of a piece that the limit leaves room for
+-- the prefix of a piece that the limit leaves room for
 pub within_fits : (limit taken : ℕ) (piece front : List ℕ) → front ≡ take (limit - taken) piece → taken ≤ limit → taken + length front ≤ limit
 within_fits limit taken piece front e l = let n = ap length e ∙ length-take (limit - taken) piece in omega (arith, n, l)
 
--- it is empty only at the limit
+-- this prefix is empty only at the limit
 pub within_none : (limit taken : ℕ) (piece front : List ℕ) → front ≡ take (limit - taken) piece → taken ≤ limit → 0 < length piece → length front ≡ 0 → taken ≡ limit
 within_none limit taken piece front e l some none = let n = ap length e ∙ length-take (limit - taken) piece in omega (arith, n, l, some, none)
 
@@ -99,7 +99,7 @@ module _ {M : Type 0} (led_by : List (List ℕ) → M → Type 0) (ended : M →
         taken = same_taken ∙ (let l = length_taken piece n complete fed.taken in omega (arith, h.taken, l, length-append bytes (take n piece)));
       }
 
--- ---- what a step says
+-- ---- the promises of a step
 
 module _ {M : Type 0} (led_by : List (List ℕ) → M → Type 0) (ended : M → Type 0) (rejects : M → List ℕ → Kind → Type 0) (halted : M → List ℕ → Kind → M → Type 0) where
   -- nothing was taken
@@ -133,7 +133,7 @@ module _ {M : Type 0} (led_by : List (List ℕ) → M → Type 0) (ended : M →
     accepted = λ bytes h. accepted_line led_by ended r s bytes piece line n true s.machine (record { line = line; pending = [] }) h refl (fed_whole r.pending.pending piece line n nothing whole) (λ e. refl) refl leads refl (ap (λ (p : Progress). p.pending) same_pending ∙ nothing) same_lines same_taken;
   }
 
-  -- the reader may not take the first line of the piece, or has no memory for it
+  -- the reader refuses the first line of the piece, or is out of memory
   pub stopped_at : (r s : Reader M) (piece line : List ℕ) (n : ℕ) (complete : Bool) (next : Progress) (k : Kind) → 0 < length piece → (ended r.machine → ⊥) → not complete ≡ false → Fed r.pending.pending next piece n complete
       → line ≡ next.line → r.taken + length piece ≤ r.limit → IsOfBytes k → (k ≢ kinds.Memory → rejects r.machine line k) → (k ≢ kinds.Memory → halted r.machine line k s.machine) → IsFoundOf line s.found → s.lines ≡ r.lines → Stopped led_by ended rejects halted r s piece k
   stopped_at r s piece line n complete next k some going whole fed line_is fits of_bytes refused behind known same =
@@ -147,13 +147,13 @@ module _ {M : Type 0} (led_by : List (List ℕ) → M → Type 0) (ended : M →
         memory = λ e bytes h. due_first led_by ended r.limit r.machine bytes piece some h.reached going (omega (arith, h.taken, some, fits));
       }
 
-  -- the same where nothing is pending
+  -- the same if nothing is pending
   pub stopped_whole : (r s : Reader M) (piece line : List ℕ) (n : ℕ) (k : Kind) → 0 < length piece → (ended r.machine → ⊥) → r.pending.pending ≡ [] → LineStandsFirst piece line n
       → r.taken + length piece ≤ r.limit → IsOfBytes k → (k ≢ kinds.Memory → rejects r.machine line k) → (k ≢ kinds.Memory → halted r.machine line k s.machine) → IsFoundOf line s.found → s.lines ≡ r.lines → Stopped led_by ended rejects halted r s piece k
   stopped_whole r s piece line n k some going nothing whole fits of_bytes refused behind known same =
       stopped_at r s piece line n true (record { line = line; pending = [] }) k some going refl (fed_whole r.pending.pending piece line n nothing whole) refl fits of_bytes refused behind known same
 
-  -- memory was refused where a line is due
+  -- the reader is out of memory while a line is expected
   pub stopped_memory : (r s : Reader M) (piece : List ℕ) (k : Kind) → 0 < length piece → (ended r.machine → ⊥) → r.taken < r.limit → k ≡ kinds.Memory → Stopped led_by ended rejects halted r s piece k
   stopped_memory r s piece k some going room is = record {
     kind = subst IsOfBytes (sym is) ((λ e. absurd cc), (λ e. absurd cc));
@@ -169,7 +169,7 @@ module _ {M : Type 0} (led_by : List (List ℕ) → M → Type 0) (ended : M →
     memory = λ e. absurd cc;
   }
 
-  -- and none where the machine has ended
+  -- and no byte after the end of the machine
   pub stopped_over : (r s : Reader M) (piece : List ℕ) → 0 < length piece → r.taken < r.limit → ended r.machine → s.machine ≡ r.machine → s.lines ≡ r.lines → IsFoundOf (take 1 piece) s.found → Stopped led_by ended rejects halted r s piece kinds.Trailing
   stopped_over r s piece some room d stays same known = record {
     kind = ((λ e. absurd cc), (λ e. absurd cc));
@@ -177,9 +177,9 @@ module _ {M : Type 0} (led_by : List (List ℕ) → M → Type 0) (ended : M →
     memory = λ e. absurd cc;
   }
 
-  -- ---- a front of a piece
+  -- ---- a prefix of a piece
 
-  -- what is so of the front of a piece is so of the piece
+  -- what holds for a prefix of a piece holds for the piece
   took_wider : (old new : Reader M) (piece : List ℕ) (room n : ℕ) → TookFront led_by ended rejects halted old new (take room piece) n → TookFront led_by ended rejects halted old new piece n
   took_wider old new piece room n h = record {
     within = omega (arith, h.within, length-take room piece);
@@ -200,11 +200,11 @@ module _ {M : Type 0} (led_by : List (List ℕ) → M → Type 0) (ended : M →
   advances_wider old new piece front room (Err k) e h =
       record { took = tt; stopped = stopped_wider old new piece room k (subst (λ (x : List ℕ). Stopped led_by ended rejects halted old new x k) e h.stopped); fault = h.fault; limit = h.limit }
 
-  -- what is handed on where a step stops
+  -- the error that is passed on when a step stops
   pub advances_no_more : (old new : Reader M) (piece : List ℕ) (r : Result ℕ Kind) (k : Kind) → r ≡ Err k → Advances led_by ended rejects halted old piece new (Err k) → Advances led_by ended rejects halted old piece new r
   advances_no_more old new piece r k e h = subst (λ (x : Result ℕ Kind). Advances led_by ended rejects halted old piece new x) (sym e) h
 
-  -- ---- behind a front of the piece that was taken
+  -- ---- after a prefix of the piece that was taken
 
   pub took_behind : (old mid new : Reader M) (piece : List ℕ) (i n : ℕ) → TookFront led_by ended rejects halted old mid piece i → TookFront led_by ended rejects halted mid new (rest i piece) n → TookFront led_by ended rejects halted old new piece (i + n)
   took_behind old mid new piece i n a b =

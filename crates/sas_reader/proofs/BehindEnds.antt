@@ -1,4 +1,4 @@
--- What stands behind the line ends of some bytes, and that no line holds LF.
+-- What follows the line ends of some bytes. No line contains LF.
 use Rattle.std.proofs.Common.{◌≡◌, ◌≢◌, ℕ, ◌+◌, ◌-◌, List, [], ◌∷◌, ◌++◌, length, take, refl, sym, ap, subst, ◌∙◌, append_assoc, inl, inr, arith}
 use Rattle.std.proofs.lemmas.Bool.{cases_eq, ne_eqb}
 use Rattle.std.proofs.lemmas.List.{append-nil}
@@ -10,7 +10,7 @@ no_end-more : (w : List ℕ) (b : ℕ) → NoEnd w → b ≢ 10 → NoEnd (w ++ 
 no_end-more [] b h ne = (ne, tt)
 no_end-more (x ∷ w) b h ne = (h.0, no_end-more w b h.1 ne)
 
--- a line without its CR holds no LF either
+-- a line without its CR contains no LF either
 pub no_end-without : (w : List ℕ) → NoEnd w → NoEnd (without_return w)
 no_end-without [] h = tt
 no_end-without (b ∷ []) h = elim (cases_eq b 13) [
@@ -23,7 +23,7 @@ pub no_lf : (line : List ℕ) → NoEnd line → take 64 line ≡ 10 ∷ [] → 
 no_lf [] h e = absurd cc
 no_lf (b ∷ line) h e = h.0 (let same : b ≡ 10 = cc in same)
 
--- ---- a line end behind the beginning of a line
+-- ---- a line end after the beginning of a line
 
 module _ (w : List ℕ) (h : NoEnd w) (y : List ℕ) where
   cut : w ++ 10 ∷ y ≡ (w ++ 10 ∷ []) ++ y
@@ -83,6 +83,6 @@ behind_from w (b ∷ y) x h u = elim (cases_eq b 10) [
       behind_other (length (lines (w ++ b ∷ y))) b (y ++ x) (has_line w b y h u) ne ∙ ap (λ (l : List ℕ). behind_ends (length (lines l)) (y ++ x)) (sym same) ∙ behind_from (w ++ b ∷ []) y x (no_end-more w b h ne) (ap unfinished same ∙ u)
 ]
 
--- behind whole lines
+-- after whole lines
 pub behind_front : (front x : List ℕ) → unfinished front ≡ [] → behind_ends (length (lines front)) (front ++ x) ≡ x
 behind_front front x u = behind_from [] front x tt u

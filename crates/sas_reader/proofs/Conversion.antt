@@ -1,4 +1,4 @@
--- What a reader says of a machine that follows a grammar, said of the format.
+-- Converts promises about a machine that follows a grammar to promises about the format.
 use Rattle.std.proofs.Common.{◌≡◌, ℕ, ◌+◌, ◌≤◌, List, [], ◌∷◌, length, sym, subst, ◌∙◌, append_assoc, inl, inr, Err, ◌++◌, take, drop, refl, arith, length-drop}
 use Rattle.std.proofs.lemmas.List.{take-append-drop}
 use Rattle.sas_lines.specs.Lines.{without_return, lines, unfinished}
@@ -15,8 +15,8 @@ use Rattle.sas_reader.specs.Devices.{Refuses, unread_at, ended_at, faulty_at}
 use Rattle.sas_reader.proofs.Live.{one_more, live, reads_done, fault_long, fault_done, fault_rejected, fault_stays, end_open}
 use Rattle.sas_reader.proofs.Paths.{Path}
 
--- A machine that was led somewhere by lines stands at a state that these lead to: it has ended where that has, and a
--- line that it rejects may not follow there.
+-- A machine that has accepted lines is at a state to which these lead. It has ended if that state
+-- has, and a line that it rejects may not follow there.
 pub record At {T V I S M : Type 0} (F : Format V I S) (Fits : I → Type 0) (node : T → Node T V I S) (start : T) (Ended : M → Type 0) (rejects : M → List ℕ → Kind → Type 0) (ls : List (List ℕ)) (m : M) : Type 0 where
   pub state : T
   pub leads : Leads F Fits node start ls state
@@ -34,7 +34,7 @@ module _ {T V I S M : Type 0} (F : Format V I S) (Fits : I → Type 0) (node : T
   pub path_of : (m : M) (bytes : List ℕ) (h : Reached led_by Ended m bytes) → Path F Fits node start (at m bytes h).state bytes
   path_of m bytes h = let a = at m bytes h in record { leads = a.leads; ended = λ v d. h.rest (a.is_ended v d) }
 
-  -- a machine that hasn't ended stands where more is due
+  -- a machine that hasn't ended expects more lines
   ends_at : (limit : ℕ) (m : M) (bytes : List ℕ) (f : Fault) → Reached led_by Ended m bytes → (Ended m → ⊥) → length bytes ≤ limit → f.line ≡ length (lines bytes) + 1 → f.kind ≡ kinds.End → EndOf F limit bytes f
   ends_at limit m bytes f h going l n k = end_open F Fits node start g limit (at m bytes h).state bytes f (path_of m bytes h) (λ v d. going ((at m bytes h).is_ended v d)) l n k
 
@@ -47,7 +47,7 @@ module _ {T V I S M : Type 0} (F : Format V I S) (Fits : I → Type 0) (node : T
   pub reads_of_format : (m : M) (v : V) (bytes : List ℕ) (h : Reached led_by Ended m bytes) → node (at m bytes h).state ≡ ended v → Reads F bytes v
   reads_of_format m v bytes h d = reads_done F Fits node start g (at m bytes h).state v bytes d (path_of m bytes h)
 
-  -- at the end of a reader that has ended some value is read
+  -- if the machine has ended, a value was read
   pub some_read : (m : M) (bytes : List ℕ) → Reached led_by Ended m bytes → Ended m → (v : V) × Reads F bytes v
   some_read m bytes h d = let v = (at m bytes h).value d in (v.0, reads_of_format m v.0 bytes h v.1)
 

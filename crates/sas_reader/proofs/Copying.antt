@@ -1,4 +1,4 @@
--- What is added to a copy without CRs.
+-- Adding bytes to a copy without CRs.
 use Rattle.std.proofs.Common.{◌≡◌, ℕ, ◌+◌, ◌-◌, ◌*◌, ◌/◌, ◌^◌, ◌<◌, ◌≤◌, Bool, true, false, not, cond, ◌==◌, if◌then◌else◌, zero, suc, List, [], ◌∷◌, ◌++◌, length, take, drop, get_or, map, refl, sym, ap, ap₂, ◌∙◌, inl, inr, arith, take-add}
 use Rattle.std.specs.List.{prefix_len}
 use Rattle.std.proofs.lemmas.Bool.{cases_lt, cases_eq, ne_eqb}
@@ -24,7 +24,7 @@ pub returns_in_is : (bytes : List ℕ) → mask_l (map is_return bytes) ≡ retu
 returns_in_is [] = refl
 returns_in_is (b ∷ bytes) = ap (λ (n : ℕ). (if b == 13 then 1 else 0) + 2 * n) (returns_in_is bytes)
 
--- where there is one, it is behind the first run
+-- if there is a CR, it follows the first run
 first_is : (t : Bool) (n run long : ℕ) → (0 < n → run < long) → 0 < (if t then 1 else 0) + 2 * n → cond (not t) (1 + run) 0 < long + 1
 first_is true n run long rest some = omega arith
 first_is false n run long rest some = omega (arith, rest (omega (arith, some)))
@@ -33,14 +33,14 @@ pub some_return : (bytes : List ℕ) → 0 < returns_in bytes → prefix_len sta
 some_return [] h = absurd (omega (arith, h))
 some_return (b ∷ bytes) h = omega (arith, first_is (b == 13) (returns_in bytes) (prefix_len stays bytes) (length bytes) (some_return bytes) h)
 
--- where there is none, all are a run
+-- if there is no CR, all bytes are a run
 pub no_return : (bytes : List ℕ) → returns_in bytes ≡ 0 → prefix_len stays bytes ≡ length bytes
 no_return bytes h = leading_from_mask_l is_return bytes (returns_in_is bytes ∙ h)
 
 pub run_is : (bytes : List ℕ) → length bytes ≤ 64 → 0 < returns_in bytes → count_trailing_zeros 64 (returns_in bytes) ≡ prefix_len stays bytes
 run_is bytes few some = let e = returns_in_is bytes in ap (count_trailing_zeros 64) (sym e) ∙ trailing_mask_l is_return 64 bytes few (omega (arith, e, some))
 
--- those behind the first byte, behind the first few
+-- the CRs after the first byte, and after the first few bytes
 half : (t : Bool) (n : ℕ) → ((if t then 1 else 0) + 2 * n) / 2 ≡ n
 half true n = omega arith
 half false n = omega arith
@@ -66,13 +66,13 @@ first_stays : (t : Bool) (b n : ℕ) (l : List ℕ) → (n ≤ prefix_len stays 
 first_stays true b n l rest le = ap (λ (x : List ℕ). b ∷ x) (rest (omega (arith, le)))
 first_stays false b n l rest le = absurd (omega (arith, le))
 
--- it stays as it is
+-- it is unchanged
 run_stays : (n : ℕ) (l : List ℕ) → n ≤ prefix_len stays l → without_returns (take n l) ≡ take n l
 run_stays zero l le = refl
 run_stays (suc n) [] le = refl
 run_stays (suc n) (b ∷ l) le = first_stays (stays b) b n l (run_stays n l) (omega (arith, le))
 
--- thirty-two bytes were written behind those that are kept, and so many of these count
+-- thirty-two bytes were written after the kept ones, and this many of them count
 module _ (from to : List ℕ) (passed kept left : ℕ) (so_far : CopiesSoFar from to (record { passed = passed; kept = kept })) (written : take (kept + 32) to ≡ take kept to ++ take 32 (drop passed from))
     (few : left ≤ 32) (room : passed + left ≤ length from) (space : length from ≤ length to) where
   abbrev behind : List ℕ
@@ -125,7 +125,7 @@ module _ (from to : List ℕ) (passed kept left : ℕ) (so_far : CopiesSoFar fro
           ends = ends_more;
         }
 
-  -- a CR stands behind the run, if some of those that count are left
+  -- a CR follows the run, if bytes that count are left
   pub return_behind : prefix_len stays counted < left → get_or from (passed + prefix_len stays counted) 0 ≡ 13
   return_behind short =
       let run = prefix_len stays counted in
@@ -149,7 +149,7 @@ return_more from to passed kept h lt is next =
       ];
     }
 
--- ---- what is written behind those that are kept
+-- ---- writing bytes after the kept ones
 
 module _ (from to new : List ℕ) (passed kept : ℕ) (so_far : CopiesSoFar from to (record { passed = passed; kept = kept })) (space : length from ≤ length to) (x : List ℕ) (put : take (kept + 32) new ≡ take kept to ++ x) where
   kept_same : take kept new ≡ take kept to

@@ -1,4 +1,4 @@
--- Bytes that aren't live have a fault, and so all bytes are read as something.
+-- Bytes that aren't live have a fault, and so reading any bytes has a result.
 use Rattle.std.proofs.Common.{◌≡◌, ℕ, ◌+◌, ◌≤◌, ◌≢◌, Bool, List, [], ◌∷◌, ◌++◌, length, refl, sym, subst, ◌∙◌, append_assoc, arith, ◌⊎◌, inl, inr, length-append, Ok, Err}
 use Rattle.std.proofs.lemmas.List.{append-nil}
 use Rattle.std.proofs.lemmas.Bool.Decides.{eqb_tells}
@@ -26,7 +26,7 @@ abbrev fault_with : List ℕ → Kind → Fault
 fault_with front k = record { line = length (lines front) + 1; kind = k }
 
 module _ {T V I S : Type 0} (F : Format V I S) (Fits : I → Type 0) (node : T → Node T V I S) (start : T) (g : Grammar F Fits node start) where
-  -- no fault of the front, and so none of the whole
+  -- the prefix has no fault, and so the whole has none
   abbrev None : ℕ → List ℕ → Type 0
   None limit bytes = (f : Fault) → FaultOf F limit bytes f → ⊥
 

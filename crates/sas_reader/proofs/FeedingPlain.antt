@@ -1,4 +1,5 @@
--- What a reader took without CRs, and where it was stopped there, is so of the bytes with them.
+-- What a reader took of a copy without CRs, and where it stopped, also holds for the bytes with
+-- CRs.
 use Rattle.std.proofs.Common.{◌≡◌, ◌≢◌, ℕ, ◌+◌, ◌-◌, ◌≤◌, Bool, true, false, not, cond, ◌==◌, List, [], ◌∷◌, ◌++◌, length, take, drop, get_or, refl, sym, ap, ap₂, subst, ◌∙◌, append_assoc, inl, inr, arith, length-append, Result, Ok, Err}
 use Rattle.std.proofs.lemmas.Bool.{cases_eq}
 use Rattle.std.proofs.lemmas.List.{take_at, take_all, drop_more, take-append-drop}
@@ -19,7 +20,7 @@ use Rattle.sas_reader.proofs.WithLfAlone.{EachEnds, lines_behind, rest_behind, n
 
 -- ---- lists
 
--- the last one and those in front of it
+-- the last item and the items before it
 last_same : (xs ys : List (List ℕ)) (p q : List ℕ) → xs ++ p ∷ [] ≡ ys ++ q ∷ [] → (xs ≡ ys) × (p ≡ q)
 last_same xs ys p q e =
     let n : length xs ≡ length ys = omega (arith, ap length e, length-append xs (p ∷ []), length-append ys (q ∷ [])) in (
@@ -32,7 +33,7 @@ ends-append [] b h g = g
 ends-append (x ∷ []) b h g = (λ e. let none : 0 ≡ 10 = h.0 e in absurd (omega (arith, none)), g)
 ends-append (x ∷ y ∷ a) b h g = (h.0, ends-append (y ∷ a) b h.1 g)
 
--- no more bytes stay than there are
+-- a copy has at most as many bytes as the original
 some_stay : (t : Bool) (b n : ℕ) (l : List ℕ) → length l ≤ n → length (cond t (b ∷ l) l) ≤ n + 1
 some_stay true b n l h = omega (arith, h)
 some_stay false b n l h = omega (arith, h)
@@ -41,7 +42,7 @@ pub fewer : (bytes : List ℕ) → length (without_returns bytes) ≤ length byt
 fewer [] = omega arith
 fewer (b ∷ bytes) = omega (arith, some_stay (not (b == 13)) b (length bytes) (without_returns bytes) (fewer bytes))
 
--- ---- a front and its line end
+-- ---- a prefix and its line end
 
 module _ (bytes a : List ℕ) (byte : ℕ) (r : FrontOf bytes a byte) where
   line_end : byte ≡ 10 → EachEnds (r.between ++ 10 ∷ [])
@@ -56,7 +57,7 @@ module _ (bytes a : List ℕ) (byte : ℕ) (r : FrontOf bytes a byte) where
     | return e f ↦ rw e refl
   ]
 
-  -- the byte with which it goes on
+  -- the next byte
   goes_on : (x : ℕ) × (more : List ℕ) × (r.between ++ byte ∷ r.after ≡ x ∷ more) × (byte ≢ 10 → x ≡ byte)
   goes_on = elim r.may [
     | nothing e ↦ (byte, r.after, ap (λ (l : List ℕ). l ++ byte ∷ r.after) e, (λ ne. refl))
@@ -108,7 +109,7 @@ module _ {M : Type 0} (led_by : List (List ℕ) → M → Type 0) (ended : M →
 
 module _ {M : Type 0} (led_by : List (List ℕ) → M → Type 0) (ended : M → Type 0) (rejects : M → List ℕ → Kind → Type 0) (halted : M → List ℕ → Kind → M → Type 0) where
   module _ (limit : ℕ) (before bytes : List ℕ) (f : Fault) (now : M) (found told : Found) (n : ℕ) (whole : unfinished before ≡ []) (ends : EachEnds bytes) (room : length before + length bytes ≤ limit) (count : n ≡ f.line - (length (lines before) + 1)) (of_byte : bytes_of found ≡ 10 ∷ [] → IsFoundOf (take 1 (behind_ends n bytes)) told) (of_rest : (bytes_of found ≡ 10 ∷ [] → ⊥) → told ≡ found) where
-    -- the byte behind whole lines
+    -- the byte after whole lines
     byte_told : (a : List ℕ) (byte : ℕ) (r : FrontOf bytes a byte) (x : ℕ) (more : List ℕ) → r.between ++ byte ∷ r.after ≡ x ∷ more → (byte ≢ 10 → x ≡ byte) → unfinished (before ++ a) ≡ [] → f.line ≡ length (lines (before ++ a)) + 1 → IsFoundOf (byte ∷ []) found → IsFoundOf (x ∷ []) told
     byte_told a byte r x more next same rest line is =
         let one : bytes_of found ≡ byte ∷ [] = is.front ∙ take_all 64 (byte ∷ []) (omega arith) in

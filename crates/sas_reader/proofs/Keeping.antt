@@ -1,4 +1,4 @@
--- What is kept of a text.
+-- The part of a text that is kept.
 use Rattle.std.proofs.Common.{refl, ap, ◌∙◌, arith, ◌≡◌, take, ℕ, length, List, ◌++◌}
 use Rattle.std.proofs.Math.Dec.{ltb}
 use Rattle.std.proofs.lemmas.Bool.{lt-ltb, ltb-true}

@@ -1,4 +1,4 @@
--- Inputs whose bytes are known: what was read of them is all of them, or their front.
+-- Inputs whose bytes are known: the bytes read are all of them, or the first of them.
 use Rattle.std.proofs.Common.{◌≡◌, ◌≢◌, ℕ, List, ◌++◌, sym, ap, subst, ◌∙◌, inl, inr, Ok, Err, Option, Some, None}
 use Rattle.std.specs.Io.KnownBytes.{Consumes, IsAtEnd}
 use Rattle.std.proofs.lemmas.List.{append-nil}
@@ -10,13 +10,13 @@ use Rattle.sas_reader.specs.Format.{Format, FaultOf, EndOf, ReadsAs}
 use Rattle.sas_reader.specs.Limit.{most_bytes}
 use Rattle.sas_reader.proofs.Live.{fault_stays}
 
--- what was read is their front
+-- the bytes read are the first of them
 pub front_read : (known new : Option (List ℕ)) (input bytes : List ℕ) → known ≡ Some input → Consumes known new bytes → (rest : List ℕ) × (bytes ++ rest ≡ input)
 front_read None new input bytes e c = absurd cc
 front_read (Some x) None input bytes e c = absurd c
 front_read (Some x) (Some rest) input bytes e c = (rest, sym c ∙ (let q : x ≡ input = cc in q))
 
--- and all of it at their end
+-- at the end, they are all of them
 pub all_read : (known new : Option (List ℕ)) (input bytes : List ℕ) → known ≡ Some input → Consumes known new bytes → IsAtEnd new → bytes ≡ input
 all_read None new input bytes e c d = absurd cc
 all_read (Some x) None input bytes e c d = absurd c

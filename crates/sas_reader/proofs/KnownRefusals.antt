@@ -1,4 +1,4 @@
--- Inputs whose bytes are known: what a refusal explains is so of all their bytes.
+-- Inputs whose bytes are known: a refusal explains the fault of all their bytes.
 use Rattle.std.proofs.Common.{◌≡◌, ◌≢◌, ℕ, List, subst, Err, Option, Some}
 use Rattle.std.specs.Io.KnownBytes.{Consumes, IsAtEnd}
 use Rattle.sas_lines.specs.Device.{Device}

@@ -1,4 +1,4 @@
--- What a path says of the bytes, for any format with a grammar.
+-- What a path through the states implies for the bytes, for any format with a grammar.
 use Rattle.std.proofs.Common.{◌≡◌, ℕ, ◌+◌, ◌≤◌, ◌≢◌, Bool, List, [], ◌∷◌, ◌++◌, length, map, refl, sym, ap, subst, ◌∙◌, append_assoc, arith, inl, inr, length-append}
 use Rattle.std.proofs.lemmas.List.{append-nil}
 use Rattle.std.proofs.lemmas.Bool.Decides.{eqb_tells}
@@ -11,7 +11,7 @@ use Rattle.sas_reader.specs.Format.{Format, lines_of, Reads, IsBegun, Live, Next
 use Rattle.sas_reader.specs.System.{Node, ended, before, OneLine, After, LeadsToEnd, Judged, Rejects, Leads, Grammar}
 use Rattle.sas_reader.proofs.Paths.{Path, cut_at, map-append, ended_stops, after_append, after_ends, ends_split, ends_after, same_path}
 
--- one byte more
+-- one more byte
 abbrev pub one_more : List ℕ → ℕ → List ℕ
 one_more bytes byte = bytes ++ byte ∷ []
 
@@ -61,7 +61,7 @@ module _ {T V I S : Type 0} (F : Format V I S) (Fits : I → Type 0) (node : T �
   first p v [] line more a e = absurd cc
   first p v (i ∷ is) line more a e = (i, is, a, cc)
 
-  -- a value whose lines begin as these, and go on, goes on with a line that the state takes
+  -- if a value has more lines after these, the next one is a line that the state takes
   goes_on : (p : T) (ls : List (List ℕ)) (line : List ℕ) (more : List (List ℕ)) → Leads F Fits node start ls p → (v : V) → F.Good v → lines_of F v ≡ (ls ++ line ∷ []) ++ more → (i : I) × (is : List I) × LeadsToEnd F Fits node p (i ∷ is) v × (F.spelled i ≡ line)
   goes_on p ls line more h v w e =
       let c = cut_at F.spelled ls (line ∷ more) (F.layout v) (e ∙ append_assoc ls (line ∷ []) more) in
@@ -114,7 +114,7 @@ module _ {T V I S : Type 0} (F : Format V I S) (Fits : I → Type 0) (node : T �
     kind = trailing l v (reads_done p v bytes d h) k;
   }
 
-  -- a state before a line: what completes it begins with a line at its slot
+  -- a state before a line: every completion begins with a line of its slot
   begins : (p : T) (s : S) (ok : I → Bool) (next : I → T) (v : V) (is : List I) → node p ≡ before s ok next → LeadsToEnd F Fits node p is v → (i : I) × (js : List I) × (is ≡ i ∷ js) × (F.slot_of i ≡ s)
   begins p s ok next v [] e a = absurd cc
   begins p s ok next v (i ∷ is) e a = (i, is, refl, ((subst (λ n. OneLine F Fits n i (λ r. LeadsToEnd F Fits node r is v)) e a).0).slot)
@@ -159,6 +159,6 @@ module _ {T V I S : Type 0} (F : Format V I S) (Fits : I → Type 0) (node : T �
     kind = k;
   }
 
--- a fault stays the fault, however the bytes go on
+-- more bytes don't change a fault
 pub fault_stays : {V I S : Type 0} (F : Format V I S) (limit : ℕ) (bytes more : List ℕ) (f : Fault) → FaultOf F limit bytes f → FaultOf F limit (bytes ++ more) f
 fault_stays F limit bytes more f h = record { before = h.before; byte = h.byte; after = h.after ++ more; whole = ap (λ (b : List ℕ). b ++ more) h.whole ∙ append_assoc h.before (h.byte ∷ h.after) more; live = h.live; dead = h.dead; line = h.line; kind = h.kind }

@@ -1,10 +1,10 @@
--- Lines lead one way.
+-- The same lines lead to one state.
 use Rattle.std.proofs.Common.{◌≡◌, ℕ, Bool, List, [], ◌∷◌, ◌++◌, map, refl, sym, ap, subst, ◌∙◌}
 use Rattle.sas_reader.specs.Format.{Format}
 use Rattle.sas_lines.specs.Lines.{lines, unfinished}
 use Rattle.sas_reader.specs.System.{Node, ended, before, Takes, OneLine, After, LeadsToEnd, Leads, Grammar}
 
--- ---- lines of a list, cut where the front ends
+-- ---- the lines of a list, cut after a prefix
 
 pub record Cut {I : Type 0} (spelled : I → List ℕ) (is : List I) (front back : List (List ℕ)) : Type 0 where
   pub before : List I
@@ -30,7 +30,7 @@ pub record SamePath {T I : Type 0} (q r : T) (is js : List I) : Type 0 where
   pub state : q ≡ r
   pub items : is ≡ js
 
--- the slot of a state that goes on
+-- the slot of a state before a line
 pub slot_at : {T V I S : Type 0} → Node T V I S → S → S
 slot_at (ended v) s = s
 slot_at (before t ok next) s = t
@@ -108,7 +108,8 @@ module _ {T V I S : Type 0} (F : Format V I S) (Fits : I → Type 0) (node : T �
 -- ---- bytes
 
 module _ {T V I S : Type 0} (F : Format V I S) (Fits : I → Type 0) where
-  -- the complete lines of the bytes lead from the start to the state, and nothing follows where it is at the end
+  -- the complete lines of the bytes lead from the start to the state, and nothing follows if it is
+  -- at the end
   pub record Path (node : T → Node T V I S) (start p : T) (bytes : List ℕ) : Type 0 where
     pub leads : Leads F Fits node start (lines bytes) p
     pub ended : (v : V) → node p ≡ ended v → unfinished bytes ≡ []

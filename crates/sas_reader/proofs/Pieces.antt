@@ -13,7 +13,7 @@ use Rattle.sas_reader.specs.declared.found.Found.{Found}
 use Rattle.sas_reader.specs.Found.{IsFoundOf}
 use Rattle.sas_reader.specs.Reader.{Reached, LineIsDue, Stops, full, over, rejected, FaultBehind}
 
--- ---- the front of a piece
+-- ---- a prefix of a piece
 
 pub takes_bound : (piece : List ℕ) (n : ℕ) (complete : Bool) → TakesLine piece n complete → n ≤ length piece
 takes_bound piece n true h = let e : length piece ≡ length h.0 + length (10 ∷ h.1) = ap length h.3 ∙ length-append h.0 (10 ∷ h.1) in omega (arith, e, h.4)
@@ -22,7 +22,7 @@ takes_bound piece n false h = omega (arith, h.1)
 pub front_of : (m n : ℕ) (piece : List ℕ) → n ≤ length (take m piece) → take n (take m piece) ≡ take n piece
 front_of m n piece h = sym (take-append-le n (take m piece) (drop m piece) h) ∙ ap (take n) (take-append-drop m piece)
 
--- ---- the lines, and what is pending, behind more bytes
+-- ---- the lines and the pending bytes, after more bytes
 
 pub lines_fed : (bytes t pending line : List ℕ) (complete : Bool) → pending ≡ unfinished bytes → lines (pending ++ t) ≡ completed complete line → lines (bytes ++ t) ≡ lines bytes ++ completed complete line
 lines_fed bytes t pending line complete p e = lines-append bytes t ∙ ap (λ (l : List (List ℕ)). lines bytes ++ l) (ap (λ (x : List ℕ). lines (x ++ t)) (sym p) ∙ e)
@@ -58,14 +58,14 @@ module _ {M : Type 0} (led_by : List (List ℕ) → M → Type 0) (ended : M →
     rest = λ d. unfinished_fed bytes t pending [] p u;
   }
 
-  -- ---- a line is due
+  -- ---- a line is expected
 
   pub due_first : (limit : ℕ) (m : M) (bytes piece : List ℕ) → 0 < length piece → Reached led_by ended m bytes → (ended m → ⊥) → length bytes < limit → LineIsDue led_by ended limit bytes piece
   due_first limit m bytes piece some h going room =
       let same : bytes ≡ bytes ++ [] = sym (append-nil bytes) in
       record { machine = m; at = 0; within = some; reached = subst (Reached led_by ended m) same h; open_still = going; room = subst (λ (x : List ℕ). length x < limit) same room }
 
-  -- in the front of a piece
+  -- in a prefix of a piece
   pub due_wider : (limit : ℕ) (bytes piece : List ℕ) (m : ℕ) → LineIsDue led_by ended limit bytes (take m piece) → LineIsDue led_by ended limit bytes piece
   due_wider limit bytes piece m d =
       let same : take d.at (take m piece) ≡ take d.at piece = front_of m d.at piece (omega (arith, d.within)) in
@@ -78,7 +78,7 @@ module _ {M : Type 0} (led_by : List (List ℕ) → M → Type 0) (ended : M →
         room = subst (λ (x : List ℕ). length (bytes ++ x) < limit) same d.room;
       }
 
-  -- behind the front of a piece
+  -- after a prefix of a piece
   pub due_behind : (limit : ℕ) (bytes piece : List ℕ) (i : ℕ) → LineIsDue led_by ended limit (bytes ++ take i piece) (drop i piece) → LineIsDue led_by ended limit bytes piece
   due_behind limit bytes piece i d =
       let same : (bytes ++ take i piece) ++ take d.at (drop i piece) ≡ bytes ++ take (i + d.at) piece = append_assoc bytes (take i piece) (take d.at (drop i piece)) ∙ ap (λ (x : List ℕ). bytes ++ x) (sym (take-add i d.at piece)) in
@@ -92,7 +92,7 @@ module _ {M : Type 0} (led_by : List (List ℕ) → M → Type 0) (ended : M →
       }
 
 module _ {M : Type 0} (led_by : List (List ℕ) → M → Type 0) (ended : M → Type 0) (rejects : M → List ℕ → Kind → Type 0) (halted : M → List ℕ → Kind → M → Type 0) where
-  -- the first byte of a piece is one too many
+  -- the first byte of a piece exceeds the limit
   fault_first : (limit : ℕ) (m : M) (bytes piece : List ℕ) (f : Fault) (now : M) (found : Found) → 0 < length piece → Reached led_by ended m bytes → f.line ≡ length (lines bytes) + 1 → ((byte : ℕ) → take 1 piece ≡ byte ∷ [] → Stops led_by ended rejects halted limit m bytes byte f.kind now found) → FaultBehind led_by ended rejects halted limit bytes piece f now found
   fault_first limit m bytes [] f now found some h line stops = absurd (omega arith)
   fault_first limit m bytes (byte ∷ after) f now found some h line stops =
@@ -133,7 +133,7 @@ module _ {M : Type 0} (led_by : List (List ℕ) → M → Type 0) (ended : M →
         stops = rejected (omega (arith, length-append bytes front, room, t.4)) going refl (subst (λ (x : List ℕ). rejects m x f.kind) is r) (subst (λ (x : List ℕ). halted m x f.kind now) is behind) (subst (λ (x : List ℕ). IsFoundOf x found) is known);
       }
 
-  -- a fault in the front of a piece
+  -- a fault in a prefix of a piece
   pub fault_wider : (limit : ℕ) (bytes piece : List ℕ) (m : ℕ) (f : Fault) (now : M) (found : Found) → FaultBehind led_by ended rejects halted limit bytes (take m piece) f now found → FaultBehind led_by ended rejects halted limit bytes piece f now found
   fault_wider limit bytes piece m f now found h = record {
     machine = h.machine;
@@ -146,7 +146,7 @@ module _ {M : Type 0} (led_by : List (List ℕ) → M → Type 0) (ended : M →
     stops = h.stops;
   }
 
-  -- a fault behind the front of a piece
+  -- a fault after a prefix of a piece
   pub fault_behind : (limit : ℕ) (bytes piece front rest : List ℕ) (f : Fault) (now : M) (found : Found) → front ++ rest ≡ piece → FaultBehind led_by ended rejects halted limit (bytes ++ front) rest f now found → FaultBehind led_by ended rejects halted limit bytes piece f now found
   fault_behind limit bytes piece front rest f now found is h =
       let same : (bytes ++ front) ++ h.front ≡ bytes ++ (front ++ h.front) = append_assoc bytes front h.front in

@@ -1,4 +1,4 @@
--- Bytes that hold neither LF nor CR.
+-- Bytes without LF and CR.
 use Rattle.std.proofs.Common.{◌≡◌, ◌≢◌, ℕ, ◌+◌, Bool, true, false, List, [], ◌∷◌, ◌++◌, take, refl, sym, ap, ◌∙◌, append_assoc, arith, IsTrue, not}
 use Rattle.std.specs.Prelude.{◌==◌, ◌&&◌, length}
 use Rattle.std.specs.List.{list_all}
@@ -87,7 +87,7 @@ module _ (line : List ℕ) (h : IsPlain line) where
   pub unfinished-return : unfinished ((line ++ 13 ∷ []) ++ 10 ∷ []) ≡ []
   unfinished-return = unfinished-one (line ++ 13 ∷ []) return_no_end
 
-  -- which stands first where they do
+  -- which is the first line of all bytes that begin with them
   pub return_stands_first : (bytes rest : List ℕ) → bytes ≡ line ++ 13 ∷ 10 ∷ rest → LineStandsFirst bytes line (length line + 2)
   return_stands_first bytes rest e =
       let front = line ++ 13 ∷ [] in

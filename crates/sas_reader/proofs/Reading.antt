@@ -1,4 +1,4 @@
--- What the reader of a machine that follows a grammar says, said of the format.
+-- The promises of a reader whose machine follows a grammar, in terms of the format.
 use Rattle.std.proofs.Common.{◌≡◌, ◌≢◌, ℕ, ◌≤◌, List, ◌++◌, length, refl, sym, ap, subst, Option, Some, None, Result, Ok, Err, arith}
 use Rattle.std.specs.Result.{OnOk, IfErr}
 use Rattle.sas_lines.specs.Device.{Device}
@@ -17,7 +17,7 @@ use Rattle.sas_reader.specs.System.{Node, Grammar}
 use Rattle.sas_reader.proofs.Conversion.{Follows, fault_of_format, live_of_format, refusal, device_refusal, more_is_due}
 use Rattle.sas_reader.proofs.Standing.{accepted_of, fault_of}
 
--- ---- what an answer says
+-- ---- answers
 
 on_ok_answer : (r : Result (Unit {0}) Fault) (o : Option Fault) (P : Type 0) → r ≡ answer o → (o ≡ None → P) → OnOk r P
 on_ok_answer (Ok u) None P e h = h refl
@@ -44,7 +44,7 @@ module _ {T V I S M : Type 0} (F : Format V I S) (Fits : I → Type 0) (node : T
   fault_so_far : (r : Reader M) (bytes : List ℕ) (f : Fault) → r.fault ≡ Some f → f.kind ≢ kinds.Memory → Stands led_by Ended rejects halted r bytes → FaultOf F r.limit bytes f
   fault_so_far r bytes f some ne s = fault_of_format F Fits node start g led_by Ended rejects halted follows r.limit bytes f r.machine r.found (fault_of led_by Ended rejects halted r f bytes some s ne)
 
-  -- the reader, as what it says speaks of it
+  -- the reader, in the form that its promises use
   abbrev pub seen : View V I S (Reader M)
   seen = record { format = F; Stands = λ r bytes. Stands led_by Ended rejects halted r bytes; fault = λ r. r.fault; limit = λ r. r.limit }
 
@@ -66,7 +66,7 @@ module _ {T V I S M : Type 0} (F : Format V I S) (Fits : I → Type 0) (node : T
   -- ---- devices
 
   module _ {D A : Type 0} (left : D → Option (List ℕ)) (Gives : List ℕ → A → Type 0) where
-    -- what the machine holds at its end is given
+    -- the result is made from the machine at its end
     pub reads_all : (old new : Device D) (m : M) (a : A) → FeedsMachine led_by Ended rejects halted left most_bytes old new (Ok m)
         → ((b : List ℕ) → Reached led_by Ended m b → length b ≤ most_bytes → Gives b a) → ReadsAll left F Gives old new (Ok a)
     reads_all old new m a h gives = let r = h.reached in record { read = (r.0, (r.1, r.2), gives r.0 r.3 r.4); fault = tt; memory = tt; note = h.note }

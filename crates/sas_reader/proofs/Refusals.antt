@@ -1,4 +1,4 @@
--- What a refusal explains, where a machine follows a grammar.
+-- What a refusal explains, for a machine that follows a grammar.
 use Rattle.std.proofs.Common.{◌≡◌, ℕ, ◌≤◌, List, [], ◌∷◌, ◌++◌, length, refl, sym, ap, subst, ◌∙◌, arith, inl, inr, Option, Ok, Err}
 use Rattle.std.specs.Io.KnownBytes.{IsAtEnd}
 use Rattle.sas_lines.specs.Device.{Device}
@@ -21,7 +21,7 @@ use Rattle.sas_reader.proofs.Live.{live, done_dead, line_dead, rejected_as, next
 use Rattle.sas_reader.proofs.Reading.{reads_all, refuses_all}
 
 module _ {T V I S M : Type 0} (F : Format V I S) (Fits : I → Type 0) (node : T → Node T V I S) (start : T) (g : Grammar F Fits node start) (led_by : List (List ℕ) → M → Type 0) (Ended : M → Type 0) (rejects : M → List ℕ → Kind → Type 0) (halted : M → List ℕ → Kind → M → Type 0) (follows : Follows F Fits node start led_by Ended rejects) where
-  -- what the fault is about, what is kept of it, and where the machine stands behind it
+  -- what the fault is about, the kept text, and the state of the machine after the fault
   pub record Told (limit : ℕ) (bytes : List ℕ) (f : Fault) (now : M) (found : Found) : Type 0 where
     pub accepted : List (List ℕ)
     pub text : List ℕ
@@ -83,7 +83,7 @@ module _ {T V I S M : Type 0} (F : Format V I S) (Fits : I → Type 0) (node : T
   device_told bytes End r told (early e h) = told_by most_bytes bytes r told (inr h)
   device_told bytes End r told (faulty h ne) = told_by most_bytes bytes r told (inl h)
 
-  -- ---- a refusal X that is made of that of the machine
+  -- ---- a refusal X that is made from that of the machine
 
   module _ {X : Type 0} (fault : X → Fault) (found : X → Found) (Why : List (List ℕ) → List ℕ → X → Type 0) (r : Refused M) (x : X) (same : fault x ≡ r.fault) (same_found : found x ≡ r.found)
       (why : (a : List (List ℕ)) (t : List ℕ) → StandsBehind led_by Ended rejects halted a t r.fault.kind r.machine → Why a t x) where

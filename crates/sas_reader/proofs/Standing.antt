@@ -1,4 +1,4 @@
--- What a reader stands for, by its fault.
+-- What a reader represents, by its fault.
 use Rattle.std.proofs.Common.{◌≡◌, ◌≢◌, ℕ, List, ◌∷◌, ◌++◌, sym, ap, subst, ◌∙◌, append_assoc, Some, None}
 use Rattle.sas_reader.specs.declared.fault.Fault.{Fault}
 use Rattle.sas_reader.specs.declared.fault.Kind.{Kind}
@@ -24,7 +24,7 @@ module _ {M : Type 0} (led_by : List (List ℕ) → M → Type 0) (ended : M →
   unfolding Stands
   stands_fault r f bytes e s = subst (λ x. StandsAt led_by ended rejects halted x r bytes) (sym e) s
 
-  -- a fault stays the fault
+  -- more bytes don't change a fault
   FaultIn-more : (limit : ℕ) (bytes more : List ℕ) (f : Fault) (now : M) (found : Found) → FaultIn led_by ended rejects halted limit bytes f now found → FaultIn led_by ended rejects halted limit (bytes ++ more) f now found
   FaultIn-more limit bytes more f now found h = record { machine = h.machine; before = h.before; byte = h.byte; after = h.after ++ more; whole = ap (λ (b : List ℕ). b ++ more) h.whole ∙ append_assoc h.before (h.byte ∷ h.after) more; reached = h.reached; line = h.line; stops = h.stops }
 

@@ -1,4 +1,4 @@
--- What the tests of a reader, and its calls that fail, say.
+-- The results of a reader's tests, and of its calls that fail.
 use Rattle.std.proofs.Common.{◌≡◌, ℕ, ◌<◌, ◌∙◌, Bool, true, false, List, [], length, eqb, sym, ap, subst, arith, Result, Ok, Err, IfOk, IsErr, IsErrAnd}
 use Rattle.std.proofs.lemmas.Bool.{eqb-true, eqb-false, false≢true}
 use Rattle.std.proofs.lemmas.List.{nil_from_length, append-nil}
@@ -9,7 +9,7 @@ use Rattle.sas_reader.specs.declared.reader.Reader.{Reader}
 use Rattle.sas_reader.specs.Reader.{Reached, Accepted, TookFront, Advances}
 use Rattle.sas_reader.proofs.Advancing.{stopped_memory}
 
--- a list that was found empty, or not
+-- a list that was tested for emptiness
 pub nil_when : (xs : List ℕ) (b : Bool) → b ≡ eqb (length xs) 0 → b ≡ true → xs ≡ []
 nil_when xs b is e = nil_from_length xs (eqb-true (length xs) 0 (sym is ∙ e))
 
@@ -21,18 +21,18 @@ pub err_only : {A E : Type 0} (P : A → Type 0) (r : Result A E) → IsErr r �
 err_only P (Ok x) h = absurd (false≢true h)
 err_only P (Err e) h = tt
 
--- an error that is handed on is this one
+-- an error that is passed on is this one
 pub err_is : {A E : Type 0} (r : Result A E) (e : E) → IsErr r → IsErrAnd r (λ x. x ≡ e) → r ≡ Err e
 err_is (Ok x) e h is = absurd (false≢true h)
 err_is (Err x) e h is = ap (λ y. Err y) is
 
--- and so it is want of memory, if that was
+-- and so it is `Memory` if this one is
 pub memory_is : {A : Type 0} (r : Result A Kind) (e : Kind) → e ≡ kinds.Memory → IsErrAnd r (λ x. x ≡ e) → IsErrAnd r (λ x. x ≡ kinds.Memory)
 memory_is (Ok x) e m is = is
 memory_is (Err x) e m is = is ∙ m
 
 module _ {M : Type 0} (led_by : List (List ℕ) → M → Type 0) (ended : M → Type 0) (rejects : M → List ℕ → Kind → Type 0) (halted : M → List ℕ → Kind → M → Type 0) where
-  -- memory was refused where a line is due
+  -- the reader is out of memory while a line is expected
   pub advances_refused : (old new : Reader M) (piece : List ℕ) (r : Result ℕ Kind) → IsErr r → IsErrAnd r (λ k. k ≡ kinds.Memory) → 0 < length piece → (ended old.machine → ⊥) → old.taken < old.limit
       → new.fault ≡ old.fault → new.limit ≡ old.limit → Advances led_by ended rejects halted old piece new r
   advances_refused old new piece (Ok n) is k some going room fault limit = absurd (false≢true is)
@@ -43,7 +43,7 @@ module _ {M : Type 0} (led_by : List (List ℕ) → M → Type 0) (ended : M →
     limit = limit;
   }
 
-  -- nothing was taken, and all that counts is as it was
+  -- nothing was taken, and everything relevant is unchanged
   pub took_nothing : (old new : Reader M) (piece : List ℕ) → new.machine ≡ old.machine → new.pending ≡ old.pending → new.lines ≡ old.lines → new.taken ≡ old.taken → TookFront led_by ended rejects halted old new piece 0
   took_nothing old new piece machine pending lines taken = record {
     within = omega arith;

@@ -12,7 +12,7 @@ use Rattle.sas_reader.specs.System.{Node, ended, After, LeadsToEnd, Grammar}
 use Rattle.sas_reader.specs.Laws.{OneValue, OneSlot, NoSlotAtEnd, FaultIsDead, OneFault, TextIsLive, FaultIsNoText, OneReading}
 use Rattle.sas_reader.proofs.Paths.{cut_at, ended_stops, same_path, ends_split, ends_after, slot_at, takes_at, one_ended}
 
--- ---- how bytes go on: with more lines, or a longer rest
+-- ---- how bytes can be extended: with more lines, or with a longer rest
 
 record Grown (b c : List ℕ) : Type 0 where
   more : List (List ℕ)
@@ -47,7 +47,7 @@ append_none : (xs : List ℕ) (x : ℕ) (c : List ℕ) → xs ++ x ∷ c ≡ [] 
 append_none [] x c e = absurd cc
 append_none (y ∷ xs) x c e = absurd cc
 
--- ---- where the byte lists with a fault at a byte part
+-- ---- byte lists with a fault at a byte, cut before that byte
 
 record Longer (d : List ℕ) (x : ℕ) (e : List ℕ) : Type 0 where
   more : List ℕ
@@ -86,13 +86,13 @@ module _ {T V I S : Type 0} (F : Format V I S) (Fits : I → Type 0) (node : T �
   pub one_value : OneValue F
   one_value bytes v w r q = same_value v w r.good q.good (sym r.lines ∙ q.lines)
 
-  -- ---- a front of live bytes is live
+  -- ---- a prefix of live bytes is live
 
   ends : (p : T) (v w : V) (is : List I) (l : List ℕ) (more : List (List ℕ)) → node p ≡ ended v → LeadsToEnd F Fits node p is w → map F.spelled is ≡ l ∷ more → ⊥
   ends p v w [] l more e a k = absurd cc
   ends p v w (i ∷ is) l more e a k = ended_stops F Fits (node p) v i (λ r. LeadsToEnd F Fits node r is w) e a
 
-  -- the lines of one value do not go on to those of another
+  -- the lines of one value are not the first lines of another
   no_more : (v w : V) (l : List ℕ) (more : List (List ℕ)) → F.Good v → F.Good w → lines_of F w ≡ lines_of F v ++ l ∷ more → ⊥
   no_more v w l more h k e =
       let c = cut_at F.spelled (lines_of F v) (l ∷ more) (F.layout w) e in
@@ -121,7 +121,7 @@ module _ {T V I S : Type 0} (F : Format V I S) (Fits : I → Type 0) (node : T �
   pub fault_is_dead : FaultIsDead F
   fault_is_dead limit bytes f h a = h.dead (live-front limit (h.before ++ h.byte ∷ []) h.after (subst (Live F limit) (h.whole ∙ sym (append_assoc h.before (h.byte ∷ []) h.after)) a))
 
-  -- Bytes that aren't live within the limit, and don't pass it, aren't live within any.
+  -- Bytes that aren't live and don't exceed the limit aren't live within any limit.
   any_limit : (limit wide : ℕ) (bytes : List ℕ) → length bytes ≤ limit → Live F wide bytes → Live F limit bytes
   any_limit limit wide bytes l a = record { short = l; begun = a.begun; whole = a.whole }
 
@@ -186,7 +186,7 @@ module _ {T V I S : Type 0} (F : Format V I S) (Fits : I → Type 0) (node : T �
   not_longer : (limit : ℕ) (bytes : List ℕ) (f h : Fault) (a : FaultOf F limit bytes f) (b : FaultOf F limit bytes h) → Longer a.before a.byte b.before → ⊥
   not_longer limit bytes f h a b m = a.dead (live-front limit (a.before ++ a.byte ∷ []) m.more (subst (Live F limit) m.is b.live))
 
-  -- and at one place
+  -- and one place of the fault
   pub one_place : (limit : ℕ) (bytes : List ℕ) (f : Fault) (h k : FaultOf F limit bytes f) → (h.before ≡ k.before) × (h.byte ≡ k.byte)
   one_place limit bytes f h k =
       elim (meet h.before k.before h.byte k.byte h.after k.after (sym h.whole ∙ k.whole)) [

@@ -1,4 +1,4 @@
--- Bytes in which LF stands behind each CR have the lines of the bytes without their CRs.
+-- Bytes in which each CR is followed by LF have the same lines as the bytes without their CRs.
 use Rattle.std.proofs.Common.{◌≡◌, ◌≢◌, ℕ, ◌+◌, ◌<◌, suc, List, [], ◌∷◌, ◌++◌, length, drop, get_or, refl, sym, ap, ◌∙◌, append_assoc, inl, inr, arith, length-append}
 use Rattle.std.proofs.lemmas.Bool.{cases_eq, ne_eqb}
 use Rattle.sas_lines.specs.Lines.{lines, unfinished}
@@ -7,7 +7,7 @@ use Rattle.sas_reader.specs.System.{IsPlain}
 use Rattle.sas_reader.specs.Returns.{without_returns, ReturnsEndLines}
 use Rattle.sas_reader.proofs.Plain.{plain, plain-append, lines-return, unfinished-return}
 
--- LF stands behind each CR, byte by byte
+-- each CR is followed by LF, byte by byte
 abbrev pub EachEnds : List ℕ → Type 0
 EachEnds [] = Unit {0}
 EachEnds (b ∷ bytes) = (b ≡ 13 → get_or bytes 0 0 ≡ 10) × EachEnds bytes
@@ -48,7 +48,7 @@ dropped b bytes e = rw e refl
 stays : (b : ℕ) (bytes : List ℕ) → b ≢ 13 → without_returns (b ∷ bytes) ≡ b ∷ without_returns bytes
 stays b bytes ne = rw (ne_eqb b 13 ne) refl
 
--- what follows is the same behind a line end
+-- the same holds after a line end
 end_same : (u x y : List ℕ) → IsPlain u → Same x y → Same (u ++ 10 ∷ x) (u ++ 10 ∷ y)
 end_same u x y h s =
     let a = line_then u h x in
@@ -64,7 +64,7 @@ return_same u x y h s =
 by : {a b c d : List ℕ} → a ≡ c → b ≡ d → Same c d → Same a b
 by p q s = record { lines = ap lines p ∙ s.lines ∙ sym (ap lines q); rest = ap unfinished p ∙ s.rest ∙ sym (ap unfinished q) }
 
--- a byte that is no CR
+-- a byte other than CR
 byte_same : (u bytes : List ℕ) (b : ℕ) → IsPlain u → b ≢ 13 → ((v : List ℕ) → IsPlain v → Same (v ++ bytes) (v ++ without_returns bytes)) → Same (u ++ b ∷ bytes) (u ++ without_returns (b ∷ bytes))
 byte_same u bytes b h ne next =
     let w = without_returns bytes in
@@ -88,7 +88,7 @@ same_lines (b ∷ c ∷ bytes) u ends h = elim (cases_eq b 13) [
   | inr ne ↦ byte_same u (c ∷ bytes) b h ne (λ v p. same_lines (c ∷ bytes) v ends.1 p)
 ]
 
--- behind whole lines
+-- after whole lines
 module _ (before bytes : List ℕ) (whole : unfinished before ≡ []) (ends : EachEnds bytes) where
   same : Same bytes (without_returns bytes)
   same = same_lines bytes [] ends tt
@@ -103,14 +103,14 @@ module _ (before bytes : List ℕ) (whole : unfinished before ≡ []) (ends : Ea
       let at : (x : List ℕ) → unfinished (before ++ x) ≡ unfinished x = λ x. unfinished-append before x ∙ ap (λ (l : List ℕ). unfinished (l ++ x)) whole in
       at bytes ∙ same.rest ∙ sym (at (without_returns bytes))
 
--- ---- a front, and the byte behind it
+-- ---- a prefix, and the byte after it
 
 -- nothing, or a CR before LF
 pub data Between (byte : ℕ) (between : List ℕ) : Type 0 where
   nothing : between ≡ [] → Between byte between
   return : between ≡ 13 ∷ [] → byte ≡ 10 → Between byte between
 
--- the bytes begin with this front, which without its CRs is the other one, and then the byte comes
+-- the bytes begin with this prefix and then the byte; without its CRs it is the other prefix
 pub record FrontOf (bytes plain_front : List ℕ) (byte : ℕ) : Type 0 where
   pub front : List ℕ
   pub between : List ℕ
@@ -123,7 +123,7 @@ pub record FrontOf (bytes plain_front : List ℕ) (byte : ℕ) : Type 0 where
 get_first : (a : List ℕ) (b : ℕ) (x y : List ℕ) → get_or ((b ∷ a) ++ x) 0 0 ≡ get_or ((b ∷ a) ++ y) 0 0
 get_first a b x y = refl
 
--- with a byte more in front
+-- with one more byte in front
 more_front : (b : ℕ) (bytes front between after : List ℕ) (byte : ℕ) → bytes ≡ front ++ (between ++ byte ∷ after) → (b ≡ 13 → get_or bytes 0 0 ≡ 10) → (b ≡ 13 → 0 < length front) → EachEnds front → EachEnds (b ∷ front)
 more_front b bytes [] between after byte whole next some ends = (λ e. let l = some e in absurd (omega (arith, l)), tt)
 more_front b bytes (f ∷ front) between after byte whole next some ends = (λ e. ap (λ (l : List ℕ). get_or l 0 0) (sym whole) ∙ next e, ends)

@@ -1,4 +1,4 @@
--- What a fault is about: the lines that were accepted before it, and the text that stood there.
+-- What a fault is about: the lines that were accepted before it, and the text at the fault.
 use Rattle.std.specs.Prelude.{◌≡◌, ◌≢◌, ℕ, List, [], ◌∷◌, ◌++◌, ◌⊎◌}
 use Rattle.sas_lines.specs.Lines.{lines, unfinished}
 use Rattle.sas_reader.specs.declared.fault.Fault.{Fault}
@@ -6,8 +6,7 @@ use Rattle.sas_reader.specs.declared.fault.Kind.{Kind}
 use Rattle.sas_reader.specs.declared.fault.Kind.TheVariants as kinds
 use Rattle.sas_reader.specs.Format.{Format, Reads, Next, FaultOf, EndOf}
 
--- something stood at a fault of this kind, unlike where a read failed, the bytes are too long, or
--- memory was refused
+-- faults of this kind have a text; those of the kinds `Read`, `TooLong` and `Memory` have none
 abbrev pub IsTold : Kind → Type 0
 IsTold k = (k ≢ kinds.Read) × (k ≢ kinds.TooLong) × (k ≢ kinds.Memory)
 
@@ -15,20 +14,20 @@ module _ {V I S : Type 0} (F : Format V I S) where
   -- what the fault of these bytes is about
   pub data IsAbout (limit : ℕ) (bytes : List ℕ) (f : Fault) (accepted : List (List ℕ))
       (text : List ℕ) : Type 0 where
-    -- a line that may not stand behind the accepted ones, which it completed
+    -- a complete line that may not follow the accepted lines
     of_line : (h : FaultOf F limit bytes f) → accepted ≡ lines h.before
         → lines (h.before ++ h.byte ∷ []) ≡ accepted ++ text ∷ []
         → (s : S) → Next F accepted s → F.KindOf s text f.kind
         → IsAbout limit bytes f accepted text
-    -- the byte behind a whole text
+    -- the byte after a whole text
     of_byte : (h : FaultOf F limit bytes f) → accepted ≡ lines h.before → text ≡ h.byte ∷ []
         → (v : V) → Reads F h.before v → f.kind ≡ kinds.Trailing
         → IsAbout limit bytes f accepted text
-    -- the end, where more was due: the text is what stands behind the last line end
+    -- an early end: the text is what follows the last line end
     of_end : EndOf F limit bytes f → accepted ≡ lines bytes → text ≡ unfinished bytes
         → IsAbout limit bytes f accepted text
 
-  -- laws: a fault is about one thing, and about something where its kind is told
+  -- laws: a fault is about at most one text, and about at least one if its kind has a text
   abbrev pub OneAbout : Type 0
   OneAbout = (limit : ℕ) (bytes : List ℕ) (f : Fault) (a b : List (List ℕ)) (t u : List ℕ)
       → IsAbout limit bytes f a t → IsAbout limit bytes f b u → (a ≡ b) × (t ≡ u)
@@ -38,7 +37,7 @@ module _ {V I S : Type 0} (F : Format V I S) where
       → FaultOf F limit bytes f ⊎ EndOf F limit bytes f
       → (a : List (List ℕ)) × (t : List ℕ) × IsAbout limit bytes f a t
 
-  -- it stays so, however bytes with a fault go on
+  -- more bytes after the fault don't change what it is about
   abbrev pub AboutStays : Type 0
   AboutStays = (limit : ℕ) (bytes more : List ℕ) (f : Fault) (a : List (List ℕ)) (t : List ℕ)
       → FaultOf F limit bytes f → IsAbout limit bytes f a t → IsAbout limit (bytes ++ more) f a t

@@ -1,10 +1,10 @@
--- What holds of the faults that a machine finds.
+-- Properties of the faults that a machine finds.
 use Rattle.std.specs.Prelude.{◌≢◌, Option, Some, None, Result, Ok, Err}
 use Rattle.sas_reader.specs.declared.fault.Fault.{Fault}
 use Rattle.sas_reader.specs.declared.fault.Kind.{Kind}
 use Rattle.sas_reader.specs.declared.fault.Kind.TheVariants as kinds
 
--- a fault that bytes show as they come: not their end, and not a read that failed
+-- a fault that is found while bytes are read: not an early end, and not a failed read
 abbrev pub IsOfBytes : Kind → Type 0
 IsOfBytes k = (k ≢ kinds.End) × (k ≢ kinds.Read)
 

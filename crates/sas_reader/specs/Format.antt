@@ -1,49 +1,49 @@
--- A format of lines: which byte lists are a text of it, which may still become
--- one, and what is wrong with the others.
+-- A format of lines: which byte lists are texts of it, which can still become one, and what is
+-- wrong with all others.
 use Rattle.std.specs.Prelude.{◌≡◌, ℕ, ◌<◌, ◌≤◌, ◌+◌, List, [], ◌∷◌, ◌++◌, length, map, ◌⊎◌, Result, Ok, Err}
 use Rattle.sas_lines.specs.Lines.{lines, unfinished}
 use Rattle.sas_reader.specs.declared.fault.Fault.{Fault}
 use Rattle.sas_reader.specs.declared.fault.Kind.{Kind}
 use Rattle.sas_reader.specs.declared.fault.Kind.TheVariants.{End, Trailing, TooLong}
 
--- A format for values V. Its lines are items I, each of which belongs at one of the slots S.
+-- A format for values V. Its lines are items I. Each item belongs to one of the slots S.
 pub record Format (V I S : Type 0) : Type 1 where
   -- the lines of a value, in order
   pub layout : V → List I
-  -- which values a file may hold
+  -- which values a file may contain
   pub Good : V → Type 0
   -- the bytes of a line, without its line end
   pub spelled : I → List ℕ
-  -- where such a line belongs
+  -- the slot to which such a line belongs
   pub slot_of : I → S
   -- the kind of fault of a line that may not stand at a slot
   pub KindOf : S → List ℕ → Kind → Type 0
 
 module _ {V I S : Type 0} (F : Format V I S) where
-  -- the lines of a value in their bytes
+  -- the bytes of the lines of a value
   abbrev pub lines_of : V → List (List ℕ)
   lines_of v = map F.spelled (F.layout v)
 
-  -- the bytes are a text of the value: their complete lines are its lines, and nothing follows. So
-  -- the last line has its end, too.
+  -- The bytes are a text of the value: their complete lines are its lines, and nothing follows. So
+  -- the last line has a line end as well.
   pub record Reads (bytes : List ℕ) (v : V) : Type 0 where
     pub good : F.Good v
     pub lines : lines bytes ≡ lines_of v
     pub rest : unfinished bytes ≡ []
 
-  -- the lines of some value begin with these
+  -- the lines of some value begin with these lines
   abbrev pub IsBegun : List (List ℕ) → Type 0
   IsBegun begun = (v : V) × (more : List (List ℕ)) × F.Good v × (lines_of v ≡ begun ++ more)
 
-  -- No line of the bytes is wrong so far: they are no longer than the limit, their complete lines
-  -- begin some value's lines and, where they are all lines of a value, nothing follows. What stands
-  -- behind the last line end may be anything, until that line ends.
+  -- No fault so far: the bytes are within the limit, some value's lines begin with their complete
+  -- lines and, if these are all lines of a value, nothing follows. Otherwise anything may follow
+  -- the last line end, until that line ends as well.
   pub record Live (limit : ℕ) (bytes : List ℕ) : Type 0 where
     pub short : length bytes ≤ limit
     pub begun : IsBegun (lines bytes)
     pub whole : (v : V) → F.Good v → lines_of v ≡ lines bytes → unfinished bytes ≡ []
 
-  -- behind these lines some value has a line that belongs at the slot
+  -- after these lines some value has a line that belongs to the slot
   pub record Next (begun : List (List ℕ)) (s : S) : Type 0 where
     pub value : V
     pub before : List I
@@ -54,8 +54,8 @@ module _ {V I S : Type 0} (F : Format V I S) where
     pub spells : map F.spelled before ≡ begun
     pub slot : F.slot_of item ≡ s
 
-  -- why the byte is a fault behind these live bytes: it passes the limit; or it
-  -- follows a whole text; or it completes a line that may not stand where it does
+  -- why the byte is a fault after these live bytes: it exceeds the limit; or it follows a whole
+  -- text; or it completes a line that may not stand there
   pub data KindAt (limit : ℕ) (bytes : List ℕ) (byte : ℕ) (kind : Kind) : Type 0 where
     too_long : limit < length bytes + 1 → kind ≡ TooLong → KindAt limit bytes byte kind
     trailing : length bytes + 1 ≤ limit → (v : V) → Reads bytes v → kind ≡ Trailing
@@ -64,8 +64,8 @@ module _ {V I S : Type 0} (F : Format V I S) where
         → lines (bytes ++ byte ∷ []) ≡ lines bytes ++ line ∷ []
         → (s : S) → Next (lines bytes) s → F.KindOf s line kind → KindAt limit bytes byte kind
 
-  -- the fault of bytes that aren't live: they are live up to some byte and no longer
-  -- with it, and the fault is on the line behind those that were complete before it
+  -- the fault of bytes that aren't live: they are live before some byte but not with it, and the
+  -- fault is on the line after those that were complete before this byte
   pub record FaultOf (limit : ℕ) (bytes : List ℕ) (f : Fault) : Type 0 where
     pub before : List ℕ
     pub byte : ℕ
@@ -76,15 +76,15 @@ module _ {V I S : Type 0} (F : Format V I S) where
     pub line : f.line ≡ length (lines before) + 1
     pub kind : KindAt limit before byte f.kind
 
-  -- the fault at the end of bytes that are live and no text: more was due
+  -- the fault at the end of bytes that are live but no text: they end early
   pub record EndOf (limit : ℕ) (bytes : List ℕ) (f : Fault) : Type 0 where
     pub live : Live limit bytes
     pub none : (v : V) → Reads bytes v → ⊥
     pub line : f.line ≡ length (lines bytes) + 1
     pub kind : f.kind ≡ End
 
-  -- More is due within the piece: behind some front of it, and not behind all,
-  -- the bytes are live and no text, and the limit leaves room.
+  -- More bytes are expected within the piece: after some proper prefix of it, the bytes are live,
+  -- no text, and below the limit.
   pub record MoreIsDue (limit : ℕ) (bytes piece : List ℕ) : Type 0 where
     pub front : List ℕ
     pub rest : List ℕ
@@ -94,7 +94,7 @@ module _ {V I S : Type 0} (F : Format V I S) where
     pub none : (v : V) → Reads (bytes ++ front) v → ⊥
     pub room : length (bytes ++ front) < limit
 
-  -- what the bytes are read as: the value that they are a text of, or else their fault
+  -- the result of reading the bytes: the value that they are a text of, or their fault
   abbrev pub ReadsAs : ℕ → List ℕ → Result V Fault → Type 0
   ReadsAs limit bytes (Ok v) = Reads bytes v × (length bytes ≤ limit)
   ReadsAs limit bytes (Err f) = FaultOf limit bytes f ⊎ EndOf limit bytes f

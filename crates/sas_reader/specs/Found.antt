@@ -1,4 +1,4 @@
--- What stood at a fault, as far as it is kept.
+-- The text at a fault, as far as it is kept.
 use Rattle.std.specs.Prelude.{◌≡◌, ◌<◌, ◌-◌, ◌↔◌, ◌==◌, if◌then◌else◌, ℕ, List, [], ◌∷◌, length, take, IsTrue}
 use Rattle.sas_reader.specs.declared.found.Found.{Found}
 
@@ -6,12 +6,12 @@ use Rattle.sas_reader.specs.declared.found.Found.{Found}
 abbrev pub bytes_of : Found → List ℕ
 bytes_of found = take found.count found.bytes
 
--- this is kept of the text: its first 64 bytes, and whether it has more
+-- the text is kept as its first 64 bytes, and whether it has more
 pub record IsFoundOf (text : List ℕ) (found : Found) : Type 0 where
   pub front : bytes_of found ≡ take 64 text
   pub longer : IsTrue found.more ↔ (64 < length text)
 
--- what stands behind the first so many LFs of the bytes
+-- what follows the first n LFs of the bytes
 abbrev pub behind_ends : ℕ → List ℕ → List ℕ
 behind_ends n [] = []
 behind_ends n (b ∷ bytes) =

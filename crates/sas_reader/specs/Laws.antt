@@ -1,4 +1,4 @@
--- Laws over the definitions of a format.
+-- Laws of a format.
 use Rattle.std.specs.Prelude.{◌≡◌, ◌≢◌, ℕ, ◌≤◌, List, [], ◌++◌, length, Result, ◌↔◌}
 use Rattle.sas_lines.specs.Lines.{text, EndedLines}
 use Rattle.sas_reader.specs.declared.fault.Fault.{Fault}
@@ -15,11 +15,11 @@ module _ {V I S : Type 0} (F : Format V I S) where
   TextsAreEndedLines = (bytes : List ℕ) (v : V) → F.Good v
       → Reads F bytes v ↔ EndedLines (lines_of F v) [] bytes
 
-  -- so its lines ended by LF are one
+  -- so its lines, each ended by LF, are a text of it
   abbrev pub TextIsRead : Type 0
   TextIsRead = (v : V) → F.Good v → Reads F (text (lines_of F v)) v
 
-  -- behind the same lines every value has a line at the same slot, or all end there
+  -- after the same lines every value has a line of the same slot, or every value ends there
   abbrev pub OneSlot : Type 0
   OneSlot = (begun : List (List ℕ)) (s t : S) → Next F begun s → Next F begun t → s ≡ t
 
@@ -37,12 +37,12 @@ module _ {V I S : Type 0} (F : Format V I S) where
   FaultIsDead = (limit : ℕ) (bytes : List ℕ) (f : Fault) → FaultOf F limit bytes f
       → Live F limit bytes → ⊥
 
-  -- bytes without a fault can't but be live
+  -- bytes without a fault are live (stated with a double negation)
   abbrev pub FaultlessIsLive : Type 0
   FaultlessIsLive = (limit : ℕ) (bytes : List ℕ) → ((f : Fault) → FaultOf F limit bytes f → ⊥)
       → (Live F limit bytes → ⊥) → ⊥
 
-  -- bytes have one fault at most, and however they go on it stays their fault
+  -- bytes have at most one fault, and more bytes don't change it
   abbrev pub OneFault : Type 0
   OneFault = (limit : ℕ) (bytes : List ℕ) (f g : Fault) → FaultOf F limit bytes f
       → FaultOf F limit bytes g → f ≡ g
@@ -51,12 +51,12 @@ module _ {V I S : Type 0} (F : Format V I S) where
   FaultStays = (limit : ℕ) (bytes more : List ℕ) (f : Fault) → FaultOf F limit bytes f
       → FaultOf F limit (bytes ++ more) f
 
-  -- no text begins with bytes that have a fault, other than that they are too long
+  -- no text begins with bytes that have a fault other than `TooLong`
   abbrev pub FaultIsNoText : Type 0
   FaultIsNoText = (limit : ℕ) (bytes more : List ℕ) (f : Fault) (v : V)
       → FaultOf F limit bytes f → f.kind ≢ TooLong → Reads F (bytes ++ more) v → ⊥
 
-  -- bytes are read as one thing, and they can't be read as nothing
+  -- bytes have exactly one result (its existence is stated with a double negation)
   abbrev pub OneReading : Type 0
   OneReading = (limit : ℕ) (bytes : List ℕ) (r q : Result V Fault)
       → ReadsAs F limit bytes r → ReadsAs F limit bytes q → r ≡ q
@@ -65,7 +65,7 @@ module _ {V I S : Type 0} (F : Format V I S) where
   SomeReading = (limit : ℕ) (bytes : List ℕ)
       → ((r : Result V Fault) → ReadsAs F limit bytes r → ⊥) → ⊥
 
-  -- What holds of a format with a grammar.
+  -- The laws of a format with a grammar.
   pub record Laws : Type 0 where
     pub one_value : OneValue
     pub texts_are_ended_lines : TextsAreEndedLines

@@ -1,6 +1,6 @@
--- How much is read of an input.
+-- How many bytes of an input are read.
 use Rattle.std.specs.Prelude.{ℕ, ◌^◌}
 
--- the most bytes that are read of an input, a task or a plan: 4 GiB, which are 4,294,967,296
+-- how many bytes a task or a plan may have: 4 GiB = 4,294,967,296 bytes
 abbrev pub most_bytes : ℕ
 most_bytes = 2 ^ 32

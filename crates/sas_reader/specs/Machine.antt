@@ -1,19 +1,19 @@
--- What a machine promises that judges the lines of a text.
+-- The promises of a machine, which judges the lines of a text.
 use Rattle.std.specs.Prelude.{◌≡◌, ℕ, ◌<◌, List, ◌++◌, length, Result, IfOk, IfErr}
 use Rattle.sas_lines.specs.FirstLines.{LinesStandFirst}
 use Rattle.sas_reader.specs.declared.fault.Kind.{Kind}
 use Rattle.sas_reader.specs.declared.fault.Kind.TheVariants as kinds
 use Rattle.sas_reader.specs.declared.reader.Front.{Front}
 
--- these lines stand first in the bytes, and the front is as long as they are
+-- the bytes begin with these lines, and the front has their number and their length
 pub record IsFront (first : List (List ℕ)) (bytes : List ℕ) (front : Front) : Type 0 where
   pub stand : LinesStandFirst bytes first front.bytes
   pub many : length first ≡ front.lines
 
--- `led_by` relates the lines to the machine that they led where it is.
+-- `led_by` relates the accepted lines to the machine.
 module _ {M : Type 0} (led_by : List (List ℕ) → M → Type 0) where
-  -- What a machine promises that may take the first lines of some bytes. It took lines that stand
-  -- first in them, or nothing. Only memory can be refused.
+  -- The promise of `accept_ahead`: the machine accepted first lines of the bytes, or nothing. The
+  -- only error is `Memory`.
   pub record AcceptsAhead (old : M) (bytes : List ℕ) (new : M)
       (result : Result Front Kind) : Type 0 where
     pub took : IfOk result

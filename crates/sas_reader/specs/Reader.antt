@@ -1,4 +1,4 @@
--- What a reader that takes a text in pieces represents.
+-- What a reader represents while it reads a text in pieces.
 use Rattle.std.specs.Prelude.{◌≡◌, ◌≢◌, ◌⊎◌, ◌↔◌, ℕ, ◌+◌, ◌<◌, ◌≤◌, List, [], ◌∷◌, ◌++◌, length, take}
 use Rattle.std.specs.Prelude.{Option, Some, None, Result, IfOk, IfErr, OnOk, IsErrAnd, IsTrue}
 use Rattle.std.specs.Io.KnownBytes.{Consumes, IsAtEnd}
@@ -13,24 +13,23 @@ use Rattle.sas_reader.specs.declared.reader.Refused.{Refused}
 use Rattle.sas_reader.specs.Faults.{IsOfBytes, answer}
 use Rattle.sas_reader.specs.Found.{IsFoundOf}
 
--- A machine M is led somewhere by lines, may have ended there, and rejects lines that don't lead
--- on.
+-- A machine M is led by the lines that it accepts, may have ended, and rejects lines that may not
+-- follow.
 module _ {M : Type 0} (led_by : List (List ℕ) → M → Type 0) (ended : M → Type 0) where
-  -- the complete lines of the bytes led the machine here, and nothing follows
-  -- them where it has ended
+  -- the machine has accepted the complete lines of the bytes; if it has ended, nothing follows them
   pub record Reached (machine : M) (bytes : List ℕ) : Type 0 where
     pub led : led_by (lines bytes) machine
     pub rest : ended machine → unfinished bytes ≡ []
 
-  -- the reader has taken the bytes: it holds where their complete lines led, their rest, and their
-  -- length
+  -- the reader has taken the bytes: its machine has accepted their complete lines, and it has their
+  -- rest and their length
   pub record Accepted (r : Reader M) (bytes : List ℕ) : Type 0 where
     pub reached : Reached r.machine bytes
     pub pending : r.pending.pending ≡ unfinished bytes
     pub lines : r.lines ≡ length (lines bytes)
     pub taken : r.taken ≡ length bytes
 
-  -- the bytes end where more was due: there the machine stands, and this is their rest
+  -- the bytes end early: the machine is in this state, and `found` is their rest
   pub record EndsEarly (limit : ℕ) (bytes : List ℕ) (f : Fault) (machine : M)
       (found : Found) : Type 0 where
     pub reached : Reached machine bytes
@@ -40,8 +39,8 @@ module _ {M : Type 0} (led_by : List (List ℕ) → M → Type 0) (ended : M →
     pub kind : f.kind ≡ kinds.End
     pub rest : IsFoundOf (unfinished bytes) found
 
-  -- a line is due within the piece: the machine was led behind some front of it, and not behind
-  -- all, has not ended, and the limit leaves room
+  -- a line is expected within the piece: after some proper prefix of it, the machine has not ended,
+  -- and the limit isn't reached
   pub record LineIsDue (limit : ℕ) (bytes piece : List ℕ) : Type 0 where
     pub machine : M
     pub at : ℕ
@@ -50,12 +49,13 @@ module _ {M : Type 0} (led_by : List (List ℕ) → M → Type 0) (ended : M →
     pub open_still : ended machine → ⊥
     pub room : length (bytes ++ take at piece) < limit
 
--- `halted` relates a machine, a line that it refused with this kind, and the machine behind that.
+-- `halted` relates a machine, a line that it refused, the kind of fault, and the machine after
+-- that.
 module _ {M : Type 0} (led_by : List (List ℕ) → M → Type 0) (ended : M → Type 0)
     (rejects : M → List ℕ → Kind → Type 0) (halted : M → List ℕ → Kind → M → Type 0) where
-  -- Why the byte may not follow these bytes, which led the machine here, what stood there, and
-  -- where the machine stands then: the byte behind a whole text, or the line that was refused. At
-  -- the limit neither is known.
+  -- Why the byte may not follow these bytes, after which the machine is `machine`. At the limit
+  -- nothing more is known. Otherwise `found` is the byte after a whole text or the refused line,
+  -- and `now` is the machine after the fault.
   pub data Stops (limit : ℕ) (machine : M) (bytes : List ℕ) (byte : ℕ) (k : Kind)
       (now : M) (found : Found) : Type 0 where
     full : length bytes ≡ limit → k ≡ kinds.TooLong
@@ -68,7 +68,7 @@ module _ {M : Type 0} (led_by : List (List ℕ) → M → Type 0) (ended : M →
         → IsFoundOf (without_return (unfinished bytes)) found
         → Stops limit machine bytes byte k now found
 
-  -- the bytes have this fault, this stood there, and there the machine stands now
+  -- the bytes have this fault with this text, and the machine is in this state after it
   pub record FaultIn (limit : ℕ) (bytes : List ℕ) (f : Fault) (now : M)
       (found : Found) : Type 0 where
     pub machine : M
@@ -84,24 +84,24 @@ module _ {M : Type 0} (led_by : List (List ℕ) → M → Type 0) (ended : M →
   StandsAt None r bytes = Accepted led_by ended r bytes
   StandsAt (Some f) r bytes = f.kind ≢ kinds.Memory → FaultIn r.limit bytes f r.machine r.found
 
-  -- A reader without a fault represents the bytes that it has taken. One with a fault, memory
-  -- aside, holds what is wrong with them, and what stood there.
+  -- A reader without a fault represents the bytes that it has taken. With a fault, except for
+  -- `Memory`, it has the fault of these bytes and the text at the fault.
   unfoldable pub Stands : Reader M → List ℕ → Type 0
   Stands r bytes = StandsAt r.fault r bytes
 
   -- ---- all pieces
 
-  -- what a call promises that feeds a reader with a piece
+  -- the promise of a call that feeds a piece to a reader
   pub record TakesPiece (old : Reader M) (piece : List ℕ) (new : Reader M)
       (result : Result (Unit {0}) Fault) : Type 0 where
-    -- the reader represents what it represented, followed by the piece
+    -- the reader represents the bytes before, followed by the piece
     pub stands : (bytes : List ℕ) → Stands old bytes → Stands new (bytes ++ piece)
-    -- the first fault is returned from then on
+    -- the first fault is returned from now on
     pub answer : result ≡ answer new.fault
     pub kept : (f : Fault) → old.fault ≡ Some f → new.fault ≡ Some f
-    -- a new fault is one that bytes show as they come
+    -- a new fault is one that is found while bytes are read
     pub kind : IfErr result (λ f. old.fault ≡ None → IsOfBytes f.kind)
-    -- memory is wanted only where a line is due
+    -- a call runs out of memory only if a line is expected
     pub memory : IfErr result
         (λ f. old.fault ≡ None → f.kind ≡ kinds.Memory → (bytes : List ℕ) → Stands old bytes
         → LineIsDue led_by ended old.limit bytes piece)
@@ -117,7 +117,7 @@ module _ {M : Type 0} (led_by : List (List ℕ) → M → Type 0) (ended : M →
     pub accepted : (bytes : List ℕ) → Accepted led_by ended old bytes
         → Accepted led_by ended new (bytes ++ take n piece)
 
-  -- as `FaultIn`, of these bytes and a piece behind them that has the byte
+  -- like `FaultIn`, for a piece after these bytes that has the faulty byte
   pub record FaultBehind (limit : ℕ) (bytes piece : List ℕ) (f : Fault) (now : M)
       (found : Found) : Type 0 where
     pub machine : M
@@ -129,8 +129,8 @@ module _ {M : Type 0} (led_by : List (List ℕ) → M → Type 0) (ended : M →
     pub line : f.line ≡ length (lines (bytes ++ front)) + 1
     pub stops : Stops limit machine (bytes ++ front) byte f.kind now found
 
-  -- the reader was stopped in the piece: a byte of it may not follow, or memory
-  -- was refused where a line is due
+  -- the reader stopped in the piece: a byte of it may not follow, or it ran out of memory while a
+  -- line is expected
   pub record Stopped (old new : Reader M) (piece : List ℕ) (k : Kind) : Type 0 where
     pub kind : IsOfBytes k
     pub fault : k ≢ kinds.Memory → (bytes : List ℕ) → Accepted led_by ended old bytes
@@ -139,7 +139,7 @@ module _ {M : Type 0} (led_by : List (List ℕ) → M → Type 0) (ended : M →
     pub memory : k ≡ kinds.Memory → (bytes : List ℕ) → Accepted led_by ended old bytes
         → LineIsDue led_by ended old.limit bytes piece
 
-  -- what a step of a reader promises: it took so many bytes of the piece, or was stopped
+  -- the promise of a step of a reader: it took this many bytes of the piece, or stopped
   pub record Advances (old : Reader M) (piece : List ℕ) (new : Reader M)
       (result : Result ℕ Kind) : Type 0 where
     pub took : IfOk result (λ n. TookFront old new piece n)
@@ -149,20 +149,20 @@ module _ {M : Type 0} (led_by : List (List ℕ) → M → Type 0) (ended : M →
 
   -- ---- the end, and a device
 
-  -- the bytes have the fault of the refusal, or end too early
+  -- the bytes have the fault of the refusal, or end early
   abbrev pub IsRefused : ℕ → List ℕ → Refused M → Type 0
   IsRefused limit bytes r = FaultIn limit bytes r.fault r.machine r.found
       ⊎ EndsEarly led_by ended limit bytes r.fault r.machine r.found
 
-  -- why a reader is refused where nothing more comes; want of memory and a failed read are only
-  -- reported where they came before
+  -- why the input is refused at its end; `Memory` and `Read` are reported only if they occurred
+  -- before
   pub record RefusedAtEnd (r : Reader M) (e : Refused M) : Type 0 where
     pub fault : e.fault.kind ≢ kinds.Memory → (bytes : List ℕ) → Stands r bytes
         → IsRefused r.limit bytes e
     pub memory : e.fault.kind ≡ kinds.Memory → r.fault ≡ Some e.fault
     pub read : e.fault.kind ≡ kinds.Read → r.fault ≡ Some e.fault
 
-  -- what a reader promises at the end: where the lines led its machine, or why it is refused
+  -- the promise of a reader at the end: the machine after all lines, or why the input is refused
   pub record ReachesEnd (r : Reader M) (result : Result M (Refused M)) : Type 0 where
     pub at_end : IfOk result (λ m. ended m)
     pub reached : IfOk result (λ m. (bytes : List ℕ) → Stands r bytes
@@ -170,8 +170,8 @@ module _ {M : Type 0} (led_by : List (List ℕ) → M → Type 0) (ended : M →
     pub refused : IfErr result (λ e. RefusedAtEnd r e)
     pub kept : (f : Fault) → r.fault ≡ Some f → IsErrAnd result (λ e. e.fault ≡ f)
 
-  -- Why a device was not read as a whole. A read failed behind these bytes; or they are all, and
-  -- more was due; or they have a fault.
+  -- Why a device was not read as a whole. Either a read failed after these bytes; or they are all
+  -- and end early; or they have a fault.
   pub data ReadFails (limit : ℕ) (bytes : List ℕ) (at_end : Type 0) (r : Refused M) : Type 0 where
     unread : (machine : M) → Reached led_by ended machine bytes → length bytes ≤ limit
         → r.fault.line ≡ length (lines bytes) + 1 → r.fault.kind ≡ kinds.Read
@@ -182,8 +182,8 @@ module _ {M : Type 0} (led_by : List (List ℕ) → M → Type 0) (ended : M →
         → ReadFails limit bytes at_end r
 
   module _ {D : Type 0} (left : D → Option (List ℕ)) where
-    -- What a call promises that feeds a machine from a device, to the device's end or to the first
-    -- fault. `left` maps a device to the bytes that it has left, where these are known.
+    -- The promise of a call that feeds the bytes of a device to a machine, to the end or to the
+    -- first fault. `left` maps a device to the bytes that are still to be read, if they are known.
     pub record FeedsMachine (limit : ℕ) (old new : Device D)
         (result : Result M (Refused M)) : Type 0 where
       pub at_end : IfOk result (λ m. ended m)

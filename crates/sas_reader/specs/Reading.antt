@@ -1,12 +1,12 @@
--- What a reader of a format promises, call by call.
+-- The promises of a reader of a format, for each of its calls.
 use Rattle.std.specs.Prelude.{◌≡◌, ◌≢◌, ℕ, List, [], ◌++◌, Option, Some, None, Result, Ok, Err, IfOk, IfErr, OnOk}
 use Rattle.sas_reader.specs.declared.fault.Fault.{Fault}
 use Rattle.sas_reader.specs.declared.fault.Kind.TheVariants as kinds
 use Rattle.sas_reader.specs.Faults.{IsOfBytes, answer}
 use Rattle.sas_reader.specs.Format.{Format, Live, FaultOf, MoreIsDue, ReadsAs}
 
--- how contracts view a reader R of a format: by the byte lists that it represents, its first fault,
--- where one has come, and the most bytes that it takes
+-- how contracts view a reader R of a format: the bytes that it represents, its first fault, if any,
+-- and how many bytes it reads at most
 pub record View (V I S R : Type 0) : Type 1 where
   pub format : Format V I S
   pub Stands : R → List ℕ → Type 0
@@ -14,43 +14,43 @@ pub record View (V I S R : Type 0) : Type 1 where
   pub limit : R → ℕ
 
 module _ {V I S R : Type 0} (view : View V I S R) where
-  -- nothing has come, and at most so many bytes will be taken
+  -- nothing was read yet, and at most `most` bytes will be read
   pub record Starts (most : ℕ) (reader : R) : Type 0 where
     pub stands : view.Stands reader []
     pub limit : view.limit reader ≡ most
     pub fault : view.fault reader ≡ None
 
-  -- what a call promises that feeds a reader with a piece
+  -- the promise of a call that feeds a piece to a reader
   pub record Feeds (old : R) (piece : List ℕ) (new : R)
       (result : Result (Unit {0}) Fault) : Type 0 where
-    -- the reader represents what it represented, followed by the piece
+    -- the reader represents the bytes before, followed by the piece
     pub stands : (bytes : List ℕ) → view.Stands old bytes → view.Stands new (bytes ++ piece)
     -- the result is Ok only if all bytes so far are live
     pub live : OnOk result ((bytes : List ℕ) → view.Stands old bytes
         → Live view.format (view.limit old) (bytes ++ piece))
-    -- and a fault, want of memory aside, only if they have it
+    -- a fault other than `Memory` is returned only if the bytes have it
     pub fault : IfErr result (λ f. f.kind ≢ kinds.Memory → (bytes : List ℕ) → view.Stands old bytes
         → FaultOf view.format (view.limit old) (bytes ++ piece) f)
-    -- the first fault is returned from then on
+    -- the first fault is returned from now on
     pub answer : result ≡ answer (view.fault new)
     pub kept : (f : Fault) → view.fault old ≡ Some f → view.fault new ≡ Some f
-    -- a new fault is one that bytes show as they come
+    -- a new fault is one that is found while bytes are read
     pub kind : IfErr result (λ f. view.fault old ≡ None → IsOfBytes f.kind)
-    -- memory is wanted only where more is due behind live bytes
+    -- a call runs out of memory only if more bytes are expected after live bytes
     pub memory : IfErr result (λ f. view.fault old ≡ None → f.kind ≡ kinds.Memory
         → (bytes : List ℕ) → view.Stands old bytes
         → MoreIsDue view.format (view.limit old) bytes piece)
     pub limit : view.limit new ≡ view.limit old
 
-  -- what a reader promises at the end
+  -- the promise of a reader at the end
   pub record Finishes (reader : R) (result : Result V Fault) : Type 0 where
     -- the value that the bytes are a text of
     pub read : IfOk result (λ v. (bytes : List ℕ) → view.Stands reader bytes
         → ReadsAs view.format (view.limit reader) bytes (Ok v))
-    -- or their fault
+    -- the fault of the bytes
     pub fault : IfErr result
         (λ f. f.kind ≢ kinds.Memory → (bytes : List ℕ) → view.Stands reader bytes
         → ReadsAs view.format (view.limit reader) bytes (Err f))
-    -- want of memory is only reported where it came before
+    -- `Memory` is reported only if it occurred before
     pub memory : IfErr result (λ f. f.kind ≡ kinds.Memory → view.fault reader ≡ Some f)
     pub kept : (f : Fault) → view.fault reader ≡ Some f → result ≡ Err f

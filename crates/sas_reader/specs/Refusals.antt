@@ -1,5 +1,5 @@
--- What a refusal has beside its fault: what stood there, where the machine stands behind it, and what
--- follows from that.
+-- What a refusal has besides its fault: the text at the fault, the state of the machine after it,
+-- and what follows from both.
 use Rattle.std.specs.Prelude.{◌≡◌, ℕ, List}
 use Rattle.std.specs.Prelude.{Option, Result, Ok, Err, IfErr}
 use Rattle.std.specs.Io.KnownBytes.{IsAtEnd}
@@ -19,11 +19,11 @@ abbrev pub by_fault : {A R : Type 0} → (R → Fault) → Result A R → Result
 by_fault fault (Ok a) = Ok a
 by_fault fault (Err r) = Err (fault r)
 
--- A refusal R has a fault and what was found there. `Why` relates the lines that were accepted
--- before the fault, and the text that stood there, to what else the refusal has.
+-- A refusal R has a fault and the text found there. `Why` relates the lines accepted before the
+-- fault, and the text at the fault, to everything else that the refusal has.
 module _ {V I S R : Type 0} (F : Format V I S) (fault : R → Fault) (found : R → Found)
     (Why : List (List ℕ) → List ℕ → R → Type 0) where
-  -- the refusal has what stood at its fault of these bytes, and what follows from that
+  -- the refusal has the text at its fault of these bytes, and what follows from it
   pub record Explains (bytes : List ℕ) (r : R) : Type 0 where
     pub accepted : List (List ℕ)
     pub text : List ℕ
@@ -32,8 +32,8 @@ module _ {V I S R : Type 0} (F : Format V I S) (fault : R → Fault) (found : R 
     pub why : Why accepted text r
 
   module _ {D A : Type 0} (left : D → Option (List ℕ)) (Gives : List ℕ → A → Type 0) where
-    -- What a call promises that reads a device, as `ReadsAll` has it, and explains why it refuses
-    -- the bytes that were read, unless a read failed, they are too long, or memory was refused.
+    -- The promise of a call that reads a device like `ReadsAll`, and explains why it refuses the
+    -- bytes, unless a read failed, the bytes are too long, or memory ran out.
     pub record ReadsOrExplains (old new : Device D) (result : Result A R) : Type 0 where
       pub plain : ReadsAll left F Gives old new (by_fault fault result)
       pub explained : IfErr result (λ r. IsTold (fault r).kind → (bytes : List ℕ)
@@ -41,11 +41,11 @@ module _ {V I S R : Type 0} (F : Format V I S) (fault : R → Fault) (found : R 
           × Refuses F bytes (IsAtEnd (left new.device)) (fault r)
           × Explains bytes r)
 
--- A machine M is led somewhere by lines, may have ended there, rejects lines, and stands somewhere
--- behind one that it refused.
+-- A machine M is led by the lines that it accepts, may have ended, rejects lines, and is in some
+-- state after it refused one.
 module _ {M : Type 0} (led_by : List (List ℕ) → M → Type 0) (ended : M → Type 0)
     (rejects : M → List ℕ → Kind → Type 0) (halted : M → List ℕ → Kind → M → Type 0) where
-  -- where a machine stands behind a fault that is about these lines and this text
+  -- the state of a machine after a fault that is about these lines and this text
   pub data StandsBehind (accepted : List (List ℕ)) (text : List ℕ) (k : Kind) (now : M)
       : Type 0 where
     behind_line : (machine : M) → led_by accepted machine → (ended machine → ⊥)

@@ -1,11 +1,12 @@
--- What may still come: states, each at the end with a value, or before a line.
+-- What may still follow, as a system of states. A state is at the end with a value, or before a
+-- line.
 use Rattle.std.specs.Prelude.{◌≡◌, ◌≢◌, ℕ, Bool, List, [], ◌∷◌, IsTrue, map}
 use Rattle.std.specs.List.{AllByRecursion}
 use Rattle.sas_reader.specs.declared.fault.Kind.{Kind}
 use Rattle.sas_reader.specs.Format.{Format, lines_of}
 
--- a state of T is at the end with a value, or before a line at a slot that
--- passes a test and leads on
+-- a state of T is at the end with a value, or before a line of a slot that passes a test and leads
+-- to a next state
 pub data Node (T V I S : Type 0) : Type 0 where
   ended : V → Node T V I S
   before : S → (I → Bool) → (I → T) → Node T V I S
@@ -14,7 +15,7 @@ pub data Node (T V I S : Type 0) : Type 0 where
 abbrev pub IsPlain : List ℕ → Type 0
 IsPlain line = AllByRecursion (λ b. (b ≢ 10) × (b ≢ 13)) line
 
--- `Fits` holds of a line on which each number is one that the format can spell.
+-- `Fits` holds for a line whose numbers can all be spelled in the format.
 module _ {V I S : Type 0} (F : Format V I S) (Fits : I → Type 0) where
   -- the line may stand at a slot under a test
   pub record Takes (s : S) (ok : I → Bool) (i : I) : Type 0 where
@@ -22,28 +23,28 @@ module _ {V I S : Type 0} (F : Format V I S) (Fits : I → Type 0) where
     pub fits : Fits i
     pub good : IsTrue (ok i)
 
-  -- no such line may stand here, and the kind of its fault
+  -- no such line may stand here, and this is the kind of its fault
   pub record Judged (s : S) (ok : I → Bool) (line : List ℕ) (k : Kind) : Type 0 where
     pub none : (i : I) → Takes s ok i → F.spelled i ≡ line → ⊥
     pub kind : F.KindOf s line k
 
 module _ {T V I S : Type 0} (F : Format V I S) (Fits : I → Type 0) where
-  -- the node takes the line, and this holds of the next state
+  -- the node takes the line, and `Then` holds for the next state
   abbrev pub OneLine : Node T V I S → I → (T → Type 0) → Type 0
   OneLine (ended v) i Then = ⊥
   OneLine (before s ok next) i Then = Takes F Fits s ok i × Then (next i)
 
-  -- the node takes no such line, and the kind of its fault
+  -- the node takes no such line, and this is the kind of its fault
   abbrev pub Rejects : Node T V I S → List ℕ → Kind → Type 0
   Rejects (ended v) line k = ⊥
   Rejects (before s ok next) line k = Judged F Fits s ok line k
 
-  -- these lines lead from one state to the other
+  -- these lines lead from p to q
   abbrev pub After : (T → Node T V I S) → T → List I → T → Type 0
   After node p [] q = p ≡ q
   After node p (i ∷ is) q = OneLine (node p) i (λ r. After node r is q)
 
-  -- these lines lead to the end with this value
+  -- these lines lead from p to the end with this value
   abbrev pub LeadsToEnd : (T → Node T V I S) → T → List I → V → Type 0
   LeadsToEnd node p [] v = node p ≡ ended v
   LeadsToEnd node p (i ∷ is) v = OneLine (node p) i (λ r. LeadsToEnd node r is v)
@@ -54,9 +55,10 @@ module _ {T V I S : Type 0} (F : Format V I S) (Fits : I → Type 0) where
     pub after : After node start items p
     pub spells : map F.spelled items ≡ ls
 
-  -- What ties states to a format. What leads from the start to the end is the lines of a good
-  -- value, and the lines of each good value lead there. Whatever came can be completed. No line of
-  -- a good value holds LF or CR. At a slot a line has one meaning, and its fault one kind.
+  -- The states describe a format. Lines that lead from the start to the end are those of a good
+  -- value, and the lines of each good value lead there. Lines that lead to any state can be
+  -- completed. No line of a good value contains LF or CR. At a slot a line has one meaning, and its
+  -- fault has one kind.
   pub record Grammar (node : T → Node T V I S) (start : T) : Type 0 where
     pub sound : (is : List I) (v : V) → LeadsToEnd node start is v → F.Good v × (is ≡ F.layout v)
     pub complete : (v : V) → F.Good v → LeadsToEnd node start (F.layout v) v

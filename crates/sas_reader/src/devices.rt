@@ -9,15 +9,15 @@ use sas_lines::Watched;
 use std::alloc::Global;
 use std::io::Read;
 
-/// How many bytes are read at a time, where memory for so many is there.
+/// How many bytes are read at a time, if there is memory for them.
 const LARGE: usize = 65_536;
 
-/// Reads the device to its end or to the first fault, in pieces of at most 4,096 bytes. It feeds them to the machine,
-/// which no line has led anywhere yet, and returns the machine, led by all lines.
+/// Reads the device to its end or to the first fault, in pieces of at most 4,096 bytes. Feeds all lines to the machine, which must have
+/// accepted no line yet, and returns the machine.
 ///
-/// A refusal has the first fault, what stood there, and the machine as it stands behind it. The fault is of the kind
-/// `Read` where a read failed, `Memory` where memory was refused, `TooLong` where a byte follows the first `limit` bytes,
-/// and else what the machine finds wrong, `Trailing` or `End`.
+/// An error has the first fault, the text at the fault, and the machine in its state after the fault. The fault is `Read` if a read failed,
+/// `Memory` if out of memory, `TooLong` if there are more than `limit` bytes, `Trailing` if a byte follows a whole text, and `End` if the
+/// text ends early. Otherwise it is the kind that the machine reports.
 pub fn read_all<M: Machine, R: Read>(
     alloc: Global,
     machine: M,
@@ -34,8 +34,8 @@ pub fn read_all<M: Machine, R: Read>(
     feed_all(Reader::new(alloc, machine, limit), device, &mut buffer)
 }
 
-/// Reads as `read_all` does, in pieces of at most 65,536 bytes. Where memory for such a piece is refused, it reads in
-/// pieces of at most 4,096 bytes, so it is never out of memory for them.
+/// Like `read_all`, but reads pieces of at most 65,536 bytes. If there is no memory for such a piece, reads pieces of at most 4,096 bytes
+/// instead.
 pub fn read_all_large<M: Machine, R: Read>(
     alloc: Global,
     machine: M,
@@ -58,7 +58,7 @@ pub fn read_all_large<M: Machine, R: Read>(
     }
 }
 
-/// Feeds the reader the device, to its end or to the first fault, in pieces that fit into the buffer.
+/// Feeds the bytes of the device to the reader, to the end or to the first fault, in pieces that fit into the buffer.
 fn feed_all<M: Machine, R: Read>(
     mut reader: Reader<M>,
     device: &mut Watched<R>,

@@ -1,4 +1,4 @@
-// What may be wrong with an input.
+// What can be wrong with an input.
 ghost use Rattle.std.specs.Prelude.{◌≡◌};
 
 use std::alloc::AllocError;
@@ -6,24 +6,24 @@ use std::alloc::AllocError;
 /// The kinds of fault of an input.
 #[derive(Clone, Copy, Debug, PartialEq, Eq)]
 pub enum Kind {
-    /// A fixed word was due, and the line isn't it. In a plan: the line begins like neither a step nor the cost.
+    /// A fixed word was expected, but the line differs from it. In a plan: the line begins like neither a step nor the cost.
     Keyword,
-    /// A name was due, and the line isn't one. In a plan: the line begins with `(` and isn't a step line.
+    /// A name was expected, but the line isn't one. In a plan: the line begins with `(` but isn't a step line.
     Name,
-    /// The line isn't made of the numbers that are due, in their count and spelling. In a plan: the line begins like
-    /// the cost line and isn't one.
+    /// Numbers were expected, but the line has another count of numbers or spells them differently. In a plan: the line begins like the
+    /// cost line but isn't one.
     Shape,
-    /// In a task: the line has its shape, and a number in it isn't allowed there.
+    /// In a task: the line has the right shape, but a number in it isn't allowed there.
     Value,
     /// The input ends before the last line is complete.
     End,
     /// A byte follows the last line.
     Trailing,
-    /// A byte follows the most bytes that are read.
+    /// The input has more bytes than the limit.
     TooLong,
     /// A read failed.
     Read,
-    /// Memory was refused.
+    /// Out of memory.
     Memory,
 }
 
@@ -37,8 +37,7 @@ impl From<AllocError> for Kind {
     }
 }
 
-/// The first fault of an input. In every fault but `Memory`, whose line isn't fixed, the line is 1 plus the number of
-/// lines accepted before it.
+/// The first fault of an input. The line is 1 plus the number of lines accepted before it. For `Memory`, the line isn't specified.
 #[derive(Clone, Copy, Debug, PartialEq, Eq)]
 pub struct Fault {
     pub line: u64,

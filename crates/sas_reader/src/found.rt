@@ -1,11 +1,11 @@
-// What stood at a fault: the first bytes of a wrong line, of what follows a whole text, or of the rest at an early end.
+// The text at a fault: the first bytes of a wrong line, of what follows a whole text, or of an unfinished last line.
 ghost use Rattle.std.specs.Prelude.{◌≡◌, [], ◌∷◌, take};
 ghost use Rattle.sas_reader.specs.Found.{bytes_of, IsFoundOf, behind_ends};
 
-/// The most bytes of what stood at a fault that are kept.
+/// How many bytes of the text at a fault are kept, at most.
 pub const FOUND: usize = 64;
 
-/// The first bytes of what stood at a fault, at most 64, and whether there were more.
+/// The first bytes of the text at a fault, at most 64, and whether it has more.
 #[derive(Clone, Copy, Debug, PartialEq, Eq)]
 pub struct Found {
     bytes: [u8; FOUND],
@@ -21,7 +21,7 @@ impl Found {
         more: false,
     };
 
-    /// Keeps the first bytes of the text. It stands out of the way of what is read without a fault.
+    /// Copies the first bytes of the text. It isn't inlined, since most reads find no fault.
     #[cold]
     #[inline(never)]
     pub fn of(text: &[u8]) -> Found
@@ -44,7 +44,7 @@ impl Found {
         &self.bytes[..self.count.min(FOUND)]
     }
 
-    /// Returns whether there were more.
+    /// Returns whether the text has more bytes than are kept.
     pub fn has_more(&self) -> bool
         ensures { result ≡ self.now.more }
     {
@@ -52,7 +52,7 @@ impl Found {
     }
 }
 
-/// Returns the byte that stands behind so many line ends, or nothing where none does.
+/// Returns the byte after this many line ends, or no bytes if there is none.
 fn byte_behind(bytes: &[u8], ends: u64) -> &[u8]
     ensures { result.now ≡ take 1 (behind_ends ends bytes.now) }
 {
@@ -68,8 +68,8 @@ fn byte_behind(bytes: &[u8], ends: u64) -> &[u8]
     &[]
 }
 
-/// Returns what stood in the bytes where this was found in their copy without CRs. As no line holds LF, an LF stood
-/// behind a whole text of so many lines, and there a CR may have stood before it.
+/// Converts a text that was found in the copy without CRs to the text that was read. No line contains LF. So a found LF follows a whole
+/// text of `lines` lines, and what was read there may be a CR before the LF.
 #[cold]
 #[inline(never)]
 pub(crate) fn as_it_stood(found: Found, bytes: &[u8], lines: u64) -> Found

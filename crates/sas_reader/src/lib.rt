@@ -1,4 +1,4 @@
-//! Reads a text that comes in pieces, line by line, whichever its format. It reports each fault at its exact place.
+//! Reads a text of any line format in pieces, and reports the line and the kind of its first fault.
 #![tactic(auto)]
 
 mod devices;

@@ -1,4 +1,4 @@
-// Reads a text that comes in pieces, whichever its format. A machine judges one line after another.
+// Reads a text of any line format in pieces. A machine judges one line after another.
 ghost use Rattle.std.specs.Prelude.{◌≡◌, ◌≢◌, ◌≤◌, ◌<◌, ◌+◌, ◌-◌, ◌^◌, ◌↔◌, ℕ, List, [], ◌∷◌, ◌++◌, length};
 ghost use Rattle.std.specs.Prelude.{take, Some, None, Err, IfOk, IfErr, IfSome, IfNone, OnOk, IsTrue};
 ghost use Rattle.sas_reader.specs.Faults.{IsOfBytes};
@@ -12,10 +12,10 @@ use sas_lines::{Lines, first_line};
 use std::alloc::Global;
 use std::mem;
 
-/// The most bytes that are read of an input, a task or a plan: 4 GiB.
+/// How many bytes a task or a plan may have: 4 GiB.
 pub const LIMIT: u64 = 4_294_967_296;
 
-/// Whole lines that stand first in some bytes: how many they are, and how many of the bytes they take with their ends.
+/// The first whole lines of some bytes: the number of lines, and the number of their bytes with line ends.
 #[derive(Clone, Copy, Debug, PartialEq, Eq)]
 pub struct Front {
     pub lines: u64,
@@ -27,27 +27,27 @@ impl Front {
     pub const EMPTY: Front = Front { lines: 0, bytes: 0 };
 }
 
-/// What judges the lines of a text, one after another.
+/// Judges the lines of a text, one after another.
 pub trait Machine: Drop {
     ghost use Rattle.sas_reader.specs.declared.fault.Kind.{Kind};
 
-    /// The lines that lead from the start to here.
+    /// The lines that the machine has accepted so far.
     ghost led_by: { List (List ℕ) → Self → Type 0 };
 
     /// No line may follow.
     ghost ended: { Self → Type 0 };
 
-    /// The line may not follow, and the kind of its fault.
+    /// The line may not follow, and has this kind of fault.
     ghost rejects: { Self → List ℕ → Kind → Type 0 };
 
-    /// The machine refused the line with this kind of fault, and so it stands behind that.
+    /// The state of the machine after it refused the line with this kind of fault.
     ghost stopped: { Self → List ℕ → Kind → Self → Type 0 };
 
-    /// Returns whether the last line has come.
+    /// Returns whether the last line has been accepted.
     fn has_ended(&self) -> bool
         ensures { IsTrue result ↔ ended self.now };
 
-    /// Takes the next line. It returns the kind of fault where the line may not stand here, or where memory is refused.
+    /// Accepts the next line. Returns the kind of fault if the line may not stand here, or `Memory` if out of memory.
     fn accept(&mut self, line: &[u8]) -> Result<(), Kind>
         requires { ended self.old → ⊥ }
         ensures led { OnOk result
@@ -58,9 +58,8 @@ pub trait Machine: Drop {
             → stopped self.old line.now k self.new) }
         ensures kind { IfErr result IsOfBytes };
 
-    /// Takes one or more of the first lines of the bytes where it is quick to see that they may stand here, and returns
-    /// how many lines and bytes it took. Else it takes nothing and returns an empty front: `accept` then has to judge
-    /// the next line.
+    /// Accepts one or more of the first lines of the bytes if it can do so quickly. Returns how many lines and bytes it accepted. Otherwise
+    /// accepts nothing and returns `Front::EMPTY`; then `accept` has to judge the next line.
     fn accept_ahead(&mut self, bytes: &[u8]) -> Result<Front, Kind>
         requires { ended self.old → ⊥ }
         ensures { AcceptsAhead led_by self.old bytes.now self.new result }
@@ -77,7 +76,7 @@ fn begins_with_return(bytes: &[u8]) -> bool {
     }
 }
 
-/// Returns the bytes without one CR at their end, if there is one.
+/// Returns the bytes without a CR at their end.
 fn without_last_return(bytes: &[u8]) -> &[u8]
     ensures { (n : ℕ) × (result.now ≡ take n bytes.now) }
 {
@@ -87,8 +86,8 @@ fn without_last_return(bytes: &[u8]) -> &[u8]
     }
 }
 
-/// Why a text was refused: its first fault, the machine as it stands behind that, and what stood at the fault: a line that
-/// may not stand there, the byte behind a whole text, or the rest where the text ends early.
+/// Why a text was refused: its first fault, the machine in its state after the fault, and the text at the fault. That is the wrong line,
+/// the byte after a whole text, or the unfinished last line of a text that ends early.
 #[derive(Drop)]
 pub struct Refused<M> {
     pub fault: Fault,
@@ -106,20 +105,21 @@ impl<M: Drop> Refused<M> {
     }
 }
 
-/// A text that comes in pieces: where its lines have led, the line that has begun, and the first fault.
+/// A reader of a text in pieces: the machine, the line that has begun, and the first fault.
 #[derive(Drop)]
 pub struct Reader<M> {
     pub alloc: Global,
     pub machine: M,
     pub pending: Lines,
     pub lines: u64,
-    /// It stands between those that each line changes: side by side LLVM changes both in one vector, which takes longer.
+    /// This field separates `lines` and `taken`, which each line changes. If they were adjacent, LLVM would change both in one vector,
+    /// which is slower.
     pub limit: u64,
     pub taken: u64,
     pub fault: Option<Fault>,
     /// Memory for a piece without its CRs.
     pub plain: Vec<u8>,
-    /// What stood at the fault, once it has come.
+    /// The text at the fault, if there is one.
     pub found: Found,
     ghost within: { taken ≤ limit },
     ghost small: { limit ≤ most_bytes },
@@ -130,7 +130,7 @@ impl<M: Machine> Reader<M> {
     ghost use Rattle.sas_reader.specs.Found.{IsFoundOf};
     ghost use Rattle.sas_reader.specs.Reader.{Stands, Advances, TakesPiece, ReachesEnd};
 
-    /// Makes a reader that has taken nothing yet, and takes at most `limit` bytes.
+    /// Returns a reader that has read nothing yet and refuses more than `limit` bytes.
     pub fn new(alloc: Global, machine: M, limit: u64) -> Self
         requires small { limit ≤ most_bytes }
         requires start { M.led_by [] machine }
@@ -151,7 +151,8 @@ impl<M: Machine> Reader<M> {
         }
     }
 
-    /// Takes the bytes up to and with the first LF, or all of them, behind what is pending. Returns how many it took.
+    /// Appends the bytes to the pending line, up to and including the first LF, and judges the line if it is complete. Returns how many
+    /// bytes it took.
     fn go_on(&mut self, piece: &[u8]) -> Result<usize, Kind>
         requires some { 0 < length piece.now }
         requires room { self.old.taken + length piece.now ≤ self.old.limit }
@@ -178,7 +179,7 @@ impl<M: Machine> Reader<M> {
         }
     }
 
-    /// Returns the bytes of the piece that the limit leaves room for.
+    /// Returns the first bytes of the piece, as many as the limit allows.
     fn within_limit<'a>(&self, piece: &'a [u8]) -> &'a [u8]
         ensures { result.now ≡ take (self.now.limit - self.now.taken) piece.now }
     {
@@ -186,8 +187,7 @@ impl<M: Machine> Reader<M> {
         &piece[..piece.len().min(room as usize)]
     }
 
-    /// Takes the bytes up to and with the first LF, or all of them, as far as the limit leaves room. Returns how many
-    /// it took.
+    /// Takes the bytes up to and including the first LF, or all bytes if there is no LF, within the limit. Returns how many bytes it took.
     fn take_line(&mut self, piece: &[u8]) -> Result<usize, Kind>
         requires some { 0 < length piece.now }
         ensures advances { Advances M.led_by M.ended M.rejects M.stopped
@@ -202,7 +202,7 @@ impl<M: Machine> Reader<M> {
             self.found = Found::of(&within[..1]);
             return Err(Kind::Trailing);
         }
-        // A line that stands whole in the piece is judged there. Only a line that is cut is copied.
+        // A line that is whole in the piece is judged in place. Only a line that is cut is copied.
         if !self.pending.pending().is_empty() {
             return self.go_on(within);
         }
@@ -222,8 +222,7 @@ impl<M: Machine> Reader<M> {
         }
     }
 
-    /// Takes some of the first lines of the piece if the machine is quick to see that they may stand here, else
-    /// nothing. Returns how many bytes it took.
+    /// Takes the first lines of the piece that the machine accepts ahead, if any. Returns how many bytes it took.
     fn take_ahead(&mut self, piece: &[u8]) -> Result<usize, Kind>
         requires some { 0 < length piece.now }
         requires room { self.old.taken + length piece.now ≤ self.old.limit }
@@ -244,7 +243,7 @@ impl<M: Machine> Reader<M> {
         Ok(front.bytes)
     }
 
-    /// Takes lines ahead, as long as that goes and the limit leaves room. Returns how many bytes it took.
+    /// Takes lines ahead, as many as the machine and the limit allow. Returns how many bytes it took.
     fn go_ahead(&mut self, piece: &[u8]) -> Result<usize, Kind>
         ensures { Advances M.led_by M.ended M.rejects M.stopped
             self.old piece.now self.new result }
@@ -264,8 +263,7 @@ impl<M: Machine> Reader<M> {
         Ok(at)
     }
 
-    /// Takes some bytes of the piece: the lines that can be taken ahead, and those up to and with the next LF. Returns
-    /// how many it took.
+    /// Takes the lines that can be taken ahead, and then the bytes up to and including the next LF. Returns how many bytes it took.
     fn advance(&mut self, piece: &[u8]) -> Result<usize, Kind>
         requires some { 0 < length piece.now }
         ensures advances { Advances M.led_by M.ended M.rejects M.stopped
@@ -293,7 +291,8 @@ impl<M: Machine> Reader<M> {
         Ok(at)
     }
 
-    /// Takes the bytes up to and with the first LF, or all of them, where a line has begun. Returns how many it took.
+    /// If a line has begun, takes the bytes up to and including the first LF, or all bytes if there is no LF. Returns how many bytes it
+    /// took.
     fn end_line(&mut self, piece: &[u8]) -> Result<usize, Kind>
         ensures { Advances M.led_by M.ended M.rejects M.stopped
             self.old piece.now self.new result }
@@ -304,8 +303,9 @@ impl<M: Machine> Reader<M> {
         self.take_line(piece)
     }
 
-    /// Takes the piece with LF alone, where it begins with a line that ends with CR LF, and each CR in it ends a line. A
-    /// CR at its end is left, as LF may come next. Returns how many bytes of the piece it took: none of any other piece.
+    /// If the first line of the piece ends with CR LF and each CR in it is followed by LF, copies the piece without its CRs and takes the
+    /// copy. Leaves a CR at the end of the piece, since LF may come next. Returns how many bytes of the piece it took, which is 0 for any
+    /// other piece.
     fn run_copy(&mut self, piece: &[u8], plain: &mut Vec<u8>) -> Result<usize, Kind>
         ensures { Advances M.led_by M.ended M.rejects M.stopped
             self.old piece.now self.new result }
@@ -333,8 +333,7 @@ impl<M: Machine> Reader<M> {
         }
     }
 
-    /// The same, with the memory of the reader for the copy. It isn't inlined, so that the way through lines with LF
-    /// stays short.
+    /// Calls `run_copy` with the reader's memory for the copy. It isn't inlined, so that the code for lines with LF stays small.
     #[inline(never)]
     fn run_with_lf_alone(&mut self, piece: &[u8]) -> Result<usize, Kind>
         ensures { Advances M.led_by M.ended M.rejects M.stopped
@@ -357,7 +356,7 @@ impl<M: Machine> Reader<M> {
         Ok(at + self.run(&piece[at..])?)
     }
 
-    /// Takes the next piece. Once there is a fault, this call and each later one return the first fault.
+    /// Reads the next piece. Once there is a fault, this call and all later calls return the first fault.
     pub fn feed(&mut self, piece: &[u8]) -> Result<(), Fault>
         ensures { TakesPiece M.led_by M.ended M.rejects M.stopped
             self.old piece.now self.new result }
@@ -378,7 +377,7 @@ impl<M: Machine> Reader<M> {
         }
     }
 
-    /// Returns the fault if nothing more comes, or `None` if the text is whole.
+    /// Returns the fault if the input ends here, or `None` if the text is whole.
     fn end_fault(&self) -> Option<Fault>
         ensures none { IfNone result (M.ended self.now.machine × (self.now.fault ≡ None)) }
         ensures kept { (f : Fault) → self.now.fault ≡ Some f → result ≡ Some f }
@@ -397,7 +396,7 @@ impl<M: Machine> Reader<M> {
         })
     }
 
-    /// Returns the fault that there is, with the machine and with what stood there.
+    /// Returns this fault with the machine and the text at the fault.
     pub fn refused(self, fault: Fault) -> Refused<M>
         ensures { result
             ≡ record { fault = fault; machine = self.machine; found = self.found } }
@@ -410,7 +409,7 @@ impl<M: Machine> Reader<M> {
         }
     }
 
-    /// Returns what stands at the fault if nothing more comes: what stood there, or what is pending.
+    /// Returns the text at the fault if the input ends here: that of the first fault, or the pending line.
     fn found_at_end(&self) -> Found
         ensures early { self.now.fault ≡ None → IsFoundOf self.now.pending.pending result }
         ensures kept { (f : Fault) → self.now.fault ≡ Some f → result ≡ self.now.found }
@@ -421,8 +420,8 @@ impl<M: Machine> Reader<M> {
         }
     }
 
-    /// Returns the machine, led by all lines, once the last one has come. Else returns the first fault, or `End` where more
-    /// was due, with the machine and with what stood there.
+    /// Returns the machine if the text is whole. Otherwise returns the first fault, or `End` if the text ends early, with the machine and
+    /// the text at the fault.
     pub fn finish(self) -> Result<M, Refused<M>>
         ensures { ReachesEnd M.led_by M.ended M.rejects M.stopped self result }
     {
@@ -444,7 +443,7 @@ impl<M: Machine> Reader<M> {
     }
 }
 
-/// States the law that the most bytes that are read are those of the definitions.
+/// Ensures that `LIMIT` is the limit of the definitions.
 pub fn limit_law()
     ensures { LIMIT ≡ most_bytes }
 {}

@@ -1,20 +1,20 @@
-// Lines that end with CR LF, as they are with LF: thirty-two bytes are looked at together, and all but CRs are copied.
+// Copies bytes without their CRs, thirty-two bytes at a time. So lines that end with CR LF become lines that end with LF.
 ghost use Rattle.std.specs.Prelude.{◌≡◌, ◌+◌, ◌*◌, ◌<◌, ◌≤◌, ◌++◌, ◌↔◌, ℕ, length, take, drop, get_or, IsTrue, IfSome};
 ghost use Rattle.sas_reader.specs.Returns.{returns_in, CopiesSoFar, IsCopyWithLfAlone};
 
 use std::simd::prelude::*;
 
-/// How many bytes are looked at together.
+/// How many bytes are compared at once.
 const LANES: usize = 32;
 
-/// How many bytes were gone through, and how many of them are kept.
+/// How many bytes were read, and how many of them were copied.
 #[derive(Clone, Copy, Debug, PartialEq, Eq)]
 struct Copied {
     passed: usize,
     kept: usize,
 }
 
-/// Returns which of the thirty-two bytes from this place on are CRs: bit k tells it of byte k.
+/// Returns which of the thirty-two bytes from `at` on are CRs: bit k is 1 if byte k is a CR.
 #[inline(always)]
 fn returns_at(bytes: &[u8], at: usize) -> u64
     requires { at + LANES ≤ length bytes.now }
@@ -24,7 +24,7 @@ fn returns_at(bytes: &[u8], at: usize) -> u64
     lanes.simd_eq(u8x32::splat(b'\r')).to_bitmask()
 }
 
-/// Writes thirty-two of the bytes over others.
+/// Copies thirty-two bytes from `at` to `place`.
 #[inline(always)]
 fn put(from: &[u8], at: usize, to: &mut [u8], place: usize)
     requires source { at + LANES ≤ length from.now }
@@ -34,7 +34,7 @@ fn put(from: &[u8], at: usize, to: &mut [u8], place: usize)
     u8x32::from_slice(&from[at..]).copy_to_slice(&mut to[place..]);
 }
 
-/// Returns whether LF stands behind this place.
+/// Returns whether the byte after `at` is LF.
 #[inline(always)]
 fn is_before_lf(bytes: &[u8], at: usize) -> bool
     requires { at ≤ length bytes.now }
@@ -43,8 +43,8 @@ fn is_before_lf(bytes: &[u8], at: usize) -> bool
     bytes.len() - at > 1 && bytes[at + 1] == b'\n'
 }
 
-/// Copies thirty-two bytes more: what stands between two CRs is written with all that is behind it, and the next such
-/// part goes over what was too much. Returns `None` where a CR has no LF behind it.
+/// Copies the next thirty-two bytes without their CRs. After each CR it copies thirty-two bytes again, over the bytes that were copied too
+/// far. Returns `None` if a CR isn't followed by LF.
 #[inline(always)]
 fn copy_block(from: &[u8], to: &mut [u8], copied: Copied) -> Option<Copied>
     requires so_far { CopiesSoFar from.now to.old copied }
@@ -73,8 +73,8 @@ fn copy_block(from: &[u8], to: &mut [u8], copied: Copied) -> Option<Copied>
     Some(Copied { passed: end, kept })
 }
 
-/// Copies all but CRs, as long as there are bytes enough behind them to take so many at a time, and LF stands behind each
-/// CR. Returns how far it came.
+/// Copies bytes without their CRs, in blocks, while enough bytes are left for a block. Returns how far it got, or `None` if a CR isn't
+/// followed by LF.
 fn copy_many(from: &[u8], to: &mut [u8]) -> Option<Copied>
     requires { length from.now ≤ length to.old }
     ensures { IfSome result (λ copied. CopiesSoFar from.now to.new copied) }
@@ -87,8 +87,8 @@ fn copy_many(from: &[u8], to: &mut [u8]) -> Option<Copied>
     Some(copied)
 }
 
-/// Copies all but CRs of the bytes that weren't gone through yet. Returns how many are kept in all, or `None` where a CR
-/// has no LF behind it.
+/// Copies the remaining bytes without their CRs, one by one. Returns how many bytes were copied in all, or `None` if a CR isn't followed by
+/// LF.
 fn copy_rest(from: &[u8], to: &mut [u8], copied: Copied) -> Option<usize>
     requires so_far { CopiesSoFar from.now to.old copied }
     requires room { length from.now ≤ length to.old }
@@ -108,8 +108,8 @@ fn copy_rest(from: &[u8], to: &mut [u8], copied: Copied) -> Option<usize>
     Some(kept)
 }
 
-/// Copies the bytes without their CRs to the front of the others, and takes memory for as many as these if there is too
-/// little. Returns how many there are then, where LF stands behind each CR and there is memory.
+/// Copies the bytes without their CRs to the front of `to`, which it extends if it is too short. Returns how many bytes were copied, or
+/// `None` if a CR isn't followed by LF or out of memory.
 pub(crate) fn copy_with_lf_alone(bytes: &[u8], to: &mut Vec<u8>) -> Option<usize>
     ensures { IfSome result (λ kept. IsCopyWithLfAlone bytes.now to.new.items kept) }
 {

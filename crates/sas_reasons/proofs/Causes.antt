@@ -1,4 +1,4 @@
--- What rules have to do with a fact that fails, and that a fact has one cause.
+-- The rules that concern a fact that doesn't hold. A fact has exactly one cause.
 use Rattle.std.proofs.Common.{◌≡◌, ℕ, ◌<◌, Bool, true, false, List, [], ◌∷◌, ◌++◌, length, get_or, slice_index, Some, refl, sym, ◌∙◌, ap, subst, inl, inr}
 use Rattle.std.specs.Prelude.{◌==◌, ◌&&◌, is_some, find, map}
 use Rattle.std.specs.List.{Contains}
@@ -61,7 +61,7 @@ default_if_not_given p s fact layered settled derived given missed = elim (diffe
     missing (layer, on) d = eqb-false (slice_index s fact.var) fact.value (not-true (slice_index s fact.var == fact.value) missed)
         ((settled layer).new fact.var on d ∙ new_is)
 
--- where not all facts hold, one is the first that fails
+-- if not all facts hold, one is the first that doesn't
 first_that_fails : (s : List ℕ) (facts : List Fact) → (AllHold (slice_index s) facts → ⊥) → (c : Fact) × (find (fails s) facts ≡ Some c)
 first_that_fails s [] none = absurd (none (All-nil (Holds (slice_index s))))
 first_that_fails s (f ∷ fs) none = elim (eqb_tells (slice_index s f.var) f.value) [

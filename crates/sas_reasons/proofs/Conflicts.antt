@@ -1,4 +1,4 @@
--- Effects that fire agree, or two of them conflict, and which two is one choice.
+-- Effects that fire agree, or two of them conflict. The reported pair is unique.
 use Rattle.std.proofs.Common.{◌≡◌, ℕ, ◌<◌, ◌⊎◌, List, [], length, get_or, None, slice_index, sym, ap, subst, inl, inr, arith}
 use Rattle.std.proofs.lemmas.Bool.{cases_eq, cases_lt, cases_order}
 use Rattle.std.proofs.lemmas.List.{get_or_default}
@@ -40,7 +40,7 @@ module _ (s : List ℕ) (o : Operator) where
     | inr none ↦ inr (λ w. none w.0 w.1.before w.1)
   ]
 
-  -- where no effect is contradicted they agree
+  -- the effects agree if none is contradicted
   module _ (none : (e : ℕ) → IsContradicted s o e → ⊥) where
     later_agrees : (d e : ℕ) → d < e → e < length o.effects → Fires s (effect_at o d) → Fires s (effect_at o e)
         → (effect_at o d).var ≡ (effect_at o e).var → (effect_at o d).new ≡ (effect_at o e).new

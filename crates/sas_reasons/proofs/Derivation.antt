@@ -1,4 +1,4 @@
--- What gives the derived variables their values, and in what order.
+-- The rules that give the derived variables their values, and their order.
 use Rattle.std.proofs.Common.{◌≡◌, ◌≢◌, ℕ, zero, suc, ◌+◌, ◌<◌, ◌≤◌, ◌⊎◌, true, false, cond, List, length, get_or, None, Some, refl, sym, ◌∙◌, ap, subst, inl, inr, arith}
 use Rattle.std.specs.Prelude.{is_some}
 use Rattle.std.specs.List.{All}
@@ -53,7 +53,7 @@ one_rank p s layer var a b x y = lowest_is_one (λ k. reached p layer s k var �
 one_layer : (p : Parts) (var a b : ℕ) → IsOnLayer p a var → IsOnLayer p b var → a ≡ b
 one_layer p var a b x y = let e : Some a ≡ Some b = sym x ∙ y in cc
 
--- its layer and its rank are one
+-- its layer and its rank are unique
 pub stands_one : (p : Parts) (s : List ℕ) (var layer rank layer' rank' : ℕ) → Stands p s var layer rank → Stands p s var layer' rank'
     → (layer ≡ layer') × (rank ≡ rank')
 stands_one p s var layer rank layer' rank' x y =
@@ -71,7 +71,7 @@ fires_next_or_not p s var layer rounds rule = elim (cases_lt rule (length p.rule
   ]
 ]
 
--- a variable with a rank isn't reached in no round, and a rule gives it its value
+-- a variable with a rank isn't reached in 0 rounds, and a rule gives it its value
 pub giver_at : (p : Parts) (s : List ℕ) (var layer rank : ℕ) → Stands p s var layer rank → (rule : ℕ) × IsGivenBy p s var rule
 giver_at p s var layer zero stands = absurd (false≢true stands.ranked.has)
 giver_at p s var layer (suc before) stands = from (reached_by p layer s before var stands.ranked.has)
@@ -111,12 +111,12 @@ one_giver p s var a b x y =
     (subst (λ k. IsLowest (FiresNext p s var y.layer k) a) same (subst (λ l. IsLowest (FiresNext p s var l x.before) a) e.0 x.lowest))
     y.lowest
 
--- it is a rule of that variable
+-- it is a rule of this variable
 pub giver_on : (p : Parts) (s : List ℕ) (var rule : ℕ) → IsGivenBy p s var rule → (rule_at p rule).var ≡ var
 giver_on p s var rule given = ((fires_decides p given.layer s (reached p given.layer s given.before) var (rule_at p rule)).0 given.lowest.has.fires).on
 
 module _ (p : Parts) (s : List ℕ) (layered : IsLayered p) (settled : IsSettled p s) where
-  -- with the members that differ from their default each variable has its value
+  -- with the members that differ from their defaults, each variable has its value
   pub value_is : (layer var : ℕ) → value_with p layer s (differs p s) var ≡ get_or s var 0
   value_is layer v = elim (layer_tells p layer v) [
     | inr w ↦ given_off p layer s (differs p s) v w.0
@@ -146,7 +146,8 @@ module _ (p : Parts) (s : List ℕ) (layered : IsLayered p) (settled : IsSettled
     given_value = sym (new_value_is p rule _ layered given.lowest.has.exists fires.can)
         ∙ (ap (new_value_of p) fires.on ∙ sym ((settled given.layer).new var given.stands.on var_differs))
 
-    -- a condition that asks for another value than the default of a derived variable asks for one that comes before
+    -- if a condition requires a value of a derived variable that isn't its default, this variable
+    -- comes before
     asks_earlier : (c : Fact) (layer : ℕ) → LooksDown p (rule_at p rule).var c → IsOnLayer p layer c.var
         → value_with p given.layer s (reached p given.layer s given.before) c.var ≡ c.value → get_or s c.var 0 ≡ c.value
         → c.value ≢ default_of p c.var → ComesBefore p s c.var var
@@ -204,7 +205,8 @@ module _ (p : Parts) (s : List ℕ) (layered : IsLayered p) (settled : IsSettled
     looks_down j d lt = looks (get_or (rule_at p rule).conditions j d)
         ((layered.rules rule _ given.lowest.has.exists fires.can).order j d lt) (fires.hold j d lt) (conditions_hold j d lt)
 
-    -- that on which the rule rests comes before the variable, and differs from its default
+    -- the variables on which the rule rests come before the variable, and differ from their
+    -- defaults
     pub rests_on_earlier : (other : ℕ) → RestsOn p rule other → ComesBefore p s other var
     rests_on_earlier other rests =
         at (All-contains (λ (c : Fact). IsBasic p c.var ⊎ (AsksLower p var c ⊎ AsksEarlier p s var c)) (rule_at p rule).conditions rests.condition looks_down rests.among)

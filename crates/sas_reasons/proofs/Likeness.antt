@@ -1,4 +1,4 @@
--- What folds to what, and which operator's name is like a name.
+-- Folded names, and the operator with a similar name.
 use Rattle.std.proofs.Common.{◌≡◌, ℕ, ◌+◌, ◌<◌, ◌≤◌, ◌⊎◌, false, cond, List, [], ◌∷◌, ◌++◌, map, length, bytes_eq, refl, sym, ◌∙◌, ap, inl, inr, arith}
 use Rattle.std.specs.Prelude.{◌==◌, ◌&&◌, nat_le}
 use Rattle.std.proofs.lemmas.Bool.{cases_lt, cases_Bool}
@@ -23,7 +23,7 @@ space_is_trimmed (b ∷ bs) =
 pub space_folds : SpaceFolds
 space_folds name = ap (map small) (space_is_trimmed name)
 
--- small letters are small, and no byte becomes a space or ceases to be one
+-- a lower-case letter is unchanged, and a byte is a space exactly if it is one in lower case
 small_twice : (b : ℕ) → small (small b) ≡ small b
 small_twice b = elim (leb_tells 65 b) [
   | inr x ↦ same (ap (λ t. cond (t && nat_le b 90) (b + 32) b) x.0)
@@ -64,7 +64,7 @@ small_blank : (bytes : List ℕ) → is_blank (map small bytes) ≡ is_blank byt
 small_blank [] = refl
 small_blank (b ∷ bs) = ap (λ x. x && is_blank (map small bs)) (small_space b) ∙ ap (λ x. (b == 32) && x) (small_blank bs)
 
--- a trimmed name is blank where the name is
+-- a trimmed name is blank exactly if the name is
 trimmed_blank : (name : List ℕ) → is_blank (trimmed name) ≡ is_blank name
 trimmed_blank [] = refl
 trimmed_blank (b ∷ bs) = elim (cases_Bool (is_blank (b ∷ bs))) [

@@ -1,5 +1,5 @@
--- A variable that differs from its default has a derivation: its rule, and those of the variables on which that one rests, which
--- come before it.
+-- A variable that differs from its default has a derivation: its rule, and the rules of the
+-- variables on which this rule rests, which come before it.
 use Rattle.std.proofs.Common.{◌≡◌, ◌≢◌, ℕ, zero, suc, ◌<◌, ◌⊎◌, List, [], ◌∷◌, ◌++◌, get_or, refl, sym, ◌∙◌, subst, inl, inr, arith}
 use Rattle.std.specs.Prelude.{is_some}
 use Rattle.std.specs.List.{Contains}
@@ -16,11 +16,11 @@ use Rattle.sas_reasons.specs.Laws.{SomeDerivation}
 use Rattle.sas_reasons.proofs.Derivation.{stands_one, giver_at, giver_on, one_giver, rests_on_earlier, rank_if_differs}
 use Rattle.sas_reasons.proofs.Sorting.{contains_head, contains_tail, contains_cases, contains_none, Sorted, sorted}
 
--- ---- what comes before what can be gone through
+-- ---- the order allows induction
 
 module _ (p : Parts) (s : List ℕ) (Good : ℕ → Type 0)
     (step : (var layer rank : ℕ) → Stands p s var layer rank → ((other : ℕ) → ComesBefore p s other var → Good other) → Good var) where
-  -- the variables of this layer and this rank, where those of lower ranks and of lower layers are good
+  -- the variables of this layer and rank, if those of lower ranks and layers are good
   numbers : (layer rank : ℕ)
       → ((other layer' rank' : ℕ) → (layer' < layer) ⊎ ((layer' ≡ layer) × (rank' < rank)) → Stands p s other layer' rank' → Good other)
       → (k var : ℕ) → var < k → Stands p s var layer rank → Good var
@@ -40,7 +40,7 @@ module _ (p : Parts) (s : List ℕ) (Good : ℕ → Type 0)
         | inr v ↦ rest v.1 (subst (λ r. Stands p s other layer r) v.0 (subst (λ l. Stands p s other l rank') w.0 stands'))
       ]
 
-  -- the variables of this layer, where those of lower layers are good
+  -- the variables of this layer, if those of lower layers are good
   ranks : (layer : ℕ) → ((other layer' rank' : ℕ) → layer' < layer → Stands p s other layer' rank' → Good other)
       → (m var rank : ℕ) → rank < m → Stands p s var layer rank → Good var
   ranks layer below zero var rank lt stands = absurd (omega arith)
@@ -53,7 +53,7 @@ module _ (p : Parts) (s : List ℕ) (Good : ℕ → Type 0)
   layers zero var layer rank lt stands = absurd (omega arith)
   layers (suc n) var layer rank lt stands = ranks layer (λ other layer' rank' lt' stands'. layers n other layer' rank' (omega arith) stands') (suc rank) var rank (omega arith) stands
 
-  -- so all that stand somewhere are good
+  -- so all variables with a rank are good
   pub all_good : (var layer rank : ℕ) → Stands p s var layer rank → Good var
   all_good var layer rank stands = layers (suc layer) var layer rank (omega arith) stands
 
@@ -65,7 +65,7 @@ pub record Listing (Has : ℕ → Type 0) : Type 0 where
   pub each : (rule : ℕ) → Contains rules rule → Has rule
   pub whole : (rule : ℕ) → Has rule → Contains rules rule
 
--- a condition asks for another value of a derived variable than its default
+-- a condition requires a value of a derived variable that isn't its default
 record Asks (p : Parts) (c : Fact) : Type 0 where
   derived : IsDerived p.variables c.var
   other : c.value ≢ default_of p c.var
@@ -80,7 +80,8 @@ asks_or_not p c = elim (cases_Bool (is_some (layer_of p.variables c.var))) [
 ]
 
 module _ (p : Parts) (s : List ℕ) where
-  -- a variable in a derivation is the first one, or in that of a variable on which the first one's rule rests
+  -- a variable in a derivation is the derived one, or is in the derivation of a variable on which
+  -- its rule rests
   inverted : (var rule : ℕ) → IsGivenBy p s var rule → (u : ℕ) → InDerivation p s var u
       → (u ≡ var) ⊎ ((w : ℕ) × RestsOn p rule w × InDerivation p s w u)
   inverted var rule given u Itself = inl refl
@@ -89,12 +90,12 @@ module _ (p : Parts) (s : List ℕ) where
     | inr w ↦ inr (w.0, w.1, Below rule' w.2 given' rests')
   ]
 
-  -- and what is in that is in the derivation
+  -- the derivation contains those derivations
   extended : (var rule w : ℕ) → IsGivenBy p s var rule → RestsOn p rule w → (u : ℕ) → InDerivation p s w u → InDerivation p s var u
   extended var rule w given rests u Itself = Below rule Itself given rests
   extended var rule w given rests u (Below {u = v} {w = u'} rule' inside given' rests') = Below rule' (extended var rule w given rests v inside) given' rests'
 
-  -- the rules of the derivations of the variables for which these conditions ask
+  -- the rules of the derivations of the variables in these conditions
   abbrev RuleOfOne : List Fact → ℕ → Type 0
   RuleOfOne cs rule = (c : Fact) × Contains cs c × Asks p c × IsRuleOf p s c.var rule
 
@@ -133,7 +134,8 @@ module _ (p : Parts) (s : List ℕ) where
           }
 
   module _ (layered : IsLayered p) (settled : IsSettled p s) where
-    -- the rules of a derivation are that of the variable and those of the derivations of the variables on which it rests
+    -- the rules of a derivation are the variable's own rule, and those of the derivations of the
+    -- variables on which it rests
     listed : (var rule : ℕ) → IsGivenBy p s var rule → ((other : ℕ) → ComesBefore p s other var → Listing (IsRuleOf p s other))
         → Listing (IsRuleOf p s var)
     listed var rule given lists = from (gathered (rule_at p rule).conditions (λ c among asks. lists c.var (rests_on_earlier p s layered settled var rule given c.var

@@ -1,4 +1,4 @@
--- The lowest number with a property is one, and is found where the property can be told.
+-- The lowest number with a property is unique. It can be found if the property is decidable.
 use Rattle.std.proofs.Common.{◌≡◌, ℕ, zero, suc, ◌<◌, ◌⊎◌, Option, Some, None, refl, ap, subst, inl, inr, arith}
 use Rattle.std.proofs.lemmas.Bool.{cases_eq, cases_lt}
 use Rattle.sas_reasons.specs.Lowest.{IsLowest, IsLowestIfAny}
@@ -19,7 +19,7 @@ lowest_if_any_is_one Has (Some a) None x y = absurd (y a x.has)
 lowest_if_any_is_one Has (Some a) (Some b) x y = ap Some (lowest_is_one Has a b x y)
 
 module _ (Has : ℕ → Type 0) (tell : (n : ℕ) → Has n ⊎ (Has n → ⊥)) where
-  -- of the numbers below a bound one is the lowest, or none has the property
+  -- one of the numbers below a bound is the lowest with the property, or none has it
   pub lowest_below : (bound : ℕ) → ((n : ℕ) × (n < bound) × IsLowest Has n) ⊎ ((n : ℕ) → n < bound → Has n → ⊥)
   lowest_below zero = inr (λ n lt. absurd (omega arith))
   lowest_below (suc bound) = elim (lowest_below bound) [
@@ -33,14 +33,14 @@ module _ (Has : ℕ → Type 0) (tell : (n : ℕ) → Has n ⊎ (Has n → ⊥))
     ]
   ]
 
-  -- where all numbers with the property are below a bound
+  -- the case that all numbers with the property are below a bound
   pub lowest_if_any : (bound : ℕ) → ((n : ℕ) → Has n → n < bound) → (o : Option ℕ) × IsLowestIfAny Has o
   lowest_if_any bound within = elim (lowest_below bound) [
     | inl w ↦ (Some w.0, w.2)
     | inr none ↦ (None, λ n has. none n (within n has) has)
   ]
 
-  -- where some number has it
+  -- the case that some number has the property
   pub lowest_from : (n : ℕ) → Has n → (k : ℕ) × IsLowest Has k
   lowest_from n has = elim (lowest_below (suc n)) [
     | inl w ↦ (w.0, w.2)

@@ -1,4 +1,4 @@
--- The first step that may mean another operator, and that operator, are one.
+-- The first step that may mean another operator is unique, and so is this operator.
 use Rattle.std.proofs.Common.{◌≡◌, ℕ, ◌+◌, ◌<◌, ◌⊎◌, [], length, get_or, subst, inl, inr, arith}
 use Rattle.std.proofs.lemmas.Bool.{cases_lt}
 use Rattle.sas_core.specs.declared.parts.Parts.{Parts}

@@ -1,4 +1,4 @@
--- The places of the items that pass a test, and what fails.
+-- The indices of the items that pass a test, and the facts that don't hold.
 use Rattle.std.proofs.Common.{◌≡◌, ℕ, zero, suc, ◌+◌, ◌<◌, Bool, true, false, not, List, [], ◌∷◌, length, get_or, slice_index, bytes_eq, sym, ◌∙◌, ap, subst, inl, inr, arith}
 use Rattle.std.specs.Prelude.{if◌then◌else◌, filter}
 use Rattle.std.specs.List.{Contains}
@@ -25,7 +25,7 @@ module _ {A : Type 0} (test : A → Bool) where
   passes_by : (place : ℕ) (x : A) (xs : List A) → test x ≡ false → places_from place test (x ∷ xs) ≡ places_from (place + 1) test xs
   passes_by place x xs is = ap (λ b. if b then place ∷ places_from (place + 1) test xs else places_from (place + 1) test xs) is
 
-  -- a place is one of an item that passes
+  -- each index is that of an item that passes
   pub record IsPlace (place : ℕ) (items : List A) (z : ℕ) : Type 0 where
     pub index : ℕ
     pub within : index < length items
@@ -50,7 +50,7 @@ module _ {A : Type 0} (test : A → Bool) where
     ]
   ]
 
-  -- and the place of each item that passes is there
+  -- the index of each item that passes is in the list
   pub is_place : (place : ℕ) (items : List A) (index : ℕ) (d : A) → index < length items → test (get_or items index d) ≡ true
       → Contains (places_from place test items) (place + index)
   is_place place [] index d lt is = absurd (omega arith)

@@ -1,4 +1,5 @@
--- The rounds in which the rules of a layer fire: what they reach grows, and is in the end what differs from its default.
+-- The rounds in which the rules of a layer fire. The set of reached variables grows, and in the end
+-- contains exactly those that differ from their defaults.
 use Rattle.std.proofs.Common.{◌≡◌, ℕ, zero, suc, ◌+◌, ◌<◌, ◌≤◌, ◌⊎◌, Bool, true, false, cond, List, length, get_or, refl, sym, ◌∙◌, ap, subst, inl, inr, arith}
 use Rattle.std.specs.Prelude.{◌==◌}
 use Rattle.std.specs.Bool.{Decides}
@@ -17,7 +18,7 @@ use Rattle.sas_meaning.specs.Settled.{is_on_layer, new_value_of, value_with, IsC
 use Rattle.sas_meaning.proofs.Layers.{layer_tells, given_on, given_off, on_layer_within}
 use Rattle.sas_reasons.specs.Derivation.{all_hold, can_give, fires_with, reached}
 
--- ---- what the tests tell
+-- ---- the meaning of the tests
 
 pub hold_decides : (value : ℕ → ℕ) (facts : List Fact) → Decides (all_hold value facts) (AllHold value facts)
 hold_decides value facts = Decides-by_and (λ (f : Fact). value f.var == f.value) (Holds value) (all_hold value) (λ f. Decides-eqb (value f.var) f.value) refl (λ _ _. refl) facts
@@ -40,7 +41,7 @@ fires_decides p layer s members var rule =
     (Decides-not (rule.new == default_of p rule.var) (Decides-eqb rule.new (default_of p rule.var))))
     (hold_decides (value_with p layer s members) rule.conditions))
 
--- ---- how many numbers pass a test
+-- ---- the number of numbers that pass a test
 
 count : (ℕ → Bool) → ℕ → ℕ
 count f zero = 0
@@ -54,7 +55,7 @@ count_within f (suc n) = elim (cases_Bool (f n)) [
   | inr y ↦ rw y (let ih = count_within f n in omega arith)
 ]
 
--- of two tests one passes more, or they pass the same numbers
+-- of two nested tests one accepts more numbers, or both accept the same
 same_or_more : (f g : ℕ → Bool) → ((v : ℕ) → f v ≡ true → g v ≡ true) → (n : ℕ)
     → (((v : ℕ) → v < n → g v ≡ true → f v ≡ true) × (count f n ≤ count g n)) ⊎ (count f n < count g n)
 unfolding count
@@ -118,7 +119,7 @@ module _ (p : Parts) (layer : ℕ) (s : List ℕ) where
       ((fires_decides p layer s (reached p layer s rounds) var (rule_at p by.rule)).1 by.fires))
 
   module _ (layered : IsLayered p) where
-    -- with more members the conditions of a rule of the layer hold still
+    -- with more members the conditions of a rule of the layer still hold
     pub more_hold : (a b : ℕ → Bool) → ((v : ℕ) → IsOnLayer p layer v → a v ≡ true → b v ≡ true) → (rule : ℕ) → rule < length p.rules
         → IsOnLayer p layer (rule_at p rule).var → CanFire p (rule_at p rule)
         → AllHold (value_with p layer s a) (rule_at p rule).conditions → AllHold (value_with p layer s b) (rule_at p rule).conditions
@@ -140,7 +141,7 @@ module _ (p : Parts) (layer : ℕ) (s : List ℕ) where
           ]
         ]
 
-    -- what fires with some members fires with more
+    -- a rule that fires with some members fires with more
     pub more_fire : (a b : ℕ → Bool) → ((v : ℕ) → IsOnLayer p layer v → a v ≡ true → b v ≡ true) → (var : ℕ) → ReachedBy a var → ReachedBy b var
     more_fire a b more var by = record {
       on = by.on;
@@ -153,13 +154,13 @@ module _ (p : Parts) (layer : ℕ) (s : List ℕ) where
       };
     }
 
-    -- what is reached stays reached
+    -- a reached variable stays reached
     pub reached_more : (rounds var : ℕ) → reached p layer s rounds var ≡ true → reached p layer s (suc rounds) var ≡ true
     reached_more zero var is = absurd (false≢true is)
     reached_more (suc rounds) var is = reach (suc rounds) var
         (more_fire (reached p layer s rounds) (reached p layer s (suc rounds)) (λ v on r. reached_more rounds v r) var (reached_by rounds var is))
 
-    -- where a round reaches no more, what was reached is closed
+    -- if a round reaches nothing new, the reached set is closed
     closed_when_same : (rounds : ℕ) → ((v : ℕ) → v < length p.variables → reached p layer s (suc rounds) v ≡ true → reached p layer s rounds v ≡ true)
         → IsClosed p layer s (reached p layer s rounds)
     closed_when_same rounds same k d lt on can hold =
@@ -171,7 +172,7 @@ module _ (p : Parts) (layer : ℕ) (s : List ℕ) where
           fires = subst (λ r. Fires p layer s (reached p layer s rounds) (get_or p.rules k d).var r) (sym is) (record { on = refl; can = can; hold = hold });
         }))
 
-    -- some round reaches no more
+    -- some round reaches nothing new
     closed_in : (fuel rounds : ℕ) → length p.variables < count (reached p layer s rounds) (length p.variables) + fuel
         → (m : ℕ) × IsClosed p layer s (reached p layer s m)
     closed_in zero rounds enough = absurd (let w = count_within (reached p layer s rounds) (length p.variables) in omega arith)
@@ -181,7 +182,7 @@ module _ (p : Parts) (layer : ℕ) (s : List ℕ) where
     ]
 
     module _ (settled : IsSettledAt p layer s) where
-      -- what is reached differs from its default
+      -- a reached variable differs from its default
       pub reached_differs : (rounds var : ℕ) → reached p layer s rounds var ≡ true → differs p s var ≡ true
       reached_differs zero var is = absurd (false≢true is)
       reached_differs (suc rounds) var is =
@@ -191,7 +192,7 @@ module _ (p : Parts) (layer : ℕ) (s : List ℕ) where
           from by = ap (differs p s) (sym by.fires.on)
               ∙ settled.closed by.rule _ by.exists (subst (IsOnLayer p layer) (sym by.fires.on) by.on) by.fires.can by.fires.hold
 
-      -- and what differs is reached
+      -- a variable that differs from its default is reached
       pub differs_reached : (var : ℕ) → IsOnLayer p layer var → differs p s var ≡ true → (rounds : ℕ) × (reached p layer s rounds var ≡ true)
       differs_reached var on d =
           let w = closed_in (suc (length p.variables)) 0 (omega arith) in

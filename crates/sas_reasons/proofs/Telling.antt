@@ -1,4 +1,4 @@
--- Lines with each line of a rule once: none is lost, and no line of a rule stands twice.
+-- Removing repeated lines of rules: no line is lost, and no line of a rule remains twice.
 use Rattle.std.proofs.Common.{◌≡◌, ◌≢◌, ℕ, suc, ◌<◌, ◌⊎◌, Bool, true, false, List, [], ◌∷◌, ◌++◌, get_or, sym, ◌∙◌, ap, subst, inl, inr, arith}
 use Rattle.std.specs.Prelude.{if◌then◌else◌}
 use Rattle.std.specs.List.{Contains, AllPairs, list_any}
@@ -17,7 +17,7 @@ use Rattle.sas_reasons.proofs.Sorting.{contains_head, contains_tail, contains_ca
 abbrev pub is_among : List Line → Line → Bool
 is_among lines next = list_any (is_same_rule_line next) lines
 
--- then it is among the lines; and a line of a rule that is among them is left out
+-- it is left out only if it is among the lines; a line of a rule that is among them is left out
 pub among_is : (lines : List Line) (next : Line) → is_among lines next ≡ true → Contains lines next
 among_is lines next is =
     let w = Any-from_list_any (is_same_rule_line next) lines is in
@@ -35,7 +35,7 @@ line_else lines next is = ap (λ b. if b then lines else lines ++ next ∷ []) i
 
 -- ---- which lines there are
 
--- with the next line there are those before, and it
+-- adding the next line keeps the lines before, and has it
 line_is : (lines : List Line) (next z : Line) → Contains (with_line lines next) z → Contains lines z ⊎ (next ≡ z)
 line_is lines next z h = elim (cases_Bool (is_among lines next)) [
   | inl among ↦ inl (subst (λ (l : List Line). Contains l z) (line_then lines next among) h)
@@ -84,7 +84,7 @@ none_is_lost lines z = (
   (λ h. are_lines [] lines z h),
 )
 
--- ---- no line of a rule stands twice
+-- ---- no line of a rule remains twice
 
 abbrev Differ : Line → Line → Type 0
 Differ a b = is_rule_line a ≡ true → a ≢ b

@@ -1,4 +1,4 @@
--- The fault of a plan is told, in one way.
+-- The fault of a plan has exactly one list of reasons.
 use Rattle.std.proofs.Common.{◌≡◌, ℕ, ◌-◌, ◌<◌, List, [], ◌∷◌, ◌++◌, length, take, Option, refl, sym, ◌∙◌, ap, subst, inl, inr, arith}
 use Rattle.std.specs.Option.{option_map_or}
 use Rattle.std.proofs.Math.Seq.{take-append_seam}
@@ -43,7 +43,7 @@ some_each Tells some (item ∷ items) =
     let others = some_each Tells some items in
     (its.0 ++ others.0, (its.0, others.0, its.1, others.1, refl))
 
--- ---- one way
+-- ---- at most one list
 
 behind_one : (first : Line) (Tells : List Line → Type 0) → ((a b : List Line) → Tells a → Tells b → a ≡ b) → (a b : List Line)
     → TellsBehind first Tells a → TellsBehind first Tells b → a ≡ b
@@ -100,7 +100,7 @@ one_why p plan fault a b layered x y = x.whole
     may : TellsOther p y.run x.others
     may = subst (λ run. TellsOther p run x.others) same x.may
 
--- ---- some way
+-- ---- at least one list
 
 -- steps lead to settled states
 goes_settled : (p : Parts) (s : List ℕ) (names : List (List ℕ)) (operators last : List ℕ) → IsSettled p s → GoThrough p s names operators last → IsSettled p last
@@ -116,7 +116,7 @@ some_other p run = elim (some_may_mean p run) [
 ]
 
 module _ (p : Parts) (plan : PlanParts) (layered : IsLayered p) where
-  -- what is told of a run that leads to the fault
+  -- the reasons after a run that leads to the fault
   from_run : (fault : PlanFault) (run : Run) → run.steps ≡ steps_before plan fault → GoesThrough p run
       → ((lines : List Line) × TellsFault p plan run fault lines) → (lines : List Line) × IsWhy p plan fault lines
   from_run fault run went through told =
@@ -146,7 +146,7 @@ module _ (p : Parts) (plan : PlanParts) (layered : IsLayered p) where
         some = (let e = w.1.states in omega arith);
       }
 
-  -- the steps before the one to which the plan comes
+  -- the steps before the one with the fault
   led_to_step : (step : ℕ) (s name : List ℕ) → ComesTo p plan.steps step s name → Led (take (step - 1) plan.steps) s
   led_to_step step s name comes = subst (λ steps. Led steps s) (sym is) (led comes.before comes.operators s comes.leads)
     where

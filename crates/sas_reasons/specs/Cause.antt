@@ -1,4 +1,4 @@
--- The cause of a fact that fails in the last state of a run.
+-- The cause of a fact that doesn't hold in the last state of a run.
 use Rattle.std.specs.Prelude.{◌≡◌, ℕ, zero, suc, ◌==◌, ◌&&◌, Bool, true, false, not, if◌then◌else◌, is_some}
 use Rattle.std.specs.Prelude.{List, [], ◌∷◌, ◌++◌, map, flat_map, find, slice_index}
 use Rattle.std.specs.List.{list_any}
@@ -17,7 +17,7 @@ use Rattle.sas_run.specs.Runs.{Run, last_state}
 use Rattle.sas_reasons.specs.Since.{IsSince}
 use Rattle.sas_reasons.specs.Derivation.{can_give, IsDerivation}
 
--- whether the fact fails
+-- whether the fact doesn't hold
 abbrev pub fails : List ℕ → Fact → Bool
 fails s fact = not (slice_index s fact.var == fact.value)
 
@@ -29,18 +29,18 @@ is_derived p var = is_some (layer_of p.variables var)
 abbrev pub actual_fact : List ℕ → ℕ → Fact
 actual_fact s var = record { var = var; value = slice_index s var }
 
--- since which step it has been so, where 0 is the initial state
+-- the line with the step since which the variable has its value; 0 is the initial state
 abbrev pub since_line : ℕ → Line
 since_line zero = line.SinceInitialState
 since_line (suc before) = line.SinceStep (suc before)
 
 -- ---- the rules that give a derived variable its value
 
--- whether the variable is derived and hasn't its default
+-- whether the variable is derived and differs from its default
 abbrev pub is_given : Parts → List ℕ → ℕ → Bool
 is_given p s var = is_derived p var && differs p s var
 
--- if it is so, a line for each rule of the variable's derivation
+-- in this case, a line for each rule of the variable's derivation
 abbrev pub TellsGivers : Bool → Parts → List ℕ → ℕ → List Line → Type 0
 TellsGivers false p s var lines = lines ≡ []
 TellsGivers true p s var lines =
@@ -48,7 +48,7 @@ TellsGivers true p s var lines =
 
 -- ---- the rules that don't derive the required value
 
--- a line for the first condition of the rule that fails
+-- a line for the first condition of the rule that doesn't hold
 abbrev pub failing_lines : Parts → List ℕ → ℕ → List Line
 failing_lines p s rule = option_map_or (λ condition. line.RuleRequires rule condition ∷ [])
     (find (fails s) (rule_at p rule).conditions) []
@@ -58,13 +58,13 @@ abbrev pub can_be_given : Parts → Fact → Bool
 can_be_given p fact =
     list_any (λ (rule : Rule). can_give p fact.var rule && (rule.new == fact.value)) p.rules
 
--- a line for each rule of the variable that can fire, or that none of them derives the value
+-- a line for each rule of the variable that can fire, or the line that no rule derives the value
 abbrev pub keeping_lines : Parts → List ℕ → Fact → List Line
 keeping_lines p s fact = if can_be_given p fact
     then flat_map (failing_lines p s) (places (can_give p fact.var) p.rules)
     else line.NoRuleDerives ∷ []
 
--- these lines, where another value than the default of a derived variable is required
+-- these lines if the fact is on a derived variable and its value isn't the default
 abbrev pub missing_lines : Parts → List ℕ → Fact → List Line
 missing_lines p s fact = if is_derived p fact.var && not (fact.value == default_of p fact.var)
     then keeping_lines p s fact
@@ -72,7 +72,7 @@ missing_lines p s fact = if is_derived p fact.var && not (fact.value == default_
 
 -- ---- the cause
 
--- the lines of the cause of a fact that fails in the last state of the run
+-- the lines of the cause of a fact that doesn't hold in the last state of the run
 pub record IsCause (p : Parts) (run : Run) (fact : Fact) (lines : List Line) : Type 0 where
   pub since : ℕ
   pub last_change : IsSince run fact.var since

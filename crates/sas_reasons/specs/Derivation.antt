@@ -1,8 +1,8 @@
--- Where a derived variable has its value from, in a settled state, if that isn't its default.
+-- Why a derived variable has its value in a settled state, if it differs from its default.
 --
--- The rules of a layer fire in rounds. In each round the variables are reached that have a rule
--- whose conditions hold with those that were reached before. So what explains a variable comes
--- before it: b from c and c from b don't explain each other.
+-- The rules of a layer fire in rounds. A round reaches each variable with a rule whose conditions
+-- hold with the variables reached before. So a variable is explained only by variables that are
+-- reached before it: the rules "b from c" and "c from b" don't explain each other.
 use Rattle.std.specs.Prelude.{◌≡◌, ◌≢◌, ◌⊎◌, ℕ, zero, suc, ◌+◌, ◌<◌, ◌==◌, ◌&&◌, Bool, false, IsTrue}
 use Rattle.std.specs.Prelude.{List, length, All, AllPairs, Contains}
 use Rattle.std.specs.List.{list_all, list_any}
@@ -19,17 +19,17 @@ use Rattle.sas_reasons.specs.Lowest.{IsLowest}
 abbrev pub all_hold : (ℕ → ℕ) → List Fact → Bool
 all_hold value facts = list_all (λ (f : Fact). value f.var == f.value) facts
 
--- whether a rule is one of the variable that can fire
+-- whether the rule is one of the variable and can fire
 abbrev pub can_give : Parts → ℕ → Rule → Bool
 can_give p var rule = (rule.var == var) && can_fire p rule
 
--- whether such a rule's conditions hold with these members of the layer
+-- whether such a rule fires if exactly these members of the layer differ from their defaults
 abbrev pub fires_with : Parts → ℕ → List ℕ → (ℕ → Bool) → ℕ → Rule → Bool
 fires_with p layer s members var rule =
     can_give p var rule && all_hold (value_with p layer s members) rule.conditions
 
--- whether a variable of the layer is reached in this many rounds: in no round none is, and in one
--- more each that has a rule that fires with those reached before
+-- whether a variable of the layer is reached in this many rounds: 0 rounds reach none, and one more
+-- round reaches each variable with a rule that fires with those reached before
 abbrev pub reached : Parts → ℕ → List ℕ → ℕ → ℕ → Bool
 reached p layer s zero var = false
 reached p layer s (suc rounds) var = is_on_layer p layer var
@@ -44,20 +44,20 @@ pub record Stands (p : Parts) (s : List ℕ) (var layer rank : ℕ) : Type 0 whe
   pub on : IsOnLayer p layer var
   pub ranked : IsRank p layer s var rank
 
--- the rule at this place is one of the variable's that fires in the round behind these
+-- the rule is one of the variable and fires in the next round after these
 pub record FiresNext (p : Parts) (s : List ℕ) (var layer rounds rule : ℕ) : Type 0 where
   pub exists : rule < length p.rules
   pub fires : IsTrue (fires_with p layer s (reached p layer s rounds) var (rule_at p rule))
 
 -- the rule that gives the variable its value: the lowest of its rules that fires in the round that
--- reaches it, and so with the variables of lower rank
+-- reaches it, and so only with variables of lower rank
 pub record IsGivenBy (p : Parts) (s : List ℕ) (var rule : ℕ) : Type 0 where
   pub layer : ℕ
   pub before : ℕ
   pub stands : Stands p s var layer (before + 1)
   pub lowest : IsLowest (FiresNext p s var layer before) rule
 
--- a condition of the rule requires another value of this derived variable than its default
+-- a condition of the rule requires a value of this derived variable that isn't its default
 pub record RestsOn (p : Parts) (rule var : ℕ) : Type 0 where
   pub condition : Fact
   pub among : Contains (rule_at p rule).conditions condition
@@ -65,14 +65,14 @@ pub record RestsOn (p : Parts) (rule var : ℕ) : Type 0 where
   pub derived : IsDerived p.variables var
   pub other : condition.value ≢ default_of p var
 
--- the derivation of a variable has the variable, and with each of its variables those on which the
--- rule rests that gives it its value
+-- The derivation of a variable contains the variable itself, and with each variable also those on
+-- which the rule rests that gives this variable its value.
 pub data InDerivation (p : Parts) (s : List ℕ) (var : ℕ) : ℕ → Type 0 where
   Itself : InDerivation p s var var
   Below : {u w : ℕ} (rule : ℕ) → InDerivation p s var u → IsGivenBy p s u rule → RestsOn p rule w
       → InDerivation p s var w
 
--- the order: by layers, then by ranks, then by numbers
+-- the order: by layer, then by rank, then by number
 abbrev pub IsLess : (layer rank var layer' rank' var' : ℕ) → Type 0
 IsLess layer rank var layer' rank' var' = (layer < layer')
     ⊎ ((layer ≡ layer') × ((rank < rank') ⊎ ((rank ≡ rank') × (var < var'))))
@@ -92,7 +92,7 @@ abbrev pub IsRuleOf : Parts → List ℕ → ℕ → ℕ → Type 0
 IsRuleOf p s var rule = InDerivation p s var (rule_at p rule).var
     × IsGivenBy p s (rule_at p rule).var rule
 
--- these are the rules that give the variables of a derivation their values, in order
+-- the rules that give the variables of a derivation their values, in order
 pub record IsDerivation (p : Parts) (s : List ℕ) (var : ℕ) (rules : List ℕ) : Type 0 where
   pub each : All (IsRuleOf p s var) rules
   pub whole : (rule : ℕ) → IsRuleOf p s var rule → Contains rules rule

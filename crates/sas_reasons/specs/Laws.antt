@@ -1,4 +1,4 @@
--- What follows from the definitions: each reason is one, there is one, and none goes in a circle.
+-- What follows from the definitions: each reason exists, is unique, and isn't circular.
 use Rattle.std.specs.Prelude.{◌≡◌, ◌≢◌, ◌⊎◌, ◌↔◌, ℕ, ◌<◌, ◌≤◌, IsTrue, List, [], ◌∷◌, ◌++◌}
 use Rattle.std.specs.Prelude.{length, Option, Some, find, All, AllPairs, Contains, slice_index}
 use Rattle.sas_core.specs.declared.parts.Operator.{Operator}
@@ -29,11 +29,11 @@ use Rattle.sas_reasons.specs.WhyPlan.{failing, operators_of, IsWhy}
 
 -- ---- since when a variable has its value
 
--- in a run with a state there is a last change of each variable
+-- in a run with at least one state, each variable has a last change
 abbrev pub SomeSince : Type 0
 SomeSince = (run : Run) (var : ℕ) → 0 < length run.states → (since : ℕ) × IsSince run var since
 
--- and only one
+-- in a run each variable has at most one last change
 abbrev pub OneSince : Type 0
 OneSince = (run : Run) (var a b : ℕ) → IsSince run var a → IsSince run var b → a ≡ b
 
@@ -42,16 +42,16 @@ abbrev pub SameSince : Type 0
 SameSince = (run : Run) (var since : ℕ) → IsSince run var since → (later : ℕ) → since ≤ later
     → later < length run.states → value_at run later var ≡ value_at run since var
 
--- ---- names that are nearly the same
+-- ---- similar names
 
--- a space at the end of a name counts for nothing, and a folded name stays as it is
+-- folding ignores a space at the end of a name, and folding a folded name changes nothing
 abbrev pub SpaceFolds : Type 0
 SpaceFolds = (name : List ℕ) → folded (name ++ 32 ∷ []) ≡ folded name
 
 abbrev pub FoldsOnce : Type 0
 FoldsOnce = (name : List ℕ) → folded (folded name) ≡ folded name
 
--- there is a lowest operator whose name is like a name, or none
+-- there is a lowest operator with a similar name, or none; it is unique
 abbrev pub SomeLike : Type 0
 SomeLike = (p : Parts) (name : List ℕ) → (like : Option ℕ) × IsLike p name like
 
@@ -60,40 +60,40 @@ OneLike = (p : Parts) (name : List ℕ) (a b : Option ℕ) → IsLike p name a �
 
 -- ---- which other operator a step may mean
 
--- some step of a run may mean another operator, or none may
+-- some step of a run may mean another operator, or no step may
 abbrev pub SomeMayMean : Type 0
 SomeMayMean = (p : Parts) (run : Run) → ((step operator : ℕ) × MayMean p run step operator)
     ⊎ ((k : ℕ) → HasOther p run k → ⊥)
 
--- the first is one, and so is the operator
+-- the first such step is unique, and so is its operator
 abbrev pub OneMayMean : Type 0
 OneMayMean = (p : Parts) (run : Run) (step operator step' operator' : ℕ)
     → MayMean p run step operator → MayMean p run step' operator'
     → (step ≡ step') × (operator ≡ operator')
 
--- ---- where a derived variable has its value from, in a settled state of a layered task
+-- ---- why a derived variable has its value, in a settled state of a layered task
 
 -- a variable of a layer has a rank exactly if it differs from its default
 abbrev pub RankIfDiffers : Type 0
 RankIfDiffers = (p : Parts) (s : List ℕ) (layer var : ℕ) → IsLayered p → IsSettled p s
     → IsOnLayer p layer var → ((rank : ℕ) × IsRank p layer s var rank) ↔ IsTrue (differs p s var)
 
--- and only one
+-- a variable has at most one rank on a layer
 abbrev pub OneRank : Type 0
 OneRank = (p : Parts) (s : List ℕ) (layer var a b : ℕ) → IsRank p layer s var a
     → IsRank p layer s var b → a ≡ b
 
--- then a rule gives it its value
+-- a rule gives such a variable its value
 abbrev pub SomeGiver : Type 0
 SomeGiver = (p : Parts) (s : List ℕ) (layer var : ℕ) → IsLayered p → IsSettled p s
     → IsOnLayer p layer var → IsTrue (differs p s var) → (rule : ℕ) × IsGivenBy p s var rule
 
--- and only one
+-- at most one rule gives a variable its value
 abbrev pub OneGiver : Type 0
 OneGiver = (p : Parts) (s : List ℕ) (var a b : ℕ) → IsGivenBy p s var a → IsGivenBy p s var b
     → a ≡ b
 
--- its conditions hold in the state, and what it sets is the variable's value there
+-- the conditions of this rule hold in the state, and it sets the variable's value there
 abbrev pub GiverFires : Type 0
 GiverFires = (p : Parts) (s : List ℕ) (var rule : ℕ) → IsLayered p → IsSettled p s
     → IsGivenBy p s var rule
@@ -109,28 +109,28 @@ pub record AsksLower (p : Parts) (var : ℕ) (condition : Fact) : Type 0 where
   pub asked : IsOnLayer p there condition.var
   pub lower : there < here
 
--- a condition requires another value than the default of a variable that comes before this one
+-- a condition requires a value other than the default of a variable that comes before this one
 pub record AsksEarlier (p : Parts) (s : List ℕ) (var : ℕ) (condition : Fact) : Type 0 where
   pub other : condition.value ≢ default_of p condition.var
   pub earlier : ComesBefore p s condition.var var
 
--- each of its conditions is on a basic variable, or is one of these
+-- each condition of this rule is on a basic variable, or is one of these
 abbrev pub GiverLooksDown : Type 0
 GiverLooksDown = (p : Parts) (s : List ℕ) (var rule : ℕ) → IsLayered p → IsSettled p s
     → IsGivenBy p s var rule
     → All (λ (c : Fact). IsBasic p c.var ⊎ (AsksLower p var c ⊎ AsksEarlier p s var c))
     (rule_at p rule).conditions
 
--- in a derivation all other variables come before the variable
+-- in the derivation of a variable all other variables come before it
 abbrev pub ItselfIsLast : Type 0
 ItselfIsLast = (p : Parts) (s : List ℕ) (var other : ℕ) → IsLayered p → IsSettled p s
     → InDerivation p s var other → (other ≡ var) ⊎ ComesBefore p s other var
 
--- nothing comes before itself, nor before what comes before it
+-- no two variables come before each other, and so none comes before itself
 abbrev pub NoCircle : Type 0
 NoCircle = (p : Parts) (s : List ℕ) (a b : ℕ) → ComesBefore p s a b → ComesBefore p s b a → ⊥
 
--- all of them differ from their defaults, if the variable does
+-- all variables in a derivation differ from their defaults if the derived one does
 abbrev pub AllDiffer : Type 0
 AllDiffer = (p : Parts) (s : List ℕ) (var other : ℕ) → IsLayered p → IsSettled p s
     → IsTrue (differs p s var) → InDerivation p s var other → IsTrue (differs p s other)
@@ -141,12 +141,12 @@ SomeDerivation = (p : Parts) (s : List ℕ) (layer var : ℕ) → IsLayered p �
     → IsOnLayer p layer var → IsTrue (differs p s var)
     → (rules : List ℕ) × IsDerivation p s var rules
 
--- and only one
+-- a variable has at most one derivation
 abbrev pub OneDerivation : Type 0
 OneDerivation = (p : Parts) (s : List ℕ) (var : ℕ) (a b : List ℕ) → IsDerivation p s var a
     → IsDerivation p s var b → a ≡ b
 
--- whose last rule is the one that gives the variable its value
+-- the last rule of a derivation gives the variable its value
 abbrev pub OwnRuleIsLast : Type 0
 OwnRuleIsLast = (p : Parts) (s : List ℕ) (var rule : ℕ) (rules : List ℕ) → IsLayered p
     → IsSettled p s → IsDerivation p s var rules → IsGivenBy p s var rule
@@ -154,53 +154,53 @@ OwnRuleIsLast = (p : Parts) (s : List ℕ) (var rule : ℕ) (rules : List ℕ) �
 
 -- ---- causes
 
--- a derived variable that hasn't a value which a rule can give it has its default
+-- if a rule can give a derived variable a value that it doesn't have, the variable has its default
 abbrev pub DefaultIfNotGiven : Type 0
 DefaultIfNotGiven = (p : Parts) (s : List ℕ) (fact : Fact) → IsLayered p → IsSettled p s
     → IsDerived p.variables fact.var → IsTrue (can_be_given p fact) → IsTrue (fails s fact)
     → slice_index s fact.var ≡ default_of p fact.var
 
--- and then each of its rules that can fire has a condition that fails
+-- each rule that can fire has a condition that doesn't hold if its variable has its default
 abbrev pub EachRuleFails : Type 0
 EachRuleFails = (p : Parts) (s : List ℕ) (rule : ℕ) → IsLayered p → IsSettled p s
     → rule < length p.rules → CanFire p (rule_at p rule)
     → slice_index s (rule_at p rule).var ≡ default_of p (rule_at p rule).var
     → (c : Fact) × (find (fails s) (rule_at p rule).conditions ≡ Some c)
 
--- an operator of which no precondition fails is applicable
+-- an operator is applicable if all its preconditions hold
 abbrev pub SomePreconditionFails : Type 0
 SomePreconditionFails = (s : List ℕ) (o : Operator) → failing s o ≡ [] → IsApplicable s o
 
--- the operators of a name are those that have exactly this name
+-- the operators of a name are those with exactly this name
 abbrev pub OperatorsHaveName : Type 0
 OperatorsHaveName = (p : Parts) (name : List ℕ) (operator : ℕ)
     → Contains (operators_of p name) operator ↔ IsNamed p name operator
 
--- the first goal fact that fails comes first
+-- the first goal fact that doesn't hold is reported first
 abbrev pub FirstGoalFact : Type 0
 FirstGoalFact = (p : Parts) (s : List ℕ) (index : ℕ) → IsFirstMissed (slice_index s) p.goal index
     → (behind : List ℕ) × (places (fails s) p.goal ≡ index ∷ behind)
 
 -- ---- conflicts
 
--- where the effects of an operator that fire don't agree, two conflict
+-- if the effects of an operator that fire don't agree, two of them conflict
 abbrev pub SomeConflict : Type 0
 SomeConflict = (s : List ℕ) (o : Operator) → (Agree s o.effects → ⊥)
     → (d e : ℕ) × IsConflict s o d e
 
--- and only one pair is the first that does
+-- only one pair is the first to conflict
 abbrev pub OneConflict : Type 0
 OneConflict = (s : List ℕ) (o : Operator) (d e d' e' : ℕ) → IsConflict s o d e
     → IsConflict s o d' e' → (d ≡ d') × (e ≡ e')
 
 -- ---- lines of rules
 
--- no line is lost, and none is made up
+-- removing repeated lines of rules loses no line and adds none
 abbrev pub NoneIsLost : Type 0
 NoneIsLost = (lines : List Line) (line : Line)
     → Contains (with_lines [] lines) line ↔ Contains lines line
 
--- and no line of a rule stands twice
+-- no line of a rule remains twice
 abbrev pub RulesToldOnce : Type 0
 RulesToldOnce = (lines : List Line)
     → AllPairs (λ a b. IsTrue (is_rule_line a) → a ≢ b) (with_lines [] lines)
@@ -212,7 +212,7 @@ abbrev pub SomeWhy : Type 0
 SomeWhy = (p : Parts) (plan : PlanParts) (fault : PlanFault) → IsLayered p
     → IsFaultOf p plan fault → (lines : List Line) × IsWhy p plan fault lines
 
--- and only these
+-- a fault has at most one list of reasons
 abbrev pub OneWhy : Type 0
 OneWhy = (p : Parts) (plan : PlanParts) (fault : PlanFault) (a b : List Line) → IsLayered p
     → IsWhy p plan fault a → IsWhy p plan fault b → a ≡ b

@@ -4,21 +4,21 @@ use Rattle.std.specs.List.{list_any}
 use Rattle.sas_wording.specs.declared.line.Line.{Line}
 use Rattle.sas_wording.specs.Line.{is_same_rule_line}
 
--- these lines and one more, unless it is a line of a rule that is among them
+-- these lines and one more, unless that is a line of a rule and already among them
 abbrev pub with_line : List Line → Line → List Line
 with_line lines next =
     if list_any (is_same_rule_line next) lines then lines else lines ++ next ∷ []
 
--- these lines and more of them, so one after another
+-- these lines and more lines, added one after another by `with_line`
 abbrev pub with_lines : List Line → List Line → List Line
 with_lines lines [] = lines
 with_lines lines (next ∷ more) = with_lines (with_line lines next) more
 
--- this line, and such lines behind it
+-- this line, followed by lines for which `Tells` holds
 abbrev pub TellsBehind : Line → (List Line → Type 0) → List Line → Type 0
 TellsBehind first Tells lines = (behind : List Line) × Tells behind × (lines ≡ first ∷ behind)
 
--- the lines of each item, one behind the other
+-- the lines of all items, one after another
 abbrev pub TellsEach : {A : Type 0} → (A → List Line → Type 0) → List A → List Line → Type 0
 TellsEach Tells [] lines = lines ≡ []
 TellsEach Tells (item ∷ items) lines = (its others : List Line)
@@ -26,13 +26,13 @@ TellsEach Tells (item ∷ items) lines = (its others : List Line)
     × TellsEach Tells items others
     × (lines ≡ its ++ others)
 
--- the places of the items that pass a test, ascending, where the first item has this place
+-- the indices of the items that pass a test, ascending, where the first item has this index
 abbrev pub places_from : {A : Type 0} → ℕ → (A → Bool) → List A → List ℕ
 places_from place passes [] = []
 places_from place passes (item ∷ items) = if passes item
     then place ∷ places_from (place + 1) passes items
     else places_from (place + 1) passes items
 
--- the places of the items that pass a test
+-- the indices of the items that pass a test, ascending
 abbrev pub places : {A : Type 0} → (A → Bool) → List A → List ℕ
 places passes items = places_from 0 passes items

@@ -1,5 +1,5 @@
--- Where a plan might have meant another operator. A step means the lowest applicable operator of
--- its name, though a higher one may be applicable, too.
+-- Which steps of a plan could also mean another operator. A step means the lowest applicable
+-- operator of its name, but a higher one may be applicable as well.
 use Rattle.std.specs.Prelude.{◌≡◌, ℕ, ◌+◌, ◌<◌, [], length, slice_index, slice_index_or}
 use Rattle.sas_core.specs.declared.parts.Parts.{Parts}
 use Rattle.sas_core.specs.Grounded.{operator_at}
@@ -8,8 +8,8 @@ use Rattle.sas_run.specs.Plans.{IsApplicable}
 use Rattle.sas_reasons.specs.Lowest.{IsLowest}
 use Rattle.sas_run.specs.Runs.{Run, state_at}
 
--- an operator above that of step k + 1 has the step's name too, and is applicable in the state
--- before the step
+-- `operator` is higher than the operator of step k + 1, has the same name, and is applicable in the
+-- state before the step
 pub record IsOther (p : Parts) (run : Run) (k operator : ℕ) : Type 0 where
   pub exists : k < length run.steps
   pub above : slice_index run.operators k < operator
@@ -20,8 +20,8 @@ pub record IsOther (p : Parts) (run : Run) (k operator : ℕ) : Type 0 where
 abbrev pub HasOther : Parts → Run → ℕ → Type 0
 HasOther p run k = (operator : ℕ) × IsOther p run k operator
 
--- the first step of the run, counted from 1, that may mean another operator, and the lowest that it
--- may mean
+-- the first step of the run, counted from 1, that may mean another operator, and the lowest such
+-- operator
 pub record MayMean (p : Parts) (run : Run) (step operator : ℕ) : Type 0 where
   pub before : ℕ
   pub place : step ≡ before + 1

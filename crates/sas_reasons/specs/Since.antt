@@ -1,4 +1,4 @@
--- Since when a variable has the value that it has in the last state of a run.
+-- Since which step a variable has its value in the last state of a run.
 use Rattle.std.specs.Prelude.{◌≡◌, ◌≢◌, ℕ, ◌+◌, ◌<◌, ◌≤◌, length, slice_index}
 use Rattle.sas_run.specs.Runs.{Run, state_at}
 
@@ -6,8 +6,8 @@ use Rattle.sas_run.specs.Runs.{Run, state_at}
 abbrev pub value_at : Run → ℕ → ℕ → ℕ
 value_at run number var = slice_index (state_at run number) var
 
--- the last step that changed the variable's value, or 0, the start, if none did: a step that sets a
--- variable to the value that it has changes nothing
+-- the last step that changed the variable's value, or 0 (the initial state) if none did; a step
+-- that sets a variable to the value that it has already doesn't change it
 pub record IsSince (run : Run) (var since : ℕ) : Type 0 where
   pub exists : since < length run.states
   pub changed : (before : ℕ) → since ≡ before + 1

@@ -1,4 +1,4 @@
--- Why a plan isn't valid: the lines of reasons behind its verdict.
+-- Why a plan isn't valid: the lines of reasons after its verdict.
 use Rattle.std.specs.Prelude.{◌≡◌, ◌⊎◌, ℕ, ◌-◌, List, [], ◌∷◌, ◌++◌, length}
 use Rattle.std.specs.Prelude.{filter, sum_by, slice_index_or, bytes_eq, Option}
 use Rattle.std.specs.Option.{option_map_or}
@@ -23,7 +23,7 @@ use Rattle.sas_reasons.specs.Conflicts.{IsConflict}
 
 -- ---- no operator of that name
 
--- a line for the operator whose name is like this one, if there is one
+-- a line for the lowest operator with a similar name, if any
 abbrev pub TellsLike : Parts → List ℕ → List Line → Type 0
 TellsLike p name lines = (like : Option ℕ)
     × IsLike p name like
@@ -31,11 +31,11 @@ TellsLike p name lines = (like : Option ℕ)
 
 -- ---- not applicable
 
--- the preconditions of an operator that fail in a state
+-- the preconditions of an operator that don't hold in a state
 abbrev pub failing : List ℕ → Operator → List Fact
 failing s o = filter (fails s) (preconditions o)
 
--- the operator, and the cause of each of its preconditions that fails
+-- the operator, and the cause of each of its preconditions that doesn't hold
 abbrev pub TellsInapplicable : Parts → Run → ℕ → List Line → Type 0
 TellsInapplicable p run operator lines = TellsBehind (line.Operator operator)
     (TellsEach (IsCause p run) (failing (last_state run) (operator_at p operator))) lines
@@ -44,13 +44,13 @@ TellsInapplicable p run operator lines = TellsBehind (line.Operator operator)
 abbrev pub operators_of : Parts → List ℕ → List ℕ
 operators_of p name = places (λ (o : Operator). bytes_eq o.name name) p.operators
 
--- such lines for each operator of the name
+-- these lines for each operator of the name
 abbrev pub TellsOperators : Parts → Run → List ℕ → List Line → Type 0
 TellsOperators p run name lines = TellsEach (TellsInapplicable p run) (operators_of p name) lines
 
 -- ---- conflicting effects
 
--- the operator, and its two effects that conflict
+-- the operator, and two of its effects that conflict
 abbrev pub TellsConflict : Parts → List ℕ → ℕ → List Line → Type 0
 TellsConflict p s operator lines = (d e : ℕ)
     × IsConflict s (operator_at p operator) d e
@@ -61,16 +61,16 @@ TellsConflict p s operator lines = (d e : ℕ)
 
 -- ---- goal fact not reached
 
--- the goal fact at this place; behind the last one, that variable 0 has value 0
+-- the goal fact with this index; if the index is out of range, variable 0 with value 0
 abbrev pub goal_fact_at : Parts → ℕ → Fact
 goal_fact_at p index = slice_index_or p.goal index (record { var = 0; value = 0 })
 
--- the goal fact at this place, and its cause
+-- the goal fact with this index, and its cause
 abbrev pub TellsGoalFact : Parts → Run → ℕ → List Line → Type 0
 TellsGoalFact p run index lines =
     TellsBehind (line.GoalFact index) (IsCause p run (goal_fact_at p index)) lines
 
--- such lines for each goal fact that fails
+-- these lines for each goal fact that doesn't hold
 abbrev pub TellsGoal : Parts → Run → List Line → Type 0
 TellsGoal p run lines =
     TellsEach (TellsGoalFact p run) (places (fails (last_state run)) p.goal) lines
@@ -81,14 +81,14 @@ TellsGoal p run lines =
 abbrev pub cost_lines_sum : Parts → List ℕ → ℕ
 cost_lines_sum p operators = sum_by (λ operator. (operator_at p operator).cost) operators
 
--- the task's metric, the number of steps, and that sum
+-- the task's metric, the number of steps, and this sum
 abbrev pub cost_lines : Parts → Run → List Line
 cost_lines p run =
     line.Metric ∷ line.Steps (length run.steps) ∷ line.CostLines (cost_lines_sum p run.operators) ∷ []
 
--- ---- behind each of them
+-- ---- after each of these
 
--- a line for the first step that could also be another operator, if there is one
+-- a line for the first step that could also mean another operator, if any
 abbrev pub TellsOther : Parts → Run → List Line → Type 0
 TellsOther p run lines =
     ((step operator : ℕ) × MayMean p run step operator × (lines ≡ line.CouldBe step operator ∷ []))
@@ -96,7 +96,7 @@ TellsOther p run lines =
 
 -- ---- why
 
--- the lines for this fault, where these steps went through (refused memory is no fault)
+-- the lines for this fault, after a run of the steps before it (`Memory` is no fault of a plan)
 abbrev pub TellsFault : Parts → PlanParts → Run → PlanFault → List Line → Type 0
 TellsFault p plan run (NoOperator step) lines =
     TellsBehind (line.Step step) (TellsLike p (step_at plan (step - 1))) lines
@@ -108,7 +108,7 @@ TellsFault p plan run (GoalMissed index) lines = TellsGoal p run lines
 TellsFault p plan run (CostDiffers sum) lines = lines ≡ cost_lines p run
 TellsFault p plan run Memory lines = ⊥
 
--- the lines of reasons behind the verdict on a plan with this fault
+-- the lines of reasons after the verdict on a plan with this fault
 pub record IsWhy (p : Parts) (plan : PlanParts) (fault : PlanFault) (lines : List Line)
     : Type 0 where
   pub run : Run

@@ -6,16 +6,16 @@ ghost use Rattle.sas_reasons.specs.Laws.{ItselfIsLast, NoCircle, AllDiffer, Some
 ghost use Rattle.sas_reasons.specs.Laws.{DefaultIfNotGiven, EachRuleFails, SomePreconditionFails, OperatorsHaveName};
 ghost use Rattle.sas_reasons.specs.Laws.{FirstGoalFact, SomeConflict, OneConflict, NoneIsLost, RulesToldOnce, SomeWhy, OneWhy};
 
-/// Ensures the laws of changes. Each variable has one last change in a run, and from there on one value.
+/// Ensures the laws of changes. In a run each variable has exactly one last change, and keeps its value from there on.
 pub fn since_laws()
     ensures some_since { SomeSince }
     ensures one_since { OneSince }
     ensures same_since { SameSince }
 {}
 
-/// Ensures the laws of names. Spaces at the end of a name count for nothing, and to fold a name twice is to fold it once. Of
-/// the operators whose names are like a name there is one lowest, or none. So it is of the first step that may mean another
-/// operator, and of the operator that it may mean.
+/// Ensures the laws of similar names. Folding ignores spaces at the end of a name, and folding a folded name changes nothing. Either no
+/// operator has a similar name, or exactly one is the lowest. Either no step could also mean another operator, or exactly one is the first,
+/// and the lowest such operator is unique.
 pub fn name_laws()
     ensures space { SpaceFolds }
     ensures once { FoldsOnce }
@@ -26,13 +26,13 @@ pub fn name_laws()
 {}
 
 /// Ensures the laws of derivations, in a settled state of a layered task.
-/// - A derived variable has a rank exactly if it differs from its default, and only one.
-/// - Then one rule gives it its value: its conditions hold in the state, and it sets the value that the variable has.
-/// - Each condition of that rule is on a basic variable, or requires the default of a variable on a lower layer, or another
-///   value of a variable that comes before.
-/// - In a derivation each variable differs from its default, and all others come before the one that is derived. Nothing comes
+/// - A derived variable has a rank exactly if it differs from its default, and at most one rank.
+/// - In this case exactly one rule gives the variable its value: its conditions hold in the state, and it sets this value.
+/// - Each condition of this rule is on a basic variable, or requires the default of a variable on a lower layer, or requires another value
+///   of a variable that comes before.
+/// - In a derivation each variable differs from its default, and all other variables come before the one that is derived. No variable comes
 ///   before itself.
-/// - A derived variable that differs from its default has one derivation, whose last rule is the one that gives it its value.
+/// - A derived variable that differs from its default has exactly one derivation, whose last rule gives it its value.
 pub fn derivation_laws()
     ensures rank { RankIfDiffers }
     ensures one_rank { OneRank }
@@ -49,12 +49,12 @@ pub fn derivation_laws()
 {}
 
 /// Ensures the laws of causes.
-/// - A derived variable that hasn't a value which a rule can give it has its default, and then each of its rules that can fire
-///   has a condition that fails.
-/// - An operator that isn't applicable has a precondition that fails. The operators of a name have exactly this name. The first
-///   goal fact that is reported is the first that fails.
-/// - Where effects that fire don't agree, two conflict, and only two are reported.
-/// - With each line of a rule once no line is lost, and none of a rule stands twice.
+/// - If a rule can give a derived variable a value that it doesn't have, the variable has its default, and each of its rules that can fire
+///   has a condition that doesn't hold.
+/// - An operator that isn't applicable has a precondition that doesn't hold. The operators of a name have exactly this name. The first goal
+///   fact that is reported is the first that doesn't hold.
+/// - If effects that fire don't agree, two of them conflict, and exactly one such pair is reported.
+/// - Removing repeated lines of rules loses no line, and leaves each line of a rule once.
 pub fn cause_laws()
     ensures default { DefaultIfNotGiven }
     ensures each_fails { EachRuleFails }
@@ -67,7 +67,7 @@ pub fn cause_laws()
     ensures rules_once { RulesToldOnce }
 {}
 
-/// Ensures that each fault of a plan of a layered task has one list of lines of reasons.
+/// Ensures that each fault of a plan of a layered task has exactly one list of reasons.
 pub fn why_laws()
     ensures some { SomeWhy }
     ensures one { OneWhy }

@@ -1,4 +1,4 @@
-//! Why a plan isn't valid: the lines that follow a verdict that says no.
+//! Defines why a plan isn't valid: the lines that `--why` prints after the verdict.
 #![tactic(auto)]
 
 mod laws;

@@ -1,4 +1,4 @@
--- Which operator a name means, and which fact fails first, can be told.
+-- It is decidable which operator a name means, and which fact is the first that doesn't hold.
 use Rattle.std.proofs.Common.{◌≡◌, ℕ, zero, suc, ◌<◌, ◌⊎◌, List, [], ◌∷◌, length, slice_index, slice_index_or, bytes_eq, subst, inl, inr, arith}
 use Rattle.std.proofs.lemmas.Bool.{cases_eq, cases_lt, cases_Bool}
 use Rattle.std.proofs.lemmas.Slice.Eq.{bytes_eq-Decides}
@@ -27,7 +27,7 @@ named_or_not p name operator = elim (cases_lt operator (length p.operators)) [
 pub applicable_or_not : (p : Parts) (s : List ℕ) (operator : ℕ) → IsApplicable s (operator_at p operator) ⊎ (IsApplicable s (operator_at p operator) → ⊥)
 applicable_or_not p s operator = hold_or_not (slice_index s) (preconditions (operator_at p operator))
 
--- the operators below n, of which one has the name, or none
+-- one of the operators below n has the name, or none of them
 named_below : (p : Parts) (name : List ℕ) (n : ℕ) → ((operator : ℕ) × IsNamed p name operator) ⊎ ((operator : ℕ) → operator < n → IsNamed p name operator → ⊥)
 named_below p name zero = inr (λ operator lt. absurd (omega arith))
 named_below p name (suc n) = elim (named_below p name n) [
@@ -41,14 +41,14 @@ named_below p name (suc n) = elim (named_below p name n) [
   ]
 ]
 
--- some operator has the name, or none
+-- some operator has the name, or none of them
 pub named_or_none : (p : Parts) (name : List ℕ) → ((operator : ℕ) × IsNamed p name operator) ⊎ ((operator : ℕ) → IsNamed p name operator → ⊥)
 named_or_none p name = elim (named_below p name (length p.operators)) [
   | inl w ↦ inl w
   | inr none ↦ inr (λ operator is. none operator is.exists is)
 ]
 
--- the operators below n, of which one is chosen, or none has the name and is applicable
+-- one of the operators below n is chosen, or none has the name and is applicable
 chosen_below : (p : Parts) (s name : List ℕ) (n : ℕ)
     → ((operator : ℕ) × IsChosen p s name operator) ⊎ ((operator : ℕ) → operator < n → IsNamed p name operator → IsApplicable s (operator_at p operator) → ⊥)
 chosen_below p s name zero = inr (λ operator lt. absurd (omega arith))
@@ -76,7 +76,7 @@ chosen_or_none p s name = elim (chosen_below p s name (length p.operators)) [
   | inr none ↦ inr (λ operator is can. none operator is.exists is can)
 ]
 
--- all facts hold, or one is the first that fails
+-- all facts hold, or one is the first that doesn't
 pub hold_or_missed : (value : ℕ → ℕ) (facts : List Fact) → AllHold value facts ⊎ ((index : ℕ) × IsFirstMissed value facts index)
 hold_or_missed value [] = inl (All-nil (Holds value))
 hold_or_missed value (f ∷ fs) = elim (cases_eq (value f.var) f.value) [
@@ -94,7 +94,7 @@ hold_or_missed value (f ∷ fs) = elim (cases_eq (value f.var) f.value) [
 pub no_fact : Fact
 no_fact = record { var = 0; value = 0 }
 
--- the first that fails is one
+-- there is at most one first fact that doesn't hold
 pub first_missed_is_one : (value : ℕ → ℕ) (facts : List Fact) (a b : ℕ) → IsFirstMissed value facts a → IsFirstMissed value facts b → a ≡ b
 first_missed_is_one value facts a b x y = elim (cases_lt a b) [
   | inl lt ↦ absurd (x.missed no_fact (y.before a no_fact lt))
@@ -104,6 +104,6 @@ first_missed_is_one value facts a b x y = elim (cases_lt a b) [
   ]
 ]
 
--- where all hold none fails
+-- if all facts hold, there is no first that doesn't
 pub none_missed : (value : ℕ → ℕ) (facts : List Fact) (index : ℕ) → AllHold value facts → IsFirstMissed value facts index → ⊥
 none_missed value facts index hold missed = missed.missed no_fact (hold index no_fact missed.exists)

@@ -1,4 +1,4 @@
--- Which facts are deleted while what is given is written into a state.
+-- The facts that are deleted while given values are written into a state.
 use Rattle.std.proofs.Common.{◌≡◌, ◌≢◌, ℕ, ◌+◌, ◌<◌, ◌≤◌, List, [], ◌∷◌, ◌++◌, length, get_or, set, Option, None, Some, refl, sym, ◌∙◌, ap, subst, inl, inr, arith}
 use Rattle.std.specs.List.{All, AllPairs}
 use Rattle.std.proofs.lemmas.Bool.{cases_eq}
@@ -12,7 +12,7 @@ use Rattle.sas_meaning.specs.Layers.{IsBasic}
 use Rattle.sas_meaning.specs.Following.{HaveGone}
 use Rattle.sas_run.specs.Given.{given_to, Replaces}
 
--- these facts are deleted so far, and nothing is given to their variables any more
+-- these facts are deleted so far, and their variables have no given value any more
 pub record DeletedSoFar (p : Parts) (given : List (Option ℕ)) (s s' : List ℕ) (deleted : List Fact) : Type 0 where
   pub basic : All (λ (f : Fact). IsBasic p f.var) deleted
   pub exist : All (λ (f : Fact). f.var < length p.variables) deleted
@@ -40,13 +40,13 @@ deleted_in_the_end p given s s' deleted so_far = record {
   others = so_far.others;
 }
 
--- one fact more is deleted at most
+-- at most one more fact is deleted
 pub deleted_few : (s : List ℕ) (fact : Fact) (deleted deleted' : List Fact) → Replaces s fact deleted deleted' → length deleted' ≤ length deleted + 1
 deleted_few s fact deleted deleted' (inl same) = omega (arith, ap length same.1)
 deleted_few s fact deleted deleted' (inr other) =
     omega (arith, ap length other.1, length-append deleted ((record { var = fact.var; value = get_or s fact.var 0 }) ∷ []))
 
--- of a list with one item more
+-- for a list with one more item
 pub all_before : {X : Type 0} (P : X → Type 0) (xs : List X) (x : X) → All P (xs ++ x ∷ []) → All P xs
 all_before P xs x h = λ k d lt. subst P (get_or_append_left xs (x ∷ []) d k lt) (h k d (omega (arith, length-append xs (x ∷ []))))
 

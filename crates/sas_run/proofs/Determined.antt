@@ -1,4 +1,4 @@
--- The same steps go through in one way.
+-- Steps are executable in at most one way.
 use Rattle.std.proofs.Common.{◌≡◌, ℕ, ◌<◌, List, [], ◌∷◌, ◌++◌, length, refl, sym, ◌∙◌, ap, subst, inl, inr, arith}
 use Rattle.std.proofs.lemmas.Bool.{cases_lt}
 use Rattle.sas_core.specs.declared.parts.Parts.{Parts}
@@ -10,7 +10,7 @@ use Rattle.sas_meaning.proofs.Unique.{settled_is_one, step_is_one}
 use Rattle.sas_run.specs.Plans.{IsChosen, GoThrough, LeadsTo}
 use Rattle.sas_run.specs.Verdicts.{ComesTo}
 
--- the chosen operator is one
+-- there is at most one chosen operator
 pub chosen_is_one : (p : Parts) (s name : List ℕ) (a b : ℕ) → IsChosen p s name a → IsChosen p s name b → a ≡ b
 chosen_is_one p s name a b x y = elim (cases_lt a b) [
   | inl lt ↦ absurd (y.first a lt x.of_name x.applicable)
@@ -27,14 +27,14 @@ pub record GoesOn (p : Parts) (s name : List ℕ) : Type 0 where
   pub next : List ℕ
   pub step : Step p s (operator_at p operator) next
 
--- the steps before this name lead to a state in which it goes on
+-- the steps before this name lead to a state in which this name has a step
 pub record Passes (p : Parts) (s : List ℕ) (before : List (List ℕ)) (name : List ℕ) : Type 0 where
   pub operators : List ℕ
   pub there : List ℕ
   pub goes : GoThrough p s before operators there
   pub on : GoesOn p there name
 
--- steps that go through go through each of their names
+-- executable steps have a step at each of their names
 pub passes : (p : Parts) (s : List ℕ) (before : List (List ℕ)) (name : List ℕ) (behind : List (List ℕ)) (operators last : List ℕ)
     → GoThrough p s (before ++ name ∷ behind) operators last → Passes p s before name
 passes p s [] name behind [] last g = absurd g
@@ -45,7 +45,7 @@ passes p s (b ∷ bs) name behind (o ∷ os) last g =
     let r = passes p g.0 bs name behind os last g.3 in
     record { operators = o ∷ r.operators; there = r.there; goes = (g.0, g.1, g.2, r.goes); on = r.on }
 
--- of two places of a list the earlier one is before the later one
+-- of two indices of a list the lower one is before the other
 split_earlier : {A : Type 0} (before behind before' behind' : List A) (x x' : A) → before ++ x ∷ behind ≡ before' ++ x' ∷ behind'
     → length before < length before' → (between : List A) × (before' ≡ before ++ x ∷ between)
 split_earlier before behind [] behind' x x' e lt = absurd (omega arith)
@@ -68,7 +68,7 @@ split_same (b ∷ bs) behind (y ∷ ys) behind' x x' e same =
     (ap (λ z. z ∷ bs) head ∙ ap (λ zs. y ∷ zs) r.0, r.1)
 
 module _ (p : Parts) (layered : IsLayered p) where
-  -- the same steps from the same state go with the same operators to the same state
+  -- the same steps from the same state have the same operators and lead to the same state
   pub goes_one_way : (s : List ℕ) (names : List (List ℕ)) (a b x y : List ℕ) → GoThrough p s names a x → GoThrough p s names b y → (a ≡ b) × (x ≡ y)
   goes_one_way s [] [] [] x y g h = (refl, g ∙ sym h)
   goes_one_way s [] [] (q ∷ b) x y g h = absurd h
@@ -81,7 +81,7 @@ module _ (p : Parts) (layered : IsLayered p) where
       let r = goes_one_way g.0 ns a b x y g.3 (subst (λ z. GoThrough p z ns b y) (sym next) h.3) in
       (ap (λ k. k ∷ a) same ∙ ap (λ ks. q ∷ ks) r.0, r.1)
 
-  -- steps that go through go on at each of their names
+  -- executable steps have a step at each of their names
   pub goes_on : (s : List ℕ) (before : List (List ℕ)) (name : List ℕ) (behind : List (List ℕ)) (operators last first there : List ℕ)
       → GoThrough p s (before ++ name ∷ behind) operators last → GoThrough p s before first there → GoesOn p there name
   goes_on s before name behind operators last first there g h =
@@ -91,7 +91,7 @@ module _ (p : Parts) (layered : IsLayered p) where
   pub initial_is_one : (a b : List ℕ) → IsInitial p a → IsInitial p b → a ≡ b
   initial_is_one a b x y = settled_is_one p p.init a b layered x y
 
-  -- the same of steps from the initial state
+  -- the same for steps from the initial state
   pub leads_one_way : (steps : List (List ℕ)) (a b x y : List ℕ) → LeadsTo p steps a x → LeadsTo p steps b y → (a ≡ b) × (x ≡ y)
   leads_one_way steps a b x y g h =
       goes_one_way g.initial steps a b x y g.goes
@@ -103,12 +103,12 @@ module _ (p : Parts) (layered : IsLayered p) where
       goes_on g.initial before name behind operators last first there g.goes
       (subst (λ z. GoThrough p z before first there) (initial_is_one h.initial g.initial h.starts g.starts) h.goes)
 
-  -- steps that lead somewhere go on at each place to which they come
+  -- executable steps from the initial state have a step at each of their names
   pub comes_on : (steps : List (List ℕ)) (step : ℕ) (s name operators last : List ℕ) → LeadsTo p steps operators last → ComesTo p steps step s name → GoesOn p s name
   comes_on steps step s name operators last g c =
       leads_on c.before name c.behind operators last c.operators s (subst (λ names. LeadsTo p names operators last) c.whole g) c.leads
 
-  -- what comes to a place goes on at each earlier one
+  -- before a name that is reached, each name has a step
   pub comes_past : (steps : List (List ℕ)) (a b : ℕ) (s s' name name' : List ℕ) → a < b → ComesTo p steps a s name → ComesTo p steps b s' name' → GoesOn p s name
   comes_past steps a b s s' name name' lt c d =
       let at_a = c.place in
@@ -116,7 +116,7 @@ module _ (p : Parts) (layered : IsLayered p) where
       let r = split_earlier c.before c.behind d.before d.behind name name' (sym c.whole ∙ d.whole) (omega arith) in
       leads_on c.before name r.0 d.operators s' c.operators s (subst (λ names. LeadsTo p names d.operators s') r.1 d.leads) c.leads
 
-  -- the state and the name at a place are one
+  -- the state and the name before a step are unique
   pub comes_one_way : (steps : List (List ℕ)) (a b : ℕ) (s s' name name' : List ℕ) → a ≡ b → ComesTo p steps a s name → ComesTo p steps b s' name' → (s ≡ s') × (name ≡ name')
   comes_one_way steps a b s s' name name' same c d =
       let at_a = c.place in

@@ -1,4 +1,4 @@
--- How a plan ends: at a step that stops, or behind the last one.
+-- How a plan ends: at a step that fails, or after the last step.
 use Rattle.std.proofs.Common.{◌≡◌, ℕ, ◌+◌, ◌-◌, ◌<◌, List, [], length, take, drop, get_or, Option, Some, None, sym, ◌∙◌, ap, subst, arith}
 use Rattle.std.proofs.lemmas.List.{take_all}
 use Rattle.sas_core.specs.declared.parts.Parts.{Parts}
@@ -12,7 +12,7 @@ use Rattle.sas_run.specs.Verdicts.{ComesTo, IsFaultOf}
 use Rattle.sas_run.proofs.Going.{around, length_of_take}
 use Rattle.sas_run.proofs.Runs.{some_run}
 
--- where step k + 1 stops, that is the fault of the plan
+-- if step k + 1 fails, that is the fault of the plan
 module _ (p : Parts) (plan : PlanParts) (k : ℕ) (lt : k < length plan.steps) (operators s : List ℕ) (leads : LeadsTo p (take k plan.steps) operators s) where
   abbrev name : List ℕ
   name = get_or plan.steps k []
@@ -52,7 +52,7 @@ module _ (p : Parts) (plan : PlanParts) (k : ℕ) (lt : k < length plan.steps) (
       let made : length w.0.steps ≡ k = ap length w.2 ∙ length_of_take plan.steps k lt in
       (w.0, record { through = w.1; front = w.2 ∙ ap (λ n. take n plan.steps) (sym made) }, (is_fault fault stops, w.2 ∙ before fault stops), w.3)
 
--- behind the last step it is judged
+-- after the last step the goal and the cost are tested
 module _ (p : Parts) (plan : PlanParts) (operators s : List ℕ) (leads : LeadsTo p plan.steps operators s) where
   ends : (run : Run) → run.steps ≡ plan.steps → run.operators ≡ operators → (fault : Option PlanFault) → IsJudged p operators s plan.cost fault → EndsBy p plan run fault
   ends run whole by None is = (subst (λ os. IsValid p plan os) (sym by) (record { last = s; leads = leads; goal = is.0; cost = is.1 }), whole)

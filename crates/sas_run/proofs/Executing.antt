@@ -1,4 +1,4 @@
--- An execution goes on along its run.
+-- An execution advances along its run.
 use Rattle.std.proofs.Common.{◌≡◌, ℕ, ◌+◌, ◌<◌, ◌≤◌, List, [], length, get_or, Option, None, Result, Ok, Err, refl, sym, ◌∙◌, ap, subst, inl, inr, arith, rules}
 use Rattle.std.specs.Prelude.{vec_capacity}
 use Rattle.std.specs.Result.{IsOk}
@@ -42,7 +42,7 @@ module _ (run : Run) (e : Executed) (executes : Executes run e) where
   pub executed_fits : IsState e.task.variables e.state
   executed_fits = subst (IsState e.task.variables) (sym executes.state) (state_fits e.task run executes.of_plan.through e.made (omega (arith, executes.within, as_many)))
 
-  -- where no step is known its state is the initial one
+  -- if no step is known to succeed, the state is the initial one
   module _ (none : e.operators ≡ []) where
     pub none_made : e.made ≡ 0
     none_made = omega (arith, executes.within, ap length none)
@@ -62,7 +62,7 @@ module _ (run : Run) (e : Executed) (executes : Executes run e) where
     name_is = ap (λ names. get_or names e.made []) executes.of_plan.front ∙ get_or-take (length run.steps) e.plan.steps e.made [] within
 
     module _ (layered : IsLayered e.task) where
-      -- the next step goes on, by its operator, to the next state of the run
+      -- the next step leads, by its operator, to the next state of the run
       pub next_goes : GoesOn e.task e.state (next_name e) (next_operator e) (state_at run (e.made + 1))
       next_goes =
           let next = state_at run (e.made + 1) in
@@ -71,7 +71,7 @@ module _ (run : Run) (e : Executed) (executes : Executes run e) where
           (subst (λ o. GoesOn e.task (state_at run e.made) (get_or run.steps e.made []) o next) (ap (λ (os : List ℕ). get_or os e.made 0) executes.operators)
           (run_goes e.task run executes.of_plan.through layered e.made within)))
 
-      -- and so does the execution
+      -- and so the execution advances
       pub goes_along : (operator : ℕ) (new : Executed) → Advances e operator new → Executes run new
       goes_along operator new advances = record {
         of_plan = subst (λ p. IsRunOf p new.plan run) (sym advances.task) (subst (λ plan. IsRunOf e.task plan run) (sym advances.of_plan) executes.of_plan);
@@ -85,7 +85,7 @@ module _ (run : Run) (e : Executed) (executes : Executes run e) where
       -- ---- the operators of its name
 
       module _ (found : List ℕ) (nexts : List (Option ℕ)) (firsts : AreFirsts e.task e.plan.steps found) (chains : HaveChains e.task found nexts) where
-        -- its name was found, as an operator has it
+        -- its name was found, since an operator has it
         found_next : e.made < length found
         found_next = elim (cases_lt e.made (length found)) [
           | inl lt ↦ lt
@@ -101,7 +101,7 @@ module _ (run : Run) (e : Executed) (executes : Executes run e) where
             many : length run.steps ≤ length e.plan.steps
             many = omega (arith, ap length executes.of_plan.front, length-take (length run.steps) e.plan.steps)
 
-        -- so the next operator of each that has it is known
+        -- so the next operator of the same name is known for each operator of this name
         pub chain_next : IsChain e.task (next_operator e) nexts
         chain_next other named =
             let same : (operator_at e.task (next_operator e)).name ≡ (operator_at e.task (get_or found e.made 0)).name =
@@ -109,9 +109,9 @@ module _ (run : Run) (e : Executed) (executes : Executes run e) where
             subst (λ name. IsNextNamed e.task name (other + 1) (get_or nexts other None)) (sym same)
             (chains e.made found_next other (subst (λ name. IsNamed e.task name other) same named))
 
--- ---- where the plan ends
+-- ---- the end of the plan
 
--- once its steps have been made up to the fault, the execution is back at its start
+-- after making its steps up to the fault, the execution is back at its start
 pub back : (e new : Executed) (fault : Option PlanFault) → IsLayered e.task → new.task ≡ e.task → new.plan ≡ e.plan → e.made ≡ 0 → new.made ≡ e.made
     → IsInitial e.task new.state → IsEnding e.task e.plan new.operators fault → IsFound e.task e.plan fault new
 back e new fault layered task plan none same starts (run, of_plan, ends, by) = record {
@@ -142,7 +142,7 @@ module _ {E : Type 0} {Ready : E → Parts → Type 0} {Follows : E → Parts �
   abbrev e : Executed
   e = executed_of p plan stepper progress made
 
-  -- the next step, by the operator that stands at its place
+  -- the next step, by the operator at its index
   module _ (left : made < length progress.operators.items) (operator : ℕ) (stands : operator ≡ get_or progress.operators.items made operator) where
     is_next : operator ≡ next_operator e
     is_next = stands ∙ get_or_default progress.operators.items made operator 0 left

@@ -1,4 +1,4 @@
--- What the effects of a step give, one effect more, and what writing it leads to.
+-- The values that effects give, for one more effect, and the state after they are written.
 use Rattle.std.proofs.Common.{◌≡◌, ◌≢◌, ℕ, ◌+◌, ◌<◌, ◌≤◌, List, length, get_or, set, Option, None, Some, refl, sym, ◌∙◌, ap, subst, inl, inr, arith}
 use Rattle.std.specs.Prelude.{unwrap_or}
 use Rattle.std.proofs.lemmas.Bool.{cases_eq}
@@ -21,7 +21,7 @@ same_inside a b is = cc
 not_both : (a : ℕ) (given : Option ℕ) → given ≡ None → given ≡ Some a → ⊥
 not_both a given none some = let e : None ≡ Some a = sym none ∙ some in absurd cc
 
--- no effect gives anything
+-- without effects no value is given
 pub gives_none : (p : Parts) (s : List ℕ) (o : Operator) (given : List (Option ℕ)) → IsClean p given → IsGiven p s o 0 given
 gives_none p s o given clean = record {
   one_each = clean.one_each;
@@ -30,7 +30,7 @@ gives_none p s o given clean = record {
 }
 
 module _ (p : Parts) (s : List ℕ) (o : Operator) (n : ℕ) (given : List (Option ℕ)) (is : IsGiven p s o n given) where
-  -- what the effects give is a value of its variable
+  -- each given value is in its variable's range
   pub given_on_effects : n ≤ length o.effects → ((k : ℕ) → k < length o.effects → EffectFits p.variables (effect_at o k)) → IsGivenTo p o given
   given_on_effects within fits = record {
     one_each = is.one_each;
@@ -39,7 +39,7 @@ module _ (p : Parts) (s : List ℕ) (o : Operator) (n : ℕ) (given : List (Opti
     effect = λ var value at. (let (k, lt, fires, on, new) = is.giver var value at in (k, omega arith, on));
   }
 
-  -- one more effect that doesn't fire gives nothing
+  -- one more effect that doesn't fire gives no value
   pub gives_nothing : (Fires s (effect_at o n) → ⊥) → IsGiven p s o (n + 1) given
   gives_nothing quiet = record {
     one_each = is.one_each;
@@ -84,7 +84,7 @@ module _ (p : Parts) (s : List ℕ) (o : Operator) (n : ℕ) (given : List (Opti
         | inr ne ↦ (let (k, lt, fires', on, same) = is.giver var value (sym (elsewhere var ne) ∙ at) in (k, omega arith, fires', on, same))
       ]
 
--- what is given to one variable is taken back
+-- the given value of one variable is removed
 module _ (given : List (Option ℕ)) (v : ℕ) (within : v < length given) where
   pub none_there : given_to (set given v None) v ≡ None
   none_there = get_or-set_same given v None None within
@@ -95,7 +95,7 @@ module _ (given : List (Option ℕ)) (v : ℕ) (within : v < length given) where
     | inr ne ↦ get_or-set_other given v w None None ne ∙ none
   ]
 
-  -- so nothing is given to the variables of the effects up to one on this variable
+  -- so no value is given to the variables of the effects up to one on this variable
   pub one_more_taken : (o : Operator) (n : ℕ) → v ≡ (effect_at o n).var → ((k : ℕ) → k < n → given_to given (effect_at o k).var ≡ None)
       → (k : ℕ) → k < n + 1 → given_to (set given v None) (effect_at o k).var ≡ None
   one_more_taken o n on taken k lt = elim (cases_eq k n) [
@@ -116,7 +116,7 @@ module _ (given : List (Option ℕ)) (v : ℕ) (within : v < length given) where
     effect = λ w value at. on.effect w value (was_given w value at);
   }
 
-  -- what was given is written instead
+  -- the given value is written into the state
   pub written_same : (s : List ℕ) (value : ℕ) → v < length s → given_to given v ≡ Some value → (w : ℕ) → value_after (set given v None) (set s v value) w ≡ value_after given s w
   written_same s value exists at w = elim (cases_eq w v) [
     | inl e ↦ subst (λ x. value_after (set given v None) (set s v value) x ≡ value_after given s x) (sym e)
@@ -124,7 +124,7 @@ module _ (given : List (Option ℕ)) (v : ℕ) (within : v < length given) where
     | inr ne ↦ ap (λ x. unwrap_or x (get_or (set s v value) w 0)) (get_or-set_other given v w None None ne) ∙ ap (λ x. unwrap_or (given_to given w) x) (get_or-set_other s v w value 0 ne)
   ]
 
--- what all effects give, written into the state, is what they do
+-- writing the values that all effects give is applying the effects
 pub applied : (p : Parts) (s : List ℕ) (o : Operator) (given : List (Option ℕ)) (s' : List ℕ) → AllHold (λ v. get_or s v 0) (preconditions o)
     → IsGiven p s o (length o.effects) given → IsState p.variables s' → ((var : ℕ) → get_or s' var 0 ≡ value_after given s var) → IsApplied p s o s'
 applied p s o given s' applicable is state written = record {
@@ -147,7 +147,7 @@ none_left : (x : Option ℕ) → ((value : ℕ) → x ≡ Some value → x ≡ N
 none_left None none = refl
 none_left (Some value) none = none value refl
 
--- nothing is given once what was given to the variables of all effects is taken back
+-- no value is given after the values of all effects' variables are removed
 pub all_taken : (p : Parts) (o : Operator) (n : ℕ) (given : List (Option ℕ)) → IsGivenTo p o given → length o.effects ≤ n
     → ((k : ℕ) → k < n → given_to given (effect_at o k).var ≡ None) → IsClean p given
 all_taken p o n given on within taken = record {

@@ -1,4 +1,4 @@
--- One more step goes through, or it stops.
+-- One more step succeeds or fails.
 use Rattle.std.proofs.Common.{◌≡◌, ℕ, Result, Err, ◌+◌, ◌<◌, List, [], ◌∷◌, ◌++◌, length, take, drop, get_or, sym, subst, ap, refl, ◌∙◌, arith}
 use Rattle.std.proofs.lemmas.List.{take-append-drop, drop_more}
 use Rattle.std.proofs.lemmas.Grind.{common_steps}
@@ -23,7 +23,7 @@ goes_one_more p s (n ∷ names) [] mid name operator next goes on = absurd goes
 goes_one_more p s (n ∷ names) (o ∷ operators) mid name operator next (there, chosen, step, rest) on =
     (there, chosen, step, goes_one_more p there names operators mid name operator next rest on)
 
--- so the steps lead on by one more
+-- so there is one more executable step
 pub leads_one_more : (p : Parts) (names : List (List ℕ)) (operators s name : List ℕ) (operator : ℕ) (next : List ℕ)
     → LeadsTo p names operators s → GoesOn p s name operator next → LeadsTo p (names ++ name ∷ []) (operators ++ operator ∷ []) next
 leads_one_more p names operators s name operator next leads on = record {
@@ -39,11 +39,11 @@ around xs i d lt = sym (take-append-drop i xs) ∙ ap (λ ys. take i xs ++ ys) (
 pub length_of_take : {X : Type 0} (xs : List X) (i : ℕ) → i < length xs → length (take i xs) ≡ i
 length_of_take xs i lt = grind (arith, common_steps)
 
--- a step whose effects conflict stops
+-- a step whose effects conflict fails
 pub conflict_stops : (p : Parts) (s name : List ℕ) (operator step : ℕ) (fault : PlanFault) → IsChosen p s name operator
     → fault ≡ Conflict step operator → (Agree s (operator_at p operator).effects → ⊥) → StopsAt p s name step fault
 conflict_stops p s name operator step fault chosen is none = subst (StopsAt p s name step) (sym is) (refl, chosen, none)
 
--- what a `?` passes on is the fault
+-- `?` passes on the fault
 pub passed_on : {A E : Type 0} (result : Result A E) (fault : E) → (f : E) × (result ≡ Err f) × (f ≡ fault) → result ≡ Err fault
 passed_on {E = E} result fault (f, is, same) = is ∙ ap (λ (x : E). Err x) same

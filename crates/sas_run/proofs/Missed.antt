@@ -1,4 +1,4 @@
--- Where the first fact that doesn't hold is, in a list of several parts.
+-- The index of the first fact that doesn't hold, in a list of several parts.
 use Rattle.std.proofs.Common.{◌≡◌, ◌≢◌, ℕ, ◌+◌, ◌-◌, List, ◌∷◌, ◌++◌, length, get_or, refl, sym, ◌∙◌, ap, subst, inl, inr, arith}
 use Rattle.std.proofs.lemmas.Bool.{cases_lt}
 use Rattle.std.proofs.lemmas.List.{get_or_append_left, get_or-append-add, length-append}
@@ -6,7 +6,7 @@ use Rattle.sas_core.specs.declared.parts.Fact.{Fact}
 use Rattle.sas_meaning.specs.States.{Holds, AllHold}
 use Rattle.sas_run.specs.Running.{IsFirstMissedFact}
 
--- one that is missed behind facts that hold is missed first in the whole
+-- the first such fact after facts that hold is the first in the whole list
 pub missed_behind : (value : ℕ → ℕ) (xs ys : List Fact) (fact : Fact) → AllHold value xs → IsFirstMissedFact value ys fact → IsFirstMissedFact value (xs ++ ys) fact
 missed_behind value xs ys fact hold (index, first, is) = (
   length xs + index,
@@ -35,7 +35,7 @@ missed_head value fact facts ne = (
   λ d. refl,
 )
 
--- the first that doesn't hold, where those that came before it do
+-- the first fact that doesn't hold, if all facts before it hold
 pub missed_next : (value : ℕ → ℕ) (all before left after : List Fact) (fact : Fact) → all ≡ before ++ left → AllHold value before → left ≡ fact ∷ after
     → (value fact.var ≢ fact.value) → IsFirstMissedFact value all fact
 missed_next value all before left after fact is hold next ne =

@@ -11,11 +11,11 @@ use Rattle.sas_run.specs.declared.runner.Choice.TheVariants.{Blocked, Found}
 use Rattle.sas_run.specs.Plans.{IsApplicable}
 use Rattle.sas_run.specs.Running.{IsFirstChosen, IsChoice}
 
--- of the operators of the first one's name, those before this place aren't applicable
+-- no operator of the first one's name below this number is applicable
 abbrev pub NoneBefore : Parts → List ℕ → ℕ → ℕ → Type 0
 NoneBefore p s first place = (lower : ℕ) → first ≤ lower → lower < place → IsNamed p (operator_at p first).name lower → IsApplicable s (operator_at p lower) → ⊥
 
--- how far the search for one that is has come
+-- the state of the search for an applicable operator
 abbrev pub SearchedTo : Parts → List ℕ → ℕ → Option ℕ → Type 0
 SearchedTo p s first (Some operator) = (first ≤ operator) × IsNamed p (operator_at p first).name operator × NoneBefore p s first operator
 SearchedTo p s first None = IsFirstChosen p s first None
@@ -49,7 +49,7 @@ less : (p : Parts) (s : List ℕ) (first operator : ℕ) (next : Option ℕ) →
 less p s first operator (Some k) (le, named, none) next = let ge = next.from_on in let a = next.of_name.exists in let b = named.exists in omega arith
 less p s first operator None (le, named, none) next = let b = named.exists in omega arith
 
--- what a list has for the operator is what is to be searched next
+-- the list has the operator that is searched next
 module _ (p : Parts) (s : List ℕ) (first operator : ℕ) (nexts : List (Option ℕ)) (next : Option ℕ) (chain : IsChain p first nexts)
     (searched : SearchedTo p s first (Some operator)) (is : next ≡ get_or nexts operator None) where
   is_next : IsNextNamed p (operator_at p first).name (operator + 1) next
@@ -61,7 +61,7 @@ module _ (p : Parts) (s : List ℕ) (first operator : ℕ) (nexts : List (Option
   pub less_left : left p next < left p (Some operator)
   less_left = less p s first operator next searched is_next
 
--- what is found of the first operator of a name, is the choice of the name
+-- a search from the first operator of a name finds the chosen operator
 pub found_is_choice : (p : Parts) (s name : List ℕ) (first operator : ℕ) → IsNextNamed p name 0 (Some first) → IsFirstChosen p s first (Some operator) → IsChoice p s name (Found operator)
 found_is_choice p s name first operator lowest (le, named, holds, none) = record {
   of_name = record { exists = named.exists; named = named.named ∙ lowest.of_name.named };

@@ -1,4 +1,5 @@
--- An applicable operator whose effects agree has a step, and whether one has can be told.
+-- An applicable operator whose effects agree has a step. It is decidable whether an operator has a
+-- step.
 use Rattle.std.proofs.Common.{◌≡◌, ℕ, zero, suc, ◌<◌, ◌⊎◌, List, [], ◌∷◌, length, get_or, set, slice_index, None, refl, sym, ◌∙◌, subst, inl, inr, arith}
 use Rattle.std.specs.List.{All}
 use Rattle.std.proofs.lemmas.Bool.{cases_eq}
@@ -23,7 +24,7 @@ use Rattle.sas_run.specs.declared.steps.StepFault.TheVariants.{NotApplicable, Co
 use Rattle.sas_run.specs.Running.{IsApplied, IsStepFault}
 use Rattle.sas_run.proofs.Choosing.{no_fact}
 
--- where it can be told of each item, it can be told of all
+-- if a property is decidable for each item, it is decidable for all items
 all_or_not : {A : Type 0} (P : A → Type 0) → ((x : A) → P x ⊎ (P x → ⊥)) → (xs : List A) → All P xs ⊎ (All P xs → ⊥)
 all_or_not P each [] = inl (All-nil P)
 all_or_not P each (x ∷ xs) = elim (each x) [
@@ -108,7 +109,7 @@ module _ (p : Parts) (s : List ℕ) (state_s : IsState p.variables s) where
         }
       ]
 
--- what the effects of an operator of the task set are values of basic variables
+-- the effects of an operator of the task set basic variables to values in their ranges
 pub effects_fit : (p : Parts) (operator : ℕ) → WellRanged p → operator < length p.operators
     → All (λ (e : Effect). HasValue p.variables e.var e.new) (operator_at p operator).effects
 effects_fit p operator ranged lt k d within =
@@ -119,14 +120,14 @@ pub effects_basic : (p : Parts) (operator : ℕ) → IsLayered p → operator < 
     → All (λ (e : Effect). IsBasic p e.var) (operator_at p operator).effects
 effects_basic p operator layered lt = layered.effects operator (record { name = []; prevail = []; effects = []; cost = 0 }) lt
 
--- the effects of an applicable operator can be done where they agree
+-- the effects of an applicable operator can be applied if they agree
 pub applied_exists : (p : Parts) (s : List ℕ) (o : Operator) → All (λ (e : Effect). HasValue p.variables e.var e.new) o.effects
     → IsState p.variables s → IsApplicable s o → Agree s o.effects → (s' : List ℕ) × IsApplied p s o s'
 applied_exists p s o fits state applicable agree =
     let r = write p s state o.effects fits agree in
     (r.result, record { applicable = applicable; agree = agree; state = r.state; set = r.sets; kept = r.kept })
 
--- settling what they did makes the step
+-- settling the result makes the step
 pub step_from_applied : (p : Parts) (s : List ℕ) (o : Operator) (s' next : List ℕ) → All (λ (e : Effect). IsBasic p e.var) o.effects
     → IsApplied p s o s' → Settles p s' next → Step p s o next
 step_from_applied p s o s' next basic a settles = record {

@@ -1,4 +1,4 @@
--- What changes that are on different variables do, one after another.
+-- Making changes on different variables one after another.
 use Rattle.std.proofs.Common.{◌≡◌, ◌≢◌, ℕ, ◌+◌, ◌<◌, ◌≤◌, List, [], ◌∷◌, ◌++◌, length, get_or, set, Option, None, Some, refl, sym, ◌∙◌, ap, subst, inl, inr, arith}
 use Rattle.std.specs.Prelude.{filter_map, option_map}
 use Rattle.std.specs.List.{All, cons_option}
@@ -27,7 +27,7 @@ use Rattle.sas_run.proofs.Ranges.{no_effect, operator_fits}
 use Rattle.sas_run.proofs.NextStates.{effects_basic}
 use Rattle.sas_run.proofs.Deleted.{deleted_few, all_before, all_last}
 
--- what stands behind the last change
+-- a default for indices that are out of range
 abbrev pub no_change : Change
 no_change = record { var = 0; old = None; new = 0 }
 
@@ -72,7 +72,7 @@ all_made p s changes deleted s' made = record {
   lost = made.lost;
 }
 
--- one change more, on another variable than those before it
+-- one more change, on another variable than those before it
 module _ (p : Parts) (s s' : List ℕ) (changes : List Change) (n : ℕ) (deleted : List Fact) (made : MadeSoFar p s changes n deleted s') (apart : AreApart changes) (some : n < length changes)
     (change : Change) (at : (d : Change) → get_or changes n d ≡ change) (exists : change.var < length p.variables) (fits : HasValue p.variables change.var change.new) (basic : IsBasic p change.var) where
   fresh : Untouched changes n change.var
@@ -93,7 +93,7 @@ module _ (p : Parts) (s s' : List ℕ) (changes : List Change) (n : ℕ) (delete
     | inr ne ↦ (let below : k < n = omega arith in get_or-set_other s' change.var (get_or changes k d).var change.new 0 (fresh k d below) ∙ made.set k d below)
   ]
 
-  -- a variable that the changes so far and this one leave alone
+  -- a variable that neither the changes so far nor this one change
   fewer : (var : ℕ) → Untouched changes (n + 1) var → Untouched changes n var
   fewer var not k d lt = not k d (omega arith)
 
@@ -142,10 +142,10 @@ module _ (p : Parts) (s s' : List ℕ) (changes : List Change) (n : ℕ) (delete
     few = (let few = made.few in let more = deleted_few s' (record { var = change.var; value = change.new }) deleted deleted' replaces in omega arith);
   }
 
--- ---- what they do is what the effects do
+-- ---- making the changes is applying the effects
 
 module _ (o : Operator) (changes : List Change) (effects : o.effects ≡ plain_effects changes) where
-  -- what holds of each change as an effect holds of each effect
+  -- a property of each change as an effect is a property of each effect
   pub of_effects : (P : Effect → Type 0) → All (λ c. P (plain_effect c)) changes → All P o.effects
   of_effects P each = subst (All P) (sym effects) (All-map P plain_effect changes each)
 
@@ -207,7 +207,7 @@ one_old_held s var (Some old) facts all = (
   All-tail (Holds (λ v. get_or s v 0)) (record { var = var; value = old }) facts all,
 )
 
--- of a list in two parts
+-- for a list in two parts
 all_front : {X : Type 0} (P : X → Type 0) (xs ys : List X) → All P (xs ++ ys) → All P xs
 all_front P [] ys h = All-nil P
 all_front P (x ∷ xs) ys h = All-cons P x xs (All-head P x (xs ++ ys) h) (all_front P xs ys (All-tail P x (xs ++ ys) h))
@@ -216,7 +216,7 @@ all_behind : {X : Type 0} (P : X → Type 0) (xs ys : List X) → All P (xs ++ y
 all_behind P [] ys h = h
 all_behind P (x ∷ xs) ys h = all_behind P xs ys (All-tail P x (xs ++ ys) h)
 
--- the old values hold exactly where they do as facts
+-- the old values hold exactly if they hold as facts
 pub olds_hold : (s : List ℕ) (changes : List Change) → All (OldHolds s) changes → AllHold (λ v. get_or s v 0) (filter_map old_fact (plain_effects changes))
 olds_hold s [] all = All-nil (Holds (λ v. get_or s v 0))
 olds_hold s (c ∷ changes) all = one_old_holds s c.var c.old (filter_map old_fact (plain_effects changes)) (All-head (OldHolds s) c changes all)

@@ -1,4 +1,4 @@
--- The states that a plan comes through are reachable, and so settled states of the task.
+-- All states of a plan's execution are reachable, and so settled states of the task.
 use Rattle.std.proofs.Common.{ℕ, ◌<◌, List, [], ◌∷◌, length, sym, subst}
 use Rattle.std.specs.List.{All}
 use Rattle.std.proofs.lemmas.List.Elements.{All-nil, All-cons, Contains-get_or}
@@ -34,7 +34,7 @@ pub leads_to_rest : (p : Parts) (steps : List (List ℕ)) (operators last : List
     → IsState p.variables last × IsSettled p last
 leads_to_rest p steps operators last leads = rests p last (leads_to_reachable p steps operators last leads)
 
--- steps go through by operators that exist
+-- the operators of executable steps exist
 goes_by : (p : Parts) (s : List ℕ) (names : List (List ℕ)) (operators last : List ℕ) → GoThrough p s names operators last
     → All (λ (o : ℕ). o < length p.operators) operators
 goes_by p s [] [] last goes = All-nil (λ (o : ℕ). o < length p.operators)

@@ -21,14 +21,14 @@ use Rattle.sas_run.proofs.Choosing.{named_or_none, chosen_or_none, hold_or_misse
 use Rattle.sas_run.proofs.Determined.{chosen_is_one, GoesOn, leads_one_way, comes_on, comes_past, comes_one_way}
 use Rattle.sas_run.proofs.NextStates.{step_or_conflict}
 
--- why a step isn't made in a state, as the fault that tells it
+-- why a step fails in a state, as a fault
 pub data Hinders (p : Parts) (s name : List ℕ) (step : ℕ) (fault : PlanFault) : Type 0 where
   nobody : ((operator : ℕ) → IsNamed p name operator → ⊥) → fault ≡ NoOperator step → Hinders p s name step fault
   blocked : (operator : ℕ) → IsNamed p name operator → NoneApplicable p s name → fault ≡ NotApplicable step → Hinders p s name step fault
   conflicting : (operator : ℕ) → IsChosen p s name operator → (Agree s (operator_at p operator).effects → ⊥) → fault ≡ Conflict step operator
       → Hinders p s name step fault
 
--- where that is so the name doesn't go on
+-- in this case the name has no step
 pub hindered : (p : Parts) (s name : List ℕ) (step : ℕ) (fault : PlanFault) → Hinders p s name step fault → GoesOn p s name → ⊥
 hindered p s name step fault (nobody none _) on = none on.operator on.chosen.of_name
 hindered p s name step fault (blocked operator is none _) on = none on.operator on.chosen.of_name on.chosen.applicable
@@ -36,7 +36,7 @@ hindered p s name step fault (conflicting operator chosen none _) on =
     let step = on.step in
     none (subst (λ k. Agree s (operator_at p k).effects) (chosen_is_one p s name on.operator operator on.chosen chosen) step.agree)
 
--- and what hinders it is one
+-- and there is at most one such fault
 hinders_one : (p : Parts) (s name : List ℕ) (step : ℕ) (a b : PlanFault) → Hinders p s name step a → Hinders p s name step b → a ≡ b
 hinders_one p s name step a b (nobody none e) (nobody none' f) = e ∙ sym f
 hinders_one p s name step a b (nobody none e) (blocked operator is none' f) = absurd (none operator is)
@@ -49,7 +49,7 @@ hinders_one p s name step a b (conflicting operator chosen none e) (blocked oper
 hinders_one p s name step a b (conflicting operator chosen none e) (conflicting operator' chosen' none' f) =
     e ∙ (ap (λ k. Conflict step k) (chosen_is_one p s name operator operator' chosen chosen') ∙ sym f)
 
--- what hinders a step to which the plan comes is its fault
+-- why the first failing step fails is the fault of the plan
 pub fault_from : (p : Parts) (plan : PlanParts) (s name : List ℕ) (step : ℕ) (fault : PlanFault) → ComesTo p plan.steps step s name
     → Hinders p s name step fault → IsFaultOf p plan fault
 fault_from p plan s name step fault comes (nobody none e) = subst (λ f. IsFaultOf p plan f) (sym e) (s, name, comes, none)
@@ -64,7 +64,7 @@ record StuckAt (p : Parts) (plan : PlanParts) (fault : PlanFault) : Type 0 where
   comes : ComesTo p plan.steps step s name
   hinders : Hinders p s name step fault
 
--- why a plan whose steps go through isn't valid
+-- why a plan with executable steps isn't valid
 data FallsShort (p : Parts) (plan : PlanParts) (operators last : List ℕ) (fault : PlanFault) : Type 0 where
   misses : (index : ℕ) → IsFirstMissed (slice_index last) p.goal index → fault ≡ GoalMissed index → FallsShort p plan operators last fault
   differs : AllHold (slice_index last) p.goal → cost_of_all p operators ≢ plan.cost → fault ≡ CostDiffers (cost_of_all p operators)
@@ -149,13 +149,13 @@ valid_has_no_fault p plan operators fault layered x f = elim (stuck_or_ended p p
       (subst (λ z. FallsShort p plan operators z fault) r.1 (subst (λ o. FallsShort p plan o y.last fault) r.0 y.short)))
 ]
 
--- the steps go through from a state
+-- the steps are executable from a state
 record Went (p : Parts) (s : List ℕ) (steps : List (List ℕ)) : Type 0 where
   operators : List ℕ
   last : List ℕ
   goes : GoThrough p s steps operators last
 
--- or there is a first one that is hindered, whatever its number
+-- or there is a first step that fails, whatever its number
 record Halted (p : Parts) (s : List ℕ) (steps : List (List ℕ)) : Type 0 where
   before : List (List ℕ)
   name : List ℕ
@@ -167,7 +167,7 @@ record Halted (p : Parts) (s : List ℕ) (steps : List (List ℕ)) : Type 0 wher
   hinders : (step : ℕ) → (fault : PlanFault) × Hinders p there name step fault
 
 module _ (p : Parts) (ranged : WellRanged p) (layered : IsLayered p) where
-  -- a name goes on in a state, or something hinders it
+  -- a name has a step in a state, or fails
   pub on_or_hindered : (s name : List ℕ) → IsState p.variables s → GoesOn p s name ⊎ ((step : ℕ) → (fault : PlanFault) × Hinders p s name step fault)
   on_or_hindered s name state = elim (chosen_or_none p s name) [
     | inl w ↦ elim (step_or_conflict p s w.0 ranged layered state w.1.of_name.exists w.1.applicable) [

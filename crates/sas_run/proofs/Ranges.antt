@@ -1,4 +1,4 @@
--- The operators of a task and their effects fit, and the variables of these exist.
+-- The operators of a task and their effects are well ranged, and their variables exist.
 use Rattle.std.proofs.Common.{◌≡◌, ℕ, ◌<◌, List, [], ◌∷◌, length, Option, None, Some, sym, subst}
 use Rattle.std.specs.Prelude.{filter_map, option_map}
 use Rattle.std.specs.List.{All, AllByRecursion, cons_option}
@@ -16,11 +16,11 @@ use Rattle.sas_core.proofs.Places.{holds_at}
 use Rattle.sas_meaning.specs.Steps.{old_fact, preconditions}
 use Rattle.sas_meaning.proofs.Forced.{fact_within}
 
--- what stands behind the last effect
+-- a default for indices that are out of range
 abbrev pub no_effect : Effect
 no_effect = record { conditions = []; var = 0; old = None; new = 0 }
 
--- the old values that effects ask for exist
+-- the old values that effects require exist
 old_facts_exist : (variables : List Variable) (effects : List Effect) → AllByRecursion (EffectFits variables) effects
     → AllByRecursion (FactExists variables) (filter_map old_fact effects)
 old_facts_exist variables [] fit = tt
@@ -44,7 +44,7 @@ module _ (p : Parts) (ranged : WellRanged p) (operator : ℕ) (exists : operator
   pub effect_within : (effect : ℕ) → effect < length (operator_at p operator).effects → (effect_at (operator_at p operator) effect).var < length p.variables
   effect_within effect lt = fact_within p (effect_at (operator_at p operator) effect).var (effect_at (operator_at p operator) effect).new (effect_fits effect lt).new
 
-  -- also where it is read as a change
+  -- the same for the effect as a change
   pub change_within : (effect : ℕ) → effect < length (operator_at p operator).effects → (change : Change) → change ≡ effect_change (effect_at (operator_at p operator) effect)
       → change.var < length p.variables
   change_within effect lt change is = subst (λ (change : Change). change.var < length p.variables) (sym is) (effect_within effect lt)

@@ -1,4 +1,4 @@
--- Steps that lead to a state are those of a run, and of one. What is known of runs.
+-- Executable steps are those of exactly one run. Laws about runs.
 use Rattle.std.proofs.Common.{◌≡◌, ℕ, zero, suc, ◌+◌, ◌-◌, ◌<◌, ◌≤◌, List, [], ◌∷◌, ◌++◌, length, take, get_or, refl, sym, ◌∙◌, ap, subst, arith}
 use Rattle.std.specs.List.{All}
 use Rattle.std.proofs.Math.Seq.{take-append_seam, get_or-append_seam}
@@ -20,7 +20,7 @@ use Rattle.sas_run.specs.Runs.{Run, state_at, last_state, GoesThrough, steps_bef
 use Rattle.sas_run.specs.Verdicts.{ComesTo, IsFaultOf}
 use Rattle.sas_run.specs.Laws.{SomeRun, OneRun}
 
--- the states that steps from s come to
+-- the states to which steps from s lead
 record Came (p : Parts) (s : List ℕ) (names : List (List ℕ)) (operators last : List ℕ) : Type 0 where
   states : List (List ℕ)
   one_more : length states ≡ length names + 1
@@ -144,7 +144,7 @@ module _ (p : Parts) (run : Run) (through : GoesThrough p run) (layered : IsLaye
   leads_there : LeadsTo p (take k run.steps ++ name ∷ []) (take (k + 1) run.operators) (state_at run (k + 1))
   leads_there = subst (λ names. LeadsTo p names (take (k + 1) run.operators) (state_at run (k + 1))) (take_more run.steps k [] lt) (through.leads (k + 1) (omega arith))
 
-  -- what goes on there goes on as in the run
+  -- a step from a state of the run leads to the next state of the run
   module _ (operator : ℕ) (next : List ℕ) (on : GoesOn p (state_at run k) name operator next) where
     same : (take (k + 1) run.operators ≡ take k run.operators ++ operator ∷ []) × (state_at run (k + 1) ≡ next)
     same = leads_one_way p layered (take k run.steps ++ name ∷ []) (take (k + 1) run.operators) (take k run.operators ++ operator ∷ []) (state_at run (k + 1)) next leads_there
@@ -157,7 +157,7 @@ module _ (p : Parts) (run : Run) (through : GoesThrough p run) (layered : IsLaye
         sym (ap (λ n. get_or (take k run.operators ++ operator ∷ []) n 0) at_end ∙ get_or-append_seam (take k run.operators) operator [] 0)
         ∙ (ap (λ (os : List ℕ). get_or os k 0) (sym same.0) ∙ get_or-take (k + 1) run.operators k 0 (omega arith))
 
-  -- each step goes on, by its operator, to the next state
+  -- each step leads, by its operator, to the next state
   pub run_goes : GoesOn p (state_at run k) name (get_or run.operators k 0) (state_at run (k + 1))
   run_goes =
       let on = leads_on p layered (take k run.steps) name [] (take (k + 1) run.operators) (state_at run (k + 1)) (take k run.operators) (state_at run k) leads_there leads_here in
@@ -168,7 +168,7 @@ module _ (p : Parts) (run : Run) (through : GoesThrough p run) (layered : IsLaye
 -- ---- up to a fault
 
 module _ (p : Parts) (plan : PlanParts) where
-  -- the run up to the step to which the plan comes
+  -- the run up to the step that is reached
   to_step : (step : ℕ) (s name : List ℕ) → ComesTo p plan.steps step s name → (run : Run) × GoesThrough p run × (run.steps ≡ take (step - 1) plan.steps)
   to_step step s name comes =
       let w = some_run p comes.before comes.operators s comes.leads in

@@ -15,9 +15,9 @@ use Rattle.sas_run.specs.Plans.{IsChosen}
 use Rattle.sas_run.specs.Runs.{Run, state_at, IsRunOf, EndsBy}
 use Rattle.sas_run.specs.Stepping.{IsPrepared, ListsChanges}
 
--- the task, the plan, the operators of the steps that are known to go through, how many of these
--- steps have been made, and the state to which they led; then what the last one changed: the facts
--- that it made false, and the derived variables that may have changed
+-- The task, the plan, the operators of the steps that are known to succeed, how many of these steps
+-- have been made, and the current state. Then what the last step changed: the facts that it made
+-- false, and the derived variables that may have changed.
 pub record Executed : Type 0 where
   pub task : Parts
   pub plan : PlanParts
@@ -27,7 +27,7 @@ pub record Executed : Type 0 where
   pub deleted : List Fact
   pub touched : Touched
 
--- the name of the next step; behind the last one, no bytes
+-- the name of the next step; after the last step, the empty name
 abbrev pub next_name : Executed → List ℕ
 next_name e = slice_index_or e.plan.steps e.made []
 
@@ -35,20 +35,21 @@ next_name e = slice_index_or e.plan.steps e.made []
 abbrev pub next_operator : Executed → ℕ
 next_operator e = slice_index e.operators e.made
 
--- no step is known to go through so far
+-- no step is known to succeed yet
 pub record IsNew (p : Parts) (plan : PlanParts) (e : Executed) : Type 0 where
   pub task : e.task ≡ p
   pub of_plan : e.plan ≡ plan
   pub operators : e.operators ≡ []
 
--- the steps that are known to go through are those of this run, and the first ones have been made
+-- the steps known to succeed are those of this run, and the first `made` of them have been made
 pub record Executes (run : Run) (e : Executed) : Type 0 where
   pub of_plan : IsRunOf e.task e.plan run
   pub operators : run.operators ≡ e.operators
   pub within : e.made ≤ length e.operators
   pub state : e.state ≡ state_at run e.made
 
--- the plan ends so behind the steps of a run, and the execution is back before the first of them
+-- the plan ends with this fault, or is valid, after the steps of a run; the execution is at its
+-- start
 pub record IsFound (p : Parts) (plan : PlanParts) (fault : Option PlanFault) (e : Executed)
     : Type 0 where
   pub task : e.task ≡ p
@@ -58,7 +59,7 @@ pub record IsFound (p : Parts) (plan : PlanParts) (fault : Option PlanFault) (e 
   pub executes : Executes run e
   pub ends : EndsBy p plan run fault
 
--- the next step was made, by its operator, and this is what it changed
+-- the next step was made by its operator, and the lists have what it changed
 pub record Advances (old : Executed) (operator : ℕ) (new : Executed) : Type 0 where
   pub task : new.task ≡ old.task
   pub of_plan : new.plan ≡ old.plan
@@ -69,7 +70,7 @@ pub record Advances (old : Executed) (operator : ℕ) (new : Executed) : Type 0 
   pub step : Step old.task old.state (operator_at old.task operator) new.state
   pub changes : ListsChanges old.task old.state new.state new.deleted new.touched
 
--- what a contract says of the parts of an execution
+-- the value of an execution, from its parts
 abbrev pub executed_of : {E : Type 0} → Parts → PlanParts → Stepper E → Progress → ℕ → Executed
 executed_of p plan stepper progress made = record {
   task = p;
@@ -81,7 +82,7 @@ executed_of p plan stepper progress made = record {
   touched = stepper.touched;
 }
 
--- what the next steps need is at hand
+-- the invariant of an execution: everything that the next steps need is known
 pub record IsExecuting {E : Type 0} (Ready : E → Parts → Type 0)
     (Follows : E → Parts → List ℕ → Type 0) (p : Parts) (plan : PlanParts) (stepper : Stepper E)
     (found : List ℕ) (nexts : List (Option ℕ)) (progress : Progress) (made : ℕ) : Type 0 where

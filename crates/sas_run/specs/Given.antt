@@ -1,4 +1,5 @@
--- What the effects of a step give to variables.
+-- The values to which the effects of a step set variables, as a list with an optional value for
+-- each variable. An effect gives a value if it fires.
 use Rattle.std.specs.Prelude.{◌≡◌, ◌≢◌, ◌⊎◌, ℕ, ◌<◌, List, [], ◌∷◌, ◌++◌, length, Option, None, Some}
 use Rattle.std.specs.Prelude.{slice_index, slice_index_or, slice_set, unwrap_or}
 use Rattle.sas_core.specs.declared.parts.Fact.{Fact}
@@ -8,20 +9,20 @@ use Rattle.sas_core.specs.Grounded.{effect_at}
 use Rattle.sas_core.specs.Variables.{HasValue}
 use Rattle.sas_meaning.specs.Steps.{Fires}
 
--- there is a place for each variable, and nothing is given
+-- the list has an entry for each variable, and no value is given
 pub record IsClean (p : Parts) (given : List (Option ℕ)) : Type 0 where
   pub one_each : length given ≡ length p.variables
   pub none : (var : ℕ) → slice_index_or given var None ≡ None
 
--- what is given to this variable, if anything is
+-- the value that is given to this variable, if any
 abbrev pub given_to : List (Option ℕ) → ℕ → Option ℕ
 given_to given var = slice_index_or given var None
 
--- the variable's value once what is given is written into the state
+-- the variable's value after the given values are written into the state
 abbrev pub value_after : List (Option ℕ) → List ℕ → ℕ → ℕ
 value_after given s var = unwrap_or (given_to given var) (slice_index s var)
 
--- the first n effects give just this: each of them that fires gives its variable its new value
+-- the given values are exactly those of the first n effects: each that fires gives its new value
 pub record IsGiven (p : Parts) (s : List ℕ) (o : Operator) (n : ℕ) (given : List (Option ℕ))
     : Type 0 where
   pub one_each : length given ≡ length p.variables
@@ -31,28 +32,27 @@ pub record IsGiven (p : Parts) (s : List ℕ) (o : Operator) (n : ℕ) (given : 
       → (k : ℕ) × (k < n)
       × Fires s (effect_at o k) × ((effect_at o k).var ≡ var) × ((effect_at o k).new ≡ value)
 
--- what is given is a value of its variable, and an effect of the operator is on that
+-- each given value is in its variable's range, and an effect of the operator is on this variable
 pub record IsGivenTo (p : Parts) (o : Operator) (given : List (Option ℕ)) : Type 0 where
   pub one_each : length given ≡ length p.variables
   pub value : (var value : ℕ) → given_to given var ≡ Some value → HasValue p.variables var value
   pub effect : (var value : ℕ) → given_to given var ≡ Some value
       → (k : ℕ) × (k < length o.effects) × ((effect_at o k).var ≡ var)
 
--- the variable was given nothing or this value, and is given it now; the others are given what
--- they were
+-- the variable had no given value or this one, and has this one now; all others are unchanged
 pub record GivesValue (given : List (Option ℕ)) (var value : ℕ) (given' : List (Option ℕ))
     : Type 0 where
   pub before : (earlier : ℕ) → given_to given var ≡ Some earlier → earlier ≡ value
   pub now : given' ≡ slice_set given var (Some value)
 
--- the variable was given another value; nothing changes
+-- another value was given to the variable; nothing changes
 pub record GivesOther (given : List (Option ℕ)) (var value : ℕ) (given' : List (Option ℕ))
     : Type 0 where
   pub other : (earlier : ℕ) × (given_to given var ≡ Some earlier) × (earlier ≢ value)
   pub now : given' ≡ given
 
--- the fact comes into the state s: if another one on its variable held, that one is added to those
--- that are deleted
+-- the fact is made true in the state s: if another fact on its variable held, that one is added to
+-- the deleted facts
 abbrev pub Replaces : List ℕ → Fact → List Fact → List Fact → Type 0
 Replaces s fact deleted deleted' =
     ((slice_index s fact.var ≡ fact.value) × (deleted' ≡ deleted))

@@ -1,5 +1,5 @@
 -- What follows from the definitions: a plan of a layered task is valid in one way, or has exactly
--- one fault. The state to which its steps lead is reachable, and they are those of one run.
+-- one fault. Its steps lead to a reachable state, and are those of exactly one run.
 use Rattle.std.specs.Prelude.{◌≡◌, ◌⊎◌, ℕ, List}
 use Rattle.sas_core.specs.declared.parts.Parts.{Parts}
 use Rattle.sas_core.specs.PlanParts.{PlanParts}
@@ -17,22 +17,22 @@ SomeVerdict = (p : Parts) (plan : PlanParts) → WellRanged p → IsLayered p
     → ((operators : List ℕ) × IsValid p plan operators)
     ⊎ ((fault : PlanFault) × IsFaultOf p plan fault)
 
--- never both
+-- a valid plan has no fault
 abbrev pub ValidHasNoFault : Type 0
 ValidHasNoFault = (p : Parts) (plan : PlanParts) (operators : List ℕ) (fault : PlanFault)
     → IsLayered p → IsValid p plan operators → IsFaultOf p plan fault → ⊥
 
--- it is valid with one list of operators at most
+-- a plan is valid with at most one list of operators
 abbrev pub ValidIsOne : Type 0
 ValidIsOne = (p : Parts) (plan : PlanParts) (a b : List ℕ) → IsLayered p
     → IsValid p plan a → IsValid p plan b → a ≡ b
 
--- and has one fault at most
+-- a plan has at most one fault
 abbrev pub FaultIsOne : Type 0
 FaultIsOne = (p : Parts) (plan : PlanParts) (a b : PlanFault) → IsLayered p
     → IsFaultOf p plan a → IsFaultOf p plan b → a ≡ b
 
--- steps that go through from the initial state lead to a reachable one
+-- steps that are executable from the initial state lead to a reachable state
 abbrev pub LeadsToReachable : Type 0
 LeadsToReachable = (p : Parts) (steps : List (List ℕ)) (operators last : List ℕ)
     → LeadsTo p steps operators last → Reachable p last
@@ -42,14 +42,14 @@ abbrev pub LastIsReachable : Type 0
 LastIsReachable = (p : Parts) (plan : PlanParts) (operators : List ℕ)
     (valid : IsValid p plan operators) → Reachable p valid.last
 
--- steps that lead to a state are those of a run, with the same operators and the same last state
+-- executable steps are those of a run, with the same operators and the same last state
 abbrev pub SomeRun : Type 0
 SomeRun = (p : Parts) (steps : List (List ℕ)) (operators last : List ℕ)
     → LeadsTo p steps operators last
     → (run : Run) × GoesThrough p run × (run.steps ≡ steps) × (run.operators ≡ operators)
     × (last_state run ≡ last)
 
--- and in a layered task of one run only
+-- in a layered task there is only one such run
 abbrev pub OneRun : Type 0
 OneRun = (p : Parts) (a b : Run) → IsLayered p → GoesThrough p a → GoesThrough p b
     → a.steps ≡ b.steps → a ≡ b

@@ -1,4 +1,4 @@
--- What a plan of a task does, and which plans are valid.
+-- How a plan is executed, and which plans are valid.
 use Rattle.std.specs.Prelude.{◌≡◌, ℕ, ◌<◌, List, [], ◌∷◌, slice_index, sum_by}
 use Rattle.sas_core.specs.declared.parts.Operator.{Operator}
 use Rattle.sas_core.specs.declared.parts.Parts.{Parts}
@@ -19,15 +19,15 @@ abbrev pub NoneApplicable : Parts → List ℕ → List ℕ → Type 0
 NoneApplicable p s name = (operator : ℕ) → IsNamed p name operator
     → IsApplicable s (operator_at p operator) → ⊥
 
--- A step of a plan means the lowest-numbered operator of exactly that name that is applicable. No
--- later one is tried, even if this one has no step.
+-- A step of a plan means the lowest-numbered applicable operator of exactly that name. No later
+-- operator is tried, even if the effects of this one conflict.
 pub record IsChosen (p : Parts) (s name : List ℕ) (operator : ℕ) : Type 0 where
   pub of_name : IsNamed p name operator
   pub applicable : IsApplicable s (operator_at p operator)
   pub first : (lower : ℕ) → lower < operator → IsNamed p name lower
       → IsApplicable s (operator_at p lower) → ⊥
 
--- the named steps go through with these operators, from the state s to the last one
+-- the named steps are executable from the state s, by these operators, and lead to the state `last`
 abbrev pub GoThrough : Parts → List ℕ → List (List ℕ) → List ℕ → List ℕ → Type 0
 GoThrough p s [] [] last = last ≡ s
 GoThrough p s (name ∷ names) (operator ∷ operators) last = (next : List ℕ)
@@ -37,13 +37,13 @@ GoThrough p s (name ∷ names) (operator ∷ operators) last = (next : List ℕ)
 GoThrough p s [] (operator ∷ operators) last = ⊥
 GoThrough p s (name ∷ names) [] last = ⊥
 
--- the named steps go through from the initial state
+-- the named steps are executable from the initial state, by these operators, and lead to `last`
 pub record LeadsTo (p : Parts) (steps : List (List ℕ)) (operators last : List ℕ) : Type 0 where
   pub initial : List ℕ
   pub starts : IsInitial p initial
   pub goes : GoThrough p initial steps operators last
 
--- what the operators cost together
+-- the sum of the operators' costs
 abbrev pub cost_of_all : Parts → List ℕ → ℕ
 cost_of_all p operators = sum_by (cost_of p) operators
 

@@ -1,4 +1,4 @@
--- What the calls of a runner say.
+-- What the functions of a runner return.
 use Rattle.std.specs.Prelude.{◌≡◌, ◌≢◌, ℕ, ◌<◌, ◌≤◌, List, length, All}
 use Rattle.std.specs.Prelude.{slice_index, slice_index_or, Option, None, Some, Result, Ok, Err}
 use Rattle.sas_core.specs.declared.parts.Fact.{Fact}
@@ -19,15 +19,15 @@ use Rattle.sas_run.specs.declared.steps.StepFault.TheVariants as step_fault
 use Rattle.sas_run.specs.Plans.{IsApplicable, NoneApplicable, IsChosen, cost_of_all}
 use Rattle.sas_run.specs.Verdicts.{IsFirstMissed}
 
--- which operator a name means in a state: no operator has the name, none that has it is applicable,
--- or the chosen one
+-- which operator a name means in a state: no operator has the name, no operator of the name is
+-- applicable, or the chosen operator
 abbrev pub IsChoice : Parts → List ℕ → List ℕ → Choice → Type 0
 IsChoice p s name Unknown = (operator : ℕ) → IsNamed p name operator → ⊥
 IsChoice p s name Blocked = ((operator : ℕ) × IsNamed p name operator)
     × NoneApplicable p s name
 IsChoice p s name (Found operator) = IsChosen p s name operator
 
--- the first operator from this one on that has its name and is applicable, if there is one
+-- the lowest applicable operator of the same name, from this one on, or `None` if there is none
 abbrev pub IsFirstChosen : Parts → List ℕ → ℕ → Option ℕ → Type 0
 IsFirstChosen p s first None = (operator : ℕ) → first ≤ operator
     → IsNamed p (operator_at p first).name operator → IsApplicable s (operator_at p operator) → ⊥
@@ -37,13 +37,13 @@ IsFirstChosen p s first (Some operator) = (first ≤ operator)
     × ((lower : ℕ) → first ≤ lower → lower < operator → IsNamed p (operator_at p first).name lower
     → IsApplicable s (operator_at p lower) → ⊥)
 
--- an operator above this one has its name, too, and is applicable in the state
+-- `later` is an applicable operator of the same name with a higher number
 pub record IsLater (p : Parts) (s : List ℕ) (operator later : ℕ) : Type 0 where
   pub above : operator < later
   pub of_name : IsNamed p (operator_at p operator).name later
   pub applicable : IsApplicable s (operator_at p later)
 
--- the lowest of these, if there is one
+-- the lowest such operator, or `None` if there is none
 abbrev pub IsLaterIfAny : Parts → List ℕ → ℕ → Option ℕ → Type 0
 IsLaterIfAny p s operator None = (later : ℕ) → IsLater p s operator later → ⊥
 IsLaterIfAny p s operator (Some later) = IsLater p s operator later
@@ -65,21 +65,21 @@ pub record IsFirstConflict (s : List ℕ) (o : Operator) (effect : ℕ) : Type 0
   pub first : (e f : ℕ) → e < f → f < effect → Fires s (effect_at o e) → Fires s (effect_at o f)
       → Contradicts (effect_at o e) (effect_at o f) → ⊥
 
--- the fact is the first of the facts that doesn't hold
+-- this fact is the first that doesn't hold
 abbrev pub IsFirstMissedFact : (ℕ → ℕ) → List Fact → Fact → Type 0
 IsFirstMissedFact value facts fact = (index : ℕ)
     × IsFirstMissed value facts index
     × ((d : Fact) → slice_index_or facts index d ≡ fact)
 
--- why an operator has no step: the first of its preconditions that fails, or, where all hold, the
--- first conflict
+-- why an operator has no step: the first precondition that doesn't hold, or the first conflict if
+-- all preconditions hold
 abbrev pub IsStepFault : List ℕ → Operator → StepFault → Type 0
 IsStepFault s o (step_fault.NotApplicable fact) =
     IsFirstMissedFact (slice_index s) (preconditions o) fact
 IsStepFault s o (step_fault.Conflict effect) =
     AllHold (slice_index s) (preconditions o) × IsFirstConflict s o effect
 
--- what the operator's effects that fire do to a state, before it is settled
+-- the state after the effects that fire, before the derived variables are computed
 pub record IsApplied (p : Parts) (s : List ℕ) (o : Operator) (s' : List ℕ) : Type 0 where
   pub applicable : AllHold (slice_index s) (preconditions o)
   pub agree : Agree s o.effects
@@ -88,27 +88,27 @@ pub record IsApplied (p : Parts) (s : List ℕ) (o : Operator) (s' : List ℕ) :
   pub kept : (var : ℕ) → All (λ (e : Effect). Fires s e → e.var ≢ var) o.effects
       → slice_index s' var ≡ slice_index s var
 
--- the effects were done, or refused with the state as it was
+-- the effects were applied, or there is a fault and the state is unchanged
 abbrev pub Applies : Parts → List ℕ → ℕ → List ℕ → Result (Unit {0}) StepFault → Type 0
 Applies p s operator s' (Ok _) = IsApplied p s (operator_at p operator) s'
 Applies p s operator s' (Err fault) = IsStepFault s (operator_at p operator) fault × (s' ≡ s)
 
--- a step was made, or refused with the state as it was
+-- the step was made, or there is a fault and the state is unchanged
 abbrev pub Steps : Parts → List ℕ → ℕ → List ℕ → Result (Unit {0}) StepFault → Type 0
 Steps p s operator s' (Ok _) = Step p s (operator_at p operator) s'
 Steps p s operator s' (Err fault) = IsStepFault s (operator_at p operator) fault × (s' ≡ s)
 
--- the first fact of the goal that fails, if one does
+-- the first fact of the goal that doesn't hold, or `None` if the goal holds
 abbrev pub IsGoalAnswer : List ℕ → List Fact → Option ℕ → Type 0
 IsGoalAnswer s goal None = AllHold (slice_index s) goal
 IsGoalAnswer s goal (Some index) = IsFirstMissed (slice_index s) goal index
 
--- the step of this name is made, by its chosen operator
+-- the step of this name is made by its chosen operator
 pub record GoesOn (p : Parts) (s name : List ℕ) (operator : ℕ) (s' : List ℕ) : Type 0 where
   pub chosen : IsChosen p s name operator
   pub step : Step p s (operator_at p operator) s'
 
--- the step of this name, counted from 1, isn't made, and why
+-- why the step of this name fails; steps are counted from 1
 abbrev pub StopsAt : Parts → List ℕ → List ℕ → ℕ → PlanFault → Type 0
 StopsAt p s name step (plan_fault.NoOperator at) = (at ≡ step)
     × ((operator : ℕ) → IsNamed p name operator → ⊥)
@@ -122,7 +122,7 @@ StopsAt p s name step (plan_fault.GoalMissed index) = ⊥
 StopsAt p s name step (plan_fault.CostDiffers sum) = ⊥
 StopsAt p s name step plan_fault.Memory = ⊥
 
--- in this state, to which all steps led, the goal holds and the operators cost this; or what fails
+-- in the last state the goal holds and the operators' costs add up to `cost`; or what fails
 abbrev pub IsJudged : Parts → List ℕ → List ℕ → ℕ → Option PlanFault → Type 0
 IsJudged p operators s cost None = AllHold (slice_index s) p.goal
     × (cost_of_all p operators ≡ cost)

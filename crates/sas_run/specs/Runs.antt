@@ -1,4 +1,4 @@
--- Runs: steps that go through from the initial state, with their operators and states.
+-- Runs: steps that are executable from the initial state, with their operators and states.
 use Rattle.std.specs.Prelude.{◌≡◌, ℕ, ◌+◌, ◌-◌, ◌≤◌, List, [], length, take, slice_index_or, Option, Some, None}
 use Rattle.sas_core.specs.declared.parts.Parts.{Parts}
 use Rattle.sas_core.specs.PlanParts.{PlanParts}
@@ -15,7 +15,7 @@ pub record Run : Type 0 where
   pub operators : List ℕ
   pub states : List (List ℕ)
 
--- the state with this number; behind the last one, no values
+-- the state with this number; after the last state, the empty list
 abbrev pub state_at : Run → ℕ → List ℕ
 state_at run number = slice_index_or run.states number []
 
@@ -23,19 +23,19 @@ state_at run number = slice_index_or run.states number []
 abbrev pub last_state : Run → List ℕ
 last_state run = state_at run (length run.steps)
 
--- the steps go through: for each k the first k of them lead from the initial state to state k
+-- the run is executable: for each k its first k steps lead from the initial state to state k
 pub record GoesThrough (p : Parts) (run : Run) : Type 0 where
   pub operators : length run.operators ≡ length run.steps
   pub states : length run.states ≡ length run.steps + 1
   pub leads : (k : ℕ) → k ≤ length run.steps
       → LeadsTo p (take k run.steps) (take k run.operators) (state_at run k)
 
--- its steps are the first ones of the plan, and they go through
+-- the run is executable, and its steps are the first steps of the plan
 pub record IsRunOf (p : Parts) (plan : PlanParts) (run : Run) : Type 0 where
   pub through : GoesThrough p run
   pub front : run.steps ≡ take (length run.steps) plan.steps
 
--- the steps that go through before the plan has this fault
+-- the steps that succeed before this fault of the plan
 abbrev pub steps_before : PlanParts → PlanFault → List (List ℕ)
 steps_before plan (NoOperator step) = take (step - 1) plan.steps
 steps_before plan (NotApplicable step) = take (step - 1) plan.steps
@@ -44,12 +44,12 @@ steps_before plan (GoalMissed index) = plan.steps
 steps_before plan (CostDiffers sum) = plan.steps
 steps_before plan Memory = plan.steps
 
--- the plan has this fault, and these steps go through before it; or it has none and is valid
+-- the plan has this fault after the steps of the run; or it is valid, and these are all its steps
 abbrev pub EndsBy : Parts → PlanParts → Run → Option PlanFault → Type 0
 EndsBy p plan run (Some fault) = IsFaultOf p plan fault × (run.steps ≡ steps_before plan fault)
 EndsBy p plan run None = IsValid p plan run.operators × (run.steps ≡ plan.steps)
 
--- the steps of a run go through by these operators, and the plan ends so
+-- the plan ends with this fault, or is valid, after a run of these operators
 abbrev pub IsEnding : Parts → PlanParts → List ℕ → Option PlanFault → Type 0
 IsEnding p plan operators fault = (run : Run) × IsRunOf p plan run × EndsBy p plan run fault
     × (run.operators ≡ operators)

@@ -1,4 +1,4 @@
--- What makes steps is ready for a task, and what it lists of a step.
+-- When a stepper is ready for a task, and what it lists after a step.
 use Rattle.std.specs.Prelude.{◌≡◌, ◌≢◌, ◌⊎◌, ℕ, ◌<◌, ◌≤◌, List, length, All, Contains, slice_index, vec_capacity, count_by, is_some}
 use Rattle.std.specs.List.{AllPairs}
 use Rattle.sas_core.specs.declared.parts.Fact.{Fact}
@@ -13,8 +13,8 @@ use Rattle.sas_meaning.specs.Touched.{MayHaveChanged}
 use Rattle.sas_run.specs.declared.stepper.Stepper.{Stepper}
 use Rattle.sas_run.specs.Given.{IsClean}
 
--- its evaluator is ready, nothing is given, and there is room for a fact of each effect of an
--- operator
+-- the evaluator is ready, no value is given, and each operator's effects may all delete a fact
+-- without allocation
 pub record IsPrepared {E : Type 0} (Ready : E → Parts → Type 0) (p : Parts) (w : Stepper E)
     : Type 0 where
   pub ready : Ready w.evaluator p
@@ -30,9 +30,9 @@ derived_count p = count_by (λ (v : Variable). is_some v.layer) p.variables
 abbrev pub HasFactOn : List Fact → ℕ → Type 0
 HasFactOn facts var = (fact : Fact) × Contains facts fact × (fact.var ≡ var)
 
--- These are listed for a step from s to s'. The deleted facts held in s. They are on basic
--- variables, no two on the same one, and the variables on the list are derived. Each variable whose
--- value differs is of a deleted fact, or it is derived and may have changed.
+-- What is listed after a step from s to s'. The deleted facts held in s, and are on different basic
+-- variables. The variables in `touched` are derived. Each variable whose value differs has a
+-- deleted fact, or is derived and may have changed.
 pub record ListsChanges (p : Parts) (s s' : List ℕ) (deleted : List Fact) (touched : Touched)
     : Type 0 where
   pub basic : All (λ (f : Fact). IsBasic p f.var) deleted

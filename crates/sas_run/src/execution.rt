@@ -15,9 +15,9 @@ use sas_names::StepOperators;
 use std::alloc::{AllocError, Global};
 use std::marker::Model;
 
-/// Executes a plan step by step from the initial state. First it finds the plan's fault, and so which steps go through; then these
-/// can be made once more, one after another. In a contract its value is the task, the plan, the operators of the steps that are
-/// known to go through, how many of them have been made, the state to which they led, and what the last one changed.
+/// Executes a plan step by step from the initial state. `find_fault` finds the plan's fault and the operators of the steps before it. Then
+/// `advance` makes these steps once more, one by one. In a contract its value is the task, the plan, the operators of the steps that are
+/// known to succeed, how many of these steps have been made, the current state, and what the last step changed.
 pub struct Execution<'t, 'p, E: Settle<T> + Drop, T: Grounded, P: Stepwise> {
     layered: &'t Layered<T>,
     plan: &'p P,
@@ -55,8 +55,8 @@ impl<'t, 'p, E: Settle<T> + Drop, T: Grounded, P: Stepwise> Model for Execution<
 }
 
 impl<'t, 'p, E: Settle<T> + Drop, T: Grounded, P: Stepwise> Execution<'t, 'p, E, T, P> {
-    /// Returns the execution of the plan in the task, before its first step, with an evaluator that is ready for the task. All
-    /// memory that the steps need is reserved here.
+    /// Returns an execution of the plan before its first step. The evaluator must be ready for the task. All memory for the steps is
+    /// allocated here.
     pub fn new(
         alloc: Global,
         layered: &'t Layered<T>,
@@ -88,14 +88,14 @@ impl<'t, 'p, E: Settle<T> + Drop, T: Grounded, P: Stepwise> Execution<'t, 'p, E,
         self.layered
     }
 
-    /// Returns the operators of the steps that are known to go through. It takes no memory.
+    /// Returns the operators of the steps that are known to succeed. It takes no memory.
     pub fn operators(&self) -> &[u32]
         ensures { result.now ≡ self.now.operators }
     {
         self.progress.operators.as_slice()
     }
 
-    /// Returns the state to which the steps led that have been made. It takes no memory.
+    /// Returns the current state: the one after the steps made so far. It takes no memory.
     pub fn state(&self) -> &State
         ensures now { result.now ≡ self.now.state }
         ensures fits { IsState self.now.task.variables self.now.state }
@@ -117,8 +117,8 @@ impl<'t, 'p, E: Settle<T> + Drop, T: Grounded, P: Stepwise> Execution<'t, 'p, E,
         &self.stepper.touched
     }
 
-    /// Makes the plan's steps up to its fault, and goes back to its start. Returns the fault, if it has one. Then the operators of
-    /// all steps that go through are known. It takes no memory.
+    /// Makes the plan's steps up to its fault, and returns to the initial state. Returns the fault, or `None` if the plan is valid.
+    /// Afterwards `operators` returns the operators of all steps before the fault. It takes no memory.
     pub fn find_fault(&mut self) -> Option<PlanFault>
         requires { self.old.operators ≡ [] }
         ensures { IsFound self.old.task self.old.plan result self.new }
@@ -137,8 +137,8 @@ impl<'t, 'p, E: Settle<T> + Drop, T: Grounded, P: Stepwise> Execution<'t, 'p, E,
         fault
     }
 
-    /// Returns the lowest operator above that of the next step that has its name and is applicable, too, if there is one. It takes
-    /// no memory.
+    /// Returns the lowest applicable operator that has the same name as the next step's operator and a higher number. Returns `None` if
+    /// there is no such operator. It takes no memory.
     pub fn later(&self) -> Option<u32>
         requires { self.now.made < length self.now.operators }
         ensures { IsLaterIfAny self.now.task self.now.state (next_operator self.now) result }
@@ -153,7 +153,7 @@ impl<'t, 'p, E: Settle<T> + Drop, T: Grounded, P: Stepwise> Execution<'t, 'p, E,
         )
     }
 
-    /// Makes the next of the steps that go through, and returns its operator. Then what it changed is listed. It takes no memory.
+    /// Makes the next step and returns its operator. Afterwards `deleted` and `touched` return what it changed. It takes no memory.
     pub fn advance(&mut self) -> u32
         requires { self.old.made < length self.old.operators }
         ensures advances { Advances self.old result self.new }
@@ -173,7 +173,7 @@ impl<'t, 'p, E: Settle<T> + Drop, T: Grounded, P: Stepwise> Execution<'t, 'p, E,
         operator
     }
 
-    /// Returns the operators of the steps that are known to go through, and the state to which those led that have been made.
+    /// Returns the operators of the steps that are known to succeed, and the current state.
     pub fn into_parts(self) -> (Vec<u32>, State)
         ensures operators { result.0.items ≡ self.entry.operators }
         ensures state { result.1 ≡ self.entry.state }

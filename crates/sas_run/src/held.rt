@@ -1,4 +1,4 @@
-// Tasks that are held for many plans.
+// Tasks that are kept for many plans.
 ghost use Rattle.std.specs.Prelude.{◌≡◌, ◌≢◌, IfOk, IfErr};
 ghost use Rattle.sas_run.specs.Plans.{IsValid};
 ghost use Rattle.sas_run.specs.Verdicts.{IsFaultOf};
@@ -11,9 +11,9 @@ use sas_names::{NamedTask, Names, StepOperators, is_long};
 use std::alloc::{AllocError, Global};
 use std::marker::Model;
 
-/// A layered task that is held with all that its plans need: its operators by their names, an evaluator that is ready for it, and the
-/// memory that a step uses. So a plan costs its own steps. A `Runner` borrows its task; this owns it, and can be kept. In a contract its
-/// value is the parts that the task represents.
+/// A layered task with everything that checking a plan needs: its operators by name, an evaluator that is ready for it, and memory for a
+/// step. So checking one more plan costs only the plan's own steps. A `Runner` borrows its task, but a `Held` owns it. In a contract its
+/// value is the parts of the task.
 pub struct Held<E: Settle<T> + Drop, T: Grounded + Drop = Task> {
     layered: Layered<T>,
     names: Names,
@@ -46,8 +46,8 @@ impl<E: Settle<T> + Drop, T: Grounded + Drop> Model for Held<E, T> {
 }
 
 impl<E: Settle<T> + Drop, T: Grounded + Drop> Held<E, T> {
-    /// Holds the task, with an evaluator that is ready for it. The memory that steps need is reserved here. If it is refused, the task is
-    /// let go.
+    /// Keeps the task with an evaluator, which must be ready for it. All memory for the steps is allocated here. If that fails, the task is
+    /// dropped.
     pub fn new(alloc: Global, layered: Layered<T>, evaluator: E) -> Result<Held<E, T>, AllocError>
         requires { E.ready evaluator layered }
         ensures { IfOk result (λ h. h ≡ layered) }
@@ -70,8 +70,8 @@ impl<E: Settle<T> + Drop, T: Grounded + Drop> Held<E, T> {
         &self.layered
     }
 
-    /// Checks whether the plan is valid, as `Runner::check_plan` does. For a plan that has half as many steps as the task has operators, or
-    /// more, it makes a map of the operators' names where they stand: that takes less time than so many look-ups in `Names`.
+    /// Checks whether the plan is valid, like `Runner::check_plan`. For a long plan (`is_long`), it builds a map that borrows the
+    /// operators' names. That takes less time than looking up every step in `Names`.
     pub fn check_plan<P: Stepwise>(&mut self, alloc: Global, plan: &P) -> Result<Valid, PlanFault>
         ensures valid { IfOk result (λ v. IsValid self.old (P.says plan.now) v.operators.items) }
         ensures cost { IfOk result (λ v. v.cost ≡ (P.says plan.now).cost) }

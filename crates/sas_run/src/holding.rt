@@ -1,4 +1,4 @@
-// The first of some facts that doesn't hold.
+// Finds the first fact that doesn't hold.
 ghost use Rattle.std.specs.Prelude.{◌<◌, length, All, IfSome, IfNone, slice_index};
 ghost use Rattle.sas_core.specs.declared.parts.Fact.{Fact};
 ghost use Rattle.sas_meaning.specs.States.{AllHold};
@@ -7,7 +7,7 @@ ghost use Rattle.sas_run.specs.Verdicts.{IsFirstMissed};
 use sas_core::Fact;
 use sas_meaning::State;
 
-/// Returns the place of the first of the facts that doesn't hold, if there is one.
+/// Returns the index of the first fact that doesn't hold, or `None` if all hold.
 pub fn first_missed(state: &State, facts: &[Fact]) -> Option<usize>
     requires { All (λ (f : Fact). f.var < length state.now) facts.now }
     ensures some { IfSome result (λ index. IsFirstMissed (slice_index state.now) facts.now index) }

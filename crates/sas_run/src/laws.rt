@@ -2,9 +2,9 @@
 ghost use Rattle.sas_run.specs.Laws.{SomeVerdict, ValidHasNoFault, ValidIsOne, FaultIsOne};
 ghost use Rattle.sas_run.specs.Laws.{LeadsToReachable, LastIsReachable, SomeRun, OneRun};
 
-/// Ensures the laws of plans. A plan of a layered task is valid, with one list of operators, or has exactly one fault, and
-/// never both. In any task the state to which steps lead that go through is reachable, and so is the last state of a valid
-/// plan. Steps that lead to a state are those of a run, which in a layered task is one.
+/// Ensures the laws of plans. A plan of a layered task either is valid with exactly one list of operators, or has exactly one fault. In any
+/// task, executable steps lead to a reachable state, and so the last state of a valid plan is reachable. Executable steps are those of a
+/// run. In a layered task there is only one such run.
 pub fn verdict_laws()
     ensures some { SomeVerdict }
     ensures not_both { ValidHasNoFault }

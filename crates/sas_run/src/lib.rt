@@ -1,4 +1,4 @@
-//! Steps and plans: what a plan of a task does, and whether it is valid.
+//! Makes steps, executes plans, and checks whether a plan is valid.
 #![tactic(auto)]
 
 mod execution;

@@ -1,5 +1,5 @@
-// Steps of operators whose effects have no conditions and are on different variables. The effects are done one after another, with
-// no second look at them: most steps of most plans are made so.
+// Steps of operators whose effects have no conditions and are on different variables. Such effects can be applied directly, one after
+// another. Most steps of most plans are of this kind.
 ghost use Rattle.std.specs.Prelude.{◌≡◌, ◌≢◌, ◌<◌, ◌≤◌, [], length, All, IsTrue, IsFalse, IfSome, slice_index, slice_set, vec_capacity};
 ghost use Rattle.sas_core.specs.declared.grounded.Change.{Change};
 ghost use Rattle.sas_core.specs.Grounded.{operator_at};
@@ -10,11 +10,11 @@ ghost use Rattle.sas_run.specs.PlainSteps.{AreApart, AreMade, IsPlainStep, OldHo
 use sas_core::{Change, Fact, Grounded};
 use sas_meaning::{Layered, State};
 
-// Of so many changes each two are compared. Of more that would take longer than noting what each of them sets.
+// Up to this many changes are compared in pairs. For more changes, storing what each of them sets takes less time.
 const FEW: usize = 8;
 
-/// Returns what the operator's effects change, if none of them has a condition, no two are on one variable, and they are few. A task
-/// may not know that of an operator; then returns none.
+/// Returns the changes of the operator's effects if none of them has a condition, no two are on one variable, and there are at most `FEW`.
+/// Otherwise returns `None`. A task may also return `None` for an operator whose effects it doesn't store as changes.
 #[inline(always)]
 pub fn plain_step<T: Grounded>(task: &Layered<T>, operator: u32) -> Option<&[Change]>
     requires { operator < length task.now.operators }
@@ -28,7 +28,7 @@ pub fn plain_step<T: Grounded>(task: &Layered<T>, operator: u32) -> Option<&[Cha
     }
 }
 
-/// Returns whether no two of the changes are on one variable.
+/// Returns whether the changes are on different variables.
 #[inline(always)]
 fn are_apart(changes: &[Change]) -> bool
     ensures { IsTrue result → AreApart changes.now }
@@ -49,7 +49,7 @@ fn is_one_on(changes: &[Change], var: u32) -> bool
     changes.iter().any(|change| change.var == var)
 }
 
-/// Returns whether each variable has the old value that a change requires of it, if it requires one.
+/// Returns whether each variable has the old value that a change requires, if it requires one.
 #[inline(always)]
 pub fn old_values_hold(state: &State, changes: &[Change]) -> bool
     requires { All (λ (c : Change). c.var < length state.now) changes.now }
@@ -66,7 +66,7 @@ pub fn old_values_hold(state: &State, changes: &[Change]) -> bool
     true
 }
 
-/// Makes the changes, which are what the operator's effects do, in the state. Adds the facts that this makes false to `deleted`, which is
+/// Makes the changes in the state. They are those of the operator's effects. Adds the facts that become false to `deleted`, which must be
 /// empty.
 #[inline(always)]
 pub fn make_changes<T: Grounded>(
@@ -91,7 +91,7 @@ pub fn make_changes<T: Grounded>(
     }
 }
 
-/// Puts the fact into the state. If another one on its variable held, adds that one to `deleted`, for which there is room.
+/// Makes the fact true in the state. If its variable had another value, adds that fact to `deleted`, which must have room for it.
 #[inline(always)]
 pub fn replace(fact: Fact, deleted: &mut Vec<Fact>, state: &mut State)
     requires exists { fact.var < length state.old }

@@ -1,4 +1,4 @@
-// Whether a plan is valid.
+// Checks whether a plan is valid.
 ghost use Rattle.std.specs.Prelude.{◌≡◌, ◌≢◌, ◌≤◌, [], length, Some};
 ghost use Rattle.std.specs.Prelude.{IfOk, IfErr, OnOk, vec_capacity};
 ghost use Rattle.sas_core.specs.Grounded.{operator_at};
@@ -20,7 +20,7 @@ use sas_meaning::{Layered, Settle, State};
 use sas_names::{Found, NamedTask, StepOperators, first_operators};
 use std::alloc::{AllocError, Global};
 
-/// A valid plan: the operators that its steps mean, and its cost.
+/// The result for a valid plan: the operators of its steps, and its cost.
 #[derive(Debug, PartialEq, Eq, Drop)]
 pub struct Valid {
     pub operators: Vec<u32>,
@@ -30,17 +30,17 @@ pub struct Valid {
 /// Why a plan isn't valid. Steps are counted from 1, operators and facts of the goal from 0.
 #[derive(Clone, Copy, Debug, PartialEq, Eq)]
 pub enum PlanFault {
-    /// Memory was refused.
+    /// Out of memory.
     Memory,
     /// No operator has the step's name.
     NoOperator { step: usize },
-    /// An operator has the step's name, and none that has it is applicable.
+    /// Operators have the step's name, but none of them is applicable.
     NotApplicable { step: usize },
-    /// Two effects of the step's operator that fire set one variable to different values.
+    /// Two effects of the step's operator fire and set one variable to different values.
     Conflict { step: usize, operator: u32 },
-    /// All steps go through, and this is the first fact of the goal that doesn't hold.
+    /// All steps succeed, but this fact of the goal doesn't hold. It is the first such fact.
     GoalMissed { index: u32 },
-    /// All steps go through to the goal, and the costs of their operators add up to this, which isn't the plan's cost.
+    /// All steps succeed and the goal holds, but the operators' costs add up to `sum`, which isn't the plan's cost.
     CostDiffers { sum: u128 },
 }
 
@@ -55,8 +55,8 @@ impl From<AllocError> for PlanFault {
 }
 
 impl<'a, E: Settle<T> + Drop, T: Grounded> Runner<'a, E, T> {
-    /// Checks whether the plan is valid, and returns its operators and its cost, or its fault. A step means the lowest-numbered
-    /// operator of its name that is applicable. All memory is allocated before the first step.
+    /// Checks whether the plan is valid. Returns its operators and its cost, or its fault. A step means the lowest-numbered applicable
+    /// operator of its name. All memory is allocated before the first step.
     pub fn check_plan<P: Stepwise>(&mut self, alloc: Global, plan: &P) -> Result<Valid, PlanFault>
         ensures valid { IfOk result (λ v. IsValid self.old (P.says plan.now) v.operators.items) }
         ensures cost { IfOk result (λ v. v.cost ≡ (P.says plan.now).cost) }
@@ -72,7 +72,7 @@ impl<'a, E: Settle<T> + Drop, T: Grounded> Runner<'a, E, T> {
     }
 }
 
-/// Checks whether the plan is valid, by the names of the task's operators.
+/// Checks whether the plan is valid, like `Runner::check_plan`, with the given names of the task's operators.
 pub fn check_named<E: Settle<T> + Drop, T: Grounded, P: Stepwise>(
     alloc: Global,
     named: &NamedTask<'_, Layered<T>>,
@@ -94,8 +94,8 @@ pub fn check_named<E: Settle<T> + Drop, T: Grounded, P: Stepwise>(
     check_found(alloc, named.task, stepper, plan, found)
 }
 
-/// Checks whether the plan of the task is valid, as `Runner::check_plan` does, with an evaluator that is ready for the task. It
-/// keeps nothing of the task, so it is for one plan. All memory is allocated before the first step.
+/// Checks whether the plan is valid, like `Runner::check_plan`. The evaluator must be ready for the task. Use it to check a single plan: it
+/// keeps nothing for the next one. All memory is allocated before the first step.
 pub fn check_once<E: Settle<T> + Drop, T: Grounded, P: Stepwise>(
     alloc: Global,
     layered: &Layered<T>,
@@ -115,7 +115,7 @@ pub fn check_once<E: Settle<T> + Drop, T: Grounded, P: Stepwise>(
     check_found(alloc, layered, &mut stepper, plan, operators.found())
 }
 
-/// Checks whether the plan is valid, where it is found what the names of its steps mean.
+/// Checks whether the plan is valid, like `Runner::check_plan`. `found` has the operators of the steps' names.
 pub fn check_found<E: Settle<T> + Drop, T: Grounded, P: Stepwise>(
     alloc: Global,
     layered: &Layered<T>,
@@ -142,8 +142,9 @@ pub fn check_found<E: Settle<T> + Drop, T: Grounded, P: Stepwise>(
     }
 }
 
-/// Makes the plan's steps in turn, up to its fault, and returns that, if it has one. `found` has what their names mean. Adds the
-/// operators of the steps that go through, for which there is room. Without an allocator it can't allocate.
+/// Makes the plan's steps up to its fault. Returns the fault, or `None` if the plan is valid. `found` has the operators of the steps'
+/// names. Adds the operators of the steps before the fault to `progress`, which must have room for them. It can't allocate, since it has no
+/// allocator.
 pub fn find_fault<E: Settle<T> + Drop, T: Grounded, P: Stepwise>(
     layered: &Layered<T>,
     stepper: &mut Stepper<E>,
@@ -169,7 +170,8 @@ pub fn find_fault<E: Settle<T> + Drop, T: Grounded, P: Stepwise>(
     }
 }
 
-/// Makes the plan's steps in turn, where it is found what their names mean. Adds their operators, for which there is room.
+/// Makes the plan's steps. Stops at the first that fails, and returns the fault. `found` has the operators of the steps' names. Adds the
+/// operators of the steps made to `progress`, which must have room for them.
 fn go_through<E: Settle<T> + Drop, T: Grounded, P: Stepwise>(
     layered: &Layered<T>,
     stepper: &mut Stepper<E>,
@@ -208,7 +210,7 @@ fn go_through<E: Settle<T> + Drop, T: Grounded, P: Stepwise>(
     Ok(())
 }
 
-/// Makes the next step, from the state that the evaluator settled last, and returns its operator.
+/// Makes the next step from the state that the evaluator settled last. Returns its operator.
 #[inline(always)]
 fn go_on<E: Settle<T> + Drop, T: Grounded>(
     layered: &Layered<T>,

@@ -1,4 +1,4 @@
-// How far a plan was executed, what its next step means, and what fails behind the last one.
+// The progress of a plan's execution, the choice of the next operator, and the test of the goal and the cost.
 ghost use Rattle.std.specs.Prelude.{◌≡◌, ◌<◌, ◌≤◌, ℕ, [], length, All, IfOk, IfErr, vec_capacity};
 ghost use Rattle.sas_core.specs.Grounded.{operator_at};
 ghost use Rattle.sas_core.specs.Variables.{IsState};
@@ -17,7 +17,7 @@ use sas_core::Grounded;
 use sas_meaning::{Layered, Settle, State};
 use std::alloc::{AllocError, Global};
 
-/// How far a plan was executed: the state, and the operators of the steps so far.
+/// The progress of a plan's execution: the current state, and the operators of the steps so far.
 #[derive(Drop)]
 pub struct Progress {
     pub state: State,
@@ -52,8 +52,7 @@ pub struct NextStep {
     pub number: usize,
 }
 
-/// Returns the operator that the next step means in the state. `nexts` has for each operator of its name the next
-/// one.
+/// Returns the operator that the next step means in the state. `nexts` has, for each operator of its name, the next one.
 #[inline(always)]
 pub fn choose<T: Grounded>(
     layered: &Layered<T>,
@@ -75,8 +74,8 @@ pub fn choose<T: Grounded>(
     }
 }
 
-/// Returns what fails of a plan of this cost whose steps were all made: a fact of the goal, or else the cost, which isn't the sum of
-/// the operators' costs. Returns none if the plan is valid.
+/// Tests the goal and the cost after all steps have been made. Returns the first fact of the goal that doesn't hold, or else a sum of the
+/// operators' costs that differs from `cost`. Returns `None` if the plan is valid.
 pub fn judge_last<T: Grounded>(
     layered: &Layered<T>,
     progress: &Progress,

@@ -1,4 +1,4 @@
-// Runners, which make the steps of plans.
+// The runner, which makes the steps of plans.
 ghost use Rattle.std.specs.Prelude.{◌≡◌, ◌<◌, ◌↔◌, length, IfOk, IfErr, IfSome, None, IfNone, IsTrue};
 ghost use Rattle.sas_core.specs.Grounded.{operator_at};
 ghost use Rattle.sas_core.specs.Variables.{IsState};
@@ -18,19 +18,18 @@ use sas_names::{Names, next_in};
 use std::alloc::{AllocError, Global};
 use std::marker::Model;
 
-/// What a name means in a state.
+/// The operator that a name means in a state.
 #[derive(Clone, Copy, Debug, PartialEq, Eq)]
 pub enum Choice {
     /// No operator has the name.
     Unknown,
-    /// An operator has it, and none that has it is applicable.
+    /// Operators have the name, but none of them is applicable.
     Blocked,
-    /// The lowest-numbered operator that has it and is applicable.
+    /// The lowest-numbered applicable operator of this name.
     Found(u32),
 }
 
-/// A runner, which makes the steps of a layered task, with an evaluator that is ready for the task. In a contract its value
-/// is the parts that the task represents.
+/// Makes steps of a layered task, with an evaluator that is ready for the task. In a contract its value is the parts of the task.
 pub struct Runner<'a, E: Settle<T> + Drop, T: Grounded = Task> {
     pub(crate) layered: &'a Layered<T>,
     pub(crate) names: Names,
@@ -63,8 +62,8 @@ impl<'a, E: Settle<T> + Drop, T: Grounded> Model for Runner<'a, E, T> {
 }
 
 impl<'a, E: Settle<T> + Drop, T: Grounded> Runner<'a, E, T> {
-    /// Returns a runner for the task, with an evaluator that is ready for it. The memory that steps need is reserved here. If
-    /// it is refused, the evaluator is returned unchanged.
+    /// Returns a runner for the task. The evaluator must be ready for it. All memory for the steps is allocated here. If that fails, the
+    /// evaluator is returned unchanged.
     pub fn new(
         alloc: Global,
         layered: &'a Layered<T>,
@@ -85,7 +84,7 @@ impl<'a, E: Settle<T> + Drop, T: Grounded> Runner<'a, E, T> {
         })
     }
 
-    /// Returns the initial state, which is the state of the state section, settled.
+    /// Returns the initial state: the values of the state section, with the derived variables computed from the basic ones.
     pub fn initial(&mut self, alloc: Global) -> Result<State, AllocError>
         ensures initial { IfOk result (λ s. IsInitial self.old s) }
         ensures same { self.new ≡ self.old }
@@ -102,8 +101,7 @@ impl<'a, E: Settle<T> + Drop, T: Grounded> Runner<'a, E, T> {
         is_applicable(self.layered, state, operator)
     }
 
-    /// Returns which operator the name means in the state: the lowest-numbered one that has exactly this name and is
-    /// applicable. It takes no memory.
+    /// Returns the operator that the name means in the state: the lowest-numbered applicable one of exactly this name. It takes no memory.
     pub fn choose(&self, state: &State, name: &[u8]) -> Choice
         requires { IsState self.now.variables state.now }
         ensures { IsChoice self.now state.now name.now result }
@@ -117,14 +115,14 @@ impl<'a, E: Settle<T> + Drop, T: Grounded> Runner<'a, E, T> {
         }
     }
 
-    /// Returns the lowest operator of the name, if there is one. It takes no memory.
+    /// Returns the lowest operator of the name, or `None` if no operator has it. It takes no memory.
     pub(crate) fn look_up(&self, name: &[u8]) -> Option<u32>
         ensures { IsNextNamed self.now name.now 0 result }
     {
         self.names.first(self.layered, name)
     }
 
-    /// Returns the first operator that is applicable, of this one and those behind it that have its name. It takes no memory.
+    /// Returns the first applicable operator, among this one and the later ones of the same name. It takes no memory.
     pub(crate) fn choose_from(&self, state: &State, first: u32) -> Option<u32>
         requires state { IsState self.now.variables state.now }
         requires first { first < length self.now.operators }
@@ -133,8 +131,8 @@ impl<'a, E: Settle<T> + Drop, T: Grounded> Runner<'a, E, T> {
         first_applicable(self.layered, self.names.next(), state, first)
     }
 
-    /// Makes the step of the operator, if there is one. Otherwise leaves the state as it was, and returns the fault. It takes
-    /// no memory.
+    /// Makes the operator's step in the state. If the operator has no step there, leaves the state unchanged and returns the reason. It
+    /// takes no memory.
     pub fn step(&mut self, state: &mut State, operator: u32) -> Result<(), StepFault>
         requires operator { operator < length self.old.operators }
         requires state { IsState self.old.variables state.old }
@@ -147,7 +145,7 @@ impl<'a, E: Settle<T> + Drop, T: Grounded> Runner<'a, E, T> {
         }
     }
 
-    /// Returns the index of the first fact of the goal that doesn't hold, if there is one. It takes no memory.
+    /// Returns the index of the first fact of the goal that doesn't hold, or `None` if the goal holds. It takes no memory.
     pub fn goal(&self, state: &State) -> Option<u32>
         requires { IsState self.now.variables state.now }
         ensures { IsGoalAnswer state.now self.now.goal result }
@@ -166,7 +164,7 @@ impl<'a, E: Settle<T> + Drop, T: Grounded> Runner<'a, E, T> {
     }
 }
 
-/// Returns whether the operator's preconditions hold.
+/// Returns whether the operator's preconditions hold in the state.
 #[inline(always)]
 fn is_applicable<T: Grounded>(task: &Layered<T>, state: &State, operator: u32) -> bool
     requires operator { operator < length task.now.operators }
@@ -184,8 +182,7 @@ fn is_applicable<T: Grounded>(task: &Layered<T>, state: &State, operator: u32) -
     state.holds_all(task.prevail(operator)) && old_values_hold(state, changes)
 }
 
-/// Returns the first operator that is applicable, of this one and those behind it that have its name. `nexts` has for each of
-/// them the next one.
+/// Returns the first applicable operator, among this one and the later ones of the same name. `nexts` has, for each of them, the next one.
 #[inline(always)]
 pub fn first_applicable<T: Grounded>(
     task: &Layered<T>,
@@ -208,8 +205,7 @@ pub fn first_applicable<T: Grounded>(
     None
 }
 
-/// Returns the lowest operator above this one that has its name and is applicable, if there is one. `nexts` has for each of
-/// them the next one.
+/// Returns the first applicable operator among the later ones of the same name. `nexts` has, for each of them, the next one.
 pub fn later_applicable<T: Grounded>(
     task: &Layered<T>,
     nexts: &[Option<u32>],

@@ -1,4 +1,4 @@
-// What makes the steps of a task, one after another.
+// Makes the steps of a task, one after another.
 ghost use Rattle.std.specs.Prelude.{◌≡◌, ◌<◌, ◌≤◌, ℕ, length, IfOk, IfErr, OnOk, vec_capacity};
 ghost use Rattle.sas_core.specs.Grounded.{operator_at};
 ghost use Rattle.sas_core.specs.Variables.{IsState};
@@ -13,14 +13,14 @@ use sas_core::{Fact, Grounded, Items};
 use sas_meaning::{Layered, Settle, State, Touched};
 use std::alloc::{AllocError, Global};
 
-/// An evaluator, and the memory that a step uses.
+/// An evaluator, and the memory for a step.
 pub struct Stepper<E> {
     pub evaluator: E,
-    /// For each variable, the value to which the effects that fire in a step set it. Between two steps there is none.
+    /// For each variable, the value to which the current step's effects set it, if they do. Between two steps all are `None`.
     pub given: Items<Option<u32>>,
     /// Facts that the last step made false.
     pub deleted: Vec<Fact>,
-    /// The derived variables that may have changed in the last step, if it went on from the one before.
+    /// The derived variables that the last step may have changed, if `go_on_from` made it.
     pub touched: Touched,
 }
 
@@ -39,8 +39,8 @@ impl<E: Drop> Drop for Stepper<E> {
     }
 }
 
-/// Returns a stepper with this evaluator, which doesn't list the derived variables that may have changed. All memory that steps
-/// need is reserved here. If it is refused, the evaluator is returned unchanged.
+/// Returns a stepper that doesn't list which derived variables may have changed. All memory for the steps is allocated here. If that fails,
+/// the evaluator is returned unchanged.
 pub fn stepper_for<E: Settle<T> + Drop, T: Grounded>(
     alloc: Global,
     layered: &Layered<T>,
@@ -53,8 +53,8 @@ pub fn stepper_for<E: Settle<T> + Drop, T: Grounded>(
     stepper_with(alloc, layered, evaluator, Touched::none(alloc))
 }
 
-/// Returns a stepper with this evaluator, which lists the derived variables that may have changed. There is room for as many as
-/// the task has. All memory that steps need is reserved here. If it is refused, the evaluator is returned unchanged.
+/// Returns a stepper that lists which derived variables may have changed. It has room for all derived variables of the task. All memory for
+/// the steps is allocated here. If that fails, the evaluator is returned unchanged.
 pub fn stepper_listing<E: Settle<T> + Drop, T: Grounded>(
     alloc: Global,
     layered: &Layered<T>,
@@ -71,7 +71,7 @@ pub fn stepper_listing<E: Settle<T> + Drop, T: Grounded>(
     }
 }
 
-/// Returns a stepper with this evaluator, which notes on this list which derived variables may have changed.
+/// Returns a stepper that lists in `touched` which derived variables may have changed.
 fn stepper_with<E: Settle<T> + Drop, T: Grounded>(
     alloc: Global,
     layered: &Layered<T>,
@@ -98,7 +98,7 @@ fn stepper_with<E: Settle<T> + Drop, T: Grounded>(
     }
 }
 
-/// Returns the initial state, which is the state of the state section, settled.
+/// Returns the initial state: the values of the state section, with the derived variables computed from the basic ones.
 pub fn initial_of<E: Settle<T> + Drop, T: Grounded>(
     alloc: Global,
     layered: &Layered<T>,
@@ -130,7 +130,7 @@ pub fn go_back<E: Settle<T> + Drop, T: Grounded>(
     stepper.evaluator.settle(layered, state);
 }
 
-/// Gives each variable its value in the state section.
+/// Sets each variable to its value in the state section.
 fn set_section<T: Grounded>(task: &Layered<T>, state: &mut State)
     requires { IsState task.now.variables state.old }
     ensures section { state.new ≡ task.now.init }
@@ -144,8 +144,8 @@ fn set_section<T: Grounded>(task: &Layered<T>, state: &mut State)
     }
 }
 
-/// Makes the step of the operator, which is applicable, from any state. If there is none, leaves the state as it was, and
-/// returns the fault. It takes no memory.
+/// Makes the step of an applicable operator, from any state. If its effects conflict, leaves the state unchanged and returns the fault. It
+/// takes no memory.
 pub fn step_on<E: Settle<T> + Drop, T: Grounded>(
     layered: &Layered<T>,
     stepper: &mut Stepper<E>,
@@ -172,8 +172,8 @@ pub fn step_on<E: Settle<T> + Drop, T: Grounded>(
     Ok(())
 }
 
-/// Makes the step as `step_on` does, from the state that the evaluator settled last. What the step doesn't change is not
-/// settled anew, as far as the evaluator goes on from there. The stepper then lists what the step changed.
+/// Makes the step like `step_on`, but from the state that the evaluator settled last. So the evaluator may reuse what the step doesn't
+/// change. Afterwards the stepper lists what the step changed.
 #[inline(always)]
 pub fn go_on_from<E: Settle<T> + Drop, T: Grounded>(
     layered: &Layered<T>,
@@ -210,7 +210,7 @@ pub fn go_on_from<E: Settle<T> + Drop, T: Grounded>(
     Ok(())
 }
 
-/// Returns a list that holds no value for any variable of the task.
+/// Returns a list with `None` for each variable of the task.
 fn nothing_given<T: Grounded>(
     alloc: Global,
     task: &Layered<T>,
@@ -220,7 +220,7 @@ fn nothing_given<T: Grounded>(
     Ok(Items::from_vec(vec![in alloc; None; task.variables() as usize]?))
 }
 
-/// Returns how many effects an operator of the task has at most.
+/// Returns an upper bound on the number of effects of an operator.
 fn most_effects<T: Grounded>(task: &Layered<T>) -> usize
     ensures { (operator : ℕ) → operator < length task.now.operators
         → length (operator_at task.now operator).effects ≤ result }

@@ -1,4 +1,4 @@
-// One step: from a state by an operator to the next state, before it is settled.
+// One step from a state by an operator, before the derived variables are computed.
 ghost use Rattle.std.specs.Prelude.{◌≡◌, ℕ, ◌<◌, ◌≤◌, [], length, IsTrue, IsFalse, IfSome, IfNone, OnOk, OnErr};
 ghost use Rattle.std.specs.Prelude.{slice_index, vec_capacity};
 ghost use Rattle.sas_core.specs.Grounded.{operator_at};
@@ -15,13 +15,13 @@ use sas_meaning::{Layered, Preconditions, State};
 /// Why an operator has no step in a state.
 #[derive(Clone, Copy, Debug, PartialEq, Eq)]
 pub enum StepFault {
-    /// This precondition doesn't hold. It is the first that doesn't.
+    /// This precondition doesn't hold. It is the first such precondition.
     NotApplicable { fact: Fact },
-    /// The effect fires, and sets a variable to another value than an earlier effect that fires. It is the first such effect.
+    /// This effect fires, but an earlier effect that fires sets its variable to another value. It is the first such effect.
     Conflict { effect: u32 },
 }
 
-/// Returns the first of the operator's preconditions that doesn't hold, if there is one.
+/// Returns the operator's first precondition that doesn't hold, or `None` if it is applicable.
 pub fn missed_precondition<T: Grounded>(
     task: &Layered<T>,
     operator: u32,
@@ -43,9 +43,9 @@ pub fn missed_precondition<T: Grounded>(
     None
 }
 
-/// Applies the effects that fire to the state, where the preconditions hold. If two of these effects conflict, leaves the
-/// state and `deleted` as they were, and returns the fault. `given` is used meanwhile, and holds no value in the end. `deleted` then
-/// holds the facts that the effects made false.
+/// Applies the effects that fire to the state. The operator must be applicable. On success `deleted` contains the facts that the effects
+/// made false. If two of the effects conflict, leaves the state and `deleted` unchanged and returns the fault. `given` is scratch memory:
+/// it has no value before and after.
 #[inline(always)]
 pub fn apply<T: Grounded>(
     task: &Layered<T>,
@@ -75,7 +75,7 @@ pub fn apply<T: Grounded>(
     }
 }
 
-/// Applies the effects as `apply` does, whatever they are: notes what each of them gives, and then writes that into the state.
+/// Applies any effects, like `apply`: first stores the value that each of them sets, then writes these values into the state.
 fn apply_given<T: Grounded>(
     task: &Layered<T>,
     operator: u32,
@@ -103,8 +103,8 @@ fn apply_given<T: Grounded>(
     Ok(())
 }
 
-/// Stores, for each variable, the value to which the effects that fire set it, up to the first effect that conflicts with an
-/// earlier one. Returns this effect, if there is one.
+/// Stores, for each variable, the value to which the effects that fire set it. Stops at the first effect that conflicts with an earlier
+/// one, and returns it. Returns `None` if no effects conflict.
 fn give_effects<T: Grounded>(
     task: &Layered<T>,
     operator: u32,
@@ -133,8 +133,7 @@ fn give_effects<T: Grounded>(
     None
 }
 
-/// Stores the value for the variable, unless another value is stored for it already. Returns whether no other value is
-/// stored.
+/// Stores the value for the variable. If another value is already stored, changes nothing and returns false.
 fn give(given: &mut Items<Option<u32>>, var: u32, value: u32) -> bool
     requires { var < length given.old }
     ensures yes { IsTrue result → GivesValue given.old var value given.new }
@@ -163,8 +162,8 @@ fn take_back<T: Grounded>(task: &Layered<T>, operator: u32, given: &mut Items<Op
     }
 }
 
-/// Writes the values that are stored for the variables of the effects into the state, and removes them. Adds the facts that
-/// this makes false to `deleted`, which is empty.
+/// Moves the values that are stored for the variables of the effects into the state. Adds the facts that become false to `deleted`, which
+/// must be empty.
 fn write_given<T: Grounded>(
     task: &Layered<T>,
     operator: u32,

@@ -13,7 +13,7 @@ use Rattle.sas_output.specs.Pieces.{Piece, Puts, Breaks}
 use Rattle.sas_summary.specs.Summary.{number_lines, fact_lines, initial_lines, goal_fact_lines, summary_lines}
 use Rattle.sas_output.proofs.Putting.{item_puts, item_breaks}
 
--- lines in a row
+-- lines one after another
 text_of_both : (a b : List (List ℕ)) → text (a ++ b) ≡ text a ++ text b
 text_of_both a b = flat_map-append (λ (line : List ℕ). line ++ 10 ∷ []) a b
 

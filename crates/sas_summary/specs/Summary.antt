@@ -14,11 +14,11 @@ use Rattle.sas_flat.specs.declared.outline.Outline.{Outline}
 abbrev pub number_line : List ℕ → ℕ → List ℕ
 number_line word n = line 0 (word ∷ decimal n ∷ [])
 
--- `metric M`, where M is 1 where cost lines count, else 0
+-- `metric M`, where M is 1 if the operators' cost lines are used, else 0
 abbrev pub metric_line : Bool → List ℕ
 metric_line metric = number_line (codes "metric") (if metric then 1 else 0)
 
--- how many variables have a layer
+-- how many variables are derived
 abbrev pub derived_count : List Variable → ℕ
 derived_count variables = count_by (λ (v : Variable). is_some v.layer) variables
 
@@ -38,7 +38,7 @@ number_lines o =
 abbrev pub fact_line : List ℕ → ℕ → ℕ → List ℕ → List ℕ
 fact_line word var value name = line 0 (word ∷ decimal var ∷ decimal value ∷ name ∷ [])
 
--- the line of a fact, which there is for each fact that exists
+-- the line of a fact, or no line if the fact doesn't exist
 abbrev pub fact_lines : List ℕ → List Variable → ℕ → ℕ → List (List ℕ)
 fact_lines word variables var value =
     option_map_or (λ (name : List ℕ). fact_line word var value name ∷ [])

@@ -1,4 +1,4 @@
-//! The summary of a task, written in pieces as it is made.
+//! Writes the summary of a task, in pieces.
 #![tactic(auto)]
 
 mod summary;

@@ -1,4 +1,4 @@
-// The summary of a task, written as it is made: it may be far longer than the task.
+// Writes the summary of a task in pieces, since it may be far longer than the task.
 ghost use Rattle.std.specs.Prelude.{◌≡◌, ◌<◌, ◌^◌, ◌⊎◌, ◌↔◌, [], ◌∷◌, ◌++◌, length, false};
 ghost use Rattle.std.specs.Prelude.{Some, IfErr, IfOk, IsErr, IsErrAnd, IsTrue, OnOk};
 ghost use Rattle.std.specs.Io.KnownBytes.{Appends};
@@ -15,8 +15,7 @@ use std::alloc::{AllocError, Global};
 use std::io::Write;
 use std::marker::Model;
 
-/// The summary of a task with this outline. A `usize` can hold its length, so the bytes of it that are written can be
-/// counted.
+/// The summary of a task with this outline. Its length fits into a `usize`, so the bytes written can be counted.
 #[derive(Drop)]
 pub struct Summary {
     outline: Outline,
@@ -44,8 +43,8 @@ impl Summary {
         Summary { outline }
     }
 
-    /// Writes the lines of the summary, in pieces. If an `Err` isn't a failed write, it is `Memory`, and nothing was written.
-    /// Not to be called after a failure.
+    /// Writes the lines of the summary, in pieces. Returns `Write` if a write fails, or `Memory` if out of memory. In the latter case
+    /// nothing was written. The device must not have failed before.
     pub fn write<W: Write>(&self, alloc: Global, out: &mut Watched<W>) -> Result<Status, ToolFault>
         requires { out.old.failed ≡ false }
         ensures ends { Ends
@@ -56,7 +55,7 @@ impl Summary {
             ⊎ ((e ≡ ToolFault.Memory) × (out.new ≡ out.old))) }
         ensures writes { IsErrAnd result IsWrite ↔ IsTrue out.new.failed }
     {
-        // What takes memory comes first.
+        // All memory is allocated before the first write.
         let mut pieces = Pieces::new(alloc)?;
         let numbers = numbers_text(alloc, &self.outline)?;
         match push_summary(&mut pieces, out, numbers.as_slice(), &self.outline) {
@@ -68,7 +67,7 @@ impl Summary {
     }
 }
 
-/// Writes these lines of numbers and the other lines of the summary. In the end nothing is held back.
+/// Writes these lines of numbers and the other lines of the summary, and flushes `pieces`.
 fn push_summary<W: Write>(
     pieces: &mut Pieces,
     out: &mut Watched<W>,
@@ -89,7 +88,7 @@ fn push_summary<W: Write>(
     pieces.flush(out)
 }
 
-/// Returns the lines of the task's numbers, each ended by LF.
+/// Returns the lines with the task's numbers, each ended by LF.
 fn numbers_text(alloc: Global, outline: &Outline) -> Result<Vec<u8>, AllocError>
     ensures { IfOk result (λ t. t.items ≡ text (spec.number_lines outline.now)) }
 {
@@ -107,7 +106,7 @@ fn numbers_text(alloc: Global, outline: &Outline) -> Result<Vec<u8>, AllocError>
     Ok(text)
 }
 
-/// Appends the line of a word and a number.
+/// Appends the line with a word and a number.
 fn push_number_line(out: &mut Vec<u8>, word: &[u8], n: u128) -> Result<(), AllocError>
     ensures { OnOk result (out.new.items ≡ out.old.items
         ++ (spec.number_line word.now n ++ 10 ∷ [])) }
@@ -132,14 +131,14 @@ fn derived_count(variables: &Variables) -> usize
     count
 }
 
-/// A variable, named by its place, and a value of it.
+/// The number of a variable, and one of its values.
 #[derive(Clone, Copy)]
 struct Valued {
     var: usize,
     value: u32,
 }
 
-/// Adds a line for each variable: its value in the state section.
+/// Adds a line for each variable, with its value in the state section.
 fn push_state<W: Write>(
     pieces: &mut Pieces,
     out: &mut Watched<W>,
@@ -180,7 +179,7 @@ fn push_goal<W: Write>(
     Ok(())
 }
 
-/// Adds the line of a word and a fact, with the name of the fact's value. A fact that doesn't exist has no line.
+/// Adds the line with a word, a fact and the name of its value. A fact that doesn't exist has no line.
 fn push_fact<W: Write>(
     pieces: &mut Pieces,
     out: &mut Watched<W>,
@@ -202,7 +201,7 @@ fn push_fact<W: Write>(
     }
 }
 
-/// Adds the line of a word, a variable, its value and the value's name.
+/// Adds the line with a word, a variable, its value and the value's name.
 fn push_fact_line<W: Write>(
     pieces: &mut Pieces,
     out: &mut Watched<W>,

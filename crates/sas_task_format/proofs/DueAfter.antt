@@ -1,4 +1,4 @@
--- What is due behind lines that lead the process of task files to a state.
+-- What is expected after lines that lead the process of task files to a state.
 use Rattle.std.proofs.Common.{◌≡◌, Bool, List, [], ◌∷◌, ◌++◌, map, refl, sym, subst, ◌∙◌}
 use Rattle.std.proofs.lemmas.List.{append-nil}
 use Rattle.sas_core.specs.declared.parts.Parts.{Parts}
@@ -19,7 +19,7 @@ Leads p items q = After task_format TaskLineFits process_node p items q
 abbrev Runs : TaskProcess → List TaskLine → Parts → Type 0
 Runs p items v = LeadsToEnd task_format TaskLineFits process_node p items v
 
--- Behind these lines a line is due at the slot, and a task has one there.
+-- After these lines, a line of the slot is expected, and a task has one there.
 pub record DueAfter (items : List TaskLine) (s : TaskSlot) : Type 0 where
   pub task : Parts
   pub good : WellRanged task
@@ -42,7 +42,7 @@ module _ (items : List TaskLine) (p : TaskProcess) (s : TaskSlot) (ok : TaskLine
       let good = task_grammar.sound (items ++ f.0) f.1 (after_ends task_format TaskLineFits process_node task_start p f.1 items f.0 h f.2) in
       due_with f.0 f.1 f.2 good.0 (sym good.1)
 
--- at the end of the process all lines have come
+-- at the end of the process all lines have been read
 pub whole_after : (items : List TaskLine) (p : TaskProcess) (v : Parts) → Leads task_start items p → process_node p ≡ ended v → IsAtEnd (track tracker_start items)
 whole_after items p v h n =
     let runs = after_ends task_format TaskLineFits process_node task_start p v items [] h n in

@@ -1,4 +1,4 @@
--- What is due behind the first lines of a task, by a tracker over them.
+-- What is expected after the first lines of a task, by a tracker over them.
 use Rattle.std.proofs.Common.{◌≡◌, ℕ, zero, suc, List, [], ◌∷◌, ◌++◌, length, map, refl, sym, ap, subst, ◌∙◌, slice_get, Some, None}
 use Rattle.std.proofs.lemmas.List.{append-nil, map-append, length-map}
 use Rattle.sas_core.specs.declared.parts.Parts.{Parts}
@@ -37,9 +37,9 @@ along_known : (ranges : List ℕ) (t : Tracker) (items : List TaskLine) → Alon
 along_known ranges t [] h = h
 along_known ranges t (i ∷ items) h = h.0
 
--- ---- behind lines that begin those of a task
+-- ---- after the first lines of a task
 
--- all lines have come
+-- all lines have been read
 pub record IsAtEnd (t : Tracker) : Type 0 where
   pub place : t.place ≡ place.Rules
   pub left : t.left ≡ 0
@@ -49,31 +49,31 @@ module _ (v : Parts) (good : WellRanged v) where
   along_behind : (before more : List TaskLine) → task_layout v ≡ before ++ more → Along (ranges_in v.variables) (track tracker_start before) more
   along_behind before more e = along_rest (ranges_in v.variables) tracker_start before more (subst (Along (ranges_in v.variables) tracker_start) e (task_scan v good).along)
 
-  -- the mark that the task has there
+  -- the mark of the task there
   pub due_behind : (before : List TaskLine) (i : TaskLine) (more : List TaskLine) → task_layout v ≡ before ++ i ∷ more → slice_get (task_marks v) (length before) ≡ Some (mark_in (track tracker_start before))
   due_behind before i more e =
       ap (λ (x : List Mark). slice_get x (length before)) (sym (task_scan v good).marks)
       ∙ ap (λ (x : List TaskLine). slice_get (track_marks tracker_start x) (length before)) e
       ∙ mark_at_line tracker_start before i more
 
-  -- what is due belongs where the line does
+  -- what is expected belongs to the slot of the line
   pub belongs_behind : (before : List TaskLine) (i : TaskLine) (more : List TaskLine) → task_layout v ≡ before ++ i ∷ more → slot_of_due (mark_in (track tracker_start before)).due ≡ task_slot i
   belongs_behind before i more e = (along_behind before (i ∷ more) e).1
 
-  -- all ranges are known, where lines speak of facts and where all have come, too
+  -- all ranges are known, both at lines with facts and after all lines
   pub ranges_behind : (before more : List TaskLine) → task_layout v ≡ before ++ more → IsBehindVariables (track tracker_start before).place → (track tracker_start before).ranges ≡ map (λ x. length x.values) v.variables
   ranges_behind before more e = along_known (ranges_in v.variables) (track tracker_start before) more (along_behind before more e)
 
   all_behind : (items : List TaskLine) → task_layout v ≡ items → track tracker_start items ≡ behind_all v
   all_behind items e = ap (track tracker_start) (sym e) ∙ (task_scan v good).ends
 
-  -- behind all lines nothing is due
+  -- after all lines nothing is expected
   pub whole_behind : (items : List TaskLine) → task_layout v ≡ items → IsAtEnd (track tracker_start items)
   whole_behind items e =
       let all = all_behind items e in
       record { place = ap (λ (t : Tracker). t.place) all; left = ap (λ (t : Tracker). t.left) all; mark = ap mark_in all }
 
-  -- what is due by the tracker is due
+  -- what the tracker expects is expected
   pub is_due : (begun : List (List ℕ)) (items : List TaskLine) (i : TaskLine) (more : List TaskLine) → map task_line_bytes items ≡ begun → task_layout v ≡ items ++ i ∷ more → IsDue begun (mark_in (track tracker_start items))
   is_due begun items i more s e =
       let long : length items ≡ length begun = sym (length-map items task_line_bytes) ∙ ap length s in
@@ -108,13 +108,14 @@ facts_behind_variables place.VariableRange t h = h
 facts_behind_variables place.VariableValues t h = no_fact t.more (due.Word fixed.EndVariable) due.Name (λ x. x) (λ x. x) h
 facts_behind_variables _ t h = tt
 
--- such lines are due only behind the variables
+-- such lines are expected only after the variables
 pub speaks_behind_variables : (t : Tracker) → SpeaksOfFacts (mark_in t).due → IsBehindVariables t.place
 speaks_behind_variables t h = facts_behind_variables t.place t h
 
--- ---- what is due, by the tracker
+-- ---- what is expected, by the tracker
 
--- These lines begin a task's, and a line follows; what is due there is the mark of a tracker over them.
+-- A task begins with these lines, and a line follows. What is expected there is the mark of a
+-- tracker over them.
 pub record Standing (begun : List (List ℕ)) (m : Mark) : Type 0 where
   pub task : Parts
   pub good : WellRanged task

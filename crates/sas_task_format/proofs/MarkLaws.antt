@@ -1,5 +1,5 @@
--- Behind the same lines of a task one thing is due, a line has one first wrong word at most, and so there is one reason why it
--- is refused.
+-- After the same lines of a task, one thing is expected. A line has at most one first wrong word.
+-- So there is one reason why it is refused.
 use Rattle.std.proofs.Common.{◌≡◌, ◌≢◌, ℕ, List, ◌∷◌, ◌++◌, length, map, refl, sym, ap, subst, ◌∙◌, Option, Some, None}
 use Rattle.sas_core.specs.declared.parts.Variable.{Variable}
 use Rattle.sas_core.specs.declared.parts.Parts.{Parts}
@@ -24,9 +24,9 @@ use Rattle.sas_task_format.proofs.TaskGrammar.{task_grammar}
 use Rattle.sas_task_format.proofs.DueBehind.{belongs_behind, ranges_behind, is_due, SpeaksOfFacts, speaks_behind_variables, standing}
 use Rattle.sas_task_format.proofs.WrongWords.{HasBounds, one_word}
 
--- ---- the bytes of lines fix the lines
+-- ---- the bytes of lines determine the lines
 
--- where the first lines of a task lead
+-- the tracker after the first lines of a task
 record Led (items : List TaskLine) : Type 0 where
   state : TaskProcess
   leads : After task_format TaskLineFits process_node task_start items state
@@ -42,7 +42,7 @@ same_items v u g h a more b rest e f s =
     let y = led u h b rest f in
     (same_path task_format TaskLineFits process_node task_start task_grammar task_start x.state y.state a b x.leads y.leads s).items
 
--- ---- one thing is due
+-- ---- one thing is expected
 
 pub one_due : OneDue
 one_due begun m n d f =
@@ -70,7 +70,7 @@ speaks (due.Number least most) h = h
 speaks due.Layer h = h
 speaks due.Nothing h = h
 
--- behind the lines that such a mark is due behind, all ranges are known, of each task that begins with them
+-- before such a mark, all ranges are known for each task that begins with the lines
 pub ranges_there : (begun : List (List ℕ)) (m : Mark) (d : IsDue begun m) (v : Parts) → WellRanged v → (more : List (List ℕ)) → lines_of task_format v ≡ begun ++ more → HasBounds (slot_of_due m.due)
     → (track tracker_start (standing begun m d).items).ranges ≡ map (λ (x : Variable). length x.values) v.variables
 ranges_there begun m d v good more e h =

@@ -1,4 +1,5 @@
--- Where a fact, a head or an effect is due, each line of its shape whose numbers may all stand goes on with a task.
+-- If a fact, a head or an effect is expected, each line of its shape with allowed numbers continues
+-- a task.
 use Rattle.std.proofs.Common.{◌≡◌, ℕ, zero, suc, Bool, true, List, [], ◌∷◌, ◌++◌, length, map, refl, sym, ap, subst, ◌∙◌, ◌⊎◌, inl, inr, Option, Some, None, IsTrue, codes, nat_lt, ◌==◌}
 use Rattle.std.specs.List.{flat_map, list_all}
 use Rattle.sas_core.specs.declared.parts.Fact.{Fact}
@@ -19,7 +20,7 @@ use Rattle.sas_task_format.proofs.TaskSections.{and_both}
 use Rattle.sas_task_format.proofs.TaskGrammar.{task_grammar}
 use Rattle.sas_task_format.proofs.WrongWords.{AllStand, HasBounds}
 
--- ---- numbers that may stand pass the tests
+-- ---- allowed numbers pass the tests
 
 module _ (vs : List Variable) where
   facts_pass : (fs : List Fact) (more : List Bounded) → AllStand (flat_map (fact_bounds vs) fs ++ more) → IsTrue (list_all (fact_exists vs) fs) × AllStand more
@@ -46,18 +47,18 @@ module _ (vs : List Variable) where
   head_passes (head var old new) s h = change_passes var old new h
   head_passes _ s h = absurd cc
 
-  -- ---- what comes behind the variables
+  -- ---- after the variables
 
-  -- where a fact, a head or an effect is due, the test passes each line whose numbers may all stand
+  -- if a fact, a head or an effect is expected, the test accepts each line with allowed numbers
   abbrev Passes : TaskSlot → (TaskLine → Bool) → Type 0
   Passes s ok = HasBounds s → (i : TaskLine) → task_slot i ≡ s → AllStand (line_bounds vs i) → IsTrue (ok i)
 
-  -- so it is at every line, and the task has these variables
+  -- this holds at every line, and the task has these variables
   abbrev Behind : TaskProcess → Type 0
   Behind (done v) = v.variables ≡ vs
   Behind (read s ok next) = Passes s ok × ((i : TaskLine) → Behind (next i))
 
--- where a fact, a head or an effect is due, the variables have come
+-- a fact, a head or an effect is expected only after the variables
 abbrev Known : TaskProcess → Type 0
 Known (done v) = Unit {0}
 Known (read s ok next) = ((vs : List Variable) × Behind vs (read s ok next)) ⊎ ((HasBounds s → ⊥) × ((i : TaskLine) → Known (next i)))
@@ -66,7 +67,7 @@ known_behind : (vs : List Variable) (p : TaskProcess) → Behind vs p → Known 
 known_behind vs (done v) h = tt
 known_behind vs (read s ok next) h = inl (vs, h)
 
--- ---- a property of processes that a part keeps: it has it if all that comes behind it does
+-- ---- a property that a part preserves: it holds for the part if it holds for what follows
 
 record Keeps (P : TaskProcess → Type 0) {A : Type 0} (part : TaskPart A) : Type 0 where
   keeps : (k : A → TaskProcess) → ((a : A) → P (k a)) → P (part k)
@@ -93,7 +94,7 @@ module _ {P : TaskProcess → Type 0} where
   each_keeps s [] so_far k h = h so_far
   each_keeps {one = one} s (b ∷ bs) so_far k h = (s b).keeps (λ a. each one bs (so_far ++ a ∷ []) k) (λ a. each_keeps s bs (so_far ++ a ∷ []) k h)
 
--- a line where no fact, head or effect is due keeps it
+-- a line where no fact, head or effect is expected preserves it
 abbrev Plain : (TaskProcess → Type 0) → Type 0
 Plain P = (s : TaskSlot) (ok : TaskLine → Bool) (next : TaskLine → TaskProcess) → (HasBounds s → ⊥) → ((i : TaskLine) → P (next i)) → P (read s ok next)
 
@@ -119,7 +120,7 @@ module _ {P : TaskProcess → Type 0} (plain : Plain P) where
   listed : {A : Type 0} {one : TaskPart A} (ok : ℕ → Bool) → Keeps P one → Keeps P (a_list (a_number ok) one)
   listed ok s = list (number_keeps ok) s
 
--- ---- the sections behind the variables
+-- ---- the sections after the variables
 
 module _ (vs : List Variable) where
   behind_plain : Plain (Behind vs)
@@ -154,7 +155,7 @@ module _ (vs : List Variable) where
   rule_keeps = converted (λ p. record { conditions = p.0; var = p.1.var; old = p.1.old; new = p.1.new })
       (enclosed behind_plain (codes "begin_rule") (codes "end_rule") (listed behind_plain any fact_keeps then head_keeps))
 
-  -- what comes behind the variables
+  -- what follows the variables
   abbrev rest_of_task : Bool → TaskProcess
   rest_of_task metric =
       a_list (a_number any) (a_group vs) (λ groups. a_state vs (λ init. a_goal vs (λ goal.
@@ -186,7 +187,7 @@ start_known =
     (version_keeps then metric_keeps then listed known_plain positive variable_keeps).keeps
     (λ p. rest_of_task p.1.1 p.1.0) (λ p. known_behind p.1.1 (rest_of_task p.1.1 p.1.0) (rest_behind p.1.1 p.1.0))
 
--- ---- behind some lines
+-- ---- after some lines
 
 abbrev Comes : TaskProcess → List TaskLine → TaskProcess → Type 0
 Comes p items q = After task_format TaskLineFits process_node p items q
@@ -206,7 +207,7 @@ its_variables vs (done w) (i ∷ items) v h e = absurd e
 its_variables vs (read s ok next) [] v h e = absurd cc
 its_variables vs (read s ok next) (i ∷ items) v h e = its_variables vs (next i) items v (h.1 i) e.1
 
--- where a line of a task comes, one at the same slot may come whose numbers may all stand
+-- a line of a task may be replaced by a line of the same slot with allowed numbers
 may_come : (p : TaskProcess) (item : TaskLine) (more : List TaskLine) (v : Parts) (i : TaskLine) → Known p → Runs p (item ∷ more) v → HasBounds (task_slot item) → task_slot i ≡ task_slot item → TaskLineFits i → AllStand (line_bounds v.variables i) → (q : TaskProcess) × Comes p (i ∷ []) q
 may_come (done w) item more v i h e b s f a = absurd e
 may_come (read slot ok next) item more v i (inl h) e b s f a =
@@ -226,7 +227,7 @@ led_begun p begun h =
       ap (map task_line_bytes) (sym s.1) ∙ map-append task_line_bytes h.items c.0 ∙ ap (λ (l : List (List ℕ)). l ++ map task_line_bytes c.0) h.spells,
     )
 
--- so the lines before it and this one begin those of a task
+-- so a task begins with the lines before it and this line
 pub goes_on : (v : Parts) → WellRanged v → (begun : List (List ℕ)) (items : List TaskLine) (item : TaskLine) (more : List TaskLine) → task_layout v ≡ items ++ item ∷ more → map task_line_bytes items ≡ begun → HasBounds (task_slot item)
     → (i : TaskLine) → task_slot i ≡ task_slot item → TaskLineFits i → AllStand (line_bounds v.variables i) → IsBegun task_format (begun ++ task_line_bytes i ∷ [])
 goes_on v good begun items item more e spells b i s f a =

@@ -1,5 +1,6 @@
--- Sections: parts of a tree of reads, each with its lines and its good values. What leads through a part is the lines
--- of one good value, and those of each good value lead through. The section of a format is composed of smaller ones.
+-- Sections: parts of a tree of reads, each with its lines and its good values. Lines that lead
+-- through a part are those of one good value, and the lines of each good value lead through. The
+-- section of a format is composed of smaller ones.
 use Rattle.std.proofs.Common.{◌≡◌, ℕ, zero, suc, Bool, List, [], ◌∷◌, ◌++◌, length, refl, sym, ap, subst, ◌∙◌, append_assoc, IsTrue}
 use Rattle.std.specs.List.{flat_map, AllByRecursion}
 use Rattle.std.proofs.lemmas.List.{append-nil}
@@ -9,7 +10,7 @@ use Rattle.sas_reader.specs.System.{Takes, After, LeadsToEnd}
 use Rattle.sas_task_format.specs.Process.{Process, done, read, process_node, Part, Paired, a_line, repeat, each, a_list}
 use Rattle.sas_reader.proofs.Paths.{one_ended}
 
--- of what tells nothing, each value is good
+-- the only value of a part without content is good
 abbrev pub Always : Unit {0} → Type 0
 Always u = Unit {0}
 
@@ -18,12 +19,12 @@ module _ {V I S : Type 0} (F : Format V I S) (Fits : I → Type 0) where
   abbrev pub Runs : Process V I S → List I → V → Type 0
   Runs p is v = LeadsToEnd F Fits process_node p is v
 
-  -- whatever comes, it can be brought to its end
+  -- any lines can be completed
   abbrev pub Fillable : Process V I S → Type 0
   Fillable (done v) = Unit {0}
   Fillable (read s ok next) = (i : I) × Takes F Fits s ok i × ((j : I) → Takes F Fits s ok j → Fillable (next j))
 
-  -- the lines are those of a good value, and then some that run what comes behind it
+  -- the lines are those of a good value, followed by lines of the rest
   pub record Found {A : Type 0} (items : A → List I) (Good : A → Type 0) (k : A → Process V I S) (is : List I) (v : V) : Type 0 where
     pub value : A
     pub rest : List I
@@ -31,13 +32,13 @@ module _ {V I S : Type 0} (F : Format V I S) (Fits : I → Type 0) where
     pub good : Good value
     pub runs : Runs (k value) rest v
 
-  -- the part reads the lines of good values, these and no others, and can always be filled
+  -- the part reads exactly the lines of good values, and can always be completed
   pub record Section {A : Type 0} (items : A → List I) (Good : A → Type 0) (part : Part V I S A) : Type 0 where
     pub sound : (k : A → Process V I S) (is : List I) (v : V) → Runs (part k) is v → Found items Good k is v
     pub complete : (k : A → Process V I S) (a : A) (rest : List I) (v : V) → Good a → Runs (k a) rest v → Runs (part k) (items a ++ rest) v
     pub fill : (k : A → Process V I S) → ((a : A) → Good a → Fillable (k a)) → Fillable (part k)
 
-  -- each value of A has its line at the slot, and each line there says one value
+  -- each value of A has a line of the slot, and each line of the slot has one value
   pub record LineFor {A : Type 0} (s : S) (back : I → A) (into : A → I) : Type 0 where
     pub slot : (a : A) → F.slot_of (into a) ≡ s
     pub backs : (a : A) → back (into a) ≡ a
@@ -71,7 +72,7 @@ module _ {V I S : Type 0} {F : Format V I S} {Fits : I → Type 0} where
     leaf_sound k [] v e = absurd cc
     leaf_sound k (i ∷ is) v e = record { value = back i; rest = is; whole = ap (λ (j : I). j ∷ is) (sym (says.only i e.0.slot)); good = leaf_good i e.0; runs = e.1 }
 
-    -- a line that says a value
+    -- a line that has a value
     pub leaf : Section F Fits (λ a. into a ∷ []) Good (a_line s ok back)
     leaf = record {
       sound = leaf_sound;
@@ -79,7 +80,7 @@ module _ {V I S : Type 0} {F : Format V I S} {Fits : I → Type 0} where
       fill = λ k f. (into l.first, leaf_takes l.first l.first_good, λ j t. f (back j) (leaf_good j t));
     }
 
-  -- ---- one part, and then another
+  -- ---- one part, followed by another
 
   module _ {A B : Type 0} {items : A → List I} {Good : A → Type 0} {first : Part V I S A} {more : A → B → List I} {More : A → B → Type 0} {next : A → Part V I S B}
       (f : Section F Fits items Good first) (n : (a : A) → Good a → Section F Fits (more a) (More a) (next a)) where
@@ -96,7 +97,7 @@ module _ {V I S : Type 0} {F : Format V I S} {Fits : I → Type 0} where
           runs = h.runs;
         }
 
-    -- the second may depend on what the first read
+    -- the second part may depend on the value of the first
     pub both : Section F Fits (λ (p : A × B). items p.0 ++ more p.0 p.1) (λ p. Good p.0 × More p.0 p.1) (λ k. first (λ a. next a (λ b. k (a, b))))
     both = record {
       sound = both_sound;
@@ -112,7 +113,7 @@ module _ {V I S : Type 0} {F : Format V I S} {Fits : I → Type 0} where
       → Section F Fits (λ (p : A × B). items p.0 ++ more p.1) (λ p. Good p.0 × More p.1) (λ k. first (λ a. next (λ b. k (a, b))))
   f then n = both f (λ a g. n)
 
-  -- ---- the same part, said in other words
+  -- ---- the same part, in another form
 
   -- its values as those of another type
   pub converted : {A B : Type 0} {items : A → List I} {Good : A → Type 0} {part : Part V I S A} {new_items : B → List I} {NewGood : B → Type 0} (to : A → B)
@@ -131,24 +132,24 @@ module _ {V I S : Type 0} {F : Format V I S} {Fits : I → Type 0} where
       → ((a : A) → Good a → NewGood a) → ((a : A) → NewGood a → Good a) → Section F Fits items Good part → Section F Fits items NewGood part
   restated there back s = converted (λ a. a) s (record { good = there; lines = λ a g. refl; back = λ a h. (a, back a h, refl) })
 
-  -- one value alone is good, so that the part tells nothing
+  -- only one value is good, so the part has no content
   pub silent : {A : Type 0} {items : A → List I} {part : Part V I S A} (a : A) → Section F Fits items (λ x. x ≡ a) part → Section F Fits (λ _. items a) Always (λ k. part (λ _. k tt))
   silent {items = items} a s = converted (λ _. tt) s (record { good = λ x g. tt; lines = λ x g. ap items (sym g); back = λ u g. (a, refl, refl) })
 
-  -- a part between two that tell nothing
+  -- a part between two parts without content
   pub within : {A : Type 0} {items : A → List I} {Good : A → Type 0} {first_items last_items : List I} {first last : Part V I S (Unit {0})} {part : Part V I S A}
       → Section F Fits (λ _. first_items) Always first → Section F Fits (λ _. last_items) Always last → Section F Fits items Good part
       → Section F Fits (λ a. first_items ++ (items a ++ last_items)) Good (λ k. first (λ _. part (λ a. last (λ _. k a))))
   within f l s = converted (λ p. p.1.0) (f then (s then l)) (record { good = λ p g. g.1.0; lines = λ p g. refl; back = λ a g. ((tt, (a, tt)), (tt, (g, tt)), refl) })
 
--- ---- a part for each element of a list, and so many of a part
+-- ---- a part for each item of a list, and n times a part
 
--- so many good values
+-- n good values
 abbrev pub Many : {A : Type 0} → (A → Type 0) → ℕ → List A → Type 0
 Many Good n xs = (length xs ≡ n) × AllByRecursion Good xs
 
 module _ {V I S A B : Type 0} where
-  -- as `each`, where what comes behind sees to those so far
+  -- like `each`, but the rest handles the values so far
   abbrev one_each : (B → Part V I S A) → List B → Part V I S (List A)
   one_each one [] k = k []
   one_each one (b ∷ bs) k = one b (λ a. one_each one bs (λ more. k (a ∷ more)))
@@ -158,7 +159,7 @@ module _ {V I S A B : Type 0} where
   each_is one (b ∷ bs) so_far k =
       ap (one b) (λ i a. (each_is one bs (so_far ++ a ∷ []) k ∙ ap (one_each one bs) (λ j more. k (append_assoc so_far (a ∷ []) more j))) i)
 
--- a list of so many, which tells no more than that
+-- a list of n items without content
 abbrev units : ℕ → List (Unit {0})
 units zero = []
 units (suc n) = tt ∷ units n
@@ -198,16 +199,17 @@ module _ {V I S : Type 0} {F : Format V I S} {Fits : I → Type 0} {A : Type 0} 
     one_each_section [] r = record { sound = λ k is v e. record { value = []; rest = is; whole = refl; good = tt; runs = e }; complete = none_complete; fill = λ k f. f [] tt }
     one_each_section (b ∷ bs) r = converted (λ p. p.0 ∷ p.1) (s b r.0 then one_each_section bs r.1) (record { good = λ p g. g; lines = λ p g. flat_map-cons items p.0 p.1; back = first_and_rest b bs })
 
-    -- a part for each element of a list: which values are good may depend on the element, how its lines look may not
+    -- a part for each item of a list: which values are good may depend on the item, but their lines
+    -- may not
     pub for_each : (bs : List B) → AllByRecursion Ready bs → Section F Fits (flat_map items) (Paired Good bs) (each one bs [])
     for_each bs r = subst (Section F Fits (flat_map items) (Paired Good bs)) (λ i k. sym (each_is one bs [] k) i) (one_each_section bs r)
 
-  -- so many of a part
+  -- n times a part
   pub many : {Good : A → Type 0} {one : Part V I S A} → Section F Fits items Good one → (n : ℕ) → Section F Fits (flat_map items) (Many Good n) (repeat one n [])
   many {Good = Good} {one = one} s n = subst (Section F Fits (flat_map items) (Many Good n)) (λ i k. sym (repeat_is one n [] k) i)
       (restated (paired_many Good n) (many_paired Good n) (for_each {Ready = Always} (λ u r. s) (units n) (always_ready (units n))))
 
-  -- a number, and then so many of a part
+  -- a number, and then this many of a part
   pub list : {count_items : ℕ → List I} {GoodCount : ℕ → Type 0} {count : Part V I S ℕ} {Good : A → Type 0} {one : Part V I S A}
       → Section F Fits count_items GoodCount count → Section F Fits items Good one
       → Section F Fits (λ xs. count_items (length xs) ++ flat_map items xs) (λ xs. GoodCount (length xs) × AllByRecursion Good xs) (a_list count one)
@@ -220,13 +222,13 @@ module _ {V I S : Type 0} {F : Format V I S} {Fits : I → Type 0} {A : Type 0} 
 -- ---- the whole
 
 module _ {V I S : Type 0} (F : Format V I S) (Fits : I → Type 0) where
-  -- what can be filled still can after some lines
+  -- what can be completed still can after some lines
   fill_after : (p q : Process V I S) (is : List I) → Fillable F Fits p → After F Fits process_node p is q → Fillable F Fits q
   fill_after p q [] f a = subst (Fillable F Fits) a f
   fill_after (done v) q (i ∷ is) f a = absurd a
   fill_after (read s ok next) q (i ∷ is) f a = fill_after (next i) q is (f.2 i a.0) a.1
 
-  -- the lines that fill it, and the value that they end with
+  -- the lines that complete it, and their value
   filled : (p : Process V I S) → Fillable F Fits p → (is : List I) × (v : V) × Runs F Fits p is v
   filled (done v) f = ([], v, refl)
   filled (read s ok next) f = let t = filled (next f.0) (f.2 f.0 f.1) in (f.0 ∷ t.0, t.1, (f.1, t.2))
@@ -235,8 +237,8 @@ module _ {V I S : Type 0} (F : Format V I S) (Fits : I → Type 0) where
   at_end v w [] e = (one_ended v w e, refl)
   at_end v w (i ∷ is) e = absurd e
 
-  -- the first three fields of a grammar: what leads to the end is the lines of a good value, the lines of each good value
-  -- lead there, and whatever came can be completed
+  -- the first three fields of a grammar: lines that lead to the end are those of a good value, the
+  -- lines of each good value lead there, and any lines can be completed
   pub record Meets (start : Process V I S) : Type 0 where
     pub sound : (is : List I) (v : V) → Runs F Fits start is v → F.Good v × (is ≡ F.layout v)
     pub complete : (v : V) → F.Good v → Runs F Fits start (F.layout v) v
@@ -249,7 +251,7 @@ module _ {V I S : Type 0} (F : Format V I S) (Fits : I → Type 0) {part : Part 
       let a = at_end F Fits f.value v f.rest f.runs in
       (subst F.Good a.0 f.good, f.whole ∙ ap (λ (x : List I). F.layout f.value ++ x) a.1 ∙ append-nil (F.layout f.value) ∙ ap F.layout a.0)
 
-  -- the section of a format's values, with nothing behind it
+  -- the section of a format's values, with nothing after it
   pub meets : Meets F Fits (part done)
   meets = record {
     sound = whole_sound;

@@ -1,4 +1,4 @@
--- Each fault of a task file has a reason: what is due where it stands, and which word is wrong, if one is.
+-- Each fault of a task file has a reason: what is expected there, and which word is wrong, if any.
 use Rattle.std.proofs.Common.{◌≡◌, ◌≢◌, ℕ, ◌+◌, ◌-◌, List, [], ◌∷◌, ◌++◌, length, map, refl, sym, ap, subst, ◌∙◌, ◌⊎◌, inl, inr, Option, Some, None}
 use Rattle.std.proofs.lemmas.List.{append-nil}
 use Rattle.sas_core.specs.declared.parts.Variable.{Variable}
@@ -28,14 +28,14 @@ use Rattle.sas_task_format.proofs.MarkLaws.{one_due, some_due, ranges_there}
 abbrev HasReason : Kind → List (List ℕ) → List ℕ → Type 0
 HasReason kind begun found = (m : Mark) × (w : Option WrongWord) × IsTaskReason kind begun found m w
 
--- something is due, and no word is wrong
+-- something is expected, and no word is wrong
 due_reason : (kind : Kind) (begun : List (List ℕ)) (found : List ℕ) (m : Mark) → IsDue begun m → kind ≢ kinds.Trailing → kind ≢ kinds.Value → HasReason kind begun found
 due_reason kind begun found m d t v = (m, None, record { trailing = λ e. absurd (t e); due = λ n. d; wrong_word = tt; no_wrong_word = λ n e. absurd (v e) })
 
--- ---- a number that may not stand
+-- ---- a number that isn't allowed
 
 module _ (begun : List (List ℕ)) (m : Mark) (d : IsDue begun m) where
-  -- each task that begins with these lines bounds the next one in the same way
+  -- each task that begins with these lines has the same bounds for the next line
   pub same_bounds : (v : Parts) → WellRanged v → (more : List (List ℕ)) → lines_of task_format v ≡ begun ++ more → (i : TaskLine) → task_slot i ≡ slot_of_due m.due → line_bounds d.task.variables i ≡ line_bounds v.variables i
   same_bounds v good more e i s = bounds i s
     where
@@ -64,7 +64,7 @@ module _ (begun : List (List ℕ)) (m : Mark) (d : IsDue begun m) where
           stands_not = b.wrong.stands_not;
         }
 
-    -- a number that may not stand is the wrong word
+    -- a number that isn't allowed is the wrong word
     pub wrong_behind : Splits (line_bounds d.task.variables i) → (w : WrongWord) × IsWrongBehind begun found w
     wrong_behind s = (
       record { word = length s.before + 1; may_be_none = s.wrong.may_be_none; most = s.wrong.bound - 1 },
@@ -102,7 +102,7 @@ module _ (begun : List (List ℕ)) (m : Mark) (d : IsDue begun m) where
           },
         )
 
--- ---- a line that may not stand
+-- ---- a line that isn't allowed
 
 numbers_reason : (kind : Kind) (begun : List (List ℕ)) (found : List ℕ) (m : Mark) → IsDue begun m → (s : TaskSlot) → slot_of_due m.due ≡ s → NumbersKind s found kind → HasReason kind begun found
 numbers_reason kind begun found m d s e (no_shape h) = due_reason kinds.Shape begun found m d (λ x. absurd cc) (λ x. absurd cc)
@@ -117,7 +117,7 @@ line_reason kind begun found m d fact_slot e k = numbers_reason kind begun found
 line_reason kind begun found m d effect_slot e k = numbers_reason kind begun found m d effect_slot e k
 line_reason kind begun found m d head_slot e k = numbers_reason kind begun found m d head_slot e k
 
--- ---- the byte behind the end, and an early end
+-- ---- a byte after the end, and an early end
 
 trailing_reason : (begun : List (List ℕ)) (found : List ℕ) → HasReason kinds.Trailing begun found
 trailing_reason begun found = (end_mark, None, record { trailing = λ e. refl; due = λ n. absurd (n refl); wrong_word = tt; no_wrong_word = λ n e. absurd cc })

@@ -1,4 +1,5 @@
--- Where a fact, a head or an effect is due, a line of its shape that may not stand has a wrong word, which the reason names.
+-- If a fact, a head or an effect is expected, a refused line of its shape has a wrong word, which
+-- the reason names.
 use Rattle.std.proofs.Common.{◌≡◌, ℕ, ◌≤◌, List, [], ◌∷◌, ◌++◌, length, length-append, map, refl, sym, ap, subst, ◌∙◌, inl, inr, arith, Option, Some, None}
 use Rattle.std.specs.Prelude.{IsSome}
 use Rattle.std.proofs.lemmas.Bool.Decides.{eqb_tells}
@@ -50,7 +51,7 @@ some_wrong_word begun line m d speaks shape none =
       | inr s ↦ wrong_behind begun m d line shape.0 shape.1 shape.2 shape.3 s
     ]
 
--- ---- bytes whose last line may not stand
+-- ---- bytes whose last line is refused
 
 longer : (ls : List (List ℕ)) (line : List ℕ) → ls ++ line ∷ [] ≡ ls → ⊥
 longer ls line e = omega (arith, length-append ls (line ∷ []), ap length e)
@@ -69,7 +70,7 @@ module _ {V I S : Type 0} (F : Format V I S) (limit : ℕ) where
   short_enough bytes byte kind (trailing l v r k) e = omega (arith, length-append bytes (byte ∷ []))
   short_enough bytes byte kind (wrong l line is s n k) e = omega (arith, length-append bytes (byte ∷ []))
 
-  -- no value's lines begin with those before a wrong value and this one
+  -- no value's lines begin with these lines and a line with a wrong value
   none_begun : (bytes : List ℕ) (f : Fault) (h : FaultOf F limit bytes f) (begun : List (List ℕ)) (line : List ℕ) → f.kind ≡ kinds.Value → begun ≡ lines h.before → lines (h.before ++ h.byte ∷ []) ≡ begun ++ line ∷ [] → IsBegun F (begun ++ line ∷ []) → ⊥
   none_begun bytes f h begun line v a t b =
       let lf : h.byte ≡ 10 = completes h.before h.byte line (t ∙ ap (λ (x : List (List ℕ)). x ++ line ∷ []) a) in

@@ -1,4 +1,4 @@
--- Lines that begin a task are completed by fillings, in one way.
+-- Lines that begin a task can be completed by fillings, in exactly one way.
 use Rattle.std.proofs.Common.{◌≡◌, ℕ, zero, suc, ◌<◌, ◌+◌, Bool, List, [], ◌∷◌, ◌++◌, length, refl, sym, ap, subst, ◌∙◌, arith, IsTrue, Option, Some, None, codes, nat_lt, ◌==◌, length-append}
 use Rattle.std.specs.List.{AllByRecursion}
 use Rattle.std.specs.Fmt.{decimal}
@@ -20,12 +20,13 @@ use Rattle.sas_task_format.proofs.TaskGrammar.{task_grammar}
 
 -- ---- what can be filled
 
--- whatever comes, the filling can come at each slot
+-- after any lines, each slot can have its filling
 abbrev Fills : Option TaskSlot → TaskProcess → Type 0
 Fills before (done v) = Unit {0}
 Fills before (read s ok next) = Takes task_format TaskLineFits s ok (filling before s) × ((j : TaskLine) → Takes task_format TaskLineFits s ok j → Fills (Some s) (next j))
 
--- a part that can be filled where a number is filled by the first; behind it a number is filled by the last
+-- a part that can be filled if a number is filled by the first number; after it a number is filled
+-- by the last one
 record Filled {A : Type 0} (first : ℕ) (Good : A → Type 0) (last : ℕ) (part : TaskPart A) : Type 0 where
   fills : (k : A → TaskProcess) → ((a : A) → Good a → (b : Option TaskSlot) → number_filling b ≡ last → Fills b (k a)) → (b : Option TaskSlot) → number_filling b ≡ first → Fills b (part k)
 
@@ -94,7 +95,7 @@ module _ {A : Type 0} {m : ℕ} (Good : A → Type 0) {one : TaskPart A} (s : Fi
       s.fills (λ a. repeat one n (so_far ++ a ∷ []) k)
       (λ a x. repeat_fills n (so_far ++ a ∷ []) k (λ xs l. h xs (omega (arith, l, length-append so_far (a ∷ [])))) (all_and_one Good so_far a g x)) b e
 
--- a number, and then so many of a part
+-- a number, and then this many of a part
 list : {A : Type 0} {l m : ℕ} {GoodCount : ℕ → Type 0} {count : TaskPart ℕ} (Good : A → Type 0) {one : TaskPart A} → Filled l GoodCount m count → Filled m Good m one
     → Filled l (λ xs. GoodCount (length xs) × AllByRecursion Good xs) m (a_list count one)
 list {GoodCount = GoodCount} Good {one = one} c s = record { fills = λ k h. c.fills (λ n. repeat one n [] k) (λ n g. repeat_fills Good s n [] k (λ xs l all. h xs (subst GoodCount (let e : n ≡ length xs = omega (arith, l) in e) g, all)) tt) }
@@ -212,7 +213,7 @@ same_end (read s ok next) b (i ∷ is) (j ∷ js) v w e f g h =
     same_end (next i) (Some (task_slot i)) is js v w e.1 (subst (λ (x : TaskLine). Runs (next x) js w) line f.1) g.1 (subst (λ (x : TaskLine). AreFillings (Some (task_slot x)) js) line h.1)
 
 module _ (begun : List (List ℕ)) where
-  -- where the first lines of a task lead, and how its fillings end there
+  -- the state after the first lines of a task, and how its fillings end there
   record Led (c : Completion begun) : Type 0 where
     state : TaskProcess
     leads : Leads task_start c.before state
@@ -232,7 +233,7 @@ one_completion begun c d =
     (subst (λ (q : TaskProcess). Runs q d.fillings d.parts) (sym same.state) y.runs) c.filled
     (subst (λ (is : List TaskLine). AreFillings (last_slot None is) d.fillings) (sym same.items) d.filled)
 
--- ---- in their bytes
+-- ---- their bytes
 
 zero_digit : decimal 0 ≡ codes "0"
 zero_digit = decimal_digit 0 (omega arith)

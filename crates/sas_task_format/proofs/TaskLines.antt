@@ -1,4 +1,5 @@
--- A line of a task has one meaning at a slot, its fault has one kind, and it holds no LF and no CR.
+-- A line of a task has one meaning at a slot, its fault has one kind, and it contains no LF and no
+-- CR.
 use Rattle.std.proofs.Common.{◌≡◌, ℕ, List, [], ◌∷◌, ◌++◌, length, refl, sym, ap, subst, ◌∙◌, arith, Option}
 use Rattle.std.specs.List.{flat_map, AllByRecursion}
 use Rattle.std.specs.Fmt.{decimal}
@@ -45,7 +46,7 @@ same_head u v o p m n h k e =
     let s = same_head_words u v o p m n h k w in
     ap (λ (x : ℕ). head x o m) s.0 ∙ ap (λ (x : Option ℕ). head v x m) s.1 ∙ ap (λ (x : ℕ). head v p x) s.2
 
--- as many facts, and then other words
+-- the same number of facts, and then other words
 same_facts : (fs gs : List Fact) (ws vs : List (List ℕ)) → AllByRecursion FactNumbers fs → AllByRecursion FactNumbers gs → length fs ≡ length gs → flat_map fact_words fs ++ ws ≡ flat_map fact_words gs ++ vs → (fs ≡ gs) × (ws ≡ vs)
 same_facts [] [] ws vs h k l e = (refl, e)
 same_facts [] (g ∷ gs) ws vs h k l e = absurd (omega arith)
@@ -59,7 +60,7 @@ NoSpace-facts : (fs : List Fact) (ws : List (List ℕ)) → AllByRecursion FactN
 NoSpace-facts [] ws h g = g
 NoSpace-facts (f ∷ fs) ws h g = (NoSpace-number f.var h.0.0, (NoSpace-number f.value h.0.1, NoSpace-facts fs ws h.1 g))
 
--- the words of an effect behind the number of its conditions
+-- the words of an effect after the number of its conditions
 abbrev pub effect_rest : Effect → List (List ℕ)
 effect_rest e = flat_map fact_words e.conditions ++ head_words e.var e.old e.new
 

@@ -1,4 +1,4 @@
--- No line of a well ranged task holds LF or CR.
+-- No line of a well ranged task contains LF or CR.
 use Rattle.std.proofs.Common.{ℕ, ◌<◌, Bool, true, false, List, [], ◌∷◌, ◌++◌, length, map, refl, arith, IsTrue, Option, Some, None, codes}
 use Rattle.std.specs.List.{flat_map, list_all, AllByRecursion}
 use Rattle.std.specs.Fmt.{decimal}
@@ -44,7 +44,7 @@ plain-head var old new h = (plain-number var h.0, (plain-signed old h.1, (plain-
 plain-effect : (e : Effect) → EffectNumbers e → AllByRecursion IsPlain (effect_words e)
 plain-effect e h = (plain-number (length e.conditions) h.count, plain-facts e.conditions (head_words e.var e.old e.new) h.conditions (plain-head e.var e.old e.new h.head))
 
--- a word and a name without LF and CR, or numbers that a file can say
+-- a word or a name without LF and CR, or numbers that a file can spell
 abbrev pub Sayable : TaskLine → Type 0
 Sayable (word w) = IsTrue (list_all is_plain w)
 Sayable (name bytes) = IsName bytes

@@ -43,7 +43,7 @@ pub all_map : {A : Type 0} (P Q : A → Type 0) → ((a : A) → P a → Q a) �
 all_map P Q f [] g = tt
 all_map P Q f (x ∷ xs) g = (f x g.0, all_map P Q f xs g.1)
 
--- ---- what a line at a slot says
+-- ---- the value of a line of a slot
 
 pub word_is : (w : List ℕ) (i : TaskLine) → task_slot i ≡ word_slot w → word w ≡ i
 word_is w (word v) e = cc
@@ -135,7 +135,7 @@ bit_back false g = (0, (omega arith, refl), refl)
 bit_section : Section task_format TaskLineFits (λ m. number (metric_number m) ∷ []) AnyBit (λ k. a_number (λ n. nat_lt n 2) (λ n. k (n == 1)))
 bit_section = converted (λ n. n == 1) (number_section (λ n. nat_lt n 2) 0 (omega arith, refl)) (record { good = λ n g. tt; lines = λ n g. ap (λ x. number x ∷ []) (bit_number n (is_less n 2 g.1)); back = bit_back })
 
--- ---- lists behind their counts
+-- ---- lists after their counts
 
 list_section : {A : Type 0} {items : A → List TaskLine} {Good : A → Type 0} {one : TaskPart A} → Section task_format TaskLineFits items Good one → Section task_format TaskLineFits (counted items) (Listed Good) (a_list (a_number any) one)
 list_section s = restated (λ xs g. record { count = g.0.0; each = g.1 }) (λ xs g. ((g.count, refl), g.each)) (list (number_section any 0 (omega arith, refl)) s)
@@ -150,12 +150,12 @@ enclosed_section : {A : Type 0} {items : A → List TaskLine} {Good : A → Type
     → Section task_format TaskLineFits (λ a. between first (items a) last) Good (λ k. a_word first (λ _. one (λ a. a_word last (λ _. k a))))
 enclosed_section first last s = within (word_section first) (word_section last) s
 
--- ---- what names variables and values
+-- ---- lines with variables and values
 
 abbrev pub Ranged : Variable → Type 0
 Ranged v = (0 < length v.values) × IsNumber (length v.values)
 
--- what is known once the variables have come
+-- what is known after the variables
 pub record Known (vs : List Variable) : Type 0 where
   pub few : (i : ℕ) → IsNumber (range_of vs i)
   pub below : (i x : ℕ) → HasValue vs i x → IsNumber i
@@ -201,7 +201,7 @@ fact_section vs k = leaf fact_says (record {
   first_good = k.first;
 })
 
--- the variable exists and has the new value and the old one, if any
+-- the variable exists, and its new value and its old value, if any, are in its range
 abbrev pub Changes : List Variable → ℕ → Option ℕ → ℕ → Type 0
 Changes vs var old new = MayHaveValue vs var old × HasValue vs var new
 

@@ -1,4 +1,5 @@
--- A tracker over the sections of a task: it says the marks of each, and what it has counted behind it.
+-- A tracker over the sections of a task: its marks are those of each section, and its counts after
+-- each section are right.
 use Rattle.std.proofs.Common.{◌≡◌, ℕ, suc, ◌+◌, ◌-◌, Bool, List, [], ◌∷◌, ◌++◌, length, map, refl, sym, ap, ◌∙◌, append_assoc, append-nil, arith, codes}
 use Rattle.std.specs.List.{flat_map}
 use Rattle.std.proofs.lemmas.List.{map-append}
@@ -36,7 +37,7 @@ operator_marks f a b c w = sym (
 rule_marks : (f : Due → Mark) (a : List Due) (h w : Due) → map f a ++ f h ∷ f w ∷ [] ≡ map f ((a ++ h ∷ []) ++ w ∷ [])
 rule_marks f a h w = sym (map-append f (a ++ h ∷ []) (w ∷ []) ∙ ap (λ (x : List Mark). x ++ f w ∷ []) (map-append f a (h ∷ [])) ∙ append_assoc (map f a) (f h ∷ []) (f w ∷ []))
 
--- of so many, with as many left behind it, one has this number: while it is next, and once it has begun
+-- the number of an item, from the total and how many are left: before and after it begins
 abbrev IsNumbered : ℕ → ℕ → ℕ → Type 0
 IsNumbered total left n = n + suc left ≡ total
 
@@ -60,7 +61,7 @@ module _ (ranges : List ℕ) where
   pub metric_scan : (m : Bool) → Scan ranges (record tracker_start { place = place.MetricBegin }) (metric_lines m) (there at.Metric metric_dues) (record tracker_start { place = place.VariableCount })
   metric_scan m = record { marks = refl; ends = refl; along = (λ h. absurd h, refl, (λ h. absurd h, refl, (λ h. absurd h, refl, λ h. absurd h))) }
 
-  -- ---- so many of a line, which are counted down
+  -- ---- n lines of one kind, which are counted down
 
   module _ {A : Type 0} (says : A → TaskLine) (p : Place) (where_it_stands : Location) (d : Due) (t : Tracker)
       (moves : (n : ℕ) (i : TaskLine) → step (record t { place = p; more = suc n }) i ≡ record t { place = p; more = suc n - 1 })
@@ -92,7 +93,7 @@ module _ (ranges : List ℕ) where
         along = (λ h. absurd h, refl, (λ h. absurd h, refl, (λ h. absurd h, refl, (λ h. absurd h, refl, λ h. absurd h))));
       }
 
-  -- behind a variable
+  -- after a variable
   abbrev pub behind_variable : Tracker → Variable → Tracker
   behind_variable t v = record t { ranges = t.ranges ++ length v.values ∷ [] }
 
@@ -149,7 +150,7 @@ module _ (ranges : List ℕ) where
         marked ranges (◌then◌ ranges begins (◌then◌ ranges (facts_scan place.GoalFacts at.Goal 0 (λ n i. refl) (λ n. refl) facts) ends))
         (ap (λ (x : List Mark). there at.Goal (due.Word fixed.BeginGoal ∷ any_number ∷ []) ++ x) (sym (map-append (mark at.Goal) (for_each due.Fact facts) (due.Word fixed.EndGoal ∷ []))))
 
-    -- so many groups are left
+    -- the number of groups that are left
     abbrev pub at_group : ℕ → Tracker
     at_group left = record t { place = place.Groups; left = left; more = 0 }
 

@@ -1,4 +1,4 @@
--- A tracker over all lines of a task: it says the marks of the task.
+-- A tracker over all lines of a task: its marks are those of the task.
 use Rattle.std.proofs.Common.{◌≡◌, ℕ, ◌+◌, ◌-◌, Bool, true, false, nat_lt, List, [], ◌∷◌, ◌++◌, length, map, refl, sym, ap, ◌∙◌, append_assoc, append-nil, arith, codes, length-append, slice_index_or}
 use Rattle.std.specs.Prelude.{if◌then◌else◌}
 use Rattle.std.specs.List.{flat_map}
@@ -28,7 +28,7 @@ read_next : (done : List ℕ) (x : ℕ) (rest : List ℕ) → slice_index_or (do
 read_next done x rest = let all : length done ≡ length done + 0 = omega arith in ap (λ (i : ℕ). slice_index_or (done ++ x ∷ rest) i 0) all ∙ get_or-append-add done (x ∷ rest) 0 0
 
 module _ (ranges : List ℕ) (t : Tracker) where
-  -- so many values have come
+  -- this many values have been read
   abbrev at_value : ℕ → Tracker
   at_value n = record t { place = place.StateValues; left = 0; more = 0; ranges = ranges; valued = n }
 
@@ -75,7 +75,7 @@ module _ (ranges : List ℕ) (t : Tracker) where
 -- ---- the task
 
 module _ (p : Parts) where
-  -- behind the variables, the groups, the state, and all lines
+  -- after the variables, the groups, the state, and all lines
   abbrev behind_variables : Tracker
   behind_variables = record tracker_start { place = place.Variables; total = length p.variables; ranges = ranges_in p.variables }
 
@@ -115,7 +115,7 @@ module _ (p : Parts) where
       let count : Scans behind_operators (number (length p.rules) ∷ []) (mark at.Rules any_number ∷ []) (record behind_all { left = length p.rules }) = record { marks = refl; ends = refl; along = (λ h. refl, refl, λ h. refl) } in
       ◌then◌ (ranges_in p.variables) count (rules_scan (ranges_in p.variables) behind_all refl p.rules (omega arith))
 
-  -- a tracker says the marks of a task, line by line
+  -- the marks of a tracker are those of a task, line by line
   pub task_scan : WellRanged p → Scan (ranges_in p.variables) tracker_start (task_layout p) (task_marks p) behind_all
   task_scan good =
       let r = ranges_in p.variables in

@@ -1,4 +1,5 @@
--- A tracker says what is due on each line of a task: the marks of a section are what it says line by line.
+-- A tracker has what is expected on each line of a task: its marks, line by line, are those of a
+-- section.
 use Rattle.std.proofs.Common.{◌≡◌, ℕ, List, [], ◌∷◌, ◌++◌, refl, sym, ap, subst, ◌∙◌}
 use Rattle.sas_task_format.specs.declared.places.Place.{Place}
 use Rattle.sas_task_format.specs.declared.places.Place.TheVariants as place
@@ -7,12 +8,12 @@ use Rattle.sas_task_format.specs.TaskFormat.{TaskLine, task_slot}
 use Rattle.sas_task_format.specs.Marks.{slot_of_due}
 use Rattle.sas_task_format.specs.Tracker.{Tracker, step, track, mark_in}
 
--- the marks of lines behind a tracker
+-- the marks of lines after a tracker
 abbrev pub track_marks : Tracker → List TaskLine → List Mark
 track_marks t [] = []
 track_marks t (i ∷ items) = mark_in t ∷ track_marks (step t i) items
 
--- places behind the last variable
+-- places after the last variable
 abbrev pub IsBehindVariables : Place → Type 0
 IsBehindVariables place.Groups = Unit {0}
 IsBehindVariables place.GroupSize = Unit {0}
@@ -34,7 +35,7 @@ IsBehindVariables place.RuleConditions = Unit {0}
 IsBehindVariables place.RuleEnd = Unit {0}
 IsBehindVariables _ = ⊥
 
--- ---- lines behind lines: where they lead, and their marks
+-- ---- lines after lines: their last tracker, and their marks
 
 pub track-append : (t : Tracker) (a b : List TaskLine) → track t (a ++ b) ≡ track (track t a) b
 track-append t [] b = refl
@@ -45,22 +46,22 @@ track_marks-append t [] b = refl
 track_marks-append t (i ∷ a) b = ap (λ (x : List Mark). mark_in t ∷ x) (track_marks-append (step t i) a b)
 
 module _ (ranges : List ℕ) where
-  -- behind the last variable all ranges have come
+  -- after the last variable all ranges are known
   abbrev pub Known : Tracker → Type 0
   Known t = IsBehindVariables t.place → t.ranges ≡ ranges
 
-  -- each line belongs where one is due, and behind the last variable all ranges have come
+  -- each line belongs where one is expected, and after the last variable all ranges are known
   abbrev pub Along : Tracker → List TaskLine → Type 0
   Along t [] = Known t
   Along t (i ∷ items) = Known t × (slot_of_due (mark_in t).due ≡ task_slot i) × Along (step t i) items
 
-  -- behind this tracker the lines have these marks, and lead to that one
+  -- after this tracker the lines have these marks, and lead to that tracker
   pub record Scan (t : Tracker) (items : List TaskLine) (said : List Mark) (u : Tracker) : Type 0 where
     pub marks : track_marks t items ≡ said
     pub ends : track t items ≡ u
     pub along : Along t items
 
-  -- ---- scans behind scans
+  -- ---- scans after scans
 
   pub along-append : (t : Tracker) (a b : List TaskLine) → Along t a → Along (track t a) b → Along t (a ++ b)
   along-append t [] b h g = g
@@ -74,7 +75,7 @@ module _ (ranges : List ℕ) where
     along = along-append t a b s.along (subst (λ (x : Tracker). Along x b) (sym s.ends) r.along);
   }
 
-  -- the same, said in other words
+  -- the same, in another form
   pub marked : {t u : Tracker} {a : List TaskLine} {m n : List Mark} → Scan t a m u → m ≡ n → Scan t a n u
   marked s e = record { marks = s.marks ∙ e; ends = s.ends; along = s.along }
 

@@ -1,4 +1,4 @@
--- The first wrong word of a line: there is one where a number may not stand, and one at most.
+-- The first wrong word of a line: it exists if a number isn't allowed, and it is unique.
 use Rattle.std.proofs.Common.{◌≡◌, ℕ, zero, suc, ◌+◌, ◌-◌, Bool, true, false, IsTrue, IsFalse, List, [], ◌∷◌, ◌++◌, length, map, refl, sym, ap, subst, ◌∙◌, ◌⊎◌, inl, inr, Option, Some}
 use Rattle.std.specs.List.{flat_map, AllByRecursion}
 use Rattle.std.proofs.lemmas.List.{length-map}
@@ -10,9 +10,9 @@ use Rattle.sas_task_format.specs.TaskFormat.{TaskLine, fact, effect, head, TaskS
 use Rattle.sas_task_format.specs.WrongWords.{Bounded, may_stand, free, fact_bounds, change_bounds, line_bounds, IsWrongWord}
 use Rattle.sas_task_format.proofs.TaskLines.{one_task_line}
 
--- ---- the first number that may not stand
+-- ---- the first number that isn't allowed
 
--- all before it may stand, and it may not
+-- all numbers before it are allowed, and it isn't
 pub record Splits (bounds : List Bounded) : Type 0 where
   pub before : List Bounded
   pub wrong : Bounded
@@ -33,7 +33,7 @@ pub first_wrong : (bounds : List Bounded) → AllStand bounds ⊎ Splits bounds
 first_wrong [] = inl tt
 first_wrong (b ∷ bounds) = some_wrong b (may_stand b) refl bounds (first_wrong bounds)
 
--- where all may stand none may not
+-- if all numbers are allowed, there is none that isn't
 pub none_wrong : (bounds : List Bounded) → AllStand bounds → Splits bounds → ⊥
 none_wrong bounds h s = none_in s.before s.wrong s.behind (subst AllStand s.words h) s.stands_not
   where
@@ -41,7 +41,7 @@ none_wrong bounds h s = none_in s.before s.wrong s.behind (subst AllStand s.word
     none_in [] wrong behind h f = absurd cc
     none_in (b ∷ before) wrong behind h f = none_in before wrong behind h.1 f
 
--- ---- there is one at most
+-- ---- there is at most one
 
 record SameSplit (a b : List Bounded) (x y : Bounded) : Type 0 where
   number : length a ≡ length b
@@ -71,9 +71,9 @@ same_word vs us slot line w x bounds a b =
     (a.may_be_none ∙ ap (λ (y : Bounded). y.may_be_none) s.wrong ∙ sym b.may_be_none)
     (a.most ∙ ap (λ (y : Bounded). y.bound - 1) s.wrong ∙ sym b.most)
 
--- ---- what the bounds rest on
+-- ---- what determines the bounds
 
--- lines with numbers that are bounded belong there
+-- the slots of lines with bounded numbers
 abbrev pub HasBounds : TaskSlot → Type 0
 HasBounds fact_slot = Unit {0}
 HasBounds effect_slot = Unit {0}
@@ -101,7 +101,7 @@ range_same (v ∷ vs) [] e i = absurd cc
 range_same (v ∷ vs) (u ∷ us) e zero = let same : length v.values ≡ length u.values = cc in same
 range_same (v ∷ vs) (u ∷ us) e (suc i) = let others : map (λ (v : Variable). length v.values) vs ≡ map (λ (v : Variable). length v.values) us = cc in range_same vs us others i
 
--- the bounds of a line rest on the number of variables and on their ranges
+-- the number of variables and their ranges determine the bounds of a line
 module _ (vs us : List Variable) (count : length vs ≡ length us) (ranges : (i : ℕ) → range_of vs i ≡ range_of us i) where
   bounded : (value : Option ℕ) (may_be_none : Bool) (m n : ℕ) → m ≡ n → (let b : Bounded = record { value = value; may_be_none = may_be_none; bound = m } in b) ≡ record { value = value; may_be_none = may_be_none; bound = n }
   bounded value may_be_none m n e = ap (λ (x : ℕ). let b : Bounded = record { value = value; may_be_none = may_be_none; bound = x } in b) e
@@ -137,7 +137,7 @@ ranges_decide vs us e i =
     let range_in : Variable → ℕ = λ v. length v.values in
     same_bounds vs us (sym (length-map vs range_in) ∙ ap length e ∙ length-map us range_in) (range_same vs us e) i
 
--- so a word is wrong among these where it is wrong among those
+-- so the same words are wrong for both lists
 pub wrong_among : (vs us : List Variable) (slot : TaskSlot) (line : List ℕ) (w : WrongWord) → map (λ v. length v.values) vs ≡ map (λ v. length v.values) us → IsWrongWord vs slot line w → IsWrongWord us slot line w
 wrong_among vs us slot line w e a = record {
   item = a.item;
@@ -155,7 +155,7 @@ wrong_among vs us slot line w e a = record {
   most = a.most;
 }
 
--- where a line has bounds the same ranges decide them
+-- the same ranges give a line the same bounds
 pub one_word : (vs us : List Variable) (slot : TaskSlot) (line : List ℕ) (w x : WrongWord) → (HasBounds slot → map (λ v. length v.values) vs ≡ map (λ v. length v.values) us) → IsWrongWord vs slot line w → IsWrongWord us slot line x → w ≡ x
 one_word vs us slot line w x e a b = same_word vs us slot line w x bounds a b
   where

@@ -1,4 +1,4 @@
--- Where each line of a task file stands, and what is due there: a list beside the layout, line by line.
+-- The location of each line of a task file, and what is expected there, in the order of the layout.
 use Rattle.std.specs.Prelude.{◌≡◌, ℕ, ◌+◌, ◌-◌, List, [], ◌∷◌, ◌++◌, length, map, codes, slice_get, Some}
 use Rattle.sas_core.specs.declared.parts.Fact.{Fact}
 use Rattle.sas_core.specs.declared.parts.Variable.{Variable}
@@ -16,7 +16,7 @@ use Rattle.sas_task_format.specs.declared.marks.Location.TheVariants as at
 use Rattle.sas_task_format.specs.declared.marks.Mark.{Mark}
 use Rattle.sas_task_format.specs.TaskFormat.{TaskSlot, word_slot, name_slot, number_slot, signed_slot, fact_slot, effect_slot, head_slot, task_format}
 
--- the words in their bytes
+-- the bytes of the words
 abbrev pub word_bytes : FixedWord → List ℕ
 word_bytes fixed.BeginVersion = codes "begin_version"
 word_bytes fixed.EndVersion = codes "end_version"
@@ -35,7 +35,7 @@ word_bytes fixed.EndOperator = codes "end_operator"
 word_bytes fixed.BeginRule = codes "begin_rule"
 word_bytes fixed.EndRule = codes "end_rule"
 
--- ---- what is due on the lines of each section
+-- ---- what is expected on the lines of each section
 
 -- the greatest number of a task file
 abbrev pub most_number : ℕ
@@ -48,15 +48,15 @@ any_number = due.Number 0 most_number
 abbrev pub positive_number : Due
 positive_number = due.Number 1 most_number
 
--- the first word, what is due between, the last word
+-- the first word, the lines between, the last word
 abbrev pub between_words : FixedWord → List Due → FixedWord → List Due
 between_words first dues last = due.Word first ∷ (dues ++ due.Word last ∷ [])
 
--- this is due for each
+-- the same line for each item
 abbrev pub for_each : {A : Type 0} → Due → List A → List Due
 for_each one items = map (λ _. one) items
 
--- how many there are, and then this for each
+-- the number of items, and then the same line for each
 abbrev pub counted_dues : {A : Type 0} → Due → List A → List Due
 counted_dues one items = any_number ∷ for_each one items
 
@@ -96,16 +96,16 @@ rule_dues r = between_words fixed.BeginRule
 
 -- ---- the marks of a task
 
--- these are due there
+-- these lines are expected at one location
 abbrev pub there : Location → List Due → List Mark
 there at dues = map (λ d. record { at = at; due = d }) dues
 
--- what is due for each, there where its number says, which counts from this one on
+-- the lines of all items, which are numbered from n on; the location has the number
 abbrev pub numbered : {A : Type 0} → (ℕ → Location) → (A → List Due) → ℕ → List A → List Mark
 numbered at dues n [] = []
 numbered at dues n (a ∷ rest) = there (at n) (dues a) ++ numbered at dues (n + 1) rest
 
--- where each line of the task stands, and what is due there, in order
+-- the location of each line of the task and what is expected there, in order
 abbrev pub task_marks : Parts → List Mark
 task_marks p =
     there at.Version version_dues
@@ -121,7 +121,7 @@ task_marks p =
     ++ (there at.Rules (any_number ∷ [])
     ++ numbered at.Rule rule_dues 0 p.rules))))))))))
 
--- Behind these lines this is due: some task's lines begin with them, and its next one has the mark.
+-- After these lines, this is expected: some task begins with them, and its next line has this mark.
 pub record IsDue (begun : List (List ℕ)) (mark : Mark) : Type 0 where
   pub task : Parts
   pub more : List (List ℕ)
@@ -129,7 +129,7 @@ pub record IsDue (begun : List (List ℕ)) (mark : Mark) : Type 0 where
   pub lines : lines_of task_format task ≡ begun ++ more
   pub marked : slice_get (task_marks task) (length begun) ≡ Some mark
 
--- where lines that are due belong
+-- the slot of an expected line
 abbrev pub slot_of_due : Due → TaskSlot
 slot_of_due (due.Word w) = word_slot (word_bytes w)
 slot_of_due due.Name = name_slot
@@ -138,16 +138,16 @@ slot_of_due due.Layer = signed_slot
 slot_of_due due.Fact = fact_slot
 slot_of_due due.Head = head_slot
 slot_of_due due.Effect = effect_slot
--- nothing is due only behind all lines
+-- `Nothing` occurs only after all lines, where no line belongs; any slot would do
 slot_of_due due.Nothing = name_slot
 
 -- ---- laws
 
--- behind the same lines one thing is due
+-- after the same lines, one thing is expected
 abbrev pub OneDue : Type 0
 OneDue = (begun : List (List ℕ)) (m n : Mark) → IsDue begun m → IsDue begun n → m ≡ n
 
--- where a task has a line at a slot, something is due, which belongs there
+-- if a task has a line of a slot there, something is expected, which belongs to this slot
 abbrev pub SomeDue : Type 0
 SomeDue = (begun : List (List ℕ)) (s : TaskSlot) → Next task_format begun s
     → (m : Mark) × IsDue begun m × (slot_of_due m.due ≡ s)

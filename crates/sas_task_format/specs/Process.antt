@@ -1,8 +1,8 @@
--- What may still come, as a tree of reads, and parts of such a tree.
+-- What may still follow in a file, as a tree of reads, and parts of such trees.
 use Rattle.std.specs.Prelude.{ℕ, zero, suc, Bool, List, [], ◌∷◌, ◌++◌}
 use Rattle.sas_reader.specs.System.{Node, ended, before}
 
--- done with a value; or a line at a slot that passes a test comes next, and leads on
+-- at the end with a value; or a line of a slot that passes a test is next, and leads to the rest
 pub data Process (V I S : Type 0) : Type 0 where
   done : V → Process V I S
   read : S → (I → Bool) → (I → Process V I S) → Process V I S
@@ -12,18 +12,18 @@ abbrev pub process_node : {V I S : Type 0} → Process V I S → Node (Process V
 process_node (done v) = ended v
 process_node (read s ok next) = before s ok next
 
--- a part that reads an A, before what comes behind it
+-- a part that reads an A, given what follows it
 abbrev pub Part : Type 0 → Type 0 → Type 0 → Type 0 → Type 0
 Part V I S A = (A → Process V I S) → Process V I S
 
--- as many of one as of the other, and each fits the one at its place
+-- both lists have the same length, and their items fit each other pairwise
 abbrev pub Paired : {A B : Type 0} → (A → B → Type 0) → List A → List B → Type 0
 Paired Fit [] [] = Unit {0}
 Paired Fit [] (b ∷ bs) = ⊥
 Paired Fit (a ∷ rest) [] = ⊥
 Paired Fit (a ∷ rest) (b ∷ bs) = Fit a b × Paired Fit rest bs
 
--- the part, and then what depends on what it read
+-- the part, and then a process that depends on its value
 infixl 10 ◌>>=◌
 abbrev pub ◌>>=◌ : {V I S A : Type 0} → Part V I S A → (A → Process V I S) → Process V I S
 part >>= k = part k
@@ -34,20 +34,20 @@ abbrev pub ◌>>◌ : {V I S : Type 0} → Part V I S (Unit {0}) → Process V I
 part >> p = part (λ _. p)
 
 module _ {V I S A : Type 0} where
-  -- a line at a slot, which passes a test, and what it holds
+  -- a line of a slot that passes a test, with its value
   abbrev pub a_line : S → (A → Bool) → (I → A) → Part V I S A
   a_line s ok back k = read s (λ i. ok (back i)) (λ i. k (back i))
 
-  -- so many more behind those so far
+  -- n more, after those so far
   abbrev pub repeat : Part V I S A → ℕ → List A → Part V I S (List A)
   repeat one zero so_far k = k so_far
   repeat one (suc n) so_far k = one (λ a. repeat one n (so_far ++ a ∷ []) k)
 
-  -- one more for each, behind those so far
+  -- one more for each item, after those so far
   abbrev pub each : {B : Type 0} → (B → Part V I S A) → List B → List A → Part V I S (List A)
   each one [] so_far k = k so_far
   each one (b ∷ bs) so_far k = one b (λ a. each one bs (so_far ++ a ∷ []) k)
 
-  -- a number, and then so many of a part
+  -- a number, and then this many of a part
   abbrev pub a_list : Part V I S ℕ → Part V I S A → Part V I S (List A)
   a_list count one k = count (λ n. repeat one n [] k)

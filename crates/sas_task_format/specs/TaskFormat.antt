@@ -17,7 +17,7 @@ use Rattle.sas_reader.specs.Format.{Format}
 
 -- ---- single lines
 
--- a line of a task file, by what it holds
+-- a line of a task file, by its content
 pub data TaskLine : Type 0 where
   -- a fixed word, such as `begin_version`
   word : List ℕ → TaskLine
@@ -26,17 +26,17 @@ pub data TaskLine : Type 0 where
   -- a count, or a number with a meaning of its own: the version, the metric, a range,
   -- a value in the initial state, a cost
   number : ℕ → TaskLine
-  -- an axiom layer, if any
+  -- an axiom layer, or none for a basic variable
   signed : Option ℕ → TaskLine
   -- a variable and one of its values
   fact : Fact → TaskLine
-  -- an effect of an operator: its conditions, its variable, the variable's old
-  -- value, if any, and its new one
+  -- an effect of an operator: its conditions, its variable, the variable's old value, if any, and
+  -- its new value
   effect : Effect → TaskLine
-  -- the head of a rule: its variable, the variable's old value, if any, and its new one
+  -- the head of a rule (axiom): its variable, the variable's old value, if any, and its new value
   head : ℕ → Option ℕ → ℕ → TaskLine
 
--- what is due: this word, or some line of this sort
+-- the slot of a line: a fixed word, or any line of this kind
 pub data TaskSlot : Type 0 where
   word_slot : List ℕ → TaskSlot
   name_slot : TaskSlot
@@ -46,7 +46,7 @@ pub data TaskSlot : Type 0 where
   effect_slot : TaskSlot
   head_slot : TaskSlot
 
--- where a line belongs
+-- the slot to which a line belongs
 abbrev pub task_slot : TaskLine → TaskSlot
 task_slot (word w) = word_slot w
 task_slot (name bytes) = name_slot
@@ -60,17 +60,17 @@ task_slot (head var old new) = head_slot
 abbrev pub fact_words : Fact → List (List ℕ)
 fact_words f = decimal f.var ∷ decimal f.value ∷ []
 
--- `var old new`, where an old value of `-1` represents none
+-- `var old new`, where the old value `-1` means none
 abbrev pub head_words : ℕ → Option ℕ → ℕ → List (List ℕ)
 head_words var old new = decimal var ∷ signed_decimal old ∷ decimal new ∷ []
 
--- the number c of the conditions, then each as `var value`, then `var old new`: 2c + 4 words
+-- the number c of conditions, then each as `var value`, then `var old new`: 2c + 4 words
 abbrev pub effect_words : Effect → List (List ℕ)
 effect_words e =
     (decimal (length e.conditions) ∷ []) ++ flat_map fact_words e.conditions
     ++ head_words e.var e.old e.new
 
--- the bytes of a line; its words stand with one space between each two
+-- the bytes of a line; words are separated by one space
 abbrev pub task_line_bytes : TaskLine → List ℕ
 task_line_bytes (word w) = w
 task_line_bytes (name bytes) = bytes
@@ -84,11 +84,11 @@ task_line_bytes (head var old new) = joined (head_words var old new)
 abbrev pub FactNumbers : Fact → Type 0
 FactNumbers f = IsNumber f.var × IsNumber f.value
 
--- so are those of a head line
+-- the numbers of a head line are at most 2,147,483,647
 abbrev pub HeadNumbers : ℕ → Option ℕ → ℕ → Type 0
 HeadNumbers var old new = IsNumber var × IsSigned old × IsNumber new
 
--- and those of an effect line
+-- the numbers of an effect line are at most 2,147,483,647
 pub record EffectNumbers (e : Effect) : Type 0 where
   pub count : IsNumber (length e.conditions)
   pub conditions : AllByRecursion FactNumbers e.conditions
@@ -106,16 +106,16 @@ TaskLineFits (head var old new) = HeadNumbers var old new
 
 -- ---- the sections
 
--- one line, by its sort and what it holds: `line number 3` is the line `3`, and `line fact` makes
--- the line of a fact
+-- one line, by its kind and its value: `line number 3` is the line `3`, and `line fact f` is the
+-- line of the fact f
 abbrev pub line : {A : Type 0} → (A → TaskLine) → A → List TaskLine
 line says a = says a ∷ []
 
--- lines between their first and their last word
+-- lines between a first and a last word
 abbrev pub between : List ℕ → List TaskLine → List ℕ → List TaskLine
 between first lines last = line word first ++ lines ++ line word last
 
--- how many there are, then the lines of each
+-- the number of items, then the lines of each
 abbrev pub counted : {A : Type 0} → (A → List TaskLine) → List A → List TaskLine
 counted lines items = line number (length items) ++ flat_map lines items
 
@@ -123,13 +123,13 @@ counted lines items = line number (length items) ++ flat_map lines items
 abbrev pub version_lines : List TaskLine
 version_lines = between (codes "begin_version") (line number 3) (codes "end_version")
 
--- the metric is 1 where cost lines count, else 0
+-- the metric is 1 if the operators' cost lines are used, else 0
 abbrev pub metric_lines : Bool → List TaskLine
 metric_lines metric = between (codes "begin_metric") (line number (if metric then 1 else 0))
     (codes "end_metric")
 
--- a variable's name, its axiom layer (`-1` for none), and how many values it
--- has, with the name of each
+-- a variable's name, its axiom layer (`-1` for none), the number of its values, and the name of
+-- each value
 abbrev pub variable_lines : Variable → List TaskLine
 variable_lines v =
     between (codes "begin_variable")
@@ -186,19 +186,19 @@ task_layout p =
 
 -- ---- what is wrong with a line
 
--- the bytes are those of some line that belongs at the slot, with each number at most 2,147,483,647
+-- the bytes are a line that belongs to the slot and has only numbers up to 2,147,483,647
 abbrev pub HasShape : TaskSlot → List ℕ → Type 0
 HasShape slot bytes = (i : TaskLine) × (task_slot i ≡ slot) × TaskLineFits i
     × (task_line_bytes i ≡ bytes)
 
--- a wrong line of numbers hasn't the shape of its slot, or has it with a number
--- that may not stand there
+-- a wrong line of numbers doesn't have the shape of its slot, or has it with a number that isn't
+-- allowed there
 pub data NumbersKind (slot : TaskSlot) (bytes : List ℕ) : Kind → Type 0 where
   no_shape : (HasShape slot bytes → ⊥) → NumbersKind slot bytes Shape
   no_value : HasShape slot bytes → NumbersKind slot bytes Value
 
--- the kind of fault of a line that may not stand: it isn't the word that was
--- due, or no name where one was due; or it is a wrong line of numbers
+-- the kind of fault of a wrong line: it isn't the expected word, or isn't a name where a name is
+-- expected, or is a wrong line of numbers
 abbrev pub TaskKind : TaskSlot → List ℕ → Kind → Type 0
 TaskKind (word_slot w) bytes kind = kind ≡ Keyword
 TaskKind name_slot bytes kind = kind ≡ Name
@@ -206,7 +206,7 @@ TaskKind slot bytes kind = NumbersKind slot bytes kind
 
 -- ---- the format
 
--- task files: each represents a well ranged task
+-- the format of task files; each represents a well ranged task
 abbrev pub task_format : Format Parts TaskLine TaskSlot
 task_format = record {
   layout = task_layout;

@@ -1,4 +1,4 @@
--- What may still come in a task file, as a tree of reads.
+-- What may still follow in a task file, as a tree of reads.
 use Rattle.std.specs.Prelude.{ℕ, Bool, true, ◌&&◌, List, [], ◌==◌, nat_lt, length, Option, Some, None, codes}
 use Rattle.std.specs.List.{list_all}
 use Rattle.sas_core.specs.declared.parts.Fact.{Fact}
@@ -13,7 +13,7 @@ use Rattle.sas_task_format.specs.Process.{Process, done, Part, ◌>>=◌, ◌>>�
 use Rattle.sas_task_format.specs.TaskFormat.{TaskLine, name, number, signed, fact, effect, head, TaskSlot, word_slot}
 use Rattle.sas_task_format.specs.TaskFormat.{name_slot, number_slot, signed_slot, fact_slot, effect_slot, head_slot}
 
--- what may still come in a task file
+-- what may still follow in a task file
 abbrev pub TaskProcess : Type 0
 TaskProcess = Process Parts TaskLine TaskSlot
 
@@ -21,7 +21,7 @@ TaskProcess = Process Parts TaskLine TaskSlot
 abbrev pub TaskPart : Type 0 → Type 0
 TaskPart A = Part Parts TaskLine TaskSlot A
 
--- ---- what a line holds
+-- ---- the value of a line
 
 -- the name on a line
 abbrev pub name_in : TaskLine → List ℕ
@@ -48,7 +48,7 @@ abbrev pub effect_in : TaskLine → Effect
 effect_in (effect e) = e
 effect_in _ = record { conditions = []; var = 0; old = None; new = 0 }
 
--- what a head line holds: its variable, the variable's old value, if any, and its new one
+-- the value of a head line: its variable, the variable's old value, if any, and its new value
 pub record Head : Type 0 where
   pub var : ℕ
   pub old : Option ℕ
@@ -59,9 +59,9 @@ abbrev pub head_in : TaskLine → Head
 head_in (head var old new) = record { var = var; old = old; new = new }
 head_in _ = record { var = 0; old = None; new = 0 }
 
--- ---- which values may stand
+-- ---- which values are allowed
 
--- any number may stand
+-- any number
 abbrev pub any : ℕ → Bool
 any n = true
 
@@ -69,17 +69,17 @@ any n = true
 abbrev pub positive : ℕ → Bool
 positive n = nat_lt 0 n
 
--- the variable exists and has the new value and the old one, if any
+-- the variable exists, and its new value and its old value, if any, are in its range
 abbrev pub may_change : List Variable → ℕ → Option ℕ → ℕ → Bool
 may_change variables var None new = has_value variables var new
 may_change variables var (Some old) new = has_value variables var old && has_value variables var new
 
--- an effect's conditions exist, and so does what it changes
+-- the conditions of an effect exist, and so do its variable and values
 abbrev pub effect_may_stand : List Variable → Effect → Bool
 effect_may_stand variables e = list_all (fact_exists variables) e.conditions
     && may_change variables e.var e.old e.new
 
--- what a head changes exists
+-- the variable and values of a head exist
 abbrev pub head_may_stand : List Variable → Head → Bool
 head_may_stand variables h = may_change variables h.var h.old h.new
 
@@ -212,6 +212,6 @@ a_task k = do
     rules = rules;
   })
 
--- nothing has come
+-- nothing was read yet
 abbrev pub task_start : TaskProcess
 task_start = a_task done

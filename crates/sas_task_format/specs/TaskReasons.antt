@@ -1,4 +1,4 @@
--- Why a line of a task file is refused: where it stands, what is due there, and which word of it is wrong.
+-- Why a line of a task file is refused: its location, what is expected, and which word is wrong.
 use Rattle.std.specs.Prelude.{◌≡◌, ◌≢◌, ℕ, List, Option, None, IfSome, IsSome}
 use Rattle.sas_reader.specs.declared.fault.Fault.{Fault}
 use Rattle.sas_reader.specs.declared.fault.Kind.{Kind}
@@ -13,12 +13,12 @@ use Rattle.sas_task_format.specs.TaskFormat.{task_format}
 use Rattle.sas_task_format.specs.Marks.{IsDue}
 use Rattle.sas_task_format.specs.WrongWords.{IsWrongBehind, SpeaksOfFacts}
 
--- nothing is due behind the last line
+-- nothing is expected after the last line
 abbrev pub end_mark : Mark
 end_mark = record { at = at.End; due = due.Nothing }
 
--- Behind these lines a text is refused for a fault of this kind: this is due there, and this word of
--- the text is the first that may not stand there, if there is one.
+-- After these lines, a text is refused with a fault of this kind. The mark is what is expected
+-- there. The word is the first wrong word of the text, if any.
 pub record IsTaskReason (kind : Kind) (begun : List (List ℕ)) (found : List ℕ) (mark : Mark)
     (word : Option WrongWord) : Type 0 where
   pub trailing : kind ≡ kinds.Trailing → mark ≡ end_mark
@@ -29,20 +29,20 @@ pub record IsTaskReason (kind : Kind) (begun : List (List ℕ)) (found : List �
 
 -- ---- laws
 
--- there is one reason at most
+-- there is at most one reason
 abbrev pub OneTaskReason : Type 0
 OneTaskReason = (kind : Kind) (begun : List (List ℕ)) (found : List ℕ) (m n : Mark)
     (w x : Option WrongWord) → IsTaskReason kind begun found m w → IsTaskReason kind begun found n x
     → (m ≡ n) × (w ≡ x)
 
--- and each fault of some bytes has one
+-- each fault of some bytes has a reason
 abbrev pub SomeTaskReason : Type 0
 SomeTaskReason = (bytes : List ℕ) (f : Fault) (begun : List (List ℕ)) (found : List ℕ)
     → IsAbout task_format most_bytes bytes f begun found
     → (mark : Mark) × (word : Option WrongWord) × IsTaskReason f.kind begun found mark word
 
--- It names a wrong word wherever a fact, a head or an effect is due and the line is refused for its
--- value.
+-- The reason names a wrong word if a fact, a head or an effect is expected and the line is refused
+-- for a value.
 abbrev pub WrongWordIsNamed : Type 0
 WrongWordIsNamed = (bytes : List ℕ) (f : Fault) (begun : List (List ℕ)) (found : List ℕ)
     (mark : Mark) (word : Option WrongWord) → IsAbout task_format most_bytes bytes f begun found

@@ -1,5 +1,5 @@
--- Where the lines of a task lead, one after another: what is due behind them. Proofs follow what is due by it; what is
--- due is defined over tasks, by their marks.
+-- A tracker follows the lines of a task, one after another, and has what is expected next. Proofs
+-- use it. The definition of what is expected is in the marks of a task.
 use Rattle.std.specs.Prelude.{ℕ, zero, suc, ◌+◌, ◌-◌, nat_lt, if◌then◌else◌, List, [], ◌∷◌, ◌++◌, length}
 use Rattle.std.specs.Prelude.{slice_index_or}
 use Rattle.sas_task_format.specs.declared.places.Place.{Place}
@@ -14,18 +14,18 @@ use Rattle.sas_task_format.specs.Marks.{any_number, positive_number}
 use Rattle.sas_task_format.specs.TaskFormat.{TaskLine}
 use Rattle.sas_task_format.specs.TaskProcess.{number_in}
 
--- the place behind some lines, and what is still to come of the lists that have begun
+-- the place after some lines, and what is still missing of the lists that have begun
 pub record Tracker : Type 0 where
   pub place : Place
-  -- how many variables, groups, operators or rules there are, by the last line that said so, and how
-  -- many of them are left
+  -- the number of variables, groups, operators or rules, from the last such line, and how many are
+  -- left
   pub total : ℕ
   pub left : ℕ
-  -- how many values, facts or effects are left
+  -- the number of values, facts or effects that are left
   pub more : ℕ
-  -- the number of values of each variable, with that of a variable that has begun once it is known
+  -- the number of values of each variable read so far
   pub ranges : List ℕ
-  -- how many values of the initial state have come
+  -- the number of values of the initial state read so far
   pub valued : ℕ
 
 abbrev pub tracker_start : Tracker
@@ -38,7 +38,7 @@ tracker_start = record {
   valued = 0;
 }
 
--- to another place; before a list of so many; with so many more
+-- go to another place; start a list of n items; expect n more lines
 abbrev pub goes_to : Place → Tracker → Tracker
 goes_to p t = record t { place = p }
 
@@ -48,19 +48,19 @@ goes_before p n t = record t { place = p; total = n; left = n }
 abbrev pub goes_with_more : Place → ℕ → Tracker → Tracker
 goes_with_more p n t = record t { place = p; more = n }
 
--- where none is left, or else, by how many are
+-- the first result if the count is zero, else the second
 abbrev pub by_count : {A : Type 0} → ℕ → A → A → A
 by_count zero none some = none
 by_count (suc n) none some = some
 
--- one less left, or one less more
+-- count down the items or the lines that are left
 abbrev pub begins_one : Place → Tracker → Tracker
 begins_one p t = record t { place = p; left = t.left - 1 }
 
 abbrev pub one_less : Tracker → Tracker
 one_less t = record t { more = t.more - 1 }
 
--- behind one line more, at a place
+-- the tracker after one more line, by place
 abbrev pub step_at : Place → Tracker → TaskLine → Tracker
 step_at place.VersionBegin t i = goes_to place.VersionNumber t
 step_at place.VersionNumber t i = goes_to place.VersionEnd t
@@ -103,17 +103,17 @@ step_at place.RuleEnd t i = goes_to place.Rules t
 abbrev pub step : Tracker → TaskLine → Tracker
 step t i = step_at t.place t i
 
--- behind all of the lines
+-- the tracker after all of these lines
 abbrev pub track : Tracker → List TaskLine → Tracker
 track t [] = t
 track t (i ∷ items) = track (step t i) items
 
--- ---- what is due
+-- ---- what is expected
 
 abbrev pub mark : Location → Due → Mark
 mark where_it_stands what = record { at = where_it_stands; due = what }
 
--- the number of the variable, group, operator or rule that comes next, and of the one that has begun
+-- the number of the next variable, group, operator or rule, and of the current one
 abbrev pub next_number : Tracker → ℕ
 next_number t = t.total - t.left
 

@@ -11,11 +11,10 @@ ghost use Rattle.sas_task_format.specs.TaskReasons.{OneTaskReason, SomeTaskReaso
 ghost use Rattle.sas_task_format.specs.TaskProcess.{task_start};
 ghost use Rattle.sas_task_format.specs.WrongWords.{OneWrongWord, SomeWrongWord};
 
-/// States the laws of task files. No byte list is a text of two tasks. The texts of a task are its lines, each ended by
-/// LF or by CR LF. Bytes are live exactly where they have no fault, and have one fault at most. All bytes are read as
-/// one thing. Lines that begin a task are completed by fillings, in one way: a name by `x`, a layer by `-1`, a fact by
-/// `0 0`, an effect by `0 0 -1 0`, a head by `0 -1 0`, the version by 3, the number of variables and a range by 1,
-/// every other number by 0.
+/// Ensures the laws of task files. No byte list is a text of two tasks. The texts of a task are its lines, each ended by LF or by CR LF.
+/// Bytes have at most one fault, and are live exactly if they have none. Reading any bytes has exactly one result. Lines that begin a task
+/// can be completed by fillings, in one way: `x` for a name, `-1` for a layer, `0 0` for a fact, `0 0 -1 0` for an effect, `0 -1 0` for a
+/// head, 3 for the version, 1 for the number of variables and for a range, 0 for every other number.
 pub fn task_laws()
     ensures laws { Laws task_format }
     ensures filled { TaskIsFilled }
@@ -24,14 +23,14 @@ pub fn task_laws()
     ensures grammar { Grammar task_format TaskLineFits process_node task_start }
 {}
 
-/// States the laws of what is due in task files, and of why a file is refused.
-/// - Behind the same lines of a task one thing is due, at one place. Something is due wherever a task has a line.
-/// - A line has at most one first wrong word. It has one where a fact, a head or an effect is due, if it has the shape of that and
-///   no task goes on with it.
-/// - A fault is about one text, behind the same accepted lines. It is about some text, unless a read failed, the bytes are too
-///   long, or memory was refused.
-/// - What a fault is about has exactly one reason. The reason names the wrong word where a fact, a head or an effect is due and
-///   the line is refused for its value.
+/// Ensures the laws about what is expected in task files, and about why a file is refused.
+/// - After the same first lines, one thing is expected, at one location. Something is expected wherever a task has a line.
+/// - A line has at most one first wrong word. It has one if a fact, a head or an effect is expected, the line has this shape, and no task
+///   may have the line there.
+/// - A fault is about at most one text and one list of accepted lines. It is about at least one text, unless a read failed, the bytes are
+///   too long, or memory ran out.
+/// - Each text that a fault is about has exactly one reason. The reason names the wrong word if a fact, a head or an effect is expected and
+///   the line is refused for a value.
 pub fn mark_laws()
     ensures one_due { OneDue }
     ensures some_due { SomeDue }

@@ -1,4 +1,4 @@
-//! The task file as a format of lines, and the laws that hold of it.
+//! The format of task files, line by line, and its laws.
 #![tactic(auto)]
 
 mod laws;

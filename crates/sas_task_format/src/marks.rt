@@ -1,9 +1,9 @@
-// What stands where in a task file, and which numbers may stand there.
+// The lines of a task file: where they are, what is expected there, and which numbers are allowed.
 ghost use Rattle.std.specs.Prelude.{◌≡◌};
 ghost use Rattle.sas_task_format.specs.Marks.{word_bytes};
 
-/// Where a line of a task file stands: in which section, and in which variable, group, operator or rule, counted from 0.
-/// The plurals are the lines with the counts.
+/// The location of a line in a task file: its section, and its variable, group, operator or rule, counted from 0. The plurals are the lines
+/// with the counts.
 #[derive(Clone, Copy, Debug, PartialEq, Eq)]
 pub enum Location {
     Version,
@@ -18,7 +18,7 @@ pub enum Location {
     Operator(u32),
     Rules,
     Rule(u32),
-    /// Behind the last line.
+    /// After the last line.
     End,
 }
 
@@ -44,7 +44,7 @@ pub enum FixedWord {
 }
 
 impl FixedWord {
-    /// Returns the word as it stands in the file.
+    /// Returns the bytes of the word in a file.
     pub fn bytes(self) -> &'static [u8]
         ensures { result.now ≡ word_bytes self }
     {
@@ -69,7 +69,7 @@ impl FixedWord {
     }
 }
 
-/// What is due on a line of a task file.
+/// What is expected on a line of a task file.
 #[derive(Clone, Copy, Debug, PartialEq, Eq)]
 pub enum Due {
     /// This word.
@@ -78,32 +78,31 @@ pub enum Due {
     Name,
     /// A number from `least` to `most`.
     Number { least: u32, most: u32 },
-    /// An axiom layer: a number, or `-1` for none.
+    /// An axiom layer: a number, or `-1` for a basic variable.
     Layer,
     /// A fact: a variable and one of its values.
     Fact,
-    /// The head of a rule: a variable, its old value or `-1`, and its new value.
+    /// The head of a rule (axiom): a variable, its old value or `-1`, and its new value.
     Head,
-    /// An effect: the number of its conditions, each as a fact, and what it changes, as a head does.
+    /// An effect: the number of its conditions, each condition as a fact, and its change in the form of a head.
     Effect,
-    /// Nothing: all lines have come.
+    /// Nothing: all lines have been read.
     Nothing,
 }
 
-/// Where a line stands, and what is due there.
+/// The location of a line, and what is expected there.
 #[derive(Clone, Copy, Debug, PartialEq, Eq)]
 pub struct Mark {
     pub at: Location,
     pub due: Due,
 }
 
-/// The first word of a line whose number may not stand there, and the numbers that may: from 0, or from -1 where that stands for
-/// no value, to `most`.
+/// The first word of a line that isn't an allowed number. Allowed are the numbers from 0 to `most`, and -1 if `may_be_none`.
 #[derive(Clone, Copy, Debug, PartialEq, Eq)]
 pub struct WrongWord {
-    /// Which word of the line it is, counted from 1.
+    /// The number of the word in the line, counted from 1.
     pub word: u64,
-    /// Whether -1 may stand there.
+    /// Whether -1 is allowed. It means no value.
     pub may_be_none: bool,
     pub most: u32,
 }

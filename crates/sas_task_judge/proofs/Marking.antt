@@ -1,4 +1,4 @@
--- Where the judge stands and what is due there, by the tracker.
+-- The location of the next line and what is expected there, by the tracker.
 use Rattle.std.proofs.Common.{◌≡◌, ℕ, List, Option, Some, None, Result, refl, sym, ap, subst, ◌∙◌}
 use Rattle.std.proofs.lemmas.Option.{none-some}
 use Rattle.std.specs.Prelude.{IfOk}
@@ -57,14 +57,14 @@ of_facts due.Head h = tt
 of_facts due.Effect h = tt
 of_facts due.Nothing h = h
 
--- only where facts are due is a word wrong
+-- a word can be wrong only if facts are expected
 pub speaks_of_facts : (ranges : List ℕ) (d : Due) (line : List ℕ) (w : WrongWord) → IsFirstWrong ranges (slot_of_due d) line w → SpeaksOfFacts d
 speaks_of_facts ranges d line w h = of_facts d (subst HasBounds h.belongs (wrong_speaks ranges h.item w h.first))
 
 pub quiet : (ranges : List ℕ) (d : Due) (line : List ℕ) → (SpeaksOfFacts d → ⊥) → FirstWrong ranges (slot_of_due d) line None
 quiet ranges d line silent = λ w h. silent (speaks_of_facts ranges d line w h)
 
--- what is due there, and so where the line belongs
+-- what is expected there, and so the slot of the line
 pub where_due : (j : TaskJudge) (d : Due) (line : List ℕ) (r : Option WrongWord) → DueIs j d → FirstWrong j.ranges (slot_of_due d) line r → FirstWrong j.ranges (due_slot j) line r
 where_due j d line r h f = subst (λ (s : TaskSlot). FirstWrong j.ranges s line r) (ap slot_of_due h.is) f
 

@@ -1,4 +1,4 @@
--- Why a line is refused: what is due where the machine stands, and which word of the line is wrong.
+-- Why a line is refused: what the machine expects, and which word of the line is wrong.
 use Rattle.std.proofs.Common.{◌≡◌, ◌≢◌, ◌⊎◌, inl, inr, ℕ, List, [], ◌∷◌, ◌++◌, length, map, Option, Some, None, refl, sym, ap, subst, ◌∙◌}
 use Rattle.std.specs.Prelude.{IfSome}
 use Rattle.sas_core.specs.declared.parts.Parts.{Parts}
@@ -37,7 +37,7 @@ use Rattle.sas_task_judge.proofs.TaskEnds.{done_is, ended_if_done}
 
 -- ---- a task that begins with the lines
 
--- a task of whose lines these are the first, and this is the next
+-- a task that begins with these lines and this line
 pub record Completed (items : List TaskLine) : Type 0 where
   pub task : Parts
   pub good : WellRanged task
@@ -57,7 +57,7 @@ value_or_not kinds.TooLong = inr (λ e. cc)
 value_or_not kinds.Read = inr (λ e. cc)
 value_or_not kinds.Memory = inr (λ e. cc)
 
--- behind the variables the judge's ranges are the tracker's
+-- after the variables, the judge and the tracker have the same ranges
 ranges_there : (place : Place) (ranges : List ℕ) (range : ℕ) → IsBehindVariables place → ranges_in place ranges range ≡ ranges
 ranges_there at.VariableValues ranges range h = absurd h
 ranges_there at.VersionBegin ranges range h = refl
@@ -91,11 +91,11 @@ ranges_there at.RuleConditions ranges range h = refl
 ranges_there at.RuleEnd ranges range h = refl
 
 module _ {K : Type 0} (keeps : List (List ℕ) → SoFar → K → Type 0) (lines : List (List ℕ)) (m : TaskMachine K) (h : LedBy keeps lines m) where
-  -- the mark where the machine is
+  -- the mark of the machine
   abbrev pub mark_there : Mark
   mark_there = mark_of m.judge
 
-  -- ---- where all has come
+  -- ---- after all lines
 
   pub mark_at_end : HasEnded m.judge → mark_there ≡ end_mark
   mark_at_end e =
@@ -104,7 +104,7 @@ module _ {K : Type 0} (keeps : List (List ℕ) → SoFar → K → Type 0) (line
       ∙ ap (λ (n : ℕ). mark_at at.Rules (tracker_at at.Rules n j.more j)) e.1
 
   module _ (going_on : HasEnded m.judge → ⊥) where
-    -- ---- what is due
+    -- ---- what is expected
 
     completed_by : (more : List TaskLine) (v : Parts) → LeadsToEnd task_format TaskLineFits process_node (state_of m.judge h.so_far) more v → Completed h.leads.items
     completed_by [] v e = absurd (going_on (ended_if_done m.judge h.so_far (done_is (state_of m.judge h.so_far) v e)))
@@ -122,7 +122,8 @@ module _ {K : Type 0} (keeps : List (List ℕ) → SoFar → K → Type 0) (line
 
     -- ---- the wrong word
 
-    -- the judge's ranges are those of the variables of a task with these lines, where facts are due
+    -- if facts are expected, the judge's ranges are those of the variables of any task with these
+    -- lines
     ranges_are : (v : Parts) → WellRanged v → (items more : List TaskLine) → task_layout v ≡ items ++ more → items ≡ h.leads.items → SpeaksOfFacts mark_there.due → m.judge.ranges ≡ ranges_of v.variables
     ranges_are v good items more layout same speaks =
         let behind : IsBehindVariables m.judge.place = speaks_behind_variables (tracker_of m.judge) speaks in
@@ -173,7 +174,7 @@ module _ {K : Type 0} (keeps : List (List ℕ) → SoFar → K → Type 0) (line
       word_by word is (inl value) = some_word word value (is.of_value value)
       word_by word is (inr another) = subst (λ (x : Option WrongWord). IfSome x (λ w. (kind ≡ kinds.Value) × IsWrongBehind lines found w)) (sym (is.of_another another)) tt
 
-      -- where the machine hasn't ended, what it knows is the reason
+      -- if the machine hasn't ended, what it knows is the reason
       pub task_reason : (word : Option WrongWord) → kind ≢ kinds.Trailing → WrongWordIn m.judge found kind word → IsTaskReason kind lines found mark_there word
       task_reason word apart is = record {
         trailing = λ t. absurd (apart t);
@@ -182,7 +183,7 @@ module _ {K : Type 0} (keeps : List (List ℕ) → SoFar → K → Type 0) (line
         no_wrong_word = λ none value. no_word word (is.of_value value) none;
       }
 
-  -- behind the last line nothing is due
+  -- after the last line nothing is expected
   pub trailing_reason : (found : List ℕ) → HasEnded m.judge → IsTaskReason kinds.Trailing lines found mark_there None
   trailing_reason found e = record {
     trailing = λ _. mark_at_end e;
@@ -203,11 +204,11 @@ module _ {K : Type 0} (keeps : List (List ℕ) → SoFar → K → Type 0) (line
       subst (λ (k : K). LedBy keeps lines (record { judge = n.judge; kept = k; wrong = n.wrong })) (sym s.kept)
       (subst (λ (j : TaskJudge). LedBy keeps lines (record { judge = j; kept = m.kept; wrong = n.wrong })) (sym s.judge) (as_before n.judge.said n.wrong h))
 
-  -- it has ended only where it had
+  -- it has ended exactly if it had before
   pub ended_still : Stopped m line kind n → HasEnded n.judge → HasEnded m.judge
   ended_still s e = let before : HasEnded (record m.judge { said = n.judge.said }) = subst HasEnded s.judge e in (before.0, before.1)
 
-  -- and knows which word is wrong
+  -- it knows which word is wrong
   pub wrong_still : Stopped m line kind n → WrongWordIn n.judge line kind n.wrong
   wrong_still s =
       let there : WrongWordIn (record m.judge { said = n.judge.said }) line kind n.wrong = record { of_value = s.wrong.of_value; of_another = s.wrong.of_another } in

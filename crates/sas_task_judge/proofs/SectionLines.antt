@@ -1,4 +1,4 @@
--- The lines of a variable, a mutex group, an operator or a rule lead through that part of a task.
+-- The lines of a variable, a mutex group, an operator or a rule lead through this part of a task.
 use Rattle.std.proofs.Common.{◌≡◌, ℕ, Bool, List, [], ◌∷◌, ◌++◌, length, refl, sym, ap, subst, ◌∙◌, append_assoc, IsTrue, codes}
 use Rattle.std.proofs.lemmas.List.{append-nil}
 use Rattle.std.specs.List.{AllByRecursion, flat_map, list_all}
@@ -22,11 +22,11 @@ use Rattle.sas_task_judge.proofs.TaskRanges.{facts_are, effects_are, change_is}
 abbrev pub GoesOn : TaskProcess → List TaskLine → TaskProcess → Type 0
 GoesOn p items q = After task_format TaskLineFits process_node p items q
 
--- each number on each of the lines is one that a file can say
+-- a file can spell each number on each of the lines
 abbrev pub AllFit : List TaskLine → Type 0
 AllFit items = AllByRecursion TaskLineFits items
 
--- ---- so many lines of one sort
+-- ---- n lines of one kind
 
 module _ {A : Type 0} (slot : TaskSlot) (ok : A → Bool) (back : TaskLine → A) (says : A → TaskLine) (at_slot : (a : A) → task_slot (says a) ≡ slot) (backs : (a : A) → back (says a) ≡ a) where
   one_line : (k : A → TaskProcess) (a : A) (rest : List TaskLine) (q : TaskProcess) → TaskLineFits (says a) → IsTrue (ok a) → GoesOn (k a) rest q → GoesOn (a_line slot ok back k) (says a ∷ rest) q
@@ -40,7 +40,7 @@ module _ {A : Type 0} (slot : TaskSlot) (ok : A → Bool) (back : TaskLine → A
       one_line (λ a. repeat (a_line slot ok back) (length xs) (so_far ++ a ∷ []) k) x (flat_map (line says) xs ++ rest) q fits.0 good_parts.0
       (many_lines k (so_far ++ x ∷ []) xs rest q fits.1 good_parts.1 (λ f. subst (λ (y : List A). GoesOn (k y) rest q) (sym (append_assoc so_far (x ∷ []) xs)) (on f)))
 
--- so many names
+-- n names
 all_named : (names : List (List ℕ)) → AllByRecursion IsName names → IsTrue (list_all is_name names)
 all_named [] good = refl
 all_named (n ∷ names) good = and_both (is_name n) (list_all is_name names) good.0 (all_named names good.1)
@@ -49,7 +49,7 @@ names_on : (k : List (List ℕ) → TaskProcess) (names : List (List ℕ)) (rest
     → (AllFit rest → GoesOn (k names) rest q) → GoesOn (repeat a_name (length names) [] k) (flat_map (line name) names ++ rest) q
 names_on k names rest q fits good on = many_lines name_slot is_name name_in name (λ n. refl) (λ n. refl) k [] names rest q fits (all_named names good) on
 
--- so many facts, so many effects
+-- n facts, n effects
 module _ (vs : List Variable) where
   facts_on : (k : List Fact → TaskProcess) (fs : List Fact) (rest : List TaskLine) (q : TaskProcess) → AllFit (flat_map (line fact) fs ++ rest) → IsTrue (list_all (fact_in_ranges (ranges_of vs)) fs)
       → (AllFit rest → GoesOn (k fs) rest q) → GoesOn (repeat (a_fact vs) (length fs) [] k) (flat_map (line fact) fs ++ rest) q
@@ -88,7 +88,7 @@ group_on vs k facts good fits = (
 
 -- ---- an operator
 
--- its lines, one behind the other
+-- its lines, one after another
 abbrev pub operator_items : Operator → List TaskLine
 operator_items o =
     word (codes "begin_operator") ∷ name o.name ∷ number (length o.prevail)
@@ -124,7 +124,7 @@ operator_on vs k o good fits =
 
 -- ---- a rule
 
--- its lines, one behind the other
+-- its lines, one after another
 abbrev pub rule_items : Rule → List TaskLine
 rule_items r =
     word (codes "begin_rule") ∷ number (length r.conditions)

@@ -1,4 +1,4 @@
--- Behind a section that is kept whole the judge goes on, and so does the machine.
+-- The judge and the machine move past a section that is stored at once.
 use Rattle.std.proofs.Common.{◌≡◌, ℕ, suc, ◌<◌, ◌-◌, List, [], ◌∷◌, ◌++◌, length, refl, sym, ap, subst, ◌∙◌, IsTrue, arith, Ok}
 use Rattle.std.specs.List.{list_all}
 use Rattle.sas_core.specs.declared.parts.Fact.{Fact}
@@ -31,17 +31,18 @@ use Rattle.sas_task_judge.proofs.SectionLines.{GoesOn, AllFit, variable_on, grou
 
 -- ---- the judge
 
--- the state before the section that is due
+-- the state before the expected section
 before_section : (j : TaskJudge) (s : SoFar) (place : Place) → j.place ≡ place → 0 < j.left → state_of j s ≡ state_at place (suc (j.left - 1)) j.more s
 before_section j s place here left = ap (λ (p : Place). state_at p j.left j.more s) here ∙ ap (λ (n : ℕ). state_at place n j.more s) (next_of j.left left)
 
--- What has come leads on to that with a section more, all of whose lines have come. The judge knows of it what it needs.
+-- All lines of one more section lead to the content with this section, of which the judge knows
+-- what it needs.
 pub record SectionLeads (j k : TaskJudge) (s : SoFar) (items : List TaskLine) (t : SoFar) : Type 0 where
   pub known : KnownTo t k
   pub on : GoesOn (state_of j s) items (state_of k t)
   pub tracked : track (tracker_of j) items ≡ tracker_of k
 
--- what the judge knows stays, where the place is that of a section
+-- what the judge knows is unchanged between sections
 known_behind : (j : TaskJudge) (s t : SoFar) → t.parts.variables ≡ s.parts.variables → t.parts.init ≡ s.parts.init → (j.place ≡ at.VariableValues → ⊥) → KnownTo s j → KnownTo t (behind_section j)
 known_behind j s t variables init apart f = record {
   ranges = f.ranges ∙ ap ranges_of (sym variables);
@@ -49,7 +50,8 @@ known_behind j s t variables init apart f = record {
   range = λ h. absurd (apart h);
 }
 
--- lines that lead behind the section at a place do where the judge is at that place, with a section left
+-- lines that lead past a section at a place also do so for a judge at that place with a section
+-- left
 at_place : (j : TaskJudge) (s t : SoFar) (place : Place) (items is : List TaskLine) → j.place ≡ place → 0 < j.left → is ≡ items
     → GoesOn (state_at place (suc (j.left - 1)) j.more s) items (state_at place (j.left - 1) j.more t) → GoesOn (state_of j s) is (state_of (behind_section j) t)
 at_place j s t place items is here left same on =
@@ -97,7 +99,7 @@ rule_leads j s r due f good fits = record {
 
 module _ {K : Type 0} (keeps : List (List ℕ) → SoFar → K → Type 0) (m : TaskMachine K) (next : TaskJudge) (kept : K) (items : List TaskLine) (behind : SoFar → SoFar)
     (leads : (s : SoFar) → KnownTo s m.judge → SectionLeads m.judge next s items (behind s)) (keeps_on : (lines : List (List ℕ)) (s : SoFar) → keeps lines s m.kept → keeps (lines ++ spelled items) (behind s) kept) where
-  -- where the keeper keeps the section, its lines lead the machine too
+  -- if the keeper stores the section, its lines lead the machine as well
   led_behind : (before : List (List ℕ)) → LedBy keeps before m → LedBy keeps (before ++ spelled items) (record m { judge = next; kept = kept })
   led_behind before h =
       let led = leads h.so_far h.known in

@@ -1,4 +1,4 @@
--- What is due behind a whole section: the tracker follows all its lines.
+-- What is expected after a whole section: the tracker follows all its lines.
 use Rattle.std.proofs.Common.{◌≡◌, ℕ, suc, ◌<◌, ◌-◌, List, [], ◌∷◌, ◌++◌, length, refl, sym, ap, ◌∙◌, arith, codes}
 use Rattle.std.specs.List.{flat_map}
 use Rattle.sas_core.specs.declared.parts.Fact.{Fact}
@@ -15,25 +15,25 @@ use Rattle.sas_task_judge.proofs.TaskMoves.{next_of}
 use Rattle.sas_task_judge.proofs.SectionLines.{operator_items, rule_items}
 use Rattle.sas_task_judge.proofs.Stepping.{CountsDown, values_count, group_counts, prevail_counts, effects_count, conditions_count}
 
--- the judge behind the section that was due
+-- the judge after the expected section
 abbrev pub behind_section : TaskJudge → TaskJudge
 behind_section j = record j { left = j.left - 1 }
 
--- the judge behind the variable that was due, which has so many values
+-- the judge after the expected variable, which has this many values
 abbrev pub behind_values : TaskJudge → ℕ → TaskJudge
 behind_values j range = record j { ranges = j.ranges ++ range ∷ []; left = j.left - 1 }
 
 -- ---- the lines of a list
 
 module _ {A : Type 0} (says : A → TaskLine) (place : Place) (counts : CountsDown place) where
-  -- they count down to none
+  -- they are counted down to zero
   pub list_tracked : (t : Tracker) (xs : List A) (rest : List TaskLine) → track (record t { place = place; more = length xs }) (flat_map (line says) xs ++ rest) ≡ track (record t { place = place; more = 0 }) rest
   list_tracked t [] rest = refl
   list_tracked t (x ∷ xs) rest = ap (λ (u : Tracker). track u (flat_map (line says) xs ++ rest)) (counts t (length xs) (says x)) ∙ list_tracked t xs rest
 
 -- ---- the sections
 
--- the tracker before the section that is due
+-- the tracker before the expected section
 before_section : (j : TaskJudge) (place : Place) → j.place ≡ place → 0 < j.left → tracker_of j ≡ tracker_at place (suc (j.left - 1)) j.more j
 before_section j place here left = ap (λ (p : Place). tracker_at p j.left j.more j) here ∙ ap (λ (n : ℕ). tracker_at place n j.more j) (next_of j.left left)
 
@@ -42,7 +42,7 @@ one_less_left : (n : ℕ) → suc n - 1 ≡ n
 one_less_left n = omega arith
 
 module _ (j : TaskJudge) (place : Place) (items : List TaskLine) (k : TaskJudge) (here : j.place ≡ place) (left : 0 < j.left) where
-  -- lines that lead the tracker behind the section at a place do where the judge is at that place
+  -- lines that lead the tracker past a section at a place also do so for a judge at that place
   pub at_place : track (tracker_at place (suc (j.left - 1)) j.more j) items ≡ tracker_at place (j.left - 1) j.more k → tracker_at place (j.left - 1) j.more k ≡ tracker_of k → track (tracker_of j) items ≡ tracker_of k
   at_place e same = ap (λ (x : Tracker). track x items) (before_section j place here left) ∙ e ∙ same
 

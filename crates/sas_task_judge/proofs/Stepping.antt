@@ -1,4 +1,4 @@
--- The tracker steps as the judge goes on.
+-- The tracker follows the judge.
 use Rattle.std.proofs.Common.{◌≡◌, ℕ, suc, ◌<◌, ◌≤◌, ◌+◌, ◌-◌, List, [], ◌∷◌, ◌++◌, Bool, true, false, nat_lt, length, refl, sym, ap, ◌∙◌, arith}
 use Rattle.std.proofs.lemmas.Bool.Decides.{nat_tests}
 use Rattle.std.specs.Prelude.{if◌then◌else◌}
@@ -11,11 +11,11 @@ use Rattle.sas_task_judge.specs.TaskJudge.{more_in, tracker_at, tracker_of}
 use Rattle.sas_task_judge.proofs.TaskMoves.{next_of}
 
 module _ (j : TaskJudge) (i : TaskLine) (t : Tracker) (place : Place) (here : j.place ≡ place) where
-  -- a step from the place where the judge is
+  -- a step from the place of the judge
   pub steps_here : step (tracker_at place j.left j.more j) i ≡ t → step (tracker_of j) i ≡ t
   steps_here e = ap (λ (p : Place). step (tracker_at p j.left j.more j) i) here ∙ e
 
-  -- and with so many left, or so many more
+  -- a step that also changes a count
   pub steps_with_left : (left : ℕ) → j.left ≡ left → step (tracker_at place left j.more j) i ≡ t → step (tracker_of j) i ≡ t
   steps_with_left left many e = steps_here (ap (λ (n : ℕ). step (tracker_at place n j.more j) i) many ∙ e)
 
@@ -24,7 +24,7 @@ module _ (j : TaskJudge) (i : TaskLine) (t : Tracker) (place : Place) (here : j.
 
 -- ---- one line of a list
 
--- a place where a line of a list counts down
+-- a place at which a line of a list is counted down
 abbrev pub CountsDown : Place → Type 0
 CountsDown place = (t : Tracker) (n : ℕ) (i : TaskLine) → step_at place (record t { place = place; more = suc n }) i ≡ record t { place = place; more = n }
 
@@ -49,7 +49,7 @@ effects_count t n i = one_less_is at.Effects t n
 pub conditions_count : CountsDown at.RuleConditions
 conditions_count t n i = one_less_is at.RuleConditions t n
 
--- the judge with one less to come
+-- the judge with one item less
 abbrev pub with_one_less : TaskJudge → TaskJudge
 with_one_less j = record j { more = j.more - 1 }
 
@@ -82,7 +82,7 @@ state_end_steps j i here l =
     let t = tracker_at at.StateValues j.left j.more j in
     steps_here j i _ at.StateValues here (ap (λ (b : Bool). if b then record t { valued = t.valued + 1 } else goes_to at.GoalBegin t) ends)
 
--- ---- nothing has come
+-- ---- nothing was read yet
 
 pub starts : (j : TaskJudge) → j.place ≡ at.VersionBegin → j.total ≡ 0 → j.left ≡ 0 → j.ranges ≡ [] → j.valued ≡ 0 → tracker_of j ≡ tracker_start
 starts j here total left ranges valued =

@@ -1,4 +1,4 @@
--- The judge has ended exactly where no line of a task may follow.
+-- The judge has ended exactly if no line of a task may follow.
 use Rattle.std.proofs.Common.{◌≡◌, ℕ, zero, suc, List, [], ◌∷◌, Option, refl, ap, ◌∙◌}
 use Rattle.std.specs.Prelude.{length, drop}
 use Rattle.sas_core.specs.declared.parts.Fact.{Fact}
@@ -15,17 +15,17 @@ use Rattle.sas_reader.specs.System.{ended}
 use Rattle.sas_task_judge.specs.TaskJudge.{state_at, state_of, HasEnded}
 use Rattle.sas_task_judge.specs.TaskPlaces.{variable_begin, variable_values, group_begin, group_facts, state_values_of, goal_facts, operator_begin, operator_prevail, operator_effects, rule_begin, rule_conditions}
 
--- the last line has come
+-- the last line has been read
 abbrev pub IsDone : TaskProcess → Type 0
 IsDone (done p) = Unit {0}
 IsDone (read slot ok next) = ⊥
 
--- where a state is at the end, all has come
+-- if a state is at the end, all lines have been read
 pub done_is : (p : TaskProcess) (v : Parts) → process_node p ≡ ended v → IsDone p
 done_is (done w) v e = tt
 done_is (read s ok next) v e = absurd cc
 
--- ---- no list of a task is the end, but that of the rules
+-- ---- no list of a task is at the end, except the rules
 
 variables : (left : ℕ) (p : Parts) → IsDone (variable_begin left p) → ⊥
 variables zero p h = h
@@ -108,6 +108,6 @@ ends_at at.RuleEnd left more s h = absurd h
 pub ended_if_done : (j : TaskJudge) (s : SoFar) → IsDone (state_of j s) → HasEnded j
 ended_if_done j s h = ends_at j.place j.left j.more s h
 
--- where it has ended, it is at the end with its parts
+-- if it has ended, it is at the end with its parts
 pub ends_with : (j : TaskJudge) (s : SoFar) → HasEnded j → process_node (state_of j s) ≡ ended s.parts
 ends_with j s h = ap (λ (place : Place). process_node (state_at place j.left j.more s)) h.0 ∙ ap (λ (left : ℕ). process_node (rule_begin left s.parts)) h.1

@@ -1,4 +1,4 @@
--- One line of a task moves the judge on.
+-- One line of a task moves the judge.
 use Rattle.std.proofs.Common.{IsTrue, ◌≡◌, ◌≢◌, ℕ, zero, suc, ◌<◌, ◌≤◌, ◌-◌, Bool, nat_lt, length, List, [], ◌∷◌, ◌++◌, refl, sym, ap, subst, ◌∙◌, arith, codes, Result, Ok, Err}
 use Rattle.std.specs.Prelude.{take, drop, Option, Some, None}
 use Rattle.std.specs.Result.{result_err}
@@ -32,7 +32,7 @@ use Rattle.sas_task_judge.proofs.TaskRanges.{many_same}
 use Rattle.sas_task_judge.proofs.VariablesBehind.{behind}
 use Rattle.sas_task_format.specs.TaskProcess.{TaskProcess, a_word, a_number, number_in, effect_in}
 
--- a line that may stand leads on
+-- a line that may stand leads to a next state
 pub on : (j k : TaskJudge) (s t : SoFar) (slot : TaskSlot) (test : TaskLine → Bool) (next : TaskLine → TaskProcess) (i : TaskLine) (line : List ℕ)
     → state_of j s ≡ read slot test next → Takes task_format TaskLineFits slot test i × (task_line_bytes i ≡ line) → next i ≡ state_of k t → step (tracker_of j) i ≡ tracker_of k → LeadsOn j s line k t
 on j k s t slot test next i line at says n steps = record {
@@ -47,12 +47,12 @@ pub off : (p : TaskProcess) (slot : TaskSlot) (test : TaskLine → Bool) (next :
     → p ≡ read slot test next → Judged task_format TaskLineFits slot test line kind → Rejects task_format TaskLineFits (process_node p) line kind
 off p slot test next line kind at j = subst (λ (t : TaskProcess). Rejects task_format TaskLineFits (process_node t) line kind) (sym at) j
 
--- one of so many more, and then so many less one
+-- one of n items, and then n - 1 items
 pub next_of : (n : ℕ) → 0 < n → n ≡ suc (n - 1)
 next_of zero h = absurd (omega arith)
 next_of (suc n) h = omega arith
 
--- one value more, whichever it is
+-- one more value, whichever it is
 one_longer : (xs : List ℕ) → ◌≡◌ {A = ℕ → ℕ} (λ x. length (xs ++ x ∷ [])) (λ x. suc (length xs))
 one_longer [] = refl
 one_longer (y ∷ xs) = ap {B = ℕ → ℕ} (λ (f : ℕ → ℕ) (x : ℕ). suc (f x)) (one_longer xs)
@@ -69,7 +69,7 @@ value_due p l =
 
 -- ---- the judge
 
--- where each variable has its value, `end_state` is due
+-- `end_state` is expected if each variable has its value
 over : (n : ℕ) (vs : List Variable) → length vs ≤ n → drop n vs ≡ []
 over zero [] h = refl
 over zero (v ∷ vs) h = absurd (omega arith)
@@ -81,12 +81,12 @@ state_is_over j s here l f =
     ap (λ (place : Place). state_at place j.left j.more s) here
     ∙ ap (λ (vs : List Variable). state_values_of vs s.parts) (over (length s.parts.init) s.parts.variables (omega (arith, l, many_same s j f, f.valued)))
 
--- else the value of the next variable is
+-- otherwise the value of the next variable is expected
 pub state_goes_on : (j : TaskJudge) (s : SoFar) → j.place ≡ at.StateValues → j.valued < length j.ranges → KnownTo s j
     → state_of j s ≡ a_number (λ n. nat_lt n (range_of s.parts.variables (length s.parts.init))) (λ n. state_values (record s.parts { init = s.parts.init ++ n ∷ [] }))
 state_goes_on j s here l f = ap (λ (place : Place). state_at place j.left j.more s) here ∙ value_due s.parts (omega (arith, l, many_same s j f, f.valued))
 
--- the kind, if there is one
+-- the kind of the fault, if any
 abbrev pub some_or : Kind → Option Kind → Kind
 some_or other None = other
 some_or other (Some kind) = kind
@@ -96,11 +96,11 @@ pub refused : (j k : TaskJudge) (line : List ℕ) (r : Result Event Kind) (kind 
 refused j k line (Ok event) kind e h = absurd (none-some kind e)
 refused j k line (Err other) kind e h = subst (λ (x : Kind). IsOfBytes x × (x ≡ kinds.Memory → TakesMemory j) × (x ≢ kinds.Memory → RejectsLine j line x) × (x ≢ kinds.Memory → StandsAsBefore j k)) (sym (ap (some_or other) e)) h
 
--- a line that may not stand, where no memory is taken
+-- a line that may not stand, if the judge needs no memory
 pub refused_line : (j k : TaskJudge) (line : List ℕ) (r : Result Event Kind) (kind : Kind) → result_err r ≡ Some kind → IsOfLine kind → RejectsLine j line kind → StandsAsBefore j k → Moves j line k r
 refused_line j k line r kind e of_line rejects before = refused j k line r kind e (of_line.0, λ m. absurd (of_line.1 m), λ n. rejects, λ n. before)
 
--- ---- what was said before doesn't matter
+-- ---- the old `said` doesn't matter
 
 pub said_apart : (j k : TaskJudge) (said : Said) (line : List ℕ) (event : Event) → Moves (record j { said = said }) line k (Ok event) → Moves j line k (Ok event)
 said_apart j k said line event moves = λ s f.
@@ -110,7 +110,7 @@ said_apart j k said line event moves = λ s f.
 -- ---- the first line of some bytes
 
 module _ (j k : TaskJudge) (bytes : List ℕ) (event : Event) (n : ℕ) where
-  -- a line that stands first says this, and that may stand under the test
+  -- the first line has this content, which may stand under the test
   pub moves_ahead : (test : TaskLine → Bool) (i : TaskLine) → SpellsAhead i bytes n → IsTrue (test i) → MovesBy j test i k event → MovesAhead j bytes k event n
   moves_ahead test i spells good by = record {
     line = task_line_bytes i;
@@ -119,7 +119,7 @@ module _ (j k : TaskJudge) (bytes : List ℕ) (event : Event) (n : ℕ) where
     moves = by (task_line_bytes i) (record { slot = refl; fits = spells.fits; good = good }, refl);
   }
 
-  -- the line is what stands before the last byte that was taken
+  -- the line is the bytes before the last byte that was taken
   pub taken_line : MovesAhead j bytes k event n → LineStandsFirst bytes (take (n - 1) bytes) n × Moves j (take (n - 1) bytes) k (Ok event)
   taken_line h = (subst (λ (l : List ℕ). LineStandsFirst bytes l n) h.before_end h.first, subst (λ (l : List ℕ). Moves j l k (Ok event)) h.before_end h.moves)
 
@@ -127,7 +127,7 @@ module _ (j k : TaskJudge) (bytes : List ℕ) (event : Event) (n : ℕ) where
   pub some_taken : MovesAhead j bytes k event n → 0 < n
   some_taken h = omega (arith, h.first.taken.4)
 
-  -- the effect that it says was noted before the judge went on
+  -- its effect was stored before the judge moved
   pub effect_moves_ahead : (said : Said) (change : Change) → said.effect ≡ plain_effect change → SpellsAhead (effect (plain_effect change)) bytes n → IsTrue (change_in j.ranges change.var change.old change.new)
       → MovesBy (record j { said = said }) (λ i. effect_in_ranges j.ranges (effect_in i)) (effect said.effect) k event → MovesAhead j bytes k event n
   effect_moves_ahead said change e spells good by =

@@ -1,4 +1,4 @@
--- What the ranges of the variables say, the variables say.
+-- The ranges of the variables and the variables themselves give the same answers.
 use Rattle.std.proofs.Common.{◌≡◌, ℕ, zero, suc, Bool, List, [], ◌∷◌, ◌++◌, refl, sym, ap, subst, ◌∙◌, Option, Some, None, IsTrue, length}
 use Rattle.std.specs.Prelude.{nat_lt, ◌&&◌}
 use Rattle.std.specs.List.{list_all}
@@ -42,18 +42,18 @@ effects_are vs [] = refl
 effects_are vs (e ∷ es) = ap (λ (b : Bool). b && list_all (effect_in_ranges (ranges_of vs)) es) (effect_is vs e) ∙ ap (λ (b : Bool). effect_may_stand vs e && b) (effects_are vs es)
 
 module _ (slot : TaskSlot) (test same : TaskLine → Bool) (is : (i : TaskLine) → test i ≡ same i) where
-  -- what may stand under a test may stand under one that tells the same
+  -- what may stand under a test may stand under an equivalent test
   pub takes_as : (i : TaskLine) → Takes task_format TaskLineFits slot test i → Takes task_format TaskLineFits slot same i
   takes_as i t = record { slot = t.slot; fits = t.fits; good = subst IsTrue (is i) t.good }
 
   takes_back : (i : TaskLine) → Takes task_format TaskLineFits slot same i → Takes task_format TaskLineFits slot test i
   takes_back i t = record { slot = t.slot; fits = t.fits; good = subst IsTrue (sym (is i)) t.good }
 
-  -- and what may not may not
+  -- what may not stand under a test may not stand under an equivalent test
   pub judged_as : (line : List ℕ) (kind : Kind) → Judged task_format TaskLineFits slot test line kind → Judged task_format TaskLineFits slot same line kind
   judged_as line kind j = record { none = λ i t e. j.none i (takes_back i t) e; kind = j.kind }
 
--- what the judge looks up in its ranges is so of the variables that have come
+-- what the judge looks up in its ranges holds for the variables read so far
 module _ (s : SoFar) (j : TaskJudge) (fits : KnownTo s j) where
   pub fact_same : (i : TaskLine) → fact_in_ranges j.ranges (fact_in i) ≡ fact_exists s.parts.variables (fact_in i)
   fact_same i = ap (λ (rs : List ℕ). fact_in_ranges rs (fact_in i)) fits.ranges ∙ fact_is s.parts.variables (fact_in i)

@@ -1,4 +1,4 @@
--- One line more of a task moves the machine on.
+-- One more line of a task moves the machine.
 use Rattle.std.proofs.Common.{◌≡◌, ℕ, List, [], ◌∷◌, ◌++◌, ap, ◌∙◌, Ok}
 use Rattle.sas_reader.specs.System.{Leads}
 use Rattle.sas_task_format.specs.Process.{process_node}
@@ -20,12 +20,12 @@ use Rattle.sas_task_judge.proofs.Stepping.{track_append}
 abbrev pub TaskLed : List (List ℕ) → TaskProcess → Type 0
 TaskLed lines p = Leads task_format TaskLineFits process_node task_start lines p
 
--- so do they, and the tracker is where the judge is
+-- the same, and the tracker is that of the judge
 pub record Tracked (lines : List (List ℕ)) (k : TaskJudge) (t : SoFar) : Type 0 where
   pub leads : TaskLed lines (state_of k t)
   pub tracked : track tracker_start leads.items ≡ tracker_of k
 
--- a line that leads on
+-- a line that leads to a next state
 pub line_led : (before : List (List ℕ)) (j k : TaskJudge) (s t : SoFar) (line : List ℕ) (h : TaskLed before (state_of j s)) → LeadsOn j s line k t → track tracker_start h.items ≡ tracker_of j → Tracked (before ++ line ∷ []) k t
 line_led before j k s t line h on tracked = record {
   leads = record {
@@ -36,7 +36,7 @@ line_led before j k s t line h on tracked = record {
   tracked = track_append tracker_start h.items (on.item ∷ []) ∙ ap (λ (x : Tracker). step x on.item) tracked ∙ on.steps;
 }
 
--- a machine that a line moves on is led by it too, whatever becomes of what was said
+-- a machine that a line moves is led by this line as well, whatever `said` becomes
 pub led_on : {K : Type 0} (keeps : List (List ℕ) → SoFar → K → Type 0) (before : List (List ℕ)) (m : TaskMachine K) (j : TaskJudge) (said : Said) (kept : K) (event : Event) (line : List ℕ) → LedBy keeps before m → Moves m.judge line j (Ok event)
     → ((lines : List (List ℕ)) (s : SoFar) → keeps lines s m.kept → keeps (lines ++ line ∷ []) (after s event j.said line) kept) → LedBy keeps (before ++ line ∷ []) (record m { judge = record j { said = said }; kept = kept })
 led_on keeps before m j said kept event line h moves keeps_on =

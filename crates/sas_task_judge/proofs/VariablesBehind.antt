@@ -1,10 +1,10 @@
--- The variables behind the first so many.
+-- The variables after the first n.
 use Rattle.std.proofs.Common.{◌≡◌, ℕ, zero, suc, ◌<◌, List, [], ◌∷◌, length, refl, arith}
 use Rattle.std.specs.Prelude.{drop}
 use Rattle.sas_core.specs.declared.parts.Variable.{Variable}
 use Rattle.sas_core.specs.Variables.{range_of}
 
--- the variables behind the first so many: one of this range, and those behind one more
+-- the variables after the first n: one with this range, and those after the first n + 1
 pub record Behind (vs : List Variable) (i : ℕ) : Type 0 where
   pub first : Variable
   pub are : drop i vs ≡ first ∷ drop (suc i) vs

@@ -1,4 +1,4 @@
--- Where the judge stands and what is due there.
+-- The location of the next line, and what is expected there.
 use Rattle.std.specs.Prelude.{◌≡◌, ◌≢◌, ℕ, List, Option, None}
 use Rattle.sas_task_format.specs.declared.marks.Due.{Due}
 use Rattle.sas_task_format.specs.declared.marks.Location.{Location}
@@ -13,24 +13,24 @@ use Rattle.sas_task_format.specs.TaskFormat.{TaskSlot}
 use Rattle.sas_task_judge.specs.declared.task_judge.TaskJudge.{TaskJudge}
 use Rattle.sas_task_judge.specs.TaskJudge.{tracker_of}
 
--- the mark where the judge is
+-- the mark of the next line
 abbrev pub mark_of : TaskJudge → Mark
 mark_of j = mark_in (tracker_of j)
 
--- the next line stands there
+-- the next line has this location
 pub record LocationIs (j : TaskJudge) (at : Location) : Type 0 where
   pub is : at ≡ (mark_of j).at
 
--- this is due on the next line
+-- this is expected on the next line
 pub record DueIs (j : TaskJudge) (due : Due) : Type 0 where
   pub is : due ≡ (mark_of j).due
 
--- where the next line belongs
+-- the slot to which the next line belongs
 abbrev pub due_slot : TaskJudge → TaskSlot
 due_slot j = slot_of_due (mark_of j).due
 
--- This is the first wrong word of a line that was refused for a number, if there is one. For another
--- fault there is none.
+-- The first wrong word of a line that was refused for a number, if any. For any other fault, it is
+-- `None`.
 pub record WrongWordIn (j : TaskJudge) (line : List ℕ) (kind : Kind) (word : Option WrongWord)
     : Type 0 where
   pub of_value : kind ≡ kinds.Value → FirstWrong j.ranges (due_slot j) line word

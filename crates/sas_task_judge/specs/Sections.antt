@@ -1,4 +1,4 @@
--- Sections that are kept whole: a variable, a mutex group, an operator, a rule.
+-- Sections that are stored at once: a variable, a mutex group, an operator, a rule.
 use Rattle.std.specs.Prelude.{◌≡◌, ℕ, ◌<◌, List, [], ◌++◌, length, Result, IfOk, IfErr}
 use Rattle.sas_core.specs.declared.parts.Fact.{Fact}
 use Rattle.sas_core.specs.declared.parts.Variable.{Variable}
@@ -13,32 +13,32 @@ use Rattle.sas_task_line.specs.declared.so_far.SoFar.{SoFar}
 use Rattle.sas_task_judge.specs.declared.keeper.VariableKept.{VariableKept}
 use Rattle.sas_task_line.specs.TaskEvents.{with_variable, with_group, with_operator, with_rule}
 
--- what has come behind all lines of a variable
+-- the content after all lines of a variable
 abbrev pub behind_variable : SoFar → Variable → SoFar
 behind_variable s v =
     record s { parts = with_variable s.parts v; name = []; layer = v.layer; values = [] }
 
--- what has come behind all lines of a mutex group
+-- the content after all lines of a mutex group
 abbrev pub behind_group : SoFar → List Fact → SoFar
 behind_group s facts = record s { parts = with_group s.parts facts; facts = [] }
 
--- what has come behind all lines of an operator
+-- the content after all lines of an operator
 abbrev pub behind_operator : SoFar → Operator → SoFar
 behind_operator s o =
     record s { parts = with_operator s.parts o; name = []; facts = []; effects = [] }
 
--- what has come behind all lines of a rule
+-- the content after all lines of a rule
 abbrev pub behind_rule : SoFar → Rule → SoFar
 behind_rule s r = record s { parts = with_rule s.parts r; facts = [] }
 
--- the length of the lines and the number of values that were kept are those of the variable
+-- `kept` has the extent of the variable's lines and the number of its values
 abbrev pub VariableWithRange : List ℕ → Variable → VariableKept → Type 0
 VariableWithRange bytes v kept = VariableAhead bytes v kept.front × (kept.range ≡ length v.values)
 
 module _ {K : Type 0} (keeps : List (List ℕ) → SoFar → K → Type 0) where
-  -- What a keeper promises that may keep the section that stands first in some bytes. It keeps an A
-  -- that stands there, with all its lines, or it is as it was. Only memory can be refused. The
-  -- result has the front of those lines.
+  -- The promise of a keeper that may store the section at the beginning of some bytes. It stores an
+  -- A with all its lines, and the result has the extent of these lines. Or it changes nothing. The
+  -- only error is `Memory`.
   pub record KeepsAhead {A R : Type 0} (front_in : R → Front) (Ahead : A → R → Type 0)
       (lines_of : A → List TaskLine) (behind : SoFar → A → SoFar) (old new : K)
       (result : Result R Kind) : Type 0 where
@@ -66,7 +66,7 @@ module _ {K : Type 0} (keeps : List (List ℕ) → SoFar → K → Type 0) where
       KeepsAhead (λ (front : Front). front) (OperatorAhead ranges bytes)
       operator_lines behind_operator
 
-  -- the section is a rule for variables with these ranges
+  -- the section is a rule of variables with these ranges
   abbrev pub KeepsRule : List ℕ → List ℕ → K → K → Result Front Kind → Type 0
   KeepsRule ranges bytes =
       KeepsAhead (λ (front : Front). front) (RuleAhead ranges bytes)

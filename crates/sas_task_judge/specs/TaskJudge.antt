@@ -1,4 +1,4 @@
--- What the judge of the lines of a task file represents: what may still come, by what has come.
+-- What the judge of the lines of a task file represents: what may still follow the content so far.
 use Rattle.std.specs.Prelude.{◌≡◌, ◌≢◌, ◌⊎◌, ◌<◌, ℕ, ◌+◌, ◌-◌, Bool, List, [], ◌∷◌, ◌++◌, length, take, Result, Ok, Err, codes}
 use Rattle.sas_core.specs.declared.parts.Variable.{Variable}
 use Rattle.sas_lines.specs.FirstLines.{LineStandsFirst}
@@ -21,10 +21,10 @@ use Rattle.sas_task_format.specs.TaskProcess.{TaskProcess, TaskPart, a_word}
 use Rattle.sas_task_line.specs.TaskRanges.{ranges_of}
 use Rattle.sas_task_judge.specs.TaskPlaces.{version_begin, version_number, version_end, metric_begin, metric_number, metric_end, variable_count, variable_begin, variable_name, variable_layer, variable_range, variable_values, group_begin, group_size, group_facts, state_values, goal_begin, goal_size, goal_facts, operator_count, operator_begin, operator_name, operator_prevail_count, operator_prevail, operator_effects, rule_begin, rule_size, rule_conditions}
 
--- ---- what may still come
+-- ---- what may still follow
 
--- at a place, with so many variables, groups, operators or rules left, so many
--- values, facts or effects left, and behind what has come
+-- the state at a place, after the content s; `left` variables, groups, operators or rules are left,
+-- and `more` values, facts or effects
 abbrev pub state_at : Place → ℕ → ℕ → SoFar → TaskProcess
 state_at at.VersionBegin left more s = version_begin s.parts
 state_at at.VersionNumber left more s = version_number s.parts
@@ -61,10 +61,9 @@ state_at at.RuleEnd left more s = a_word (codes "end_rule") >> rule_begin left s
 abbrev pub state_of : TaskJudge → SoFar → TaskProcess
 state_of j s = state_at j.place j.left j.more s
 
--- ---- what is due
+-- ---- what is expected
 
--- how many are left in a list that has begun; elsewhere a list that was kept whole leaves an old
--- number
+-- how many items are left in the current list; at other places the judge's count is meaningless
 abbrev pub more_in : Place → ℕ → ℕ
 more_in at.VariableValues more = more
 more_in at.GroupFacts more = more
@@ -74,12 +73,12 @@ more_in at.Effects more = more
 more_in at.RuleConditions more = more
 more_in _ more = 0
 
--- the number of values of each variable, with that of a variable that has begun
+-- the number of values of each variable, including the current one
 abbrev pub ranges_in : Place → List ℕ → ℕ → List ℕ
 ranges_in at.VariableValues ranges range = ranges ++ range ∷ []
 ranges_in _ ranges range = ranges
 
--- the tracker at a place, with so many left and so many more, of what the judge holds
+-- the tracker at a place, with these counts and the other fields of the judge
 abbrev pub tracker_at : Place → ℕ → ℕ → TaskJudge → Tracker
 tracker_at place left more j = record {
   place = place;
@@ -90,15 +89,15 @@ tracker_at place left more j = record {
   valued = j.valued;
 }
 
--- the tracker where the judge is
+-- the tracker of the judge
 abbrev pub tracker_of : TaskJudge → Tracker
 tracker_of j = tracker_at j.place j.left j.more j
 
--- all has come
+-- all lines have been read
 abbrev pub HasEnded : TaskJudge → Type 0
 HasEnded j = (j.place ≡ at.Rules) × (j.left ≡ 0)
 
--- the place is behind the mutex groups
+-- the place is after the mutex groups
 abbrev pub IsBehindGroups : Place → Type 0
 IsBehindGroups at.VersionBegin = ⊥
 IsBehindGroups at.VersionNumber = ⊥
@@ -117,7 +116,7 @@ IsBehindGroups at.GroupSize = ⊥
 IsBehindGroups at.GroupFacts = ⊥
 IsBehindGroups _ = Unit {0}
 
--- the first line of such a section is due
+-- the first line of such a section is expected
 abbrev pub SectionDue : TaskJudge → Section → Type 0
 SectionDue j section.Variable = (j.place ≡ at.Variables) × (0 < j.left)
 SectionDue j section.Group = (j.place ≡ at.Groups) × (0 < j.left)
@@ -126,15 +125,15 @@ SectionDue j section.Rule = (j.place ≡ at.Rules) × (0 < j.left)
 
 -- ---- one line
 
--- of what has come, the judge holds what decides which lines may follow
+-- the judge knows what decides which lines may follow the content s
 pub record KnownTo (s : SoFar) (j : TaskJudge) : Type 0 where
   pub ranges : j.ranges ≡ ranges_of s.parts.variables
   pub valued : j.valued ≡ length s.parts.init
-  -- the range of a variable counts its values, those that have come and those that are left
+  -- the range of the current variable counts the values read so far and those that are left
   pub range : j.place ≡ at.VariableValues → j.range ≡ length s.values + j.more
 
--- A part is due that yields an A, which a line says. Behind it the judge is where `next` leads, and
--- what has come is what `adds` makes of it. So is the tracker.
+-- A part is expected that yields an A, the value of a line. After the line, the judge is `next a`
+-- and the content is `adds a s`. The tracker moves accordingly.
 abbrev pub Due : {A : Type 0} → TaskJudge → (List Variable → TaskPart A) → (A → TaskLine)
     → (A → TaskJudge) → (A → SoFar → SoFar)
     → Type 0
@@ -142,8 +141,8 @@ Due {A} j part says next adds = (s : SoFar) → KnownTo s j
     → (state_of j s ≡ part s.parts.variables (λ a. state_of (next a) (adds a s)))
     × ((a : A) → step (tracker_of j) (says a) ≡ tracker_of (next a))
 
--- the line leads from the state of a judge behind what has come to that of another, and so does it
--- the tracker
+-- the line leads from the judge j with content s to the judge k with t; the tracker moves
+-- accordingly
 pub record LeadsOn (j : TaskJudge) (s : SoFar) (line : List ℕ) (k : TaskJudge)
     (t : SoFar) : Type 0 where
   pub item : TaskLine
@@ -152,23 +151,23 @@ pub record LeadsOn (j : TaskJudge) (s : SoFar) (line : List ℕ) (k : TaskJudge)
   pub spells : task_line_bytes item ≡ line
   pub steps : step (tracker_of j) item ≡ tracker_of k
 
--- the line may not follow, and the kind of its fault
+-- the line may not follow, and this is the kind of its fault
 abbrev pub RejectsLine : TaskJudge → List ℕ → Kind → Type 0
 RejectsLine j line kind = (s : SoFar) → KnownTo s j
     → Rejects task_format TaskLineFits (process_node (state_of j s)) line kind
 
--- what the judge keeps of the next line takes memory: the range of a variable
--- that ends, or the conditions of an effect
+-- the judge needs memory for the next line: for the range of a complete variable, or for the
+-- conditions of an effect
 abbrev pub TakesMemory : TaskJudge → Type 0
 TakesMemory j = ((j.place ≡ at.VariableValues) × (j.more ≡ 0))
     ⊎ ((j.place ≡ at.Effects) × (0 < j.more))
 
--- the judge stands where the other does, whatever was said
+-- the judge is unchanged, except for `said`
 abbrev pub StandsAsBefore : TaskJudge → TaskJudge → Type 0
 StandsAsBefore j k = k ≡ record j { said = k.said }
 
--- The line leads from what has come to that with what it adds; or it may not follow, and the kind
--- is that of its fault; or memory was refused, where some is taken.
+-- The line leads to the content with what it adds. Or it may not follow, and this is the kind of
+-- its fault. Or the judge needs memory and there is none.
 abbrev pub Moves : TaskJudge → List ℕ → TaskJudge → Result Event Kind → Type 0
 Moves j line k (Ok event) = (s : SoFar) → KnownTo s j
     → KnownTo (after s event k.said line) k
@@ -179,14 +178,14 @@ Moves j line k (Err kind) =
     × (kind ≢ kinds.Memory → RejectsLine j line kind)
     × (kind ≢ kinds.Memory → StandsAsBefore j k)
 
--- a line that holds this moves the judge on, where it may stand under the test
+-- a line with this content moves the judge, if it may stand under the test
 abbrev pub MovesBy : TaskJudge → (TaskLine → Bool) → TaskLine → TaskJudge → Event → Type 0
 MovesBy j test i k event = (line : List ℕ)
     → Takes task_format TaskLineFits (task_slot i) test i × (task_line_bytes i ≡ line)
     → Moves j line k (Ok event)
 
--- A line stands first in the bytes, takes so many of them with its end, which
--- is LF, and leads from what has come to that with what it adds.
+-- The first line of the bytes has n bytes with its end, which is LF, and leads to the content with
+-- what it adds.
 pub record MovesAhead (j : TaskJudge) (bytes : List ℕ) (k : TaskJudge) (event : Event)
     (n : ℕ) : Type 0 where
   pub line : List ℕ

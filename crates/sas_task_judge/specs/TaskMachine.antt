@@ -1,4 +1,4 @@
--- What the machine of task files represents: lines that lead to what has come, and what is kept of
+-- What the machine of task files represents: the lines so far, their content, and what is stored of
 -- it.
 use Rattle.std.specs.Prelude.{◌≡◌, ℕ, List, []}
 use Rattle.std.specs.Global.{Global}
@@ -15,7 +15,8 @@ use Rattle.sas_task_judge.specs.TaskJudge.{KnownTo, state_of, tracker_of, HasEnd
 use Rattle.sas_task_judge.specs.Marks.{WrongWordIn}
 
 module _ {K : Type 0} (keeps : List (List ℕ) → SoFar → K → Type 0) where
-  -- so much has come with these lines, the judge holds of it what it needs, and this is kept
+  -- these lines have the content `so_far`, of which the judge knows what it needs and the keeper
+  -- has stored what it needs
   pub record LedBy (lines : List (List ℕ)) (m : TaskMachine K) : Type 0 where
     pub so_far : SoFar
     pub leads : Leads task_format TaskLineFits process_node task_start lines
@@ -24,11 +25,11 @@ module _ {K : Type 0} (keeps : List (List ℕ) → SoFar → K → Type 0) where
     pub tracked : track tracker_start leads.items ≡ tracker_of m.judge
     pub kept : keeps lines so_far m.kept
 
-  -- it keeps what it should where nothing has come
+  -- the keeper before any line was read
   abbrev pub IsFresh : K → Type 0
   IsFresh kept = (alloc : Global) × keeps [] (nothing_yet alloc) kept
 
--- the machine of the reader keeps all that has come
+-- the machine of the reader stores the whole content
 abbrev pub LedTo : List (List ℕ) → TaskMachine SoFar → Type 0
 LedTo = LedBy (λ lines s kept. kept ≡ s)
 
@@ -38,7 +39,7 @@ EndedAt m = HasEnded m.judge
 abbrev pub RejectsAt : TaskMachine SoFar → List ℕ → Kind → Type 0
 RejectsAt m line kind = RejectsLine m.judge line kind
 
--- the machine that refused a line stands as before, and knows which word of it is wrong
+-- after refusing a line, the machine is unchanged and knows the wrong word of the line
 pub record Stopped {K : Type 0} (m : TaskMachine K) (line : List ℕ) (kind : Kind)
     (n : TaskMachine K) : Type 0 where
   pub judge : StandsAsBefore m.judge n.judge

@@ -1,5 +1,5 @@
--- The states of a task file: what may still come, by what came. They stand here from the last to
--- the first. Each has the parts so far and, inside a list, how many are left behind those so far.
+-- The states while a task file is read: what may still follow. They are listed from the last to the
+-- first. Each has the parts read so far and, within a list, the number of items that are left.
 use Rattle.std.specs.Prelude.{ℕ, List, [], ◌∷◌, ◌++◌, ◌==◌, nat_lt, drop, length, Option, codes}
 use Rattle.sas_core.specs.declared.parts.Fact.{Fact}
 use Rattle.sas_core.specs.declared.parts.Variable.{Variable}
@@ -12,23 +12,23 @@ use Rattle.sas_task_format.specs.TaskProcess.{TaskProcess, any, positive, a_word
 
 -- ---- the rules
 
--- all has come
+-- all lines have been read
 abbrev pub task_done : Parts → TaskProcess
 task_done p = done p
 
--- so many rules are left, each from its `begin_rule` on, and then the end
+-- `left` rules are expected, each from its `begin_rule` on, and then the end
 abbrev pub rule_begin : ℕ → Parts → TaskProcess
 rule_begin left p = do
   rules ← repeat (a_rule p.variables) left p.rules
   task_done (record p { rules = rules })
 
--- behind the rule `end_rule` is due
+-- `end_rule` is expected after the rule
 abbrev pub rule_end : ℕ → Parts → Rule → TaskProcess
 rule_end left p r = do
   a_word (codes "end_rule")
   rule_begin left (record p { rules = p.rules ++ r ∷ [] })
 
--- so many of its conditions are left, and then the head
+-- `more` conditions of a rule are expected, and then the head
 abbrev pub rule_conditions : ℕ → Parts → ℕ → List Fact → TaskProcess
 rule_conditions left p more conditions = do
   conditions ← repeat (a_fact p.variables) more conditions
@@ -36,13 +36,13 @@ rule_conditions left p more conditions = do
   rule_end left p
       (record { conditions = conditions; var = change.var; old = change.old; new = change.new })
 
--- the number of its conditions is due
+-- the number of a rule's conditions is expected
 abbrev pub rule_size : ℕ → Parts → TaskProcess
 rule_size left p = do
   more ← a_number any
   rule_conditions left p more []
 
--- the number of rules is due
+-- the number of rules is expected
 abbrev pub rule_count : Parts → TaskProcess
 rule_count p = do
   left ← a_number any
@@ -50,45 +50,45 @@ rule_count p = do
 
 -- ---- the operators
 
--- so many operators are left, each from its `begin_operator` on, and then the rules
+-- `left` operators are expected, each from its `begin_operator` on, and then the rules
 abbrev pub operator_begin : ℕ → Parts → TaskProcess
 operator_begin left p = do
   operators ← repeat (an_operator p.variables) left p.operators
   rule_count (record p { operators = operators })
 
--- behind the operator `end_operator` is due
+-- `end_operator` is expected after the operator
 abbrev pub operator_end : ℕ → Parts → Operator → TaskProcess
 operator_end left p o = do
   a_word (codes "end_operator")
   operator_begin left (record p { operators = p.operators ++ o ∷ [] })
 
--- so many of its effects are left, and then the cost
+-- `more` effects of an operator are expected, and then the cost
 abbrev pub operator_effects : ℕ → Parts → List ℕ → List Fact → ℕ → List Effect → TaskProcess
 operator_effects left p label prevail more effects = do
   effects ← repeat (an_effect p.variables) more effects
   price ← a_number any
   operator_end left p (record { name = label; prevail = prevail; effects = effects; cost = price })
 
--- so many of its prevail conditions are left, and then the number of its effects
+-- `more` prevail conditions of an operator are expected, and then the number of its effects
 abbrev pub operator_prevail : ℕ → Parts → List ℕ → ℕ → List Fact → TaskProcess
 operator_prevail left p label more prevail = do
   prevail ← repeat (a_fact p.variables) more prevail
   count ← a_number any
   operator_effects left p label prevail count []
 
--- the number of its prevail conditions is due
+-- the number of an operator's prevail conditions is expected
 abbrev pub operator_prevail_count : ℕ → Parts → List ℕ → TaskProcess
 operator_prevail_count left p label = do
   more ← a_number any
   operator_prevail left p label more []
 
--- its name is due
+-- the name of an operator is expected
 abbrev pub operator_name : ℕ → Parts → TaskProcess
 operator_name left p = do
   label ← a_name
   operator_prevail_count left p label
 
--- the number of operators is due
+-- the number of operators is expected
 abbrev pub operator_count : Parts → TaskProcess
 operator_count p = do
   left ← a_number any
@@ -96,20 +96,20 @@ operator_count p = do
 
 -- ---- the goal
 
--- so many goal facts are left, and then `end_goal`
+-- `left` goal facts are expected, and then `end_goal`
 abbrev pub goal_facts : ℕ → Parts → TaskProcess
 goal_facts left p = do
   goal ← repeat (a_fact p.variables) left p.goal
   a_word (codes "end_goal")
   operator_count (record p { goal = goal })
 
--- the number of goal facts is due
+-- the number of goal facts is expected
 abbrev pub goal_size : Parts → TaskProcess
 goal_size p = do
   left ← a_number any
   goal_facts left p
 
--- `begin_goal` is due
+-- `begin_goal` is expected
 abbrev pub goal_begin : Parts → TaskProcess
 goal_begin p = do
   a_word (codes "begin_goal")
@@ -117,18 +117,18 @@ goal_begin p = do
 
 -- ---- the initial state
 
--- the values of these variables are left, and then `end_state`
+-- the values of these variables are expected, and then `end_state`
 abbrev pub state_values_of : List Variable → Parts → TaskProcess
 state_values_of variables p = do
   init ← each a_value variables p.init
   a_word (codes "end_state")
   goal_begin (record p { init = init })
 
--- the values of the variables behind those that have one
+-- the values of the other variables are expected
 abbrev pub state_values : Parts → TaskProcess
 state_values p = state_values_of (drop (length p.init) p.variables) p
 
--- `begin_state` is due
+-- `begin_state` is expected
 abbrev pub state_begin : Parts → TaskProcess
 state_begin p = do
   a_word (codes "begin_state")
@@ -136,26 +136,26 @@ state_begin p = do
 
 -- ---- the mutex groups
 
--- so many groups are left, each from its `begin_mutex_group` on, and then the initial state
+-- `left` groups are expected, each from its `begin_mutex_group` on, and then the initial state
 abbrev pub group_begin : ℕ → Parts → TaskProcess
 group_begin left p = do
   groups ← repeat (a_group p.variables) left p.groups
   state_begin (record p { groups = groups })
 
--- so many facts of the group are left, and then `end_mutex_group`
+-- `more` facts of a group are expected, and then `end_mutex_group`
 abbrev pub group_facts : ℕ → Parts → ℕ → List Fact → TaskProcess
 group_facts left p more facts = do
   facts ← repeat (a_fact p.variables) more facts
   a_word (codes "end_mutex_group")
   group_begin left (record p { groups = p.groups ++ facts ∷ [] })
 
--- the number of the group's facts is due
+-- the number of a group's facts is expected
 abbrev pub group_size : ℕ → Parts → TaskProcess
 group_size left p = do
   more ← a_number any
   group_facts left p more []
 
--- the number of groups is due
+-- the number of groups is expected
 abbrev pub group_count : Parts → TaskProcess
 group_count p = do
   left ← a_number any
@@ -163,13 +163,13 @@ group_count p = do
 
 -- ---- the variables
 
--- so many variables are left, each from its `begin_variable` on, and then the mutex groups
+-- `left` variables are expected, each from its `begin_variable` on, and then the mutex groups
 abbrev pub variable_begin : ℕ → Parts → TaskProcess
 variable_begin left p = do
   variables ← repeat a_variable left p.variables
   group_count (record p { variables = variables })
 
--- so many values of the variable are left, and then `end_variable`
+-- `more` values of a variable are expected, and then `end_variable`
 abbrev pub variable_values : ℕ → Parts → List ℕ → Option ℕ → ℕ → List (List ℕ) → TaskProcess
 variable_values left p label layer more values = do
   values ← repeat a_name more values
@@ -179,25 +179,25 @@ variable_values left p label layer more values = do
         variables = p.variables ++ record { name = label; layer = layer; values = values } ∷ [];
       })
 
--- its range is due
+-- the range of a variable is expected
 abbrev pub variable_range : ℕ → Parts → List ℕ → Option ℕ → TaskProcess
 variable_range left p label layer = do
   more ← a_number positive
   variable_values left p label layer more []
 
--- its axiom layer is due
+-- the axiom layer of a variable is expected
 abbrev pub variable_layer : ℕ → Parts → List ℕ → TaskProcess
 variable_layer left p label = do
   layer ← a_signed
   variable_range left p label layer
 
--- its name is due
+-- the name of a variable is expected
 abbrev pub variable_name : ℕ → Parts → TaskProcess
 variable_name left p = do
   label ← a_name
   variable_layer left p label
 
--- the number of variables is due
+-- the number of variables is expected
 abbrev pub variable_count : Parts → TaskProcess
 variable_count p = do
   left ← a_number positive
@@ -205,19 +205,19 @@ variable_count p = do
 
 -- ---- the metric
 
--- `end_metric` is due
+-- `end_metric` is expected
 abbrev pub metric_end : Parts → TaskProcess
 metric_end p = do
   a_word (codes "end_metric")
   variable_count p
 
--- the metric is due
+-- the metric is expected
 abbrev pub metric_number : Parts → TaskProcess
 metric_number p = do
   metric ← a_number (λ n. nat_lt n 2)
   metric_end (record p { metric = metric == 1 })
 
--- `begin_metric` is due
+-- `begin_metric` is expected
 abbrev pub metric_begin : Parts → TaskProcess
 metric_begin p = do
   a_word (codes "begin_metric")
@@ -225,19 +225,19 @@ metric_begin p = do
 
 -- ---- the version
 
--- `end_version` is due
+-- `end_version` is expected
 abbrev pub version_end : Parts → TaskProcess
 version_end p = do
   a_word (codes "end_version")
   metric_begin p
 
--- the version is due
+-- the version is expected
 abbrev pub version_number : Parts → TaskProcess
 version_number p = do
   _ ← a_number (λ n. n == 3)
   version_end p
 
--- `begin_version` is due
+-- `begin_version` is expected
 abbrev pub version_begin : Parts → TaskProcess
 version_begin p = do
   a_word (codes "begin_version")

@@ -1,35 +1,35 @@
-// Stores what is needed of the lines of a task file.
+// Stores the content of the lines of a task file, as far as it is needed.
 ghost use Rattle.std.specs.Prelude.{◌≡◌, ◌++◌, ◌∷◌, [], List, ℕ, OnOk, IfErr};
 
 use sas_core::Items;
 use sas_reader::{Front, Kind};
 use sas_task_line::{Event, Said, SoFar};
 
-/// What a keeper reports of a variable that it kept: how many lines and bytes it takes up, and how many values it has.
+/// A variable that a keeper has stored: the number of its lines and bytes, and the number of its values.
 #[derive(Clone, Copy, Debug, PartialEq, Eq)]
 pub struct VariableKept {
     pub front: Front,
     pub range: u32,
 }
 
-/// What is kept of a task as its lines come.
+/// Stores parts of a task while its lines are read.
 pub trait Keeper: Drop {
     ghost use Rattle.sas_task_line.specs.declared.so_far.SoFar.{SoFar};
     ghost use Rattle.sas_task_line.specs.TaskEvents.{after};
     ghost use Rattle.sas_task_judge.specs.Sections.{KeepsVariable, KeepsGroup, KeepsOperator, KeepsRule};
 
-    /// The keeper holds what it has to keep of these lines, with which so much of a task has come.
+    /// The keeper has stored what it needs of these lines, whose content is `SoFar`.
     ghost keeps: { List (List ℕ) → SoFar → Self → Type 0 };
 
-    /// Keeps what the next line adds. It may move it out of `said`.
+    /// Stores what the next line adds. It may move the content out of `said`. Returns `Memory` if out of memory.
     fn keep(&mut self, line: &[u8], event: Event, said: &mut Said) -> Result<(), Kind>
         ensures kept { OnOk result ((lines : List (List ℕ)) (s : SoFar)
             → keeps lines s self.old
             → keeps (lines ++ line.now ∷ []) (after s event said.old line.now) self.new) }
         ensures err { IfErr result (λ k. k ≡ Kind.Memory) };
 
-    /// Keeps the variable that stands first in the bytes, all its lines at once, where it is quick to see. Returns how
-    /// long the lines are, and how many values the variable has; or an empty front if it kept nothing.
+    /// Stores a whole variable at the beginning of the bytes. Returns the extent of its lines and the number of its values. It may also
+    /// store nothing and return `Front::EMPTY`, as the default does; then the variable is read line by line.
     fn keep_variable(&mut self, bytes: &[u8]) -> Result<VariableKept, Kind>
         ensures { KeepsVariable keeps bytes.now self.old self.new result }
     {
@@ -39,24 +39,24 @@ pub trait Keeper: Drop {
         })
     }
 
-    /// Keeps the mutex group that stands first in the bytes in the same way, where it is quick to see that it may stand there for
-    /// variables with these ranges.
+    /// Stores a whole mutex group at the beginning of the bytes. Its facts must exist for variables with these ranges. Returns the extent
+    /// of its lines, or `Front::EMPTY` if it stored nothing.
     fn keep_group(&mut self, ranges: &Items<u32>, bytes: &[u8]) -> Result<Front, Kind>
         ensures { KeepsGroup keeps ranges.now bytes.now self.old self.new result }
     {
         Ok(Front::EMPTY)
     }
 
-    /// Keeps the operator that stands first in the bytes, all its lines at once, where it is quick to see that it may
-    /// stand there for variables with these ranges. Returns how long the lines are, or an empty front if it kept
-    /// nothing.
+    /// Stores a whole operator at the beginning of the bytes. Its facts must exist for variables with these ranges. Returns the extent of
+    /// its lines, or `Front::EMPTY` if it stored nothing.
     fn keep_operator(&mut self, ranges: &Items<u32>, bytes: &[u8]) -> Result<Front, Kind>
         ensures { KeepsOperator keeps ranges.now bytes.now self.old self.new result }
     {
         Ok(Front::EMPTY)
     }
 
-    /// Keeps the rule that stands first in the bytes in the same way.
+    /// Stores a whole rule at the beginning of the bytes. Its facts must exist for variables with these ranges. Returns the extent of its
+    /// lines, or `Front::EMPTY` if it stored nothing.
     fn keep_rule(&mut self, ranges: &Items<u32>, bytes: &[u8]) -> Result<Front, Kind>
         ensures { KeepsRule keeps ranges.now bytes.now self.old self.new result }
     {

@@ -1,5 +1,4 @@
-//! Judges the lines of a task file, one after another, and reports what each adds to what has come. What a line adds is
-//! handed to a keeper, or a whole section at once.
+//! Judges the lines of a task file, one after another, and passes the content of each line, or of a whole section, to a keeper.
 #![tactic(auto)]
 
 mod keeper;

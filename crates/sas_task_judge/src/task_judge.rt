@@ -1,4 +1,4 @@
-// Judges the lines of a task file, one after another: whether each may stand where it stands, and what it adds.
+// Judges the lines of a task file, one after another: whether each line is allowed at its place, and what it adds.
 ghost use Rattle.std.specs.Prelude.{◌≡◌, ◌≢◌, ◌<◌, ◌≤◌, ◌-◌, ◌^◌, ◌↔◌, length, nat_lt, IsTrue, [], ◌∷◌, ◌++◌};
 ghost use Rattle.sas_task_line.specs.declared.so_far.SoFar.{SoFar};
 ghost use Rattle.sas_task_format.specs.TaskFormat as format;
@@ -20,28 +20,28 @@ use sas_task_line::{
 pub use sections::Section;
 use std::alloc::Global;
 
-/// The place behind the lines so far, and what of them decides which lines may follow. It keeps nothing else of a task.
+/// The place after the lines so far, and everything that decides which lines may follow. It stores nothing else of the task.
 #[derive(Drop)]
 pub struct TaskJudge {
     place: Place,
-    /// How many variables, groups, operators or rules there are, by the last line that said so.
+    /// The number of variables, groups, operators or rules, from the last line with such a count.
     total: u32,
     /// How many of them are left.
     left: u32,
-    /// How many values, facts or effects are left in the list that has begun.
+    /// How many values, facts or effects are left in the current list.
     more: u32,
-    /// How many values the variable has that has begun.
+    /// The number of values of the current variable.
     range: u32,
-    /// How many values each variable has.
+    /// The number of values of each variable.
     ranges: Items<u32>,
-    /// How many variables have their value in the state.
+    /// How many values of the initial state have been read.
     valued: usize,
-    /// What the last line of each sort held.
+    /// The values of the last line of each kind.
     pub said: Said,
 }
 
 impl TaskJudge {
-    /// Makes a judge that has taken no line.
+    /// Returns a judge that has accepted no line.
     pub fn new(alloc: Global) -> Self
         ensures place { result.place ≡ Place.VersionBegin }
         ensures total { result.total ≡ 0 }
@@ -61,14 +61,14 @@ impl TaskJudge {
         }
     }
 
-    /// Returns whether all lines have come.
+    /// Returns whether all lines have been read.
     pub fn has_ended(&self) -> bool
         ensures { IsTrue result ↔ HasEnded self.now }
     {
         self.left == 0 && self.place == Place::Rules
     }
 
-    /// Takes a fixed word.
+    /// Accepts a fixed word.
     fn word(&mut self, line: &[u8], word: &[u8], next: Place) -> Result<Event, Kind>
         requires apart { next ≢ Place.VariableValues }
         requires due { Due self.old (λ _. a_word word.now) (λ _. format.word word.now)
@@ -80,7 +80,7 @@ impl TaskJudge {
         Ok(Event::Nothing)
     }
 
-    /// Takes the first word of a variable, a group, an operator or a rule.
+    /// Accepts the first word of a variable, a group, an operator or a rule.
     fn begin(&mut self, line: &[u8], word: &[u8], next: Place) -> Result<Event, Kind>
         requires apart { next ≢ Place.VariableValues }
         requires left { 0 < self.old.left }
@@ -94,7 +94,7 @@ impl TaskJudge {
         Ok(Event::Nothing)
     }
 
-    /// Takes the number of groups, operators or rules.
+    /// Accepts the number of groups, operators or rules.
     fn count(&mut self, line: &[u8], next: Place) -> Result<Event, Kind>
         requires apart { next ≢ Place.VariableValues }
         requires due { Due self.old (λ _. a_number any) format.number
@@ -126,7 +126,7 @@ impl TaskJudge {
         Ok(Event::Metric)
     }
 
-    /// Takes the number of variables.
+    /// Accepts the number of variables.
     fn variable_count(&mut self, line: &[u8]) -> Result<Event, Kind>
         requires place { self.old.place ≡ Place.VariableCount }
         ensures { Moves self.old line.now self.new result }
@@ -156,7 +156,7 @@ impl TaskJudge {
         Ok(Event::Layer)
     }
 
-    /// Takes the number of a variable's values.
+    /// Accepts the number of a variable's values.
     fn variable_range(&mut self, line: &[u8]) -> Result<Event, Kind>
         requires place { self.old.place ≡ Place.VariableRange }
         ensures { Moves self.old line.now self.new result }
@@ -168,7 +168,7 @@ impl TaskJudge {
         Ok(Event::Values)
     }
 
-    /// Takes the name of a value.
+    /// Accepts the name of a value.
     fn variable_value(&mut self, line: &[u8]) -> Result<Event, Kind>
         requires place { self.old.place ≡ Place.VariableValues }
         requires more { 0 < self.old.more }
@@ -179,7 +179,7 @@ impl TaskJudge {
         Ok(Event::Value)
     }
 
-    /// Takes the last word of a variable.
+    /// Accepts the last word of a variable.
     fn variable_end(&mut self, line: &[u8]) -> Result<Event, Kind>
         requires place { self.old.place ≡ Place.VariableValues }
         requires all { self.old.more ≡ 0 }
@@ -191,7 +191,7 @@ impl TaskJudge {
         Ok(Event::Variable)
     }
 
-    /// Goes on behind the number of facts that are due next, or of conditions.
+    /// Moves past the number of the facts or conditions that follow.
     fn took_fact_count(&mut self, count: u32, next: Place) -> Event
         requires apart { next ≢ Place.VariableValues }
         requires due { Due self.old (λ _. a_number any) format.number
@@ -203,7 +203,7 @@ impl TaskJudge {
         Event::Facts
     }
 
-    /// Takes the number of facts that are due next, or of conditions.
+    /// Accepts the number of the facts or conditions that follow.
     fn fact_count(&mut self, line: &[u8], next: Place) -> Result<Event, Kind>
         requires apart { next ≢ Place.VariableValues }
         requires due { Due self.old (λ _. a_number any) format.number
@@ -214,7 +214,7 @@ impl TaskJudge {
         Ok(self.took_fact_count(count, next))
     }
 
-    /// Goes on behind a fact of a group, a prevail condition, or a condition of a rule.
+    /// Moves past a fact of a group, a prevail condition, or a condition of a rule.
     fn took_fact(&mut self, fact: Fact) -> Event
         requires apart { self.old.place ≢ Place.VariableValues }
         requires more { 0 < self.old.more }
@@ -230,7 +230,7 @@ impl TaskJudge {
         Event::Fact
     }
 
-    /// Takes a fact of a group, a prevail condition, or a condition of a rule.
+    /// Accepts a fact of a group, a prevail condition, or a condition of a rule.
     fn fact(&mut self, line: &[u8]) -> Result<Event, Kind>
         requires apart { self.old.place ≢ Place.VariableValues }
         requires more { 0 < self.old.more }
@@ -243,7 +243,7 @@ impl TaskJudge {
         Ok(self.took_fact(fact))
     }
 
-    /// Takes the last word of a group.
+    /// Accepts the last word of a group.
     fn group_end(&mut self, line: &[u8]) -> Result<Event, Kind>
         requires place { self.old.place ≡ Place.GroupFacts }
         requires all { self.old.more ≡ 0 }
@@ -254,7 +254,7 @@ impl TaskJudge {
         Ok(Event::Group)
     }
 
-    /// Returns how many values the variable has whose value in the state comes next.
+    /// Returns the range of the next variable in the initial state.
     fn next_range(&self) -> usize
         ensures { result ≡ range_in self.now.ranges self.now.valued }
     {
@@ -264,7 +264,7 @@ impl TaskJudge {
         }
     }
 
-    /// Goes on behind the value of the next variable.
+    /// Moves past the value of the next variable.
     fn took_state_value(&mut self, value: u32) -> Event
         requires place { self.old.place ≡ Place.StateValues }
         requires more { self.old.valued < length self.old.ranges }
@@ -278,7 +278,7 @@ impl TaskJudge {
         Event::State
     }
 
-    /// Takes the value of the next variable.
+    /// Accepts the value of the next variable.
     fn state_value(&mut self, line: &[u8]) -> Result<Event, Kind>
         requires place { self.old.place ≡ Place.StateValues }
         requires more { self.old.valued < length self.old.ranges }
@@ -289,7 +289,7 @@ impl TaskJudge {
         Ok(self.took_state_value(value))
     }
 
-    /// Takes the last word of the initial state.
+    /// Accepts the last word of the initial state.
     fn state_end(&mut self, line: &[u8]) -> Result<Event, Kind>
         requires place { self.old.place ≡ Place.StateValues }
         requires all { length self.old.ranges ≤ self.old.valued }
@@ -300,7 +300,7 @@ impl TaskJudge {
         Ok(Event::Nothing)
     }
 
-    /// Takes the number of goal facts.
+    /// Accepts the number of goal facts.
     fn goal_size(&mut self, line: &[u8]) -> Result<Event, Kind>
         requires place { self.old.place ≡ Place.GoalSize }
         ensures { Moves self.old line.now self.new result }
@@ -320,7 +320,7 @@ impl TaskJudge {
         Ok(Event::Goal)
     }
 
-    /// Takes the last word of the goal.
+    /// Accepts the last word of the goal.
     fn goal_end(&mut self, line: &[u8]) -> Result<Event, Kind>
         requires place { self.old.place ≡ Place.GoalFacts }
         requires all { self.old.more ≡ 0 }
@@ -340,7 +340,7 @@ impl TaskJudge {
         Ok(Event::Name)
     }
 
-    /// Goes on behind the number of an operator's effects.
+    /// Moves past the number of an operator's effects.
     fn took_effect_count(&mut self, count: u32) -> Event
         requires place { self.old.place ≡ Place.Prevail }
         requires all { self.old.more ≡ 0 }
@@ -351,7 +351,7 @@ impl TaskJudge {
         Event::Effects
     }
 
-    /// Takes the number of an operator's effects.
+    /// Accepts the number of an operator's effects.
     fn effect_count(&mut self, line: &[u8]) -> Result<Event, Kind>
         requires place { self.old.place ≡ Place.Prevail }
         requires all { self.old.more ≡ 0 }
@@ -361,7 +361,7 @@ impl TaskJudge {
         Ok(self.took_effect_count(count))
     }
 
-    /// Goes on behind the effect that `said` holds.
+    /// Moves past the effect that is stored in `said`.
     fn took_effect(&mut self) -> Event
         requires place { self.old.place ≡ Place.Effects }
         requires more { 0 < self.old.more }
@@ -381,7 +381,7 @@ impl TaskJudge {
         Ok(self.took_effect())
     }
 
-    /// Goes on behind the cost of an operator.
+    /// Moves past the cost of an operator.
     fn took_cost(&mut self, cost: u32) -> Event
         requires place { self.old.place ≡ Place.Effects }
         requires all { self.old.more ≡ 0 }
@@ -392,7 +392,7 @@ impl TaskJudge {
         Event::Operator
     }
 
-    /// Takes the cost of an operator.
+    /// Accepts the cost of an operator.
     fn operator_cost(&mut self, line: &[u8]) -> Result<Event, Kind>
         requires place { self.old.place ≡ Place.Effects }
         requires all { self.old.more ≡ 0 }
@@ -402,7 +402,7 @@ impl TaskJudge {
         Ok(self.took_cost(cost))
     }
 
-    /// Goes on behind the head of a rule.
+    /// Moves past the head of a rule.
     fn took_head(&mut self, head: Change) -> Event
         requires place { self.old.place ≡ Place.RuleConditions }
         requires all { self.old.more ≡ 0 }
@@ -414,7 +414,7 @@ impl TaskJudge {
         Event::Rule
     }
 
-    /// Takes the head of a rule.
+    /// Accepts the head of a rule.
     fn rule_head(&mut self, line: &[u8]) -> Result<Event, Kind>
         requires place { self.old.place ≡ Place.RuleConditions }
         requires all { self.old.more ≡ 0 }
@@ -424,7 +424,7 @@ impl TaskJudge {
         Ok(self.took_head(head))
     }
 
-    /// Takes the next line. Returns what it adds, or the kind of its fault.
+    /// Judges the next line. Returns what it adds, or the kind of its fault.
     pub fn take(&mut self, line: &[u8]) -> Result<Event, Kind>
         requires { HasEnded self.old → ⊥ }
         ensures { Moves self.old line.now self.new result }
@@ -453,7 +453,7 @@ impl TaskJudge {
         }
     }
 
-    /// Takes the next line, where the mutex groups have come. Returns what it adds, or the kind of its fault.
+    /// Judges the next line after the mutex groups. Returns what it adds, or the kind of its fault.
     fn take_behind_groups(&mut self, line: &[u8]) -> Result<Event, Kind>
         requires behind { IsBehindGroups self.old.place }
         requires going_on { HasEnded self.old → ⊥ }
@@ -485,7 +485,7 @@ impl TaskJudge {
         }
     }
 
-    /// Returns whether each variable has its value in the state.
+    /// Returns whether the initial state has a value for each variable.
     fn has_state(&self) -> bool
         ensures has { IsTrue result ↔ (length self.now.ranges ≤ self.now.valued) }
         ensures few { length self.now.ranges < 2 ^ 64 }

@@ -1,4 +1,4 @@
-// Takes the lines of a task file: it judges each, and keeps what is needed of what they hold.
+// Accepts the lines of a task file: judges each line, and passes its content to a keeper.
 ghost use Rattle.std.specs.Prelude.{◌≡◌, ◌≢◌};
 
 use crate::keeper::Keeper;
@@ -7,12 +7,12 @@ use sas_reader::{Front, Kind, Machine};
 use sas_task_format::WrongWord;
 use std::alloc::Global;
 
-/// The judge of the lines, and what is kept of them.
+/// The judge of the lines, and the keeper of their content.
 #[derive(Drop)]
 pub struct TaskMachine<K> {
     pub judge: TaskJudge,
     pub kept: K,
-    /// Which word of the line is wrong that was refused for a number.
+    /// The wrong word of the refused line, if it was refused for a number.
     pub wrong: Option<WrongWord>,
 }
 
@@ -22,7 +22,7 @@ impl<K: Keeper> TaskMachine<K> {
     ghost use Rattle.sas_task_judge.specs.TaskJudge.{HasEnded, SectionDue};
     ghost use Rattle.sas_task_judge.specs.TaskMachine.{LedBy, IsFresh, Stopped};
 
-    /// Makes a machine that has taken no line, with this keeper.
+    /// Returns a machine that has accepted no line, with this keeper.
     pub fn new(alloc: Global, kept: K) -> Self
         requires { IsFresh K.keeps kept }
         ensures led { LedBy K.keeps [] result }
@@ -34,7 +34,7 @@ impl<K: Keeper> TaskMachine<K> {
         }
     }
 
-    /// Returns the keeper, with what it kept.
+    /// Returns the keeper.
     pub fn into_kept(self) -> K
         ensures { result ≡ self.kept }
     {
@@ -42,7 +42,7 @@ impl<K: Keeper> TaskMachine<K> {
         kept
     }
 
-    /// Notes which word of a line is wrong that was refused for a number.
+    /// Stores the wrong word of a line that was refused for a number. Returns the kind of its fault, or `Memory` if out of memory.
     fn find_wrong_word(&mut self, line: &[u8]) -> Kind
         ensures kind { result ≢ Kind.Memory → result ≡ Kind.Value }
         ensures stopped { result ≢ Kind.Memory → Stopped self.old line.now Kind.Value self.new }
@@ -56,7 +56,7 @@ impl<K: Keeper> TaskMachine<K> {
         }
     }
 
-    /// Notes which word of a line is wrong that was refused. Returns the kind of its fault, or `Memory`.
+    /// Stores the wrong word of a line that was refused, if any. Returns the kind of its fault, or `Memory` if out of memory.
     #[cold]
     fn refuse(&mut self, line: &[u8], kind: Kind) -> Kind
         ensures kind { result ≢ Kind.Memory → result ≡ kind }
@@ -70,7 +70,7 @@ impl<K: Keeper> TaskMachine<K> {
         }
     }
 
-    /// Lets the keeper keep the variable that is due, where it stands first in the bytes, and goes on behind it.
+    /// If a whole variable starts here, stores it and moves past it.
     fn variable_ahead(&mut self, bytes: &[u8]) -> Result<Front, Kind>
         requires { SectionDue self.old.judge Section.Variable }
         ensures { AcceptsAhead (LedBy K.keeps) self.old bytes.now self.new result }
@@ -83,7 +83,7 @@ impl<K: Keeper> TaskMachine<K> {
         Ok(kept.front)
     }
 
-    /// Lets the keeper keep the mutex group that is due in the same way.
+    /// If a whole mutex group starts here, stores it and moves past it.
     fn group_ahead(&mut self, bytes: &[u8]) -> Result<Front, Kind>
         requires { SectionDue self.old.judge Section.Group }
         ensures { AcceptsAhead (LedBy K.keeps) self.old bytes.now self.new result }
@@ -95,7 +95,7 @@ impl<K: Keeper> TaskMachine<K> {
         Ok(front)
     }
 
-    /// Lets the keeper keep the operator that is due in the same way.
+    /// If a whole operator starts here, stores it and moves past it.
     fn operator_ahead(&mut self, bytes: &[u8]) -> Result<Front, Kind>
         requires { SectionDue self.old.judge Section.Operator }
         ensures { AcceptsAhead (LedBy K.keeps) self.old bytes.now self.new result }
@@ -107,7 +107,7 @@ impl<K: Keeper> TaskMachine<K> {
         Ok(front)
     }
 
-    /// Lets the keeper keep the rule that is due in the same way.
+    /// If a whole rule starts here, stores it and moves past it.
     fn rule_ahead(&mut self, bytes: &[u8]) -> Result<Front, Kind>
         requires { SectionDue self.old.judge Section.Rule }
         ensures { AcceptsAhead (LedBy K.keeps) self.old bytes.now self.new result }
@@ -119,8 +119,7 @@ impl<K: Keeper> TaskMachine<K> {
         Ok(front)
     }
 
-    /// Takes the whole section that is due and stands first in the bytes, if the keeper keeps it. Else it takes
-    /// nothing.
+    /// If a whole section starts here and the keeper stores it at once, moves past it. Otherwise returns `Front::EMPTY`.
     fn section_ahead(&mut self, bytes: &[u8]) -> Result<Front, Kind>
         ensures { AcceptsAhead (LedBy K.keeps) self.old bytes.now self.new result }
     {
@@ -133,7 +132,7 @@ impl<K: Keeper> TaskMachine<K> {
         }
     }
 
-    /// Takes the first line of the bytes, where it is quick to see that it may stand here. Else it takes nothing.
+    /// Accepts the first line of the bytes if the judge accepts it ahead. Otherwise returns `Front::EMPTY`.
     fn line_ahead(&mut self, bytes: &[u8]) -> Result<Front, Kind>
         requires { HasEnded self.old.judge → ⊥ }
         ensures { AcceptsAhead (LedBy K.keeps) self.old bytes.now self.new result }

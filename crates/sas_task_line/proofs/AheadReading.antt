@@ -21,11 +21,11 @@ use Rattle.sas_core.specs.Changes.{plain_effect}
 
 -- ---- a line and its LF
 
--- a line that is said before LF
+-- a line before LF
 pub says_line : (i : TaskLine) (bytes rest : List ℕ) → TaskLineFits i → Sayable i → bytes ≡ task_line_bytes i ++ 10 ∷ rest → LineAhead i bytes rest
 says_line i bytes rest fits says e = record { fits = fits; plain = plain-line i says; before = e }
 
--- what a line takes with its LF
+-- the bytes of a line with its LF
 pub line_is_ahead : (i : TaskLine) (bytes rest : List ℕ) (taken : ℕ) → LineAhead i bytes rest → length (task_line_bytes i) + 1 ≡ taken → SpellsAhead i bytes taken
 line_is_ahead i bytes rest taken h n =
     let line = task_line_bytes i in
@@ -35,7 +35,7 @@ line_is_ahead i bytes rest taken h n =
       before_end = sym (ap (take (taken - 1)) h.before ∙ take_at line (10 ∷ rest) (taken - 1) (omega arith));
     }
 
--- the same where the rest tells how many bytes were taken
+-- the same, with the number of bytes computed from the rest
 pub spells_ahead : (i : TaskLine) (bytes rest : List ℕ) (taken : ℕ) → LineAhead i bytes rest → taken ≡ length bytes - length rest → SpellsAhead i bytes taken
 spells_ahead i bytes rest taken h n = line_is_ahead i bytes rest taken h (omega (arith, n, ap length h.before, length-append (task_line_bytes i) (10 ∷ rest)))
 
@@ -71,7 +71,7 @@ two_digits_ahead bytes long some high low below =
     ∙ ap (λ (x : List ℕ). (x ++ b ∷ []) ++ rest) (sym (digit_is a (omega arith) high))
     ∙ ap (λ (x : List ℕ). x ++ rest) (sym (digit_more (a - 48) b (omega arith) (omega arith) low below))
 
--- what a number goes on with: its end, a digit and its end, two digits
+-- what follows the digits so far: the end, a digit and the end, or two digits
 module _ (n : ℕ) (left : List ℕ) where
   pub number_ends : (end : ℕ) → 1 ≤ length left → get_or left 0 0 ≡ end → decimal n ++ left ≡ decimal n ++ end ∷ take (length left - 1) (drop 1 left)
   number_ends end long is = ap (λ l. decimal n ++ l) (byte_in_front left end long is ∙ ap (λ l. end ∷ l) (sym (take_rest left 1)))

@@ -9,7 +9,7 @@ digit_is d low high =
     let same : 48 + (d - 48) ≡ d = omega arith in
     decimal_digit (d - 48) (omega arith) ∙ ap (λ (x : ℕ). x ∷ []) same
 
--- a number with one digit more
+-- a number with one more digit
 pub digit_more : (n d : ℕ) → 0 < n → n < 1000000000 → 48 ≤ d → d ≤ 57 → decimal (n * 10 + (d - 48)) ≡ decimal n ++ d ∷ []
 digit_more n d some few low high =
     let m = n * 10 + (d - 48) in
@@ -17,7 +17,7 @@ digit_more n d some few low high =
     let unit : 48 + m % 10 ≡ d = omega arith in
     decimal_step m (omega arith) (omega arith) ∙ ap (λ (x : ℕ). decimal x ++ (48 + m % 10) ∷ []) tens ∙ ap (λ (x : ℕ). decimal n ++ x ∷ []) unit
 
--- with two
+-- a number with two more digits
 pub digits_more : (n a b : ℕ) → 0 < n → n < 10000000 → 48 ≤ a → a ≤ 57 → 48 ≤ b → b ≤ 57
     → decimal (n * 100 + (a - 48) * 10 + (b - 48)) ≡ decimal n ++ a ∷ b ∷ []
 digits_more n a b some few low high under over =

@@ -53,7 +53,7 @@ one_line {i = i} {rest = rest} h =
 pub two_lines : {i j : TaskLine} {bytes more rest : List ℕ} → LineAhead i bytes more → LineAhead j more rest → LinesBefore (i ∷ j ∷ []) bytes rest
 two_lines h g = lines_then (one_line h) (one_line g)
 
--- ---- a number, and so many lines
+-- ---- a number, and this many lines
 
 module _ {A : Type 0} (says : A → TaskLine) (may_stand : A → Bool) where
   pub none_yet : (count : ℕ) {bytes rest : List ℕ} → NumberAhead bytes count 10 rest → CountedBefore says may_stand count [] bytes rest

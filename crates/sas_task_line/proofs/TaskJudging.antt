@@ -29,7 +29,7 @@ value_of_line = ((λ e. cc, λ e. cc), λ e. cc)
 refused_shape : (slot : TaskSlot) (ok : TaskLine → Bool) (line : List ℕ) → (NumbersKind slot line Shape → TaskKind slot line Shape) → (HasShape slot line → ⊥) → Refused slot ok line Shape
 refused_shape slot ok line up none = (shape_of_line, record { none = λ i t e. none (i, t.slot, t.fits, e); kind = up (no_shape none) })
 
--- the line of the slot that is spelled like this fails the test, and no other is
+-- the only line of the slot with this spelling fails the test
 refused_value : (i : TaskLine) (ok : TaskLine → Bool) (line : List ℕ) → (NumbersKind (task_slot i) line Value → TaskKind (task_slot i) line Value) → TaskLineFits i → task_line_bytes i ≡ line → (IsTrue (ok i) → ⊥) → Refused (task_slot i) ok line Value
 refused_value i ok line up fits e fails = (
   value_of_line,
@@ -85,6 +85,6 @@ refused_head_shape ok line none = refused_shape head_slot ok line (λ k. k) (hea
 pub refused_head_value : (ok : TaskLine → Bool) (line : List ℕ) (var : ℕ) (old : Option ℕ) (new : ℕ) → Spells (head var old new) line → (IsTrue (ok (head var old new)) → ⊥) → Refused head_slot ok line Value
 refused_head_value ok line var old new s fails = refused_value (head var old new) ok line (λ k. k) s.0 s.1 fails
 
--- where memory may be refused, a line may be wrong as well
+-- the same for calls that may be out of memory
 pub or_wants : {slot : TaskSlot} {ok : TaskLine → Bool} {line : List ℕ} {kind : Kind} → Refused slot ok line kind → IsOfBytes kind × (kind ≢ Memory → Judged task_format TaskLineFits slot ok line kind)
 or_wants h = (h.0.0, λ m. h.1)

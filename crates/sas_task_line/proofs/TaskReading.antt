@@ -1,4 +1,5 @@
--- A line of several numbers is spelled like what is read off its parts, if nothing is left, and like nothing else.
+-- A line of several numbers spells exactly the content that is parsed from its words, if no word is
+-- left.
 use Rattle.std.proofs.Common.{◌≡◌, ℕ, ◌+◌, ◌<◌, ◌≤◌, List, [], ◌∷◌, ◌++◌, length, refl, sym, ap, ◌∙◌, arith, Option}
 use Rattle.std.specs.List.{flat_map, AllByRecursion}
 use Rattle.std.specs.Fmt.{decimal}
@@ -12,7 +13,7 @@ use Rattle.sas_task_format.specs.TaskFormat.{fact, effect, head, fact_words, hea
 use Rattle.sas_task_line.specs.TaskWords.{Spells, TakesNumber, TakesFact, TakesFacts, TakesHead}
 
 module _ (line : List ℕ) (words : List (List ℕ)) (parted : words ≡ parts 32 line) where
-  -- a line is its parts, joined
+  -- a line is its words, joined
   spelled : (read : List (List ℕ)) → words ≡ read → joined read ≡ line
   spelled read e = ap joined (sym e ∙ parted) ∙ joined-words line
 
@@ -65,7 +66,7 @@ one_more_fact words before rest n fs f t u = record {
   before = t.before ∙ ap (λ l. flat_map fact_words fs ++ l) u.1 ∙ sym (facts_more fs f rest);
 }
 
--- behind some facts of a list stand its other facts
+-- after the first facts of a list follow its other facts
 record Behind (fs gs : List Fact) (now rest : List (List ℕ)) : Type 0 where
   others : List Fact
   many : length gs ≡ length fs + length others
@@ -104,7 +105,7 @@ NoSpace-facts : (fs : List Fact) (words : List (List ℕ)) → AllByRecursion Fa
 NoSpace-facts [] words h g = g
 NoSpace-facts (f ∷ fs) words h g = (NoSpace-number f.var h.0.0, (NoSpace-number f.value h.0.1, NoSpace-facts fs words h.1 g))
 
--- the words of an effect's head, and those behind the count of its conditions
+-- the words of an effect's head, and the words after the count of its conditions
 abbrev last_words : Effect → List (List ℕ)
 last_words e = head_words e.var e.old e.new
 

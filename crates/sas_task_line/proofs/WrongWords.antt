@@ -1,4 +1,4 @@
--- The first wrong word of some words.
+-- The first wrong word in a list of words.
 use Rattle.std.proofs.Common.{◌≡◌, ℕ, zero, suc, ◌+◌, ◌*◌, ◌-◌, Bool, true, false, List, [], ◌∷◌, ◌++◌, length, Option, Some, None, refl, sym, ap, ◌∙◌, arith, IsTrue, IsFalse}
 use Rattle.std.proofs.lemmas.Option.{none-some}
 use Rattle.std.specs.List.{flat_map, AllByRecursion}
@@ -16,9 +16,9 @@ use Rattle.sas_task_format.proofs.TaskGrammar.{task_grammar}
 use Rattle.sas_task_line.specs.TaskRanges.{ranges_of, range_in}
 use Rattle.sas_task_line.specs.TaskWords.{Spells}
 
--- ---- what comes first
+-- ---- which word is first
 
--- what was found, or what is found later
+-- the word that was found, or one that is found later
 abbrev pub or_later : Option WrongWord → Option WrongWord → Option WrongWord
 or_later None later = later
 or_later (Some w) later = Some w
@@ -59,7 +59,7 @@ module _ (ranges : List ℕ) (e : Effect) where
   abbrev last : List Bounded
   last = change_words_in ranges e.var e.old e.new
 
-  -- what is wrong from the fact of this number on
+  -- the first wrong word from the fact with this number on
   abbrev pub wrong_from : ℕ → Option WrongWord
   wrong_from i = first_wrong (2 * i + 2) (flat_map (fact_words_in ranges) (drop i e.conditions) ++ last)
 
@@ -127,7 +127,7 @@ module _ (vs : List Variable) where
 
 -- ---- the first of some words
 
--- the first word that may not stand there, what stands before it and behind it
+-- the first word that isn't allowed, the words before it, and the words after it
 pub record FoundAt (n : ℕ) (bs : List Bounded) (w : WrongWord) : Type 0 where
   pub before : List Bounded
   pub wrong : Bounded
@@ -151,7 +151,7 @@ pub find_first : (n : ℕ) (bs : List Bounded) (w : WrongWord) → first_wrong n
 find_first n [] w e = absurd (none-some w e)
 find_first n (b ∷ bs) w e = found_at n b bs w (may_stand b) refl e (find_first (n + 1) bs w)
 
--- where a word may not stand, and all before it may, it is the first
+-- a word that isn't allowed is the first if all words before it are allowed
 pub is_first : (n : ℕ) (before : List Bounded) (wrong : Bounded) (behind : List Bounded) → AllByRecursion (λ b. IsTrue (may_stand b)) before → IsFalse (may_stand wrong) → first_wrong n (before ++ wrong ∷ behind) ≡ Some (wrong_at (length before + n) wrong)
 is_first n [] wrong behind earlier stands_not =
     let first : n ≡ 0 + n = omega arith in
@@ -198,7 +198,7 @@ wrong_word_back vs slot line w h =
       first = ap (first_wrong 1) (words_same vs h.item ∙ h.words) ∙ is_first 1 h.before h.wrong h.behind h.earlier h.stands_not ∙ ap (λ (x : WrongWord). Some x) same;
     }
 
--- what was found for what the line says is the first wrong word, if there is one
+-- the word found from the content of the line is its first wrong word, or there is none
 pub first_is : (ranges : List ℕ) (slot : TaskSlot) (line : List ℕ) (i : TaskLine) (r : Option WrongWord) → task_slot i ≡ slot → Spells i line → r ≡ first_wrong 1 (words_in ranges i) → FirstWrong ranges slot line r
 first_is ranges slot line i None belongs spells e = λ w h.
     let same : h.item ≡ i = task_grammar.one_item h.item i (h.belongs ∙ sym belongs) h.spells.0 spells.0 (h.spells.1 ∙ sym spells.1) in

@@ -1,4 +1,4 @@
--- What the code reads off the first line of some bytes, up to and with its LF.
+-- What the code parses from the first line of some bytes, up to and including its LF.
 use Rattle.std.specs.Prelude.{◌≡◌, ℕ, ◌-◌, List, take, ◌∷◌, ◌++◌, Option}
 use Rattle.std.specs.Fmt.{decimal}
 use Rattle.sas_core.specs.Numbers.{IsNumber, IsSigned}
@@ -8,28 +8,28 @@ use Rattle.sas_reader.specs.System.{IsPlain}
 use Rattle.sas_task_format.specs.TaskFormat.{TaskLine, task_line_bytes, TaskLineFits, head_words, HeadNumbers}
 use Rattle.sas_core.specs.declared.grounded.Change.{Change}
 
--- the bytes begin with this line, which has numbers that a file can spell, and with its LF it takes
--- so many of them
+-- The bytes begin with this line, whose numbers a file can spell. The line has `taken` bytes with
+-- its LF.
 pub record SpellsAhead (i : TaskLine) (bytes : List ℕ) (taken : ℕ) : Type 0 where
   pub fits : TaskLineFits i
   pub first : LineStandsFirst bytes (task_line_bytes i) taken
   pub before_end : task_line_bytes i ≡ take (taken - 1) bytes
 
--- the bytes are this line, which has numbers that a file can spell, LF, and the rest
+-- the bytes are this line, whose numbers a file can spell, then LF, then the rest
 pub record LineAhead (i : TaskLine) (bytes rest : List ℕ) : Type 0 where
   pub fits : TaskLineFits i
   pub plain : IsPlain (task_line_bytes i)
   pub before : bytes ≡ task_line_bytes i ++ 10 ∷ rest
 
--- the bytes are a number, this byte, and the rest
+-- the bytes are a number, then the byte `end`, then the rest
 abbrev pub NumberAhead : List ℕ → ℕ → ℕ → List ℕ → Type 0
 NumberAhead bytes n end rest = IsNumber n × (bytes ≡ decimal n ++ end ∷ rest)
 
--- the bytes are a number, or `-1` for none, this byte, and the rest
+-- the bytes are a number, or `-1` for none, then the byte `end`, then the rest
 abbrev pub SignedAhead : List ℕ → Option ℕ → ℕ → List ℕ → Type 0
 SignedAhead bytes n end rest = IsSigned n × (bytes ≡ signed_decimal n ++ end ∷ rest)
 
--- the bytes are a change, LF, and the rest
+-- the bytes are a change, then LF, then the rest
 abbrev pub ChangeAhead : List ℕ → Change → List ℕ → Type 0
 ChangeAhead bytes c rest =
     HeadNumbers c.var c.old c.new × (bytes ≡ joined (head_words c.var c.old c.new) ++ 10 ∷ rest)

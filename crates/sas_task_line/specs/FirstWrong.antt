@@ -1,4 +1,4 @@
--- The first word of a line whose number may not stand there, by the number of each variable's values.
+-- The first word of a line that isn't an allowed number, by the number of values of each variable.
 use Rattle.std.specs.Prelude.{◌≡◌, ℕ, ◌+◌, ◌-◌, Bool, true, false, List, [], ◌∷◌, ◌++◌, length, Option, Some, None}
 use Rattle.std.specs.List.{flat_map}
 use Rattle.sas_core.specs.declared.parts.Fact.{Fact}
@@ -9,11 +9,11 @@ use Rattle.sas_task_format.specs.WrongWords.{Bounded, may_stand, free}
 use Rattle.sas_task_line.specs.TaskRanges.{range_in}
 use Rattle.sas_task_line.specs.TaskWords.{Spells}
 
--- what may stand in place of this word, which is the one of that number
+-- the wrong word with number n, and what is allowed in its place
 abbrev pub wrong_at : ℕ → Bounded → WrongWord
 wrong_at n b = record { word = n; may_be_none = b.may_be_none; most = b.bound - 1 }
 
--- the first of these words that may not stand there, of which the first has this number
+-- the first of these words that isn't allowed; the words are numbered from n on
 abbrev pub unless_stands : Bool → WrongWord → Option WrongWord → Option WrongWord
 unless_stands true wrong later = later
 unless_stands false wrong later = Some wrong
@@ -23,7 +23,7 @@ first_wrong n [] = None
 first_wrong n (b ∷ bs) = unless_stands (may_stand b) (wrong_at n b) (first_wrong (n + 1) bs)
 
 module _ (ranges : List ℕ) where
-  -- the number of a variable, one of its values, an old value or none
+  -- the number of a variable, one of its values, and an old value or none
   abbrev pub variable_in : ℕ → Bounded
   variable_in var = record { value = Some var; may_be_none = false; bound = length ranges }
 
@@ -45,22 +45,22 @@ module _ (ranges : List ℕ) where
   effect_words_in e = free (length e.conditions)
       ∷ (flat_map fact_words_in e.conditions ++ change_words_in e.var e.old e.new)
 
-  -- the words of a line that speaks of facts
+  -- the words of a line with facts
   abbrev pub words_in : TaskLine → List Bounded
   words_in (fact f) = fact_words_in f
   words_in (effect e) = effect_words_in e
   words_in (head var old new) = change_words_in var old new
   words_in _ = []
 
-  -- this word is the first one of the line whose number may not stand there, where a line of that sort
-  -- is due
+  -- this word is the first of the line that isn't an allowed number; a line of this slot is
+  -- expected
   pub record IsFirstWrong (slot : TaskSlot) (line : List ℕ) (w : WrongWord) : Type 0 where
     pub item : TaskLine
     pub belongs : task_slot item ≡ slot
     pub spells : Spells item line
     pub first : first_wrong 1 (words_in item) ≡ Some w
 
-  -- this is the first wrong word, if there is one
+  -- this is the first wrong word, or `None` if no word is wrong
   abbrev pub FirstWrong : TaskSlot → List ℕ → Option WrongWord → Type 0
   FirstWrong slot line None = (w : WrongWord) → IsFirstWrong slot line w → ⊥
   FirstWrong slot line (Some w) = IsFirstWrong slot line w

@@ -1,4 +1,4 @@
--- Whole sections that stand first in some bytes: a variable, a mutex group, an operator, a rule.
+-- Whole sections at the beginning of some bytes: a variable, a mutex group, an operator, a rule.
 use Rattle.std.specs.Prelude.{◌≡◌, ◌<◌, ℕ, List, length, map, take, Option, IsTrue}
 use Rattle.std.specs.List.{AllByRecursion, list_all}
 use Rattle.sas_core.specs.declared.parts.Fact.{Fact}
@@ -15,18 +15,18 @@ use Rattle.sas_task_line.specs.declared.sections.Gathered.{Gathered}
 use Rattle.sas_core.specs.Changes.{plain_effect}
 use Rattle.sas_task_line.specs.TaskRanges.{fact_in_ranges, effect_in_ranges, change_in}
 
--- the bytes of each of the lines
+-- the bytes of each line
 abbrev pub spelled : List TaskLine → List (List ℕ)
 spelled items = map task_line_bytes items
 
--- the bytes begin with these lines, which have numbers that a file can spell, and the front is as
--- long as they are
+-- the bytes begin with these lines, whose numbers a file can spell; the front has their number and
+-- length
 pub record LinesAhead (items : List TaskLine) (bytes : List ℕ) (front : Front) : Type 0 where
   pub fits : AllByRecursion TaskLineFits items
   pub stands : IsFront (spelled items) bytes front
   pub whole : take front.bytes bytes ≡ text (spelled items)
 
--- the variable has a name and at least one value, each of which has a name
+-- the variable has a name and at least one value, and each value has a name
 pub record HasNames (v : Variable) : Type 0 where
   pub name : IsName v.name
   pub values : AllByRecursion IsName v.values
@@ -43,34 +43,34 @@ pub record RuleInRanges (ranges : List ℕ) (r : Rule) : Type 0 where
   pub conditions : IsTrue (list_all (fact_in_ranges ranges) r.conditions)
   pub change : IsTrue (change_in ranges r.var r.old r.new)
 
--- the variable stands first in the bytes
+-- the bytes begin with the variable
 abbrev pub VariableAhead : List ℕ → Variable → Front → Type 0
 VariableAhead bytes v front = HasNames v × LinesAhead (variable_lines v) bytes front
 
--- the mutex group stands first in the bytes, and its facts exist
+-- the bytes begin with the mutex group, and its facts exist
 abbrev pub GroupAhead : List ℕ → List ℕ → List Fact → Front → Type 0
 GroupAhead ranges bytes facts front =
     IsTrue (list_all (fact_in_ranges ranges) facts) × LinesAhead (group_lines facts) bytes front
 
--- the operator stands first in the bytes, and its facts exist
+-- the bytes begin with the operator, and its facts exist
 abbrev pub OperatorAhead : List ℕ → List ℕ → Operator → Front → Type 0
 OperatorAhead ranges bytes o front = OperatorInRanges ranges o
     × LinesAhead (operator_lines o) bytes front
 
--- the rule stands first in the bytes, and its facts exist
+-- the bytes begin with the rule, and its facts exist
 abbrev pub RuleAhead : List ℕ → List ℕ → Rule → Front → Type 0
 RuleAhead ranges bytes r front = RuleInRanges ranges r × LinesAhead (rule_lines r) bytes front
 
--- the variable of this name and layer, with the values that were gathered
+-- the variable with this name and layer, and with the gathered values
 abbrev pub gathered_variable : List ℕ → Option ℕ → Gathered → Variable
 gathered_variable name layer g = record { name = name; layer = layer; values = g.values }
 
--- the operator of this name and cost, with the facts and the changes that were gathered
+-- the operator with this name and cost, and with the gathered facts and changes
 abbrev pub gathered_operator : List ℕ → ℕ → Gathered → Operator
 gathered_operator name cost g =
     record { name = name; prevail = g.facts; effects = map plain_effect g.changes; cost = cost }
 
--- the rule of this head, with the facts that were gathered
+-- the rule with this head, and with the gathered facts
 abbrev pub gathered_rule : Change → Gathered → Rule
 gathered_rule head g =
     record { conditions = g.facts; var = head.var; old = head.old; new = head.new }

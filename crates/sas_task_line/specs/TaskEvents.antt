@@ -1,4 +1,4 @@
--- What each line of a task file adds to what has come.
+-- What each line of a task file adds to the content read so far.
 use Rattle.std.specs.Global.{Global}
 use Rattle.std.specs.Prelude.{ℕ, false, List, [], ◌∷◌, ◌++◌, ◌==◌, None}
 use Rattle.sas_core.specs.declared.parts.Fact.{Fact}
@@ -11,7 +11,7 @@ use Rattle.sas_task_line.specs.declared.task_events.Event.TheVariants as event
 use Rattle.sas_task_line.specs.declared.task_events.Said.{Said}
 use Rattle.sas_task_line.specs.declared.so_far.SoFar.{SoFar}
 
--- no parts have come
+-- no parts were read yet
 abbrev pub no_parts : Parts
 no_parts = record {
   metric = false;
@@ -23,7 +23,7 @@ no_parts = record {
   rules = [];
 }
 
--- nothing has come
+-- nothing was read yet
 abbrev pub nothing_yet : Global → SoFar
 nothing_yet alloc = record {
   alloc = alloc;
@@ -35,7 +35,7 @@ nothing_yet alloc = record {
   effects = [];
 }
 
--- the variable, the operator and the rule that have come, of which the line holds the rest
+-- the variable, the operator or the rule that the current line completes
 abbrev pub variable_of : SoFar → Variable
 variable_of s = record { name = s.name; layer = s.layer; values = s.values }
 
@@ -47,7 +47,7 @@ abbrev pub rule_of : SoFar → Said → Rule
 rule_of s said =
     record { conditions = s.facts; var = said.head.var; old = said.head.old; new = said.head.new }
 
--- parts with one variable, one group, one operator, one rule more
+-- parts with one more variable, group, operator or rule
 abbrev pub with_variable : Parts → Variable → Parts
 with_variable p v = record p { variables = p.variables ++ v ∷ [] }
 
@@ -60,7 +60,7 @@ with_operator p o = record p { operators = p.operators ++ o ∷ [] }
 abbrev pub with_rule : Parts → Rule → Parts
 with_rule p r = record p { rules = p.rules ++ r ∷ [] }
 
--- what has come behind a line that adds this
+-- the content after a line that adds this
 abbrev pub after : SoFar → Event → Said → List ℕ → SoFar
 after s event.Nothing said line = s
 after s event.Metric said line = record s { parts = record s.parts { metric = said.number == 1 } }

@@ -1,4 +1,4 @@
--- What the code reads off a line of a task file.
+-- What the code parses from a line of a task file.
 use Rattle.std.specs.Prelude.{◌≡◌, ◌≢◌, Bool, List, ℕ, Result, Ok, Err}
 use Rattle.sas_reader.specs.declared.fault.Kind.{Kind}
 use Rattle.sas_reader.specs.declared.fault.Kind.TheVariants as kinds
@@ -6,12 +6,12 @@ use Rattle.sas_reader.specs.Faults.{IsOfBytes}
 use Rattle.sas_reader.specs.System.{Takes, Judged}
 use Rattle.sas_task_format.specs.TaskFormat.{TaskLine, TaskSlot, task_line_bytes, task_format, TaskLineFits}
 
--- a fault that a line has: not that the input ends, nor a failed read, nor refused memory
+-- a fault of a line itself: not an early end, a failed read or out of memory
 abbrev pub IsOfLine : Kind → Type 0
 IsOfLine kind = IsOfBytes kind × (kind ≢ kinds.Memory)
 
--- What was read is what the line holds, and that may stand at the slot under the test; or no such
--- line may stand there, and the kind is that of its fault.
+-- The result is the content of the line, which may stand at the slot under the test. Or no such
+-- line may stand there, and the result is the kind of its fault.
 abbrev pub Says : {A : Type 0} → TaskSlot → (TaskLine → Bool) → (A → TaskLine) → List ℕ
     → Result A Kind → Type 0
 Says slot test said line (Ok a) =
@@ -19,7 +19,7 @@ Says slot test said line (Ok a) =
 Says slot test said line (Err kind) = IsOfLine kind
     × Judged task_format TaskLineFits slot test line kind
 
--- the same where memory is taken for what the line holds, and may be refused
+-- like `Says`, but may also be out of memory
 abbrev pub SaysOrWants : {A : Type 0} → TaskSlot → (TaskLine → Bool) → (A → TaskLine) → List ℕ
     → Result A Kind → Type 0
 SaysOrWants slot test said line (Ok a) =

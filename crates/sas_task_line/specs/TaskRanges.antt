@@ -1,4 +1,4 @@
--- The variables of a task, as far as they decide which facts exist: the number of values of each.
+-- The ranges of the variables of a task, which decide which facts exist.
 use Rattle.std.specs.Prelude.{ℕ, Bool, nat_lt, ◌&&◌, List, length, map, slice_get, Option, Some, None}
 use Rattle.std.specs.Option.{option_map_or}
 use Rattle.std.specs.List.{list_all}
@@ -11,7 +11,7 @@ use Rattle.sas_task_format.specs.TaskProcess.{Head}
 abbrev pub ranges_of : List Variable → List ℕ
 ranges_of variables = map (λ (v : Variable). length v.values) variables
 
--- the number of a variable's values; 0 where there is no such variable
+-- the number of values of a variable; 0 if there is no such variable
 abbrev pub range_in : List ℕ → ℕ → ℕ
 range_in ranges var = option_map_or (λ (n : ℕ). n) (slice_get ranges var) 0
 
@@ -23,16 +23,16 @@ value_in ranges var value = nat_lt value (range_in ranges var)
 abbrev pub fact_in_ranges : List ℕ → Fact → Bool
 fact_in_ranges ranges f = value_in ranges f.var f.value
 
--- the variable exists and has the new value and the old one, if any
+-- the variable exists, and its new value and its old value, if any, are in its range
 abbrev pub change_in : List ℕ → ℕ → Option ℕ → ℕ → Bool
 change_in ranges var None new = value_in ranges var new
 change_in ranges var (Some old) new = value_in ranges var old && value_in ranges var new
 
--- what a head changes exists
+-- the variable and values of a head exist
 abbrev pub head_in_ranges : List ℕ → Head → Bool
 head_in_ranges ranges h = change_in ranges h.var h.old h.new
 
--- an effect's conditions exist, and so does what it changes
+-- the conditions of an effect exist, and so do its variable and values
 abbrev pub effect_in_ranges : List ℕ → Effect → Bool
 effect_in_ranges ranges e = list_all (fact_in_ranges ranges) e.conditions
     && change_in ranges e.var e.old e.new

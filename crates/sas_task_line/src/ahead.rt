@@ -1,5 +1,5 @@
-// The first line of some bytes, read straight off these, where it is quick to see that it ends with LF and holds what is expected.
-// All else is left to the functions that are given the line by itself, and report its fault.
+// Parses the first line of some bytes directly, if it ends with LF and has the expected content. Otherwise these functions return `None`.
+// Then the line is cut out and parsed by the functions of `task_line.rt`, which report its fault.
 ghost use Rattle.std.specs.Prelude.{◌≡◌, ◌+◌, ◌<◌, ◌++◌, length, IfSome};
 ghost use Rattle.std.specs.Fmt.{decimal};
 ghost use Rattle.sas_core.specs.Names.{IsName};
@@ -10,15 +10,15 @@ ghost use Rattle.sas_core.specs.Changes.{plain_effect};
 use memchr::memchr2;
 use sas_core::{Change, Fact};
 
-/// What the first line of some bytes holds, and how many of the bytes the line takes with its LF.
+/// The content of the first line of some bytes, and the number of bytes of the line with its LF.
 #[derive(Clone, Copy, Debug, PartialEq, Eq)]
 pub struct Ahead<A> {
     pub said: A,
     pub taken: usize,
 }
 
-/// Returns the number that begins with the digits of this one and goes on with those that stand before this byte, and
-/// what follows that byte. A number of ten digits is left to the functions that are given the line by itself.
+/// Appends the digits before the byte `end` to the digits of `first`. Returns the number and the bytes after `end`. Returns `None` for a
+/// number of ten digits.
 #[inline(always)]
 fn longer_before(first: u32, bytes: &[u8], end: u8) -> Option<(u32, &[u8])>
     requires some { 0 < first }
@@ -44,7 +44,7 @@ fn longer_before(first: u32, bytes: &[u8], end: u8) -> Option<(u32, &[u8])>
     None
 }
 
-/// Returns the number that stands before this byte, and what follows that byte.
+/// Returns the number before the byte `end`, and the bytes after it.
 #[inline(always)]
 pub(crate) fn number_before(bytes: &[u8], end: u8) -> Option<(u32, &[u8])>
     ensures { IfSome result (λ found. NumberAhead bytes.now found.0 end found.1.now) }
@@ -61,7 +61,7 @@ pub(crate) fn number_before(bytes: &[u8], end: u8) -> Option<(u32, &[u8])>
     }
 }
 
-/// Returns the number, or `-1` for none, that stands before this byte, and what follows that byte.
+/// Returns the number before the byte `end` (`None` for `-1`), and the bytes after it.
 #[inline(always)]
 pub(crate) fn signed_before(bytes: &[u8], end: u8) -> Option<(Option<u32>, &[u8])>
     ensures { IfSome result (λ found. SignedAhead bytes.now found.0 end found.1.now) }
@@ -77,7 +77,7 @@ pub(crate) fn signed_before(bytes: &[u8], end: u8) -> Option<(Option<u32>, &[u8]
     Some((Some(number), rest))
 }
 
-/// Returns the change that stands before LF, and what follows LF.
+/// Returns the change before LF, and the bytes after LF.
 #[inline(always)]
 pub(crate) fn change_before(bytes: &[u8]) -> Option<(Change, &[u8])>
     ensures { IfSome result (λ found. ChangeAhead bytes.now found.0 found.1.now) }
@@ -88,7 +88,7 @@ pub(crate) fn change_before(bytes: &[u8]) -> Option<(Change, &[u8])>
     Some((Change { var, old, new }, rest))
 }
 
-/// Returns the fact that stands before LF, whether it exists or not, and what follows LF.
+/// Returns the fact before LF, and the bytes after LF. The fact need not exist.
 #[inline(always)]
 pub(crate) fn fact_before(bytes: &[u8]) -> Option<(Fact, &[u8])>
     ensures { IfSome result (λ found. LineAhead (format.fact found.0) bytes.now found.1.now) }
@@ -98,8 +98,7 @@ pub(crate) fn fact_before(bytes: &[u8]) -> Option<(Fact, &[u8])>
     Some((Fact { var, value }, rest))
 }
 
-/// Returns the effect without conditions that stands before LF, by its change, whether its facts exist or not, and what
-/// follows LF.
+/// Returns the change of an effect without conditions before LF, and the bytes after LF. Its facts need not exist.
 #[inline(always)]
 pub(crate) fn effect_before(bytes: &[u8]) -> Option<(Change, &[u8])>
     ensures { IfSome result
@@ -111,8 +110,8 @@ pub(crate) fn effect_before(bytes: &[u8]) -> Option<(Change, &[u8])>
     change_before(rest)
 }
 
-/// Returns what follows the fixed word and LF, where the bytes begin with them. The word is an array, since with a
-/// constant length it is compared without a call.
+/// If the bytes begin with the fixed word and LF, returns the bytes after them. The word is an array, since a word of constant length is
+/// compared without a call.
 #[inline(always)]
 pub(crate) fn word_before<'a, const N: usize>(bytes: &'a [u8], word: &[u8; N]) -> Option<&'a [u8]>
     requires { IsName word.now }
@@ -125,7 +124,7 @@ pub(crate) fn word_before<'a, const N: usize>(bytes: &'a [u8], word: &[u8; N]) -
     }
 }
 
-/// Returns the name that stands before LF, and what follows LF.
+/// Returns the name before LF, and the bytes after LF.
 pub(crate) fn name_before(bytes: &[u8]) -> Option<(&[u8], &[u8])>
     ensures { IfSome result (λ found.
         IsName found.0.now × LineAhead (format.name found.0.now) bytes.now found.1.now) }
@@ -138,7 +137,7 @@ pub(crate) fn name_before(bytes: &[u8]) -> Option<(&[u8], &[u8])>
     }
 }
 
-/// Returns the number on the first line, or `None` where it isn't quick to see.
+/// Returns the number on the first line. After `None` the line has to be parsed by `number_at`.
 pub fn number_ahead(bytes: &[u8]) -> Option<Ahead<u32>>
     ensures { IfSome result (λ a. SpellsAhead (format.number a.said) bytes.now a.taken) }
 {
@@ -149,7 +148,7 @@ pub fn number_ahead(bytes: &[u8]) -> Option<Ahead<u32>>
     })
 }
 
-/// Returns the fact on the first line, whether it exists or not, or `None` where it isn't quick to see.
+/// Returns the fact on the first line, which need not exist. After `None` the line has to be parsed by `fact_at`.
 pub fn fact_ahead(bytes: &[u8]) -> Option<Ahead<Fact>>
     ensures { IfSome result (λ a. SpellsAhead (format.fact a.said) bytes.now a.taken) }
 {
@@ -160,8 +159,8 @@ pub fn fact_ahead(bytes: &[u8]) -> Option<Ahead<Fact>>
     })
 }
 
-/// Returns the effect without conditions on the first line, by its change, whether its facts exist or not. Returns
-/// `None` where it isn't quick to see.
+/// Returns the change of the effect on the first line, if the effect has no conditions. Its facts need not exist. After `None` the line has
+/// to be parsed by `effect_at`.
 pub fn effect_ahead(bytes: &[u8]) -> Option<Ahead<Change>>
     ensures { IfSome result
         (λ a. SpellsAhead (format.effect (plain_effect a.said)) bytes.now a.taken) }
@@ -173,7 +172,7 @@ pub fn effect_ahead(bytes: &[u8]) -> Option<Ahead<Change>>
     })
 }
 
-/// Returns the head of a rule on the first line, whether its facts exist or not, or `None` where it isn't quick to see.
+/// Returns the head of a rule on the first line. Its facts need not exist. After `None` the line has to be parsed by `head_at`.
 pub fn head_ahead(bytes: &[u8]) -> Option<Ahead<Change>>
     ensures { IfSome result
         (λ a. SpellsAhead (format.head a.said.var a.said.old a.said.new) bytes.now a.taken) }
@@ -185,8 +184,7 @@ pub fn head_ahead(bytes: &[u8]) -> Option<Ahead<Change>>
     })
 }
 
-/// Returns how many of the bytes the fixed word takes with its LF, or `None` where it isn't quick to see that the first
-/// line is this word.
+/// If the first line is the fixed word, returns the number of its bytes with LF. After `None` the line has to be parsed by `word_at`.
 pub fn word_ahead(bytes: &[u8], word: &[u8]) -> Option<usize>
     requires { IsName word.now }
     ensures { IfSome result (λ taken. SpellsAhead (format.word word.now) bytes.now taken) }
@@ -197,7 +195,7 @@ pub fn word_ahead(bytes: &[u8], word: &[u8]) -> Option<usize>
     }
 }
 
-/// Returns the name on the first line, or `None` where it isn't quick to see.
+/// Returns the name on the first line. After `None` the line has to be parsed by `name_at`.
 pub fn name_ahead(bytes: &[u8]) -> Option<&[u8]>
     ensures { IfSome result (λ name.
         IsName name.now × SpellsAhead (format.name name.now) bytes.now (length name.now + 1)) }

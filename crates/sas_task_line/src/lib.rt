@@ -1,5 +1,4 @@
-//! One line of a task file: what it holds, or the kind of its fault. Also what a line adds to what has come, what stores
-//! all of that, and whole sections that stand first in some bytes.
+//! Parses lines and whole sections of a task file, reports the kind of fault of a wrong line, and stores the content.
 #![tactic(auto)]
 
 mod ahead;

@@ -1,5 +1,5 @@
-// An operator or a rule that stands whole and first in some bytes, read in one go: most of a large file is these. All
-// else, and all faults, are left to the code that takes line by line.
+// Parses a whole operator or rule at the beginning of some bytes. Most of a large file consists of these. Everything else, and every fault,
+// is left to the code that reads line by line.
 ghost use Rattle.std.specs.Prelude.{◌≡◌, [], ◌∷◌, length, codes, IsTrue, IfOk, IfSome};
 ghost use Rattle.sas_core.specs.Names.{IsName};
 ghost use Rattle.sas_task_format.specs.TaskFormat as format;
@@ -16,11 +16,11 @@ use sas_lists::Lists;
 use sas_reader::Front;
 use std::alloc::{AllocError, Global};
 
-/// Where more facts are due, a piece may well cut them. They are left to the code that takes line by line, or those in
-/// front of the cut would be read twice.
+/// The most facts that are read at once. Longer lists are often cut by the end of a piece, and the facts before the cut would then be read
+/// twice. So they are read line by line.
 const MOST_FACTS: u32 = 1024;
 
-/// What was read of a section, as far as it is a list. The memory serves the next section too.
+/// The lists of the section that was read last. Their memory is reused for the next section.
 #[derive(Drop)]
 pub struct Gathered {
     /// The names of a variable's values.
@@ -32,7 +32,7 @@ pub struct Gathered {
 }
 
 impl Gathered {
-    /// Makes empty lists. It takes no memory.
+    /// Returns empty lists. It takes no memory.
     pub fn new(alloc: Global) -> Self {
         Gathered {
             values: Lists::new(alloc),
@@ -42,7 +42,7 @@ impl Gathered {
     }
 }
 
-/// An operator that stands first in some bytes: what it has beside its conditions and effects, and its lines.
+/// An operator at the beginning of some bytes: its name and cost, and its extent. Its prevail conditions and effects are in a `Gathered`.
 #[derive(Drop)]
 pub struct OperatorFound<'a> {
     pub name: &'a [u8],
@@ -50,14 +50,15 @@ pub struct OperatorFound<'a> {
     pub front: Front,
 }
 
-/// A rule that stands first in some bytes: its head, and its lines.
+/// A rule at the beginning of some bytes: its head and its extent. Its conditions are in a `Gathered`.
 #[derive(Clone, Copy, Debug, PartialEq, Eq)]
 pub struct RuleFound {
     pub head: Change,
     pub front: Front,
 }
 
-/// Takes the facts that stand with their number before some rest, where each exists. Returns the rest.
+/// Reads a count and this many facts into `facts`, and returns the bytes after them. Returns `None` if a fact doesn't exist or the lines
+/// have another form.
 #[inline(always)]
 pub(crate) fn facts_before<'a>(
     ranges: &Items<u32>,
@@ -87,8 +88,8 @@ pub(crate) fn facts_before<'a>(
     Ok(Some(rest))
 }
 
-/// Takes the changes of the effects without conditions that stand with their number before some rest, where the facts
-/// of each exist. Returns the rest.
+/// Reads a count and this many effects without conditions into `changes`, and returns the bytes after them. Returns `None` if a fact of an
+/// effect doesn't exist or the lines have another form.
 #[inline(always)]
 fn changes_before<'a>(
     ranges: &Items<u32>,
@@ -115,7 +116,7 @@ fn changes_before<'a>(
     Ok(Some(rest))
 }
 
-/// Returns the cost that stands before the last word of an operator, and the rest behind that word.
+/// Reads the cost and the last word of an operator. Returns the cost and the bytes after the word.
 #[inline(always)]
 fn end_before(bytes: &[u8]) -> Option<(u32, &[u8])>
     ensures { IfSome result (λ found.
@@ -127,7 +128,7 @@ fn end_before(bytes: &[u8]) -> Option<(u32, &[u8])>
     Some((cost, rest))
 }
 
-/// Returns the name behind the first word of an operator, and the rest.
+/// Reads the first word and the name of an operator. Returns the name and the bytes after it.
 #[inline(always)]
 fn begin_before(bytes: &[u8]) -> Option<(&[u8], &[u8])>
     ensures { IfSome result (λ found. IsName found.0.now
@@ -138,9 +139,9 @@ fn begin_before(bytes: &[u8]) -> Option<(&[u8], &[u8])>
     name_before(rest)
 }
 
-/// Returns the operator that stands first in the bytes, where it is quick to see that its facts exist and its effects
-/// have no conditions. Its prevail conditions and changes are gathered. After `None` or an `Err` anything may be
-/// gathered.
+/// Reads a whole operator at the beginning of the bytes. Its prevail conditions and changes are stored in `gathered`. Returns `None` if a
+/// fact doesn't exist, an effect has conditions, or the lines have another form; then the operator has to be read line by line. Returns
+/// `Err` if out of memory. After `None` or `Err` the content of `gathered` is unspecified.
 #[inline(always)]
 pub fn operator_found<'a>(
     ranges: &Items<u32>,
@@ -170,7 +171,7 @@ pub fn operator_found<'a>(
     Ok(Some(OperatorFound { name, cost, front }))
 }
 
-/// Returns the head of a rule that stands before the last word, where its facts exist, and the rest behind that word.
+/// Reads the head and the last word of a rule. Returns the head, whose facts exist, and the bytes after the word.
 #[inline(always)]
 fn head_before<'a>(ranges: &Items<u32>, bytes: &'a [u8]) -> Option<(Change, &'a [u8])>
     ensures { IfSome result (λ found.
@@ -186,8 +187,9 @@ fn head_before<'a>(ranges: &Items<u32>, bytes: &'a [u8]) -> Option<(Change, &'a 
     Some((head, rest))
 }
 
-/// Returns the rule that stands first in the bytes, where it is quick to see that its facts exist. Its conditions are
-/// gathered. After `None` or an `Err` anything may be gathered.
+/// Reads a whole rule at the beginning of the bytes. Its conditions are stored in `gathered`. Returns `None` if a fact doesn't exist or the
+/// lines have another form; then the rule has to be read line by line. Returns `Err` if out of memory. After `None` or `Err` the content of
+/// `gathered` is unspecified.
 #[inline(always)]
 pub fn rule_found(
     ranges: &Items<u32>,

@@ -1,4 +1,4 @@
-// Stores all that a task file holds.
+// Stores the content of a task file while it is read.
 ghost use Rattle.std.specs.Prelude.{◌≡◌, [], ◌∷◌, ◌++◌, IfErr, IfOk, OnOk};
 ghost use Rattle.sas_task_line.specs.declared.task_events.Event.TheVariants as event;
 ghost use Rattle.sas_task_line.specs.declared.task_events.Said.{Said};
@@ -10,7 +10,7 @@ use sas_reader::Kind;
 use std::alloc::Global;
 use std::mem;
 
-/// The parts that have come, and what has come of a variable, group, operator or rule that has begun.
+/// The parts read so far, and the content of the section that has begun.
 #[derive(Drop)]
 pub struct SoFar {
     pub alloc: Global,
@@ -23,7 +23,7 @@ pub struct SoFar {
     pub effects: Items<Effect>,
 }
 
-/// Pushes the item onto the list.
+/// Appends the item to the list.
 fn push<T: Drop>(items: &mut Items<T>, item: T) -> Result<(), Kind>
     ensures ok { OnOk result (items.new ≡ items.old ++ item ∷ []) }
     ensures err { IfErr result (λ k. k ≡ Kind.Memory) }
@@ -42,7 +42,7 @@ fn copy_of(alloc: Global, line: &[u8]) -> Result<Items<u8>, Kind>
 }
 
 impl SoFar {
-    /// Makes a `SoFar` of which nothing has come.
+    /// Returns a store without content.
     pub fn new(alloc: Global) -> Self
         ensures { result ≡ nothing_yet alloc }
     {
@@ -65,7 +65,7 @@ impl SoFar {
         }
     }
 
-    /// Returns the parts that have come.
+    /// Returns the parts read so far.
     pub fn into_parts(self) -> Parts
         ensures { result ≡ self.parts }
     {
@@ -78,7 +78,7 @@ impl SoFar {
             → OnOk result (self.new ≡ after self.old event.Name said line.now) }
         ensures err { IfErr result (λ k. k ≡ Kind.Memory) }
     {
-        // Where the name before was not moved out, its memory serves this one.
+        // If the name before was not moved out, its memory is reused.
         self.name.clear();
         self.name.extend_from_slice(line)?;
         Ok(())
@@ -154,8 +154,8 @@ impl SoFar {
         push(&mut self.parts.rules, rule)
     }
 
-    /// Adds what the line holds to what has come. A list that begins is empty already. It is set once more here, so
-    /// that this need not be known.
+    /// Adds the content of the line. A list that begins is empty already, but setting it here again means that no contract has to require
+    /// it. Returns `Memory` if out of memory.
     pub fn add(&mut self, line: &[u8], event: Event, said: &mut Said) -> Result<(), Kind>
         ensures ok { OnOk result (self.new ≡ after self.old event said.old line.now) }
         ensures err { IfErr result (λ k. k ≡ Kind.Memory) }

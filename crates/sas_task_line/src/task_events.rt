@@ -1,11 +1,11 @@
-// What a line of a task file holds.
+// What a line of a task file adds to the task.
 ghost use Rattle.std.specs.Prelude.{◌≡◌};
 ghost use Rattle.sas_core.specs.Changes.{plain_effect};
 
 use sas_core::{Change, Effect, Fact, Items};
 use std::alloc::Global;
 
-/// What a line adds to what has come. A name is the line itself; other values stand beside, in `Said`.
+/// What a line adds to the task. A name is the line itself. All other values are in a `Said`.
 #[derive(Clone, Copy, Debug, PartialEq, Eq)]
 pub enum Event {
     /// Nothing: a fixed word, the version, a number of variables, groups, goal facts, operators or rules.
@@ -16,33 +16,33 @@ pub enum Event {
     Name,
     /// The axiom layer of a variable.
     Layer,
-    /// The values of a variable come next.
+    /// The values of a variable follow.
     Values,
     /// The name of a value.
     Value,
-    /// The variable has come.
+    /// The variable is complete.
     Variable,
-    /// The facts of a group, the prevail conditions of an operator, or the conditions of a rule come next.
+    /// The facts of a group, the prevail conditions of an operator, or the conditions of a rule follow.
     Facts,
-    /// One of them.
+    /// One of these.
     Fact,
-    /// The group has come.
+    /// The group is complete.
     Group,
     /// The value of the next variable in the initial state.
     State,
     /// A fact of the goal.
     Goal,
-    /// The effects of an operator come next.
+    /// The effects of an operator follow.
     Effects,
-    /// One of them.
+    /// One of these.
     Effect,
-    /// The cost of the operator, which has come with it.
+    /// The cost of an operator, which is then complete.
     Operator,
-    /// The head of a rule, which has come with it.
+    /// The head of a rule, which is then complete.
     Rule,
 }
 
-/// What the last line of each sort held. A field keeps its value until the next line of its sort.
+/// The values of the last line of each kind. A field keeps its value until the next line of its kind.
 #[derive(Drop)]
 pub struct Said {
     /// The metric, a value in the initial state, or a cost.
@@ -55,7 +55,7 @@ pub struct Said {
 }
 
 impl Said {
-    /// Makes a `Said` in which no line has stored anything.
+    /// Returns default values, before any line was read.
     pub fn new(alloc: Global) -> Self {
         Said {
             number: 0,

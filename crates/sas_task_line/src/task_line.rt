@@ -1,4 +1,4 @@
-// One line of a task file, by what is due there.
+// Parses one line of a task file, by what is expected there.
 ghost use Rattle.std.specs.Prelude.{◌≡◌, ◌↔◌, ℕ, List, [], Option, nat_lt, true, false, ◌==◌, IsTrue, IfOk, IfSome, IfNone};
 ghost use Rattle.std.specs.List.{list_all};
 ghost use Rattle.sas_core.specs.Names.{is_name};
@@ -16,7 +16,7 @@ use std::alloc::AllocError;
 /// The version of the format.
 const VERSION: u32 = 3;
 
-/// Checks that the line is the fixed word. Else returns the kind of its fault.
+/// Checks that the line is the fixed word. Returns the kind of its fault if it isn't.
 pub fn word_at(line: &[u8], word: &[u8]) -> Result<(), Kind>
     ensures { Says (format.word_slot word.now) (λ _. true) (λ _. format.word word.now)
         line.now result }
@@ -28,7 +28,7 @@ pub fn word_at(line: &[u8], word: &[u8]) -> Result<(), Kind>
     }
 }
 
-/// Checks that the line is a name. Else returns the kind of its fault.
+/// Checks that the line is a name. Returns the kind of its fault if it isn't.
 pub fn name_at(line: &[u8]) -> Result<(), Kind>
     ensures { Says format.name_slot (λ i. is_name (name_in i)) (λ _. format.name line.now)
         line.now result }
@@ -50,7 +50,7 @@ pub fn number_at(line: &[u8]) -> Result<u32, Kind>
     }
 }
 
-/// Returns the number on the line, which isn't 0, or the kind of its fault.
+/// Returns the positive number on the line, or the kind of its fault.
 pub fn positive_at(line: &[u8]) -> Result<u32, Kind>
     ensures { Says format.number_slot (λ i. positive (number_in i)) format.number line.now result }
 {
@@ -61,7 +61,7 @@ pub fn positive_at(line: &[u8]) -> Result<u32, Kind>
     }
 }
 
-/// Returns the number on the line, which is below a bound, or the kind of its fault.
+/// Returns the number below `bound` on the line, or the kind of its fault.
 pub fn number_below(line: &[u8], bound: usize) -> Result<u32, Kind>
     ensures { Says format.number_slot (λ i. nat_lt (number_in i) bound) format.number
         line.now result }
@@ -84,7 +84,7 @@ pub fn version_at(line: &[u8]) -> Result<u32, Kind>
     }
 }
 
-/// Returns the number on the line, or none where `-1` stands there, or the kind of its fault.
+/// Returns the number on the line (`None` for `-1`), or the kind of its fault.
 pub fn signed_at(line: &[u8]) -> Result<Option<u32>, Kind>
     ensures { Says format.signed_slot (λ _. true) format.signed line.now result }
 {
@@ -94,7 +94,7 @@ pub fn signed_at(line: &[u8]) -> Result<Option<u32>, Kind>
     }
 }
 
-/// Takes the next part, and returns it as a number.
+/// Takes the next word, and returns it as a number.
 fn take_number(parts: &mut Numbers<'_>) -> Option<u32>
     ensures found { IfSome result (λ n. TakesNumber parts.old n parts.new) }
     ensures none { IfNone result
@@ -106,7 +106,7 @@ fn take_number(parts: &mut Numbers<'_>) -> Option<u32>
     }
 }
 
-/// Takes the next part, and returns it as a number or none.
+/// Takes the next word, and returns it as a number, or as `None` for `-1`.
 fn take_signed(parts: &mut Numbers<'_>) -> Option<Option<u32>>
     ensures found { IfSome result (λ n. TakesSigned parts.old n parts.new) }
     ensures none { IfNone result
@@ -118,7 +118,7 @@ fn take_signed(parts: &mut Numbers<'_>) -> Option<Option<u32>>
     }
 }
 
-/// Takes the next two parts, and returns them as a fact.
+/// Takes the next two words, and returns them as a fact.
 fn take_fact(parts: &mut Numbers<'_>) -> Option<Fact>
     ensures found { IfSome result (λ f. TakesFact parts.old f parts.new) }
     ensures none { IfNone result
@@ -133,8 +133,8 @@ fn take_fact(parts: &mut Numbers<'_>) -> Option<Fact>
     Some(Fact { var, value })
 }
 
-/// Takes the next parts as so many facts, and returns whether they are facts. Nothing is reserved for them, since a
-/// line may hold any count and few parts.
+/// Takes the next words as `count` facts. Returns whether they are facts. It doesn't allocate by `count`, since a line may have a large
+/// count and few words.
 fn take_facts(
     facts: &mut Items<Fact>,
     parts: &mut Numbers<'_>,
@@ -155,7 +155,7 @@ fn take_facts(
     Ok(true)
 }
 
-/// Takes the next three parts, and returns them as a change.
+/// Takes the next three words, and returns them as a change.
 fn take_change(parts: &mut Numbers<'_>) -> Option<Change>
     ensures found { IfSome result
         (λ (c : Change). TakesHead parts.old c.var c.old c.new parts.new) }
@@ -174,14 +174,14 @@ fn take_change(parts: &mut Numbers<'_>) -> Option<Change>
     Some(Change { var, old, new })
 }
 
-/// Returns whether no part is left.
+/// Returns whether no word is left.
 fn is_over(parts: &mut Numbers<'_>) -> bool
     ensures { IsTrue result ↔ (parts.old ≡ []) }
 {
     parts.next().is_none()
 }
 
-/// Returns the fact that the line spells, whether it exists or not.
+/// Returns the fact on the line, which need not exist. Returns `None` if the line has another form.
 pub(crate) fn fact_of(line: &[u8]) -> Option<Fact>
     ensures found { IfSome result (λ f. Spells (format.fact f) line.now) }
     ensures none { IfNone result ((f : Fact) → Spells (format.fact f) line.now → ⊥) }
@@ -197,7 +197,7 @@ pub(crate) fn fact_of(line: &[u8]) -> Option<Fact>
     }
 }
 
-/// Takes the effect that the line spells, whether its facts exist or not, and returns whether it spells one.
+/// Reads the effect on the line, whose facts need not exist. Returns whether the line has the form of an effect.
 pub(crate) fn effect_of(effect: &mut Effect, line: &[u8]) -> Result<bool, AllocError>
     ensures found { IfOk result
         (λ found. IsTrue found → Spells (format.effect effect.exit.now) line.now) }
@@ -220,7 +220,7 @@ pub(crate) fn effect_of(effect: &mut Effect, line: &[u8]) -> Result<bool, AllocE
     Ok(is_over(&mut parts))
 }
 
-/// Returns the change that the line spells, whether its values exist or not.
+/// Returns the change on the line, whose values need not exist. Returns `None` if the line has another form.
 pub(crate) fn change_of(line: &[u8]) -> Option<Change>
     ensures found { IfSome result
         (λ (c : Change). Spells (format.head c.var c.old c.new) line.now) }
@@ -238,7 +238,7 @@ pub(crate) fn change_of(line: &[u8]) -> Option<Change>
     }
 }
 
-/// Returns whether the variable exists and has the value, by the number of each variable's values.
+/// Returns whether the variable exists and has the value. `ranges` has the number of values of each variable.
 pub fn value_in(ranges: &Items<u32>, var: u32, value: u32) -> bool
     ensures { result ≡ value_in ranges.now var value }
 {
@@ -248,7 +248,7 @@ pub fn value_in(ranges: &Items<u32>, var: u32, value: u32) -> bool
     }
 }
 
-/// Returns whether the variable exists and has the new value and the old one, if any.
+/// Returns whether the variable exists and has the new value, and the old value, if any.
 pub fn change_in(ranges: &Items<u32>, var: u32, old: Option<u32>, new: u32) -> bool
     ensures { result ≡ change_in ranges.now var old new }
 {
@@ -276,7 +276,7 @@ fn effect_in_ranges(ranges: &Items<u32>, effect: &Effect) -> bool
         && change_in(ranges, effect.var, effect.old, effect.new)
 }
 
-/// Returns the fact on the line, which exists, or the kind of its fault.
+/// Returns the fact on the line, or the kind of its fault: `Shape`, or `Value` if the fact doesn't exist.
 pub fn fact_at(ranges: &Items<u32>, line: &[u8]) -> Result<Fact, Kind>
     ensures { Says format.fact_slot (λ i. fact_in_ranges ranges.now (fact_in i)) format.fact
         line.now result }
@@ -288,14 +288,13 @@ pub fn fact_at(ranges: &Items<u32>, line: &[u8]) -> Result<Fact, Kind>
     }
 }
 
-/// Takes an effect of which each fact exists, or returns the kind of its fault. Its conditions use the memory of those
-/// before, where it was not moved out.
+/// Reads the effect on the line into `effect`, and reuses its memory. Returns the kind of fault: `Shape`, `Value` if a fact doesn't exist,
+/// or `Memory` if out of memory.
 pub fn effect_at(effect: &mut Effect, ranges: &Items<u32>, line: &[u8]) -> Result<(), Kind>
     ensures { SaysOrWants format.effect_slot (λ i. effect_in_ranges ranges.now (effect_in i))
         (λ _. format.effect effect.exit.now) line.now result }
 {
-    // The whole line is read before a fact is looked up, since a wrong shape is reported before a fact that doesn't
-    // exist.
+    // The whole line is read before any fact is checked, since a wrong shape takes precedence over a fact that doesn't exist.
     let found = effect_of(effect, line)?;
     if !found {
         return Err(Kind::Shape);
@@ -306,7 +305,7 @@ pub fn effect_at(effect: &mut Effect, ranges: &Items<u32>, line: &[u8]) -> Resul
     Ok(())
 }
 
-/// Returns the head of a rule on the line, of which each fact exists, or the kind of its fault.
+/// Returns the head of a rule on the line, or the kind of its fault: `Shape`, or `Value` if a fact of it doesn't exist.
 pub fn head_at(ranges: &Items<u32>, line: &[u8]) -> Result<Change, Kind>
     ensures { Says format.head_slot (λ i. head_in_ranges ranges.now (head_in i))
         (λ (c : Change). format.head c.var c.old c.new) line.now result }

@@ -1,4 +1,4 @@
-// A variable or a mutex group that stands whole and first in some bytes, read in one go.
+// Parses a whole variable or mutex group at the beginning of some bytes.
 ghost use Rattle.std.specs.Prelude.{◌<◌, [], ◌∷◌, length, codes, IfOk, IfSome};
 ghost use Rattle.sas_core.specs.Names.{IsName};
 ghost use Rattle.sas_task_format.specs.TaskFormat as format;
@@ -12,7 +12,7 @@ use sas_lists::Lists;
 use sas_reader::Front;
 use std::alloc::AllocError;
 
-/// A variable that stands first in some bytes: what it has beside its values, and its lines.
+/// A variable at the beginning of some bytes: its name, its layer and its extent. Its values are in a `Gathered`.
 #[derive(Drop)]
 pub struct VariableFound<'a> {
     pub name: &'a [u8],
@@ -20,7 +20,7 @@ pub struct VariableFound<'a> {
     pub front: Front,
 }
 
-/// Returns the name and the axiom layer behind the first word of a variable, and the rest.
+/// Reads the first word, the name and the axiom layer of a variable. Returns the name, the layer and the bytes after them.
 #[inline(always)]
 fn begin_before(bytes: &[u8]) -> Option<(&[u8], Option<u32>, &[u8])>
     ensures { IfSome result (λ found. IsName found.0.now
@@ -33,7 +33,8 @@ fn begin_before(bytes: &[u8]) -> Option<(&[u8], Option<u32>, &[u8])>
     Some((name, layer, rest))
 }
 
-/// Takes the names that stand with their number before some rest, where there is one at least. Returns the rest.
+/// Reads a positive count and this many names into `names`, and returns the bytes after them. Returns `None` if the lines have another
+/// form.
 #[inline(always)]
 fn names_before<'a>(bytes: &'a [u8], names: &mut Lists<u8>) -> Result<Option<&'a [u8]>, AllocError>
     ensures { IfOk result (λ found. IfSome found (λ rest. 0 < length names.new
@@ -56,8 +57,9 @@ fn names_before<'a>(bytes: &'a [u8], names: &mut Lists<u8>) -> Result<Option<&'a
     Ok(Some(rest))
 }
 
-/// Returns the variable that stands first in the bytes, if it is quick to see. Its values are gathered. After `None` or
-/// an `Err` any may be gathered.
+/// Reads a whole variable at the beginning of the bytes. Its values are stored in `gathered`. Returns `None` if the lines have another
+/// form; then the variable has to be read line by line. Returns `Err` if out of memory. After `None` or `Err` the content of `gathered` is
+/// unspecified.
 #[inline(always)]
 pub fn variable_found<'a>(
     bytes: &'a [u8],
@@ -82,8 +84,9 @@ pub fn variable_found<'a>(
     Ok(Some(VariableFound { name, layer, front }))
 }
 
-/// Returns how many lines and bytes the mutex group takes up that stands first in the bytes, where it is quick to see
-/// that its facts exist. These are gathered. After `None` or an `Err` any may be gathered.
+/// Reads a whole mutex group at the beginning of the bytes. Returns the number of its lines and bytes. Its facts are stored in `gathered`.
+/// Returns `None` if a fact doesn't exist or the lines have another form; then the group has to be read line by line. Returns `Err` if out
+/// of memory. After `None` or `Err` the content of `gathered` is unspecified.
 #[inline(always)]
 pub fn group_found(
     ranges: &Items<u32>,

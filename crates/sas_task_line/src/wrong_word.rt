@@ -1,4 +1,4 @@
-// The first word of a line whose number may not stand there. It is looked up only if a line is refused.
+// Finds the first word of a line that isn't an allowed number. It is needed only if the line is refused.
 ghost use Rattle.std.specs.Prelude.{◌≡◌, ◌<◌, ◌^◌, ◌-◌, length, [], ◌∷◌, true, false, Option, Some, IfOk};
 ghost use Rattle.sas_task_format.specs.TaskFormat.{fact_slot, effect_slot, head_slot};
 ghost use Rattle.sas_task_line.specs.FirstWrong.{first_wrong, value_of, old_of, variable_in, fact_words_in, change_words_in, effect_words_in, FirstWrong};
@@ -9,7 +9,7 @@ use sas_core::{Change, Effect, Fact, Items};
 use sas_task_format::WrongWord;
 use std::alloc::AllocError;
 
-/// Returns how many values the variable has, 0 if there is no such variable.
+/// Returns the number of values of the variable, or 0 if there is no such variable.
 fn range_of(ranges: &Items<u32>, var: u32) -> u32
     ensures { result ≡ range_in ranges.now var }
 {
@@ -67,7 +67,7 @@ fn old_wrong(ranges: &Items<u32>, var: u32, old: Option<u32>, word: u64) -> Opti
     })
 }
 
-/// Checks a fact whose variable is the word of this number.
+/// Checks a fact whose variable is the word with this number.
 fn fact_wrong_from(ranges: &Items<u32>, fact: Fact, word: u64) -> Option<WrongWord>
     requires { word < 2 ^ 63 }
     ensures { result ≡ first_wrong word (fact_words_in ranges.now fact) }
@@ -78,7 +78,7 @@ fn fact_wrong_from(ranges: &Items<u32>, fact: Fact, word: u64) -> Option<WrongWo
     }
 }
 
-/// Checks the old value and the new one, of which the old one is the word of this number.
+/// Checks the old value, which is the word with this number, and the new value.
 fn values_wrong_from(ranges: &Items<u32>, change: Change, word: u64) -> Option<WrongWord>
     requires { word < 2 ^ 63 }
     ensures { result ≡ first_wrong word
@@ -90,7 +90,7 @@ fn values_wrong_from(ranges: &Items<u32>, change: Change, word: u64) -> Option<W
     }
 }
 
-/// Checks a change whose variable is the word of this number.
+/// Checks a change whose variable is the word with this number.
 fn change_wrong_from(ranges: &Items<u32>, change: Change, word: u64) -> Option<WrongWord>
     requires { word < 2 ^ 62 }
     ensures { result ≡ first_wrong word
@@ -102,21 +102,21 @@ fn change_wrong_from(ranges: &Items<u32>, change: Change, word: u64) -> Option<W
     }
 }
 
-/// Returns the first wrong word of a fact, if there is one.
+/// Returns the first wrong word of a fact, or `None` if the fact exists.
 pub fn fact_wrong(ranges: &Items<u32>, fact: Fact) -> Option<WrongWord>
     ensures { result ≡ first_wrong 1 (fact_words_in ranges.now fact) }
 {
     fact_wrong_from(ranges, fact, 1)
 }
 
-/// Returns the first wrong word of the head of a rule, if there is one.
+/// Returns the first wrong word of the head of a rule, or `None` if its facts exist.
 pub fn change_wrong(ranges: &Items<u32>, change: Change) -> Option<WrongWord>
     ensures { result ≡ first_wrong 1 (change_words_in ranges.now change.var change.old change.new) }
 {
     change_wrong_from(ranges, change, 1)
 }
 
-/// Returns the first wrong word of an effect, if there is one. The count of its conditions is the first of all its words.
+/// Returns the first wrong word of an effect, or `None` if its facts exist. Word 1 is the count of its conditions.
 pub fn effect_wrong(ranges: &Items<u32>, effect: &Effect) -> Option<WrongWord>
     requires { length effect.now.conditions < 2 ^ 31 }
     ensures { result ≡ first_wrong 1 (effect_words_in ranges.now effect.now) }
@@ -137,7 +137,7 @@ pub fn effect_wrong(ranges: &Items<u32>, effect: &Effect) -> Option<WrongWord>
     change_wrong_from(ranges, change, 2 * count as u64 + 2)
 }
 
-/// Reads the line as a fact, and returns its first wrong word, if there is one.
+/// Parses the line as a fact, and returns its first wrong word. Returns `None` if no word is wrong or the line has another form.
 pub fn wrong_in_fact(ranges: &Items<u32>, line: &[u8]) -> Option<WrongWord>
     ensures { FirstWrong ranges.now fact_slot line.now result }
 {
@@ -147,7 +147,8 @@ pub fn wrong_in_fact(ranges: &Items<u32>, line: &[u8]) -> Option<WrongWord>
     }
 }
 
-/// Reads the line as the head of a rule in the same way.
+/// Parses the line as the head of a rule, and returns its first wrong word. Returns `None` if no word is wrong or the line has another
+/// form.
 pub fn wrong_in_head(ranges: &Items<u32>, line: &[u8]) -> Option<WrongWord>
     ensures { FirstWrong ranges.now head_slot line.now result }
 {
@@ -157,7 +158,8 @@ pub fn wrong_in_head(ranges: &Items<u32>, line: &[u8]) -> Option<WrongWord>
     }
 }
 
-/// Reads the line as an effect in the same way. The effect is stored.
+/// Parses the line as an effect, and returns its first wrong word. Returns `None` if no word is wrong or the line has another form.
+/// `effect` provides memory and is overwritten.
 pub fn wrong_in_effect(
     effect: &mut Effect,
     ranges: &Items<u32>,

@@ -1,4 +1,4 @@
--- What is kept for an outline, behind what a line says and behind a variable.
+-- What is stored for an outline, after a line and after a variable.
 use Rattle.std.proofs.Common.{◌≡◌, ◌-◌, ◌^◌, ℕ, List, length, refl, ap, ◌∙◌, arith}
 use Rattle.std.specs.Prelude.{min}
 use Rattle.sas_core.specs.Numbers.{IsNumber}
@@ -14,7 +14,7 @@ use Rattle.sas_task_judge.specs.Sections.{behind_variable}
 use Rattle.sas_task_reader.specs.declared.task_outline.Seen.{Seen}
 use Rattle.sas_task_reader.specs.TaskOutline.{outline_in, kept_of}
 
--- a line about none of what is only counted changes the rest alone
+-- a line that is not of a group, an operator or a rule changes only the rest
 pub record IsOfRest (e : Event) : Type 0 where
   pub facts : e ≡ event.Facts → ⊥
   pub fact : e ≡ event.Fact → ⊥
@@ -42,7 +42,7 @@ rest_after s event.Effect said line of = absurd (of.effect refl)
 rest_after s event.Operator said line of = absurd (of.operator refl)
 rest_after s event.Rule said line of = absurd (of.rule refl)
 
--- what is kept, where the rest alone changes
+-- what is stored if only the rest changes
 module _ (kept : Seen) (new s : SoFar) (is : kept ≡ kept_of s) where
   abbrev rest_changed : (t : SoFar) → new ≡ t → record kept { rest = new } ≡ record (kept_of s) { rest = t }
   rest_changed t then = ap (λ (r : SoFar). record kept { rest = r }) then ∙ ap (λ (k : Seen). record k { rest = t }) is
@@ -53,11 +53,11 @@ module _ (kept : Seen) (new s : SoFar) (is : kept ≡ kept_of s) where
   pub seen_variable : (v : Variable) → new ≡ behind_variable (kept_of s).rest v → record kept { rest = new } ≡ kept_of (behind_variable s v)
   seen_variable v then = rest_changed (behind_variable (kept_of s).rest v) then
 
--- a number is counted as it is
+-- a count below the bound is exact
 counted_number : (n : ℕ) → IsNumber n → min n (2 ^ 32 - 1) ≡ n
 counted_number n h = omega (arith, h)
 
--- of a task that is well ranged the outline is what was seen of it
+-- the stored outline of a well ranged task is its outline
 pub outline_is : (s : SoFar) → WellRanged s.parts → outline_in (kept_of s) ≡ outline_of s.parts
 outline_is s w =
     ap (λ (n : ℕ). record (outline_in (kept_of s)) { groups = n }) (counted_number (length s.parts.groups) w.groups.count)

@@ -20,7 +20,7 @@ use Rattle.sas_task_judge.specs.TaskMachine.{LedBy}
 use Rattle.sas_task_judge.proofs.Reasons.{task_reason, trailing_reason, led_still, ended_still, wrong_still}
 use Rattle.sas_task_reader.specs.TaskRefusal.{StandsRefused}
 
--- ---- a line that may not stand isn't behind the last one
+-- ---- a refused line isn't after the last line
 
 numbers_apart : (slot : TaskSlot) (line : List ℕ) (k : Kind) → NumbersKind slot line k → k ≢ kinds.Trailing
 numbers_apart slot line k (no_shape h) = λ e. cc
@@ -43,7 +43,7 @@ rejects_apart (before s ok next) line k r = kind_apart s line k r.kind
 
 module _ {K : Type 0} (keeps : List (List ℕ) → SoFar → K → Type 0) (lines : List (List ℕ)) (text : List ℕ) (kind : Kind) (m : TaskMachine K) (mark : Mark) (word : Option WrongWord)
     (marks : mark ≡ mark_of m.judge) (of_value : kind ≡ kinds.Value → word ≡ m.wrong) (of_another : kind ≢ kinds.Value → word ≡ None) where
-  -- the mark that was read off the machine
+  -- the mark of the machine
   with_mark : IsTaskReason kind lines text (mark_of m.judge) word → IsTaskReason kind lines text mark word
   with_mark h = subst (λ (k : Mark). IsTaskReason kind lines text k word) (sym marks) h
 

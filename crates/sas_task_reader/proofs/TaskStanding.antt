@@ -1,4 +1,4 @@
--- What a reader of tasks stands for, in terms of the task format.
+-- What a reader of tasks represents, in terms of the task format.
 use Rattle.std.proofs.Common.{◌≡◌, ℕ, ◌≤◌, List, length, sym, subst, Ok}
 use Rattle.std.proofs.Math.Logic.{∥∥₁_elim}
 use Rattle.std.proofs.Props.{props}
@@ -28,18 +28,18 @@ module _ {K : Type 0} (keeps : List (List ℕ) → SoFar → K → Type 0) where
     refuses = λ line k going_on r. r h.so_far h.known;
   }
 
-  -- where it has ended, what has come is what the bytes are read as
+  -- if the machine has ended, the bytes are read as the content so far
   pub reads_so_far : (m : TaskMachine K) (bytes : List ℕ) (h : reading.Reached (LedBy keeps) (λ (n : TaskMachine K). HasEnded n.judge) m bytes) → HasEnded m.judge → Reads task_format bytes h.led.so_far.parts
   unfolding machine_follows
   reads_so_far m bytes h d = reads_of_format task_format TaskLineFits process_node task_start task_grammar (LedBy keeps) _ _ machine_follows m h.led.so_far.parts bytes h (ends_with m.judge h.led.so_far d)
 
--- the reader keeps all
+-- the reader stores the whole content
 pub reader_follows : Follows task_format TaskLineFits process_node task_start LedTo EndedAt RejectsAt
 reader_follows = machine_follows (λ lines s kept. kept ≡ s)
 
 -- ---- the end
 
--- where the machine has ended, its parts are what the bytes are read as
+-- if the machine has ended, the bytes are read as its parts
 pub reads_parts : (m : TaskMachine SoFar) (bytes : List ℕ) → reading.Reached LedTo EndedAt m bytes → EndedAt m → Reads task_format bytes m.kept.parts
 reads_parts m bytes h d = subst (λ (s : SoFar). Reads task_format bytes s.parts) (sym h.led.kept) (reads_so_far (λ lines s kept. kept ≡ s) m bytes h d)
 
@@ -49,7 +49,7 @@ well_ranged m bytes h d = (reads_parts m bytes h d).good
 pub read_task_parts : (limit : ℕ) (m : TaskMachine SoFar) (bytes : List ℕ) → EndedAt m → reading.Reached LedTo EndedAt m bytes × (length bytes ≤ limit) → ReadsAs task_format limit bytes (Ok m.kept.parts)
 read_task_parts limit m bytes d h = (reads_parts m bytes h.0 d, h.1)
 
--- where it was led by some lines to its end, its parts are well ranged
+-- if some lines led the machine to its end, its parts are well ranged
 pub ranged : (m : TaskMachine SoFar) → ∥ ((bytes : List ℕ) × reading.Reached LedTo EndedAt m bytes) ∥₁ → EndedAt m → WellRanged m.kept.parts
 ranged m led d =
     let law = checks_are_the_rules m.kept.parts in

@@ -6,6 +6,6 @@ use Rattle.sas_flat.specs.Outlines.{outline_of}
 use Rattle.sas_reader.specs.Devices.{ValueOf}
 use Rattle.sas_task_format.specs.TaskFormat.{task_format}
 
--- the outline is that of the task that the bytes are a text of
+-- the bytes are a text of a task with this outline
 abbrev pub OutlineOf : List ℕ → Outline → Type 0
 OutlineOf bytes outline = (p : Parts) × ValueOf task_format bytes p × (outline ≡ outline_of p)

@@ -1,4 +1,4 @@
--- What is kept of a task for its outline.
+-- What is stored of a task for its outline.
 use Rattle.std.specs.Prelude.{ℕ, ◌-◌, ◌^◌, min, List, [], length}
 use Rattle.sas_core.specs.declared.parts.Parts.{Parts}
 use Rattle.sas_flat.specs.declared.outline.Outline.{Outline}
@@ -6,11 +6,11 @@ use Rattle.sas_flat.specs.Outlines.{outline_of}
 use Rattle.sas_task_line.specs.declared.so_far.SoFar.{SoFar}
 use Rattle.sas_task_reader.specs.declared.task_outline.Seen.{Seen}
 
--- how many there are, as far as 32 bits count; no task has more
+-- the number of items, up to the greatest 32-bit number; no task has more
 abbrev pub as_far_as_counted : {A : Type 0} → List A → ℕ
 as_far_as_counted items = min (length items) (2 ^ 32 - 1)
 
--- what is kept of what has come
+-- what is stored of the content read so far
 abbrev pub kept_of : SoFar → Seen
 kept_of s = record {
   rest = record s {
@@ -23,11 +23,11 @@ kept_of s = record {
   rules = as_far_as_counted s.parts.rules;
 }
 
--- the outline of these parts, but with these numbers of groups, operators and rules
+-- the outline of these parts, with these numbers of groups, operators and rules
 abbrev pub outline_with : Parts → ℕ → ℕ → ℕ → Outline
 outline_with p groups operators rules =
     record (outline_of p) { groups = groups; operators = operators; rules = rules }
 
--- the outline that is kept
+-- the stored outline
 abbrev pub outline_in : Seen → Outline
 outline_in kept = outline_with kept.rest.parts kept.groups kept.operators kept.rules

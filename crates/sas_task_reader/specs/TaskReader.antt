@@ -7,8 +7,8 @@ use Rattle.sas_task_reader.specs.declared.task_reader.TaskReader.{TaskReader}
 use Rattle.sas_task_judge.specs.TaskMachine.{LedTo, EndedAt, RejectsAt, Stopped}
 
 -- How contracts view a reader of tasks. Without a fault it represents the bytes that it has taken:
--- their complete lines are those that it accepted, their rest is the line that has begun, and their
--- length is what it counted. With a fault, memory aside, that fault is theirs.
+-- it has accepted their complete lines, their rest is the pending line, and their length was
+-- counted. With a fault other than `Memory`, the bytes have this fault.
 abbrev pub task_view : View Parts TaskLine TaskSlot TaskReader
 task_view = record {
   format = task_format;

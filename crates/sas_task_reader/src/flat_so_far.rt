@@ -1,4 +1,4 @@
-// Stores all that a task file holds, in a few blocks of memory.
+// Stores the content of a task file in a few blocks of memory while it is read.
 ghost use Rattle.std.specs.Prelude.{◌≡◌, ◌<◌, List, [], OnOk, IfOk};
 ghost use Rattle.sas_core.specs.declared.parts.Fact.{Fact};
 ghost use Rattle.sas_core.specs.declared.parts.Variable.{Variable};
@@ -25,8 +25,7 @@ use sas_task_line::{
 use std::alloc::{AllocError, Global};
 use std::marker::Model;
 
-/// What has come, as `SoFar` has it: its parts, and what has come of a variable, group, operator or rule that has
-/// begun. In a contract it represents the `SoFar` of the same lines.
+/// The parts read so far, and the content of the section that has begun. In a contract it represents the `SoFar` of the same lines.
 #[derive(Drop)]
 pub struct FlatSoFar {
     alloc: Global,
@@ -34,8 +33,8 @@ pub struct FlatSoFar {
     begun: Begun,
 }
 
-/// What has come of a variable, group, operator or rule that has begun. It is kept in memory that serves the next one
-/// too, so that a line takes none of its own.
+/// The content of the variable, group, operator or rule that has begun. Its memory is reused for the next one, so that no line needs an
+/// allocation of its own.
 #[derive(Drop)]
 struct Begun {
     name: Items<u8>,
@@ -44,7 +43,7 @@ struct Begun {
     /// The facts of a group, the prevail conditions of an operator, or the conditions of a rule.
     facts: Items<Fact>,
     effects: Effects,
-    /// What is read of a section whose lines come at once.
+    /// The lists of a section that is read at once.
     gathered: Gathered,
 }
 
@@ -66,7 +65,7 @@ impl Model for FlatSoFar {
 }
 
 impl FlatSoFar {
-    /// Makes a `FlatSoFar` of which nothing has come. It takes no memory.
+    /// Returns a store without content. It takes no memory.
     pub fn new(alloc: Global) -> Self
         ensures { result ≡ nothing_yet alloc }
     {
@@ -92,7 +91,7 @@ impl FlatSoFar {
         }
     }
 
-    /// Returns the task of the parts that have come, where they are known to be well ranged. It takes no memory.
+    /// Returns the task with the parts read so far, which must be well ranged. It takes no memory.
     pub fn into_task(self) -> FlatTask
         requires { WellRanged self.parts }
         ensures { result ≡ self.parts }
@@ -102,7 +101,7 @@ impl FlatSoFar {
         FlatTask::of_parts(columns)
     }
 
-    /// Returns the outline of the parts that have come, with these numbers of groups, operators and rules.
+    /// Returns the outline of the parts read so far, with these numbers of groups, operators and rules.
     pub fn into_outline(self, groups: u32, operators: u32, rules: u32) -> Outline
         ensures { result ≡ outline_with self.parts groups operators rules }
     {
@@ -131,7 +130,7 @@ impl FlatSoFar {
         }
     }
 
-    /// Clears the name that has come, and keeps the memory.
+    /// Clears the current name, but keeps its memory.
     pub fn forget_name(&mut self)
         ensures { self.new ≡ record self.old { name = [] } }
     {
@@ -204,8 +203,8 @@ impl FlatSoFar {
         Ok(())
     }
 
-    /// Takes the variable that stands first in the bytes, all its lines at once, where it is found. Returns how long
-    /// they are, and how many values the variable has. After an `Err` anything may have been taken.
+    /// Stores a whole variable at the beginning of the bytes, if `variable_found` finds one. Returns the extent of its lines and the number
+    /// of its values. After an `Err` the content is unspecified.
     #[inline(always)]
     fn variable_ahead(&mut self, bytes: &[u8]) -> Result<VariableKept, AllocError>
         ensures took { IfOk result (λ kept. 0 < kept.front.bytes
@@ -229,7 +228,8 @@ impl FlatSoFar {
         })
     }
 
-    /// Takes the mutex group that stands first in the bytes in the same way. Returns how long its lines are.
+    /// Stores a whole mutex group at the beginning of the bytes, if `group_found` finds one. Returns the extent of its lines. After an
+    /// `Err` the content is unspecified.
     fn group_ahead(&mut self, ranges: &Items<u32>, bytes: &[u8]) -> Result<Front, AllocError>
         ensures took { IfOk result (λ front. 0 < front.bytes
             → (facts : List Fact) × GroupAhead ranges.now bytes.now facts front
@@ -247,7 +247,8 @@ impl FlatSoFar {
         Ok(front)
     }
 
-    /// Takes the operator that stands first in the bytes in the same way.
+    /// Stores a whole operator at the beginning of the bytes, if `operator_found` finds one. Returns the extent of its lines. After an
+    /// `Err` the content is unspecified.
     fn operator_ahead(&mut self, ranges: &Items<u32>, bytes: &[u8]) -> Result<Front, AllocError>
         ensures took { IfOk result (λ front. 0 < front.bytes
             → (o : Operator) × OperatorAhead ranges.now bytes.now o front
@@ -270,7 +271,8 @@ impl FlatSoFar {
         Ok(found.front)
     }
 
-    /// Takes the rule that stands first in the bytes in the same way.
+    /// Stores a whole rule at the beginning of the bytes, if `rule_found` finds one. Returns the extent of its lines. After an `Err` the
+    /// content is unspecified.
     fn rule_ahead(&mut self, ranges: &Items<u32>, bytes: &[u8]) -> Result<Front, AllocError>
         ensures took { IfOk result (λ front. 0 < front.bytes
             → (r : Rule) × RuleAhead ranges.now bytes.now r front
@@ -288,7 +290,7 @@ impl FlatSoFar {
         Ok(found.front)
     }
 
-    /// Adds what the line holds to what has come.
+    /// Adds the content of the line.
     fn add(&mut self, line: &[u8], event: Event, said: &Said) -> Result<(), AllocError>
         ensures { OnOk result (self.new ≡ after self.old event said.now line.now) }
     {

@@ -1,4 +1,4 @@
-// Task files: read into a few blocks of memory.
+// Reads task files into a few blocks of memory.
 ghost use Rattle.std.specs.Prelude.{◌≡◌, false};
 ghost use Rattle.sas_reader.specs.Devices.{ValueOf};
 ghost use Rattle.sas_task_format.specs.TaskFormat.{task_format};
@@ -13,10 +13,9 @@ use sas_task_judge::TaskMachine;
 use std::alloc::Global;
 use std::io::Read;
 
-/// Reads a task from a device as `read_task` does, in pieces of at most 65,536 bytes, into a few blocks of memory: no line
-/// takes memory of its own. A refusal has the fault of `read_task`, where that stands, what was due there, the first word of a
-/// line whose number may not stand there, and the first bytes of what was found: of the line that may not stand there, of the
-/// byte behind a whole task, or of the rest at an early end.
+/// Reads a task from a device like `read_task`, but in pieces of at most 65,536 bytes, and stores it in a few blocks of memory. An error
+/// has the fault, its location, what was expected there, the first wrong word of the line, and the first bytes of the text there: of the
+/// wrong line, of what follows a whole task, or of an unfinished last line.
 pub fn read_flat_task<R: Read>(
     alloc: Global,
     reader: &mut Watched<R>,

@@ -1,4 +1,4 @@
-// How far the section reaches that stands first in some bytes, for keepers that store nothing of it.
+// Finds the extent of a section at the beginning of some bytes, for keepers that store nothing of it.
 ghost use Rattle.std.specs.Prelude.{◌≡◌, List, IfOk, IfErr, IfSome};
 ghost use Rattle.sas_core.specs.declared.parts.Fact.{Fact};
 ghost use Rattle.sas_core.specs.declared.parts.Variable.{Variable};
@@ -12,14 +12,14 @@ use sas_reader::{Front, Kind};
 use sas_task_judge::VariableKept;
 use sas_task_line::{Gathered, group_found, operator_found, rule_found, variable_found};
 
-/// No variable was kept.
+/// No variable was stored.
 pub const NO_VARIABLE: VariableKept = VariableKept {
     front: Front::EMPTY,
     range: 0,
 };
 
-/// Returns how many lines and bytes the variable takes up that stands first in the bytes, and how many values it has,
-/// where it is found. Anything may be gathered.
+/// Returns the extent of a whole variable at the beginning of the bytes and the number of its values, if `variable_found` finds one. The
+/// content of `gathered` is unspecified afterwards. Returns `Memory` if out of memory.
 #[inline(always)]
 pub fn variable_front(bytes: &[u8], gathered: &mut Gathered) -> Result<Option<VariableKept>, Kind>
     ensures found { IfOk result (λ found. IfSome found (λ kept.
@@ -35,7 +35,8 @@ pub fn variable_front(bytes: &[u8], gathered: &mut Gathered) -> Result<Option<Va
     }))
 }
 
-/// Returns how many lines and bytes the mutex group takes up that stands first in the bytes, in the same way.
+/// Returns the extent of a whole mutex group at the beginning of the bytes, if `group_found` finds one. The content of `gathered` is
+/// unspecified afterwards. Returns `Memory` if out of memory.
 pub fn group_front(
     ranges: &Items<u32>,
     bytes: &[u8],
@@ -48,7 +49,8 @@ pub fn group_front(
     Ok(group_found(ranges, bytes, gathered)?)
 }
 
-/// Returns how many lines and bytes the operator takes up that stands first in the bytes, in the same way.
+/// Returns the extent of a whole operator at the beginning of the bytes, if `operator_found` finds one. The content of `gathered` is
+/// unspecified afterwards. Returns `Memory` if out of memory.
 pub fn operator_front(
     ranges: &Items<u32>,
     bytes: &[u8],
@@ -64,7 +66,8 @@ pub fn operator_front(
     Ok(Some(found.front))
 }
 
-/// Returns how many lines and bytes the rule takes up that stands first in the bytes, in the same way.
+/// Returns the extent of a whole rule at the beginning of the bytes, if `rule_found` finds one. The content of `gathered` is unspecified
+/// afterwards. Returns `Memory` if out of memory.
 pub fn rule_front(
     ranges: &Items<u32>,
     bytes: &[u8],

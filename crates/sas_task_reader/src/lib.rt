@@ -1,4 +1,4 @@
-//! The task file, read in pieces. Each fault is reported at its exact place.
+//! Reads task files in pieces. A fault is reported with its line and kind.
 #![tactic(auto)]
 
 mod flat_so_far;

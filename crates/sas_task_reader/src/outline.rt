@@ -1,4 +1,4 @@
-// Task files: read for their outline alone.
+// Reads only the outline of task files.
 ghost use Rattle.std.specs.Prelude.{◌≡◌, false};
 ghost use Rattle.sas_task_reader.specs.Outline.{OutlineOf};
 ghost use Rattle.sas_task_reader.specs.TaskRefusal.{ReadsTask};
@@ -12,8 +12,8 @@ use sas_task_judge::TaskMachine;
 use std::alloc::Global;
 use std::io::Read;
 
-/// Reads a task from a device as `read_flat_task` does, and returns its outline. It keeps no group, operator or rule. The
-/// refusals are those of `read_flat_task`.
+/// Reads a task from a device like `read_flat_task`, but returns only its outline. It stores no group, operator or rule. The errors are
+/// those of `read_flat_task`.
 pub fn read_outline<R: Read>(alloc: Global, reader: &mut Watched<R>) -> Result<Outline, TaskRefusal>
     requires { reader.old.failed ≡ false }
     ensures { ReadsTask R.remaining OutlineOf reader.old reader.new result }

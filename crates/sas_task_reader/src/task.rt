@@ -1,4 +1,4 @@
-// Task files: read from a device.
+// Reads task files from a device.
 ghost use Rattle.std.specs.Prelude.{◌≡◌, false};
 ghost use Rattle.sas_reader.specs.Devices.{ReadsAll, ValueOf, TextOf};
 ghost use Rattle.sas_task_format.specs.TaskFormat.{task_format};
@@ -14,11 +14,11 @@ use sas_task_line::SoFar;
 use std::alloc::Global;
 use std::io::Read;
 
-/// Reads a task from a device: in pieces of at most 4,096 bytes, to its end or to the first fault. A failed read is reported as
-/// `Kind::Read`, and that memory was refused as `Kind::Memory`. Not to be called with a device that has failed.
+/// Reads a task from a device, to its end or to the first fault, in pieces of at most 4,096 bytes. A failed read is reported as
+/// `Kind::Read`, and out of memory as `Kind::Memory`. The device must not have failed before.
 ///
-/// The clauses about bytes are about those that the device makes known (`remaining`). A reader over memory makes them
-/// known. A file or standard input makes none known, and then the clauses state only that there are such bytes.
+/// The clauses are about the bytes that the device reports (`remaining`). A reader over memory reports them. A file or standard input
+/// doesn't. For these, the clauses state only that there are such bytes.
 pub fn read_task<R: Read>(alloc: Global, reader: &mut Watched<R>) -> Result<Task, Fault>
     requires { reader.old.failed ≡ false }
     ensures { ReadsAll R.remaining task_format (ValueOf task_format) reader.old reader.new result }
@@ -30,8 +30,8 @@ pub fn read_task<R: Read>(alloc: Global, reader: &mut Watched<R>) -> Result<Task
     }
 }
 
-/// Reads a task from a device as `read_flat_task` does, and returns its text: its lines, each ended by LF. It keeps no task.
-/// The refusals are those of `read_flat_task`.
+/// Reads a task from a device like `read_flat_task`, but returns only its text: its lines, each ended by LF. The errors are those of
+/// `read_flat_task`.
 pub fn read_task_text<R: Read>(
     alloc: Global,
     reader: &mut Watched<R>,

@@ -1,4 +1,4 @@
-// What keeps the outline of a task as its lines come: no group, no operator and no rule.
+// Stores the outline of a task while it is read: groups, operators and rules are only counted.
 ghost use Rattle.std.specs.Prelude.{◌≡◌, List};
 ghost use Rattle.sas_core.specs.declared.parts.Fact.{Fact};
 ghost use Rattle.sas_core.specs.declared.parts.Operator.{Operator};
@@ -18,7 +18,7 @@ use sas_task_line::{Event, Gathered, Said};
 use std::alloc::Global;
 use std::marker::Model;
 
-/// What has come, without groups, operators and rules, and how many of these have come.
+/// The content read so far without groups, operators and rules, and the numbers of these.
 #[derive(Drop)]
 pub struct Seen {
     rest: FlatSoFar,
@@ -27,11 +27,11 @@ pub struct Seen {
     rules: u32,
 }
 
-/// The keeper of what was seen. In a contract it represents this.
+/// The keeper of a `Seen`. In a contract its value is this `Seen`.
 #[derive(Drop)]
 pub struct TaskOutline {
     seen: Seen,
-    /// What is read of a section whose lines come at once.
+    /// The lists of a section that is read at once.
     gathered: Gathered,
 }
 
@@ -44,7 +44,7 @@ impl Model for TaskOutline {
 }
 
 impl Seen {
-    /// Counts one mutex group more.
+    /// Counts one more mutex group.
     fn group(&mut self)
         ensures { (s : SoFar) (facts : List Fact) → self.old ≡ kept_of s
             → self.new ≡ kept_of (behind_group s facts) }
@@ -52,7 +52,7 @@ impl Seen {
         self.groups = self.groups.saturating_add(1);
     }
 
-    /// Counts one operator more. The name was the operator's, and is cleared.
+    /// Counts one more operator, and clears its name.
     fn operator(&mut self)
         ensures { (s : SoFar) (o : Operator) → self.old ≡ kept_of s
             → self.new ≡ kept_of (behind_operator s o) }
@@ -61,7 +61,7 @@ impl Seen {
         self.operators = self.operators.saturating_add(1);
     }
 
-    /// Counts one rule more.
+    /// Counts one more rule.
     fn rule(&mut self)
         ensures { (s : SoFar) (r : Rule) → self.old ≡ kept_of s
             → self.new ≡ kept_of (behind_rule s r) }
@@ -71,7 +71,7 @@ impl Seen {
 }
 
 impl TaskOutline {
-    /// Makes an outline of which nothing has come.
+    /// Returns an outline without content.
     pub fn new(alloc: Global) -> Self
         ensures { result ≡ kept_of (nothing_yet alloc) }
     {
@@ -86,7 +86,7 @@ impl TaskOutline {
         }
     }
 
-    /// Returns the outline of what has come.
+    /// Returns the outline of the content read so far.
     pub fn into_outline(self) -> Outline
         ensures { result ≡ outline_in self }
     {

@@ -1,4 +1,4 @@
-// Reads a task that comes in pieces.
+// Reads a task file in pieces.
 ghost use Rattle.std.specs.Prelude.{◌≤◌, ℕ, List};
 ghost use Rattle.sas_reader.specs.Limit.{most_bytes};
 ghost use Rattle.sas_reader.specs.Reader as reading;
@@ -11,11 +11,11 @@ use sas_task_judge::TaskMachine;
 use sas_task_line::SoFar;
 use std::alloc::Global;
 
-/// Reads a task file that comes in pieces, cut anywhere.
+/// Reads a task file in pieces, which may be cut anywhere.
 #[derive(Drop)]
 pub struct TaskReader {
     reader: Reader<TaskMachine<SoFar>>,
-    // It represents some bytes: those that it has taken.
+    // It represents some bytes: those that it has read.
     ghost some: { ∥ ((bytes : List ℕ)
         × reading.Stands LedTo EndedAt RejectsAt Stopped reader bytes) ∥₁ },
 }
@@ -23,14 +23,14 @@ pub struct TaskReader {
 impl TaskReader {
     ghost use Rattle.sas_task_reader.specs.TaskReader.{task_view};
 
-    /// Makes a reader that has taken nothing, and takes at most 4 GiB. It takes no memory.
+    /// Returns a reader that has read nothing yet and refuses more than 4 GiB. It takes no memory.
     pub fn new(alloc: Global) -> Self
         ensures { Starts task_view most_bytes result }
     {
         TaskReader::within(alloc, LIMIT)
     }
 
-    /// Makes such a reader that takes at most `limit` bytes.
+    /// Returns a reader that has read nothing yet and refuses more than `limit` bytes.
     pub(crate) fn within(alloc: Global, limit: u64) -> Self
         requires { limit ≤ most_bytes }
         ensures { Starts task_view limit result }
@@ -40,15 +40,14 @@ impl TaskReader {
         }
     }
 
-    /// Takes the next piece. Once there is a fault, this call and each later one return the first fault, and no byte
-    /// behind it is looked at.
+    /// Reads the next piece. Once there is a fault, this call and all later calls return the first fault and ignore all bytes after it.
     pub fn feed(&mut self, piece: &[u8]) -> Result<(), Fault>
         ensures { Feeds task_view self.old piece.now self.new result }
     {
         self.reader.feed(piece)
     }
 
-    /// Returns the task, once all has come, or the fault. It takes no memory: `Memory` is returned only if `feed` returned it.
+    /// Returns the task if it is complete, or else the fault. It takes no memory: `Memory` is returned only if `feed` returned it.
     pub fn finish(self) -> Result<Task, Fault>
         ensures { Finishes task_view self result }
     {

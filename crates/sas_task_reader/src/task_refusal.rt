@@ -6,8 +6,8 @@ use sas_reader::{Fault, Found, Kind, Refused};
 use sas_task_format::{Mark, WrongWord};
 use sas_task_judge::{Keeper, TaskMachine};
 
-/// Why a task file is refused: its first fault, where that stands and what was due there, the first word of a wrong line
-/// whose number may not stand there, if there is one, and what was found.
+/// Why a task file is refused: its first fault, the location of the fault and what was expected there, the first wrong word of the line, if
+/// any, and the text that was found.
 #[derive(Clone, Copy, Debug, PartialEq, Eq)]
 pub struct TaskRefusal {
     pub fault: Fault,
@@ -16,7 +16,7 @@ pub struct TaskRefusal {
     pub found: Found,
 }
 
-/// Returns the word that is wrong, where it is a number that a line is refused for.
+/// Returns the wrong word if the line is refused for a number.
 fn word_of(kind: Kind, wrong: Option<WrongWord>) -> Option<WrongWord>
     ensures value { kind ≡ Kind.Value → result ≡ wrong }
     ensures another { kind ≢ Kind.Value → result ≡ None }
@@ -28,7 +28,7 @@ fn word_of(kind: Kind, wrong: Option<WrongWord>) -> Option<WrongWord>
 }
 
 impl TaskRefusal {
-    /// Makes the refusal of a task of that of its machine.
+    /// Converts a refusal of the machine to that of a task file.
     pub(crate) fn of<K: Keeper>(refused: Refused<TaskMachine<K>>) -> TaskRefusal
         ensures fault { result.fault ≡ refused.fault }
         ensures found { result.found ≡ refused.found }

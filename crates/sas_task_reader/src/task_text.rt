@@ -1,4 +1,4 @@
-// Stores the text of a task file, and nothing else of the task.
+// Stores only the text of a task file.
 ghost use Rattle.std.specs.Prelude.{◌≡◌, ◌++◌, ◌≤◌, [], length, take, OnOk, IfErr};
 
 use crate::fronts::{NO_VARIABLE, group_front, operator_front, rule_front, variable_front};
@@ -10,11 +10,11 @@ use sas_task_line::{Event, Gathered, Said};
 use std::alloc::Global;
 use std::marker::Model;
 
-/// The lines so far, each ended by LF. In a contract it represents this text.
+/// The lines so far, each ended by LF. In a contract its value is this text.
 #[derive(Drop)]
 pub struct TaskText {
     text: Vec<u8>,
-    /// What is read of a section whose lines come at once.
+    /// The lists of a section that is read at once.
     gathered: Gathered,
 }
 
@@ -27,7 +27,7 @@ impl Model for TaskText {
 }
 
 impl TaskText {
-    /// Makes a text without lines.
+    /// Returns an empty text.
     pub fn new(alloc: Global) -> Self
         ensures { result ≡ [] }
     {
@@ -45,7 +45,7 @@ impl TaskText {
         text
     }
 
-    /// Takes so many of the bytes, which are whole lines.
+    /// Appends the first `count` bytes, which are whole lines.
     fn take(&mut self, bytes: &[u8], count: usize) -> Result<(), Kind>
         requires { count ≤ length bytes.now }
         ensures ok { OnOk result (self.new ≡ self.old ++ take count bytes.now) }

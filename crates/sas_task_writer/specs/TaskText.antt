@@ -4,7 +4,7 @@ use Rattle.std.specs.List.{flat_map}
 use Rattle.sas_lines.specs.Lines.{text}
 use Rattle.sas_task_format.specs.TaskFormat.{TaskLine, task_line_bytes}
 
--- the lines in their bytes, each ended by LF
+-- the bytes of the lines, each ended by LF
 abbrev pub text_of : List TaskLine → List ℕ
 text_of lines = text (map task_line_bytes lines)
 

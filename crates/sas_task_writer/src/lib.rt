@@ -1,4 +1,4 @@
-//! The task file, written.
+//! Writes task files.
 #![tactic(auto)]
 
 mod task_writer;

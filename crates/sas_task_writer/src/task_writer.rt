@@ -1,4 +1,4 @@
-// Task files: written.
+// Writes task files.
 ghost use Rattle.std.specs.Prelude.{◌≡◌, List, [], ◌∷◌, ◌++◌, IfOk, OnOk};
 ghost use Rattle.std.specs.List.{flat_map};
 ghost use Rattle.sas_lines.specs.Lines.{text};
@@ -17,11 +17,11 @@ use std::alloc::{AllocError, Global};
 /// The version of the format.
 const VERSION: u128 = 3;
 
-/// What a task file holds in lines of its own: in one, or in several between a first and a last word.
+/// A part of a task that has its own lines: one line, or several lines between a first and a last word.
 trait Encode {
     ghost lines: { Self → List TaskLine };
 
-    /// Appends its lines.
+    /// Appends the lines. Returns `Err` if out of memory.
     fn encode(&self, out: &mut Vec<u8>) -> Result<(), AllocError>
         ensures { OnOk result (out.new.items ≡ out.old.items ++ text_of (lines self.now)) };
 }
@@ -52,7 +52,7 @@ fn push_each<T: Encode>(out: &mut Vec<u8>, items: &Items<T>) -> Result<(), Alloc
     Ok(())
 }
 
-/// Appends the line of how many items there are, and the lines of each.
+/// Appends the line with the number of items, and the lines of each item.
 fn push_counted<T: Encode>(out: &mut Vec<u8>, items: &Items<T>) -> Result<(), AllocError>
     ensures { OnOk result (out.new.items ≡ out.old.items ++ text_of (counted T.lines items.now)) }
 {
@@ -88,7 +88,7 @@ fn push_fact(out: &mut Vec<u8>, fact: &Fact) -> Result<(), AllocError>
     push_number(out, u128::from(fact.value))
 }
 
-/// Appends the words of some facts, each fact followed by a space, as more words follow.
+/// Appends the words of some facts, with a space after each fact, since more words follow.
 fn push_conditions(out: &mut Vec<u8>, facts: &Items<Fact>) -> Result<(), AllocError>
     ensures { OnOk result
         (out.new.items ≡ out.old.items ++ spaced (flat_map fact_words facts.now)) }
@@ -100,7 +100,7 @@ fn push_conditions(out: &mut Vec<u8>, facts: &Items<Fact>) -> Result<(), AllocEr
     Ok(())
 }
 
-/// Appends the words of a change, which are the head of a rule and the end of an effect, and the line end.
+/// Appends the words of a change and the line end. A change is the head of a rule or the end of an effect.
 fn push_head(out: &mut Vec<u8>, var: u32, old: Option<u32>, new: u32) -> Result<(), AllocError>
     ensures { OnOk result
         (out.new.items ≡ out.old.items ++ text_of (format.head var old new ∷ [])) }
@@ -241,7 +241,7 @@ fn push_goal(out: &mut Vec<u8>, facts: &Items<Fact>) -> Result<(), AllocError>
     push_word(out, b"end_goal")
 }
 
-/// Returns the text of a task: its lines, each ended by LF. An `Err` is returned only if it is out of memory.
+/// Returns the text of a task: its lines, each ended by LF. Returns `Err` only if out of memory.
 pub fn encode_task(alloc: Global, task: &Task) -> Result<Vec<u8>, AllocError>
     ensures { IfOk result (λ t. t.items ≡ text (lines_of task_format task.now)) }
 {

@@ -1,5 +1,4 @@
-//! The two formats of text, the task file and the plan file, read in pieces and written. Each fault is reported at its
-//! exact place.
+//! Reads and writes task files and plan files. Files are read in pieces. A fault is reported with its line and kind.
 #![tactic(auto)]
 
 pub use sas_flat::Outline;

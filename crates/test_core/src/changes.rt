@@ -1,11 +1,10 @@
-// Changes of the parts of a task, in words, such as `goal 0 2` or `rule 1 new 5`. So parts can be made that no file
-// holds.
+// Applies changes such as `goal 0 2` or `rule 1 new 5` to the parts of a task. So a test can construct parts that no file contains.
 use sas_core::{Effect, Fact, Items, Operator, Parts, Rule, Variable};
 use std::alloc::{AllocError, Global};
 use std::mem;
 use test_words::{cut, number_in, text_of};
 
-/// Makes the changes, which have `;` between them, in order.
+/// Applies the changes in order. `;` separates changes.
 pub fn change_all(alloc: Global, parts: &mut Parts, changes: &[u8]) -> Result<(), AllocError> {
     for change in changes.split(|&byte| byte == b';') {
         let (place, what) = cut(change, b' ');
@@ -17,7 +16,7 @@ pub fn change_all(alloc: Global, parts: &mut Parts, changes: &[u8]) -> Result<()
     Ok(())
 }
 
-/// Changes a list of the task: `none` takes all out of it, and numbers are added.
+/// Changes a list of the task: `none` empties it, and numbers are added.
 fn change_list(parts: &mut Parts, place: &str, what: &[u8]) -> Result<(), AllocError> {
     match place {
         "metric" => parts.metric = what == b"1".as_slice(),
@@ -50,7 +49,7 @@ fn change_item(
     }
 }
 
-/// Takes all numbers out, or adds one.
+/// Empties the list, or adds a number.
 fn change_numbers(numbers: &mut Items<u32>, what: &[u8]) -> Result<(), AllocError> {
     match number_in(what) {
         Some(number) => numbers.push(number),
@@ -61,7 +60,7 @@ fn change_numbers(numbers: &mut Items<u32>, what: &[u8]) -> Result<(), AllocErro
     }
 }
 
-/// Takes all facts out, or adds one.
+/// Empties the list, or adds a fact.
 fn change_facts(facts: &mut Items<Fact>, what: &[u8]) -> Result<(), AllocError> {
     let (var, value) = cut(what, b' ');
     match (number_in(var), number_in(value)) {
@@ -73,7 +72,7 @@ fn change_facts(facts: &mut Items<Fact>, what: &[u8]) -> Result<(), AllocError> 
     }
 }
 
-/// Puts the items in the place of the list.
+/// Replaces the list by the items.
 fn put_back<T: Drop>(list: &mut Items<T>, items: Vec<T>) {
     drop(mem::replace(list, Items::from_vec(items)));
 }
@@ -99,7 +98,7 @@ fn change_variable(
     made
 }
 
-/// Sets the field of a variable that the words name. `values none` takes all its values out, and `value NAME` adds one.
+/// Sets a field of a variable. `values none` removes all its values, and `value NAME` adds one.
 fn set_variable(alloc: Global, variable: &mut Variable, what: &[u8]) -> Result<(), AllocError> {
     let (field, what) = cut(what, b' ');
     match text_of(field) {
@@ -144,7 +143,7 @@ fn change_operator(
     made
 }
 
-/// Sets the field of an operator that the words name.
+/// Sets a field of an operator.
 fn set_operator(alloc: Global, operator: &mut Operator, what: &[u8]) -> Result<(), AllocError> {
     let (field, what) = cut(what, b' ');
     match text_of(field) {
@@ -188,7 +187,7 @@ fn change_effect_of(
     made
 }
 
-/// Sets the field of an effect that the words name.
+/// Sets a field of an effect.
 fn set_effect(effect: &mut Effect, what: &[u8]) -> Result<(), AllocError> {
     let (field, what) = cut(what, b' ');
     match text_of(field) {
@@ -217,7 +216,7 @@ fn change_rule(
     made
 }
 
-/// Sets the field of a rule that the words name.
+/// Sets a field of a rule.
 fn set_rule(rule: &mut Rule, what: &[u8]) -> Result<(), AllocError> {
     let (field, what) = cut(what, b' ');
     match text_of(field) {

@@ -5,7 +5,7 @@ use std::alloc::{AllocError, Global};
 use std::io::Read;
 use test_words::{Asked, ToldReader, ToldWriter, cut, say, say_bytes, say_number, say_right};
 
-/// Makes the call if it is one of these, and returns whether it is.
+/// Makes the call if it is defined in this file. Returns whether it is.
 pub fn call_of_devices<R: AllocGlobal + Print>(
     rt: &R,
     asked: &Asked<'_>,
@@ -24,8 +24,8 @@ pub fn call_of_devices<R: AllocGlobal + Print>(
     Ok(true)
 }
 
-/// Calls `Watched::take` of a reader that follows a text, or of an input that was opened, which reads from one. It
-/// could show a read that is tried again behind a failure, which goes well then.
+/// Calls `Watched::take` of a reader that follows a text, or of an opened input over such a reader. Detects a read that is repeated after a
+/// failure, and then succeeds.
 fn take_told<P: Print>(out: &P, kind: &str, text: &[u8]) {
     let device = ToldReader::new(text);
     match kind {
@@ -35,7 +35,7 @@ fn take_told<P: Print>(out: &P, kind: &str, text: &[u8]) {
     }
 }
 
-/// Returns an input of this kind, which reads from the device.
+/// Returns an opened input of this kind over the device.
 fn opened<'a>(kind: &str, device: ToldReader<'a>) -> Opened<ToldReader<'a>, ToldReader<'a>> {
     match kind {
         "file" => Opened::File(device),
@@ -44,8 +44,7 @@ fn opened<'a>(kind: &str, device: ToldReader<'a>) -> Opened<ToldReader<'a>, Told
     }
 }
 
-/// Calls `Watched::take` of a reader, until it ends or has failed. It could show a failure that isn't noted, or one
-/// that is noted at an end.
+/// Calls `Watched::take` of a reader until it ends or fails. Detects a failure that isn't noted, and a failure that is noted at the end.
 fn say_taken<P: Print, D: Read + Drop>(out: &P, device: D, buffer: &mut [u8], most: usize) {
     let mut input = Watched::new(device);
     for _ in 0..=most {
@@ -64,8 +63,8 @@ fn say_taken<P: Print, D: Read + Drop>(out: &P, device: D, buffer: &mut [u8], mo
     }
 }
 
-/// Calls `Watched::give`, with what is left of some bytes each time, to a writer that follows a text: `TURNS|BYTES`. It
-/// could show a write that is tried again where it failed or took none, which goes well then.
+/// Calls `Watched::give` of a writer that follows a text, each time with the remaining bytes: `TURNS|BYTES`. Detects a write that is
+/// repeated after it failed or took no bytes, and then succeeds.
 fn give_told<R: AllocGlobal + Print>(rt: &R, words: &[u8]) {
     let (turns, bytes) = cut(words, b'|');
     let mut out = Watched::new(ToldWriter::new(rt.alloc(), turns));
@@ -75,7 +74,7 @@ fn give_told<R: AllocGlobal + Print>(rt: &R, words: &[u8]) {
     say(rt, "");
 }
 
-/// Does the same to a writer that may have failed.
+/// `give_told` for a writer that may have failed.
 fn say_given<P: Print>(rt: &P, out: &mut Watched<ToldWriter<'_>>, bytes: &[u8]) {
     let mut left = bytes;
     for _ in 0..=bytes.len() {
@@ -95,7 +94,8 @@ fn say_given<P: Print>(rt: &P, out: &mut Watched<ToldWriter<'_>>, bytes: &[u8]) 
     }
 }
 
-/// Calls `write_out` in the same way: `TURNS|BYTES`. It could show the same, and a count of bytes that didn't go out.
+/// Calls `write_out` of a writer that follows a text: `TURNS|BYTES`. Detects the mistakes of `give_told`, and a count of bytes that weren't
+/// written.
 fn write_out_told<R: AllocGlobal + Print>(rt: &R, words: &[u8]) {
     let (turns, bytes) = cut(words, b'|');
     let mut out = Watched::new(ToldWriter::new(rt.alloc(), turns));
@@ -111,8 +111,8 @@ fn write_out_told<R: AllocGlobal + Print>(rt: &R, words: &[u8]) {
     say(rt, "");
 }
 
-/// Returns whether a writer of this room, which takes so much at a time and then fails or takes none, gets as much of
-/// the text as there is room.
+/// Returns whether a writer gets as much of the text as it has room for. The writer takes at most `piece` bytes at a time and `room` bytes
+/// in all, and then fails or takes no bytes.
 fn is_written_out(
     alloc: Global,
     piece: usize,
@@ -132,8 +132,8 @@ fn is_written_out(
     Ok(stands && text.starts_with(written.kept()) && written.kept().len() == room)
 }
 
-/// Calls `write_out` to writers of each room up to that of the text. Returns the least room with another result. It
-/// could show bytes that go out twice or not at all.
+/// Calls `write_out` of writers with each room up to the length of the text. Returns the least room with a wrong result. Detects bytes that
+/// are written twice or not at all.
 fn wrong_room(alloc: Global, text: &[u8]) -> Result<Option<usize>, AllocError> {
     for room in 0..=text.len() {
         for piece in [1, 3] {

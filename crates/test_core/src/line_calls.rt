@@ -6,7 +6,7 @@ use sas_lines::{
 use std::alloc::AllocError;
 use test_words::{Asked, cut, say, say_bytes, say_number, say_want, say_whole, spend, text_of};
 
-/// Makes the call if it is one of these, and returns whether it is.
+/// Makes the call if it is defined in this file. Returns whether it is.
 pub fn call_of_lines<R: AllocGlobal + Print>(
     rt: &R,
     asked: &Asked<'_>,
@@ -23,7 +23,7 @@ pub fn call_of_lines<R: AllocGlobal + Print>(
     Ok(true)
 }
 
-/// Makes the call if it is one of these, which may be out of memory. Returns whether it is.
+/// Makes the call if it is one of these, which can be out of memory. Returns whether it is.
 fn call_wanting<R: AllocGlobal + Print>(rt: &R, asked: &Asked<'_>) -> Result<bool, AllocError> {
     match asked.call {
         "feed-lines" => feed_lines(rt, asked.number, asked.bytes)?,
@@ -34,7 +34,7 @@ fn call_wanting<R: AllocGlobal + Print>(rt: &R, asked: &Asked<'_>) -> Result<boo
     Ok(true)
 }
 
-/// Calls `number` and `cost`. It could show that a clause and its code allow the wrong numbers alike.
+/// Calls `number` or `cost`. Detects a wrong number that both the clause and the code allow.
 fn say_value<P: Print>(out: &P, value: Option<u64>) {
     spelling_is_decimal();
     match value {
@@ -43,7 +43,7 @@ fn say_value<P: Print>(out: &P, value: Option<u64>) {
     }
 }
 
-/// Calls `signed`. It could show the same, or that `-1` is taken for a number.
+/// Calls `signed`. Detects a wrong number that both the clause and the code allow, and `-1` taken for a number.
 fn say_signed<P: Print>(out: &P, line: &[u8]) {
     match signed(line) {
         Some(Some(value)) => say_number(out, "is", u64::from(value)),
@@ -52,7 +52,7 @@ fn say_signed<P: Print>(out: &P, line: &[u8]) {
     }
 }
 
-/// Prints the parts of `Numbers`, each on a line. It could show that the definition of parts takes spaces together.
+/// Prints the parts of `Numbers`, each on a line. Detects a definition of parts that merges several spaces.
 fn say_parts<P: Print>(out: &P, line: &[u8]) {
     for part in Numbers::new(line) {
         say_bytes(out, part);
@@ -60,7 +60,7 @@ fn say_parts<P: Print>(out: &P, line: &[u8]) {
     }
 }
 
-/// Calls `first_line`. It could show that the definition of a line keeps its CR, or takes one too many.
+/// Calls `first_line`. Detects a definition of lines that keeps a CR, or removes one too many.
 fn say_first_line<P: Print>(out: &P, bytes: &[u8]) {
     match first_line(bytes) {
         Some(first) => {
@@ -72,8 +72,7 @@ fn say_first_line<P: Print>(out: &P, bytes: &[u8]) {
     }
 }
 
-/// Feeds `Lines` with pieces that have `|` between them. It could show the same, and a line that stays after the next
-/// feed.
+/// Feeds pieces to `Lines`. `|` separates pieces. Detects the mistakes of `say_first_line`, and a line that remains after the next feed.
 fn say_lines<R: AllocGlobal + Print>(rt: &R, pieces: &[u8]) -> Result<(), AllocError> {
     let mut lines = Lines::new(rt.alloc());
     let said = say_each(rt, pieces, &mut lines);
@@ -81,7 +80,7 @@ fn say_lines<R: AllocGlobal + Print>(rt: &R, pieces: &[u8]) -> Result<(), AllocE
     said
 }
 
-/// Does the same with lines that have begun.
+/// `say_lines` with the given `Lines`.
 fn say_each<P: Print>(rt: &P, pieces: &[u8], lines: &mut Lines) -> Result<(), AllocError> {
     for piece in pieces.split(|&byte| byte == b'|') {
         let Fed { taken, complete } = lines.feed(piece)?;
@@ -98,8 +97,7 @@ fn say_each<P: Print>(rt: &P, pieces: &[u8], lines: &mut Lines) -> Result<(), Al
     Ok(())
 }
 
-/// Calls `Lines::feed` with a line in two pieces. It could show that a piece is lost without memory: then what was
-/// refused may be fed again.
+/// Calls `Lines::feed` with a line in two pieces. Detects a piece that is lost if out of memory: it must be possible to feed it again.
 fn feed_lines<R: AllocGlobal + Print>(
     rt: &R,
     count: usize,
@@ -112,7 +110,7 @@ fn feed_lines<R: AllocGlobal + Print>(
     Ok(())
 }
 
-/// Does the same with lines of which none has begun.
+/// `feed_lines` with the given `Lines`, in which no line has begun.
 fn feed_two<P: Print>(rt: &P, pieces: &[u8], lines: &mut Lines) {
     let (first, second) = cut(pieces, b'|');
     if lines.feed(first).is_err() {
@@ -128,7 +126,7 @@ fn feed_two<P: Print>(rt: &P, pieces: &[u8], lines: &mut Lines) {
     }
 }
 
-/// Calls `push_number` behind a text that fills its memory: `TEXT|NUMBER`. It could show that a call is always out of memory.
+/// Calls `push_number` on a text that fills its memory: `TEXT|NUMBER`. Detects a call that is always out of memory.
 fn append_number<R: AllocGlobal + Print>(
     rt: &R,
     count: usize,
@@ -144,7 +142,7 @@ fn append_number<R: AllocGlobal + Print>(
     Ok(())
 }
 
-/// Calls `push_line` in the same way: `TEXT|LINE`. It could show the same.
+/// Calls `push_line` on a text that fills its memory: `TEXT|LINE`. Detects a call that is always out of memory.
 fn append_line<R: AllocGlobal + Print>(
     rt: &R,
     count: usize,

@@ -1,5 +1,4 @@
-//! Makes calls on names, plans, tasks and their parts, lines, and devices, for tests. Standard input names the call, as
-//! `test_words` describes.
+//! Test program for names, plans, tasks and their parts, lines, and devices. Standard input requests a call, as `test_words` describes.
 #![tactic(auto)]
 
 mod changes;
@@ -15,7 +14,7 @@ use std::alloc::AllocError;
 use task_calls::call_of_tasks;
 use test_words::{Asked, LONGEST, asked_by, say, say_made};
 
-/// Makes the call, and returns whether it is known.
+/// Makes the call. Returns whether it is known.
 fn call<R: AllocGlobal + Print>(rt: &R, asked: &Asked<'_>) -> Result<bool, AllocError> {
     Ok(
         call_of_plans(rt, asked)?

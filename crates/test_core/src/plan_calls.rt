@@ -9,7 +9,7 @@ use test_words::{
     text_of,
 };
 
-/// Makes the call if it is one of these, and returns whether it is.
+/// Makes the call if it is defined in this file. Returns whether it is.
 pub fn call_of_plans<R: AllocGlobal + Print>(
     rt: &R,
     asked: &Asked<'_>,
@@ -24,12 +24,12 @@ pub fn call_of_plans<R: AllocGlobal + Print>(
     Ok(true)
 }
 
-/// Calls `is_name`. It could show that the definition of a name allows a byte too many, or forbids one.
+/// Calls `is_name`. Detects a definition of names that allows a wrong byte or forbids a right one.
 fn say_name<P: Print>(out: &P, bytes: &[u8]) {
     say_either(out, is_name(bytes), "name", "no name");
 }
 
-/// Returns the list of some bytes, which then come a second time.
+/// Returns a list that has the bytes twice.
 fn list_of(alloc: Global, bytes: &[u8]) -> Result<Items<u8>, AllocError> {
     let mut list = Items::new(alloc);
     for byte in bytes {
@@ -39,7 +39,7 @@ fn list_of(alloc: Global, bytes: &[u8]) -> Result<Items<u8>, AllocError> {
     Ok(list)
 }
 
-/// Calls the methods of `Items`, each once. It could show that one of them is always out of memory.
+/// Calls each method of `Items` once. Detects a method that is always out of memory.
 fn say_items<R: AllocGlobal + Print>(rt: &R, bytes: &[u8]) -> Result<(), AllocError> {
     let list = list_of(rt.alloc(), bytes)?;
     say_number(rt, "items", list.len() as u64);
@@ -55,7 +55,7 @@ fn say_items<R: AllocGlobal + Print>(rt: &R, bytes: &[u8]) -> Result<(), AllocEr
     Ok(())
 }
 
-/// Returns the names that stand between `|`.
+/// Returns the names, which `|` separates.
 fn names_of(alloc: Global, bytes: &[u8]) -> Result<Items<Items<u8>>, AllocError> {
     let mut names = Items::new(alloc);
     for name in bytes.split(|&byte| byte == b'|') {
@@ -64,7 +64,7 @@ fn names_of(alloc: Global, bytes: &[u8]) -> Result<Items<Items<u8>>, AllocError>
     Ok(names)
 }
 
-/// Returns the kind of a cost, by the words behind it.
+/// Returns the kind of cost with this name.
 fn kind_of(word: &str) -> CostKind {
     match word {
         "unit" => CostKind::Unit,
@@ -72,7 +72,7 @@ fn kind_of(word: &str) -> CostKind {
     }
 }
 
-/// Returns what `Plan::new` returns for these steps.
+/// Returns the result of `Plan::new` for these steps.
 fn plan_from(
     names: Items<Items<u8>>,
     cost: u64,
@@ -81,13 +81,13 @@ fn plan_from(
     Plan::new(names, cost, kind)
 }
 
-/// Returns whether two lists of names are the same.
+/// Returns whether two lists of names are equal.
 fn are_same_names(names: &Items<Items<u8>>, others: &Items<Items<u8>>) -> bool {
     names == others
 }
 
-/// Calls `Plan::new` with steps that have `|` between them, behind a cost and its words, and prints the text of the
-/// plan. It could show that the definition of a plan allows another step, or counts steps from 0.
+/// Calls `Plan::new` with a cost, its kind, and steps, which `|` separates. Prints the text of the plan. Detects a definition of plans that
+/// allows a wrong step, or that counts steps from 0.
 fn new_plan<R: AllocGlobal + Print>(rt: &R, count: usize, words: &[u8]) -> Result<(), AllocError> {
     let (cost, words) = cut(words, b' ');
     let (kind, names) = cut(words, b' ');
@@ -107,7 +107,7 @@ fn new_plan<R: AllocGlobal + Print>(rt: &R, count: usize, words: &[u8]) -> Resul
     }
 }
 
-/// Prints which step has no name, if the steps that came back are those that were given.
+/// Prints which step has a bad name. Checks that the returned steps are those that were given.
 fn say_bad_name<R: AllocGlobal + Print>(
     rt: &R,
     back: &Items<Items<u8>>,
@@ -125,7 +125,7 @@ fn say_bad_name<R: AllocGlobal + Print>(
     Ok(())
 }
 
-/// Calls `encode_plan`. It could show that the call is always out of memory.
+/// Calls `encode_plan`. Detects a call that is always out of memory.
 fn say_encoded<R: AllocGlobal + Print>(
     rt: &R,
     count: usize,
@@ -136,8 +136,7 @@ fn say_encoded<R: AllocGlobal + Print>(
     Ok(())
 }
 
-/// Prints whether two plans are equal, whose files have `|` between them. It could show an equality that forgets a
-/// field.
+/// Prints whether the plans of two files are equal. `|` separates the files. Detects an equality that ignores a field.
 fn say_same_plans<R: AllocGlobal + Print>(rt: &R, files: &[u8]) {
     let (file, other) = cut(files, b'|');
     let Some(plan) = plan_of(rt.alloc(), file) else {
@@ -147,7 +146,7 @@ fn say_same_plans<R: AllocGlobal + Print>(rt: &R, files: &[u8]) {
     drop(plan);
 }
 
-/// Prints whether the plan is equal to that of the file.
+/// Prints whether the plan is equal to the plan of the file.
 fn say_same_as<R: AllocGlobal + Print>(rt: &R, plan: &Plan, file: &[u8]) {
     let Some(other) = plan_of(rt.alloc(), file) else {
         return say(rt, "WRONG: no other plan");
@@ -156,7 +155,7 @@ fn say_same_as<R: AllocGlobal + Print>(rt: &R, plan: &Plan, file: &[u8]) {
     drop(other);
 }
 
-/// Returns whether two plans are equal: exactly if they represent the same parts.
+/// Returns whether two plans are equal, which means that they have the same parts.
 fn is_same_plan(plan: &Plan, other: &Plan) -> bool
     ensures { IsTrue result ↔ (plan.now ≡ other.now) }
 {

@@ -1,4 +1,4 @@
-// Calls of `sas_core` on tasks and their parts. The parts are those of a file, which follows changes of them and a `|`.
+// Calls of `sas_core` on tasks and their parts. The parts are those of a file after some changes: `CHANGES|FILE`.
 use crate::changes::change_all;
 use sas_core::{Parts, PartsFault, Task};
 use sas_text::encode_task;
@@ -7,7 +7,7 @@ use test_words::{
     Asked, cut, fact_of, is_same_task, say, say_either, say_number, say_text, spend, task_of,
 };
 
-/// Makes the call if it is one of these, and returns whether it is.
+/// Makes the call if it is defined in this file. Returns whether it is.
 pub fn call_of_tasks<R: AllocGlobal + Print>(
     rt: &R,
     asked: &Asked<'_>,
@@ -25,7 +25,7 @@ pub fn call_of_tasks<R: AllocGlobal + Print>(
     Ok(true)
 }
 
-/// Makes the call on the task of the file, which is dropped in one place.
+/// Makes the call on the task of the file. A function of its own, so that the task is dropped in one place.
 fn call_on_task<R: AllocGlobal + Print>(
     rt: &R,
     asked: &Asked<'_>,
@@ -41,7 +41,7 @@ fn call_on_task<R: AllocGlobal + Print>(
     made
 }
 
-/// Does the same on a task.
+/// Makes the call on the given task.
 fn call_on<R: AllocGlobal + Print>(
     rt: &R,
     asked: &Asked<'_>,
@@ -58,7 +58,7 @@ fn call_on<R: AllocGlobal + Print>(
     Ok(())
 }
 
-/// Returns the changed parts, where the bytes are those of a task.
+/// Returns the changed parts, or `None` if the file isn't a task.
 fn parts_of(alloc: Global, bytes: &[u8]) -> Result<Option<Parts>, AllocError> {
     let (changes, file) = cut(bytes, b'|');
     let Some(task) = task_of(alloc, file) else {
@@ -79,28 +79,28 @@ fn changed(alloc: Global, parts: Parts, changes: &[u8]) -> Result<Option<Parts>,
     }
 }
 
-/// Returns what `Task::new` returns for the parts.
+/// Returns the result of `Task::new` for the parts.
 fn task_from(parts: Parts) -> Result<Task, (Parts, PartsFault)> {
     Task::new(parts)
 }
 
-/// Returns whether the parts are the same.
+/// Returns whether the parts are equal.
 fn are_same(parts: &Parts, others: &Parts) -> bool {
     parts == others
 }
 
-/// Prints whether the parts that came back are those that were given.
+/// Prints whether the returned parts are those that were given.
 fn say_kept<P: Print>(out: &P, parts: &Parts, given: &Parts) {
     say_either(out, are_same(parts, given), "kept", "WRONG: other parts");
 }
 
-/// Returns the task of the parts of a task.
+/// Takes a task apart, and makes it again from its parts.
 fn made_again(task: Task) -> Task {
     Task::of_parts(task.into_parts())
 }
 
-/// Calls `Task::new`, and prints the text of the task, or the first fault. It could show a rule of the format that its
-/// definition lacks, or an order of faults that isn't that of the file.
+/// Calls `Task::new`, and prints the text of the task or the first fault. Detects a rule of the format that the definition lacks, and an
+/// order of faults other than that of the file.
 fn new_task<R: AllocGlobal + Print>(rt: &R, bytes: &[u8]) -> Result<(), AllocError> {
     let Some(same) = parts_of(rt.alloc(), bytes)? else {
         say(rt, "WRONG: no task");
@@ -111,7 +111,7 @@ fn new_task<R: AllocGlobal + Print>(rt: &R, bytes: &[u8]) -> Result<(), AllocErr
     made
 }
 
-/// Does the same with the parts that the bytes are, which are given once more.
+/// Calls `Task::new` with the parts in the bytes. `given` has the same parts.
 fn make_task<R: AllocGlobal + Print>(
     rt: &R,
     bytes: &[u8],
@@ -123,7 +123,7 @@ fn make_task<R: AllocGlobal + Print>(
     Ok(())
 }
 
-/// Prints what `Task::new` returned for such parts.
+/// Prints the result of `Task::new` for the given parts.
 fn say_made<R: AllocGlobal + Print>(
     rt: &R,
     made: Result<Task, (Parts, PartsFault)>,
@@ -144,15 +144,15 @@ fn say_made<R: AllocGlobal + Print>(
     }
 }
 
-/// Calls `encode_task`. It could show that it is always out of memory.
+/// Calls `encode_task`. Detects a call that is always out of memory.
 fn encode<R: AllocGlobal + Print>(rt: &R, count: usize, task: &Task) -> Result<(), AllocError> {
     spend(rt.alloc(), count)?;
     say_text(rt, encode_task(rt.alloc(), task));
     Ok(())
 }
 
-/// Prints whether the parts are the same without their changes, and the tasks of both, where they are tasks. It could
-/// show an equality that forgets a field.
+/// Prints whether the changed parts equal those of the task, and, if the changed parts are a task, whether both tasks are equal. Detects an
+/// equality that ignores a field.
 fn say_same<R: AllocGlobal + Print>(rt: &R, bytes: &[u8], task: &Task) -> Result<(), AllocError> {
     if let Some(parts) = parts_of(rt.alloc(), bytes)? {
         say_either(rt, are_same(&parts, task.parts()), "equal", "different");
@@ -163,7 +163,7 @@ fn say_same<R: AllocGlobal + Print>(rt: &R, bytes: &[u8], task: &Task) -> Result
     Ok(())
 }
 
-/// Prints whether the task that was made of the other parts, if one was, is equal.
+/// Prints whether the task that was made from the other parts, if any, is equal.
 fn say_same_tasks<P: Print>(out: &P, task: &Task, made: &Result<Task, (Parts, PartsFault)>) {
     if let Ok(other) = made {
         say_either(
@@ -175,7 +175,7 @@ fn say_same_tasks<P: Print>(out: &P, task: &Task, made: &Result<Task, (Parts, Pa
     }
 }
 
-/// Prints `Task::cost` of each operator. It could show a definition that counts cost lines under metric 0.
+/// Prints `Task::cost` of each operator. Detects a definition that uses cost lines under metric 0.
 fn say_costs<P: Print>(out: &P, task: &Task) {
     for operator in 0..u32::MAX {
         if operator as usize >= task.parts().operators.len() {
@@ -185,8 +185,7 @@ fn say_costs<P: Print>(out: &P, task: &Task) {
     }
 }
 
-/// Prints `Task::range` and `Task::derived` of each variable. It could show a definition by which a variable on layer 0
-/// is basic.
+/// Prints `Task::range` and `Task::derived` of each variable. Detects a definition by which a variable on layer 0 is basic.
 fn say_variables<P: Print>(out: &P, task: &Task) {
     for var in 0..u32::MAX {
         if var as usize >= task.parts().variables.len() {
@@ -201,8 +200,7 @@ fn say_variables<P: Print>(out: &P, task: &Task) {
     }
 }
 
-/// Prints `Task::has_fact` of each of the facts, which have `;` between them. It could show that the definition of a
-/// fact counts from 1.
+/// Prints `Task::has_fact` of each fact. `;` separates facts. Detects a definition of facts that counts from 1.
 fn say_facts<P: Print>(out: &P, facts: &[u8], task: &Task) {
     for words in facts.split(|&byte| byte == b';') {
         let Some(fact) = fact_of(words) else {
@@ -212,8 +210,7 @@ fn say_facts<P: Print>(out: &P, facts: &[u8], task: &Task) {
     }
 }
 
-/// Prints the order of two facts, which have `;` between them. It could show facts that are ordered by their values
-/// first.
+/// Prints the order of two facts. `;` separates the facts. Detects an order by values first.
 fn say_order<P: Print>(out: &P, words: &[u8]) {
     let (first, second) = cut(words, b';');
     let (Some(first), Some(second)) = (fact_of(first), fact_of(second)) else {

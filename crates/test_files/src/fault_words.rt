@@ -1,4 +1,4 @@
-// Prints on standard output what came of a file: its text or its fault.
+// Prints the result of reading a file: its text or its fault.
 use sas_text::{Fault, Kind};
 use test_words::{say, say_whole};
 
@@ -27,7 +27,7 @@ pub fn say_fault<P: Print>(out: &P, fault: Fault) {
     let _ = println!(out; "line {line}: {word}");
 }
 
-/// Prints a text, or why there is none.
+/// Prints a text, or the fault.
 pub fn say_read<P: Print>(out: &P, read: Result<Vec<u8>, Fault>) {
     match read {
         Ok(text) => say_whole(out, text.as_slice()),

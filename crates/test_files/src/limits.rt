@@ -1,5 +1,5 @@
-// Readers that take fewer bytes than those of files do, through the parts that they are made of. The constructor of a
-// `PlanReader` or a `TaskReader` that takes a limit is private to its crate.
+// Calls of readers with a smaller limit than that of files. They are made from a `Reader` and a machine, since the constructors of
+// `PlanReader` and `TaskReader` that take a limit are private to their crates.
 use crate::fault_words::say_fault;
 use sas_plan_file::PlanMachine;
 use sas_reader::{Fault, Machine, Reader};
@@ -7,7 +7,7 @@ use sas_task_judge::TaskMachine;
 use sas_task_line::SoFar;
 use test_words::{Asked, say};
 
-/// Makes the call if it is one of these, and returns whether it is. Its kind is the limit.
+/// Makes the call if it is defined in this file. Returns whether it is. The kind of the call is the limit.
 pub fn call_within_limits<R: AllocGlobal + Print>(rt: &R, asked: &Asked<'_>) -> bool {
     let limit = u64::from(asked.kind.parse::<u32>().unwrap_or(0));
     let alloc = rt.alloc();
@@ -25,7 +25,7 @@ pub fn call_within_limits<R: AllocGlobal + Print>(rt: &R, asked: &Asked<'_>) -> 
     true
 }
 
-/// Prints how a reader ends that is fed the bytes. It could show a definition by which a text is too long that isn't.
+/// Feeds the bytes to a reader, and prints the result. Detects a definition of the limit that is too small.
 fn say_end<P: Print, M: Machine>(out: &P, reader: Reader<M>, bytes: &[u8]) {
     match fault_of(reader, bytes) {
         Some(fault) => say_fault(out, fault),
@@ -33,7 +33,7 @@ fn say_end<P: Print, M: Machine>(out: &P, reader: Reader<M>, bytes: &[u8]) {
     }
 }
 
-/// Returns the fault of the bytes, if they have one.
+/// Returns the fault of the bytes, if any.
 fn fault_of<M: Machine>(reader: Reader<M>, bytes: &[u8]) -> Option<Fault> {
     let mut reader = reader;
     if let Err(fault) = reader.feed(bytes) {

@@ -1,5 +1,4 @@
-//! Makes calls on the files of tasks and plans, read from devices and in pieces, for tests. Standard input names the
-//! call, as `test_words` describes.
+//! Test program for task files and plan files, read from devices and in pieces. Standard input requests a call, as `test_words` describes.
 #![tactic(auto)]
 
 mod fault_words;
@@ -14,7 +13,7 @@ use reader_calls::call_of_readers;
 use std::alloc::AllocError;
 use test_words::{Asked, LONGEST, asked_by, say, say_made};
 
-/// Makes the call, and returns whether it is known.
+/// Makes the call. Returns whether it is known.
 fn call<R: AllocGlobal + Print>(rt: &R, asked: &Asked<'_>) -> Result<bool, AllocError> {
     Ok(call_of_parts(rt, asked)? || call_of_readers(rt, asked)?)
 }

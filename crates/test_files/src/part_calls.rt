@@ -1,10 +1,10 @@
-// Calls of `sas_text`: what the plan or the task of a file holds, part by part.
+// Calls of `sas_text` that print the parts of the plan or the task of a file.
 use crate::parts_text::text_of_parts;
 use sas_core::{CostKind, Parts};
 use std::alloc::AllocError;
 use test_words::{Asked, plan_of, say, say_bytes, say_either, say_number, say_whole, task_of};
 
-/// Makes the call if it is one of these, and returns whether it is.
+/// Makes the call if it is defined in this file. Returns whether it is.
 pub fn call_of_parts<R: AllocGlobal + Print>(
     rt: &R,
     asked: &Asked<'_>,
@@ -17,8 +17,8 @@ pub fn call_of_parts<R: AllocGlobal + Print>(
     Ok(true)
 }
 
-/// Prints the parts of the plan of a file. It could show a format whose reader and writer make the same mistake, as a
-/// name that keeps its brackets.
+/// Prints the parts of the plan of a file. Detects a mistake that both the reader and the writer make, such as a name that keeps its
+/// parentheses.
 fn say_plan_parts<R: AllocGlobal + Print>(rt: &R, file: &[u8]) {
     let Some(plan) = plan_of(rt.alloc(), file) else {
         return say(rt, "WRONG: no plan");
@@ -32,8 +32,8 @@ fn say_plan_parts<R: AllocGlobal + Print>(rt: &R, file: &[u8]) {
     say_number(rt, "cost", plan.cost());
 }
 
-/// Prints the parts of the task of a file. It could show a format whose reader and writer make the same mistake, as an
-/// old value in place of a new one.
+/// Prints the parts of the task of a file. Detects a mistake that both the reader and the writer make, such as exchanging the old and the
+/// new value.
 fn say_task_parts<R: AllocGlobal + Print>(rt: &R, file: &[u8]) -> Result<(), AllocError> {
     let Some(task) = task_of(rt.alloc(), file) else {
         say(rt, "WRONG: no task");

@@ -1,4 +1,4 @@
-// What tasks and outlines hold, line by line: a word, and what it is for.
+// Prints the content of tasks and outlines, each line with a word for the kind of content.
 ghost use Rattle.std.specs.Prelude.{◌<◌, length};
 
 use sas_core::{Effect, Fact, Grounded, Items, Operator, Parts, Rule, Stepwise, Variable};
@@ -7,14 +7,14 @@ use sas_lines::{push_line, push_number};
 use sas_text::Outline;
 use std::alloc::{AllocError, Global};
 
-/// Adds a line: a word, and a name behind it.
+/// Adds a line with a word and a name.
 fn push_name(text: &mut Vec<u8>, word: &[u8], name: &[u8]) -> Result<(), AllocError> {
     text.extend_from_slice(word)?;
     text.push(b' ')?;
     push_line(text, name)
 }
 
-/// Adds a line: a word, and numbers behind it.
+/// Adds a line with a word and numbers.
 fn push_numbers(
     text: &mut Vec<u8>,
     word: &[u8],
@@ -45,7 +45,7 @@ fn push_variables(text: &mut Vec<u8>, variables: &Items<Variable>) -> Result<(),
     Ok(())
 }
 
-/// Adds facts, each behind the word.
+/// Adds a line with the word for each fact.
 fn push_facts(text: &mut Vec<u8>, word: &[u8], facts: &[Fact]) -> Result<(), AllocError> {
     for fact in facts {
         push_numbers(text, word, &[Some(fact.var), Some(fact.value)])?;
@@ -98,7 +98,7 @@ fn push_groups(text: &mut Vec<u8>, groups: &Items<Items<Fact>>) -> Result<(), Al
     Ok(())
 }
 
-/// Adds what the parts hold, in the order of the file.
+/// Adds the content of the parts, in the order of the file.
 fn push_parts(text: &mut Vec<u8>, parts: &Parts) -> Result<(), AllocError> {
     push_numbers(text, b"metric", &[Some(u32::from(parts.metric))])?;
     push_variables(text, &parts.variables)?;
@@ -114,7 +114,7 @@ fn push_parts(text: &mut Vec<u8>, parts: &Parts) -> Result<(), AllocError> {
     Ok(())
 }
 
-/// Returns what the parts hold, as a text.
+/// Returns the content of the parts as a text.
 pub fn text_of_parts(alloc: Global, parts: &Parts) -> Result<Vec<u8>, AllocError> {
     let mut text = Vec::new(alloc);
     push_parts(&mut text, parts)?;
@@ -138,7 +138,7 @@ fn push_variable_of(text: &mut Vec<u8>, outline: &Outline, var: usize) -> Result
     Ok(())
 }
 
-/// Returns what an outline holds, as a text, in the order of the file.
+/// Returns the content of an outline as a text, in the order of the file.
 pub fn text_of_outline(alloc: Global, outline: &Outline) -> Result<Vec<u8>, AllocError> {
     let mut text = Vec::new(alloc);
     push_numbers(&mut text, b"metric", &[Some(u32::from(outline.metric))])?;
@@ -153,7 +153,7 @@ pub fn text_of_outline(alloc: Global, outline: &Outline) -> Result<Vec<u8>, Allo
     Ok(text)
 }
 
-/// Returns what a flat plan holds, as a text: its steps and its cost.
+/// Returns the steps and the cost of a flat plan as a text.
 pub fn text_of_flat_plan(alloc: Global, plan: &FlatPlan) -> Result<Vec<u8>, AllocError> {
     let mut text = Vec::new(alloc);
     for index in 0..plan.steps() {
@@ -165,7 +165,7 @@ pub fn text_of_flat_plan(alloc: Global, plan: &FlatPlan) -> Result<Vec<u8>, Allo
     Ok(text)
 }
 
-/// Returns, as a text, how many of everything a flat task has.
+/// Returns the numbers of variables, groups, operators and rules of a flat task, and its goal, as a text.
 pub fn text_of_flat_task(alloc: Global, task: &FlatTask) -> Result<Vec<u8>, AllocError> {
     let mut text = Vec::new(alloc);
     push_numbers(&mut text, b"variables", &[Some(task.variables())])?;

@@ -1,4 +1,4 @@
-// Calls of `sas_text`: files that come from devices and in pieces.
+// Calls of `sas_text` that read files from devices and in pieces.
 use crate::fault_words::{say_fault, say_read};
 use crate::limits::call_within_limits;
 use crate::readers::{Pieces, Way, read_from, way_of};
@@ -8,7 +8,7 @@ use std::alloc::{AllocError, Global};
 use std::cell::Cell;
 use test_words::{Asked, NotingReader, ToldReader, longer_than, say, say_either, say_right, spend};
 
-/// Makes the call if it is one of these, and returns whether it is.
+/// Makes the call if it is defined in this file. Returns whether it is.
 pub fn call_of_readers<R: AllocGlobal + Print>(
     rt: &R,
     asked: &Asked<'_>,
@@ -26,7 +26,7 @@ pub fn call_of_readers<R: AllocGlobal + Print>(
     Ok(true)
 }
 
-/// Makes the call if it is one of these, on fronts of files. Returns whether it is.
+/// Makes the call if it reads all prefixes of a file. Returns whether it does.
 fn call_of_fronts<R: AllocGlobal + Print>(rt: &R, asked: &Asked<'_>) -> Result<bool, AllocError> {
     let way = way_of(asked.kind);
     match asked.call {
@@ -37,7 +37,7 @@ fn call_of_fronts<R: AllocGlobal + Print>(rt: &R, asked: &Asked<'_>) -> Result<b
     Ok(true)
 }
 
-/// Makes the call if it is one of these, on files in all pieces. Returns whether it is.
+/// Makes the call if it cuts a file into pieces in all ways. Returns whether it does.
 fn call_in_pieces<R: AllocGlobal + Print>(rt: &R, asked: &Asked<'_>) -> Result<bool, AllocError> {
     match asked.call {
         "cut-plan" => say_right(rt, wrong_cut::<PlanReader>(rt.alloc(), asked.bytes)?),
@@ -49,7 +49,7 @@ fn call_in_pieces<R: AllocGlobal + Print>(rt: &R, asked: &Asked<'_>) -> Result<b
     Ok(true)
 }
 
-/// Calls the laws, each once. It could show that one can't be called.
+/// Calls each law once. Detects a law that can't be called.
 fn say_laws<P: Print>(out: &P) {
     plan_laws();
     task_laws();
@@ -57,8 +57,8 @@ fn say_laws<P: Print>(out: &P) {
     say(out, "laws");
 }
 
-/// Reads a file from a device, and prints what came of it. It could show that the call is always out of memory, or an answer that
-/// changes without it.
+/// Reads a file from a device, and prints the result. Detects a call that is always out of memory, and a result that depends on the
+/// available memory.
 fn read<R: AllocGlobal + Print>(
     rt: &R,
     count: usize,
@@ -74,23 +74,21 @@ fn read<R: AllocGlobal + Print>(
     Ok(())
 }
 
-/// Does the same with a device that returns the bytes and then fails. It could show a fault that waits for a further
-/// read.
+/// Reads a file from a device that returns the bytes and then fails. Detects a fault that is reported only after another read.
 fn read_broken<R: AllocGlobal + Print>(rt: &R, way: Way, bytes: &[u8]) {
     let (read, failed) = read_from(rt.alloc(), way, Breaks::new(bytes, false));
     say_read(rt, read);
     say_either(rt, failed, "failed", "not failed");
 }
 
-/// Does the same with a device that follows a text. It could show a read that is tried again behind a failure, or a
-/// further read behind the end.
+/// Reads a file from a device that follows a text. Detects a read that is repeated after a failure, and another read after the end.
 fn read_told<R: AllocGlobal + Print>(rt: &R, way: Way, text: &[u8]) {
     let (read, failed) = read_from(rt.alloc(), way, ToldReader::new(text));
     say_read(rt, read);
     say_either(rt, failed, "failed", "not failed");
 }
 
-/// Returns how many bytes of a file are read at a time, at most.
+/// Returns how many bytes this way of reading reads at a time, at most.
 fn longest_read(way: Way) -> usize {
     match way {
         Way::Plan | Way::Task => 4096,
@@ -98,7 +96,7 @@ fn longest_read(way: Way) -> usize {
     }
 }
 
-/// Prints whether no more bytes of a file are read at a time than the way allows. It could show a reader with a larger buffer.
+/// Prints whether each read of a file is within the limit of this way of reading. Detects a reader with a larger buffer.
 fn say_longest<R: AllocGlobal + Print>(rt: &R, way: Way, file: &[u8]) {
     let longest = Cell::new(0usize);
     let (read, _) = read_from(rt.alloc(), way, NotingReader::new(file, &longest));
@@ -106,7 +104,7 @@ fn say_longest<R: AllocGlobal + Print>(rt: &R, way: Way, file: &[u8]) {
     say_right(rt, longer_than(longest.get(), longest_read(way)));
 }
 
-/// Returns the line that a fault at the end of these bytes has.
+/// Returns the line of a fault at the end of these bytes.
 fn last_line(bytes: &[u8]) -> u64 {
     let mut line = 1u64;
     for byte in bytes {
@@ -117,7 +115,7 @@ fn last_line(bytes: &[u8]) -> u64 {
     line
 }
 
-/// Returns whether the answer is this kind of fault, on the last line of the bytes.
+/// Returns whether the result is this kind of fault, on the last line of the bytes.
 fn is_fault_at_end(read: &Result<Vec<u8>, Fault>, bytes: &[u8], kind: Kind) -> bool {
     match read {
         Ok(_) => false,
@@ -125,8 +123,8 @@ fn is_fault_at_end(read: &Result<Vec<u8>, Fault>, bytes: &[u8], kind: Kind) -> b
     }
 }
 
-/// Returns the length of the first front of a file that doesn't end early, on its last line. It could show a definition
-/// that counts lines otherwise, or refuses what may still become a file.
+/// Returns the length of the shortest prefix of a file whose fault isn't an early end on its last line. Detects a definition that counts
+/// lines differently, or that refuses a prefix of a file.
 fn wrong_front(alloc: Global, way: Way, file: &[u8]) -> Option<usize> {
     for length in 0..file.len() {
         let front = &file[..length];
@@ -138,14 +136,14 @@ fn wrong_front(alloc: Global, way: Way, file: &[u8]) -> Option<usize> {
     None
 }
 
-/// Returns whether a device that returns the bytes and then fails is reported so, on its last line.
+/// Returns whether the failure of a device that returns the bytes and then fails is reported on the last line.
 fn is_failure(alloc: Global, way: Way, bytes: &[u8], interrupted: bool) -> bool {
     let (read, failed) = read_from(alloc, way, Breaks::new(bytes, interrupted));
     failed && is_fault_at_end(&read, bytes, Kind::Read)
 }
 
-/// Returns the length of the first front of a file with another result where the device then fails. It could show a
-/// failure that is taken for the end, or a read that is tried again.
+/// Returns the length of the shortest prefix of a file after which a failure of the device isn't reported. Detects a failure that is taken
+/// for the end, and a read that is repeated.
 fn wrong_failure(alloc: Global, way: Way, file: &[u8]) -> Option<usize> {
     for length in 0..=file.len() {
         let front = &file[..length];
@@ -156,8 +154,8 @@ fn wrong_failure(alloc: Global, way: Way, file: &[u8]) -> Option<usize> {
     None
 }
 
-/// Feeds a reader with pieces, which have `|` between them, and prints what it returns for each, and at the end. Of no
-/// bytes there is no piece. It could show a fault that is reported too early or too late, or that doesn't stay.
+/// Feeds pieces to a reader, and prints its result for each piece and at the end. `|` separates pieces. Without bytes there is no piece.
+/// Detects a fault that is reported too early or too late, or that isn't repeated.
 fn feed<R: AllocGlobal + Print, F: Pieces>(
     rt: &R,
     count: usize,
@@ -177,7 +175,7 @@ fn feed<R: AllocGlobal + Print, F: Pieces>(
     Ok(())
 }
 
-/// Feeds a reader with these pieces, and returns whether it takes each.
+/// Feeds these pieces to a reader. Returns whether it accepts each piece.
 fn takes_all<F: Pieces>(reader: &mut F, pieces: &[&[u8]]) -> bool {
     for piece in pieces {
         if reader.take(piece).is_err() {
@@ -187,7 +185,7 @@ fn takes_all<F: Pieces>(reader: &mut F, pieces: &[&[u8]]) -> bool {
     true
 }
 
-/// Returns whether a file in these pieces is read as this text.
+/// Returns whether reading a file in these pieces gives this text.
 fn is_read_as<F: Pieces>(alloc: Global, pieces: &[&[u8]], text: &[u8]) -> bool {
     let mut reader = F::start(alloc);
     takes_all(&mut reader, pieces) && is_text(&reader.text(alloc), text)
@@ -201,7 +199,7 @@ fn is_text(read: &Result<Vec<u8>, Fault>, text: &[u8]) -> bool {
     }
 }
 
-/// Returns the text of a file that comes byte by byte.
+/// Returns the text of a file that is read byte by byte.
 fn text_of_bytes<F: Pieces>(alloc: Global, file: &[u8]) -> Result<Vec<u8>, Fault> {
     let mut reader = F::start(alloc);
     for byte in file {
@@ -210,8 +208,8 @@ fn text_of_bytes<F: Pieces>(alloc: Global, file: &[u8]) -> Result<Vec<u8>, Fault
     reader.text(alloc)
 }
 
-/// Returns the first place where a file, cut in two there, with or without an empty piece between, isn't read as it is
-/// byte by byte. It could show a line that is judged otherwise where a piece ends in it.
+/// Returns the first place at which cutting a file in two, with or without an empty piece between, changes the result. Detects a line that
+/// is judged differently if a piece ends in it.
 fn wrong_cut<F: Pieces>(alloc: Global, file: &[u8]) -> Result<Option<usize>, AllocError> {
     let Ok(text) = text_of_bytes::<F>(alloc, file) else {
         return Ok(Some(0));
@@ -227,8 +225,8 @@ fn wrong_cut<F: Pieces>(alloc: Global, file: &[u8]) -> Result<Option<usize>, All
     Ok(None)
 }
 
-/// Returns the first byte that isn't refused behind a file, on the line behind its last. It could show a byte that is
-/// taken there, as a space or a CR.
+/// Returns the first byte that isn't refused after a whole file, on the line after the last one. Detects a byte that is accepted there,
+/// such as a space or a CR.
 fn wrong_byte<F: Pieces>(alloc: Global, file: &[u8]) -> Option<usize> {
     for last in 0..=u8::MAX {
         let mut reader = F::start(alloc);

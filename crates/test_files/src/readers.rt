@@ -1,5 +1,5 @@
-// The readers of plans and tasks, each under one form: it returns a text, or a fault. What is proved of a reader stays
-// behind these calls.
+// The readers of plans and tasks behind one interface: each returns a text or a fault. The interface has no contracts, so callers don't
+// depend on the contracts of the readers.
 ghost use Rattle.std.specs.Prelude.{◌≡◌, false};
 
 use crate::parts_text::{text_of_flat_plan, text_of_flat_task, text_of_outline};
@@ -13,7 +13,7 @@ use sas_text::{
 use std::alloc::{AllocError, Global};
 use std::io::Read;
 
-/// A call that reads a file from a device.
+/// A way to read a file from a device.
 #[derive(Clone, Copy)]
 pub enum Way {
     Plan,
@@ -25,7 +25,7 @@ pub enum Way {
     FlatTask,
 }
 
-/// Returns the way of this name.
+/// Returns the way with this name.
 pub fn way_of(name: &str) -> Way {
     match name {
         "plan" => Way::Plan,
@@ -80,7 +80,7 @@ fn task_of<D: Read>(alloc: Global, device: &mut Watched<D>) -> Result<Vec<u8>, F
     text_of_task(alloc, &read_task(alloc, device)?)
 }
 
-/// Reads an outline, and returns what it holds, as a text.
+/// Reads an outline, and returns its content as a text.
 fn outline_of<D: Read>(alloc: Global, device: &mut Watched<D>) -> Result<Vec<u8>, Fault>
     requires { device.old.failed ≡ false }
 {
@@ -88,7 +88,7 @@ fn outline_of<D: Read>(alloc: Global, device: &mut Watched<D>) -> Result<Vec<u8>
     text_of_outline(alloc, &outline).map_err(wanting)
 }
 
-/// Reads a flat plan, and returns what it holds, as a text.
+/// Reads a flat plan, and returns its content as a text.
 fn flat_plan_of<D: Read>(alloc: Global, device: &mut Watched<D>) -> Result<Vec<u8>, Fault>
     requires { device.old.failed ≡ false }
 {
@@ -96,7 +96,7 @@ fn flat_plan_of<D: Read>(alloc: Global, device: &mut Watched<D>) -> Result<Vec<u
     text_of_flat_plan(alloc, &plan).map_err(wanting)
 }
 
-/// Reads a flat task, and returns what it holds, as a text.
+/// Reads a flat task, and returns its content as a text.
 fn flat_task_of<D: Read>(alloc: Global, device: &mut Watched<D>) -> Result<Vec<u8>, Fault>
     requires { device.old.failed ≡ false }
 {
@@ -131,15 +131,15 @@ pub fn read_from<D: Read + Drop>(
     (text, failed)
 }
 
-/// A reader that is fed a file in pieces.
+/// A reader of a file in pieces.
 pub trait Pieces: Drop {
-    /// Makes a reader that has taken nothing yet.
+    /// Returns a reader that has read nothing yet.
     fn start(alloc: Global) -> Self;
 
-    /// Takes the next piece.
+    /// Reads the next piece.
     fn take(&mut self, piece: &[u8]) -> Result<(), Fault>;
 
-    /// Returns the text of what was read, once all has come.
+    /// Returns the text if the file is complete, or else the fault.
     fn text(self, alloc: Global) -> Result<Vec<u8>, Fault>;
 }
 

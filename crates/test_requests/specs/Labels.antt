@@ -1,4 +1,4 @@
--- The labels of plans that a test gives.
+-- The labels of a test's plans.
 use Rattle.std.specs.Prelude.{ℕ, List, map}
 use Rattle.test_requests.specs.declared.plan_list.GivenPlan.{GivenPlan}
 

@@ -1,10 +1,10 @@
-// What came of a call, and how it is printed.
+// Prints the result of a call.
 use sas_lines::trial::Narrow;
 use sas_requests::{Status, ToolFault};
 use std::fmt::Debug;
 use test_words::{say, say_bytes};
 
-/// More bytes than any answer here has.
+/// More bytes than any answer of a test has.
 pub const ROOM: usize = 131_072;
 
 /// Prints the answer and what was written.
@@ -21,14 +21,14 @@ pub fn say_answer<P: Print>(out: &P, answer: &Result<Status, ToolFault>, written
     }
 }
 
-/// Prints the answer as its derived `Debug` writes it, and what was written.
+/// Prints the answer by its derived `Debug`, and what was written.
 pub fn say_exactly<P: Print, A: Debug>(out: &P, answer: &A, written: &[u8]) {
     let _ = println!(out; "{answer:?}");
     say_bytes(out, written);
     say(out, "");
 }
 
-/// Returns whether a writer with this room gets as much of the text as there is room, and the answer reports that.
+/// Returns whether a writer with this room got as much of the text as fits, and the answer reports this.
 pub fn is_cut_off(text: &[u8], room: usize, answer: (Result<Status, ToolFault>, Narrow)) -> bool {
     let (result, written) = answer;
     let told = match result {

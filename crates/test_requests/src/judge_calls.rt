@@ -1,5 +1,5 @@
-// Calls of `sas_plans`: `judge`, over plans and a task as `plan_list` describes them, and over devices that return all of a file,
-// or fail; and `judge_slices`, over the same bytes in memory.
+// Calls of `judge` of `sas_plans` over devices, with a task and plans as `plan_list` describes them; and of `judge_slices` over the same
+// bytes in memory.
 use crate::answers::{ROOM, is_cut_off, say_answer, say_exactly};
 use crate::plan_list::{Given, GivenPlan, Notes, PlanList, are_labels, given_in};
 use sas_lines::Watched;
@@ -13,7 +13,7 @@ use test_words::{
     say_right, spend,
 };
 
-/// Makes the call if it is one of these, and returns whether it is.
+/// Makes the call if it is defined in this file. Returns whether it is.
 pub fn call_of_judge<R: AllocGlobal + Print>(
     rt: &R,
     asked: &Asked<'_>,
@@ -26,7 +26,7 @@ pub fn call_of_judge<R: AllocGlobal + Print>(
     call_over(rt, asked, &given)
 }
 
-/// Makes the call over what is given if it is one of these, and returns whether it is.
+/// Makes the call with this task and these plans if it is defined in this file. Returns whether it is.
 fn call_over<R: AllocGlobal + Print>(
     rt: &R,
     asked: &Asked<'_>,
@@ -46,8 +46,8 @@ fn call_over<R: AllocGlobal + Print>(
     Ok(true)
 }
 
-/// Returns the answer about plans of a task, over this device, and the writer. A label with a line end can't be given: the fault
-/// then is one of a plan that there isn't.
+/// Calls `judge` with a task device and plans. Returns the answer and the writer. `judge` must not be called with a label that has a line
+/// end. For such a label, returns a fault of a plan that doesn't exist.
 fn judge_over<T: Read + Drop, W: Write>(
     alloc: Global,
     task: T,
@@ -67,7 +67,7 @@ fn judge_over<T: Read + Drop, W: Write>(
     (result, out.into_device())
 }
 
-/// Returns the answer as that of a run over two files. For the fault of a plan it is a failed read.
+/// Converts the answer to that of a run over two files. The fault of a plan becomes a failed read.
 fn over_files(answer: Result<Status, JudgeFault>) -> Result<Status, ToolFault> {
     match answer {
         Ok(status) => Ok(status),
@@ -84,7 +84,7 @@ fn say_opened<P: Print>(out: &P, notes: &Notes) {
     }
 }
 
-/// Calls `judge` over these inputs. It could show that it is always out of memory, or writes before its answer is whole.
+/// Calls `judge` over these inputs. Detects a call that is always out of memory, or that writes before its answer is complete.
 fn judge_whole<R: AllocGlobal + Print>(
     rt: &R,
     count: usize,
@@ -99,8 +99,8 @@ fn judge_whole<R: AllocGlobal + Print>(
     Ok(())
 }
 
-/// Does the same with a task whose device follows a text, too. It could show the fault of another plan or of another kind, a plan
-/// that is opened before its turn, twice, or though the task is refused, and a read that is tried again behind a failure.
+/// Calls `judge` with a task whose device follows a text as well. Detects the fault of another plan or of another kind; a plan that is
+/// opened out of order, twice, or although the task is refused; and a read that is repeated after a failure.
 fn judge_told<R: AllocGlobal + Print>(rt: &R, given: &Given<'_>) -> Result<(), AllocError> {
     let notes = Notes::new();
     let out = Narrow::new(rt.alloc(), ROOM, ROOM, true)?;
@@ -111,8 +111,8 @@ fn judge_told<R: AllocGlobal + Print>(rt: &R, given: &Given<'_>) -> Result<(), A
     Ok(())
 }
 
-/// Calls it with a writer that follows a text: `TURNS|` before the inputs. It could show a write that is tried again where it
-/// failed or took none, and a count of bytes that didn't go out.
+/// Calls `judge` with a writer that follows a text: `TURNS|` before the inputs. Detects a write that is repeated after it failed or took no
+/// bytes, and a count of bytes that weren't written.
 fn judge_into<R: AllocGlobal + Print>(rt: &R, bytes: &[u8]) -> Result<(), AllocError> {
     let (turns, bytes) = cut(bytes, b'|');
     let given = given_in(rt.alloc(), bytes)?;
@@ -125,7 +125,7 @@ fn judge_into<R: AllocGlobal + Print>(rt: &R, bytes: &[u8]) -> Result<(), AllocE
     Ok(())
 }
 
-/// Prints whether no more than 65,536 bytes of the inputs are read at a time. It could show a reader with a larger buffer.
+/// Prints whether each read of the inputs has at most 65,536 bytes. Detects a reader with a larger buffer.
 fn judge_longest<R: AllocGlobal + Print>(rt: &R, given: &Given<'_>) -> Result<(), AllocError> {
     let notes = Notes::new();
     let task = NotingReader::new(given.task, &notes.longest);
@@ -136,8 +136,7 @@ fn judge_longest<R: AllocGlobal + Print>(rt: &R, given: &Given<'_>) -> Result<()
     Ok(())
 }
 
-/// Returns whether these plans end the run at the one with this number, for this fault: nothing is written, and no plan behind it
-/// is opened.
+/// Returns whether the run ends at the plan with this number for this fault: nothing is written, and no later plan is opened.
 fn is_ended_by(
     alloc: Global,
     task: &[u8],
@@ -155,7 +154,7 @@ fn is_ended_by(
     )
 }
 
-/// Returns whether the run ends so where the plan with this number is changed to another one.
+/// Returns whether the run ends at the plan with this number for this fault, if this plan is replaced by another one.
 fn is_ended_by_other<'x>(
     alloc: Global,
     given: &'x Given<'x>,
@@ -170,8 +169,8 @@ fn is_ended_by_other<'x>(
     is_ended_by(alloc, given.task, plans.as_slice(), number, fault)
 }
 
-/// Returns the number of the first plan with another result where it can't be opened. It could show a fault of another number or
-/// of another kind, and plans that are opened before their turn.
+/// Makes each plan fail to open. Returns the number of the first plan with a wrong result. Detects a fault with a wrong number or kind, and
+/// plans that are opened out of order.
 fn wrong_unopened<'x>(alloc: Global, given: &'x Given<'x>) -> Result<Option<usize>, AllocError> {
     for (number, plan) in given.plans.iter().enumerate() {
         let other = GivenPlan {
@@ -186,8 +185,8 @@ fn wrong_unopened<'x>(alloc: Global, given: &'x Given<'x>) -> Result<Option<usiz
     Ok(None)
 }
 
-/// Returns the number of the first plan that has a front with another result where its device then fails. It could show the same,
-/// and a failure that is taken for the end.
+/// Makes the device of each plan fail after each prefix of the plan. Returns the number of the first plan with a wrong result. Detects the
+/// mistakes of `wrong_unopened`, and a failure that is taken for the end.
 fn wrong_broken<'x>(alloc: Global, given: &'x Given<'x>) -> Result<Option<usize>, AllocError> {
     for (number, plan) in given.plans.iter().enumerate() {
         for length in 0..=plan.told.len() {
@@ -199,7 +198,7 @@ fn wrong_broken<'x>(alloc: Global, given: &'x Given<'x>) -> Result<Option<usize>
     Ok(None)
 }
 
-/// Returns whether the run ends so where the device of a plan fails behind so many bytes.
+/// Returns whether the run ends at the plan with this number for a failed read, if its device fails after `length` bytes.
 fn is_ended_by_front<'x>(
     alloc: Global,
     given: &'x Given<'x>,
@@ -224,8 +223,8 @@ fn is_ended_by_front<'x>(
     )
 }
 
-/// Returns the length of the first front of the task with another result where its device then fails. It could show a failure that
-/// is taken for the end, or is reported of a plan.
+/// Makes the task's device fail after each prefix of the task. Returns the length of the first prefix with a wrong result. Detects a
+/// failure that is taken for the end, or reported for a plan.
 fn wrong_task_front(alloc: Global, given: &Given<'_>) -> Result<Option<usize>, AllocError> {
     for length in 0..=given.task.len() {
         let front = &given.task[..length];
@@ -238,7 +237,7 @@ fn wrong_task_front(alloc: Global, given: &Given<'_>) -> Result<Option<usize>, A
     Ok(None)
 }
 
-/// Returns whether a failure of the task's device is reported so, with nothing written and no plan opened.
+/// Returns whether a failure of the task's device is reported, nothing is written, and no plan is opened.
 fn is_ended_by_task(
     alloc: Global,
     given: &Given<'_>,
@@ -254,7 +253,7 @@ fn is_ended_by_task(
     )
 }
 
-/// Returns the answer with this writer, as that of a run over two files, and the writer.
+/// Calls `judge` with this writer. Returns the answer, as that of a run over two files, and the writer.
 fn answer_into(
     alloc: Global,
     given: &Given<'_>,
@@ -266,8 +265,8 @@ fn answer_into(
     (over_files(result), written)
 }
 
-/// Returns whether a writer that takes so much at a time and so much in all gets as much of the text as there is room, and the
-/// answer reports that, whether the writer then fails or takes none.
+/// Returns whether a writer gets as much of the text as it has room for, and the answer reports this. The writer takes at most `piece`
+/// bytes at a time and `room` bytes in all. Then it fails, or takes no bytes; both are tried.
 fn is_right_room(
     alloc: Global,
     given: &Given<'_>,
@@ -283,8 +282,8 @@ fn is_right_room(
     )
 }
 
-/// Returns the least room, up to that of the answer, with which a writer doesn't get so much of it, or the answer isn't that. It
-/// could show bytes that go out twice or not at all.
+/// Calls `judge` with writers of each room up to the length of the answer. Returns the least room with a wrong result. Detects bytes that
+/// are written twice or not at all.
 fn wrong_room(alloc: Global, given: &Given<'_>) -> Result<Option<usize>, AllocError> {
     let ample = Narrow::new(alloc, ROOM, ROOM, true)?;
     let (_, whole) = answer_into(alloc, given, ample);
@@ -299,7 +298,7 @@ fn wrong_room(alloc: Global, given: &Given<'_>) -> Result<Option<usize>, AllocEr
     Ok(None)
 }
 
-/// Calls `judge_slices` over these bytes. It could show that it is always out of memory, and inputs that are exchanged.
+/// Calls `judge_slices` over these bytes. Detects a call that is always out of memory, and exchanged inputs.
 fn judge_in_memory<R: AllocGlobal + Print>(rt: &R, given: &Given<'_>) -> Result<(), AllocError> {
     let plans = in_memory(rt.alloc(), given.plans.as_slice())?;
     say_slices(rt, given.task, plans.as_slice());
@@ -307,7 +306,7 @@ fn judge_in_memory<R: AllocGlobal + Print>(rt: &R, given: &Given<'_>) -> Result<
     Ok(())
 }
 
-/// Returns the plans as bytes in memory: those that their devices return.
+/// Returns the plans as bytes in memory: the bytes that their devices return.
 fn in_memory<'a>(alloc: Global, plans: &[GivenPlan<'a>]) -> Result<Vec<PlanBytes<'a>>, AllocError> {
     let mut slices = Vec::new(alloc);
     for plan in plans {

@@ -1,5 +1,4 @@
-//! Makes calls of `run`, `explain`, `trace` and `judge` over devices, for tests. Standard input names the call, as `test_words`
-//! describes.
+//! Test program for `run`, `explain`, `trace` and `judge` over devices. Standard input requests a call, as `test_words` describes.
 #![tactic(auto)]
 
 mod answers;
@@ -12,7 +11,7 @@ use run_calls::call_of_tool;
 use std::alloc::AllocError;
 use test_words::{Asked, LONGEST, asked_by, say, say_made};
 
-/// Makes the call, and returns whether it is known.
+/// Makes the call. Returns whether it is known.
 fn call<R: AllocGlobal + Print>(rt: &R, asked: &Asked<'_>) -> Result<bool, AllocError> {
     Ok(call_of_tool(rt, asked)? || call_of_judge(rt, asked)?)
 }

@@ -1,4 +1,4 @@
-// Plans of a task, as a test gives them to `judge`: a list, which notes what is opened of it.
+// The plans that a test passes to `judge`: a list that notes which plans are opened.
 ghost use Rattle.std.specs.Prelude.{All, IsTrue};
 ghost use Rattle.sas_plans.specs.Inputs.{IsLabel};
 ghost use Rattle.test_requests.specs.Labels.{labels_of};
@@ -10,8 +10,8 @@ use std::io;
 use std::io::Read;
 use test_words::{ToldReader, cut};
 
-/// A plan: its label, and what its device returns. That is these bytes, and then how the device goes on, as `ToldReader` describes.
-/// A plan with `?` alone can't be opened.
+/// A plan with its label. Its device returns the bytes of `front`, and then follows `told` like a `ToldReader`. A plan with `?` alone can't
+/// be opened.
 #[derive(Clone, Copy)]
 pub struct GivenPlan<'a> {
     pub label: &'a [u8],
@@ -19,15 +19,15 @@ pub struct GivenPlan<'a> {
     pub told: &'a [u8],
 }
 
-/// A task, and plans of it.
+/// A task with plans.
 #[derive(Drop)]
 pub struct Given<'a> {
     pub task: &'a [u8],
     pub plans: Vec<GivenPlan<'a>>,
 }
 
-/// Returns what some bytes give: plans, a `|` and a task. Between plans stands `&`, and each is its label, `:` and how its device
-/// goes on. There are none where there are no bytes.
+/// Parses plans, a `|` and a task. `&` separates plans. Each plan is its label, `:` and the text that its device follows. Without bytes
+/// before the `|`, there are no plans.
 pub fn given_in(alloc: Global, bytes: &[u8]) -> Result<Given<'_>, AllocError> {
     let (words, task) = cut(bytes, b'|');
     let mut plans = Vec::new(alloc);
@@ -52,8 +52,8 @@ pub fn are_labels(plans: &[GivenPlan<'_>]) -> bool
     plans.iter().all(|plan| is_label(plan.label))
 }
 
-/// What a list and its devices note: how many plans were opened, or couldn't be; whether one was opened before its turn, or read
-/// when it was another one's; and the longest buffer that was lent.
+/// What a list and its devices note: how many plans were opened or failed to open; whether a plan was opened or read out of order; and the
+/// length of the longest buffer.
 #[derive(Drop)]
 pub struct Notes {
     pub opened: Cell<usize>,
@@ -62,7 +62,7 @@ pub struct Notes {
 }
 
 impl Notes {
-    /// Returns notes without anything so far.
+    /// Returns empty notes.
     pub fn new() -> Notes {
         Notes {
             opened: Cell::new(0),
@@ -71,7 +71,7 @@ impl Notes {
         }
     }
 
-    /// Notes that the plan with this number is to be opened.
+    /// Notes that the plan with this number is opened.
     fn note_open(&self, number: usize) {
         let opened = self.opened.get();
         if opened != number {
@@ -88,7 +88,7 @@ impl Notes {
         self.longest.set(self.longest.get().max(length));
     }
 
-    /// Returns whether so many plans were opened, each in its turn.
+    /// Returns whether `count` plans were opened, all in order.
     pub fn are_opened(&self, count: usize) -> bool {
         self.opened.get() == count && !self.mixed.get()
     }
@@ -128,10 +128,10 @@ impl<'a> PlanInputs for PlanList<'a> {
 
     ghost labels = { λ list. labels_of list.plans.now };
 
-    // How a device goes on isn't what it returns.
+    // The bytes that a device returns aren't known, since it follows a text.
     ghost bytes = { λ list number. None };
 
-    // The list stays as it was. Which plans are opened is in its notes.
+    // The list doesn't change. The notes have which plans are opened.
     ghost open_gives = { λ before number given after. after ≡ before };
 
     fn count(&self) -> usize {

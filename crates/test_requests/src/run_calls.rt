@@ -1,4 +1,4 @@
-// Calls of `sas_requests` and `sas_plans`: `run`, `explain` and `trace`, over devices that return all of a file, or fail.
+// Calls of `run`, `explain` and `trace` over devices.
 use crate::answers::{ROOM, is_cut_off, say_answer, say_exactly};
 use sas_lines::Watched;
 use sas_lines::trial::{Breaks, Narrow};
@@ -12,10 +12,10 @@ use test_words::{
     say_right, spend,
 };
 
-/// How many rooms are tried at a place of an answer.
+/// `run-narrow-from` tries the rooms from a number up to this many more.
 const NEAR: usize = 20;
 
-/// Makes the call if it is one of these, and returns whether it is.
+/// Makes the call if it is defined in this file. Returns whether it is.
 pub fn call_of_tool<R: AllocGlobal + Print>(rt: &R, asked: &Asked<'_>) -> Result<bool, AllocError> {
     let question = question_of(asked.kind);
     match asked.call {
@@ -39,7 +39,7 @@ pub fn call_of_tool<R: AllocGlobal + Print>(rt: &R, asked: &Asked<'_>) -> Result
     Ok(true)
 }
 
-/// What is requested: an answer, with the reasons for a no or without them, or the trace of a plan.
+/// What is requested: an answer, an answer with the reasons for a no, or the trace of a plan.
 #[derive(Clone, Copy)]
 enum Question {
     Answer(Request),
@@ -47,7 +47,7 @@ enum Question {
     Trace,
 }
 
-/// Returns the request of this name: `trace`, or another, with `-why` behind it for reasons.
+/// Returns the question with this name: `trace`, or a request, with `-why` after it for reasons.
 fn question_of(name: &str) -> Question {
     if name == "trace" {
         return Question::Trace;
@@ -67,7 +67,7 @@ fn is_of_plan(question: Question) -> bool {
     }
 }
 
-/// Returns the request of this name.
+/// Returns the request with this name.
 fn request_of(name: &str) -> Request {
     match name {
         "print" => Request::Print,
@@ -79,8 +79,8 @@ fn request_of(name: &str) -> Request {
     }
 }
 
-/// Returns the task and the plan that bytes are: a plan, a `|` and a task where a plan is to solve a task, else both
-/// are the same file.
+/// Returns the task and the plan. If the question is about a plan of a task, the bytes are a plan, a `|` and a task. Otherwise both are the
+/// same file.
 fn inputs(question: Question, bytes: &[u8]) -> (&[u8], &[u8]) {
     if is_of_plan(question) {
         let (plan, task) = cut(bytes, b'|');
@@ -90,7 +90,7 @@ fn inputs(question: Question, bytes: &[u8]) -> (&[u8], &[u8]) {
     }
 }
 
-/// Prints the messages of `ToolFault`. It could show other words than those that are promised.
+/// Prints the messages of `ToolFault`. Detects words other than those that are promised.
 fn say_messages<P: Print>(out: &P) {
     let faults = [
         ToolFault::Memory,
@@ -103,7 +103,7 @@ fn say_messages<P: Print>(out: &P) {
     }
 }
 
-/// Calls the laws of outputs. It could show that they can't be called.
+/// Calls the laws of outputs. Detects a law that can't be called.
 fn say_laws<P: Print>(out: &P) {
     run_laws();
     explain_laws();
@@ -112,7 +112,7 @@ fn say_laws<P: Print>(out: &P) {
     say(out, "laws");
 }
 
-/// Returns the answer to a question, over these devices, and the writer.
+/// Calls `run`, `explain` or `trace` over these devices. Returns the answer and the writer.
 fn answer_over<T: Read + Drop, P: Read + Drop, W: Write>(
     alloc: Global,
     question: Question,
@@ -131,8 +131,8 @@ fn answer_over<T: Read + Drop, P: Read + Drop, W: Write>(
     (result, out.into_device())
 }
 
-/// Calls one of them over these inputs, and a writer that then fails behind so many bytes. It could show that it is always out of
-/// memory, writes before its answer is whole, or writes where the answer is empty.
+/// Answers a question over these inputs, with a writer that fails after `room` bytes. Detects a call that is always out of memory, writes
+/// before its answer is complete, or writes although the answer is empty.
 fn run_whole<R: AllocGlobal + Print>(
     rt: &R,
     count: usize,
@@ -148,7 +148,7 @@ fn run_whole<R: AllocGlobal + Print>(
     Ok(())
 }
 
-/// Does the same with devices that return the bytes and then fail. It could show a fault that waits for a further read.
+/// Answers a question over devices that return the bytes and then fail. Detects a fault that is reported only after another read.
 fn run_broken<R: AllocGlobal + Print>(
     rt: &R,
     question: Question,
@@ -161,8 +161,7 @@ fn run_broken<R: AllocGlobal + Print>(
     Ok(())
 }
 
-/// Does the same where the task comes whole, and only the plan's device fails. It could show a plan that is read before
-/// the task was found to be layered.
+/// Answers a question over a whole task and a plan device that fails. Detects a plan that is read before the task is known to be layered.
 fn run_broken_plan<R: AllocGlobal + Print>(
     rt: &R,
     question: Question,
@@ -176,8 +175,7 @@ fn run_broken_plan<R: AllocGlobal + Print>(
     Ok(())
 }
 
-/// Does the same with devices that follow a text. It could show a read that is tried again behind a failure, or a
-/// further read behind the end.
+/// Answers a question over devices that follow a text. Detects a read that is repeated after a failure, and another read after the end.
 fn run_told<R: AllocGlobal + Print>(
     rt: &R,
     question: Question,
@@ -191,8 +189,8 @@ fn run_told<R: AllocGlobal + Print>(
     Ok(())
 }
 
-/// Calls one of them with a writer that follows a text: `TURNS|` before the inputs. It could show a write that is tried again
-/// where it failed or took none, and a count of bytes that didn't go out.
+/// Answers a question with a writer that follows a text: `TURNS|` before the inputs. Detects a write that is repeated after it failed or
+/// took no bytes, and a count of bytes that weren't written.
 fn run_into<R: AllocGlobal + Print>(rt: &R, question: Question, bytes: &[u8]) {
     let (turns, bytes) = cut(bytes, b'|');
     let (task, plan) = inputs(question, bytes);
@@ -201,7 +199,7 @@ fn run_into<R: AllocGlobal + Print>(rt: &R, question: Question, bytes: &[u8]) {
     say_exactly(rt, &result, written.kept());
 }
 
-/// Prints whether no more than 65,536 bytes of the inputs are read at a time. It could show a reader with a larger buffer.
+/// Prints whether each read of the inputs has at most 65,536 bytes. Detects a reader with a larger buffer.
 fn run_longest<R: AllocGlobal + Print>(
     rt: &R,
     question: Question,
@@ -220,7 +218,7 @@ fn run_longest<R: AllocGlobal + Print>(
     Ok(())
 }
 
-/// Returns whether a failure of the devices behind these bytes is reported so, and nothing is written.
+/// Returns whether a failure of the devices after these bytes is reported, and nothing is written.
 fn is_failure(
     alloc: Global,
     question: Question,
@@ -234,7 +232,7 @@ fn is_failure(
     Ok(result == Err(ToolFault::Read) && written.kept().is_empty())
 }
 
-/// Returns whether a failure of the plan's device alone behind these bytes is reported so.
+/// Returns whether a failure of only the plan's device after these bytes is reported, and nothing is written.
 fn is_plan_failure(
     alloc: Global,
     question: Question,
@@ -248,8 +246,8 @@ fn is_plan_failure(
     Ok(result == Err(ToolFault::Read) && written.kept().is_empty())
 }
 
-/// Returns the length of the first front of a plan with another result where its device then fails. It could show a
-/// failure that is passed over where the verdict is known before, or is reported of the task.
+/// Makes the plan's device fail after each prefix of the plan. Returns the length of the first prefix with a wrong result. Detects a
+/// failure that is ignored since the verdict is known before, or that is reported for the task.
 fn wrong_plan_front(
     alloc: Global,
     question: Question,
@@ -267,8 +265,8 @@ fn wrong_plan_front(
     Ok(None)
 }
 
-/// Returns the length of the first front of a file with another result where the devices then fail. It could show a
-/// failure that is taken for the end.
+/// Makes the devices fail after each prefix of a file. Returns the length of the first prefix with a wrong result. Detects a failure that
+/// is taken for the end.
 fn wrong_front(
     alloc: Global,
     question: Question,
@@ -285,8 +283,8 @@ fn wrong_front(
     Ok(None)
 }
 
-/// Returns whether a writer that takes so much at a time and so much in all gets as much of the text as there is room, and the
-/// answer reports that, whether the writer then fails or takes none.
+/// Returns whether a writer gets as much of the text as it has room for, and the answer reports this. `sizes` is how many bytes the writer
+/// takes at a time and in all. Then it fails, or takes no bytes; both are tried.
 fn is_right_room(
     alloc: Global,
     question: Question,
@@ -304,8 +302,8 @@ fn is_right_room(
     )
 }
 
-/// Returns the least of these rooms, up to that of the answer, with which a writer doesn't get so much of it, or the answer
-/// isn't that; the first one if the answer is shorter. It could show bytes that go out twice or not at all.
+/// Answers a question with writers of the rooms from `first` to `last`, up to the length of the answer. Returns the least room with a wrong
+/// result, or `first` if the answer is shorter. Detects bytes that are written twice or not at all.
 fn wrong_room(
     alloc: Global,
     question: Question,
@@ -330,8 +328,8 @@ fn wrong_room(
     Ok(None)
 }
 
-/// Returns the same of `FROM|` and the inputs, for rooms from that number on. It could show a piece of a long answer that goes
-/// out twice or not at all, or isn't counted.
+/// Calls `wrong_room` for the rooms from a number up to `NEAR` more: `FROM|` before the inputs. Detects a piece of a long answer that is
+/// written twice, not at all, or isn't counted.
 fn wrong_room_from(
     alloc: Global,
     question: Question,

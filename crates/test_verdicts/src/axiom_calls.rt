@@ -1,4 +1,4 @@
-// Calls of `sas_axioms`: layers, states, and evaluators.
+// Calls on layers, states, and evaluators.
 ghost use Rattle.std.specs.Prelude.{IfOk};
 ghost use Rattle.sas_core.specs.Variables.{IsState};
 
@@ -11,9 +11,9 @@ use test_words::{
     task_of,
 };
 
-/// Calls `Layered::new` of the task of a file, and prints whether it is layered, or its fault. The file is known to be a task. It
-/// could show a definition that takes a task whose layers are broken or refuses another, an order of faults that isn't that of the
-/// file, or that the call is always out of memory.
+/// Calls `Layered::new` with the task of a file, which is known to be a task. Prints `layered` or the fault. Detects a definition that
+/// accepts a task with wrong layers or refuses another task, an order of faults other than that of the file, and a call that is always out
+/// of memory.
 pub fn new_layered<R: AllocGlobal + Print>(
     rt: &R,
     count: usize,
@@ -32,7 +32,7 @@ pub fn new_layered<R: AllocGlobal + Print>(
     spent
 }
 
-/// Prints what `Layered::new` returned for such a task.
+/// Prints the result of `Layered::new`.
 fn say_layers<P: Print>(out: &P, made: Result<Layered<Task>, (Task, LayerFault)>, given: &Task) {
     match made {
         Ok(layered) => say_layered(out, layered, given),
@@ -43,7 +43,7 @@ fn say_layers<P: Print>(out: &P, made: Result<Layered<Task>, (Task, LayerFault)>
     }
 }
 
-/// Prints that a task is layered, if it is the given one before and after it is taken out again.
+/// Prints that a task is layered. Checks that it is the given task, also after it is taken out again.
 fn say_layered<P: Print>(out: &P, layered: Layered<Task>, given: &Task) {
     say_kept(out, layered.task(), given, "layered");
     let task = layered.into_task();
@@ -51,7 +51,7 @@ fn say_layered<P: Print>(out: &P, layered: Layered<Task>, given: &Task) {
     drop(task);
 }
 
-/// Prints why a task isn't layered, if it is the given one that came back.
+/// Prints why a task isn't layered. Checks that the returned task is the given one.
 fn say_back<P: Print>(out: &P, back: &Task, given: &Task, fault: LayerFault) {
     if fault == LayerFault::Memory {
         return say_want(out, is_same_task(back, given));
@@ -60,12 +60,12 @@ fn say_back<P: Print>(out: &P, back: &Task, given: &Task, fault: LayerFault) {
     say_debug(out, &fault);
 }
 
-/// Prints a value as its derived `Debug` writes it.
+/// Prints a value by its derived `Debug`.
 pub fn say_debug<P: Print, T: Debug>(out: &P, value: &T) {
     let _ = println!(out; "{value:?}");
 }
 
-/// Prints this word, if the task is the given one.
+/// Prints the word if the task is the given one.
 fn say_kept<P: Print>(out: &P, task: &Task, given: &Task, word: &str) {
     say_either(out, is_same_task(task, given), word, "WRONG: another task");
 }
@@ -81,7 +81,7 @@ fn numbers_of(alloc: Global, words: &[u8]) -> Result<Vec<u32>, AllocError> {
     Ok(numbers)
 }
 
-/// Prints a word, and numbers behind it.
+/// Prints a word and numbers.
 pub fn say_numbers<P: Print>(out: &P, word: &str, numbers: &[u32]) {
     let _ = print!(out; "{word}");
     for number in numbers {
@@ -95,7 +95,7 @@ pub fn say_values<P: Print>(out: &P, values: &[u32]) {
     say_numbers(out, "state", values);
 }
 
-/// Prints a state, or why there is none.
+/// Prints a state, or the fault.
 pub fn say_state<P: Print>(out: &P, state: &Result<State, StateFault>) {
     match state {
         Ok(state) => say_values(out, state.values()),
@@ -104,8 +104,8 @@ pub fn say_state<P: Print>(out: &P, state: &Result<State, StateFault>) {
     }
 }
 
-/// Calls `State::of` such values, and prints what the state holds of a fact, before and after it is set: `VALUES;FACT|FILE`. It
-/// could show a definition of states that takes a value too many or one out of its range, or that the call is always out of memory.
+/// Calls `State::of` with these values, and prints whether a fact holds before and after it is set: `VALUES;FACT|FILE`. Detects a
+/// definition of states that accepts too many values or a value out of its range, and a call that is always out of memory.
 pub fn new_state<R: AllocGlobal + Print>(
     rt: &R,
     count: usize,
@@ -123,7 +123,7 @@ pub fn new_state<R: AllocGlobal + Print>(
     spent
 }
 
-/// Prints a state, or why there is none, and of a state what it holds of the fact.
+/// Prints a state with its answers about the fact, or the fault.
 fn say_state_and_fact<P: Print>(out: &P, made: Result<State, StateFault>, fact: &[u8]) {
     say_state(out, &made);
     if let Ok(mut state) = made {
@@ -134,8 +134,8 @@ fn say_state_and_fact<P: Print>(out: &P, made: Result<State, StateFault>, fact: 
     }
 }
 
-/// Prints whether the fact holds in the state, and, where there is its variable, its value and what setting the fact
-/// changes.
+/// Prints whether the fact holds in the state. If its variable exists, also prints the variable's value, and the state after the fact is
+/// set.
 fn say_fact<P: Print>(out: &P, state: &mut State, fact: Fact) {
     say_holds(out, state, fact);
     if (fact.var as usize) < state.values().len() {
@@ -151,7 +151,7 @@ fn say_holds<P: Print>(out: &P, state: &State, fact: Fact) {
     say_either(out, state.holds(fact), "holds", "doesn't hold");
 }
 
-/// Returns the state of these values.
+/// Returns the state with these values.
 pub fn state_of(alloc: Global, task: &Task, words: &[u8]) -> Result<State, StateFault>
     ensures { IfOk result (λ state. IsState task.now.variables state) }
 {
@@ -159,7 +159,7 @@ pub fn state_of(alloc: Global, task: &Task, words: &[u8]) -> Result<State, State
     State::of(alloc, task, values.as_slice())
 }
 
-/// Returns the state of these values, settled.
+/// Returns the state with these values after settling it.
 pub fn settled<E: Settle<Task>>(
     alloc: Global,
     evaluator: &mut E,
@@ -174,7 +174,7 @@ pub fn settled<E: Settle<Task>>(
     Ok(state)
 }
 
-/// Calls `Worklist::new`, and prints a state that it settles: `STATE|FILE`. It could show that the call is always out of memory.
+/// Calls `Worklist::new`, and prints a state that it settles: `STATE|FILE`. Detects a call that is always out of memory.
 pub fn new_worklist<R: AllocGlobal + Print>(
     rt: &R,
     asked: &Asked<'_>,
@@ -193,7 +193,7 @@ pub fn new_worklist<R: AllocGlobal + Print>(
     spent
 }
 
-/// Prints the state, settled by this evaluator, or that there is none. To settle it takes no memory.
+/// Settles the state by this evaluator and prints it. Prints `wanting` if there is no evaluator. Settling takes no memory.
 fn say_settled<P: Print, E: Settle<Task> + Drop>(
     out: &P,
     made: Result<E, AllocError>,

@@ -1,4 +1,4 @@
-// Calls with an evaluator of the kind that is requested.
+// Calls with an evaluator of the requested kind.
 ghost use Rattle.std.specs.Prelude.{IfOk};
 ghost use Rattle.sas_axioms.specs.Worklist.{IsReadyFor};
 
@@ -31,7 +31,7 @@ pub fn call_by_kind<R: AllocGlobal + Print>(
     }
 }
 
-/// Makes the call with this evaluator, if there was memory for it.
+/// Makes the call with this evaluator. Returns `Err` if there was no memory for it.
 fn call_with<R: AllocGlobal + Print, E: Settle<Task> + Drop>(
     rt: &R,
     asked: &Asked<'_>,
@@ -50,9 +50,8 @@ fn call_with<R: AllocGlobal + Print, E: Settle<Task> + Drop>(
     }
 }
 
-/// Prints each of the states, which have `;` between them, settled one after another by this evaluator. It could show a
-/// definition of settled states that counts a rule which can't fire, takes layers in another order, or lets a cycle
-/// hold itself up.
+/// Settles the states one after another by this evaluator, and prints each. `;` separates states. Detects a definition of settled states
+/// that uses a rule which can't fire, evaluates layers in another order, or allows circular derivations.
 fn settle<R: AllocGlobal + Print, E: Settle<Task>>(
     rt: &R,
     evaluator: &mut E,
@@ -66,7 +65,7 @@ fn settle<R: AllocGlobal + Print, E: Settle<Task>>(
     Ok(())
 }
 
-/// Does the same with states one by one.
+/// `settle` with the states as a list.
 fn settle_each<R: AllocGlobal + Print, E: Settle<Task>>(
     rt: &R,
     evaluator: &mut E,
@@ -80,8 +79,7 @@ fn settle_each<R: AllocGlobal + Print, E: Settle<Task>>(
     }
 }
 
-/// Prints of each of the states whether two evaluators settle it alike. It could show a definition by which a state
-/// settles to two others.
+/// Prints for each state whether two evaluators settle it to the same state. Detects a definition by which a state has two settled states.
 fn compare<R: AllocGlobal + Print>(
     rt: &R,
     states: &[u8],
@@ -93,7 +91,7 @@ fn compare<R: AllocGlobal + Print>(
     said
 }
 
-/// Does the same with states one by one.
+/// `compare` with the states as a list.
 fn compare_all<R: AllocGlobal + Print>(
     rt: &R,
     states: &[&[u8]],
@@ -105,7 +103,7 @@ fn compare_all<R: AllocGlobal + Print>(
     Ok(())
 }
 
-/// Does the same with one of the evaluators.
+/// `compare_all` with the given `Worklist`.
 fn compare_each<R: AllocGlobal + Print>(
     rt: &R,
     worklist: &mut Worklist,
@@ -122,7 +120,7 @@ fn compare_each<R: AllocGlobal + Print>(
     }
 }
 
-/// Returns whether both states are there, and are the same.
+/// Returns whether both are states, and are equal.
 fn are_same(state: &Result<State, StateFault>, other: &Result<State, StateFault>) -> bool {
     match (state, other) {
         (Ok(state), Ok(other)) => state.values() == other.values(),

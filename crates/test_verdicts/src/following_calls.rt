@@ -1,4 +1,4 @@
-// Calls with an evaluator that goes on from the state that it settled last.
+// Calls with an evaluator that continues from the state that it settled last.
 ghost use Rattle.std.specs.Prelude.{◌≡◌, ◌<◌, length, IsTrue, slice_index};
 ghost use Rattle.sas_core.specs.Variables.{HasValue, IsState};
 ghost use Rattle.sas_meaning.specs.Layers.{IsBasic};
@@ -10,7 +10,7 @@ use sas_core::{Fact, Grounded, Task};
 use std::alloc::AllocError;
 use test_words::{cut, fact_of, say};
 
-/// An evaluator that prints each state which another one has settled. So it shows each state of a plan.
+/// An evaluator that prints each state after another evaluator has settled it. So it prints each state of a plan.
 #[derive(Drop)]
 pub struct Telling<'a, P: Print, E: Settle<Task> + Drop> {
     out: &'a P,
@@ -18,7 +18,7 @@ pub struct Telling<'a, P: Print, E: Settle<Task> + Drop> {
 }
 
 impl<'a, P: Print, E: Settle<Task> + Drop> Telling<'a, P, E> {
-    /// Returns the evaluator that prints what this one settles.
+    /// Returns an evaluator that prints the states which `evaluator` settles.
     pub fn new(out: &'a P, evaluator: E) -> Telling<'a, P, E>
         ensures { result.evaluator ≡ evaluator }
     {
@@ -48,16 +48,16 @@ impl<'a, P: Print, E: Settle<Task> + Drop> Settle<Task> for Telling<'a, P, E> {
     }
 }
 
-/// A state that is followed, and what is reported of its changes.
+/// The current state, and which derived variables may have changed.
 #[derive(Drop)]
 struct Followed {
     state: State,
     touched: Touched,
 }
 
-/// Settles a state, and goes on from it: `STATE;FACT,FACT;FACT,FACT|FILE`. Two facts on different basic variables are set at a
-/// time, whether they held or not, and the evaluator is given those facts of their variables that held. It could show an evaluator
-/// that stays where it was, and one that takes a fact for gone which has come back.
+/// Settles a state, and continues from it: `STATE;FACT,FACT;FACT,FACT|FILE`. Each pair sets two facts on different basic variables, whether
+/// they held before or not. The evaluator is given the facts on these variables that held before. Detects an evaluator that doesn't update
+/// its state, and one that treats a fact as deleted although it holds again.
 pub fn follow<R: AllocGlobal + Print, E: Settle<Task>>(
     rt: &R,
     evaluator: &mut E,
@@ -74,7 +74,7 @@ pub fn follow<R: AllocGlobal + Print, E: Settle<Task>>(
     Ok(())
 }
 
-/// Does the same with these pairs of facts, from a state of these values.
+/// `follow` with the values of the first state and the pairs of facts.
 fn follow_from<R: AllocGlobal + Print, E: Settle<Task>>(
     rt: &R,
     evaluator: &mut E,
@@ -94,7 +94,7 @@ fn follow_from<R: AllocGlobal + Print, E: Settle<Task>>(
     follow_each(rt, evaluator, layered, pairs, &mut followed);
 }
 
-/// Sets the pairs in turn, and prints the state behind each, which the evaluator settles.
+/// Sets one pair after another, and prints the settled state after each.
 fn follow_each<P: Print, E: Settle<Task>>(
     out: &P,
     evaluator: &mut E,
@@ -143,7 +143,7 @@ fn follow_pair<E: Settle<Task>>(
     evaluator.settle_on(layered, &gone, &mut followed.state, &mut followed.touched);
 }
 
-/// Returns the fact on the variable that holds.
+/// Returns the fact on the variable that holds in the state.
 fn held_on(var: u32, state: &State) -> Fact
     requires { var < length state.now }
     ensures var { result.var ≡ var }

@@ -1,14 +1,13 @@
-// Calls of `sas_mutex`: the verdicts on the groups of a task, and the facts that hold where effects of an operator
-// fire.
+// Calls of `sas_mutex`: the verdicts on the groups of a task, and the facts that hold when effects of an operator fire.
 use sas_axioms::Layered;
 use sas_core::{Effect, Operator, Task};
 use sas_mutex::{Facts, Verdict, check_group, check_groups};
 use std::alloc::AllocError;
 use test_words::{cut, fact_of, number_in, say, spend};
 
-/// Calls `check_groups` of a layered task, and `check_group` of each of its groups. It could show a definition by which an operator
-/// has to keep groups that no step of it breaks or doesn't have to keep others, a family that isn't the greatest, an operator that
-/// isn't the lowest, or that the call is always out of memory.
+/// Calls `check_groups` of a layered task, and `check_group` of each of its groups. Detects a definition that blames an operator none of
+/// whose steps breaks the group, or misses one whose step does; a family that isn't the greatest; an operator that isn't the lowest; and a
+/// call that is always out of memory.
 pub fn judge_groups<R: AllocGlobal + Print>(
     rt: &R,
     count: usize,
@@ -25,7 +24,7 @@ pub fn judge_groups<R: AllocGlobal + Print>(
     Ok(())
 }
 
-/// Prints a verdict, behind a word.
+/// Prints a word and a verdict.
 fn say_verdict<P: Print>(out: &P, word: &str, verdict: Verdict) {
     let _ = println!(out; "{word} {verdict:?}");
 }
@@ -37,21 +36,20 @@ fn say_verdicts<P: Print>(out: &P, verdicts: &[Verdict]) {
     }
 }
 
-/// Prints the verdict on each group by itself. That takes no memory.
+/// Prints the verdict on each group alone. This takes no memory.
 fn say_alone<P: Print>(out: &P, layered: &Layered<Task>) {
     for group in layered.task().parts().groups.as_slice() {
         say_verdict(out, "alone", check_group(layered, group.as_slice()));
     }
 }
 
-/// Returns the effect of this number, if there is one.
+/// Returns the effect with this number, or `None` if there is no such effect.
 fn effect_of<'a>(operator: &'a Operator, word: &[u8]) -> Option<&'a Effect> {
     operator.effects.as_slice().get(number_in(word)? as usize)
 }
 
-/// Prints the items of `Facts` for an operator of the task: `OPERATOR;EFFECT;EFFECT;FACT|FILE`, where nothing stands
-/// for no effect and no fact. It could show a definition of these facts that forgets the old value of an effect that
-/// doesn't fire.
+/// Prints the items of `Facts` for an operator of the task: `OPERATOR;EFFECT;EFFECT;FACT|FILE`. An empty part means no effect or no fact.
+/// Detects a definition of these facts that ignores the old value of an effect that doesn't fire.
 pub fn say_facts<P: Print>(out: &P, words: &[u8], task: &Task) {
     let (number, words) = cut(words, b';');
     let Some(place) = number_in(number) else {
@@ -63,7 +61,7 @@ pub fn say_facts<P: Print>(out: &P, words: &[u8], task: &Task) {
     }
 }
 
-/// Prints the facts of the operator, with the effects and the fact that are named.
+/// Prints the items of `Facts` for the operator, with these effects and this fact.
 fn say_each<P: Print>(out: &P, operator: &Operator, words: &[u8]) {
     let (first, words) = cut(words, b';');
     let (second, extra) = cut(words, b';');

@@ -1,4 +1,4 @@
-// Calls on the layered task of a file, which is dropped in one place.
+// Calls on the layered task of a file.
 use crate::axiom_calls::new_worklist;
 use crate::evaluator_calls::call_by_kind;
 use crate::files::{layered_of, words_and_file};
@@ -9,7 +9,7 @@ use sas_core::Task;
 use std::alloc::AllocError;
 use test_words::{Asked, say};
 
-/// Makes a call on the layered task of a file.
+/// Makes the call on the layered task of the file. A function of its own, so that the task is dropped in one place.
 pub fn call_on_layered<R: AllocGlobal + Print>(
     rt: &R,
     asked: &Asked<'_>,
@@ -24,7 +24,7 @@ pub fn call_on_layered<R: AllocGlobal + Print>(
     made
 }
 
-/// Does the same on a layered task.
+/// Makes the call on the given layered task.
 fn call_on<R: AllocGlobal + Print>(
     rt: &R,
     asked: &Asked<'_>,

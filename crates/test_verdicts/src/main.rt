@@ -1,5 +1,4 @@
-//! Makes calls on what tasks mean, and on plans and mutex groups, for tests. Standard input names the call, as
-//! `test_words` describes.
+//! Test program for the meaning of tasks, plans, and mutex groups. Standard input requests a call, as `test_words` describes.
 #![tactic(auto)]
 
 mod axiom_calls;
@@ -19,7 +18,7 @@ use std::alloc::AllocError;
 use task_calls::call_on_task;
 use test_words::{Asked, LONGEST, asked_by, say, say_made};
 
-/// Makes the call, and returns whether it is known.
+/// Makes the call. Returns whether it is known.
 fn call<R: AllocGlobal + Print>(rt: &R, asked: &Asked<'_>) -> Result<bool, AllocError> {
     match asked.call {
         "laws" => say_laws(rt),

@@ -1,4 +1,4 @@
-// Calls of `sas_run` on plans: whether they are valid. A plan file stands before a `|` and a task file.
+// Calls of `sas_run` that check plans: `PLAN FILE|TASK FILE`.
 use crate::axiom_calls::{say_debug, say_numbers, say_values};
 use sas_axioms::Settle;
 use sas_core::{Plan, Task};
@@ -6,9 +6,9 @@ use sas_run::{PlanFault, Runner, Valid};
 use std::alloc::{AllocError, Global};
 use test_words::{plan_of, say, say_number, say_want, spend};
 
-/// Calls `check_plan` of the plan of a file, and prints its answer behind the initial state. It could show a definition of valid
-/// plans that takes the last operator of a name and not the first, passes over a fact of the goal, or adds up cost lines under
-/// metric 0; and that the call is always out of memory.
+/// Calls `check_plan` with the plan of a file. Prints the initial state and the answer. Detects a definition of valid plans that uses the
+/// last operator of a name instead of the first, ignores a fact of the goal, or adds up cost lines under metric 0; and a call that is
+/// always out of memory.
 pub fn check_plan<R: AllocGlobal + Print, E: Settle<Task> + Drop>(
     rt: &R,
     count: usize,
@@ -24,7 +24,7 @@ pub fn check_plan<R: AllocGlobal + Print, E: Settle<Task> + Drop>(
     said
 }
 
-/// Does the same with a plan.
+/// `check_plan` with the given plan.
 fn check_behind<R: AllocGlobal + Print, E: Settle<Task> + Drop>(
     rt: &R,
     count: usize,
@@ -40,7 +40,7 @@ fn check_behind<R: AllocGlobal + Print, E: Settle<Task> + Drop>(
     spent
 }
 
-/// Prints the initial state, and what `check_plan` returns.
+/// Prints the initial state, and the result of `check_plan`.
 fn say_checked<R: AllocGlobal + Print, E: Settle<Task> + Drop>(
     rt: &R,
     values: &[u32],
@@ -57,7 +57,7 @@ fn say_checked<R: AllocGlobal + Print, E: Settle<Task> + Drop>(
     }
 }
 
-/// Returns whether there is an answer about the plan, where memory was refused before.
+/// Returns whether the runner can still check the plan after it was out of memory.
 fn is_checked<E: Settle<Task> + Drop>(
     alloc: Global,
     runner: &mut Runner<'_, E>,

@@ -1,4 +1,4 @@
-// Calls of `sas_run` on runners: what a name means in a state, steps, and the goal. The calls come before a `|` and a file.
+// Calls of `sas_run` on runners: which operator a name means in a state, steps, and the goal.
 ghost use Rattle.std.specs.Prelude.{◌<◌, length, IfOk, IfSome};
 ghost use Rattle.sas_axioms.specs.Worklist.{IsReadyFor};
 ghost use Rattle.sas_core.specs.Variables.{IsState};
@@ -13,7 +13,7 @@ use std::alloc::{AllocError, Global};
 use std::cell::Cell;
 use test_words::{Asked, cut, number_in, say, say_either, say_want, spend, text_of};
 
-/// Returns a runner for the task, with this evaluator.
+/// Returns a runner for the task with this evaluator.
 fn runner_of<'a, E: Settle<Task> + Drop>(
     alloc: Global,
     layered: &'a Layered<Task>,
@@ -27,7 +27,7 @@ fn runner_of<'a, E: Settle<Task> + Drop>(
     }
 }
 
-/// Makes the call with a runner that has this evaluator. The runner is dropped in one place.
+/// Makes the call with a runner that has this evaluator. A function of its own, so that the runner is dropped in one place.
 pub fn call_with_runner<R: AllocGlobal + Print, E: Settle<Task> + Drop>(
     rt: &R,
     asked: &Asked<'_>,
@@ -43,7 +43,7 @@ pub fn call_with_runner<R: AllocGlobal + Print, E: Settle<Task> + Drop>(
     made
 }
 
-/// Does the same with a runner.
+/// Makes the call with the given runner.
 fn call_of_runner<R: AllocGlobal + Print, E: Settle<Task> + Drop>(
     rt: &R,
     asked: &Asked<'_>,
@@ -57,9 +57,9 @@ fn call_of_runner<R: AllocGlobal + Print, E: Settle<Task> + Drop>(
     }
 }
 
-/// Makes calls of a runner in turn, from the initial state on: `CALLS|FILE`, with `;` between the calls. It could show a definition
-/// of steps by which an effect that doesn't fire requires no old value, effects take place one after another, or the last of two
-/// that conflict counts; or one of choices that compares only how names begin.
+/// Makes calls of a runner one after another, starting in the initial state: `CALLS|FILE`. `;` separates calls. Detects a definition of
+/// steps by which an effect that doesn't fire requires no old value, effects are applied one after another, or the last of two conflicting
+/// effects wins; and a definition of choices that compares only the first bytes of names.
 fn make_steps<R: AllocGlobal + Print, E: Settle<Task> + Drop>(
     rt: &R,
     calls: &[u8],
@@ -71,7 +71,7 @@ fn make_steps<R: AllocGlobal + Print, E: Settle<Task> + Drop>(
     made
 }
 
-/// Does the same with calls one by one.
+/// `make_steps` with the calls as a list.
 fn make_calls<R: AllocGlobal + Print, E: Settle<Task> + Drop>(
     rt: &R,
     calls: &[&[u8]],
@@ -105,7 +105,7 @@ fn make_call<P: Print, E: Settle<Task> + Drop>(
     say_values(out, state.values());
 }
 
-/// Returns the operator of this number, if there is one.
+/// Returns the operator with this number, or `None` if there is no such operator.
 fn operator_of(layered: &Layered<Task>, word: &[u8]) -> Option<u32>
     ensures { IfSome result (λ operator. operator < length layered.now.operators) }
 {
@@ -117,7 +117,7 @@ fn operator_of(layered: &Layered<Task>, word: &[u8]) -> Option<u32>
     }
 }
 
-/// Prints whether the operator of this number is applicable.
+/// Prints whether the operator with this number is applicable.
 fn say_applicable<P: Print, E: Settle<Task> + Drop>(
     out: &P,
     runner: &Runner<'_, E>,
@@ -132,7 +132,7 @@ fn say_applicable<P: Print, E: Settle<Task> + Drop>(
     say_either(out, runner.applicable(state, operator), "true", "false");
 }
 
-/// Makes the step of the operator of this number, and prints whether there is one.
+/// Makes the step of the operator with this number, and prints the result.
 fn make_step<P: Print, E: Settle<Task> + Drop>(
     out: &P,
     runner: &mut Runner<'_, E>,
@@ -156,7 +156,7 @@ fn say_made<P: Print>(out: &P, made: Result<(), StepFault>) {
     }
 }
 
-/// Counts its calls, and then settles by `Rounds`. No contract states what a cell holds.
+/// An evaluator that counts its calls, and settles by `Rounds`. No contract states the content of a cell.
 #[derive(Drop)]
 struct Counting<'a> {
     calls: &'a Cell<u64>,
@@ -172,13 +172,13 @@ impl<'a> Settle<Task> for Counting<'a> {
     }
 }
 
-/// Prints whether the evaluator was called since it had so many calls.
+/// Prints whether the evaluator was called more than `before` times.
 fn say_called<P: Print>(out: &P, calls: &Cell<u64>, before: u64) {
     say_either(out, before < calls.get(), "called", "WRONG: not called");
 }
 
-/// Prints whether the initial state and a step call the evaluator that a runner was given. It could show a runner that
-/// settles by another one: the state doesn't show that.
+/// Prints whether the initial state and a step call the runner's evaluator. Detects a runner that settles by another evaluator, which
+/// doesn't change any state.
 pub fn count_steps<R: AllocGlobal + Print>(
     rt: &R,
     layered: &Layered<Task>,
@@ -190,7 +190,7 @@ pub fn count_steps<R: AllocGlobal + Print>(
     said
 }
 
-/// Does the same with the runner.
+/// `count_steps` with the given runner.
 fn say_counted<R: AllocGlobal + Print, E: Settle<Task> + Drop>(
     rt: &R,
     calls: &Cell<u64>,
@@ -204,7 +204,7 @@ fn say_counted<R: AllocGlobal + Print, E: Settle<Task> + Drop>(
     Ok(())
 }
 
-/// Calls `Runner::new`, and prints the initial state. It could show that the call is always out of memory.
+/// Calls `Runner::new`, and prints the initial state. Detects a call that is always out of memory.
 pub fn new_runner<R: AllocGlobal + Print>(
     rt: &R,
     count: usize,
@@ -224,7 +224,7 @@ pub fn new_runner<R: AllocGlobal + Print>(
     }
 }
 
-/// Returns an evaluator, made with so many allocations behind it.
+/// Returns an evaluator, and then makes `count` allocations.
 fn worklist_behind(
     alloc: Global,
     count: usize,
@@ -242,7 +242,7 @@ fn worklist_behind(
     }
 }
 
-/// Returns whether the evaluator still settles the state of the state section as `Rounds` does.
+/// Returns whether the evaluator still settles the state of the state section like `Rounds`.
 fn settles<E: Settle<Task> + Drop>(alloc: Global, layered: &Layered<Task>, evaluator: E) -> bool
     requires { E.ready evaluator layered.now }
 {
@@ -259,7 +259,7 @@ fn settles<E: Settle<Task> + Drop>(alloc: Global, layered: &Layered<Task>, evalu
     state.values() == other.values()
 }
 
-/// Calls `initial`, and once more where memory is refused. It could show that the call is always out of memory.
+/// Calls `initial`, and once more if it is out of memory. Detects a call that is always out of memory.
 fn say_initial<R: AllocGlobal + Print, E: Settle<Task> + Drop>(
     rt: &R,
     count: usize,

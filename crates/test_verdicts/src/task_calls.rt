@@ -1,4 +1,4 @@
-// Calls on the task of a file, which is dropped in one place.
+// Calls on the task of a file.
 use crate::axiom_calls::{new_layered, new_state};
 use crate::files::words_and_file;
 use crate::group_calls::say_facts;
@@ -6,7 +6,7 @@ use sas_core::Task;
 use std::alloc::AllocError;
 use test_words::{Asked, say, task_of};
 
-/// Makes a call on the task of a file.
+/// Makes the call on the task of the file. A function of its own, so that the task is dropped in one place.
 pub fn call_on_task<R: AllocGlobal + Print>(rt: &R, asked: &Asked<'_>) -> Result<(), AllocError> {
     let (words, file) = words_and_file(asked);
     let Some(task) = task_of(rt.alloc(), file) else {
@@ -18,7 +18,7 @@ pub fn call_on_task<R: AllocGlobal + Print>(rt: &R, asked: &Asked<'_>) -> Result
     made
 }
 
-/// Does the same on a task.
+/// Makes the call on the given task.
 fn call_on<R: AllocGlobal + Print>(
     rt: &R,
     asked: &Asked<'_>,

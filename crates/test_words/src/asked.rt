@@ -1,13 +1,13 @@
-// What standard input requests.
+// Parses the call that standard input requests.
 ghost use Rattle.std.specs.Prelude.{◌≤◌, length, IfSome};
 
 use std::alloc::{AllocError, Global};
 use std::io::Read;
 
-/// The most bytes that an input has.
+/// The greatest length of an input.
 pub const LONGEST: usize = 65_536;
 
-/// A call: its name, of which kind it is, how many allocations come before it, and the bytes that it is about.
+/// A call: its name, its kind, the number of allocations before it, and its bytes.
 #[derive(Drop)]
 pub struct Asked<'a> {
     pub call: &'a str,
@@ -16,7 +16,7 @@ pub struct Asked<'a> {
     pub bytes: &'a [u8],
 }
 
-/// Reads to the end of the input, or until the buffer is full. Returns how many bytes came.
+/// Reads to the end of the input, or until the buffer is full. Returns the number of bytes, or `None` if a read fails.
 fn fill<R: Read>(input: &mut R, buffer: &mut [u8]) -> Option<usize>
     ensures { IfSome result (λ n. n ≤ length buffer.new) }
 {
@@ -31,13 +31,13 @@ fn fill<R: Read>(input: &mut R, buffer: &mut [u8]) -> Option<usize>
     Some(filled)
 }
 
-/// Returns what the input requests, which is read into the buffer.
+/// Reads the input into the buffer, and returns the call that it requests. Returns `None` if a read fails or the input has another form.
 pub fn asked_by<'a, R: Read>(input: &mut R, buffer: &'a mut [u8]) -> Option<Asked<'a>> {
     let filled = fill(input, buffer)?;
     asked_in(&buffer[..filled])
 }
 
-/// Returns what some bytes request.
+/// Returns the call that some bytes request.
 fn asked_in(given: &[u8]) -> Option<Asked<'_>> {
     let (line, bytes) = cut(given, b'\n');
     let (call, words) = str::from_utf8(line).ok()?.split_once(' ')?;
@@ -50,7 +50,7 @@ fn asked_in(given: &[u8]) -> Option<Asked<'_>> {
     })
 }
 
-/// Returns what comes before the first such byte, and what follows it: nothing if there is none.
+/// Cuts the bytes at the first separator. Returns the bytes before it and after it. Without a separator, the second part is empty.
 pub fn cut(bytes: &[u8], separator: u8) -> (&[u8], &[u8]) {
     match bytes.iter().position(|&byte| byte == separator) {
         Some(at) => (&bytes[..at], &bytes[at + 1..]),
@@ -58,17 +58,17 @@ pub fn cut(bytes: &[u8], separator: u8) -> (&[u8], &[u8]) {
     }
 }
 
-/// Returns the text of some bytes, empty where they are none.
+/// Returns the bytes as a text, which is empty if they aren't UTF-8.
 pub fn text_of(bytes: &[u8]) -> &str {
     str::from_utf8(bytes).unwrap_or("")
 }
 
-/// Returns the number that some bytes spell, or `None` where they spell none.
+/// Returns the number that the bytes spell, or `None` if they don't spell one.
 pub fn number_in(bytes: &[u8]) -> Option<u32> {
     text_of(bytes).parse().ok()
 }
 
-/// Makes so many allocations.
+/// Makes `count` allocations. Returns `Err` if one of them fails.
 pub fn spend(alloc: Global, count: usize) -> Result<(), AllocError> {
     for _ in 0..count {
         let _spent = Box::new(alloc, 0u8)?;

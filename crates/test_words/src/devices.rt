@@ -1,13 +1,13 @@
-// Devices that follow a text, step by step. No contract states what they return or take, nor how often they are called.
+// Devices that follow a script, step by step. No contract states what they return or take, or how often they are called.
 use crate::asked::cut;
 use std::alloc::Global;
 use std::cell::Cell;
 use std::io;
 use std::io::{Error, ErrorKind, Read, Write};
 
-/// A reader that returns the parts of a text, which have `#` between them, one at each read. For an empty part it
-/// returns 0 bytes, at `!` it fails, and at `~` it fails as interrupted; behind each of these it goes on. A part that
-/// is longer than the buffer takes further reads. Behind the last part it returns 0 bytes.
+/// A reader that returns the parts of a text, one at each read. `#` separates parts. For an empty part it returns 0 bytes, for `!` it
+/// fails, and for `~` it fails as interrupted. After each of these it continues with the next part. A part that is longer than the buffer
+/// takes several reads. After the last part it returns 0 bytes.
 #[derive(Drop)]
 pub struct ToldReader<'a> {
     part: &'a [u8],
@@ -15,13 +15,13 @@ pub struct ToldReader<'a> {
 }
 
 impl<'a> ToldReader<'a> {
-    /// Makes a reader that follows this text.
+    /// Returns a reader that follows this text.
     pub fn new(text: &'a [u8]) -> ToldReader<'a> {
         let (part, rest) = cut(text, b'#');
         ToldReader { part, rest }
     }
 
-    /// Goes on to the next part.
+    /// Moves to the next part.
     fn go_on(&mut self) {
         let (part, rest) = cut(self.rest, b'#');
         self.part = part;
@@ -52,8 +52,8 @@ fn failure(told: &[u8]) -> Option<ErrorKind> {
     }
 }
 
-/// A writer that follows the bytes of a text, one at each write. At a digit it takes at most so many bytes, at `!` it
-/// fails, and at `~` it fails as interrupted; behind each of these it goes on. Behind the text it takes all.
+/// A writer that follows the bytes of a text, one at each write. For a digit it takes at most this many bytes, for `!` it fails, and for
+/// `~` it fails as interrupted. After each of these it continues with the next byte. After the last byte it takes everything.
 #[derive(Drop)]
 pub struct ToldWriter<'a> {
     kept: Vec<u8>,
@@ -61,7 +61,7 @@ pub struct ToldWriter<'a> {
 }
 
 impl<'a> ToldWriter<'a> {
-    /// Makes a writer that follows these turns.
+    /// Returns a writer that follows `turns`.
     pub fn new(alloc: Global, turns: &'a [u8]) -> ToldWriter<'a> {
         ToldWriter {
             kept: Vec::new(alloc),
@@ -69,7 +69,7 @@ impl<'a> ToldWriter<'a> {
         }
     }
 
-    /// Returns the bytes that it took.
+    /// Returns the bytes that it has taken.
     pub fn kept(&self) -> &[u8] {
         self.kept.as_slice()
     }
@@ -96,7 +96,7 @@ impl<'a> Write for ToldWriter<'a> {
     }
 }
 
-/// A reader that returns its bytes, and notes the length of the longest buffer that it is lent.
+/// A reader that returns its bytes and stores the length of the longest buffer that it was given.
 #[derive(Drop)]
 pub struct NotingReader<'a> {
     bytes: &'a [u8],
@@ -104,7 +104,7 @@ pub struct NotingReader<'a> {
 }
 
 impl<'a> NotingReader<'a> {
-    /// Makes a reader of these bytes, which notes that length in this cell.
+    /// Returns a reader of these bytes that stores the length in this cell.
     pub fn new(bytes: &'a [u8], longest: &'a Cell<usize>) -> NotingReader<'a> {
         NotingReader { bytes, longest }
     }
@@ -117,7 +117,7 @@ impl<'a> Read for NotingReader<'a> {
     }
 }
 
-/// Returns the length of a buffer if it is longer than so many bytes.
+/// Returns the length if it is greater than `most`.
 pub fn longer_than(length: usize, most: usize) -> Option<usize> {
     if length > most { Some(length) } else { None }
 }

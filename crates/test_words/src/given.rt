@@ -1,4 +1,4 @@
-// What some calls are given: facts in words, the plans and tasks of files, and tasks that are to be the same.
+// Parses the arguments of calls: facts, plans and tasks. Compares tasks.
 ghost use Rattle.std.specs.Prelude.{◌≡◌, ◌↔◌, IsTrue};
 
 use crate::asked::{cut, number_in};
@@ -7,7 +7,7 @@ use sas_lines::Watched;
 use sas_text::{read_plan, read_task};
 use std::alloc::Global;
 
-/// Returns the fact of two numbers, as `3 1`.
+/// Returns the fact with these two numbers, such as `3 1`. Returns `None` if the bytes have another form.
 pub fn fact_of(words: &[u8]) -> Option<Fact> {
     let (var, value) = cut(words, b' ');
     Some(Fact {
@@ -16,17 +16,17 @@ pub fn fact_of(words: &[u8]) -> Option<Fact> {
     })
 }
 
-/// Returns the plan of a file, or `None` where it is no plan file.
+/// Returns the plan in a plan file, or `None` if the file isn't one.
 pub fn plan_of(alloc: Global, file: &[u8]) -> Option<Plan> {
     read_plan(alloc, &mut Watched::new(file)).ok()
 }
 
-/// Returns the task of a file, or `None` where it is no task file.
+/// Returns the task in a task file, or `None` if the file isn't one.
 pub fn task_of(alloc: Global, file: &[u8]) -> Option<Task> {
     read_task(alloc, &mut Watched::new(file)).ok()
 }
 
-/// Returns whether two tasks are equal: exactly if they represent the same parts.
+/// Returns whether two tasks are equal, which means that they have the same parts.
 pub fn is_same_task(task: &Task, other: &Task) -> bool
     ensures { IsTrue result ↔ (task.now ≡ other.now) }
 {

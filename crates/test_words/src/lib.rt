@@ -1,11 +1,11 @@
-//! What the programs share that make calls of the libraries for tests: what standard input requests, and how an answer is printed.
-//! `sas` uses none of it.
+//! Shared code of the test programs, which call the libraries: parses the call that standard input requests, and prints the result. `sas`
+//! doesn't use it.
 //!
-//! The first line of the input is the name of a call, for some calls a word that names its kind, and a number. The bytes that the
-//! call is about follow. The program makes so many allocations before the call: where a certain allocation of the process is
-//! refused, the number so decides which one of the call that is. The answer is `before` where an allocation before the call was
-//! refused. It is `wanting` where the call is out of memory and all that has to hold then holds. It begins with `WRONG` where
-//! something isn't as it has to be. The comment at each call names the mistake that it could show and that a proof can't.
+//! The first line of the input is the name of a call, for some calls a word for its kind, and a number. The bytes of the call follow. The
+//! program makes this many allocations before the call. A test that makes a certain allocation of the process fail can thus choose an
+//! allocation of the call. The program prints `before` if an allocation before the call fails. It prints `wanting` if the call is out of
+//! memory and behaves as promised. A line that begins with `WRONG` reports a mistake. The comment at each call names the mistakes that it
+//! can detect and a proof can't.
 #![tactic(auto)]
 
 mod asked;

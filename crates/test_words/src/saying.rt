@@ -1,4 +1,4 @@
-// Prints on standard output what came of a call. A failure to write is left to whoever compares the output.
+// Prints the result of a call on standard output. Failed writes are ignored: the test that compares the output notices them.
 use std::alloc::AllocError;
 use std::io;
 use std::io::Write;
@@ -8,29 +8,29 @@ pub fn say<P: Print>(out: &P, line: &str) {
     let _ = out.println(line);
 }
 
-/// Prints one of two lines.
+/// Prints the first line if the condition holds, else the other line.
 pub fn say_either<P: Print>(out: &P, first: bool, line: &str, other: &str) {
     say(out, if first { line } else { other });
 }
 
-/// Prints a word, and a number behind it.
+/// Prints a word and a number.
 pub fn say_number<P: Print>(out: &P, word: &str, number: u64) {
     let _ = println!(out; "{word} {number}");
 }
 
-/// Prints the bytes as they are.
+/// Prints the bytes unchanged.
 pub fn say_bytes<P: Print>(out: &P, bytes: &[u8]) {
     let _ = io::writer(out).write_all(bytes);
 }
 
-/// Prints that a text came whole, and the text, and ends its line.
+/// Prints `whole`, and the text with a line end.
 pub fn say_whole<P: Print>(out: &P, text: &[u8]) {
     say(out, "whole");
     say_bytes(out, text);
     say(out, "");
 }
 
-/// Prints a text, or that there was no memory for it.
+/// Prints a text, or `wanting` if there was no memory for it.
 pub fn say_text<P: Print>(out: &P, text: Result<Vec<u8>, AllocError>) {
     match text {
         Ok(text) => say_whole(out, text.as_slice()),
@@ -38,7 +38,7 @@ pub fn say_text<P: Print>(out: &P, text: Result<Vec<u8>, AllocError>) {
     }
 }
 
-/// Prints that a call did as it should, or with which of its numbers it first didn't.
+/// Prints `right`, or the first number for which a call was wrong.
 pub fn say_right<P: Print>(out: &P, wrong: Option<usize>) {
     match wrong {
         None => say(out, "right"),
@@ -46,7 +46,7 @@ pub fn say_right<P: Print>(out: &P, wrong: Option<usize>) {
     }
 }
 
-/// Prints what came of a call without memory: whether all that has to hold then holds.
+/// Prints the result of a call that was out of memory: whether it behaved as promised.
 pub fn say_want<P: Print>(out: &P, stands: bool) {
     if stands {
         say(out, "wanting");
@@ -55,7 +55,7 @@ pub fn say_want<P: Print>(out: &P, stands: bool) {
     }
 }
 
-/// Prints why a call printed nothing: it isn't known, or an allocation before it was refused.
+/// Prints why a call wasn't made, if so: it is unknown, or an allocation before it failed.
 pub fn say_made<P: Print>(out: &P, known: Result<bool, AllocError>) {
     match known {
         Ok(true) => {}

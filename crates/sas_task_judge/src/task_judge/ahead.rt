@@ -1,5 +1,5 @@
-// The first line of some bytes, taken where it is quick to see that it may stand where the judge is. These are the lines
-// that large files are made of; all others, and all faults, are left to `take`.
+// Accepts the first line of some bytes directly, if it is of a frequent kind and has the expected content. All other lines, and all faults,
+// are left to `take`.
 ghost use Rattle.std.specs.Prelude.{◌≡◌, ◌≢◌, ◌<◌, ◌≤◌, ◌-◌, ◌^◌, length, [], ◌∷◌, ◌++◌, IfSome, IfNone};
 ghost use Rattle.sas_core.specs.Names.{IsName};
 ghost use Rattle.sas_task_line.specs.declared.so_far.SoFar.{SoFar};
@@ -15,7 +15,7 @@ use sas_task_line::{
 };
 
 impl TaskJudge {
-    /// Takes a fixed word.
+    /// Accepts a fixed word.
     fn word_ahead(&mut self, bytes: &[u8], word: &[u8], next: Place) -> Option<Ahead<Event>>
         requires name { IsName word.now }
         requires apart { next ≢ Place.VariableValues }
@@ -32,7 +32,7 @@ impl TaskJudge {
         })
     }
 
-    /// Takes the first word of a variable, a group, an operator or a rule.
+    /// Accepts the first word of a variable, a group, an operator or a rule.
     fn begin_ahead(&mut self, bytes: &[u8], word: &[u8], next: Place) -> Option<Ahead<Event>>
         requires name { IsName word.now }
         requires apart { next ≢ Place.VariableValues }
@@ -51,7 +51,7 @@ impl TaskJudge {
         })
     }
 
-    /// Takes the name of a variable or an operator.
+    /// Accepts the name of a variable or an operator.
     fn name_ahead(&mut self, bytes: &[u8], next: Place) -> Option<Ahead<Event>>
         requires apart { next ≢ Place.VariableValues }
         requires due { Due self.old (λ _. a_name) format.name
@@ -67,7 +67,7 @@ impl TaskJudge {
         })
     }
 
-    /// Takes the name of a value.
+    /// Accepts the name of a value.
     fn variable_value_ahead(&mut self, bytes: &[u8]) -> Option<Ahead<Event>>
         requires place { self.old.place ≡ Place.VariableValues }
         requires more { 0 < self.old.more }
@@ -82,7 +82,7 @@ impl TaskJudge {
         })
     }
 
-    /// Takes the number of facts that are due next, or of conditions.
+    /// Accepts the number of the facts or conditions that follow.
     fn fact_count_ahead(&mut self, bytes: &[u8], next: Place) -> Option<Ahead<Event>>
         requires apart { next ≢ Place.VariableValues }
         requires due { Due self.old (λ _. a_number any) format.number
@@ -97,7 +97,7 @@ impl TaskJudge {
         })
     }
 
-    /// Takes a fact of a group, a prevail condition, or a condition of a rule.
+    /// Accepts a fact of a group, a prevail condition, or a condition of a rule.
     fn fact_ahead(&mut self, bytes: &[u8]) -> Option<Ahead<Event>>
         requires apart { self.old.place ≢ Place.VariableValues }
         requires more { 0 < self.old.more }
@@ -118,7 +118,7 @@ impl TaskJudge {
         })
     }
 
-    /// Takes the last word of a group.
+    /// Accepts the last word of a group.
     fn group_end_ahead(&mut self, bytes: &[u8]) -> Option<Ahead<Event>>
         requires place { self.old.place ≡ Place.GroupFacts }
         requires all { self.old.more ≡ 0 }
@@ -133,7 +133,7 @@ impl TaskJudge {
         })
     }
 
-    /// Takes the value of the next variable.
+    /// Accepts the value of the next variable.
     fn state_value_ahead(&mut self, bytes: &[u8]) -> Option<Ahead<Event>>
         requires place { self.old.place ≡ Place.StateValues }
         requires more { self.old.valued < length self.old.ranges }
@@ -151,7 +151,7 @@ impl TaskJudge {
         })
     }
 
-    /// Takes the number of an operator's effects.
+    /// Accepts the number of an operator's effects.
     fn effect_count_ahead(&mut self, bytes: &[u8]) -> Option<Ahead<Event>>
         requires place { self.old.place ≡ Place.Prevail }
         requires all { self.old.more ≡ 0 }
@@ -165,7 +165,7 @@ impl TaskJudge {
         })
     }
 
-    /// Takes an effect without conditions.
+    /// Accepts an effect without conditions.
     fn effect_ahead(&mut self, bytes: &[u8]) -> Option<Ahead<Event>>
         requires place { self.old.place ≡ Place.Effects }
         requires more { 0 < self.old.more }
@@ -184,7 +184,7 @@ impl TaskJudge {
         })
     }
 
-    /// Takes the cost of an operator.
+    /// Accepts the cost of an operator.
     fn operator_cost_ahead(&mut self, bytes: &[u8]) -> Option<Ahead<Event>>
         requires place { self.old.place ≡ Place.Effects }
         requires all { self.old.more ≡ 0 }
@@ -198,7 +198,7 @@ impl TaskJudge {
         })
     }
 
-    /// Takes the head of a rule.
+    /// Accepts the head of a rule.
     fn rule_head_ahead(&mut self, bytes: &[u8]) -> Option<Ahead<Event>>
         requires place { self.old.place ≡ Place.RuleConditions }
         requires all { self.old.more ≡ 0 }
@@ -216,8 +216,8 @@ impl TaskJudge {
         })
     }
 
-    /// Takes the first line of the bytes, with its end, where it is quick to see that the line may stand here. Else it
-    /// takes nothing, and the judge is as it was.
+    /// Accepts the first line of the bytes, with its line end, if it is of a frequent kind and is allowed here. Otherwise returns `None`
+    /// and changes nothing; then `take` has to judge the line.
     pub fn take_ahead(&mut self, bytes: &[u8]) -> Option<Ahead<Event>>
         requires { HasEnded self.old → ⊥ }
         ensures some { IfSome result (λ a. MovesAhead self.old bytes.now self.new a.said a.taken) }

@@ -1,4 +1,4 @@
-// Where the judge stands and what is due there. It is looked up only if a line is refused.
+// The location of the next line, and what is expected there. It is needed only if a line is refused.
 ghost use Rattle.std.specs.Prelude.{◌≡◌, ◌-◌, IfOk};
 ghost use Rattle.std.specs.Prelude.{slice_index_or};
 ghost use Rattle.sas_task_line.specs.FirstWrong.{FirstWrong};
@@ -13,20 +13,20 @@ use std::alloc::AllocError;
 /// The greatest number of a task file.
 const MOST: u32 = 2_147_483_647;
 
-/// A number that may be any.
+/// Any number.
 const ANY_NUMBER: Due = Due::Number {
     least: 0,
     most: MOST,
 };
 
-/// A number that isn't 0.
+/// Any number but 0.
 const POSITIVE_NUMBER: Due = Due::Number {
     least: 1,
     most: MOST,
 };
 
 impl TaskJudge {
-    /// Returns the greatest value of the variable whose value in the state comes next.
+    /// Returns the greatest value of the next variable in the initial state.
     fn next_most(&self) -> u32
         ensures { result ≡ slice_index_or self.now.ranges self.now.valued 0 - 1 }
     {
@@ -36,21 +36,21 @@ impl TaskJudge {
         }
     }
 
-    /// Returns the number of the variable, group, operator or rule that comes next.
+    /// Returns the number of the next variable, group, operator or rule.
     fn next_number(&self) -> u32
         ensures { result ≡ self.now.total - self.now.left }
     {
         self.total.saturating_sub(self.left)
     }
 
-    /// Returns the number of the variable, group, operator or rule that has begun.
+    /// Returns the number of the current variable, group, operator or rule.
     fn this_number(&self) -> u32
         ensures { result ≡ self.now.total - self.now.left - 1 }
     {
         self.next_number().saturating_sub(1)
     }
 
-    /// Returns where the next line stands.
+    /// Returns the location of the next line.
     fn location(&self) -> Location
         ensures { LocationIs self.now result }
     {
@@ -76,7 +76,7 @@ impl TaskJudge {
         }
     }
 
-    /// Returns where the next line stands, where the mutex groups have come.
+    /// Returns the location of the next line after the mutex groups.
     fn location_behind_groups(&self) -> Location
         requires { IsBehindGroups self.now.place }
         ensures { LocationIs self.now result }
@@ -103,7 +103,7 @@ impl TaskJudge {
         }
     }
 
-    /// Returns what is due on the next line.
+    /// Returns what is expected on the next line.
     fn due(&self) -> Due
         ensures { DueIs self.now result }
     {
@@ -131,7 +131,7 @@ impl TaskJudge {
         }
     }
 
-    /// Returns what is due on the next line, where the mutex groups have come.
+    /// Returns what is expected on the next line after the mutex groups.
     fn due_behind_groups(&self) -> Due
         requires { IsBehindGroups self.now.place }
         ensures { DueIs self.now result }
@@ -166,7 +166,7 @@ impl TaskJudge {
         }
     }
 
-    /// Returns where the next line stands and what is due there.
+    /// Returns the location of the next line, and what is expected there.
     #[cold]
     pub fn mark(&self) -> Mark
         ensures { result ≡ mark_of self.now }
@@ -177,8 +177,8 @@ impl TaskJudge {
         }
     }
 
-    /// Reads a line again that was refused for a number, and returns the first word whose number may not stand there. What
-    /// the last effect said is lost.
+    /// Parses a line again that was refused for a number. Returns its first wrong word, or `Err` if out of memory. Overwrites the effect in
+    /// `said`.
     pub fn wrong_word(&mut self, line: &[u8]) -> Result<Option<WrongWord>, AllocError>
         ensures word { IfOk result (FirstWrong self.old.ranges (due_slot self.old) line.now) }
         ensures stands { StandsAsBefore self.old self.new }

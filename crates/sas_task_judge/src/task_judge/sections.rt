@@ -1,5 +1,4 @@
-// Whole sections, where one is due: a variable, a mutex group, an operator or a rule. What keeps it with all its lines
-// judges those itself.
+// Whole sections: a variable, a mutex group, an operator or a rule. A keeper that stores a section at once also judges its lines.
 ghost use Rattle.std.specs.Prelude.{◌≡◌, ◌<◌, ◌-◌, [], ◌∷◌, ◌++◌, IfSome, IfNone, OnOk, OnErr};
 ghost use Rattle.sas_task_judge.specs.TaskJudge.{SectionDue};
 
@@ -8,7 +7,7 @@ use sas_core::Items;
 use sas_task_format::Place;
 use std::alloc::AllocError;
 
-/// What may be kept whole.
+/// A section that a keeper may store at once.
 pub enum Section {
     Variable,
     Group,
@@ -17,7 +16,7 @@ pub enum Section {
 }
 
 impl TaskJudge {
-    /// The section whose first line is due, if one is.
+    /// Returns the section whose first line is expected, or `None` if no such line is.
     pub fn section_due(&self) -> Option<Section>
         ensures some { IfSome result (SectionDue self.now) }
         ensures none { IfNone result ((section : Section) → SectionDue self.now section → ⊥) }
@@ -31,14 +30,14 @@ impl TaskJudge {
         }
     }
 
-    /// How many values each variable has.
+    /// Returns the number of values of each variable.
     pub fn ranges(&self) -> &Items<u32>
         ensures { result.now ≡ self.now.ranges }
     {
         &self.ranges
     }
 
-    /// Goes on behind the variable that was due, which has so many values. After an `Err` it is still due.
+    /// Moves past the expected variable, which has `range` values. Returns `Err` and changes nothing if out of memory.
     pub fn pass_variable(&mut self, range: u32) -> Result<(), AllocError>
         requires { 0 < self.old.left }
         ensures ok { OnOk result
@@ -53,7 +52,7 @@ impl TaskJudge {
         Ok(())
     }
 
-    /// Counts the section that was due, and goes on behind it.
+    /// Moves past the expected section.
     pub fn pass_section(&mut self)
         requires { 0 < self.old.left }
         ensures { self.new ≡ record self.old { left = self.old.left - 1 } }

@@ -1,4 +1,4 @@
--- The steps so far are looked up.
+-- The names of all steps so far are looked up.
 use Rattle.std.proofs.Common.{◌≡◌, ◌≤◌, length}
 use Rattle.std.specs.Prelude.{vec_capacity}
 use Rattle.sas_names.specs.Names.{HaveFirsts}

@@ -1,4 +1,4 @@
--- From the operator on the map and the table are as they are to be.
+-- The map and the list are right for all operators from this one on.
 use Rattle.std.proofs.Common.{◌≤◌}
 use Rattle.sas_names.specs.NameTable.{AreMappedFrom, operator_of}
 use Rattle.sas_names.proofs.name_map.put_all.Given as goal

@@ -1,4 +1,4 @@
--- What was fed is all of the bytes.
+-- All bytes were fed to the reader.
 use Rattle.std.proofs.Common.{[], Ok, Err, sym, ap, subst, ◌∙◌}
 use Rattle.sas_reader.specs.declared.fault.Fault.{Fault}
 use Rattle.sas_reader.specs.About.{IsTold}

@@ -9,7 +9,7 @@ use Rattle.sas_plan_file.proofs.PlanGrammar.{plan_grammar}
 use Rattle.sas_plan_file.proofs.PlanKeeping.{text_ended, text_rejects, text_follows, text_is}
 use Rattle.sas_plan_file.proofs.plan.read_plan_text.Goals as goal
 
--- where the machine has ended, it holds the text of what was read
+-- if the machine has ended, it has the text of what was read
 pub returns-in-Ok : goal.returns-in-Ok
 returns-in-Ok g c =
     reads_explained plan_format PlanLineFits plan_node plan_start plan_grammar KeepsLines text_ended text_rejects text_stays text_follows fault_of found_of nothing_else g.R.Read.remaining _ _ _ _ _ c.in-Ok.ensures (λ b reached short.

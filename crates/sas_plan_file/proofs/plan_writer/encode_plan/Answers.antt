@@ -9,7 +9,7 @@ use Rattle.sas_plan_file.proofs.plan_writer.encode_plan.Goals as goal
 pub loop-name-preserved : goal.loop-name-preserved
 loop-name-preserved c = grind (arith, common_steps)
 
--- the lines of the steps, and that of the cost behind them
+-- the lines of the steps, followed by that of the cost
 cost_behind : (steps : List (List ℕ)) (n : ℕ) (kind : CostKind) → text (map plan_line_bytes (map step steps ++ cost n kind ∷ [])) ≡ text (map plan_line_bytes (map step steps)) ++ (plan_line_bytes (cost n kind) ++ 10 ∷ [])
 cost_behind steps n kind =
     ap text (map-append plan_line_bytes (map step steps) (cost n kind ∷ []))

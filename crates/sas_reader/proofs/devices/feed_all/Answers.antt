@@ -16,13 +16,13 @@ use Rattle.sas_reader.proofs.Standing.{accepted_of, fault_of}
 use Rattle.sas_reader.proofs.devices.feed_all.Goals as goal
 
 module _ {M D : Type 0} (led_by : List (List ℕ) → M → Type 0) (ended : M → Type 0) (rejects : M → List ℕ → Kind → Type 0) (halted : M → List ℕ → Kind → M → Type 0) (left : D → Option (List ℕ)) where
-  -- a refusal by why it is one, want of memory aside
+  -- a refusal, by its reason other than `Memory`
   pub refused_as : (limit : ℕ) (old new : Device D) (x r : Refused M) → x ≡ r → (r.fault.kind ≢ kinds.Memory → (b : List ℕ) × Consumes (left old.device) (left new.device) b × ReadFails led_by ended rejects halted limit b (IsAtEnd (left new.device)) r)
       → (r.fault.kind ≡ kinds.Memory → (b piece : List ℕ) × Consumes (left old.device) (left new.device) (b ++ piece) × LineIsDue led_by ended limit b piece) → (r.fault.kind ≡ kinds.Read → IsTrue new.failed) → (IsTrue new.failed → r.fault.kind ≡ kinds.Read)
       → FeedsMachine led_by ended rejects halted left limit old new (Err x)
   refused_as limit old new x r is refused memory read note = subst (λ (y : Refused M). FeedsMachine led_by ended rejects halted left limit old new (Err y)) (sym is) (record { at_end = tt; reached = tt; refused = refused; memory = memory; note = (read, note) })
 
-  -- what a reader at the end of its device finds wrong
+  -- the fault that a reader finds at the end of its device
   at_end : (limit : ℕ) (b : List ℕ) (End : Type 0) (r : Refused M) → End → r.fault.kind ≢ kinds.Read → IsRefused led_by ended rejects halted limit b r → ReadFails led_by ended rejects halted limit b End r
   at_end limit b End r e ne (inl h) = faulty h ne
   at_end limit b End r e ne (inr h) = early e h

@@ -3,7 +3,7 @@ use Rattle.std.specs.Io.KnownBytes.{Consumes}
 use Rattle.sas_reader.specs.Reader.{Stands}
 use Rattle.sas_reader.proofs.devices.feed_all.Given as goal
 
--- what was read is what the reader stands for
+-- the reader represents the bytes that were read
 abbrev pub invariant-loop-n : goal.invariant-loop-n
 invariant-loop-n g l =
     record {

@@ -2,6 +2,6 @@ use Rattle.std.proofs.Common.{◌≡◌, drop}
 use Rattle.sas_reader.specs.Found.{behind_ends}
 use Rattle.sas_reader.proofs.found.byte_behind.Given as goal
 
--- what stands behind the line ends that are left
+-- what follows the remaining line ends
 abbrev pub invariant-loop-at : goal.invariant-loop-at
 invariant-loop-at l = behind_ends l.left (drop l.at l.bytes) ≡ behind_ends l.ends l.bytes

@@ -2,7 +2,8 @@ use Rattle.std.proofs.Common.{◌≡◌, ◌+◌, ◌-◌, ◌≤◌, ◌++◌, 
 use Rattle.sas_reader.specs.Returns.{returns_in, CopiesSoFar}
 use Rattle.sas_reader.proofs.returns.copy_block.Given as goal
 
--- thirty-two bytes from here on were written behind those that are kept, and the CRs among those that count are known
+-- thirty-two bytes from here on were written after the kept ones, and the CRs among the bytes that
+-- count are known
 abbrev pub invariant-loop-returns : goal.invariant-loop-returns
 invariant-loop-returns l =
     record {

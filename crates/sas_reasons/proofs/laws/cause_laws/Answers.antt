@@ -1,4 +1,4 @@
--- Each law is a lemma.
+-- Each law is proved as a lemma.
 use Rattle.sas_reasons.proofs.Causes.{default_if_not_given, each_rule_fails}
 use Rattle.sas_reasons.proofs.Conflicts.{some_conflict, one_conflict}
 use Rattle.sas_reasons.proofs.Places.{some_precondition_fails, operators_have_name, first_goal_fact}

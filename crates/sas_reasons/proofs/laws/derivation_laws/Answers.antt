@@ -1,4 +1,4 @@
--- Each law is a lemma.
+-- Each law is proved as a lemma.
 use Rattle.sas_reasons.proofs.Derivation.{rank_if_differs, one_rank, some_giver, one_giver, giver_fires, giver_looks_down}
 use Rattle.sas_reasons.proofs.Derivation.{itself_is_last, no_circle, all_differ}
 use Rattle.sas_reasons.proofs.Listing.{some_derivation}

@@ -1,4 +1,4 @@
--- Each law is a lemma.
+-- Each law is proved as a lemma.
 use Rattle.sas_reasons.proofs.Likeness.{space_folds, folds_once, some_like, one_like}
 use Rattle.sas_reasons.proofs.MayMean.{some_may_mean, one_may_mean}
 use Rattle.sas_reasons.proofs.laws.name_laws.Goals as goal

@@ -1,4 +1,4 @@
--- Each law is a lemma.
+-- Each law is proved as a lemma.
 use Rattle.sas_reasons.proofs.Since.{some_since, one_since, same_since}
 use Rattle.sas_reasons.proofs.laws.since_laws.Goals as goal
 

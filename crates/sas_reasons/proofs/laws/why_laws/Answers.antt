@@ -1,4 +1,4 @@
--- Each law is a lemma.
+-- Each law is proved as a lemma.
 use Rattle.sas_reasons.proofs.WhyPlan.{some_why, one_why}
 use Rattle.sas_reasons.proofs.laws.why_laws.Goals as goal
 

@@ -1,4 +1,4 @@
--- Each law is a lemma.
+-- Each law is proved as a lemma.
 use Rattle.sas_run.proofs.PlanVerdicts.{some_verdict, valid_has_no_fault, valid_is_one, fault_is_one}
 use Rattle.sas_run.proofs.PlanStates.{leads_to_reachable, last_is_reachable}
 use Rattle.sas_run.proofs.Runs.{some_run, one_run}

@@ -1,4 +1,4 @@
--- A change is on another variable than each one behind it.
+-- A change is on another variable than each later change.
 use Rattle.std.proofs.Common.{◌≡◌, length, ◌+◌, ◌-◌, get_or, take, drop, refl, sym, ap, ◌∙◌, inl, inr, arith}
 use Rattle.std.proofs.lemmas.Bool.{cases_eq}
 use Rattle.std.proofs.lemmas.List.{get_or-take, get_or-drop, get_or_default, length-take-le, length-drop}

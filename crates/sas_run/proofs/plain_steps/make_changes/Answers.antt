@@ -1,4 +1,4 @@
--- One change more is made.
+-- One more change is made.
 use Rattle.std.proofs.Common.{◌+◌, ◌<◌, length, get_or, set, sym, ap, ◌∙◌, subst, arith}
 use Rattle.std.proofs.lemmas.List.{get_or_default}
 use Rattle.sas_core.specs.declared.parts.Fact.{Fact}

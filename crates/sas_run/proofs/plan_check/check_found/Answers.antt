@@ -1,4 +1,4 @@
--- The plan is valid, or has the fault.
+-- The plan is valid or has the fault.
 use Rattle.sas_run.proofs.Endings.{ends_valid, ends_faulty}
 use Rattle.sas_run.proofs.plan_check.check_found.Goals as goal
 

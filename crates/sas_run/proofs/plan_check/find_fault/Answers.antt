@@ -1,4 +1,4 @@
--- Behind the last step the plan is judged.
+-- After the last step the goal and the cost are tested.
 use Rattle.sas_run.proofs.Endings.{judged_there}
 use Rattle.sas_run.proofs.PlanStates.{leads_by}
 use Rattle.sas_run.proofs.plan_check.find_fault.Goals as goal

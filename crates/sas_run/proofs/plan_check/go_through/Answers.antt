@@ -1,4 +1,4 @@
--- One more step goes through, or stops.
+-- One more step succeeds or fails.
 use Rattle.std.proofs.Common.{Err, ◌≡◌, ℕ, ◌+◌, ◌<◌, ◌≤◌, List, [], ◌∷◌, ◌++◌, length, take, get_or, refl, sym, subst, ap, ◌∙◌, arith}
 use Rattle.std.specs.Prelude.{IfErr}
 use Rattle.std.proofs.lemmas.Result.{err_from_is_err_and}
@@ -52,7 +52,7 @@ loop-before-preserved g c =
       kept = omega (arith, inv.kept, c.push.ensures.capacity);
     }
 
--- Behind the steps that were looked up stands one whose name no operator has.
+-- The first step that was not looked up has a name that no operator has.
 pub returns-then-found-steps-clause-ends : goal.returns-then-found-steps-clause-ends
 returns-then-found-steps-clause-ends g c =
     let p = c.args.layered.now in

@@ -1,4 +1,4 @@
--- The steps so far lead from the initial state to where the plan is.
+-- The steps so far lead from the initial state to the current state.
 use Rattle.std.proofs.Common.{◌≡◌, ◌≤◌, length, take}
 use Rattle.std.specs.Prelude.{vec_capacity}
 use Rattle.sas_run.specs.Plans.{LeadsTo}

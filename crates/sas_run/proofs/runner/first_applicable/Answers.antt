@@ -1,4 +1,4 @@
--- One operator more isn't applicable.
+-- One more operator isn't applicable.
 use Rattle.std.proofs.Common.{◌≡◌, get_or, None, Some, sym, ◌∙◌, true≢false}
 use Rattle.sas_run.proofs.NamedAlike.{SearchedTo, search_goes_on}
 use Rattle.sas_run.proofs.runner.first_applicable.Goals as goal

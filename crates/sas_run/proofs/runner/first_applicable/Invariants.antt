@@ -1,4 +1,4 @@
--- How far the search has come.
+-- The state of the search.
 use Rattle.sas_names.proofs.Searching.{left}
 use Rattle.sas_run.proofs.NamedAlike.{SearchedTo}
 use Rattle.sas_run.proofs.runner.first_applicable.Given as goal

@@ -1,4 +1,4 @@
--- The effects, and what settles them from the state before.
+-- The effects are applied, and the result is settled from the state before.
 use Rattle.std.proofs.Common.{arith, Err, ◌≡◌, ◌≢◌, ◌⊎◌, ℕ, ◌∷◌, List, [], is_some, sym, ◌∙◌, ap, subst, inl, inr}
 use Rattle.std.specs.List.{All}
 use Rattle.std.proofs.lemmas.Bool.{cases_eq}

@@ -1,4 +1,4 @@
--- The variables so far have their values of the state section.
+-- All variables so far have their values from the state section.
 use Rattle.std.proofs.Common.{◌≡◌, ℕ, ◌<◌, length, get_or}
 use Rattle.sas_run.proofs.stepper.set_section.Given as goal
 

@@ -1,4 +1,4 @@
--- Changes that are made one after another are what the effects do.
+-- Making the changes one after another is applying the effects.
 use Rattle.std.proofs.Common.{length, ap, arith}
 use Rattle.std.proofs.lemmas.List.{length-map}
 use Rattle.sas_core.specs.Changes.{plain_effect}

@@ -1,4 +1,4 @@
--- All that the effects give is written.
+-- All values that the effects give are written.
 use Rattle.std.proofs.Common.{refl, arith}
 use Rattle.sas_core.specs.Grounded.{operator_at}
 use Rattle.sas_run.proofs.Giving.{applied}

@@ -1,4 +1,4 @@
--- What the effects so far give is given, and nothing else.
+-- The given values are exactly those of the effects so far.
 use Rattle.sas_core.specs.Grounded.{operator_at}
 use Rattle.sas_run.specs.Given.{IsGiven}
 use Rattle.sas_run.proofs.steps.give_effects.Given as goal

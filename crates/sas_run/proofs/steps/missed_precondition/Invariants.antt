@@ -1,4 +1,4 @@
--- The preconditions so far hold, and the variables of those that are left exist.
+-- The preconditions so far hold, and the variables of the remaining ones exist.
 use Rattle.std.proofs.Common.{◌≡◌, ◌<◌, length, ◌++◌}
 use Rattle.std.specs.Prelude.{slice_index}
 use Rattle.std.specs.List.{All}

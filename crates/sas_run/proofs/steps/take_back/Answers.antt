@@ -1,4 +1,4 @@
--- What was given to one more variable is taken back.
+-- The given value of one more variable is removed.
 use Rattle.std.proofs.Common.{◌≡◌, ◌<◌, length, ap, arith}
 use Rattle.sas_core.specs.declared.grounded.Change.{Change}
 use Rattle.sas_core.specs.Grounded.{operator_at, effect_at}

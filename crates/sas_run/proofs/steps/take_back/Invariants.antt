@@ -1,4 +1,4 @@
--- What was given to the variables of the effects so far is taken back.
+-- The given values of the variables of the effects so far are removed.
 use Rattle.std.proofs.Common.{◌≡◌, ℕ, ◌<◌, None}
 use Rattle.sas_core.specs.Grounded.{operator_at, effect_at}
 use Rattle.sas_run.specs.Given.{given_to, IsGivenTo}

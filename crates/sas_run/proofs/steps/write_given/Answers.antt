@@ -1,4 +1,4 @@
--- What is given to one more variable is written and taken back.
+-- The given value of one more variable is written and removed.
 use Rattle.std.proofs.Common.{◌≡◌, ◌<◌, length, set, None, Some, refl, sym, ap, subst, ◌∙◌, inl, inr, arith}
 use Rattle.std.proofs.lemmas.Bool.{cases_eq}
 use Rattle.sas_core.specs.declared.grounded.Change.{Change}

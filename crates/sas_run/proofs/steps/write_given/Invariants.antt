@@ -1,4 +1,4 @@
--- What was given to the variables of the effects so far is written and taken back.
+-- The given values of the variables of the effects so far are written and removed.
 use Rattle.std.proofs.Common.{◌≡◌, ℕ, ◌<◌, ◌≤◌, length, None}
 use Rattle.std.specs.Prelude.{vec_capacity}
 use Rattle.sas_core.specs.Grounded.{operator_at, effect_at}

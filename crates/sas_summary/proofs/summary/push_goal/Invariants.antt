@@ -3,7 +3,7 @@ use Rattle.sas_output.specs.Pieces.{Puts}
 use Rattle.sas_summary.proofs.Summaries.{goal_text}
 use Rattle.sas_summary.proofs.summary.push_goal.Given as goal
 
--- the lines of the facts so far were put, and no write has failed
+-- the lines of the facts so far were written, and no write has failed
 abbrev pub invariant-loop-fact : goal.invariant-loop-fact
 invariant-loop-fact g l = record {
   note : l.out.failed ≡ false;

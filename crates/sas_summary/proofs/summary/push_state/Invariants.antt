@@ -4,7 +4,7 @@ use Rattle.sas_output.specs.Pieces.{Puts}
 use Rattle.sas_summary.proofs.Summaries.{initial_text}
 use Rattle.sas_summary.proofs.summary.push_state.Given as goal
 
--- the lines of the variables so far were put, and no write has failed
+-- the lines of the variables so far were written, and no write has failed
 abbrev pub invariant-loop-var : goal.invariant-loop-var
 invariant-loop-var g l = record {
   note : l.out.failed ≡ false;

@@ -1,4 +1,4 @@
--- The changes so far, behind their number, stood before what is left.
+-- The bytes so far are the number and the changes so far, and the rest is left.
 use Rattle.std.proofs.Common.{◌≡◌, length}
 use Rattle.sas_task_line.specs.LinesBefore.{ChangesBefore}
 use Rattle.sas_task_line.proofs.sections.changes_before.Given as goal

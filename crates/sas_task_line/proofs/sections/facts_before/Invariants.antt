@@ -1,4 +1,4 @@
--- The facts so far, behind their number, stood before what is left.
+-- The bytes so far are the number and the facts so far, and the rest is left.
 use Rattle.std.proofs.Common.{◌≡◌, length}
 use Rattle.sas_task_line.specs.LinesBefore.{FactsBefore}
 use Rattle.sas_task_line.proofs.sections.facts_before.Given as goal

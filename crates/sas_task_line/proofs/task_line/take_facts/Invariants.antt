@@ -1,4 +1,4 @@
--- The facts so far stood before what is left.
+-- The words so far are the facts so far, and the rest is left.
 use Rattle.sas_task_line.specs.TaskWords.{TakesFacts}
 use Rattle.sas_task_line.proofs.task_line.take_facts.Given as goal
 

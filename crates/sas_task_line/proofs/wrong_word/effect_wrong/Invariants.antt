@@ -1,4 +1,4 @@
--- No word before the fact of this number is wrong.
+-- No word before the fact with this number is wrong.
 use Rattle.std.specs.Prelude.{◌≡◌}
 use Rattle.sas_task_line.specs.FirstWrong.{first_wrong, effect_words_in}
 use Rattle.sas_task_line.proofs.WrongWords.{wrong_from}

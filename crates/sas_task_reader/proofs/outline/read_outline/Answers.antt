@@ -16,7 +16,7 @@ use Rattle.sas_reader.proofs.Refusals.{reads_explained, refuses_explained}
 use Rattle.sas_task_reader.specs.TaskRefusal.{fault_in, found_in, HasReason}
 use Rattle.sas_task_reader.proofs.outline.read_outline.Goals as goal
 
--- what the machine keeps
+-- what the machine stores
 abbrev Keeps : List (List ℕ) → SoFar → Seen → Type 0
 Keeps lines s kept = kept ≡ kept_of s
 

@@ -14,7 +14,7 @@ use Rattle.sas_reader.proofs.Refusals.{reads_explained, refuses_explained}
 use Rattle.sas_task_reader.specs.TaskRefusal.{fault_in, found_in, HasReason}
 use Rattle.sas_task_reader.proofs.task.read_task_text.Goals as goal
 
--- what the machine keeps
+-- what the machine stores
 abbrev Keeps : List (List ℕ) → SoFar → List ℕ → Type 0
 Keeps lines s kept = kept ≡ text lines
 
@@ -27,7 +27,7 @@ Refused m line kind = RejectsLine m.judge line kind
 pub new-start-requires : goal.new-start-requires
 new-start-requires g c = (c.args.alloc, c.new.ensures)
 
--- where the machine has ended, it holds the text of what was read
+-- if the machine has ended, it has the text of what was read
 pub returns-in-Ok : goal.returns-in-Ok
 returns-in-Ok g c =
     reads_explained task_format TaskLineFits process_node task_start task_grammar (LedBy Keeps) Ended Refused Stopped (machine_follows Keeps) fault_in found_in HasReason g.R.Read.remaining _ _ _ c.in-Ok.machine _ c.in-Ok.ensures (λ b reached short.

@@ -1,4 +1,4 @@
--- Each part's equality decides whether the parts are the same, and so does that of the whole.
+-- The equality of each part is decided, and so is that of the whole.
 use Rattle.std.proofs.Common.{◌≡◌, ◌&&◌, refl, sym, ◌∙◌, nat_eq}
 use Rattle.std.specs.Bool.{Decides}
 use Rattle.std.specs.Cmp.{first_so, second_so, unsigned_Decides}

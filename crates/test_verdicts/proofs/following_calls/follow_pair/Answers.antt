@@ -1,4 +1,4 @@
--- What was held on the two variables is gone.
+-- The facts that held on the two variables are deleted.
 use Rattle.std.proofs.Common.{◌≡◌, ◌≢◌, ◌<◌, ◌∷◌, [], length, get_or, set, refl, sym, ◌∙◌, ap, subst}
 use Rattle.sas_meaning.specs.Layers.{IsBasic}
 use Rattle.sas_meaning.specs.Following.{HaveGone}

@@ -1,7 +1,7 @@
 use Rattle.std.proofs.Common.{length, ◌-◌, ◌≤◌}
 use Rattle.test_words.proofs.asked.fill.Given as goal
 
--- no more came than there is room for
+-- the bytes read so far fit into the buffer
 abbrev pub invariant-loop-filled : goal.invariant-loop-filled
 invariant-loop-filled g l = l.filled ≤ length l.buffer
 

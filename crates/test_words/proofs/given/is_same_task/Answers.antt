@@ -1,4 +1,4 @@
--- Tasks are equal where their parts are.
+-- Tasks are equal if their parts are.
 use Rattle.std.proofs.Common.{sym, ◌∙◌}
 use Rattle.sas_core.proofs.SameParts.{parts}
 use Rattle.test_words.proofs.given.is_same_task.Goals as goal

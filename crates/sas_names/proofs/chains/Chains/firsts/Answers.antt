@@ -4,7 +4,7 @@ use Rattle.std.proofs.lemmas.Bool.{cases_lt}
 use Rattle.std.proofs.lemmas.List.{get_or_append_left, get_or_push, get_or_read, length-append}
 use Rattle.sas_names.proofs.chains.Chains.firsts.Goals as goal
 
--- what is found for each number, with one more
+-- the operators found for each number, with one more
 one_more : (first : List (Option ℕ)) (numbers found : List ℕ) (x i : ℕ) → length found ≡ i
     → ((j : ℕ) → j < length found → get_or first (get_or numbers j 0) None ≡ Some (get_or found j 0)) → get_or first (get_or numbers i 0) None ≡ Some x
     → (j : ℕ) → j < length (found ++ x ∷ []) → get_or first (get_or numbers j 0) None ≡ Some (get_or (found ++ x ∷ []) j 0)

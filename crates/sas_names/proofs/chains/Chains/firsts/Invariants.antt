@@ -1,4 +1,4 @@
--- The numbers so far have their operators.
+-- The operators of all numbers so far are found.
 use Rattle.std.proofs.Common.{◌≡◌, ℕ, ◌<◌, ◌≤◌, length, get_or, None, Some}
 use Rattle.std.specs.Prelude.{vec_capacity}
 use Rattle.sas_names.proofs.chains.Chains.firsts.Given as goal

@@ -1,4 +1,4 @@
--- An operator that has one of the names is noted.
+-- An operator that has one of the names is stored.
 use Rattle.std.proofs.Common.{◌≡◌, ℕ, ◌+◌, ◌-◌, ◌<◌, List, length, get_or, slice_set, None, Some, sym, ap, subst, ◌∙◌, arith}
 use Rattle.std.proofs.lemmas.List.{length-set, get_or_read}
 use Rattle.sas_core.specs.Grounded.{operator_at}
@@ -51,7 +51,7 @@ index_mut-requires-in-Some g c =
     let named : number c.name.result.now ≡ Some k = sym c.in-Some.ensures in
     omega (arith, c.requires.below c.name.result.now k named, c.loop-operator.invariant.names, c.loop-operator.first.ok.0)
 
--- An operator that has none of the names is passed over.
+-- An operator that has none of the names is skipped.
 pub loop-operator-preserved : goal.loop-operator-preserved
 loop-operator-preserved g c =
     let p = g.T.Grounded.says c.args.task.now in

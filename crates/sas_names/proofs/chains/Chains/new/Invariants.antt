@@ -1,4 +1,4 @@
--- From the operator on all is noted.
+-- All operators from this one on are stored.
 use Rattle.std.proofs.Common.{◌≡◌, ◌≤◌, length}
 use Rattle.sas_names.specs.NameTable.{value_of}
 use Rattle.sas_names.specs.StepNames.{step_names}

@@ -1,4 +1,4 @@
--- From the operator on the map and the tables are as they are to be.
+-- The table and the list are right for all operators from this one on.
 use Rattle.std.proofs.Common.{◌≤◌, length}
 use Rattle.sas_names.specs.NameTable.{AreNamesFrom}
 use Rattle.sas_names.proofs.names.Names.add_all.Given as goal

@@ -2,7 +2,7 @@ use Rattle.std.proofs.Common.{length, ◌-◌, ◌≡◌}
 use Rattle.sas_reader.specs.Reader.{TookFront}
 use Rattle.sas_reader.proofs.reader.Reader.run.Given as goal
 
--- so much was taken
+-- `at` bytes were taken
 abbrev pub invariant-loop-at : goal.invariant-loop-at
 invariant-loop-at g l =
     record {

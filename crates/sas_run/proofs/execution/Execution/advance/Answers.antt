@@ -1,4 +1,4 @@
--- The next step is made, as it has one.
+-- The next step is made by its operator, which has a step.
 use Rattle.std.proofs.Common.{◌+◌, subst}
 use Rattle.sas_run.specs.Executions.{Executed, executed_of, Executes, Advances}
 use Rattle.sas_run.specs.Runs.{Run}

@@ -1,4 +1,4 @@
--- The plan ends, and the execution is back at its start.
+-- The plan ends, and the execution returns to its start.
 use Rattle.std.proofs.Common.{◌≤◌, length, subst, arith}
 use Rattle.sas_run.specs.declared.progress.Progress.{Progress}
 use Rattle.sas_run.specs.Executions.{Executed, executed_of, IsFound}

@@ -1,4 +1,4 @@
--- No step is known so far.
+-- No step is known to succeed yet.
 use Rattle.std.proofs.Common.{refl}
 use Rattle.sas_run.specs.Executions.{executed_of}
 use Rattle.sas_run.proofs.Executing.{executes_none}
