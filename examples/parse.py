@@ -3,7 +3,13 @@
     import parse
     parse.verdict("plan invalid: step 2: not applicable")  # ('invalid', {'reason': 'step 2: not applicable'})
 
-Fields are strings. Give answers as text that was decoded with errors="replace", since names are bytes and need not be UTF-8.
+Fields are strings. A cost has at most 64 bits, and may be larger than 2^53.
+
+- Read answers as bytes, or as text with errors="replace": names are bytes, and need not be UTF-8.
+- Split lines at LF only: splitlines() also splits at a form feed, which a name may have.
+- Each pattern is anchored at both ends. So no name looks like a verdict: names follow `step`, `initial`, `change`, `goal` or two spaces.
+- A label of `plans` may be any text without a line end, even `: plan valid: `. The last `: plan ` of a line is the program's. The last line
+  of a run is its summary; in several runs, `verdicts` treats a line as a summary if it matches the lines before it.
 """
 import re
 
