@@ -20,7 +20,7 @@ function folded(name) {
 
 FNR == 1 { file++ }
 
-# the task: its metric, and each operator's name and cost, which stands in front of its end
+# the task: its metric, and each operator's name and cost, which comes before its end
 file == 1 {
     if (FNR == 5) metric = $0
     if (before == "begin_operator") {
