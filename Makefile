@@ -5,7 +5,7 @@
 # make install    installs what was built, below PREFIX (/usr/local), libraries in its folder LIBDIR (lib), with NAME (sas) for the
 #                 program, and DESTDIR in front; proves nothing. make uninstall removes it; docs/INSTALL.md says which files these are
 # make dist   packs what was built into sas-VERSION-x86_64-linux.tar.gz, with a program that needs no other file; docs/INSTALL.md
-# make bench  measures ./sas over inputs of a fiftieth of the size, in a minute; docs/BENCHMARK.md says how to measure in full
+# make bench  measures ./sas over inputs of a fiftieth of the size, in a minute; docs/SPEED.md says how to measure in full
 # make clean  removes what was built and packed, and the inputs of `make bench`
 #
 # `rt`, the command of the toolchain, has to be on the PATH, and python3; `make lib`, `make dist` and `make test` want a C compiler, $CC or

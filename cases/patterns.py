@@ -1,13 +1,13 @@
 #!/usr/bin/env python3
-"""Tries the patterns of docs/GUIDE.md over the answers that the cases of the program say.
+"""Tries the patterns of examples/parse.py and of docs/GUIDE.md over the answers that the cases of the program say.
 
     python3 cases/patterns.py
 
-The page's code is run, and given each answer of verdicts.json, why.json, traces.json, many.json, tasks.json and groups.json. What is
+The code is run, and given each answer of verdicts.json, why.json, traces.json, many.json, tasks.json and groups.json. What is
 found, put into the words of the answer again, has to give its line, and no other pattern may find anything. Each that doesn't has a
 line, and the last line is 'N passed, M failed'. The exit status is 0 where none failed.
 
-No proof reads the page. A pattern that takes a name for a verdict, or lacks a form of an answer, would be found here alone.
+No proof reads them. A pattern that takes a name for a verdict, or lacks a form of an answer, would be found here alone.
 """
 import os
 import re
@@ -16,7 +16,7 @@ import types
 import report
 from texts import TOP, as_bytes, table, text_of
 
-PAGE = "docs/GUIDE.md"
+CODE, PAGE = "examples/parse.py", "docs/GUIDE.md"
 # how a line looks whose fields were found
 FORMS = {
     "VALID": "plan valid: {steps} steps, cost {cost}",
@@ -35,11 +35,10 @@ VERDICTS, REASONS = ("VALID", "INVALID", "REFUSED", "LAYERED"), ("STEP", "GOAL",
 LABELS = ("p.1", "a b: c", "x: plan valid: 1 steps, cost 1", "2 plans, 2 valid, best cost 1: x", "  spaces", "form\x0cfeed", "caf\xe9")
 
 
-def of_page():
-    """Returns the page's code, run."""
-    code = re.search(r"```python\n(.*?)```", text_of(os.path.join(TOP, PAGE)), re.DOTALL)[1]
+def of_example():
+    """Returns the code, run."""
     module = types.ModuleType("parse")
-    exec(compile(code, PAGE, "exec"), module.__dict__)
+    exec(compile(text_of(os.path.join(TOP, CODE)), CODE, "exec"), module.__dict__)
     return module
 
 
@@ -153,7 +152,7 @@ def wrong_refusals(parse, lines):
 
 
 def main():
-    parse = of_page()
+    parse = of_example()
     found = [(name, check(parse, answer)) for name, answer, check in answers()]
     report.end([{"name": name} for name, _ in found], [wrong for _, wrong in found])
 

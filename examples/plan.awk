@@ -1,10 +1,13 @@
-# Writes the plan of another writer as one that `sas` reads, with the names that the task has and a cost line:
+# Converts the plan of another planner to the form that `sas` reads:
 #
 #   awk -f examples/plan.awk output.sas other.plan > sas_plan
 #
-# Comments, empty lines, times and durations are left out. A name is looked up in the task without regard to capitals and to spaces
-# around it; one that the task hasn't stays, in small letters, and `sas plan` says at which step it stands. The cost is the sum of the
-# first operators of these names; where others of the name were meant, `sas plan` says which cost is right.
+# It drops comments from `;` on, empty lines, times before a step (`0.000: `, `step 0: `) and durations after it (`[1.000]`). It adds
+# parentheses, ends lines with LF, and joins spaces. PDDL doesn't distinguish upper and lower case, so a step gets the name that the task
+# has, also `go ` with its space for `(go)`. A name that the task doesn't have is kept in lower case; `sas plan` names the step.
+#
+# The cost is the sum of the costs of the first operators of these names; a cost in the other plan isn't checked. If several operators
+# have one name and different costs, the sum may be wrong. Then `sas plan` prints the right one.
 
 function folded(name) {
     name = tolower(name)
@@ -17,7 +20,7 @@ function folded(name) {
 
 FNR == 1 { file++ }
 
-# the task: its metric, and each operator's name and cost, which stands in front of its end
+# the task: its metric, and each operator's name and cost, which comes before its end
 file == 1 {
     if (FNR == 5) metric = $0
     if (before == "begin_operator") {
