@@ -21,8 +21,8 @@ CHAIN, STORMS, BREEZES = 20_000, 10, 5_000
 NAME, TIMES, MEMORY = 20_000, 5_000, 40_000_000
 # how many plans there are, and how many operators, whose names are looked up in one table; how many prices they have
 PLANS, OPERATORS, PRICES = 10_000, 100_000, 97
-# how many files the program may have open: three streams, what it opens in their places, and one more; and some more
-ONE, FEW = 7, 16
+# how many files the program may have open: three streams and one more; and some more
+ONE, FEW = 4, 16
 # how many steps a plan has that is named so often, what memory the program has then, and how often other plans are named
 LONG, AGAIN, LEAN, OFTEN = 100_000, 80, 20_000_000, 150
 # how many bytes a file may have that an output goes into

@@ -4,5 +4,5 @@
 use std::process::ExitCode;
 
 fn main(rt: HostRuntime) -> ExitCode {
-    sas_tool::start(&rt)
+    sas_tool::start(&rt, &rt.stdin(), &rt.stdout(), &rt.stderr())
 }

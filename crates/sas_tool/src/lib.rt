@@ -3,6 +3,7 @@
 
 mod plan_files;
 mod program;
+mod streams;
 mod until_end;
 mod words;
 

@@ -2,12 +2,14 @@
 ghost use Rattle.std.specs.Prelude.{◌≡◌, false};
 
 use crate::plan_files::{PlanFiles, are_labels, name_input_twice};
+use crate::streams::replace_closed;
 use crate::until_end::UntilEnd;
 use crate::words::{Asked, Job, Source, WordsFault, command};
 use crate::{Status, ToolFault, explain, judge, run, trace};
 use sas_lines::{Opened, Watched};
 use sas_plans::{InputFault, JudgeFault};
 use std::io::{ErrorKind, Write};
+use std::os::fd::AsFd;
 use std::process::ExitCode;
 use std::rt::{Env, Files};
 use std::{env, fs, io};
@@ -24,36 +26,31 @@ const NOT_UNDERSTOOD: u8 = 2;
 /// The exit status at any other fault.
 const FAULT: u8 = 3;
 
-/// A folder that there always is.
-const FOLDER: &str = "/";
-
 const OUT_OF_MEMORY: &str = "sas: out of memory";
 
 const WRITE_FAILED: &str = "sas: write failed";
 
 const INPUT_TWICE: &str = "sas: standard input used twice";
 
-/// What stands in the places of standard streams that were closed at the start, while the program runs. A file that is
-/// opened takes the lowest place that is free, and one that is named must not become standard input or output.
-#[derive(Drop)]
-struct Places<F> {
-    first: Option<F>,
-    second: Option<F>,
-    third: Option<F>,
-}
-
-/// Runs the program. In this order: its arguments, opening its inputs, the run, and flushing standard output. The first of these
-/// that fails is reported by a line on standard error; a failure to write that line is ignored. The exit status is 0 for yes, 1 for
-/// no, 2 for invalid arguments, and 3 otherwise. A read of standard input that is closed at the start fails, and so does a write to
-/// standard output that is.
-pub fn start<R: AllocGlobal + Env + Files + Input + Print + Eprint>(rt: &R) -> ExitCode {
+/// Runs the program. In this order: its arguments, replacing closed standard streams, opening its inputs, the run, and flushing
+/// standard output. The first of these that fails is reported by a line on standard error; a failure to write that line is ignored.
+/// The exit status is 0 for yes, 1 for no, 2 for invalid arguments, and 3 otherwise. A read of standard input that is closed at the
+/// start fails, and so does a write to standard output that is.
+pub fn start<R: AllocGlobal + Env + Files + Input + Print + Eprint>(
+    rt: &R,
+    input: &impl AsFd,
+    output: &impl AsFd,
+    error: &impl AsFd,
+) -> ExitCode {
     let job = match job_of_words(rt) {
         Ok(job) => job,
         Err(status) => return status,
     };
-    let places = take_places(rt);
+    let Ok(replaced) = replace_closed(rt, input, output, error) else {
+        return stop(rt, FAULT, "sas: cannot open /dev/null");
+    };
     let ended = run_job(rt, job);
-    drop(places);
+    drop(replaced);
     ended
 }
 
@@ -190,23 +187,6 @@ fn ending(outcome: &Result<Status, ToolFault>) -> (u8, Option<&'static str>) {
 fn stop<R: Eprint>(rt: &R, status: u8, line: &str) -> ExitCode {
     let _ = rt.eprintln(line);
     ExitCode::from(status)
-}
-
-/// Takes the places of standard input, output and error, where they are free. A folder can be opened, and neither be
-/// read nor written, so it fails as a stream does that isn't open.
-fn take_places<R: Files>(rt: &R) -> Places<R::File> {
-    Places {
-        first: take_place(rt),
-        second: take_place(rt),
-        third: take_place(rt),
-    }
-}
-
-/// Takes the lowest place that is free. It isn't inlined, since what is opened takes 4 kB of the stack for its name, and what is
-/// inlined would keep them all along.
-#[inline(never)]
-fn take_place<R: Files>(rt: &R) -> Option<R::File> {
-    fs::open(rt, FOLDER).ok()
 }
 
 /// Opens an input of the program, in this place. What the request doesn't read stays nothing. An input has a buffer of 8 kB, so it is

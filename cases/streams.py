@@ -1,0 +1,122 @@
+#!/usr/bin/env python3
+"""Runs the program with its standard streams open and closed, and compares how it ends and which files it opens.
+
+    python3 cases/streams.py SAS
+
+A file gets the lowest free number when it is opened. If standard input is closed, the first input would become standard input, and `-`
+would read it. So the program opens `/dev/null` for each closed stream before its inputs, and nothing if no stream is closed.
+
+Each request is made with each set of closed streams, and there three times: with all files, with `/` unreadable, and with `/dev/null`
+unreadable. This could show a program that opens a file though no stream is closed; one that opens `/` in place of a closed stream,
+which answers about the wrong file if `/` can't be read; and one that goes on if a stream can't be replaced, which may do so, too.
+
+The library that notes the files is made of opened.c, with $CC or cc. Each case that fails has a line, and the last line is
+'N passed, M failed'. The exit status is 0 where none failed.
+"""
+import itertools
+import os
+import shlex
+import subprocess
+import sys
+import tempfile
+from collections import namedtuple
+from concurrent.futures import ThreadPoolExecutor
+
+import report
+from run import CLOSING, SECONDS
+from texts import CASES, TOP, bytes_of_file
+
+NULL = "/dev/null"
+UNREADABLE = ("", "/", NULL)
+TASK, PLAN, NO_GROUPS, NOWHERE = "examples/fuses.sas", "examples/fuses.plan", "cases/tasks/minimal.sas", "examples/none"
+LAYERED, VALID, BEST = "task layered\n", "plan valid: 4 steps, cost 4\n", "1 plans, 1 valid, best cost 4"
+
+# the exit status, standard output and standard error
+End = namedtuple("End", "status output error", defaults=("",))
+# A request: its words, the files that it opens, how it ends, and the file that it reads from standard input, if any. If standard
+# input is closed, it opens only some of the files, and `unread` is the line on standard error.
+Request = namedtuple("Request", "words opened end given opened_before unread", defaults=(None, [], "sas: read failed\n"))
+
+REQUESTS = (
+    Request(["check", TASK], [TASK], End(0, LAYERED)),
+    Request(["check", "-"], [], End(0, LAYERED), TASK),
+    Request(["plan", TASK, PLAN], [TASK, PLAN], End(0, VALID)),
+    Request(["plan", "-", PLAN], [PLAN], End(0, VALID), TASK, [PLAN]),
+    Request(["plan", TASK, "-"], [TASK], End(0, VALID), PLAN, [TASK]),
+    Request(["plan", PLAN, "-"], [PLAN], End(1, "task refused: line 1: keyword\n")),
+    Request(["plans", TASK, PLAN], [TASK, PLAN], End(0, f"{PLAN}: {VALID}{BEST}: {PLAN}\n")),
+    Request(["plans", "-", PLAN], [PLAN], End(0, f"{PLAN}: {VALID}{BEST}: {PLAN}\n"), TASK),
+    Request(["plans", TASK, "-"], [TASK], End(0, f"-: {VALID}{BEST}: -\n"), PLAN, [TASK], "sas: read failed: -\n"),
+    Request(["mutex", NO_GROUPS], [NO_GROUPS], End(0, "")),
+    Request(["check", NOWHERE], [NOWHERE], End(3, "", "sas: cannot open the task\n")),
+    Request(["plan", "-", NOWHERE], [NOWHERE], End(3, "", "sas: cannot open the plan\n")),
+    Request(["plan", "-", "-"], [], End(2, "", "sas: standard input used twice\n")),
+)
+
+
+def stream_cases():
+    """Yields each request, with each set of closed streams and each file that is unreadable meanwhile."""
+    sets = [closed for count in range(4) for closed in itertools.combinations(CLOSING, count)]
+    for request, closed, unreadable in itertools.product(REQUESTS, sets, UNREADABLE):
+        name = f"{' '.join(request.words)}, closed: {' '.join(closed) or 'none'}, unreadable: {unreadable or 'none'}"
+        yield {"name": name, "request": request, "closed": closed, "unreadable": unreadable}
+
+
+def due(request, closed, unreadable):
+    """Returns the files that a request opens, and how it ends, as if its end were seen on closed streams, too."""
+    if request.end.status == 2:
+        return [], request.end
+    if closed and unreadable == NULL:
+        return [NULL], End(3, "", "sas: cannot open /dev/null\n")
+    replaced = [NULL for _ in closed]
+    if request.given and "input" in closed:
+        return replaced + request.opened_before, End(3, "", request.unread)
+    if request.end.output and "output" in closed:
+        return replaced + request.opened, End(3, "", "sas: write failed\n")
+    return replaced + request.opened, request.end
+
+
+def seen(end, closed):
+    """Returns what is seen of an end if these streams are closed."""
+    return End(end.status, "" if "output" in closed else end.output, "" if "error" in closed else end.error)
+
+
+def ended(program, library, case):
+    """Makes a request, and returns the files that it opens, and how it ends."""
+    request = case["request"]
+    with tempfile.TemporaryFile() as notes:
+        settings = [f"LD_PRELOAD={library}", f"OPENED={notes.fileno()}", f"UNREADABLE={case['unreadable']}"]
+        script = "; ".join([*(CLOSING[name] for name in case["closed"]), 'exec env "$@"'])
+        ran = subprocess.run(
+            ["sh", "-c", script, "", *settings, program, *request.words],
+            input=bytes_of_file(request.given) if request.given else b"",
+            capture_output=True,
+            check=False,
+            cwd=TOP,
+            pass_fds=[notes.fileno()],
+            timeout=SECONDS,
+        )
+        notes.seek(0)
+        return notes.read().decode().splitlines(), End(ran.returncode, ran.stdout.decode(), ran.stderr.decode())
+
+
+def faults(program, library, case):
+    """Returns what is wrong with the program's answer to a case."""
+    files, end = due(case["request"], case["closed"], case["unreadable"])
+    expected, found = (files, seen(end, case["closed"])), ended(program, library, case)
+    return [] if found == expected else [f"{found}, not {expected}"]
+
+
+def main():
+    if len(sys.argv) != 2:
+        sys.exit(__doc__)
+    program, cases = os.path.abspath(sys.argv[1]), list(stream_cases())
+    with tempfile.TemporaryDirectory() as folder, ThreadPoolExecutor(os.cpu_count()) as pool:
+        library = os.path.join(folder, "opened.so")
+        command = shlex.split(os.environ.get("CC") or "cc")
+        subprocess.run([*command, "-O1", "-shared", "-fPIC", "-o", library, os.path.join(CASES, "opened.c")], check=True)
+        wrong = list(pool.map(lambda case: faults(program, library, case), cases))
+    report.end(cases, wrong)
+
+
+main()
