@@ -11,3 +11,4 @@ pub mod RuleTests
 pub mod KnownValues
 pub mod LayerChecksAreRules
 pub mod FiringRules
+pub mod DerivedVariables
