@@ -12,3 +12,5 @@ pub mod KnownValues
 pub mod LayerChecksAreRules
 pub mod FiringRules
 pub mod DerivedVariables
+pub mod Members
+pub mod Places

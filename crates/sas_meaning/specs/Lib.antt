@@ -11,3 +11,4 @@ pub mod LayerChecks
 pub mod Laws
 pub mod Forced
 pub mod DerivedVariables
+pub mod Places

@@ -13,6 +13,7 @@ use Rattle.sas_lists.specs.declared.by_key.Entry.{Entry}
 use Rattle.sas_lists.specs.ByKey.{items_of, by_key}
 use Rattle.sas_lists.proofs.Tables.{length-table}
 use Rattle.sas_lists.proofs.ByKey.{under_key, all_items, holds}
+use Rattle.sas_meaning.proofs.Forced.{condition_within}
 use Rattle.sas_why.specs.Asking.{asked_entry, AsksFor, IsAsked, AddsAsked, asking_at, IsAskingIndex}
 
 -- ---- the conditions of one rule
