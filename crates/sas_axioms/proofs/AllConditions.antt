@@ -14,11 +14,12 @@ use Rattle.sas_lists.specs.declared.by_key.Entry.{Entry}
 use Rattle.sas_lists.specs.ByKey.{items_of, by_key}
 use Rattle.sas_lists.proofs.Tables.{length-table}
 use Rattle.sas_lists.proofs.ByKey.{under_key, all_items}
+use Rattle.sas_meaning.proofs.Forced.{condition_within}
 use Rattle.sas_axioms.specs.declared.waiting.Waiting.{Waiting}
 use Rattle.sas_axioms.specs.LayerRules.{IsRuleOn}
 use Rattle.sas_axioms.specs.Waiting.{asking, entry_of, waits, waiting_at, released, occurrences}
 use Rattle.sas_axioms.specs.Conditions.{open_conditions, IsOfRule, IsCondition, entries, AreAllConditions, IsFullIndex, AreCounted}
-use Rattle.sas_axioms.proofs.Entries.{asked, counted_own, counted_other, waits_append, condition_within, released_counts}
+use Rattle.sas_axioms.proofs.Entries.{asked, counted_own, counted_other, waits_append, released_counts}
 
 -- ---- building the index
 

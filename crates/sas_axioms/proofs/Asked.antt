@@ -11,11 +11,11 @@ use Rattle.sas_core.specs.declared.parts.Parts.{Parts}
 use Rattle.sas_core.specs.WellRanged.{WellRanged}
 use Rattle.sas_core.specs.Grounded.{rule_at}
 use Rattle.sas_meaning.specs.Layers.{IsBasic}
+use Rattle.sas_meaning.proofs.Forced.{condition_within}
 use Rattle.sas_axioms.specs.declared.waiting.Waiting.{Waiting}
 use Rattle.sas_axioms.specs.LayerRules.{IsRuleOn}
 use Rattle.sas_axioms.specs.Waiting.{asking, waiting_at, released, occurrences}
 use Rattle.sas_axioms.specs.Conditions.{IsAsked, AreAskedBasic, IsFullIndex}
-use Rattle.sas_axioms.proofs.Entries.{condition_within}
 
 -- ---- what waits for a variable that is asked about
 

@@ -1,5 +1,5 @@
 -- The counters of a worklist.
-use Rattle.std.proofs.Common.{◌≡◌, ◌≢◌, ℕ, ◌+◌, ◌-◌, ◌<◌, ◌≤◌, ◌==◌, ◌&&◌, ◌⊎◌, true, cond, None, List, [], ◌∷◌, ◌++◌, length, get_or, set, refl, sym, ◌∙◌, ap, subst, inl, inr, arith}
+use Rattle.std.proofs.Common.{◌≡◌, ◌≢◌, ℕ, ◌+◌, ◌-◌, ◌<◌, ◌≤◌, ◌==◌, ◌&&◌, ◌⊎◌, true, cond, List, [], ◌∷◌, ◌++◌, length, get_or, set, refl, sym, ◌∙◌, ap, subst, inl, inr, arith}
 use Rattle.std.proofs.lemmas.Bool.{cases_eq, eq-eqb}
 use Rattle.std.proofs.lemmas.Bool.Decides.{eqb_tells}
 use Rattle.std.proofs.lemmas.List.{get_or-set_same, get_or-set_other, length-set, get_or_default}
@@ -21,6 +21,7 @@ use Rattle.sas_axioms.specs.Waiting.{occurrences, asking}
 use Rattle.sas_axioms.specs.Conditions.{open_conditions}
 use Rattle.sas_axioms.specs.declared.firing.Work.{Work}
 use Rattle.sas_axioms.proofs.OneLayer.{one_layer}
+use Rattle.sas_axioms.proofs.Sources.{no_rule}
 use Rattle.sas_axioms.specs.Worklist.{SameCountsOff, value_seen, IsRunning, AreCounted, HaveFired, IsAtWork, WorkGoesOn, FiresRule}
 use Rattle.std.specs.List.{All}
 use Rattle.std.proofs.lemmas.List.Elements.{All-nil, All-cons, All-head, All-tail}
@@ -53,9 +54,6 @@ pub record Pushed (t : Parts) (layer : ℕ) (s stack : List ℕ) (rule : Rule) :
   pub kept : (v : ℕ) → differs t s v ≡ true → get_or (set s rule.var rule.new) v 0 ≡ get_or s v 0
   pub off : SameOff t layer s (set s rule.var rule.new)
   pub fewer : equal_places (set s rule.var rule.new) t.init < equal_places s t.init
-
-abbrev no_rule : Rule
-no_rule = record { conditions = []; var = 0; old = None; new = 0 }
 
 -- the variable of a rule exists
 pub rule_within : (t : Parts) (s : List ℕ) (k : ℕ) → WellRanged t → IsState t.variables s → k < length t.rules → (rule_at t k).var < length s

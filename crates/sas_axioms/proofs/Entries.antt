@@ -8,16 +8,12 @@ use Rattle.std.proofs.lemmas.List.Elements.{All-nil, All-push, All-weaker}
 use Rattle.sas_core.specs.declared.parts.Fact.{Fact}
 use Rattle.sas_core.specs.declared.parts.Parts.{Parts}
 use Rattle.sas_core.specs.Grounded.{rule_at}
-use Rattle.sas_core.specs.Variables.{FactExists}
-use Rattle.sas_core.specs.WellRanged.{WellRanged, RuleFits}
-use Rattle.sas_core.proofs.Places.{holds_at}
 use Rattle.sas_lists.specs.declared.by_key.Entry.{Entry}
 use Rattle.sas_lists.specs.ByKey.{items_of, by_key}
 use Rattle.sas_lists.proofs.Tables.{length-table}
 use Rattle.sas_lists.proofs.ByKey.{items_none, items_cons, under_key, all_items}
 use Rattle.sas_meaning.specs.Layers.{IsOnLayer}
 use Rattle.sas_meaning.proofs.Layers.{layer_tells, on_layer_within}
-use Rattle.sas_meaning.proofs.Forced.{fact_within}
 use Rattle.sas_axioms.specs.declared.waiting.Waiting.{Waiting}
 use Rattle.sas_axioms.specs.LayerRules.{IsRuleOn}
 use Rattle.sas_axioms.specs.Waiting.{asking, entry_of, waits, released, occurrences, IsOfOneLayer, IsWaiting, AddsWaiting, IsIndex}
@@ -26,14 +22,6 @@ use Rattle.sas_axioms.proofs.OneLayer.{one_layer}
 -- an entry of a rule that can fire, and of a variable of its layer
 abbrev OfOneLayer : Parts → Entry Waiting → Type 0
 OfOneLayer p e = IsOfOneLayer p e.key e.item
-
--- the variable of a rule's condition exists
-pub condition_within : (p : Parts) (rule place : ℕ) (d : Fact) → WellRanged p → rule < length p.rules → place < length (rule_at p rule).conditions
-    → (get_or (rule_at p rule).conditions place d).var < length p.variables
-condition_within p rule place d ranged exists within =
-    let fits : RuleFits p.variables (rule_at p rule) = holds_at (RuleFits p.variables) (record { conditions = []; var = 0; old = None; new = 0 }) p.rules ranged.rules.each rule exists in
-    let there : FactExists p.variables (get_or (rule_at p rule).conditions place d) = holds_at (FactExists p.variables) d (rule_at p rule).conditions fits.conditions.each place within in
-    fact_within p (get_or (rule_at p rule).conditions place d).var (get_or (rule_at p rule).conditions place d).value there
 
 -- the test whether an optional number is the number
 pub same_option : (o : Option ℕ) (n : ℕ) → ((o ≡ Some n) × (option_eq ◌==◌ o (Some n) ≡ true)) ⊎ ((o ≢ Some n) × (option_eq ◌==◌ o (Some n) ≡ false))

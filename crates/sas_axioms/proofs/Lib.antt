@@ -6,7 +6,6 @@ pub mod Groups
 pub mod Standing
 pub mod AllConditions
 pub mod Asked
-pub mod Derived
 pub mod Spans
 pub mod LayerStart
 pub mod Sources

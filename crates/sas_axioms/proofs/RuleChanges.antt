@@ -14,7 +14,7 @@ use Rattle.sas_core.proofs.Places.{holds_at}
 use Rattle.sas_meaning.specs.Layers.{default_of}
 use Rattle.sas_meaning.specs.Settled.{differs}
 use Rattle.sas_meaning.proofs.Forced.{fact_within}
-use Rattle.sas_axioms.proofs.Tracking.{no_rule}
+use Rattle.sas_axioms.proofs.Sources.{no_rule}
 
 module _ (p : Parts) (ranged : WellRanged p) (rule : ℕ) (exists : rule < length p.rules) where
   rule_fits : RuleFits p.variables (rule_at p rule)

@@ -1,69 +1,109 @@
--- The rules of each variable.
-use Rattle.std.proofs.Common.{◌≡◌, ℕ, ◌+◌, ◌<◌, List, [], ◌∷◌, ◌++◌, length, get_or, refl, sym, subst, inl, inr, arith}
+-- The rules of each variable that can fire, one rule more.
+use Rattle.std.proofs.Common.{◌≡◌, ◌≢◌, ℕ, ◌+◌, ◌<◌, ◌≤◌, Bool, true, false, List, [], ◌∷◌, ◌++◌, length, get_or, refl, sym, ◌∙◌, ap, subst, inl, inr, arith}
+use Rattle.std.specs.Prelude.{◌==◌, ◌&&◌, not, if◌then◌else◌}
 use Rattle.std.specs.List.{All, Contains}
-use Rattle.std.proofs.lemmas.Bool.{cases_eq}
-use Rattle.std.proofs.lemmas.List.Elements.{All-nil, All-push, All-weaker, Contains-push, Contains-append_left}
+use Rattle.std.proofs.lemmas.Bool.{eqb-true, eq-eqb, ne_eqb, and_parts, and_from}
+use Rattle.std.proofs.lemmas.Bool.Decides.{eqb_tells, Decides-eqb, Decides-not}
+use Rattle.std.proofs.lemmas.List.{append-nil}
+use Rattle.std.proofs.lemmas.List.Elements.{All-nil, All-push, Contains-get_or}
+use Rattle.sas_core.specs.declared.parts.Rule.{Rule}
 use Rattle.sas_core.specs.declared.parts.Parts.{Parts}
 use Rattle.sas_core.specs.Grounded.{rule_at}
 use Rattle.sas_lists.specs.declared.by_key.Entry.{Entry}
 use Rattle.sas_lists.specs.ByKey.{items_of, by_key}
 use Rattle.sas_lists.proofs.Tables.{length-table}
-use Rattle.sas_lists.proofs.ByKey.{under_key, all_items, holds}
-use Rattle.sas_meaning.specs.Layers.{IsOnLayer}
+use Rattle.sas_lists.proofs.ByKey.{item_if, items_none, items_append, items_cons, under_key}
+use Rattle.sas_meaning.specs.Layers.{IsOnLayer, default_of, CanFire, can_fire}
+use Rattle.sas_meaning.specs.Places.{places, can_give}
 use Rattle.sas_meaning.proofs.Layers.{on_layer_within}
+use Rattle.sas_meaning.proofs.Places.{places_to, places_one_more, places_all, place_is, is_place}
 use Rattle.sas_axioms.specs.LayerRules.{IsRuleOn, AreRulesOf}
 
--- the entry is of a rule that can fire, under its variable
-pub record IsOfVariable (p : Parts) (e : Entry ℕ) : Type 0 where
-  pub layer : ℕ
-  pub is : IsRuleOn p layer e.item
-  pub key : e.key ≡ (rule_at p e.item).var
+module _ (p : Parts) where
+  abbrev pub entry_of : ℕ → Entry ℕ
+  entry_of rule = record { key = (rule_at p rule).var; item = rule }
 
--- the entry of a rule
-abbrev pub entry_of_rule : Parts → ℕ → Entry ℕ
-entry_of_rule p rule = record { key = (rule_at p rule).var; item = rule }
+  -- under each variable there are its rules that can fire among the first k
+  pub record RulesTo (k : ℕ) (entries : List (Entry ℕ)) : Type 0 where
+    pub exist : All (λ (e : Entry ℕ). e.key < length p.variables) entries
+    pub each : (var : ℕ) → items_of var entries ≡ places_to (can_give p var) k p.rules
 
--- the first k rules
-pub record RulesUpTo (p : Parts) (k : ℕ) (es : List (Entry ℕ)) : Type 0 where
-  pub only : All (IsOfVariable p) es
-  pub each : (layer rule : ℕ) → rule < k → IsRuleOn p layer rule → Contains es (entry_of_rule p rule)
+  pub rules_none : RulesTo 0 []
+  rules_none = record { exist = All-nil (λ (e : Entry ℕ). e.key < length p.variables); each = λ var. items_none var }
 
-pub rules_none : (p : Parts) → RulesUpTo p 0 []
-rules_none p = record { only = All-nil (IsOfVariable p); each = λ layer rule lt is. absurd (omega arith) }
+  pub rules_skip : (k : ℕ) (entries : List (Entry ℕ)) → k < length p.rules → (rule_at p k).new ≡ default_of p (rule_at p k).var → RulesTo k entries → RulesTo (k + 1) entries
+  rules_skip k entries lt same to = record {
+    exist = to.exist;
+    each = λ var. to.each var ∙ sym (places_one_more (can_give p var) k p.rules _ lt
+        ∙ (ap (λ b. places_to (can_give p var) k p.rules ++ (if b then k ∷ [] else [])) (never var) ∙ append-nil (places_to (can_give p var) k p.rules)));
+  }
+    where
+      never : (var : ℕ) → can_give p var (rule_at p k) ≡ false
+      never var = ap (λ b. ((rule_at p k).var == var) && not b) (eq-eqb (rule_at p k).new (default_of p (rule_at p k).var) same)
+          ∙ and_false ((rule_at p k).var == var)
+        where
+          and_false : (x : Bool) → (x && false) ≡ false
+          and_false true = refl
+          and_false false = refl
 
-pub rules_skip : (p : Parts) (k : ℕ) (es : List (Entry ℕ)) → ((layer : ℕ) → IsRuleOn p layer k → ⊥) → RulesUpTo p k es → RulesUpTo p (k + 1) es
-rules_skip p k es not up = record {
-  only = up.only;
-  each = λ layer rule lt is. elim (cases_eq rule k) [
-    | inl e ↦ absurd (not layer (subst (λ r. IsRuleOn p layer r) e is))
-    | inr ne ↦ up.each layer rule (omega arith) is
-  ];
-}
+  pub rules_more : (k : ℕ) (entries : List (Entry ℕ)) → k < length p.rules → (rule_at p k).var < length p.variables → (rule_at p k).new ≢ default_of p (rule_at p k).var
+      → RulesTo k entries → RulesTo (k + 1) (entries ++ entry_of k ∷ [])
+  rules_more k entries lt within other to = record {
+    exist = All-push (λ (e : Entry ℕ). e.key < length p.variables) entries (entry_of k) to.exist within;
+    each = λ var. items_append var entries (entry_of k ∷ [])
+        ∙ (ap (λ (l : List ℕ). l ++ items_of var (entry_of k ∷ [])) (to.each var)
+        ∙ (ap (λ (l : List ℕ). places_to (can_give p var) k p.rules ++ l) (one var)
+        ∙ sym (places_one_more (can_give p var) k p.rules _ lt)));
+  }
+    where
+      can : can_fire p (rule_at p k) ≡ true
+      can = ap not (ne_eqb (rule_at p k).new (default_of p (rule_at p k).var) other)
 
-pub rules_more : (p : Parts) (k layer : ℕ) (es : List (Entry ℕ)) → IsRuleOn p layer k → RulesUpTo p k es → RulesUpTo p (k + 1) (es ++ entry_of_rule p k ∷ [])
-rules_more p k layer es is up = record {
-  only = All-push (IsOfVariable p) es (entry_of_rule p k) up.only (record { layer = layer; is = is; key = refl });
-  each = λ m rule lt on. elim (cases_eq rule k) [
-    | inl e ↦ subst (λ r. Contains (es ++ entry_of_rule p k ∷ []) (entry_of_rule p r)) (sym e) (Contains-push es (entry_of_rule p k))
-    | inr ne ↦ Contains-append_left es (entry_of_rule p k ∷ []) (entry_of_rule p rule) (up.each m rule (omega arith) on)
-  ];
-}
+      one : (var : ℕ) → items_of var (entry_of k ∷ []) ≡ (if can_give p var (rule_at p k) then k ∷ [] else [])
+      one var = items_cons var (entry_of k) [] ∙ (ap (λ (l : List ℕ). item_if var (entry_of k) ++ l) (items_none var)
+          ∙ (append-nil (item_if var (entry_of k)) ∙ elim (eqb_tells (rule_at p k).var var) [
+            | inl e ↦ rw (e.0, can) refl
+            | inr e ↦ rw e.0 refl
+          ]))
 
-pub rules_exist : (p : Parts) (k : ℕ) (es : List (Entry ℕ)) → RulesUpTo p k es → All (λ (e : Entry ℕ). e.key < length p.variables) es
-rules_exist p k es up = All-weaker (IsOfVariable p) (λ (e : Entry ℕ). e.key < length p.variables)
-    (λ e h. rw h.key (on_layer_within p h.layer (rule_at p e.item).var h.is.on)) es up.only
+  pub rules_index : (k : ℕ) (entries : List (Entry ℕ)) → length p.rules ≤ k → RulesTo k entries → AreRulesOf p (by_key entries (length p.variables))
+  rules_index k entries all to = record {
+    one_each = length-table (length p.variables) (λ var. items_of var entries);
+    each = λ var lt. under_key entries (length p.variables) var to.exist ∙ (to.each var ∙ places_all (can_give p var) k p.rules all);
+  }
 
-pub rules_index : (p : Parts) (k : ℕ) (es : List (Entry ℕ)) → k ≡ length p.rules → RulesUpTo p k es → AreRulesOf p (by_key es (length p.variables))
-rules_index p k es all up = record {
-  one_each = length-table (length p.variables) (λ var. items_of var es);
-  only = λ layer var on. subst (All (λ (r : ℕ). IsRuleOn p layer r)) (sym (under var))
-      (λ j d lt. all_items (λ (v : ℕ) (r : ℕ). IsOnLayer p layer v → IsRuleOn p layer r) es var (λ i e below on_v. on_layer layer (get_or es i e) (up.only i e below) on_v) j d lt on);
-  each = λ layer rule is. subst (λ (l : List ℕ). Contains l rule) (sym (under (rule_at p rule).var))
-      (holds es (rule_at p rule).var rule (up.each layer rule (let lt = is.exists in omega arith) is));
-}
-  where
-    under : (var : ℕ) → get_or (by_key es (length p.variables)) var [] ≡ items_of var es
-    under var = under_key es (length p.variables) var (rules_exist p k es up)
+-- ---- what the lists have
 
-    on_layer : (layer : ℕ) (e : Entry ℕ) → IsOfVariable p e → IsOnLayer p layer e.key → IsRuleOn p layer e.item
-    on_layer layer e of on = record { exists = of.is.exists; on = subst (λ v. IsOnLayer p layer v) of.key on; can = of.is.can }
+module _ (p : Parts) where
+  -- a rule of the variable exists
+  pub of_variable : (var rule : ℕ) → Contains (places (can_give p var) p.rules) rule → (rule < length p.rules) × ((rule_at p rule).var ≡ var) × (can_give p var (rule_at p rule) ≡ true)
+  of_variable var rule h =
+      let w = place_is (can_give p var) 0 p.rules rule h in
+      let same : w.index ≡ rule = omega (arith, w.is) in
+      let passes : can_give p var (rule_at p rule) ≡ true = subst (λ k. can_give p var (rule_at p k) ≡ true) same (w.passes _) in (
+        omega (arith, w.within),
+        eqb-true (rule_at p rule).var var (and_parts ((rule_at p rule).var == var) (can_fire p (rule_at p rule)) passes).0,
+        passes,
+      )
+
+  pub can_of : (var : ℕ) (rule : Rule) → can_give p var rule ≡ true → CanFire p rule × (rule.var ≡ var)
+  can_of var rule is =
+      let both = and_parts (rule.var == var) (can_fire p rule) is in
+      ((Decides-not (rule.new == default_of p rule.var) (Decides-eqb rule.new (default_of p rule.var))).0 both.1, eqb-true rule.var var both.0)
+
+  module _ (lists : List (List ℕ)) (are : AreRulesOf p lists) where
+    -- under a variable of a layer all rules are on the layer
+    pub rules_on : (layer var : ℕ) → IsOnLayer p layer var → All (λ rule. IsRuleOn p layer rule) (get_or lists var [])
+    rules_on layer var on = subst (All (λ (rule : ℕ). IsRuleOn p layer rule)) (sym (are.each var (on_layer_within p layer var on))) (λ k d lt.
+        let rule = get_or (places (can_give p var) p.rules) k d in
+        let its = of_variable var rule (Contains-get_or (places (can_give p var) p.rules) k d lt) in
+        record { exists = its.0; on = subst (λ v. IsOnLayer p layer v) (sym its.1) on; can = (can_of var (rule_at p rule) its.2).0 })
+
+    -- and each rule of the layer is under its variable
+    pub rule_under : (layer rule : ℕ) → IsRuleOn p layer rule → Contains (get_or lists (rule_at p rule).var []) rule
+    rule_under layer rule is =
+        let var = (rule_at p rule).var in
+        subst (λ (l : List ℕ). Contains l rule) (sym (are.each var (on_layer_within p layer var is.on)))
+        (subst (Contains (places (can_give p var) p.rules)) (let e : 0 + rule ≡ rule = omega arith in e)
+        (is_place (can_give p var) 0 p.rules rule _ is.exists
+        (and_from (var == var) (can_fire p (rule_at p rule)) (eq-eqb var var refl) (ap not (ne_eqb (rule_at p rule).new (default_of p var) is.can)))))

@@ -1,5 +1,5 @@
--- The first and last rule of each layer in a worklist.
-use Rattle.std.proofs.Common.{◌≡◌, ◌≢◌, ℕ, ◌+◌, ◌-◌, ◌<◌, ◌≤◌, List, [], length, get_or, take, drop, None, subst, ap, inl, inr, arith}
+-- Where the layers of a worklist begin and end.
+use Rattle.std.proofs.Common.{◌≡◌, ◌≢◌, ℕ, ◌+◌, ◌-◌, ◌<◌, ◌≤◌, List, length, get_or, take, drop, subst, ap, inl, inr, arith}
 use Rattle.std.proofs.lemmas.Bool.{cases_lt}
 use Rattle.std.proofs.lemmas.List.{get_or_default}
 use Rattle.std.specs.List.{Contains}
@@ -11,9 +11,7 @@ use Rattle.sas_axioms.specs.ByLayers.{IsIdle}
 use Rattle.sas_axioms.specs.LayerRules.{AreLayerRules, IsLayerSpan, AreRulesOn}
 use Rattle.sas_axioms.specs.Worklist.{StandsAt}
 use Rattle.sas_axioms.proofs.Groups.{layer_group}
-
-abbrev no_rule : Rule
-no_rule = record { conditions = []; var = 0; old = None; new = 0 }
+use Rattle.sas_axioms.proofs.Sources.{no_rule}
 
 module _ (p : Parts) (rules : List LayerRule) (from place : ℕ) (firing : AreLayerRules p rules) (stands : StandsAt rules from place) where
   -- a layer is idle if no rule that is left is on it

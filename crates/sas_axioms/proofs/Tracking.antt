@@ -1,10 +1,9 @@
--- Counters and noted rules continue to fit the state.
-use Rattle.std.proofs.Common.{◌≡◌, ℕ, ◌≤◌, List, [], ◌++◌, length, get_or, set, None, is_some, sym, ap, ◌∙◌, subst, inl, inr}
+-- What is counted and noted goes on to fit the state.
+use Rattle.std.proofs.Common.{◌≡◌, ℕ, ◌≤◌, List, ◌++◌, length, get_or, set, is_some, sym, ap, ◌∙◌, subst, inl, inr}
 use Rattle.std.specs.List.{All, Contains}
 use Rattle.std.specs.BinaryHeap.{heap_items}
 use Rattle.std.proofs.lemmas.List.Elements.{All-contains, All-append}
 use Rattle.std.specs.declared.cmp.Reverse.{Reverse}
-use Rattle.sas_core.specs.declared.parts.Rule.{Rule}
 use Rattle.sas_core.specs.declared.parts.Parts.{Parts}
 use Rattle.sas_core.specs.Grounded.{rule_at}
 use Rattle.sas_core.specs.Variables.{IsState}
@@ -24,9 +23,7 @@ use Rattle.std.proofs.lemmas.List.{get_or-set_other}
 use Rattle.sas_axioms.specs.Following.{AsksAbout, Moves, IsOnTrack, SameWork, KeepsRoom}
 use Rattle.sas_axioms.specs.LayerRules.{IsRuleOn}
 use Rattle.sas_axioms.proofs.Counters.{all_hold_when_none_open, none_open_when_all_hold}
-
-abbrev pub no_rule : Rule
-no_rule = record { conditions = []; var = 0; old = None; new = 0 }
+use Rattle.sas_axioms.proofs.Sources.{no_rule}
 
 -- what holds of all elements of a list holds of those of one that has no others
 pub all_still : {X : Type 0} (P : X → Type 0) (xs ys : List X) → All (Contains xs) ys → All P xs → All P ys

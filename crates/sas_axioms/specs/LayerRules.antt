@@ -4,6 +4,7 @@ use Rattle.std.specs.List.Sorted.{IsNonDecreasingBy}
 use Rattle.sas_core.specs.declared.parts.Parts.{Parts}
 use Rattle.sas_core.specs.Grounded.{rule_at}
 use Rattle.sas_meaning.specs.Layers.{IsOnLayer, CanFire}
+use Rattle.sas_meaning.specs.Places.{places, can_give}
 use Rattle.sas_axioms.specs.declared.layer_rules.LayerRule.{LayerRule}
 use Rattle.sas_axioms.specs.declared.layer_rules.LayerSpan.{LayerSpan}
 
@@ -52,10 +53,8 @@ pub record AreRulesOn (p : Parts) (layer : ℕ) (rules : List LayerRule) : Type 
   pub each : (rule : ℕ) → IsRuleOn p layer rule
       → Contains rules (record { layer = layer; rule = rule })
 
--- for each derived variable, its rules that can fire
+-- for each variable its rules that can fire, in order
 pub record AreRulesOf (p : Parts) (lists : List (List ℕ)) : Type 0 where
   pub one_each : length lists ≡ length p.variables
-  pub only : (layer var : ℕ) → IsOnLayer p layer var
-      → All (λ rule. IsRuleOn p layer rule) (slice_index_or lists var [])
-  pub each : (layer rule : ℕ) → IsRuleOn p layer rule
-      → Contains (slice_index_or lists (rule_at p rule).var []) rule
+  pub each : (var : ℕ) → var < length p.variables
+      → slice_index_or lists var [] ≡ places (can_give p var) p.rules

@@ -1,9 +1,10 @@
--- The progress of a worklist on a layer, and its data.
-use Rattle.std.specs.Prelude.{◌≡◌, ℕ, ◌+◌, ◌*◌, ◌<◌, ◌≤◌, ◌==◌, if◌then◌else◌, IsTrue, List, [], length, All, Contains, slice_index, slice_index_or, vec_capacity, drop}
+-- How far a worklist has come on a layer, and what it needs.
+use Rattle.std.specs.Prelude.{◌≡◌, ℕ, ◌+◌, ◌*◌, ◌<◌, ◌≤◌, ◌==◌, if◌then◌else◌, IsTrue, List, [], length, slice_index, slice_index_or, vec_capacity, drop}
 use Rattle.sas_core.specs.declared.parts.Parts.{Parts}
 use Rattle.sas_core.specs.Grounded.{rule_at}
-use Rattle.sas_core.specs.Variables.{IsState, IsDerived}
+use Rattle.sas_core.specs.Variables.{IsState}
 use Rattle.sas_meaning.specs.Layers.{IsOnLayer, default_of}
+use Rattle.sas_meaning.specs.DerivedVariables.{AreDerived}
 use Rattle.sas_meaning.specs.Settled.{differs}
 use Rattle.sas_meaning.specs.Forced.{OnlyForced, equal_places, SameOff}
 use Rattle.sas_axioms.specs.declared.firing.Firing.{Firing}
@@ -100,12 +101,7 @@ pub record IsPrepared (p : Parts) (f : Firing) : Type 0 where
   pub room : HasRoom p f.work
   pub empty : f.work.stack.items ≡ []
 
--- the derived variables, each at least once
-pub record AreDerived (p : Parts) (variables : List ℕ) : Type 0 where
-  pub only : All (IsDerived p.variables) variables
-  pub each : (var : ℕ) → IsDerived p.variables var → Contains variables var
-
--- the data of the worklist fit the task
+-- what a worklist holds fits the task
 pub record IsReadyFor (p : Parts) (w : Worklist) : Type 0 where
   pub variables : AreDerived p w.derived.items
   pub rules : AreLayerRules p w.rules.items

@@ -39,20 +39,23 @@ fn firing_rules<T: Grounded>(alloc: Global, task: &Layered<T>) -> Result<Vec<Lay
     Ok(rules)
 }
 
-/// Returns for each variable its rules that can fire. `Err` means out of memory.
+/// Returns the rules of each variable that can fire, in the order of the task.
 pub fn rules_of_variables<T: Grounded>(
     alloc: Global,
     task: &Layered<T>,
 ) -> Result<Lists<u32>, AllocError>
-    ensures { IfOk result (λ lists. AreRulesOf task.now lists) }
+    ensures { IfOk result (AreRulesOf task.now) }
 {
     // The contract of `task` ensures that the task is well ranged and layered.
     let _ = task.task();
     let mut entries = Vec::new(alloc);
     for rule in 0..task.rules() {
-        if let Some(_layer) = firing_layer(task, rule) {
-            let key = task.rule_change(rule).var as usize;
-            entries.push(Entry { key, item: rule })?;
+        let change = task.rule_change(rule);
+        if change.new != task.initial_value(change.var) {
+            entries.push(Entry {
+                key: change.var as usize,
+                item: rule,
+            })?;
         }
     }
     Lists::by_key(alloc, entries.as_slice(), task.variables() as usize)

@@ -14,6 +14,7 @@ mod rounds;
 mod waiting;
 mod worklist;
 
+pub use layer_rules::rules_of_variables;
 pub use rounds::Rounds;
 pub use sas_meaning::{LayerFault, Layered, Settle, State, StateFault, Touched, meaning_laws};
 pub use worklist::Worklist;

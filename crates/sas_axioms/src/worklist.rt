@@ -2,14 +2,15 @@
 ghost use Rattle.std.specs.Prelude.{ℕ, IfOk};
 ghost use Rattle.sas_core.specs.Variables.{IsState};
 ghost use Rattle.sas_meaning.specs.Settled.{SameBasic};
+ghost use Rattle.sas_meaning.specs.DerivedVariables.{AreDerived};
 ghost use Rattle.sas_meaning.specs.Forced.{AtDefault};
-ghost use Rattle.sas_axioms.specs.Worklist.{AreDerived, IsReadyFor};
+ghost use Rattle.sas_axioms.specs.Worklist.{IsReadyFor};
 
 use crate::by_layers::{ByLayers, settle_by_layers};
 use crate::firing::Firing;
 use crate::layer_rules::{LayerRule, LayerSpan, ranked_rules, spans_of};
 use sas_core::{Fact, Grounded};
-use sas_meaning::{Layered, Settle, State, Touched};
+use sas_meaning::{Layered, Settle, State, Touched, derived_variables};
 use std::alloc::{AllocError, Global};
 
 /// An evaluator for the states of one layered task. It keeps counts of the previous state to settle the next one faster, but it can settle
@@ -133,23 +134,7 @@ impl<T: Grounded> ByLayers<T> for Worklist {
     }
 }
 
-/// Returns the derived variables. `Err` means out of memory.
-pub fn derived_variables<T: Grounded>(
-    alloc: Global,
-    task: &Layered<T>,
-) -> Result<Vec<u32>, AllocError>
-    ensures { IfOk result (λ variables. AreDerived task.now variables.items) }
-{
-    let mut variables = Vec::new(alloc);
-    for var in 0..task.variables() {
-        if task.layer(var).is_some() {
-            variables.push(var)?;
-        }
-    }
-    Ok(variables)
-}
-
-/// Sets the derived variables, given as `derived`, to their defaults.
+/// Sets the derived variables, which are `derived`, to their default.
 fn set_defaults<T: Grounded>(task: &Layered<T>, derived: &[u32], state: &mut State)
     requires derived { AreDerived task.now derived.now }
     requires state { IsState task.now.variables state.old }

@@ -1,15 +1,12 @@
--- A rule that can fire: what its tests mean, given the new values of the earlier rules, and which
--- of its checks fails first.
-use Rattle.std.proofs.Common.{◌≡◌, ◌∙◌, ℕ, zero, suc, ◌+◌, ◌<◌, ◌==◌, Bool, true, false, List, [], ◌∷◌, ◌++◌, length, take, slice_index, slice_index_or, slice_set, Option, Some, None, refl, sym, ap, subst, arith}
+-- A rule that can fire: the tests of it by what is known of the rules before it, and which of its checks is the first to fail.
+use Rattle.std.proofs.Common.{◌≡◌, ◌∙◌, ℕ, ◌+◌, ◌<◌, ◌==◌, Bool, true, false, List, ◌++◌, length, take, slice_index, slice_index_or, slice_set, Option, Some, None, refl, sym, ap, subst, arith}
 use Rattle.std.specs.Option.{option_map_or}
 use Rattle.sas_core.specs.declared.grounded.Change.{Change}
 use Rattle.sas_core.specs.declared.parts.Rule.{Rule}
-use Rattle.sas_core.specs.declared.parts.Variable.{Variable}
 use Rattle.sas_core.specs.declared.parts.Parts.{Parts}
 use Rattle.sas_core.specs.FirstFault.{Check, first_fault, check}
 use Rattle.sas_core.specs.Grounded.{rule_at}
 use Rattle.sas_core.specs.Changes.{rule_change}
-use Rattle.sas_core.specs.Variables.{range_of}
 use Rattle.sas_core.specs.WellRanged.{RuleFits, WellRanged}
 use Rattle.sas_core.proofs.FirstFaults.{fails_before, decides_after}
 use Rattle.sas_core.proofs.Places.{holds_at}
@@ -18,17 +15,13 @@ use Rattle.sas_meaning.specs.declared.layered.LayerFault.TheVariants.{OldValue, 
 use Rattle.sas_meaning.specs.Layers.{CanFire, default_of}
 use Rattle.sas_meaning.specs.LayerChecks.{numbered, agrees_with, looks_down, firing_checks}
 use Rattle.sas_meaning.specs.NewValues.{NewValues}
+use Rattle.sas_meaning.proofs.Forced.{fact_within}
 use Rattle.sas_meaning.proofs.NumberedChecks.{same_check}
 use Rattle.sas_meaning.proofs.KnownValues.{agrees_by_value, known_behind}
 
 passed : (passes : Bool) (e : LayerFault) → None ≡ first_fault (check passes e) → passes ≡ true
 passed true e none = refl
 passed false e none = absurd (cc)
-
-var_of_value : (variables : List Variable) (var value : ℕ) → value < range_of variables var → var < length variables
-var_of_value [] var value below = absurd (omega arith)
-var_of_value (v ∷ variables) zero value below = omega arith
-var_of_value (v ∷ variables) (suc var) value below = omega (arith, var_of_value variables var value below)
 
 -- the checks of the conditions of a rule
 abbrev pub condition_checks : Parts → ℕ → Rule → List (Check LayerFault)
@@ -40,7 +33,7 @@ module _ (p : Parts) (place : ℕ) (change : Change) (is : change ≡ rule_chang
   pub var_exists : WellRanged p → change.var < length p.variables
   var_exists ranged =
       let fits : RuleFits p.variables (rule_at p place) = holds_at (RuleFits p.variables) _ p.rules ranged.rules.each place below in
-      let its = var_of_value p.variables (rule_at p place).var (rule_at p place).new fits.new in
+      let its = fact_within p (rule_at p place).var (rule_at p place).new fits.new in
       let same = ap (λ (c : Change). c.var) is in
       omega arith
 

@@ -9,7 +9,8 @@ use Rattle.sas_core.specs.declared.parts.Fact.{Fact}
 use Rattle.sas_core.specs.declared.parts.Variable.{Variable}
 use Rattle.sas_core.specs.declared.parts.Rule.{Rule}
 use Rattle.sas_core.specs.declared.parts.Parts.{Parts}
-use Rattle.sas_core.specs.Variables.{range_of, HasValue, IsState}
+use Rattle.sas_core.specs.Grounded.{rule_at}
+use Rattle.sas_core.specs.Variables.{range_of, HasValue, FactExists, IsState}
 use Rattle.sas_core.specs.WellRanged.{WellRanged, RuleFits}
 use Rattle.sas_core.proofs.Places.{holds_at}
 use Rattle.sas_meaning.specs.States.{AllHold}
@@ -127,6 +128,14 @@ fact_within t v x fits = within t.variables v x fits
 -- a rule's variable has its new value
 pub rule_new : (t : Parts) → WellRanged t → (k : ℕ) (d : Rule) → k < length t.rules → HasValue t.variables (get_or t.rules k d).var (get_or t.rules k d).new
 rule_new t ranged k d lt = (holds_at (RuleFits t.variables) d t.rules ranged.rules.each k lt).new
+
+-- a rule's condition is on a variable of the task
+pub condition_within : (t : Parts) (k j : ℕ) (c : Fact) → WellRanged t → k < length t.rules → j < length (rule_at t k).conditions
+    → (get_or (rule_at t k).conditions j c).var < length t.variables
+condition_within t k j c ranged lt lt' =
+    let fits : RuleFits t.variables (rule_at t k) = holds_at (RuleFits t.variables) _ t.rules ranged.rules.each k lt in
+    fact_within t (get_or (rule_at t k).conditions j c).var (get_or (rule_at t k).conditions j c).value
+    (holds_at (FactExists t.variables) c (rule_at t k).conditions fits.conditions.each j lt')
 
 -- what one rule of the task changes
 pub record Fired (t : Parts) (layer : ℕ) (s : List ℕ) (rule : Rule) : Type 0 where

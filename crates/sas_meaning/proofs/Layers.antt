@@ -33,6 +33,10 @@ option_cases (Some m) = inr (m, refl)
 pub layer_cases : (t : Parts) (v : ℕ) → IsBasic t v ⊎ ((m : ℕ) × IsOnLayer t m v)
 layer_cases t v = option_cases (layer_of t.variables v)
 
+-- a variable is on one layer
+pub one_layer : (t : Parts) (v a b : ℕ) → IsOnLayer t a v → IsOnLayer t b v → a ≡ b
+one_layer t v a b x y = let e : Some a ≡ Some b = sym x ∙ y in cc
+
 -- two states that have the same values in the basic variables and on the layers below n
 pub record AgreeBelow (t : Parts) (n : ℕ) (s s' : List ℕ) : Type 0 where
   pub basic : SameBasic t s s'

@@ -11,3 +11,6 @@ pub mod RuleTests
 pub mod KnownValues
 pub mod LayerChecksAreRules
 pub mod FiringRules
+pub mod DerivedVariables
+pub mod Members
+pub mod Places

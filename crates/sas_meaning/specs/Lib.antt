@@ -10,3 +10,5 @@ pub mod NewValues
 pub mod LayerChecks
 pub mod Laws
 pub mod Forced
+pub mod DerivedVariables
+pub mod Places

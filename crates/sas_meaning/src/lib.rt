@@ -1,6 +1,7 @@
 //! The semantics of tasks: layered tasks, states, settled states, preconditions, steps and reachable states.
 #![tactic(auto)]
 
+mod derived;
 mod laws;
 mod layer_checks;
 mod layered;
@@ -9,6 +10,7 @@ mod settle;
 mod state;
 mod touched;
 
+pub use derived::derived_variables;
 pub use laws::meaning_laws;
 pub use layered::{LayerFault, Layered};
 pub use preconditions::Preconditions;

@@ -1,5 +1,5 @@
--- The rules that give the derived variables their values, and their order.
-use Rattle.std.proofs.Common.{◌≡◌, ◌≢◌, ℕ, zero, suc, ◌+◌, ◌<◌, ◌≤◌, ◌⊎◌, true, false, cond, List, length, get_or, None, Some, refl, sym, ◌∙◌, ap, subst, inl, inr, arith}
+-- What gives the derived variables their values, and in what order.
+use Rattle.std.proofs.Common.{◌≡◌, ◌≢◌, ℕ, zero, suc, ◌+◌, ◌<◌, ◌≤◌, ◌⊎◌, true, false, cond, List, length, get_or, None, refl, sym, ◌∙◌, ap, subst, inl, inr, arith}
 use Rattle.std.specs.Prelude.{is_some}
 use Rattle.std.specs.List.{All}
 use Rattle.std.proofs.lemmas.Bool.{cases_eq, cases_lt, cases_Bool, false≢true}
@@ -11,7 +11,7 @@ use Rattle.sas_core.specs.Variables.{layer_of}
 use Rattle.sas_meaning.specs.States.{AllHold}
 use Rattle.sas_meaning.specs.Layers.{IsBasic, IsOnLayer, default_of, LooksDown, IsLayered}
 use Rattle.sas_meaning.specs.Settled.{new_value_of, value_with, differs, IsSettled}
-use Rattle.sas_meaning.proofs.Layers.{layer_tells, layer_cases, given_on, given_off}
+use Rattle.sas_meaning.proofs.Layers.{layer_tells, layer_cases, given_on, given_off, one_layer}
 use Rattle.sas_meaning.proofs.Rules.{new_value_is}
 use Rattle.sas_meaning.proofs.Unique.{differs_tells}
 use Rattle.sas_meaning.proofs.Forced.{differs_true}
@@ -49,11 +49,7 @@ rank_if_differs p s layer var layered settled on = (
 pub one_rank : OneRank
 one_rank p s layer var a b x y = lowest_is_one (λ k. reached p layer s k var ≡ true) a b x y
 
--- a variable is on one layer
-one_layer : (p : Parts) (var a b : ℕ) → IsOnLayer p a var → IsOnLayer p b var → a ≡ b
-one_layer p var a b x y = let e : Some a ≡ Some b = sym x ∙ y in cc
-
--- its layer and its rank are unique
+-- its layer and its rank are one
 pub stands_one : (p : Parts) (s : List ℕ) (var layer rank layer' rank' : ℕ) → Stands p s var layer rank → Stands p s var layer' rank'
     → (layer ≡ layer') × (rank ≡ rank')
 stands_one p s var layer rank layer' rank' x y =

@@ -11,10 +11,11 @@ use Rattle.sas_core.specs.Grounded.{rule_at}
 use Rattle.sas_core.specs.Variables.{layer_of, IsDerived}
 use Rattle.sas_meaning.specs.Layers.{default_of, IsLayered}
 use Rattle.sas_meaning.specs.Settled.{IsSettled}
+use Rattle.sas_meaning.proofs.Members.{contains_head, contains_tail, contains_cases, contains_none}
 use Rattle.sas_reasons.specs.Derivation.{Stands, IsGivenBy, RestsOn, InDerivation, Itself, Below, IsLess, ComesBefore, IsRuleOf, IsDerivation}
 use Rattle.sas_reasons.specs.Laws.{SomeDerivation}
 use Rattle.sas_reasons.proofs.Derivation.{stands_one, giver_at, giver_on, one_giver, rests_on_earlier, rank_if_differs}
-use Rattle.sas_reasons.proofs.Sorting.{contains_head, contains_tail, contains_cases, contains_none, Sorted, sorted}
+use Rattle.sas_reasons.proofs.Sorting.{Sorted, sorted}
 
 -- ---- the order allows induction
 

@@ -1,8 +1,8 @@
--- The indices of the items that pass a test, and the facts that don't hold.
-use Rattle.std.proofs.Common.{◌≡◌, ℕ, zero, suc, ◌+◌, ◌<◌, Bool, true, false, not, List, [], ◌∷◌, length, get_or, slice_index, bytes_eq, sym, ◌∙◌, ap, subst, inl, inr, arith}
-use Rattle.std.specs.Prelude.{if◌then◌else◌, filter}
+-- The places of the items that pass a test, and what fails.
+use Rattle.std.proofs.Common.{◌≡◌, ℕ, zero, suc, ◌+◌, not, List, [], ◌∷◌, slice_index, bytes_eq, ◌∙◌, ap, subst, inl, inr, arith}
+use Rattle.std.specs.Prelude.{filter}
 use Rattle.std.specs.List.{Contains}
-use Rattle.std.proofs.lemmas.Bool.{cases_Bool, eq-eqb, ne_eqb}
+use Rattle.std.proofs.lemmas.Bool.{eq-eqb, ne_eqb}
 use Rattle.std.proofs.lemmas.Bool.Decides.{eqb_tells}
 use Rattle.std.proofs.lemmas.List.Elements.{All-nil, All-cons}
 use Rattle.std.proofs.lemmas.Slice.Eq.{bytes_eq-Decides}
@@ -11,60 +11,12 @@ use Rattle.sas_core.specs.declared.parts.Operator.{Operator}
 use Rattle.sas_core.specs.Grounded.{operator_at}
 use Rattle.sas_meaning.specs.States.{Holds, AllHold}
 use Rattle.sas_meaning.specs.Steps.{preconditions}
+use Rattle.sas_meaning.specs.Places.{places_from, places}
+use Rattle.sas_meaning.proofs.Places.{takes, passes_by, place_is, is_place}
 use Rattle.sas_names.specs.Named.{IsNamed}
 use Rattle.sas_run.specs.Verdicts.{IsFirstMissed}
-use Rattle.sas_reasons.specs.Lines.{places_from, places}
 use Rattle.sas_reasons.specs.Cause.{fails}
 use Rattle.sas_reasons.specs.Laws.{SomePreconditionFails, OperatorsHaveName, FirstGoalFact}
-use Rattle.sas_reasons.proofs.Sorting.{contains_head, contains_tail, contains_cases, contains_none}
-
-module _ {A : Type 0} (test : A → Bool) where
-  takes : (place : ℕ) (x : A) (xs : List A) → test x ≡ true → places_from place test (x ∷ xs) ≡ place ∷ places_from (place + 1) test xs
-  takes place x xs is = ap (λ b. if b then place ∷ places_from (place + 1) test xs else places_from (place + 1) test xs) is
-
-  passes_by : (place : ℕ) (x : A) (xs : List A) → test x ≡ false → places_from place test (x ∷ xs) ≡ places_from (place + 1) test xs
-  passes_by place x xs is = ap (λ b. if b then place ∷ places_from (place + 1) test xs else places_from (place + 1) test xs) is
-
-  -- each index is that of an item that passes
-  pub record IsPlace (place : ℕ) (items : List A) (z : ℕ) : Type 0 where
-    pub index : ℕ
-    pub within : index < length items
-    pub is : z ≡ place + index
-    pub passes : (d : A) → test (get_or items index d) ≡ true
-
-  one_on : (place : ℕ) (x : A) (xs : List A) (z : ℕ) → IsPlace (place + 1) xs z → IsPlace place (x ∷ xs) z
-  one_on place x xs z w = record {
-    index = suc w.index;
-    within = (let lt = w.within in omega arith);
-    is = (let e = w.is in omega arith);
-    passes = w.passes;
-  }
-
-  pub place_is : (place : ℕ) (items : List A) (z : ℕ) → Contains (places_from place test items) z → IsPlace place items z
-  place_is place [] z h = absurd (contains_none z h)
-  place_is place (x ∷ xs) z h = elim (cases_Bool (test x)) [
-    | inr n ↦ one_on place x xs z (place_is (place + 1) xs z (subst (λ zs. Contains zs z) (passes_by place x xs n) h))
-    | inl y ↦ elim (contains_cases place (places_from (place + 1) test xs) z (subst (λ zs. Contains zs z) (takes place x xs y) h)) [
-      | inl e ↦ record { index = 0; within = omega arith; is = omega (arith, sym e); passes = λ d. y }
-      | inr behind ↦ one_on place x xs z (place_is (place + 1) xs z behind)
-    ]
-  ]
-
-  -- the index of each item that passes is in the list
-  pub is_place : (place : ℕ) (items : List A) (index : ℕ) (d : A) → index < length items → test (get_or items index d) ≡ true
-      → Contains (places_from place test items) (place + index)
-  is_place place [] index d lt is = absurd (omega arith)
-  is_place place (x ∷ xs) zero d lt is =
-      subst (λ zs. Contains zs (place + zero)) (sym (takes place x xs is))
-      (subst (Contains (place ∷ places_from (place + 1) test xs)) (let e : place ≡ place + zero = omega arith in e) (contains_head place (places_from (place + 1) test xs)))
-  is_place place (x ∷ xs) (suc index) d lt is = there (subst (Contains (places_from (place + 1) test xs)) (let e : place + 1 + index ≡ place + suc index = omega arith in e)
-      (is_place (place + 1) xs index d (omega arith) is))
-    where
-      there : Contains (places_from (place + 1) test xs) (place + suc index) → Contains (places_from place test (x ∷ xs)) (place + suc index)
-      there h = elim (cases_Bool (test x)) [
-        | inl y ↦ subst (λ zs. Contains zs (place + suc index)) (sym (takes place x xs y)) (contains_tail place (places_from (place + 1) test xs) (place + suc index) h)
-        | inr n ↦ subst (λ zs. Contains zs (place + suc index)) (sym (passes_by place x xs n)) h
-      ]
 
 pub operators_have_name : OperatorsHaveName
 operators_have_name p name operator = (there, back)

@@ -16,7 +16,8 @@ use Rattle.sas_meaning.specs.States.{Holds, AllHold}
 use Rattle.sas_meaning.specs.Layers.{IsOnLayer, default_of, CanFire, can_fire, IsLayered}
 use Rattle.sas_meaning.specs.Settled.{is_on_layer, new_value_of, value_with, IsClosed, differs, IsSettledAt}
 use Rattle.sas_meaning.proofs.Layers.{layer_tells, given_on, given_off, on_layer_within}
-use Rattle.sas_reasons.specs.Derivation.{all_hold, can_give, fires_with, reached}
+use Rattle.sas_meaning.specs.Places.{can_give}
+use Rattle.sas_reasons.specs.Derivation.{all_hold, fires_with, reached}
 
 -- ---- the meaning of the tests
 

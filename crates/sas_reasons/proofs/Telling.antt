@@ -6,12 +6,12 @@ use Rattle.std.proofs.lemmas.Bool.{cases_Bool, false≢true}
 use Rattle.std.proofs.lemmas.List.Elements.{Contains-append_left, Contains-append_right, Contains-append_cases, Contains-get_or, All-contains}
 use Rattle.std.proofs.lemmas.List.Kept.{AllPairs-cons}
 use Rattle.std.proofs.lemmas.List.Folds.{Any-from_list_any, list_any_at}
+use Rattle.sas_meaning.proofs.Members.{contains_head, contains_tail, contains_cases, contains_none}
 use Rattle.sas_wording.specs.declared.line.Line.{Line}
 use Rattle.sas_wording.specs.Line.{is_rule_line, is_same_rule_line}
 use Rattle.sas_wording.proofs.RuleLines.{same_is, is_same}
 use Rattle.sas_reasons.specs.Lines.{with_line, with_lines}
 use Rattle.sas_reasons.specs.Laws.{NoneIsLost, RulesToldOnce}
-use Rattle.sas_reasons.proofs.Sorting.{contains_head, contains_tail, contains_cases, contains_none}
 
 -- whether the next line is left out
 abbrev pub is_among : List Line → Line → Bool

@@ -11,19 +11,16 @@ use Rattle.sas_core.specs.declared.parts.Rule.{Rule}
 use Rattle.sas_core.specs.declared.parts.Parts.{Parts}
 use Rattle.sas_core.specs.Variables.{IsDerived}
 use Rattle.sas_core.specs.Grounded.{rule_at}
-use Rattle.sas_meaning.specs.Layers.{IsOnLayer, default_of, can_fire}
+use Rattle.sas_meaning.specs.Layers.{IsOnLayer, default_of}
 use Rattle.sas_meaning.specs.Settled.{is_on_layer, value_with}
+use Rattle.sas_meaning.specs.Places.{can_give}
 use Rattle.sas_reasons.specs.Lowest.{IsLowest}
 
 -- whether facts hold
 abbrev pub all_hold : (ℕ → ℕ) → List Fact → Bool
 all_hold value facts = list_all (λ (f : Fact). value f.var == f.value) facts
 
--- whether the rule is one of the variable and can fire
-abbrev pub can_give : Parts → ℕ → Rule → Bool
-can_give p var rule = (rule.var == var) && can_fire p rule
-
--- whether such a rule fires if exactly these members of the layer differ from their defaults
+-- whether a rule of the variable can fire, and its conditions hold with these members of the layer
 abbrev pub fires_with : Parts → ℕ → List ℕ → (ℕ → Bool) → ℕ → Rule → Bool
 fires_with p layer s members var rule =
     can_give p var rule && all_hold (value_with p layer s members) rule.conditions

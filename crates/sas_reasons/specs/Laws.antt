@@ -11,6 +11,7 @@ use Rattle.sas_meaning.specs.States.{AllHold}
 use Rattle.sas_meaning.specs.Layers.{IsBasic, IsOnLayer, default_of, CanFire, IsLayered}
 use Rattle.sas_meaning.specs.Settled.{differs, IsSettled}
 use Rattle.sas_meaning.specs.Steps.{Agree}
+use Rattle.sas_meaning.specs.Places.{places}
 use Rattle.sas_names.specs.Named.{IsNamed}
 use Rattle.sas_run.specs.declared.plan_check.PlanFault.{PlanFault}
 use Rattle.sas_run.specs.Plans.{IsApplicable}
@@ -22,7 +23,7 @@ use Rattle.sas_reasons.specs.MayMean.{HasOther, MayMean}
 use Rattle.sas_reasons.specs.Derivation.{IsRank, IsGivenBy, InDerivation, ComesBefore, IsDerivation}
 use Rattle.sas_wording.specs.declared.line.Line.{Line}
 use Rattle.sas_wording.specs.Line.{is_rule_line}
-use Rattle.sas_reasons.specs.Lines.{with_lines, places}
+use Rattle.sas_reasons.specs.Lines.{with_lines}
 use Rattle.sas_reasons.specs.Cause.{fails, can_be_given}
 use Rattle.sas_reasons.specs.Conflicts.{IsConflict}
 use Rattle.sas_reasons.specs.WhyPlan.{failing, operators_of, IsWhy}

@@ -1,5 +1,5 @@
 -- Lists of lines of reasons.
-use Rattle.std.specs.Prelude.{◌≡◌, ℕ, ◌+◌, Bool, if◌then◌else◌, List, [], ◌∷◌, ◌++◌}
+use Rattle.std.specs.Prelude.{◌≡◌, ◌+◌, if◌then◌else◌, List, [], ◌∷◌, ◌++◌}
 use Rattle.std.specs.List.{list_any}
 use Rattle.sas_wording.specs.declared.line.Line.{Line}
 use Rattle.sas_wording.specs.Line.{is_same_rule_line}
@@ -25,14 +25,3 @@ TellsEach Tells (item ∷ items) lines = (its others : List Line)
     × Tells item its
     × TellsEach Tells items others
     × (lines ≡ its ++ others)
-
--- the indices of the items that pass a test, ascending, where the first item has this index
-abbrev pub places_from : {A : Type 0} → ℕ → (A → Bool) → List A → List ℕ
-places_from place passes [] = []
-places_from place passes (item ∷ items) = if passes item
-    then place ∷ places_from (place + 1) passes items
-    else places_from (place + 1) passes items
-
--- the indices of the items that pass a test, ascending
-abbrev pub places : {A : Type 0} → (A → Bool) → List A → List ℕ
-places passes items = places_from 0 passes items

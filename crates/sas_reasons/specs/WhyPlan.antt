@@ -9,12 +9,13 @@ use Rattle.sas_core.specs.PlanParts.{PlanParts}
 use Rattle.sas_core.specs.Stepwise.{step_at}
 use Rattle.sas_core.specs.Grounded.{operator_at}
 use Rattle.sas_meaning.specs.Steps.{preconditions}
+use Rattle.sas_meaning.specs.Places.{places}
 use Rattle.sas_run.specs.declared.plan_check.PlanFault.{PlanFault}
 use Rattle.sas_run.specs.declared.plan_check.PlanFault.TheVariants.{Memory, NoOperator, NotApplicable}
 use Rattle.sas_run.specs.declared.plan_check.PlanFault.TheVariants.{Conflict, GoalMissed, CostDiffers}
 use Rattle.sas_wording.specs.declared.line.Line.{Line}
 use Rattle.sas_wording.specs.declared.line.Line.TheVariants as line
-use Rattle.sas_reasons.specs.Lines.{with_lines, TellsBehind, TellsEach, places}
+use Rattle.sas_reasons.specs.Lines.{with_lines, TellsBehind, TellsEach}
 use Rattle.sas_run.specs.Runs.{Run, last_state, GoesThrough, steps_before}
 use Rattle.sas_reasons.specs.Likeness.{IsLike}
 use Rattle.sas_reasons.specs.MayMean.{HasOther, MayMean}

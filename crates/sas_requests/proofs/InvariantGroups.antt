@@ -12,6 +12,7 @@ use Rattle.sas_meaning.specs.declared.layered.LayerFault.{LayerFault}
 use Rattle.sas_meaning.specs.Layers.{IsLayered}
 use Rattle.sas_meaning.specs.LayerChecks.{layer_checks}
 use Rattle.sas_meaning.proofs.LayerChecksAreRules.{checks_are_rules}
+use Rattle.sas_meaning.proofs.Members.{contains_cases, contains_none}
 use Rattle.sas_lines.specs.Lines.{lines, text}
 use Rattle.sas_lines.proofs.Splitting.{Plain, lines-text}
 use Rattle.sas_lines.proofs.Words.{same_first, NoSpace-decimal, own_decimal}
@@ -34,7 +35,6 @@ use Rattle.sas_wording.specs.Line.{line_bytes}
 use Rattle.sas_task_reasons.specs.LayerReasons.{layer_reasons}
 use Rattle.sas_task_reasons.specs.WhyGroups.{why_lines_from, why_lines, WhyGroupsAnswer}
 use Rattle.sas_task_reasons.specs.WhyLayers.{why_refusal, WhyLayeredGroups, WhyMutexAnswer}
-use Rattle.sas_reasons.proofs.Sorting.{contains_cases, contains_none}
 use Rattle.sas_output.specs.Ending.{Output}
 use Rattle.sas_outputs.specs.Output.{word_of, refusal, refusal_line, IsAnswerOrRefusal, FileOut}
 use Rattle.sas_requests.specs.Why.{is_reason}

@@ -3,6 +3,7 @@
 use Rattle.std.proofs.Common.{◌≡◌, ◌⊎◌, ℕ, ◌<◌, append-nil, List, [], ◌∷◌, ◌++◌, get_or, arith, codes, refl, sym, ap, subst, ◌∙◌, inl, inr, Option, Some, false}
 use Rattle.std.specs.Prelude.{option_map, Contains}
 use Rattle.std.specs.Io.KnownBytes.{Appends}
+use Rattle.sas_meaning.proofs.Members.{contains_cases}
 use Rattle.sas_lines.specs.Lines.{text, lines}
 use Rattle.sas_reader.specs.declared.fault.Fault.{Fault}
 use Rattle.sas_reader.specs.System.{IsPlain}
@@ -17,7 +18,6 @@ use Rattle.sas_answers.specs.GroupWords.{group_line}
 use Rattle.sas_answers.specs.PlanWords.{valid_line}
 use Rattle.sas_task_reasons.specs.WhyLayers.{with_reasons, why_refusal, WhyMutexAnswer}
 use Rattle.sas_explain.specs.Verdict.{WhyVerdict}
-use Rattle.sas_reasons.proofs.Sorting.{contains_cases}
 use Rattle.sas_outputs.specs.declared.Request.{Request}
 use Rattle.sas_outputs.specs.declared.Request.TheVariants.{Plan, Mutex}
 use Rattle.sas_outputs.specs.Headline.{Solves, Headline, Invariants}

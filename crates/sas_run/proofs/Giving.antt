@@ -15,10 +15,10 @@ use Rattle.sas_run.specs.Given.{given_to, value_after, IsClean, IsGiven, IsGiven
 use Rattle.sas_run.specs.Running.{IsApplied}
 use Rattle.sas_run.proofs.Ranges.{no_effect}
 
-same_inside : (a b : ℕ) → Some a ≡ Some b → a ≡ b
+pub same_inside : (a b : ℕ) → Some a ≡ Some b → a ≡ b
 same_inside a b is = cc
 
-not_both : (a : ℕ) (given : Option ℕ) → given ≡ None → given ≡ Some a → ⊥
+pub not_both : (a : ℕ) (given : Option ℕ) → given ≡ None → given ≡ Some a → ⊥
 not_both a given none some = let e : None ≡ Some a = sym none ∙ some in absurd cc
 
 -- without effects no value is given

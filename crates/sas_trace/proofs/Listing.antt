@@ -10,7 +10,7 @@ use Rattle.std.proofs.lemmas.List.{get_or_default}
 use Rattle.sas_core.specs.declared.parts.Fact.{Fact}
 use Rattle.sas_core.specs.declared.parts.Parts.{Parts}
 use Rattle.sas_meaning.specs.declared.touched.Touched.{Touched}
-use Rattle.sas_axioms.proofs.Derived.{derived_within}
+use Rattle.sas_meaning.proofs.DerivedVariables.{derived_within}
 use Rattle.sas_run.specs.Stepping.{ListsChanges}
 use Rattle.sas_trace.specs.Changes.{IsNoted, Grows, CoverChanges}
 

@@ -10,20 +10,22 @@ use Rattle.std.proofs.lemmas.List.Elements.{Contains-append_left, Contains-appen
 use Rattle.sas_core.specs.declared.parts.Fact.{Fact}
 use Rattle.sas_core.specs.declared.parts.Parts.{Parts}
 use Rattle.sas_core.specs.Grounded.{rule_at}
+use Rattle.sas_axioms.proofs.RulesOf.{of_variable}
+use Rattle.sas_meaning.specs.Places.{places, can_give}
+use Rattle.sas_meaning.proofs.Members.{contains_head, contains_tail, contains_cases, contains_none}
+use Rattle.sas_meaning.proofs.Places.{places_ascend}
 use Rattle.sas_wording.specs.declared.line.Line.{Line}
 use Rattle.sas_wording.specs.declared.line.Line.TheVariants.{RuleDerives, RuleRequires}
 use Rattle.sas_wording.specs.Line.{rule_numbers, is_rule_line}
-use Rattle.sas_reasons.specs.Lines.{with_lines, places}
-use Rattle.sas_reasons.specs.Derivation.{can_give, ComesBefore, IsDerivation}
+use Rattle.sas_reasons.specs.Lines.{with_lines}
+use Rattle.sas_reasons.specs.Derivation.{ComesBefore, IsDerivation}
 use Rattle.sas_reasons.specs.Cause.{fails, failing_lines}
 use Rattle.sas_reasons.proofs.Derivation.{no_circle}
-use Rattle.sas_reasons.proofs.Sorting.{contains_head, contains_tail, contains_cases, contains_none}
 use Rattle.sas_why.specs.declared.origins.Origins.{Origins}
 use Rattle.sas_why.specs.declared.report.Report.{Report}
 use Rattle.sas_why.specs.Origins.{is_told, AreOrigins, TellsDerivation}
 use Rattle.sas_why.specs.Report.{lines_of_keepers, is_kept, IsReport}
 use Rattle.sas_why.proofs.Once.{IsPlain, Apart, rule_of, other_line, contains_map, map_contains, derived_lines, none_new, all_new}
-use Rattle.sas_why.proofs.RulesOf.{places_ascend, of_variable}
 use Rattle.sas_why.proofs.ToldRules.{in_filter, of_filter}
 
 -- a plain line isn't one of a rule
@@ -59,7 +61,7 @@ module _ (p : Parts) (s : List ℕ) where
         | inr now ↦ (g.derived rule).1 (inr now)
       ]),
     );
-    rules = subst (Rattle.sas_why.specs.RulesOf.AreRulesOf p) (sym g.rules) is.rules;
+    rules = subst (Rattle.sas_axioms.specs.LayerRules.AreRulesOf p) (sym g.rules) is.rules;
     one_each = g.one_each ∙ is.one_each;
     kept = λ var so z h. elim (g.kept var so) [
       | inl before ↦ before_too z (is.kept var before z h)

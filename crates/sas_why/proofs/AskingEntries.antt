@@ -1,35 +1,20 @@
 -- The entries of the rules under the variables for which they ask.
-use Rattle.std.proofs.Common.{◌≡◌, ℕ, zero, suc, ◌+◌, ◌<◌, ◌≤◌, List, [], ◌∷◌, ◌++◌, length, get_or, sym, ◌∙◌, ap, subst, inl, inr, arith}
+use Rattle.std.proofs.Common.{◌≡◌, ℕ, ◌+◌, ◌<◌, ◌≤◌, List, [], ◌∷◌, ◌++◌, length, get_or, sym, ◌∙◌, ap, subst, inl, inr, arith}
 use Rattle.std.specs.List.{All, Contains}
 use Rattle.std.proofs.lemmas.Bool.{cases_eq}
 use Rattle.std.proofs.lemmas.List.{get_or_default}
 use Rattle.std.proofs.lemmas.List.Elements.{All-nil, All-push, All-weaker, Contains-push, Contains-append_left}
 use Rattle.sas_core.specs.declared.parts.Fact.{Fact}
-use Rattle.sas_core.specs.declared.parts.Variable.{Variable}
 use Rattle.sas_core.specs.declared.parts.Parts.{Parts}
 use Rattle.sas_core.specs.Grounded.{rule_at}
-use Rattle.sas_core.specs.Variables.{range_of, FactExists, IsDerived}
-use Rattle.sas_core.specs.WellRanged.{WellRanged, RuleFits}
-use Rattle.sas_core.proofs.Places.{holds_at}
+use Rattle.sas_core.specs.Variables.{IsDerived}
+use Rattle.sas_core.specs.WellRanged.{WellRanged}
 use Rattle.sas_lists.specs.declared.by_key.Entry.{Entry}
 use Rattle.sas_lists.specs.ByKey.{items_of, by_key}
 use Rattle.sas_lists.proofs.Tables.{length-table}
 use Rattle.sas_lists.proofs.ByKey.{under_key, all_items, holds}
+use Rattle.sas_meaning.proofs.Forced.{condition_within}
 use Rattle.sas_why.specs.Asking.{asked_entry, AsksFor, IsAsked, AddsAsked, asking_at, IsAskingIndex}
-
--- ---- a condition of a rule is on a variable of the task
-
-var_of_value : (variables : List Variable) (var value : ℕ) → value < range_of variables var → var < length variables
-var_of_value [] var value below = absurd (omega arith)
-var_of_value (v ∷ variables) zero value below = omega arith
-var_of_value (v ∷ variables) (suc var) value below = omega (arith, var_of_value variables var value below)
-
-pub condition_within : (p : Parts) (rule place : ℕ) (d : Fact) → WellRanged p → rule < length p.rules → place < length (rule_at p rule).conditions
-    → (get_or (rule_at p rule).conditions place d).var < length p.variables
-condition_within p rule place d ranged lt below =
-    let fits : RuleFits p.variables (rule_at p rule) = holds_at (RuleFits p.variables) _ p.rules ranged.rules.each rule lt in
-    let exists : FactExists p.variables (get_or (rule_at p rule).conditions place d) = holds_at (FactExists p.variables) d (rule_at p rule).conditions fits.conditions.each place below in
-    var_of_value p.variables (get_or (rule_at p rule).conditions place d).var (get_or (rule_at p rule).conditions place d).value exists
 
 -- ---- the conditions of one rule
 

@@ -8,11 +8,12 @@ use Rattle.std.proofs.lemmas.Grind.{flat_map-append}
 use Rattle.sas_core.specs.declared.parts.Fact.{Fact}
 use Rattle.sas_core.specs.declared.parts.Parts.{Parts}
 use Rattle.sas_meaning.specs.Layers.{default_of}
+use Rattle.sas_meaning.specs.Places.{places, can_give}
 use Rattle.sas_wording.specs.declared.line.Line.{Line}
 use Rattle.sas_wording.specs.declared.line.Line.TheVariants as line
-use Rattle.sas_reasons.specs.Lines.{with_lines, TellsBehind, TellsEach, places}
+use Rattle.sas_reasons.specs.Lines.{with_lines, TellsBehind, TellsEach}
 use Rattle.sas_run.specs.Runs.{Run, last_state}
-use Rattle.sas_reasons.specs.Derivation.{can_give, IsDerivation}
+use Rattle.sas_reasons.specs.Derivation.{IsDerivation}
 use Rattle.sas_reasons.specs.Cause.{is_derived, is_given, actual_fact, since_line, TellsGivers, can_be_given, keeping_lines, missing_lines, IsCause}
 use Rattle.sas_why.specs.declared.origins.Origins.{Origins}
 use Rattle.sas_why.specs.declared.retraced.Retraced.{Retraced}

@@ -7,6 +7,7 @@ use Rattle.std.proofs.lemmas.List.{append-nil}
 use Rattle.std.proofs.lemmas.List.Elements.{filter-append}
 use Rattle.sas_core.specs.declared.parts.Fact.{Fact}
 use Rattle.sas_core.specs.declared.parts.Parts.{Parts}
+use Rattle.sas_meaning.proofs.Places.{places_to, places_one_more}
 use Rattle.sas_wording.specs.declared.line.Line.{Line}
 use Rattle.sas_wording.specs.declared.line.Line.TheVariants as line
 use Rattle.sas_reasons.specs.Lines.{with_lines, TellsBehind, TellsEach}
@@ -17,7 +18,6 @@ use Rattle.sas_reasons.specs.WhyPlan.{TellsLike}
 use Rattle.sas_why.specs.declared.retraced.Retraced.{Retraced}
 use Rattle.sas_why.specs.declared.report.Report.{Report}
 use Rattle.sas_why.specs.Report.{IsBehind, IsReport, Adds, TellsOnce}
-use Rattle.sas_why.proofs.RulesOf.{places_to, places_one_more}
 
 -- ---- no operator of the name
 

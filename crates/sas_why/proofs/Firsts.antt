@@ -6,16 +6,11 @@ use Rattle.sas_core.specs.declared.parts.Operator.{Operator}
 use Rattle.sas_core.specs.declared.parts.Parts.{Parts}
 use Rattle.sas_core.specs.Grounded.{effect_at}
 use Rattle.sas_meaning.specs.Steps.{Fires, Agree}
+use Rattle.sas_run.proofs.Giving.{same_inside, not_both}
 use Rattle.sas_reasons.specs.Lowest.{IsLowest}
 use Rattle.sas_reasons.specs.Conflicts.{Contradicts, IsContradicted, IsConflict}
 use Rattle.sas_reasons.proofs.Conflicts.{some_conflict}
 use Rattle.sas_why.specs.Conflicts.{first_on, IsNoted, AreFirsts}
-
-same_inside : (a b : ℕ) → Some a ≡ Some b → a ≡ b
-same_inside a b is = cc
-
-not_both : (a : ℕ) (first : Option ℕ) → first ≡ None → first ≡ Some a → ⊥
-not_both a first none some = let e : None ≡ Some a = sym none ∙ some in absurd cc
 
 module _ (p : Parts) (s : List ℕ) (o : Operator) where
   pub no_firsts : (firsts : List (Option ℕ)) → length firsts ≡ length p.variables → ((var : ℕ) → first_on firsts var ≡ None) → AreFirsts p s o 0 firsts

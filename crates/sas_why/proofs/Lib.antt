@@ -1,4 +1,3 @@
-pub mod DerivedVariables
 pub mod Looking
 pub mod LongerRuns
 pub mod Noted

@@ -8,10 +8,11 @@ use Rattle.sas_core.specs.declared.parts.Parts.{Parts}
 use Rattle.sas_core.specs.Variables.{IsDerived, IsState}
 use Rattle.sas_meaning.specs.declared.touched.Touched.{Touched}
 use Rattle.sas_meaning.specs.Touched.{MayHaveChanged}
+use Rattle.sas_meaning.specs.DerivedVariables.{AreDerived}
+use Rattle.sas_meaning.proofs.DerivedVariables.{derived_within}
 use Rattle.sas_run.specs.Stepping.{ListsChanges}
 use Rattle.sas_why.specs.declared.changes.Changes.{Changes}
-use Rattle.sas_why.specs.Noting.{HavePlaces, NotedAt, LeftAt, NotesSome, NotesChanges, AreDerived, looked_at, CoverChanges}
-use Rattle.sas_why.proofs.DerivedVariables.{derived_within}
+use Rattle.sas_why.specs.Noting.{HavePlaces, NotedAt, LeftAt, NotesSome, NotesChanges, looked_at, CoverChanges}
 
 -- ---- noting twice
 

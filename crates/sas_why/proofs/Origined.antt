@@ -15,7 +15,7 @@ pub record Stays (over rule : ℕ) (old : Option Origin) : Type 0 where
   pub still : with_rule over rule old ≡ Some origin
   pub lower : origin.rank ≡ over + 1 → origin.rule ≤ rule
 
-some_same : (o o' : Origin) → Some o ≡ Some o' → o ≡ o'
+pub some_same : (o o' : Origin) → Some o ≡ Some o' → o ≡ o'
 some_same o o' e = cc
 
 pub with_rule_cases : (over rule : ℕ) (old : Option Origin)

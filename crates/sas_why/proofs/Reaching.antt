@@ -9,13 +9,10 @@ use Rattle.sas_core.specs.declared.parts.Fact.{Fact}
 use Rattle.sas_core.specs.declared.parts.Parts.{Parts}
 use Rattle.sas_meaning.specs.Layers.{IsOnLayer, default_of, LooksDown, IsLayered}
 use Rattle.sas_meaning.specs.Settled.{new_value_of, IsSettled}
-use Rattle.sas_meaning.proofs.Layers.{layer_tells, given_on, given_off}
+use Rattle.sas_meaning.proofs.Layers.{layer_tells, given_on, given_off, one_layer}
 use Rattle.sas_reasons.specs.Derivation.{reached}
 use Rattle.sas_reasons.proofs.Rounds.{reached_more, reached_differs}
 use Rattle.sas_why.specs.Rounds.{IsReached, AreKnown, value_in_round}
-
-pub one_layer : (p : Parts) (var a b : ℕ) → IsOnLayer p a var → IsOnLayer p b var → a ≡ b
-one_layer p var a b x y = let e : Some a ≡ Some b = sym x ∙ y in cc
 
 module _ (p : Parts) (s : List ℕ) (layered : IsLayered p) where
   -- what is reached stays reached

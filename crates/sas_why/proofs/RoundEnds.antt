@@ -10,10 +10,10 @@ use Rattle.sas_core.specs.Grounded.{rule_at}
 use Rattle.sas_meaning.specs.Layers.{IsOnLayer, IsLayered}
 use Rattle.sas_meaning.specs.Settled.{IsSettled, IsClosed, differs}
 use Rattle.sas_meaning.proofs.Layers.{layer_cases}
+use Rattle.sas_meaning.proofs.Members.{contains_none}
 use Rattle.sas_reasons.specs.Derivation.{reached, Stands, FiresNext}
 use Rattle.sas_reasons.specs.Cause.{is_derived, is_given}
 use Rattle.sas_reasons.proofs.Rounds.{Fires, ReachedBy, reached_by}
-use Rattle.sas_reasons.proofs.Sorting.{contains_none}
 use Rattle.sas_why.specs.declared.rounds.Origin.{Origin}
 use Rattle.sas_why.specs.declared.rounds.Rounds.{Rounds}
 use Rattle.sas_why.specs.Asking.{asking_at}

@@ -10,14 +10,14 @@ use Rattle.sas_core.specs.declared.parts.Parts.{Parts}
 use Rattle.sas_core.specs.Changes.{rule_change}
 use Rattle.sas_core.specs.Grounded.{rule_at}
 use Rattle.sas_meaning.specs.Layers.{IsOnLayer, default_of, CanFire}
+use Rattle.sas_meaning.proofs.Layers.{one_layer}
 use Rattle.sas_reasons.specs.Derivation.{reached, FiresNext}
 use Rattle.sas_reasons.proofs.Rounds.{Fires, fires_decides, reach}
 use Rattle.sas_why.specs.declared.rounds.Origin.{Origin}
 use Rattle.sas_why.specs.declared.rounds.Rounds.{Rounds}
 use Rattle.sas_why.specs.Asking.{asking_at}
 use Rattle.sas_why.specs.Rounds.{origin_at, IsOrigin, IsReached, AreKnown, IsFirstOpen, HavePassed, ReachesNow, HasLower, AreAwaited, InRound, unreached, GoesOn, origin_now, with_rule, added, Reaches, value_in_round}
-use Rattle.sas_why.proofs.Reaching.{one_layer}
-use Rattle.sas_why.proofs.Origined.{NotEarlier, with_rule_cases, unreached_fewer, unreached_same}
+use Rattle.sas_why.proofs.Origined.{some_same, NotEarlier, with_rule_cases, unreached_fewer, unreached_same}
 
 -- what it says that a rule fires in a round
 pub fires_now : (p : Parts) (s : List ℕ) (var layer over rule : ℕ) → FiresNext p s var layer over rule
@@ -32,9 +32,6 @@ fires_next p s var layer over rule lt f = record { exists = lt; fires = (fires_d
 pub reached_next : (p : Parts) (s : List ℕ) (var layer over rule : ℕ) → IsOnLayer p layer var → FiresNext p s var layer over rule
     → reached p layer s (suc over) var ≡ true
 reached_next p s var layer over rule on f = reach p layer s over var (record { on = on; rule = rule; exists = f.exists; fires = fires_now p s var layer over rule f })
-
-some_same : (a b : Origin) → Some a ≡ Some b → a ≡ b
-some_same a b e = cc
 
 pub same_at : (o : Option Origin) (a b : Origin) → o ≡ Some a → o ≡ Some b → a ≡ b
 same_at o a b x y = some_same a b (sym x ∙ y)

@@ -3,6 +3,5 @@ pub mod Origins
 pub mod Retracing
 pub mod Noting
 pub mod Conflicts
-pub mod RulesOf
 pub mod Report
 pub mod Rounds

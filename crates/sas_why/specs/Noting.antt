@@ -1,8 +1,6 @@
 -- What is noted of each step of a plan.
 use Rattle.std.specs.Prelude.{◌≡◌, ◌≢◌, ◌⊎◌, ℕ, ◌+◌, ◌<◌, if◌then◌else◌, List, length, All, Contains, slice_index, Option, Some, None}
 use Rattle.sas_core.specs.declared.parts.Fact.{Fact}
-use Rattle.sas_core.specs.declared.parts.Parts.{Parts}
-use Rattle.sas_core.specs.Variables.{IsDerived}
 use Rattle.sas_meaning.specs.declared.touched.Touched.{Touched}
 use Rattle.sas_run.specs.Running.{IsLaterIfAny}
 use Rattle.sas_run.specs.Executions.{Executed, next_operator, Advances}
@@ -49,11 +47,6 @@ pub record NotesChanges (step : ℕ) (s : List ℕ) (old new : Changes) : Type 0
   pub each : (var : ℕ) → var < length s → NotedAt step s old new var
 
 -- ---- which variables a step may have changed
-
--- the derived variables, each at least once
-pub record AreDerived (p : Parts) (variables : List ℕ) : Type 0 where
-  pub only : All (IsDerived p.variables) variables
-  pub each : (var : ℕ) → IsDerived p.variables var → Contains variables var
 
 -- where any derived variable may have changed, all of them; else those on the list
 abbrev pub looked_at : List ℕ → Touched → List ℕ

@@ -6,17 +6,17 @@ use Rattle.sas_core.specs.declared.parts.Parts.{Parts}
 use Rattle.sas_core.specs.Grounded.{rule_at}
 use Rattle.sas_core.specs.Variables.{IsState}
 use Rattle.sas_meaning.specs.Settled.{IsSettled}
+use Rattle.sas_meaning.specs.Places.{places, can_give}
 use Rattle.sas_wording.specs.declared.line.Line.{Line}
 use Rattle.sas_wording.specs.declared.line.Line.TheVariants.{RuleDerives, RuleRequires}
-use Rattle.sas_reasons.specs.Lines.{with_lines, places}
+use Rattle.sas_axioms.specs.LayerRules.{AreRulesOf}
+use Rattle.sas_reasons.specs.Lines.{with_lines}
 use Rattle.sas_run.specs.Runs.{Run, last_state, GoesThrough}
-use Rattle.sas_reasons.specs.Derivation.{can_give}
 use Rattle.sas_reasons.specs.Cause.{failing_lines}
 use Rattle.sas_why.specs.declared.retraced.Retraced.{Retraced}
 use Rattle.sas_why.specs.declared.report.Report.{Report}
 use Rattle.sas_why.specs.Origins.{is_told, AreOrigins}
 use Rattle.sas_why.specs.Retracing.{HaveSince}
-use Rattle.sas_why.specs.RulesOf.{AreRulesOf}
 
 -- the run's last state is noted, and since when its values hold
 pub record IsBehind (p : Parts) (noted : Retraced) (run : Run) : Type 0 where

@@ -3,9 +3,8 @@ ghost use Rattle.std.specs.Prelude.{◌≡◌, ◌<◌, ℕ, [], ◌∷◌, ◌+
 ghost use Rattle.sas_core.specs.declared.parts.Fact.{Fact};
 ghost use Rattle.sas_core.specs.Variables.{IsState};
 ghost use Rattle.sas_meaning.specs.Layers.{default_of};
-ghost use Rattle.sas_reasons.specs.Lines.{places};
+ghost use Rattle.sas_meaning.specs.Places.{places, can_give};
 ghost use Rattle.sas_run.specs.Runs.{last_state};
-ghost use Rattle.sas_reasons.specs.Derivation.{can_give};
 ghost use Rattle.sas_reasons.specs.Cause.{fails, is_derived, is_given, actual_fact, since_line, failing_lines};
 ghost use Rattle.sas_reasons.specs.Cause.{TellsGivers, can_be_given, keeping_lines, missing_lines, IsCause};
 ghost use Rattle.sas_why.specs.Report.{CanTell, Adds};

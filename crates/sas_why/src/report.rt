@@ -2,11 +2,11 @@
 ghost use Rattle.std.specs.Prelude.{◌≡◌, [], IfOk};
 ghost use Rattle.sas_core.specs.Variables.{IsState};
 ghost use Rattle.sas_meaning.specs.Settled.{IsSettled};
-ghost use Rattle.sas_why.specs.RulesOf.{AreRulesOf};
 
 use crate::origins::Origins;
+use sas_axioms::rules_of_variables;
 use sas_core::{Grounded, Items};
-use sas_lists::{Entry, Lists};
+use sas_lists::Lists;
 use sas_meaning::{Layered, State};
 use sas_wording::Line;
 use std::alloc::{AllocError, Global};
@@ -77,26 +77,4 @@ impl Report {
         } = self;
         lines
     }
-}
-
-/// Returns the rules of each variable that can fire.
-fn rules_of_variables<T: Grounded>(
-    alloc: Global,
-    task: &Layered<T>,
-) -> Result<Lists<u32>, AllocError>
-    ensures { IfOk result (AreRulesOf task.now) }
-{
-    // By its contract the task is well ranged and layered.
-    let _ = task.task();
-    let mut entries = Vec::new(alloc);
-    for rule in 0..task.rules() {
-        let change = task.rule_change(rule);
-        if change.new != task.initial_value(change.var) {
-            entries.push(Entry {
-                key: change.var as usize,
-                item: rule,
-            })?;
-        }
-    }
-    Lists::by_key(alloc, entries.as_slice(), task.variables() as usize)
 }

@@ -1,15 +1,16 @@
 // The second pass over a plan.
 ghost use Rattle.std.specs.Prelude.{◌≡◌, ◌+◌, ◌<◌, length, IfOk, Some};
+ghost use Rattle.sas_meaning.specs.DerivedVariables.{AreDerived};
 ghost use Rattle.sas_run.specs.Executions.{IsFound, Executes};
 ghost use Rattle.sas_run.specs.Runs.{Run};
-ghost use Rattle.sas_why.specs.Noting.{HavePlaces, AreDerived, AddsOther, NotesStep};
+ghost use Rattle.sas_why.specs.Noting.{HavePlaces, AddsOther, NotesStep};
 ghost use Rattle.sas_why.specs.Retracing.{AreNotes, IsRetraced};
 
 use crate::changes::Changes;
-use crate::derived::{derived_variables, touched_among};
+use crate::derived::touched_among;
 use crate::retraced::{Other, Retraced};
 use sas_core::{Grounded, Stepwise};
-use sas_meaning::Settle;
+use sas_meaning::{Settle, derived_variables};
 use sas_run::{Execution, PlanFault};
 use std::alloc::{AllocError, Global};
 

@@ -16,6 +16,7 @@ use Rattle.sas_axioms.specs.Agenda.{IsNoted, work_left}
 use Rattle.sas_axioms.specs.Following.{IsFalling}
 use Rattle.sas_axioms.specs.LayerRules.{IsRuleOn}
 use Rattle.sas_axioms.specs.Sources.{IsHolding}
+use Rattle.sas_axioms.proofs.RulesOf.{rules_on, rule_under}
 use Rattle.sas_axioms.proofs.FallingSteps.{FallingBut, falling_taken, falling_passed, falling_fell, risen_from_fallen, fallen_is, fallen_state, less_in_the_end}
 use Rattle.sas_axioms.proofs.Tracking.{holding_when_zero, off_step, told_step, same_more, same_but}
 use Rattle.sas_axioms.proofs.following.fall.Goals as goal
@@ -139,9 +140,9 @@ loop-rule-preserved-in-Continue-branch-2 g c =
     let state : IsState p.variables (set s (rule_at p rule).var (default_of p (rule_at p rule).var)) =
     state_set p s (rule_at p rule).var (default_of p (rule_at p rule).var) b.track.state (c.task.ensures.well_ranged.init.in_range (rule_at p rule).var (within g i)) in
     let moves = rw (var_is, state_is) at c.in_ok-set_to.ensures.moves in
-    let all : All (λ (r : ℕ). IsRuleOn p work.layer r) c.get.result.now = rw (c.get.ensures, var_is) (c.requires.rules.only work.layer (rule_at p rule).var b.is.on) in
+    let all : All (λ (r : ℕ). IsRuleOn p work.layer r) c.get.result.now = rw (c.get.ensures, var_is) (rules_on p c.args.rules_of.now c.requires.rules work.layer (rule_at p rule).var b.is.on) in
     let each : (other : ℕ) → IsRuleOn p work.layer other → (rule_at p other).var ≡ (rule_at p rule).var → Contains c.get.result.now other =
-    λ other on e. rw (c.get.ensures, var_is) (subst (λ v. Contains (get_or c.args.rules_of.now v []) other) e (c.requires.rules.each work.layer other on)) in
+    λ other on e. rw (c.get.ensures, var_is) (subst (λ v. Contains (get_or c.args.rules_of.now v []) other) e (rule_under p c.args.rules_of.now c.requires.rules work.layer other on)) in
     rw state_is record {
       same = record {
         layer = c.set_to.ensures.same.layer ∙ inv.same.layer;

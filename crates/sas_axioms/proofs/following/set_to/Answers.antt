@@ -3,7 +3,7 @@ use Rattle.std.proofs.Common.{◌≡◌, List, ℕ, set, slice_index, sym, ◌�
 use Rattle.std.proofs.lemmas.Result.{on_ok_weaker}
 use Rattle.sas_axioms.specs.Conditions.{AreCounted}
 use Rattle.sas_axioms.specs.Following.{Moves}
-use Rattle.sas_axioms.proofs.Derived.{derived_within}
+use Rattle.sas_meaning.proofs.DerivedVariables.{derived_within}
 use Rattle.sas_axioms.proofs.following.set_to.Goals as goal
 
 pub value-requires : goal.value-requires

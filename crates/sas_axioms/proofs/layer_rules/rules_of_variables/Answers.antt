@@ -1,30 +1,47 @@
--- Each iteration appends the entry of a rule that can fire, or skips a rule that can't.
-use Rattle.std.proofs.Common.{◌≡◌, sym, ap, subst, ◌∙◌, arith}
+-- Each turn adds the entry of a rule that can fire, or passes one that can't.
+use Rattle.std.proofs.Common.{◌≡◌, ◌<◌, length, sym, ap, subst, ◌∙◌, arith}
 use Rattle.std.proofs.lemmas.Result.{IfOk-weaker}
 use Rattle.sas_core.specs.declared.grounded.Change.{Change}
+use Rattle.sas_core.specs.Grounded.{rule_at}
 use Rattle.sas_lists.specs.ByKey.{by_key}
+use Rattle.sas_meaning.specs.Layers.{default_of}
+use Rattle.sas_meaning.proofs.Forced.{fact_within, rule_new}
 use Rattle.sas_axioms.specs.LayerRules.{AreRulesOf}
-use Rattle.sas_axioms.proofs.RulesOf.{rules_none, rules_more, rules_skip, rules_exist, rules_index}
+use Rattle.sas_axioms.proofs.RulesOf.{RulesTo, rules_none, rules_skip, rules_more, rules_index}
 use Rattle.sas_axioms.proofs.layer_rules.rules_of_variables.Goals as goal
-use Rattle.sas_axioms.proofs.layer_rules.rules_of_variables.Goals.{in-Some+in_ok-push, in_default}
+use Rattle.sas_axioms.proofs.layer_rules.rules_of_variables.Goals.{then-change-initial_value+in_ok-push, else-change-initial_value}
 
 pub loop-rule-init : goal.loop-rule-init
-loop-rule-init g c = rw c.new-entries.ensures.items (rules_none c.args.task.now)
+loop-rule-init g c = subst (RulesTo c.args.task.now 0) (sym c.new-entries.ensures.items) (rules_none c.args.task.now)
+
+pub initial_value-requires : goal.initial_value-requires
+initial_value-requires g c =
+    let p = c.args.task.now in
+    let k = c.loop-rule.rule in
+    let lt : k < length p.rules = omega (arith, c.rules-rule-end.ensures, c.loop-rule-test.true) in
+    subst (λ (x : Change). x.var < length p.variables) (sym c.rule_change-change.ensures)
+    (fact_within p (rule_at p k).var (rule_at p k).new (rule_new p c.task.ensures.well_ranged k _ lt))
 
 pub loop-rule-preserved : goal.loop-rule-preserved
 loop-rule-preserved g c =
     let p = c.args.task.now in
+    let k = c.loop-rule.rule in
     let entries = c.loop-rule.entries.items in
-    elim c.match-firing_layer.branch [
-      | in-Some+in_ok-push w ↦
-          (let var_is = ap (λ (x : Change). x.var) w.rule_change-key.ensures in
-          let pushed = w.in_ok-push.ensures.items in
-          rw (w.entries-is, pushed, var_is) (rules_more p c.loop-rule.rule w.in-Some._layer entries w.in-Some.ensures.some c.loop-rule.invariant))
-      | in_default w ↦ rw w.entries-is (rules_skip p c.loop-rule.rule entries w.in_default.ensures.none c.loop-rule.invariant)
+    let lt : k < length p.rules = omega (arith, c.rules-rule-end.ensures, c.loop-rule-test.true) in
+    let var = ap (λ (x : Change). x.var) c.rule_change-change.ensures in
+    let new = ap (λ (x : Change). x.new) c.rule_change-change.ensures in
+    let default : c.initial_value.result ≡ default_of p (rule_at p k).var = c.initial_value.ensures ∙ ap (default_of p) var in
+    elim c.if-change-initial_value.branch [
+      | then-change-initial_value+in_ok-push w ↦
+          (let pushed = w.in_ok-push.ensures.items in
+          rw (w.entries-is, pushed, var) (rules_more p k entries lt (fact_within p (rule_at p k).var (rule_at p k).new (rule_new p c.task.ensures.well_ranged k _ lt))
+          (λ same. w.if-change-initial_value.true (new ∙ (same ∙ sym default))) c.loop-rule.invariant))
+      | else-change-initial_value w ↦
+          rw w.entries-is (rules_skip p k entries lt (sym new ∙ (w.if-change-initial_value.false ∙ default)) c.loop-rule.invariant)
     ]
 
 pub by_key-requires : goal.by_key-requires
-by_key-requires g c = rw (c.as_slice.ensures.value, c.variables.ensures.count) (rules_exist c.args.task.now c.loop-rule.rule c.loop-rule.entries.items c.loop-rule.invariant)
+by_key-requires g c = rw (c.as_slice.ensures.value, c.variables.ensures.count) c.loop-rule.invariant.exist
 
 pub returns : goal.returns
 returns g c =
@@ -32,5 +49,5 @@ returns g c =
     let es = c.loop-rule.entries.items in
     IfOk-weaker c.by_key.result (λ lists. lists ≡ by_key c.as_slice.result.now c.variables.result) (AreRulesOf p)
     (λ lists is. subst (AreRulesOf p) (sym (is ∙ ap (λ l. by_key l c.variables.result) c.as_slice.ensures.value ∙ ap (λ n. by_key es n) c.variables.ensures.count))
-    (rules_index p c.loop-rule.rule es (omega arith) c.loop-rule.invariant))
+    (rules_index p c.loop-rule.rule es (omega (arith, c.rules-rule-end.ensures, c.loop-rule-test.false)) c.loop-rule.invariant))
     c.by_key.ensures

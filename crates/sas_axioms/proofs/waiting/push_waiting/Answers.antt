@@ -7,9 +7,10 @@ use Rattle.sas_core.specs.Grounded.{rule_at}
 use Rattle.sas_core.specs.Variables.{layer_of}
 use Rattle.sas_lists.specs.declared.by_key.Entry.{Entry}
 use Rattle.sas_meaning.specs.Layers.{IsOnLayer}
+use Rattle.sas_meaning.proofs.Forced.{condition_within}
 use Rattle.sas_axioms.specs.declared.waiting.Waiting.{Waiting}
 use Rattle.sas_axioms.specs.Waiting.{entry_of}
-use Rattle.sas_axioms.proofs.Entries.{AddsUpTo, adds_none, adds_more, adds_skip, adds_all, condition_within, same_option}
+use Rattle.sas_axioms.proofs.Entries.{AddsUpTo, adds_none, adds_more, adds_skip, adds_all, same_option}
 use Rattle.sas_axioms.proofs.waiting.push_waiting.Goals as goal
 use Rattle.sas_axioms.proofs.waiting.push_waiting.Goals.{then-eq+in_ok-push, else-eq}
 

@@ -5,7 +5,7 @@ use Rattle.std.proofs.lemmas.Bool.{cases_eq}
 use Rattle.std.proofs.lemmas.List.{get_or_default, get_or-set_same, get_or-set_other}
 use Rattle.sas_meaning.specs.Layers.{default_of}
 use Rattle.sas_meaning.proofs.Forced.{state_set}
-use Rattle.sas_axioms.proofs.Derived.{not_basic, derived_within}
+use Rattle.sas_meaning.proofs.DerivedVariables.{not_basic, derived_within}
 use Rattle.sas_axioms.proofs.worklist.set_defaults.Goals as goal
 
 pub loop-var-preserved : goal.loop-var-preserved

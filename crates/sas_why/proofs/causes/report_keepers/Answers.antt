@@ -4,12 +4,11 @@ use Rattle.std.specs.Prelude.{flat_map}
 use Rattle.std.specs.List.{All}
 use Rattle.std.proofs.lemmas.Result.{on_ok_weaker}
 use Rattle.std.proofs.lemmas.List.Elements.{Contains-get_or}
-use Rattle.sas_reasons.specs.Lines.{places}
-use Rattle.sas_reasons.specs.Derivation.{can_give}
+use Rattle.sas_axioms.proofs.RulesOf.{of_variable}
+use Rattle.sas_meaning.specs.Places.{places, can_give}
 use Rattle.sas_reasons.specs.Cause.{failing_lines, keeping_lines}
 use Rattle.sas_run.specs.Runs.{last_state}
 use Rattle.sas_why.specs.Report.{Adds}
-use Rattle.sas_why.proofs.RulesOf.{of_variable}
 use Rattle.sas_why.proofs.Composing.{no_rule, told_before, told_now, rules_of_report}
 use Rattle.sas_why.proofs.causes.report_keepers.Goals as goal
 

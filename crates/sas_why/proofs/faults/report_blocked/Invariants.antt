@@ -1,10 +1,10 @@
 -- It is told why the operators so far aren't applicable.
 use Rattle.std.proofs.Common.{bytes_eq}
 use Rattle.sas_core.specs.declared.parts.Operator.{Operator}
+use Rattle.sas_meaning.proofs.Places.{places_to}
 use Rattle.sas_reasons.specs.Lines.{TellsEach}
 use Rattle.sas_reasons.specs.WhyPlan.{TellsInapplicable}
 use Rattle.sas_why.specs.Report.{Adds}
-use Rattle.sas_why.proofs.RulesOf.{places_to}
 use Rattle.sas_why.proofs.faults.report_blocked.Given as goal
 
 abbrev pub invariant-loop-operator : goal.invariant-loop-operator

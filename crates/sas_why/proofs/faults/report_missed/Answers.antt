@@ -3,13 +3,14 @@ use Rattle.std.proofs.Common.{◌≡◌, ◌<◌, ◌≤◌, ◌+◌, List, [], 
 use Rattle.std.specs.Prelude.{slice_index}
 use Rattle.std.specs.List.{All}
 use Rattle.sas_core.specs.declared.parts.Fact.{Fact}
-use Rattle.sas_reasons.specs.Lines.{TellsEach, places}
+use Rattle.sas_meaning.specs.Places.{places}
+use Rattle.sas_meaning.proofs.Places.{places_to, places_all}
+use Rattle.sas_reasons.specs.Lines.{TellsEach}
 use Rattle.sas_reasons.specs.Cause.{fails, IsCause}
 use Rattle.sas_reasons.specs.WhyPlan.{goal_fact_at, TellsGoalFact}
 use Rattle.sas_wording.specs.declared.line.Line.TheVariants.{GoalFact}
 use Rattle.sas_why.specs.declared.report.Report.{Report}
 use Rattle.sas_why.specs.Report.{Adds}
-use Rattle.sas_why.proofs.RulesOf.{places_to, places_all}
 use Rattle.sas_why.proofs.Within.{goal_within}
 use Rattle.sas_why.proofs.Composing.{more_can_tell, plain_can_tell, line_and_more, one_more}
 use Rattle.sas_why.proofs.Faulty.{same_items, at_last, place_fails, place_holds}

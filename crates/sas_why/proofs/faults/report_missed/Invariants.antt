@@ -2,8 +2,8 @@
 use Rattle.sas_reasons.specs.Lines.{TellsEach}
 use Rattle.sas_reasons.specs.Cause.{fails}
 use Rattle.sas_reasons.specs.WhyPlan.{TellsGoalFact}
+use Rattle.sas_meaning.proofs.Places.{places_to}
 use Rattle.sas_why.specs.Report.{Adds}
-use Rattle.sas_why.proofs.RulesOf.{places_to}
 use Rattle.sas_why.proofs.faults.report_missed.Given as goal
 
 abbrev pub invariant-loop-index : goal.invariant-loop-index

@@ -3,8 +3,8 @@ use Rattle.std.proofs.Common.{rules, ◌≡◌, ℕ, zero, suc, ◌∙◌, Bool,
 use Rattle.std.specs.List.{Contains}
 use Rattle.std.proofs.lemmas.Bool.{false≢true}
 use Rattle.std.proofs.lemmas.List.{length-replicate}
+use Rattle.sas_meaning.proofs.Members.{contains_none}
 use Rattle.sas_wording.specs.declared.line.Line.{Line}
-use Rattle.sas_reasons.proofs.Sorting.{contains_none}
 use Rattle.sas_why.proofs.report.Report.new.Goals as goal
 
 none_kept : (n var : ℕ) → get_or (replicate n false) var false ≡ false

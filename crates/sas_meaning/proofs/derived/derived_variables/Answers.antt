@@ -3,9 +3,9 @@ use Rattle.std.proofs.Common.{◌≡◌, ◌++◌, ◌∷◌, [], true, false, s
 use Rattle.std.specs.Option.{is_some}
 use Rattle.std.proofs.lemmas.Result.{IfOk-from_err}
 use Rattle.sas_core.specs.Variables.{IsDerived}
-use Rattle.sas_axioms.proofs.Derived.{derived_none, derived_more, derived_skip, derived_all}
-use Rattle.sas_axioms.proofs.worklist.derived_variables.Goals as goal
-use Rattle.sas_axioms.proofs.worklist.derived_variables.Goals.{then-is_some+in_ok-push, else-is_some}
+use Rattle.sas_meaning.proofs.DerivedVariables.{derived_none, derived_more, derived_skip, derived_all}
+use Rattle.sas_meaning.proofs.derived.derived_variables.Goals as goal
+use Rattle.sas_meaning.proofs.derived.derived_variables.Goals.{then-is_some+in_ok-push, else-is_some}
 
 pub loop-var-init : goal.loop-var-init
 loop-var-init g c = rw c.new-variables.ensures.items (derived_none c.args.task.now)
