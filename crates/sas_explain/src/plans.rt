@@ -2,8 +2,8 @@
 ghost use Rattle.std.specs.Prelude.{◌≡◌, Some, IfOk};
 ghost use Rattle.sas_run.specs.Executions.{IsFound};
 ghost use Rattle.sas_run.specs.Verdicts.{IsFaultOf};
-ghost use Rattle.sas_explain.specs.Verdict.{WhyVerdict, output_of_plan};
-ghost use Rattle.sas_explain.specs.Judgement.{IsJudgement, IsAccepted};
+ghost use Rattle.sas_explain.specs.Verdict.{WhyVerdict};
+ghost use Rattle.sas_explain.specs.Judgement.{IsJudgement, IsAccepted, output_of_plan};
 ghost use Rattle.sas_why.specs.Retracing.{IsRetraced};
 
 use crate::explained::Explained;
