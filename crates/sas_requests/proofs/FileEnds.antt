@@ -2,7 +2,6 @@
 use Rattle.std.proofs.Common.{◌≡◌, ◌≢◌, ℕ, ◌<◌, Bool, true, false, IsTrue, List, [], length, take, refl, sym, ap, subst, ◌∙◌, inl, inr, ◌⊎◌, codes, Option, Some, None, Result, Ok, Err}
 use Rattle.std.specs.Prelude.{nat_lt, IfErr, IsErrOf, IsSomeAnd, ◌↔◌}
 use Rattle.std.specs.Io.KnownBytes.{Consumes, IsAtEnd}
-use Rattle.std.proofs.lemmas.Option.{none-some}
 use Rattle.sas_core.specs.declared.parts.Parts.{Parts}
 use Rattle.sas_core.specs.PlanParts.{PlanParts}
 use Rattle.sas_core.specs.FirstFault.{first_fault}

@@ -1,4 +1,4 @@
-use Rattle.std.proofs.Common.{◌≡◌, ap, ◌∙◌, codes}
+use Rattle.std.proofs.Common.{ap, ◌∙◌, codes}
 use Rattle.sas_lines.specs.Lines.{text}
 use Rattle.sas_flat.specs.declared.outline.Outline.{Outline}
 use Rattle.sas_task_format.specs.TaskFormat.{task_format}

@@ -1,4 +1,4 @@
-use Rattle.std.proofs.Common.{◌≡◌, List, refl, sym, subst, ap, ◌∙◌, Option}
+use Rattle.std.proofs.Common.{List, refl, sym, subst, ap, ◌∙◌, Option}
 use Rattle.sas_core.specs.declared.parts.Parts.{Parts}
 use Rattle.sas_lines.specs.Lines.{text}
 use Rattle.sas_groups.specs.Joint.{AreJointVerdicts}
