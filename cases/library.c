@@ -1,7 +1,7 @@
 /* Calls the library where memory is refused, over and over, and in threads, for library.py.
 
      library refused TASK PLAN         each call, with each allocation of it refused in turn
-     library many TASK PLAN COUNT      so many times the plan of one task
+     library many TASK PLAN COUNT      so many times the plan of one task, by each call about one in turn
      library threads TASK PLAN COUNT   the same in four threads at once, each with a task of its own
 
    `refused` prints a line for each call, `NAME: N refused, M wrong`, and the others one line. malloc, realloc and free are this
@@ -65,6 +65,7 @@ static long count;
 
 typedef enum sas_number over_one(const uint8_t *, size_t, uint8_t *, size_t, size_t *);
 typedef enum sas_number over_two(const uint8_t *, size_t, const uint8_t *, size_t, uint8_t *, size_t, size_t *);
+typedef enum sas_number over_held(sas_task *, const uint8_t *, size_t, uint8_t *, size_t, size_t *);
 
 static const struct request {
     const char *name;
@@ -82,6 +83,19 @@ static const struct request {
     {"sas_print", sas_print, NULL, NULL},
     {"sas_steps", NULL, sas_steps, NULL},
 };
+
+/* the calls about a plan of a task that is held, and which request each answers */
+static const struct held_request {
+    const char *name;
+    over_held *of_held;
+    const struct request *request;
+} held_requests[] = {
+    {"sas_task_plan", sas_task_plan, &requests[0]},
+    {"sas_task_plan_why", sas_task_plan_why, &requests[1]},
+    {"sas_task_trace", sas_task_trace, &requests[2]},
+};
+
+enum { HELD = sizeof held_requests / sizeof *held_requests };
 
 static struct bytes read_file(const char *name) {
     struct bytes it;
@@ -115,8 +129,8 @@ static void read_task(sas_task *held, struct answer *got) {
     got->number = sas_task_read(held, task.at, task.length, got->room, ROOM, &got->size);
 }
 
-static void ask_held(sas_task *held, struct answer *got) {
-    got->number = sas_task_plan(held, plan.at, plan.length, got->room, ROOM, &got->size);
+static void ask_held(const struct held_request *it, sas_task *held, struct answer *got) {
+    got->number = it->of_held(held, plan.at, plan.length, got->room, ROOM, &got->size);
 }
 
 static int is_answer(const struct answer *it) {
@@ -129,7 +143,7 @@ static int same(const struct answer *one, const struct answer *other) {
 
 static struct answer due, got;
 
-/* Whether what was got with an allocation refused is want of memory, or the answer all the same. */
+/* Whether what was got with an allocation refused is out of memory, or the answer all the same. */
 static int is_right(void) {
     return got.number == SAS_OUT_OF_MEMORY || same(&got, &due);
 }
@@ -170,9 +184,9 @@ static long refuse_read(long *refused) {
             if (before_refusal >= 0) {
                 break;
             }
-            wrong += !is_right();
-            if (got.number != SAS_YES) {
-                ask_held(&held, &got);
+            wrong += !is_right() || held.is_there != (got.number == SAS_YES);
+            for (int place = 0; place < HELD && !held.is_there; place++) {
+                ask_held(&held_requests[place], &held, &got);
                 wrong += got.number != SAS_NO_TASK || blocks != left;
             }
             read_task(&held, &got);
@@ -188,22 +202,23 @@ static long refuse_read(long *refused) {
     return wrong;
 }
 
-/* The same of a plan of a task that is held, which stays so. */
-static long refuse_held(long *refused) {
-    long wrong = 0, left = blocks;
+/* The same of a plan of a task that is held, which stays so. The answer is that of the request over both files. */
+static long refuse_held(const struct held_request *it, long *refused) {
+    long wrong = 0, left = blocks, before;
     sas_task held = SAS_TASK_NONE;
+    ask(it->request, &due);
     read_task(&held, &got);
-    ask_held(&held, &due);
+    before = blocks;
     wrong += !is_answer(&due);
     for (*refused = 0;; ++*refused) {
         before_refusal = *refused;
-        ask_held(&held, &got);
+        ask_held(it, &held, &got);
         if (before_refusal >= 0) {
             break;
         }
-        wrong += !is_right();
-        ask_held(&held, &got);
-        wrong += !same(&got, &due);
+        wrong += !is_right() || blocks != before;
+        ask_held(it, &held, &got);
+        wrong += !same(&got, &due) || blocks != before;
     }
     before_refusal = -1;
     wrong += !same(&got, &due);
@@ -223,8 +238,10 @@ static void refuse_all(void) {
     }
     wrong = refuse_read(&refused);
     tell("sas_task_read", refused, wrong);
-    wrong = refuse_held(&refused);
-    tell("sas_task_plan", refused, wrong);
+    for (int place = 0; place < HELD; place++) {
+        wrong = refuse_held(&held_requests[place], &refused);
+        tell(held_requests[place].name, refused, wrong);
+    }
 }
 
 /* Returns the most memory that the program had so far, in kB. */
@@ -234,16 +251,26 @@ static long most_memory(void) {
     return usage.ru_maxrss;
 }
 
+/* the answer of each call about a plan of a task that is held, by its request over both files */
+static struct answer dues[HELD];
+
+static void ask_dues(void) {
+    for (int place = 0; place < HELD; place++) {
+        ask(held_requests[place].request, &dues[place]);
+    }
+}
+
 static void ask_many(void) {
     long wrong = 0, left, most = 0;
     sas_task held = SAS_TASK_NONE;
-    ask(&requests[0], &due);
+    ask_dues();
     left = blocks;
     read_task(&held, &got);
     for (long number = -WARM; number < count; number++) {
+        int place = (int)((number + WARM) % HELD);
         most = number == 0 ? most_memory() : most;
-        ask_held(&held, &got);
-        wrong += !same(&got, &due);
+        ask_held(&held_requests[place], &held, &got);
+        wrong += !same(&got, &dues[place]);
     }
     most = most_memory() - most;
     sas_task_free(&held);
@@ -256,11 +283,12 @@ static void *ask_in_thread(void *wrong) {
     struct answer *mine = __libc_malloc(sizeof *mine);
     long left = blocks;
     for (long number = 0; number < count; number++) {
+        int place = (int)(number % HELD);
         if (number % 64 == 0) {
             read_task(&held, mine);
         }
-        ask_held(&held, mine);
-        *(long *)wrong += !same(mine, &due);
+        ask_held(&held_requests[place], &held, mine);
+        *(long *)wrong += !same(mine, &dues[place]);
     }
     sas_task_free(&held);
     *(long *)wrong += blocks != left;
@@ -271,7 +299,7 @@ static void *ask_in_thread(void *wrong) {
 static void ask_in_threads(void) {
     pthread_t threads[THREADS];
     long wrong[THREADS] = {0}, all = 0;
-    ask(&requests[0], &due);
+    ask_dues();
     for (int place = 0; place < THREADS; place++) {
         if (pthread_create(&threads[place], NULL, ask_in_thread, &wrong[place]) != 0) {
             exit(3);

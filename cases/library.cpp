@@ -9,6 +9,8 @@
 static_assert(!std::is_copy_constructible_v<sas::Task> && !std::is_copy_assignable_v<sas::Task>);
 static_assert(std::is_nothrow_move_constructible_v<sas::Task> && std::is_nothrow_move_assignable_v<sas::Task>);
 
+static_assert(std::is_same_v<decltype(sas::version()), std::string_view>);
+
 static std::string read_file(const char *name) {
     std::ifstream file(name, std::ios::binary);
     return {std::istreambuf_iterator<char>(file), {}};
@@ -27,6 +29,13 @@ template <class Call> static void tell(const char *name, Call call) {
     } catch (const sas::NoTask &) {
         std::cout << "no task\n";
     }
+}
+
+// the calls about a plan of a task, in turn
+static void tell_held(const char *name, sas::Task &task, const std::string &plan) {
+    tell(name, [&] { return task.plan(plan); });
+    tell("held plan_why", [&] { return task.plan_why(plan); });
+    tell("held trace", [&] { return task.trace(plan); });
 }
 
 int main(int, char **words) {
@@ -49,12 +58,12 @@ int main(int, char **words) {
         std::cout << refusal.what() << '\n';
     }
     sas::Task first;
-    tell("none", [&] { return first.plan(plan); });
+    tell_held("none", first, plan);
     tell("read", [&] { return first.read(task); });
-    tell(first.is_held() ? "held" : "not held", [&] { return first.plan(plan); });
+    tell_held(first.is_held() ? "held" : "not held", first, plan);
     sas::Task second = std::move(first);
-    tell("moved from", [&] { return first.plan(plan); });
-    tell("moved to", [&] { return second.plan(plan); });
+    tell_held("moved from", first, plan);
+    tell_held("moved to", second, plan);
     tell("read", [&] { return first.read(task); });
     second = std::move(first);
     tell("moved from", [&] { return first.plan(plan); });

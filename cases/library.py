@@ -8,7 +8,7 @@ mistake they could show that no proof does: the proofs know neither the header n
 
 library.c, library.cpp and library.rs make calls from these languages, library_stub.c stands in for the library. The compilers are
 $CC or cc, and of gcc, clang, g++, clang++, rustc and cargo those that are there; `valgrind`, `nm` and `readelf` are used where they are.
-What isn't there is told in a line that begins with `without`.
+For each tool that isn't there it prints a line that begins with `without`.
 
 Each test that fails has a line, and the last line is 'N passed, M failed'. The exit status is 0 where none failed.
 """
@@ -22,6 +22,7 @@ import importlib.util
 import mmap
 import os
 import pickle
+import random
 import re
 import shlex
 import shutil
@@ -43,6 +44,8 @@ LIMIT = 4_294_967_296
 LIMITED = ("memory", "stack", "file", "open", "closed", "output_to", "streamed", "told", "input_ends")
 OVER_BOTH, OVER_PLAN, OVER_TASK = ("plan", "plan_why", "trace"), ("steps",), ("check", "check_why", "mutex", "mutex_why", "show", "print")
 REQUESTS = (*OVER_BOTH, *OVER_PLAN, *OVER_TASK)
+# of each request over both files there is a call over a task that is held
+OVER_HELD = tuple(f"task_{it}" for it in OVER_BOTH)
 # a task and a plan that solves it, a group that isn't exclusive, and a task that isn't layered
 FUSES, DOORWAY, LAMPS = "examples/fuses", "examples/doorway", "examples/lamps"
 # what stands around a room, and how often
@@ -54,6 +57,10 @@ MANY, IN_THREADS = 100_000, 4000
 SECONDS, LONGEST = 300, 3000
 UNDEFINED = {"malloc", "realloc", "free", "memcpy", "memmove", "memset"}
 C_WARNINGS = ("-Wall", "-Wextra", "-pedantic", "-Werror")
+SOURCES = {
+    "c": ("library/examples/held.c", "library/sas_memory.c", "library/sas_version.c", "cases/library_stub.c"),
+    "cpp": ("library/examples/held.cpp", "cases/library.cpp", "cases/planner.cpp"),
+}
 LANGUAGES_OF_C = (("c", "-std=c99", ("gcc", "clang")), ("cpp", "-std=c++17", ("g++", "clang++")))
 # a task that a program whose room is fixed would cut off
 LARGE = 2 << 20
@@ -81,8 +88,8 @@ class Library:
         self.sas = module_of(os.path.join(folder, "sas.py"))
 
     def call(self, name, given, length):
-        """Makes a call with a room of so many bytes, between others that nothing may change. Returns its number, what it tells of
-        the size, what is in the room then, and whether the bytes around it are as before."""
+        """Makes a call with a room of so many bytes, between others that nothing may change. Returns its number, the size
+        that it reports, what is in the room then, and whether the bytes around the room are as before."""
         around = GUARD * AROUND
         memory = ctypes.create_string_buffer(around + GUARD * length + around, length + 2 * AROUND)
         size = ctypes.c_size_t(LIMIT + length)
@@ -162,7 +169,7 @@ def same_as_case(sas, case):
     due = case["status"] == 0, as_bytes(case["output"])
     if request == "plans":
         return differs(lines_of_plans(sas, files[1:], *held), due)
-    return differs(asked(sas, request, *held), due) + (same_of_held(sas, *held, due) if request == "plan" else [])
+    return differs(asked(sas, request, *held), due) + (same_of_held(sas, request, *held, due) if request in OVER_BOTH else [])
 
 
 def file_of(case, word):
@@ -172,17 +179,18 @@ def file_of(case, word):
     return as_bytes(case["files"][word]) if "files" in case else read(word)
 
 
-def same_of_held(sas, task, plan, due):
-    """Returns what is wrong with the answer about a plan of a task that is held."""
+def same_of_held(sas, request, task, plan, due):
+    """Returns what is wrong with the answer to a request about a plan of a task that is held."""
     try:
         with sas.Task(task) as held:
-            return [f"held: {it}" for it in differs(held.plan(plan), due)]
+            return [f"held: {it}" for it in differs(getattr(held, request)(plan), due)]
     except sas.Refused as refusal:
-        return [f"held: {it}" for it in differs((False, refusal.text), due)]
+        # a task that is refused has no reasons here
+        return [f"held: {it}" for it in differs((False, refusal.text), (due[0], due[1][: len(refusal.text)]))]
 
 
 def lines_of_plans(sas, labels, task, *plans):
-    """Returns what `plans` says of these plans, by one task that is held. The summary rests on the answers alone."""
+    """Returns what `plans` prints of these plans, by one task that is held. The summary is made of the answers alone."""
     try:
         with sas.Task(task) as held:
             answers = [held.plan(plan) for plan in plans]
@@ -229,7 +237,7 @@ def program_tests(program, library, _):
 
 def room_tests(_, library, __):
     """Yields each call with rooms of each length up to a little more than it needs. They could show a byte that is written behind the
-    room, or in front of it, a length that is told otherwise than it is, and a room that is just long enough and isn't taken so."""
+    room, or in front of it, a wrong length, and a room that is just long enough and is reported as too short."""
     fuses, broken = (read(f"{FUSES}.sas"), read(f"{FUSES}.plan")), (read(f"{DOORWAY}.sas"), read(f"{FUSES}.plan"))
     refused = read(f"{LAMPS}.sas"), b"(take f1)\n"
     for request in REQUESTS:
@@ -241,7 +249,9 @@ def room_tests(_, library, __):
         held = Held()
         yield "task_read, each room", wrong_rooms(library, "sas_task_read", lambda: [held, task], library.sas.check(task), held)
         library.call("sas_task_read", [held, fuses[0]], 128)
-        yield "task_plan, each room", wrong_rooms(library, "sas_task_plan", lambda: [held, plan], library.sas.plan(fuses[0], plan))
+        for request in OVER_BOTH:
+            answer = asked(library.sas, request, fuses[0], plan)
+            yield f"task_{request}, each room", wrong_rooms(library, f"sas_task_{request}", lambda: [held, plan], answer)
         library.calls.sas_task_free(ctypes.byref(held))
 
 
@@ -260,8 +270,8 @@ def wrong_rooms(library, name, given, answer, held=None):
 
 
 def held_tests(_, library, __):
-    """Yields what may come of a task that is held. They could show one that is held though it was refused or let go, one that is read
-    over another and isn't taken, one that is spoiled by a plan, and one that takes more bytes than the header says."""
+    """Yields what may come of a task that is held. They could show one that is held though it was refused or dropped, one that
+    doesn't replace the one before, one that a plan spoils, and one that takes more bytes than the header declares."""
     fuses, doorway = read(f"{FUSES}.sas"), read(f"{DOORWAY}.sas")
     plan, other = read(f"{FUSES}.plan"), read(f"{DOORWAY}.plan")
     guarded, none = Guarded(LIMIT, Held(), LIMIT), [NO_TASK]
@@ -270,15 +280,21 @@ def held_tests(_, library, __):
     def number(*given, room=128):
         return library.call("sas_task_plan" if len(given) == 1 else "sas_task_read", [held, given[-1]], room)[0]
 
+    def each(*plans, room=4096):
+        return [library.call(f"sas_{name}", [held, it], room)[0] for it in plans for name in OVER_HELD]
+
     def free():
         library.calls.sas_task_free(ctypes.byref(held))
         return bool(held.is_there)
 
     for name, calls, due in (
-        ("none at first", lambda: [number(plan)], none),
-        ("none let go", lambda: [free(), number(plan)], [False, *none]),
+        ("none at first", lambda: [number(plan), *each(plan)], none * 4),
+        ("none dropped", lambda: [free(), number(plan), *each(plan)], [False, *none * 4]),
         ("held", lambda: [number("read", fuses), number(plan), number(other), number(plan)], [YES, YES, NO, YES]),
-        ("let go", lambda: [number("read", fuses), free(), number(plan), free()], [YES, False, *none, False]),
+        ("dropped", lambda: [number("read", fuses), free(), number(plan), *each(plan), free()], [YES, False, *none * 4, False]),
+        ("each call", lambda: [number("read", fuses), *each(plan, other, plan)], [YES] * 4 + [NO] * 3 + [YES] * 3),
+        ("plans that each refuses", lambda: [number("read", fuses), *each(b"", b"\xff\n", plan)], [YES] + [NO] * 6 + [YES] * 3),
+        ("no room", lambda: [number("read", fuses), *each(other, room=3), *each(plan)], [YES] + [ROOM_TOO_SHORT] * 3 + [YES] * 3),
         ("another over it", lambda: [number("read", fuses), number("read", doorway), number(other), number(plan)], [YES, YES, YES, NO]),
         ("no task over it", lambda: [number("read", fuses), number("read", plan), number(plan)], [YES, NO, *none]),
         ("not layered", lambda: [number("read", fuses), number("read", read(f"{LAMPS}.sas")), number(plan)], [YES, NO, *none]),
@@ -296,7 +312,7 @@ def held_tests(_, library, __):
 
 
 def python_tests(_, library, folder):
-    """Yields what the wrapper in Python says of inputs of other types, of tasks that are refused and of those that are let go. They
+    """Yields the answers of the wrapper in Python about inputs of other types, tasks that are refused and tasks that are closed. They
     could show bytes that aren't those of the caller, and an answer where there is none."""
     sas, task, plan = library.sas, read(f"{FUSES}.sas"), read(f"{FUSES}.plan")
     due = sas.plan(task, plan)
@@ -323,7 +339,7 @@ def python_tests(_, library, folder):
         ("each second byte", TypeError, lambda: sas.check(memoryview(task)[::2])),
         ("a task that is refused", sas.Refused, lambda: sas.Task(plan)),
         ("a task that isn't layered", sas.Refused, lambda: sas.Task(read(f"{LAMPS}.sas"))),
-        ("a task that was closed", sas.NoTask, lambda: closed(sas, task).plan(plan)),
+        *((f"{it} of a task that was closed", sas.NoTask, lambda it=it: getattr(closed(sas, task), it)(plan)) for it in OVER_BOTH),
         ("a task that is pickled", TypeError, lambda: pickle.dumps(sas.Task(task))),
         ("a task that is copied", TypeError, lambda: copy.copy(sas.Task(task))),
         ("a task that is copied deeply", TypeError, lambda: copy.deepcopy(sas.Task(task))),
@@ -334,6 +350,40 @@ def python_tests(_, library, folder):
     with ThreadPoolExecutor(4) as pool, sas.Task(task) as held:
         answers = list(pool.map(held.plan, [plan] * 1000))
     yield "Python, one task in four threads", [it for answer in answers for it in differs(answer, due)][:1]
+
+
+# plans of FUSES, of which the file is refused or not
+PLANS_OF_FUSES = (
+    b"(take f1)\n(put f1 link)\n(take f2)\n(put f2 feed)\n; cost = 4 (unit cost)\n",
+    b"(take f1)\n(put f1 link)\n(take f2)\n(put f2 feed)\n; cost = 5 (unit cost)\n",
+    b"(take f1)\n(take f2)\n; cost = 2 (unit cost)\n",
+    b"(take f9)\n; cost = 1 (unit cost)\n",
+    b"; cost = 0 (unit cost)\n",
+    b"(take f1)\n",
+    b"take f1\n; cost = 1 (unit cost)\n",
+    b"; cost = 0 (unit cost)\nx",
+    b"\xff" * 100,
+    b"",
+)
+
+
+def mixed_tests(_, library, __):
+    """Yields calls about many plans of one task that is held, in any order: each answer is that over both files. They could show a call
+    that leaves something of a plan for the next."""
+    sas, task, chance = library.sas, read(f"{FUSES}.sas"), random.Random(1)
+    asks = [(request, plan) for request in OVER_BOTH for plan in PLANS_OF_FUSES]
+    dues = [asked(sas, request, task, plan) for request, plan in asks]
+    with sas.Task(task) as held:
+        for number, place in enumerate(chance.choices(range(len(asks)), k=1000)):
+            request, plan = asks[place]
+            yield f"call {number} of one task, {request}, {plan[:40]!r}", differs(getattr(held, request)(plan), dues[place])
+
+
+def version_tests(program, library, _):
+    """Yields the version of the library. They could show one that isn't that of the program."""
+    due = ended(program, "--version").stdout.split()[-1].decode()
+    for name, version in (("the library", library.sas.version()), ("sas.py", library.sas.__version__)):
+        yield f"version of {name}", [] if version == due else [f"{version}, not {due}"]
 
 
 def answer_tests(_, library, __):
@@ -506,7 +556,7 @@ def call_over(library, front, block, length):
 
 @functools.lru_cache(None)
 def is_there(name):
-    """Whether a tool is there. Where it isn't, that is told once."""
+    """Whether a tool is there. If it isn't, that is printed once."""
     if not shutil.which(name):
         print(f"without {name}, which isn't there")
     return bool(shutil.which(name))
@@ -539,8 +589,11 @@ KINDS["&mut SasTask"] = "sas_task *"
 
 
 def exports():
-    """Returns the calls of the library as its crate has them: the declaration of each by its name."""
+    """Returns the calls of the library as its crate and its own code in C have them: the declaration of each by its name."""
     found = {}
+    for path in glob.glob(os.path.join(TOP, "library/*.c")):
+        with open(path, encoding="utf-8") as file:
+            found |= {name: f"{whole};" for whole, name in re.findall(r"^(\w.*\b(sas_\w+)\(.*\)) {$", file.read(), re.MULTILINE)}
     for path in glob.glob(os.path.join(TOP, "crates/sas_c/src/*.rt")):
         with open(path, encoding="utf-8") as file:
             code = file.read()
@@ -580,10 +633,8 @@ def header_tests(_, library, folder):
 def warning_tests(_, library, __):
     """Yields the code in C and C++ by each compiler. They could show code that a compiler warns of."""
     for language, standard, made in LANGUAGES_OF_C:
-        sources = [f"library/examples/held.{language}"]
-        sources += ["cases/library.cpp"] if language == "cpp" else ["library/sas_memory.c", "cases/library_stub.c"]
         for compiler in compilers(*made):
-            for source in sources:
+            for source in SOURCES[language]:
                 command = [compiler, standard, *C_WARNINGS, "-I", library.folder, "-fsyntax-only", os.path.join(TOP, source)]
                 yield f"{source}, by {compiler}", failed(*command)
 
@@ -646,9 +697,9 @@ def driver_tests(_, library, folder):
         ran = ended(driver, "refused", *files)
         lines = dict(line.split(": ") for line in ran.stdout.decode().splitlines())
         wrong = [f"status {ran.returncode}"] * (ran.returncode != 0)
-        for name in (*(f"sas_{request}" for request in REQUESTS), "sas_task_read", "sas_task_plan"):
-            well = re.fullmatch(r"[1-9]\d* refused, 0 wrong", lines.get(name, ""))
-            yield f"{name}, memory refused, {os.path.basename(files[1])}", wrong if well else [*wrong, f"{lines.get(name)}"]
+        for name in (*REQUESTS, "task_read", *OVER_HELD):
+            well = re.fullmatch(r"[1-9]\d* refused, 0 wrong", lines.get(f"sas_{name}", ""))
+            yield f"sas_{name}, memory refused, {os.path.basename(files[1])}", wrong if well else [*wrong, f"{lines}"]
     for files, count in ((examples[0], MANY), ((task, plans[0]), MANY // 100)):
         said = ended(driver, "many", *files, str(count)).stdout.decode()
         grown = re.fullmatch(rf"{count} plans, 0 wrong, (\d+) kB more, 0 blocks left\n", said)
@@ -687,18 +738,27 @@ def crate(library, folder):
     return ["--extern", f"sas={built}/libsas.rlib"]
 
 
+def held_prints(program, task, *plans):
+    """Returns what the examples do with these files: their status, and what they print."""
+    checked = ended(program, "check", task)
+    if checked.returncode:
+        return checked.returncode, checked.stdout, b""
+    answers = [ended(program, "plan", "--why", task, plan) for plan in plans]
+    lines = (os.fsencode(plan) + b": " + it.stdout for plan, it in zip(plans, answers))
+    return max(it.returncode for it in answers), b"".join(lines), b""
+
+
 def example_tests(program, library, folder):
     """Yields the examples, each over plans of which some are valid, over a task that is refused, and without a file: they print what
-    `plans` prints in front of its summary. They could show a wrapper that doesn't do what the examples say."""
+    `plan --why` prints of each plan. They could show a wrapper that doesn't do what the examples say."""
     env = {**os.environ, "PYTHONPATH": library.folder}
     plans = [os.path.join(TOP, f"{it}.plan") for it in (FUSES, DOORWAY, FUSES)]
     fuses, lamps = os.path.join(TOP, f"{FUSES}.sas"), os.path.join(TOP, f"{LAMPS}.sas")
     for name, command in built_examples(library, folder):
-        for words, lines in (([fuses, *plans], 3), ([fuses, plans[0]], 1), ([lamps, *plans], 1)):
-            ran, due = ended(*command, *words, env=env), ended(program, "plans", *words)
-            answer = due.returncode, b"".join(due.stdout.splitlines(keepends=True)[:lines]), b""
+        for words in ([fuses, *plans], [fuses, plans[0]], [lamps, *plans]):
+            ran, due = ended(*command, *words, env=env), held_prints(program, *words)
             got = ran.returncode, ran.stdout, ran.stderr
-            yield f"{name} {' '.join(words)}", [] if got == answer else [f"{got}, not {answer}"]
+            yield f"{name} {' '.join(words)}", [] if got == due else [f"{got}, not {due}"]
         for words in (["none", plans[0]], [fuses, plans[0], "none"]):
             ran = ended(*command, *words, env=env)
             yield f"{name} {' '.join(words)}", [] if ran.returncode == 3 and ran.stderr else [f"{ran}"]
@@ -724,11 +784,18 @@ def lines_of_wrappers(sas, task, plan):
     said += answer_lines("empty", sas.plan(b"", b""))
     came, refused = sas.check(task), sas.check(plan)
     held = sas.plan(task, plan) if came else None
+
+    def each(name, is_held):
+        """Returns the answers about a plan of a task, in the order of the calls."""
+        names = (name, "held plan_why", "held trace")
+        return [(word, asked(sas, it, task, plan) if is_held else None) for word, it in zip(names, OVER_BOTH)]
+
     moved = [("moved from", None), ("moved to", held)]
-    first = [("none", None), ("read", came), ("held" if came else "not held", held)]
+    first = [*each("none", False), ("read", came), *each("held" if came else "not held", bool(came))]
+    first += [*each("moved from", False), *each("moved to", bool(came))]
     parts = {
-        "cpp": [*first, *moved, ("read", came), *moved, ("read", refused), ("refused", None)],
-        "rs": [("held", held), ("elsewhere", held), ("read", refused)] if came else [("read", came), ("read", refused)],
+        "cpp": [*first, ("read", came), *moved, ("read", refused), ("refused", None)],
+        "rs": [*each("held", True), ("elsewhere", held), ("read", refused)] if came else [("read", came), ("read", refused)],
     }
     constructed = answer_lines("constructed", held) if came else b"constructed " + came.text
     said = {"cpp": said + constructed, "rs": said}
@@ -750,7 +817,7 @@ def built_wrapper(language, library, folder):
 
 def wrapper_tests(_, library, folder):
     """Yields all calls of the wrappers in C++ and Rust, over a task that is layered and one that isn't. They could show a call that asks
-    another request or exchanges its inputs, and a task that is let go of twice, or never is."""
+    another request or exchanges its inputs, and a task that is freed twice, or never."""
     for language, compiler in (("cpp", "g++"), ("rs", "rustc")):
         path = built_wrapper(language, library.folder, folder) if compilers(compiler) else None
         for name in (DOORWAY, LAMPS) if path else ():
@@ -808,7 +875,7 @@ def number_tests(_, library, folder):
         yield f"sas.py, number {number}", [] if set(came) == {exception} else [f"{came}"]
 
 
-# code in C++ and how it is compiled, each with a part of what the compiler says where it is refused
+# code in C++ and how it is compiled, each with a part of the compiler's message if it is refused
 DIALECTS = (
     ("bytes", "-std=c++17", "std::vector<std::byte> it; std::vector<unsigned char> other; return sas::plan(it, other) ? 1 : 0;", None),
     ("a pointer", "-std=c++17", "sas::Task task; return task.read({nullptr, 0}) ? 1 : 0;", None),
@@ -860,15 +927,15 @@ def no_exception_tests(_, library, folder):
 
 
 def refused_code_tests(_, library, folder):
-    """Yields code in Rust that a compiler has to refuse. They could show a task that two threads may ask at once, or two that let go
-    of the same one."""
+    """Yields code in Rust that a compiler has to refuse. They could show a task that two threads may use at once, or two that free
+    the same one."""
     if not compilers("rustc"):
         return
     held, words = "let mut held = sas::Task::read(b\"\").unwrap();", crate(library.folder, folder)
     for name, code, error in (
         ("asked by two threads", "fn shared<T: Sync>() {} shared::<sas::Task>();", "E0277"),
         ("copied", f"{held} let other = held.clone(); drop(other);", "E0599"),
-        ("used after it was let go", f"{held} drop(held); let _ = held.plan(b\"\");", "E0382"),
+        ("used after it was dropped", f"{held} drop(held); let _ = held.plan(b\"\");", "E0382"),
     ):
         path = os.path.join(folder, "refused.rs")
         with open(path, "w", encoding="utf-8") as file:
@@ -879,7 +946,7 @@ def refused_code_tests(_, library, folder):
 
 
 def builder_tests(_, __, ___):
-    """Yields what library/build.py says of compilers that can't build. They could show a library that is gone when another one isn't
+    """Yields what library/build.py prints about compilers that can't build. They could show a library that is gone when another one isn't
     built."""
     out = os.path.join(TOP, "library/out")
     for compiler in ("no-compiler", "false"):
@@ -950,6 +1017,8 @@ TESTS = (
     held_tests,
     room_tests,
     python_tests,
+    mixed_tests,
+    version_tests,
     answer_tests,
     process_tests,
     found_tests,

@@ -36,6 +36,8 @@ fn main() {
     match sas::Task::read(task) {
         Ok(mut held) => {
             tell("held", held.plan(plan));
+            tell("held plan_why", held.plan_why(plan));
+            tell("held trace", held.trace(plan));
             tell("elsewhere", std::thread::scope(|it| it.spawn(|| held.plan(plan)).join().unwrap()));
         }
         Err(sas::ReadError::Refused(text)) => tell("read", Ok(sas::Answer { is_yes: false, text })),

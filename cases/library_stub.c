@@ -37,6 +37,12 @@ OVER_ONE(sas_print)
 OVER_ONE(sas_steps)
 OVER_HELD(sas_task_read)
 OVER_HELD(sas_task_plan)
+OVER_HELD(sas_task_plan_why)
+OVER_HELD(sas_task_trace)
+
+const char *sas_version(void) {
+    return SAS_VERSION;
+}
 
 void sas_task_free(sas_task *held) {
     (void)held;

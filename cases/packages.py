@@ -4,8 +4,8 @@
     python3 cases/packages.py [TOP]
 
 TOP is the repository or an unpacked release, whose library/out/ is there; the repository where none is named. Each test that fails has
-a line, and the last line is 'N passed, M failed'. The exit status is 0 where none failed. What isn't there of the tools is told in a line
-that begins with `without`.
+a line, and the last line is 'N passed, M failed'. The exit status is 0 where none failed. For each tool that isn't there it prints a
+line that begins with `without`.
 
 No proof knows these packages. One that names a file that isn't there, or lacks one, would be found here alone.
 """
@@ -32,6 +32,16 @@ add_executable(held_c {top}/library/examples/held.c)
 target_link_libraries(held_c PRIVATE sas::sas)
 add_executable(held_cpp {top}/library/examples/held.cpp)
 target_link_libraries(held_cpp PRIVATE sas::static)
+add_executable(planner {here}/planner.cpp)
+target_link_libraries(planner PRIVATE sas::sas)
+"""
+PLANNER_PRINTS = """\
+plan invalid: step 2: not applicable
+plan invalid: goal fact 0 not reached
+plan invalid: goal fact 0 not reached
+plan valid: 4 steps, cost 4
+step 4 7 1 put f2 feed
+plan valid: 4 steps, cost 4
 """
 SHARED = "libsas.so.1"
 
@@ -66,11 +76,13 @@ def cmake_tests(top, prefix, place):
     folder = os.path.join(place, "cmake")
     os.makedirs(folder)
     with open(os.path.join(folder, "CMakeLists.txt"), "w", encoding="utf-8") as file:
-        file.write(PROJECT.format(top=top))
+        file.write(PROJECT.format(top=top, here=os.path.join(TOP, "cases")))
     found = wrong("cmake", "-S", folder, "-B", f"{folder}/build", f"-DCMAKE_PREFIX_PATH={prefix}")
     yield "CMake", found or wrong("cmake", "--build", f"{folder}/build")
     yield "CMake, sas::sas", wrong_held(top, f"{folder}/build/held_c")
     yield "CMake, sas::static", wrong_held(top, f"{folder}/build/held_cpp")
+    got = ended(f"{folder}/build/planner", os.path.join(top, "examples/fuses.sas"))
+    yield "CMake, a planner's loop", [] if got == (0, PLANNER_PRINTS) else [f"{got}"]
 
 
 def pkg_config_tests(top, place):

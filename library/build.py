@@ -6,8 +6,9 @@ sas.hpp, sas.py, sas.pc and the package files of CMake.
 
 The archive of the proved crate sas_c is its heart. Where there is none yet, or a file of a crate is younger, build.py proves the crate
 and what it stands on, and builds it; build.log has what the prover prints. With --over-gate the archive is built over the libraries that
-`rt ci` has just proved and left in each out/rlib/, so that nothing is proved twice. What the heart requires of memory is added,
-sas_memory.c. The C compiler is $CC or cc, and `ar` is $AR or ar. A library that was there is replaced only by one that is built whole.
+`rt ci` has just proved and left in each out/rlib/, so that nothing is proved twice. Two files in C are added: sas_memory.c, what the heart
+requires of memory, and sas_version.c. The C compiler is $CC or cc, and `ar` is $AR or ar. A library that was there is replaced only by one
+that is built whole.
 """
 import glob
 import os
@@ -28,6 +29,8 @@ CRATE = f"{TOP}/crates/{NAME}"
 HEART = f"{CRATE}/out/lib{NAME}.a"
 # the shared library, of which libsas.so is a link; its number changes with its calls
 SHARED = "libsas.so.1"
+# what is added to the heart
+ADDED = ("sas_memory", "sas_version")
 BESIDE = ("sas.h", "sas.hpp", "python/sas.py", "sas.pc", "sasConfig.cmake", "sasConfigVersion.cmake")
 
 
@@ -43,7 +46,7 @@ def run(*command):
 
 
 def tool(name, usual):
-    """Returns a tool by the words of the environment, or as it is usually called."""
+    """Returns the command of a tool: the one in the environment variable, or the usual one."""
     return shlex.split(os.environ.get(name) or usual)
 
 
@@ -75,11 +78,13 @@ def prove():
 
 def link():
     """Makes the two libraries of the archive."""
-    compiler, made = tool("CC", "cc"), f"{NEW}/sas_memory.o"
-    run(*compiler, "-std=c99", "-O2", "-fPIC", "-Wall", "-Wextra", "-c", f"{HERE}/sas_memory.c", "-o", made)
+    compiler, made = tool("CC", "cc"), [f"{NEW}/{name}.o" for name in ADDED]
+    for name, path in zip(ADDED, made):
+        run(*compiler, "-std=c99", "-O2", "-fPIC", "-Wall", "-Wextra", "-c", f"{HERE}/{name}.c", "-o", path)
     shutil.copy(HEART, f"{NEW}/libsas.a")
-    run(*tool("AR", "ar"), "rsD", f"{NEW}/libsas.a", made)
-    os.remove(made)
+    run(*tool("AR", "ar"), "rsD", f"{NEW}/libsas.a", *made)
+    for path in made:
+        os.remove(path)
     whole = ["-Wl,--whole-archive", f"{NEW}/libsas.a", "-Wl,--no-whole-archive"]
     # on a processor that lacks instructions of the code the loader says so
     shown = [f"-Wl,--version-script={HERE}/sas.map", f"-Wl,-soname,{SHARED}", "-Wl,-z,defs", "-Wl,-z,x86-64-v2"]

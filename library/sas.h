@@ -17,7 +17,7 @@
 #include <stddef.h>
 #include <stdint.h>
 
-/* The version of this header. */
+/* The version of this header. `sas_version` returns that of the library. */
 #define SAS_VERSION "1.1.0"
 
 /* A room that is long enough for each answer of sas_plan, sas_check, sas_task_read and sas_task_plan. */
@@ -26,6 +26,9 @@
 #ifdef __cplusplus
 extern "C" {
 #endif
+
+/* The version of the library, such as "1.1.0". A program that loads libsas.so may get a later one than SAS_VERSION. */
+const char *sas_version(void);
 
 /* What a call returns, in 32 bits. Behind an answer the room is as it was, and from 2 on all of it is. At 3, 4 and 5
    the value of `*size` means nothing. */
@@ -90,6 +93,15 @@ enum sas_number sas_task_read(sas_task *task, const uint8_t *bytes, size_t lengt
    number. Where none is held that is SAS_NO_TASK. */
 enum sas_number sas_task_plan(sas_task *task, const uint8_t *plan, size_t plan_length,
                               uint8_t *room, size_t room_length, size_t *size);
+
+/* The same with the reasons for a no, as `sas_plan_why`. The task isn't read again. */
+enum sas_number sas_task_plan_why(sas_task *task, const uint8_t *plan, size_t plan_length,
+                                  uint8_t *room, size_t room_length, size_t *size);
+
+/* What each step of a plan does, and whether the plan solves the task that is held, as `sas_trace`. The task isn't read
+   again. */
+enum sas_number sas_task_trace(sas_task *task, const uint8_t *plan, size_t plan_length,
+                               uint8_t *room, size_t room_length, size_t *size);
 
 /* Drops the task that is held, if there is one. None is held then. */
 void sas_task_free(sas_task *task);

@@ -162,6 +162,9 @@ inline Answer of_both(decltype(sas_plan) *request, Bytes task, Bytes plan, std::
 
 } // namespace detail
 
+// The version of the library, such as 1.1.0.
+inline std::string_view version() noexcept { return sas_version(); }
+
 inline Answer plan(Bytes task, Bytes plan) { return detail::of_both(sas_plan, task, plan, SAS_LINE_ROOM); }
 inline Answer plan_why(Bytes task, Bytes plan) { return detail::of_both(sas_plan_why, task, plan, detail::usual_room); }
 inline Answer trace(Bytes task, Bytes plan) {
@@ -213,14 +216,23 @@ public:
         });
     }
 
-    // Whether a plan solves the task that is held: answers as `sas::plan`. Where none is held it throws sas::NoTask.
-    Answer plan(Bytes plan) {
-        return detail::answer(SAS_LINE_ROOM, [&](std::uint8_t *at, std::size_t length, std::size_t *size) {
-            return sas_task_plan(&held_, plan.data(), plan.size(), at, length, size);
+    // Whether a plan solves the task that is held: answers as `sas::plan`. Where none is held it throws sas::NoTask, and so do the next
+    // two. None of them reads the task again.
+    Answer plan(Bytes plan) { return of_plan(sas_task_plan, plan, SAS_LINE_ROOM); }
+
+    // The same with the reasons for a no: answers as `sas::plan_why`.
+    Answer plan_why(Bytes plan) { return of_plan(sas_task_plan_why, plan, detail::usual_room); }
+
+    // The same behind what each step does: answers as `sas::trace`.
+    Answer trace(Bytes plan) { return of_plan(sas_task_trace, plan, detail::usual_room + 10 * plan.size()); }
+
+private:
+    Answer of_plan(decltype(sas_task_plan) *request, Bytes plan, std::size_t room) {
+        return detail::answer(room, [&](std::uint8_t *at, std::size_t length, std::size_t *size) {
+            return request(&held_, plan.data(), plan.size(), at, length, size);
         });
     }
 
-private:
     static constexpr sas_task none = SAS_TASK_NONE;
     sas_task held_ = none;
 };

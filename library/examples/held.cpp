@@ -1,5 +1,5 @@
-// held TASK PLAN..: whether each plan solves the task, which is read once. Prints the lines that `sas plans` prints of the plans.
-// The exit status is 0 if all are valid, 1 if one isn't or the task is refused, 3 if there is no answer.
+// held TASK PLAN..: whether each plan solves the task, which is read once, and why not. Prints the name of each plan and what
+// `sas plan --why` prints. The exit status is 0 if all are valid, 1 if one isn't or the task is refused, 3 if there is no answer.
 #include "sas.hpp"
 #include <exception>
 #include <fstream>
@@ -25,7 +25,7 @@ int main(int count, char **words) try {
     sas::Task task(read_file(words[1]));
     int status = 0;
     for (int place = 2; place < count; place++) {
-        sas::Answer answer = task.plan(read_file(words[place]));
+        sas::Answer answer = task.plan_why(read_file(words[place]));
         std::cout << words[place] << ": " << answer.text;
         status = answer ? status : 1;
     }

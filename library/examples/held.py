@@ -1,5 +1,5 @@
-"""held.py TASK PLAN..: whether each plan solves the task, which is read once. Prints the lines that `sas plans` prints of the plans.
-The exit status is 0 if all are valid, 1 if one isn't or the task is refused, 3 if there is no answer."""
+"""held.py TASK PLAN..: whether each plan solves the task, which is read once, and why not. Prints the name of each plan and what
+`sas plan --why` prints. The exit status is 0 if all are valid, 1 if one isn't or the task is refused, 3 if there is no answer."""
 import os
 import sys
 
@@ -16,7 +16,7 @@ def main(task, *plans):
     try:
         with sas.Task(read_file(task)) as held:
             for name in plans:
-                answer = held.plan(read_file(name))
+                answer = held.plan_why(read_file(name))
                 out.write(os.fsencode(name) + b": " + answer.text)
                 status = status if answer else 1
     except sas.Refused as refusal:

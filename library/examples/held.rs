@@ -1,5 +1,5 @@
-//! held TASK PLAN..: whether each plan solves the task, which is read once. Prints the lines that `sas plans` prints of the plans.
-//! The exit status is 0 if all are valid, 1 if one isn't or the task is refused, 3 if there is no answer.
+//! held TASK PLAN..: whether each plan solves the task, which is read once, and why not. Prints the name of each plan and what
+//! `sas plan --why` prints. The exit status is 0 if all are valid, 1 if one isn't or the task is refused, 3 if there is no answer.
 
 use std::error::Error;
 use std::ffi::{OsStr, OsString};
@@ -19,7 +19,7 @@ fn held(task: &OsStr, plans: &[OsString]) -> Result<ExitCode, Box<dyn Error>> {
     };
     let mut status = 0;
     for name in plans {
-        let answer = held.plan(&std::fs::read(name)?)?;
+        let answer = held.plan_why(&std::fs::read(name)?)?;
         out.write_all(&[name.as_bytes(), b": ", &answer.text].concat())?;
         status = if answer.is_yes { status } else { 1 };
     }

@@ -10,6 +10,7 @@
 
     with sas.Task(task) as held:                # read once, for many plans
         answers = [held.plan(plan) for plan in plans]
+        print(held.plan_why(plan).text.decode(errors="replace"))
 
 Tasks and plans are bytes or have bytes, as a bytearray, a memoryview or an mmap. Only what is read-only and not of type bytes is
 copied. Threads may make calls at once: a call releases the interpreter's lock, and a Task makes one call after another.
@@ -33,7 +34,7 @@ from typing import Any, Callable, NamedTuple, NoReturn, Optional, Tuple, Union
 __version__ = "1.1.0"
 __all__ = [
     "Answer", "InputTooLong", "NoTask", "Refused", "Task", "check", "check_why", "mutex", "mutex_why", "plan", "plan_why", "print_task",
-    "show", "steps", "trace",
+    "show", "steps", "trace", "version",
 ]  # fmt: skip
 
 Data = Union[bytes, bytearray, memoryview, mmap.mmap, array.array]
@@ -145,7 +146,11 @@ _PLAN, _PLAN_WHY, _TRACE = (_call(name, *_FILE, *_FILE) for name in ("sas_plan",
 _CHECK, _CHECK_WHY = (_call(name, *_FILE) for name in ("sas_check", "sas_check_why"))
 _MUTEX, _MUTEX_WHY = (_call(name, *_FILE) for name in ("sas_mutex", "sas_mutex_why"))
 _SHOW, _PRINT, _STEPS = (_call(name, *_FILE) for name in ("sas_show", "sas_print", "sas_steps"))
-_TASK_READ, _TASK_PLAN = (_call(name, ctypes.POINTER(_Held), *_FILE) for name in ("sas_task_read", "sas_task_plan"))
+_HELD = (ctypes.POINTER(_Held), *_FILE)
+_TASK_READ, _TASK_PLAN = (_call(name, *_HELD) for name in ("sas_task_read", "sas_task_plan"))
+_TASK_PLAN_WHY, _TASK_TRACE = (_call(name, *_HELD) for name in ("sas_task_plan_why", "sas_task_trace"))
+_VERSION = _LIBRARY.sas_version
+_VERSION.argtypes, _VERSION.restype = [], ctypes.c_char_p
 _TASK_FREE = _LIBRARY.sas_task_free
 _TASK_FREE.argtypes, _TASK_FREE.restype = [ctypes.POINTER(_Held)], None
 
@@ -173,6 +178,11 @@ def _answer(call: Callable[..., int], *given: Any, room: int = _LINE_ROOM) -> An
     if number == _NO_TASK:
         raise NoTask("sas: no task is held")
     return Answer(number == _YES, ctypes.string_at(text, size.value))
+
+
+def version() -> str:
+    """Returns the version of the library, such as 1.1.0."""
+    return _VERSION().decode()
 
 
 def plan(task: Data, plan: Data) -> Answer:
@@ -295,8 +305,27 @@ class Task:
             MemoryError: Out of memory.
             InputTooLong: The file goes past 4,294,967,296 bytes.
         """
+        return self._answer(_TASK_PLAN, plan, _LINE_ROOM)
+
+    def plan_why(self, plan: Data) -> Answer:
+        """Checks a plan as `plan` does, with the reasons of a no in further lines of the text: `sas plan --why`.
+
+        The task isn't read again.
+        """
+        return self._answer(_TASK_PLAN_WHY, plan, _USUAL_ROOM)
+
+    def trace(self, plan: Data) -> Answer:
+        """Checks a plan as `plan` does, and prints what each of its steps does: `sas trace`.
+
+        The task isn't read again.
+        """
+        return self._answer(_TASK_TRACE, plan, _USUAL_ROOM, 10)
+
+    def _answer(self, call: Callable[..., int], plan: Data, room: int, more: int = 0) -> Answer:
+        """Returns the answer of a call about a plan. Its room is so many bytes, and so many more for each byte of the plan."""
+        at, length = _given(plan)
         with self._one_call:
-            return _answer(_TASK_PLAN, self._held, *_given(plan))
+            return _answer(call, self._held, at, length, room=room + more * length)
 
     def close(self) -> None:
         """Frees the task. It may be closed more than once."""

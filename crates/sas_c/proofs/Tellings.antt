@@ -17,14 +17,18 @@ use Rattle.sas_output.specs.declared.told.Told.{Told}
 use Rattle.sas_output.specs.Ending.{Output, Ends, EndsCounting, output_told}
 use Rattle.sas_answers.specs.Answers.{layers_verdict, VerdictAnswer}
 use Rattle.sas_core.specs.PlanParts.{PlanParts}
+use Rattle.sas_explain.specs.Verdict.{WhyVerdict}
+use Rattle.sas_trace.specs.Traced.{TraceVerdict}
 use Rattle.sas_outputs.specs.declared.Request.{Request}
 use Rattle.sas_outputs.specs.declared.Request.TheVariants.{Plan, Mutex}
 use Rattle.sas_outputs.specs.Headline.{Headline, Invariants}
 use Rattle.sas_outputs.specs.Output.{CheckOut, FileOut, PlanOut, PlanOutBy, VerdictOut, plain_refusal}
 use Rattle.sas_outputs.proofs.Headlines.{TellsValid, tells_valid, headline_of}
 use Rattle.sas_outputs.proofs.PlanOutputs.{Refuses, plain_refuses, judged_out}
+use Rattle.sas_requests.proofs.ExplainedPlans.{judged_why}
 use Rattle.sas_requests.proofs.InvariantGroups.{TellsGroups, invariants_of}
 use Rattle.sas_requests.proofs.ReasonedOutputs.{headline_why, invariants_why}
+use Rattle.sas_requests.specs.Explaining.{PlanOutWhy}
 use Rattle.sas_requests.specs.Why.{OutWhy}
 use Rattle.sas_plans.specs.declared.held.Opening.{Opening}
 use Rattle.sas_plans.specs.declared.held.Opening.TheVariants.{Ready, Refused}
@@ -171,12 +175,23 @@ last_line_told b c before room size number t = λ status is.
     let x = t.told status is in
     subst (λ (text : List ℕ). Headline b c (EndsInLine text) status) (sym x.4) (subst (λ (s : Status). Headline b c (EndsInLine (x.0).text) s) x.2 (traced_headline b c x.0 x.1))
 
--- the same of a task that is held
-pub held_told : (b c before room : List ℕ) (size number : ℕ) (held : Option Prepared) → Holds b held → IfSome held (λ prepared. Tells (VerdictOut VerdictAnswer prepared.held c) before room size number) → TellsHeadline b c room size number
-held_told b c before room size number None holds t = absurd holds
-held_told b c before room size number (Some prepared) (reads, layered) t =
-    headline_told VerdictAnswer plain_refusal tells_valid plain_refuses b c before room size number
-    (tells_by (VerdictOut VerdictAnswer prepared.held c) (PlanOut b c) (judged_out VerdictAnswer plain_refusal prepared.held layered b c reads) before room size number t)
+-- ---- a plan of a task that is held
+
+-- what is told for the task that is held is told for the bytes that it was read from
+module _ (For : Parts → Option Output → Type 0) (Out : Option Output → Type 0) (b before room : List ℕ) (size number : ℕ) (to : (p : Parts) → IsLayered p → ReadsAs task_format most_bytes b (Ok p) → (o : Option Output) → For p o → Out o) where
+  held_told : (held : Option Prepared) → Holds b held → IfSome held (λ prepared. Tells (For prepared.held) before room size number) → Tells Out before room size number
+  held_told None holds t = absurd holds
+  held_told (Some prepared) (reads, layered) t = tells_by (For prepared.held) Out (to prepared.held layered reads) before room size number t
+
+module _ (b c before room : List ℕ) (size number : ℕ) (held : Option Prepared) (holds : Holds b held) where
+  pub plan_told : IfSome held (λ prepared. Tells (VerdictOut VerdictAnswer prepared.held c) before room size number) → Tells (PlanOut b c) before room size number
+  plan_told t = held_told (λ p. VerdictOut VerdictAnswer p c) (PlanOut b c) b before room size number (λ p layered reads. judged_out VerdictAnswer plain_refusal p layered b c reads) held holds t
+
+  pub why_told : IfSome held (λ prepared. Tells (PlanOutWhy (WhyVerdict prepared.held) c) before room size number) → Tells (OutWhy Plan b c) before room size number
+  why_told t = held_told (λ p. PlanOutWhy (WhyVerdict p) c) (OutWhy Plan b c) b before room size number (λ p layered reads. judged_why p layered b c reads) held holds t
+
+  pub trace_told : IfSome held (λ prepared. Tells (VerdictOut TraceVerdict prepared.held c) before room size number) → Tells (TraceOut b c) before room size number
+  trace_told t = held_told (λ p. VerdictOut TraceVerdict p c) (TraceOut b c) b before room size number (λ p layered reads. judged_out TraceVerdict plain_refusal p layered b c reads) held holds t
 
 -- ---- which mutex groups are exclusive
 

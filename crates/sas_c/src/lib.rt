@@ -4,6 +4,7 @@
 
 mod answering;
 mod numbers;
+mod plans;
 mod requests;
 mod tasks;
 mod telling;

@@ -1,17 +1,17 @@
 // A task that is read once, for many plans.
-ghost use Rattle.std.specs.Prelude.{◌≡◌, List, ℕ, Some, None, IfSome, IsNone};
-ghost use Rattle.sas_answers.specs.Answers.{VerdictAnswer, layers_verdict};
-ghost use Rattle.sas_outputs.specs.Output.{CheckOut, VerdictOut};
-ghost use Rattle.sas_c.specs.Telling.{Tells, TellsHeadline};
+ghost use Rattle.std.specs.Prelude.{◌≡◌, Some, None};
+ghost use Rattle.sas_answers.specs.Answers.{layers_verdict};
+ghost use Rattle.sas_outputs.specs.Output.{CheckOut};
+ghost use Rattle.sas_c.specs.Telling.{Tells};
 ghost use Rattle.sas_c.specs.Holding.{Holds};
 
-use crate::numbers::{NO_TASK, OUT_OF_MEMORY, YES, number_without};
+use crate::numbers::{OUT_OF_MEMORY, YES, number_without};
 use crate::telling::{tell, tell_told};
 use sas_axioms::Worklist;
 use sas_flat::FlatTask;
 use sas_held::{Prepared, SasTask};
 use sas_output::Status;
-use sas_plans::{Opening, judge_bytes, open_task};
+use sas_plans::{Opening, open_task};
 use sas_run::Held;
 use std::alloc::Global;
 
@@ -38,34 +38,7 @@ pub extern "C" fn sas_task_read(
     }
 }
 
-/// Answers whether the plan solves the task that is held, as `sas_plan` does. It stays held.
-#[unsafe(no_mangle)]
-pub extern "C" fn sas_task_plan(
-    alloc: Global,
-    task: &mut SasTask,
-    plan: &[u8],
-    room: &mut [u8],
-    size: &mut usize,
-) -> u32
-    ensures tells { IfSome task.old.pointer.task (λ prepared.
-        Tells (VerdictOut VerdictAnswer prepared.held plan.now)
-        room.old room.new size.new result) }
-    ensures headline { (b : List ℕ) → Holds b task.old.pointer.task
-        → TellsHeadline b plan.now room.new size.new result }
-    ensures same { task.new.pointer.task ≡ task.old.pointer.task }
-    ensures none { IsNone task.old.pointer.task → (result ≡ 5) × (room.new ≡ room.old) }
-{
-    match task.take(alloc) {
-        Some(mut prepared) => {
-            let number = judge(alloc, &mut prepared, plan, room, size);
-            task.put(prepared);
-            number
-        }
-        None => NO_TASK,
-    }
-}
-
-/// Lets the task go that is held, if there is one.
+/// Drops the task that is held, if there is one.
 #[unsafe(no_mangle)]
 pub extern "C" fn sas_task_free(alloc: Global, task: &mut SasTask)
     ensures none { task.new.pointer.task ≡ None }
@@ -108,22 +81,4 @@ fn tell_held(task: &mut SasTask, prepared: Box<Prepared>, room: &mut [u8], size:
         drop(prepared);
     }
     number
-}
-
-/// Writes whether the plan solves the task.
-fn judge(
-    alloc: Global,
-    prepared: &mut Prepared,
-    plan: &[u8],
-    room: &mut [u8],
-    size: &mut usize,
-) -> u32
-    ensures tells { Tells (VerdictOut VerdictAnswer prepared.old.held plan.now)
-        room.old room.new size.new result }
-    ensures same { prepared.new ≡ prepared.old }
-{
-    match judge_bytes(alloc, &mut prepared.held, plan) {
-        Ok(told) => tell_told(told, room, size),
-        Err(fault) => number_without(fault),
-    }
 }

@@ -1,18 +1,16 @@
 -- The answers about plans with the reasons for a no.
-use Rattle.std.specs.Prelude.{◌≡◌, ◌⊎◌, ℕ, List, ◌++◌, Some}
+use Rattle.std.specs.Prelude.{◌≡◌, ◌⊎◌, ℕ, List, ◌++◌, Option, Some, IsSomeAnd}
 use Rattle.sas_core.specs.declared.parts.Parts.{Parts}
 use Rattle.sas_core.specs.PlanParts.{PlanParts}
 use Rattle.sas_run.specs.declared.plan_check.PlanFault.{PlanFault}
 use Rattle.sas_run.specs.Plans.{IsValid}
 use Rattle.sas_run.specs.Verdicts.{IsFaultOf}
 use Rattle.sas_output.specs.declared.ending.Status.TheVariants.{No}
-use Rattle.sas_output.specs.Ending.{Output, output_told}
+use Rattle.sas_output.specs.Ending.{Output}
 use Rattle.sas_answers.specs.Answers.{valid_answer, invalid_answer}
 use Rattle.sas_wording.specs.declared.line.Line.{Line}
 use Rattle.sas_wording.specs.Line.{reasons_text}
 use Rattle.sas_reasons.specs.WhyPlan.{IsWhy}
-use Rattle.sas_explain.specs.declared.plans.PlanAnswer.{PlanAnswer}
-use Rattle.sas_explain.specs.declared.plans.PlanAnswer.TheVariants.{Valid, Explained}
 
 -- the text of the answer about a plan with this fault: its verdict, and behind it the reasons
 pub record Explains (p : Parts) (plan : PlanParts) (fault : PlanFault) (bytes : List ℕ)
@@ -30,7 +28,6 @@ WhyVerdict p plan output =
     ⊎ ((fault : PlanFault) × IsFaultOf p plan fault × Explains p plan fault output.text
     × (output.status ≡ No))
 
--- an answer, as an output
-abbrev pub output_of_plan : PlanAnswer → Output
-output_of_plan (Valid told) = output_told told
-output_of_plan (Explained bytes) = record { text = bytes; status = No }
+-- the output is such an answer
+abbrev pub IsExplained : Parts → PlanParts → Option Output → Type 0
+IsExplained p plan output = IsSomeAnd output (WhyVerdict p plan)

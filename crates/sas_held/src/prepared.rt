@@ -13,7 +13,7 @@ pub struct Prepared {
 }
 
 impl Prepared {
-    /// Puts the task into a box. Returns `None` where memory is refused, and the task is let go then.
+    /// Puts the task into a box. Returns `None` if memory is refused; the task is dropped then.
     pub fn boxed(alloc: Global, held: Held<Worklist, FlatTask>) -> Option<Box<Prepared>>
         ensures { IfSome result (λ b. b.value ≡ record { held = held }) }
     {

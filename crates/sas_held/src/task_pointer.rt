@@ -9,7 +9,7 @@ use std::alloc::Global;
 use std::marker::Model;
 use std::ptr::null_mut;
 
-/// A pointer to a task, whose box it owns, or none. To drop it lets no task go: that has to be taken out before, or its memory is lost.
+/// A pointer to a task, whose box it owns, or none. Dropping it drops no task: take the task out before, or its memory is lost.
 #[repr(C)]
 #[derive(Drop)]
 pub struct TaskPointer {

@@ -5,7 +5,7 @@ use Rattle.std.proofs.lemmas.Option.{none-some}
 use Rattle.sas_output.specs.declared.ending.Status.{Status}
 use Rattle.sas_output.specs.declared.ending.ToolFault.{ToolFault}
 use Rattle.sas_output.specs.declared.ending.ToolFault.TheVariants as tool_fault
-use Rattle.sas_output.specs.Ending.{Output, Ends, EndsCounting, IsWrite}
+use Rattle.sas_output.specs.Ending.{Output, Ends, EndsCounting, IsDecided, IsWrite}
 use Rattle.sas_output.proofs.Sent.{counting_ends}
 
 module _ (o : Output) (Sent : List ℕ → Type 0) where
@@ -41,3 +41,11 @@ ends_err Out Sent (tool_fault.Write written) other long = absurd (other tt)
 ends_err Out Sent tool_fault.TooLong other long = long refl
 ends_err Out Sent tool_fault.Memory other long = tt
 ends_err Out Sent tool_fault.Read other long = tt
+
+-- what ends with one output ends with another that follows from it, where the inputs decided
+pub ends_counting_by : (Sent : List ℕ → Type 0) (A B : Option Output → Type 0) (r : Result Status ToolFault) → (IsDecided r → (o : Option Output) → A o → B o) → EndsCounting A Sent r → EndsCounting B Sent r
+ends_counting_by Sent A B (Ok status) to (output, is, same, sent) = (output, to tt (Some output) is, same, sent)
+ends_counting_by Sent A B (Err (tool_fault.Write written)) to (number, counts, (output, is, less, sent)) = (number, counts, (output, to tt (Some output) is, less, sent))
+ends_counting_by Sent A B (Err tool_fault.TooLong) to is = to tt None is
+ends_counting_by Sent A B (Err tool_fault.Memory) to is = tt
+ends_counting_by Sent A B (Err tool_fault.Read) to is = tt

@@ -14,7 +14,8 @@ use Rattle.sas_reader.specs.declared.fault.Fault.{Fault}
 use Rattle.sas_reader.specs.declared.fault.Kind.{Kind}
 use Rattle.sas_reader.specs.declared.fault.Kind.TheVariants as kinds
 use Rattle.sas_reader.specs.Devices.{ValueOf, ReadsAll}
-use Rattle.sas_reader.specs.Format.{Format}
+use Rattle.sas_reader.specs.Format.{Format, ReadsAs}
+use Rattle.sas_reader.specs.Limit.{most_bytes}
 use Rattle.sas_reader.proofs.Known.{known_answer, known_fault}
 use Rattle.sas_plan_file.specs.PlanFormat.{plan_format}
 use Rattle.sas_task_format.specs.TaskFormat.{task_format}
@@ -25,6 +26,7 @@ use Rattle.sas_output.specs.Ending.{Output, Ends, EndsCounting, IsDecided, IsWri
 use Rattle.sas_output.proofs.Sent.{counting_ends}
 use Rattle.sas_answers.specs.Answers.{layers_refusal}
 use Rattle.sas_outputs.specs.Output.{IsLayeredText, refusal, FileOut, VerdictOut, plain_refusal}
+use Rattle.sas_outputs.proofs.Endings.{ends_counting_by}
 use Rattle.sas_outputs.proofs.Outputs.{refused_kind, reading_of_refusal, takes_nothing}
 use Rattle.sas_outputs.proofs.PlanOutputs.{NoAnswer, RefusedOut, told_fault, first_alone, second_alone, refused_out, judged_out, unlayered_out}
 use Rattle.sas_trace.specs.Traced.{TraceVerdict, IsTraced}
@@ -40,14 +42,6 @@ memory_alone r other Q apart quiet starved is =
     elim why [ inl writes ↦ quiet writes | inr memory ↦ apart memory.0 ]
 
 module _ (Sent : List ℕ → Type 0) where
-  -- what ends with one output ends with another that follows from it, where the inputs decided
-  pub ends_by : (A B : Option Output → Type 0) (r : Result Status ToolFault) → (IsDecided r → (o : Option Output) → A o → B o) → EndsCounting A Sent r → EndsCounting B Sent r
-  ends_by A B (Ok status) to (output, is, same, sent) = (output, to tt (Some output) is, same, sent)
-  ends_by A B (Err (tool_fault.Write written)) to (number, counts, (output, is, less, sent)) = (number, counts, (output, to tt (Some output) is, less, sent))
-  ends_by A B (Err tool_fault.TooLong) to is = to tt None is
-  ends_by A B (Err tool_fault.Memory) to is = tt
-  ends_by A B (Err tool_fault.Read) to is = tt
-
   -- what was told of a fault of a file
   abbrev pub TellsFault : List ℕ → Fault → Result Status ToolFault → Type 0
   TellsFault name f r = Ends (λ output. output ≡ refusal name f) Sent r
@@ -77,31 +71,41 @@ module _ (Sent : List ℕ → Type 0) where
     ends_refused f r read told long reads =
         let kind = decided_kind name f r told long in
         record {
-          output = λ b known. ends_by (λ o. o ≡ refusal name f) (FileOut F name IsAnswer b) r
+          output = λ b known. ends_counting_by Sent (λ o. o ≡ refusal name f) (FileOut F name IsAnswer b) r
               (λ decided o is. (Err f, known_fault left F Gives old new f b read known (kind decided).0 (kind decided).1, is)) (counting_ends (λ o. o ≡ refusal name f) Sent r told);
           taken = λ decided.
               let (b, consumed, why) = read.fault (kind decided).0 in (
                 b,
                 consumed,
-                ends_by (λ o. o ≡ refusal name f) (FileOut F name IsAnswer b) r
+                ends_counting_by Sent (λ o. o ≡ refusal name f) (FileOut F name IsAnswer b) r
                     (λ _ o is. (Err f, reading_of_refusal F b _ f why (kind decided).1, is)) (counting_ends (λ o. o ≡ refusal name f) Sent r told),
               );
           reads = (λ e. read.note.0 (reads.0 e), λ t. reads.1 (read.note.1 t));
         }
 
+  -- so it is of bytes that are at hand
+  pub refused_bytes : {V I S : Type 0} (F : Format V I S) (name : List ℕ) (IsAnswer : V → Output → Type 0) (b : List ℕ) (f : Fault) (r : Result Status ToolFault) → (f.kind ≢ kinds.Memory → ReadsAs F most_bytes b (Err f))
+      → TellsFault name f r → (IsErrOf r tool_fault.TooLong → f.kind ≡ kinds.TooLong) → EndsCounting (FileOut F name IsAnswer b) Sent r
+  refused_bytes F name IsAnswer b f r fault told long =
+      ends_counting_by Sent (λ o. o ≡ refusal name f) (FileOut F name IsAnswer b) r (λ decided o is. (Err f, fault (decided_kind name f r told long decided).0, is)) (counting_ends (λ o. o ≡ refusal name f) Sent r told)
+
   -- a plan that was read is traced
-  module _ {D : Type 0} (left : D → Option (List ℕ)) (p : Parts) (plan : PlanParts) (old new : Device D) where
+  module _ (p : Parts) (plan : PlanParts) where
     traced_out : (c : List ℕ) → ValueOf plan_format c plan → (o : Option Output) → IsTraced p plan o → VerdictOut TraceVerdict p c o
     traced_out c value (Some o) is = (Ok plan, value, (o, is, refl))
     traced_out c value None is = absurd is
 
+    pub traced_bytes : (c : List ℕ) (r : Result Status ToolFault) → ReadsAs plan_format most_bytes c (Ok plan) → EndsCounting (IsTraced p plan) Sent r → EndsCounting (VerdictOut TraceVerdict p c) Sent r
+    traced_bytes c r reads told = ends_counting_by Sent (IsTraced p plan) (VerdictOut TraceVerdict p c) r (λ _. traced_out c reads) told
+
+  module _ {D : Type 0} (left : D → Option (List ℕ)) (p : Parts) (plan : PlanParts) (old new : Device D) where
     pub ends_traced : (r : Result Status ToolFault) (Q : Type 0) → ReadsAll left plan_format (ValueOf plan_format) old new (Ok plan) → EndsCounting (IsTraced p plan) Sent r
         → IfErr r (λ e. IsWrite e ⊎ ((e ≡ tool_fault.Memory) × Q)) → EndsFile left (VerdictOut TraceVerdict p) Sent old new r
     ends_traced r Q read told starved = record {
-      output = λ c known. ends_by (IsTraced p plan) (VerdictOut TraceVerdict p c) r (λ _. traced_out c (known_answer left plan_format (ValueOf plan_format) old new plan c read known)) told;
+      output = λ c known. traced_bytes p plan c r (known_answer left plan_format (ValueOf plan_format) old new plan c read known) told;
       taken = λ decided.
           let (c, consumed, value) = read.read in
-          (c, consumed.0, ends_by (IsTraced p plan) (VerdictOut TraceVerdict p c) r (λ _. traced_out c value) told);
+          (c, consumed.0, traced_bytes p plan c r value told);
       reads = (λ e. absurd (memory_alone r tool_fault.Read Q (λ m. absurd cc) (λ w. w) starved e), λ t. absurd (read.note.1 t));
     }
 
@@ -127,10 +131,10 @@ module _ (Sent : List ℕ → Type 0) where
     refused_files plan f r working read told long reads =
         let one = ends_refused left_task task_format (ValueOf task_format) (codes "task") NoAnswer old new f r read told long reads in
         record {
-          output = λ b c known known_plan. ends_by (RefusedOut b) (TraceOut b c) r (λ _. refused_out TraceVerdict plain_refusal b c) (one.output b known);
+          output = λ b c known known_plan. ends_counting_by Sent (RefusedOut b) (TraceOut b c) r (λ _. refused_out TraceVerdict plain_refusal b c) (one.output b known);
           taken = λ decided.
               let (b, consumed, ends) = one.taken decided in
-              (b, [], consumed, takes_nothing _, ends_by (RefusedOut b) (TraceOut b []) r (λ _. refused_out TraceVerdict plain_refusal b []) ends);
+              (b, [], consumed, takes_nothing _, ends_counting_by Sent (RefusedOut b) (TraceOut b []) r (λ _. refused_out TraceVerdict plain_refusal b []) ends);
           waits = λ b known none. refl;
           reads = (λ e. (first_alone new.failed plan.failed working).1 (one.reads.0 e), λ t. one.reads.1 ((first_alone new.failed plan.failed working).0 t));
         }
@@ -143,11 +147,11 @@ module _ (Sent : List ℕ → Type 0) where
       traced_files plan_old plan_new r layered one = record {
         output = λ b c known known_plan.
             let value = known_answer left_task task_format (ValueOf task_format) old new p b read known in
-            ends_by (VerdictOut TraceVerdict p c) (TraceOut b c) r (λ _. judged_out TraceVerdict plain_refusal p layered b c value) (one.output c known_plan);
+            ends_counting_by Sent (VerdictOut TraceVerdict p c) (TraceOut b c) r (λ _. judged_out TraceVerdict plain_refusal p layered b c value) (one.output c known_plan);
         taken = λ decided.
             let (b, consumed, value) = read.read in
             let (c, consumed_plan, ends) = one.taken decided in
-            (b, c, consumed.0, consumed_plan, ends_by (VerdictOut TraceVerdict p c) (TraceOut b c) r (λ _. judged_out TraceVerdict plain_refusal p layered b c value) ends);
+            (b, c, consumed.0, consumed_plan, ends_counting_by Sent (VerdictOut TraceVerdict p c) (TraceOut b c) r (λ _. judged_out TraceVerdict plain_refusal p layered b c value) ends);
         waits = λ b known none. absurd (none (p, known_answer left_task task_format (ValueOf task_format) old new p b read known, layered));
         reads = (
           λ e. (second_alone new.failed plan_new.failed (λ t. read.note.1 t)).1 (one.reads.0 e),

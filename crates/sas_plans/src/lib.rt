@@ -11,7 +11,7 @@ mod telling;
 mod tracing;
 mod verdicts;
 
-pub use held::{Opening, judge_bytes, open_task};
+pub use held::{Opening, judge_bytes, open_task, trace_bytes};
 pub use inputs::{InputFault, JudgeFault, PlanInputs, is_label};
 pub use judging::judge;
 pub use laws::{judge_laws, trace_output_laws};

@@ -99,7 +99,7 @@ fn trace_layered<P: Read, W: Write>(
 }
 
 /// Writes the refusal of a file for its fault, or returns why the run ends at it.
-fn write_refusal<W: Write>(
+pub fn write_refusal<W: Write>(
     alloc: Global,
     name: &str,
     fault: Fault,

@@ -1,5 +1,3 @@
-mod FileAnswers
-mod PlanAnswers
 pub mod InvariantGroups
 mod SummaryLengths
 mod ShortOutputs
@@ -12,5 +10,5 @@ mod SameAnswers
 pub mod RefusalReasons
 mod RefusalLaws
 pub mod ReasonedOutputs
-pub mod Explained
-mod ExplainedPlans
+mod FileEnds
+mod RequestEnds

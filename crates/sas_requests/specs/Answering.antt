@@ -1,65 +1,135 @@
 -- What the private steps of a run promise.
-use Rattle.std.specs.Prelude.{◌≡◌, ◌↔◌, ◌||◌, ℕ, List, Option, Some, None, Result, Ok, Err, IfErr, IsErrOf, IsTrue}
+use Rattle.std.specs.Prelude.{◌≡◌, ◌↔◌, ◌||◌, ℕ, List, codes, Option, Some, option_map, Result}
+use Rattle.std.specs.Prelude.{IsErrOf, IsFalse, IsTrue}
 use Rattle.std.specs.Io.KnownBytes.{Consumes}
+use Rattle.sas_core.specs.declared.parts.Parts.{Parts}
+use Rattle.sas_core.specs.FirstFault.{first_fault}
+use Rattle.sas_core.specs.PlanParts.{PlanParts}
+use Rattle.sas_meaning.specs.declared.layered.LayerFault.{LayerFault}
+use Rattle.sas_meaning.specs.LayerChecks.{layer_checks}
 use Rattle.sas_lines.specs.Device.{Device}
-use Rattle.sas_lines.specs.Lines.{text}
-use Rattle.sas_output.specs.declared.ending.Status.TheVariants.{Yes, No}
-use Rattle.sas_output.specs.Ending.{Output, output_told}
-use Rattle.sas_requests.specs.declared.answers.Answer.{Answer}
-use Rattle.sas_requests.specs.declared.answers.Answer.TheVariants.{Text, Summary, Explained, Refused, Groups}
+use Rattle.sas_reader.specs.declared.fault.Fault.{Fault}
+use Rattle.sas_reader.specs.declared.fault.Kind.{Kind}
+use Rattle.sas_reader.specs.Format.{Format}
+use Rattle.sas_reader.specs.Found.{bytes_of}
+use Rattle.sas_plan_file.specs.declared.plan_refusal.PlanRefusal.{PlanRefusal}
+use Rattle.sas_plan_file.specs.PlanFormat.{plan_format}
+use Rattle.sas_task_format.specs.TaskFormat.{task_format}
+use Rattle.sas_task_reader.specs.declared.task_refusal.TaskRefusal.{TaskRefusal}
+use Rattle.sas_file_reasons.specs.FileLine.{FileLine}
+use Rattle.sas_file_reasons.specs.Reasons.{task_reasons, plan_reasons, file_text}
+use Rattle.sas_output.specs.declared.ending.Status.{Status}
 use Rattle.sas_output.specs.declared.ending.ToolFault.{ToolFault}
 use Rattle.sas_output.specs.declared.ending.ToolFault.TheVariants as fault
-use Rattle.sas_output.specs.Ending.{IsDecided, IsWrite}
-use Rattle.sas_outputs.specs.Output.{IsLayeredText}
-use Rattle.sas_summary.specs.Summary.{summary_lines}
+use Rattle.sas_output.specs.Ending.{Output, EndsCounting, IsDecided}
+use Rattle.sas_answers.specs.Answers.{CheckAnswer, MutexAnswer, VerdictAnswer}
+use Rattle.sas_task_reasons.specs.WhyLayers.{with_reasons, why_refusal, WhyCheckAnswer, WhyMutexAnswer}
+use Rattle.sas_explain.specs.Verdict.{WhyVerdict}
+use Rattle.sas_outputs.specs.declared.Request.{Request}
+use Rattle.sas_outputs.specs.declared.Request.TheVariants as requests
+use Rattle.sas_outputs.specs.Output.{Out, FileOut, refusal, plain_refusal}
+use Rattle.sas_outputs.specs.Output.{AreInputs, IsLayeredText, reads_plan, reads_task}
+use Rattle.sas_requests.specs.declared.detail.Detail.{Detail}
+use Rattle.sas_requests.specs.declared.detail.Detail.TheVariants.{Plain, Reasons}
+use Rattle.sas_requests.specs.FileReasons.{FileReasons, TellsTask, TellsPlan}
+use Rattle.sas_requests.specs.Why.{OutWhy, WithReasons}
 
--- a text that is at hand, the summary of a task with this outline, why a plan isn't valid, why a
--- task isn't layered, or why groups of it aren't exclusive
-abbrev pub output_of : Answer → Output
-output_of (Text told) = output_told told
-output_of (Summary outline) = record { text = text (summary_lines outline); status = Yes }
-output_of (Explained bytes) = record { text = bytes; status = No }
-output_of (Refused bytes) = record { text = bytes; status = No }
-output_of (Groups output) = output
+-- ---- answers, by how much is reported
 
--- an answer is the output, and past the limit there is none
-abbrev pub Answers : (Option Output → Type 0) → Result Answer ToolFault → Type 0
-Answers Out (Ok answer) = Out (Some (output_of answer))
-Answers Out (Err why) = why ≡ fault.TooLong → Out None
+-- to a check of a task
+abbrev pub CheckBy : Detail → Parts → Output → Type 0
+CheckBy Plain = CheckAnswer
+CheckBy Reasons = WhyCheckAnswer
 
--- What the answer to a request over one file promises, before anything of it is written. `left`
--- maps a device to the bytes that it has left, where these are known. `FileOutput` is the output
--- about the bytes of a file.
+-- about its mutex groups
+abbrev pub MutexBy : Detail → Parts → Output → Type 0
+MutexBy Plain = MutexAnswer
+MutexBy Reasons = WhyMutexAnswer
+
+-- about a plan
+abbrev pub VerdictBy : Detail → Parts → PlanParts → Output → Type 0
+VerdictBy Plain = VerdictAnswer
+VerdictBy Reasons = WhyVerdict
+
+-- the refusal of a task for a fault of its layers
+abbrev pub layers_by : Detail → Parts → LayerFault → Option Output
+layers_by Plain = plain_refusal
+layers_by Reasons = why_refusal
+
+-- this refusal, for the first fault
+abbrev pub UnlayeredBy : Detail → Parts → Output → Type 0
+UnlayeredBy detail p output = (fault : LayerFault) × (first_fault (layer_checks p) ≡ Some fault)
+    × (layers_by detail p fault ≡ Some output)
+
+-- the refusal of the file of this name for its fault, behind which these reasons may stand
+abbrev pub refusal_by : Detail → List ℕ → Fault → List FileLine → Option Output
+refusal_by Plain name fault reasons = refusal name fault
+refusal_by Reasons name fault reasons =
+    option_map (with_reasons (file_text reasons)) (refusal name fault)
+
+-- the reasons why a task is refused, and a plan
+abbrev pub task_refusal_lines : TaskRefusal → List FileLine
+task_refusal_lines r =
+    task_reasons (r.fault).kind r.mark r.word (bytes_of r.found) (r.found).more
+
+abbrev pub plan_refusal_lines : PlanRefusal → List FileLine
+plan_refusal_lines r = plan_reasons (r.fault).kind (bytes_of r.found) (r.found).more
+
+-- ---- outputs, by how much is reported
+
+-- about the bytes of one file. `IsAnswer` holds of the outputs that are answers about a value
+module _ {V I S : Type 0} (F : Format V I S)
+    (Tells : Kind → List (List ℕ) → List ℕ → List FileLine → Type 0) (name : List ℕ) where
+  abbrev pub FileBy : Detail → (V → Output → Type 0) → List ℕ → Option Output → Type 0
+  FileBy Plain IsAnswer bytes output = FileOut F name IsAnswer bytes output
+  FileBy Reasons IsAnswer bytes output =
+      WithReasons (FileOut F name IsAnswer bytes) (FileReasons F Tells bytes) output
+
+abbrev pub TaskBy : Detail → (Parts → Output → Type 0) → List ℕ → Option Output → Type 0
+TaskBy = FileBy task_format TellsTask (codes "task")
+
+abbrev pub PlanBy : Detail → (PlanParts → Output → Type 0) → List ℕ → Option Output → Type 0
+PlanBy = FileBy plan_format TellsPlan (codes "plan")
+
+-- of a request
+abbrev pub OutBy : Detail → Request → List ℕ → List ℕ → Option Output → Type 0
+OutBy Plain request b c output = Out request b c output
+OutBy Reasons request b c output = OutWhy request b c output
+
+-- ---- how an output went out
+
+-- About one file. `left` maps a device to the bytes that it has left, where these are known.
+-- `FileOutput` is the output about the bytes of a file. `Sent` holds of the bytes that were written.
 module _ {D : Type 0} (left : D → Option (List ℕ))
-    (FileOutput : List ℕ → Option Output → Type 0) where
-  pub record AnswersFile (old new : Device D) (result : Result Answer ToolFault) : Type 0 where
-    -- of an input whose bytes are known, the answer is its output
-    pub output : (bytes : List ℕ) → left old.device ≡ Some bytes → Answers (FileOutput bytes) result
-    -- and of any input, the output for the bytes that were read of it
+    (FileOutput : List ℕ → Option Output → Type 0) (Sent : List ℕ → Type 0) where
+  pub record EndsFile (old new : Device D) (result : Result Status ToolFault) : Type 0 where
+    -- of a file whose bytes are known, its output went out
+    pub output : (bytes : List ℕ) → left old.device ≡ Some bytes
+        → EndsCounting (FileOutput bytes) Sent result
+    -- and of any file, the output for the bytes that were read of it
     pub taken : IsDecided result → (bytes : List ℕ)
         × Consumes (left old.device) (left new.device) bytes
-        × Answers (FileOutput bytes) result
+        × EndsCounting (FileOutput bytes) Sent result
     pub reads : IsErrOf result fault.Read ↔ IsTrue new.failed
-    pub writes : IfErr result (λ e. IsWrite e → ⊥)
 
--- What it promises over two files, of which the plan is read only where the task is known to be
--- layered. `left_task` and `left_plan` map the devices to the bytes that they have left, where
--- these are known. `FilesOutput` is the output about the bytes of both.
-module _ {T P : Type 0} (left_task : T → Option (List ℕ)) (left_plan : P → Option (List ℕ)) where
-  pub record AnswersFiles (FilesOutput : List ℕ → List ℕ → Option Output → Type 0)
-      (old_task new_task : Device T)
-      (old_plan new_plan : Device P) (result : Result Answer ToolFault) : Type 0 where
-    -- of inputs whose bytes are known, the answer is their output
-    pub output : (b c : List ℕ) → left_task old_task.device ≡ Some b
-        → left_plan old_plan.device ≡ Some c
-        → Answers (FilesOutput b c) result
+-- Of a request. `left_task` and `left_plan` map the devices to the bytes that they have left.
+module _ {T P : Type 0} (left_task : T → Option (List ℕ)) (left_plan : P → Option (List ℕ))
+    (Sent : List ℕ → Type 0) where
+  pub record EndsRequest (detail : Detail) (request : Request) (old_task new_task : Device T)
+      (old_plan new_plan : Device P) (result : Result Status ToolFault) : Type 0 where
+    -- of inputs whose bytes are known, their output went out
+    pub output : (b c : List ℕ)
+        → AreInputs request (left_task old_task.device) (left_plan old_plan.device) b c
+        → EndsCounting (OutBy detail request b c) Sent result
     -- and of any inputs, the output for the bytes that were read of them
     pub taken : IsDecided result → (b c : List ℕ)
         × Consumes (left_task old_task.device) (left_task new_task.device) b
         × Consumes (left_plan old_plan.device) (left_plan new_plan.device) c
-        × Answers (FilesOutput b c) result
-    -- the plan stays as it was where the task isn't a text of a layered one
-    pub waits : (b : List ℕ) → left_task old_task.device ≡ Some b → (IsLayeredText b → ⊥)
-        → new_plan ≡ old_plan
+        × EndsCounting (OutBy detail request b c) Sent result
+    -- a device that the request doesn't read stays as it was
+    pub task_spared : IsFalse (reads_task request) → new_task ≡ old_task
+    pub plan_spared : IsFalse (reads_plan request) → new_plan ≡ old_plan
+    -- so does the plan where the task isn't a text of a layered one
+    pub waits : request ≡ requests.Plan → (b : List ℕ) → left_task old_task.device ≡ Some b
+        → (IsLayeredText b → ⊥) → new_plan ≡ old_plan
     pub reads : IsErrOf result fault.Read ↔ IsTrue (new_task.failed || new_plan.failed)
-    pub writes : IfErr result (λ e. IsWrite e → ⊥)

@@ -10,4 +10,3 @@ pub use Rattle.sas_outputs.specs.Headline
 pub mod FileReasons
 pub mod Why
 pub mod Answering
-pub mod Explaining

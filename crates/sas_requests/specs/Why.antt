@@ -14,17 +14,6 @@ use Rattle.sas_outputs.specs.declared.Request.TheVariants.{Show, Print, Steps, C
 use Rattle.sas_requests.specs.FileReasons.{RefusalReasons}
 use Rattle.sas_outputs.specs.Output.{Out, ShowOut, PrintOut, StepsOut, FileOut, PlanOutBy, IsLong}
 
--- the output of `check`, `mutex` and `plan` with reasons, about the bytes b of the task and c of the
--- plan
-abbrev pub WhyCheckOut : List ℕ → Option Output → Type 0
-WhyCheckOut = FileOut task_format (codes "task") WhyCheckAnswer
-
-abbrev pub WhyMutexOut : List ℕ → Option Output → Type 0
-WhyMutexOut = FileOut task_format (codes "task") WhyMutexAnswer
-
-abbrev pub WhyPlanOut : List ℕ → List ℕ → Option Output → Type 0
-WhyPlanOut = PlanOutBy WhyVerdict why_refusal
-
 -- The output for the bytes b of the task and c of the plan with the reasons of what was read: why a plan
 -- isn't valid, a task isn't layered, or a mutex group isn't exclusive; or none if the file that decides
 -- it is too long.
@@ -32,17 +21,22 @@ abbrev pub OutOfRead : Request → List ℕ → List ℕ → Option Output → T
 OutOfRead Show b c output = ShowOut b output
 OutOfRead Print b c output = PrintOut b output
 OutOfRead Steps b c output = StepsOut c output
-OutOfRead Check b c output = WhyCheckOut b output
-OutOfRead Plan b c output = WhyPlanOut b c output
-OutOfRead Mutex b c output = WhyMutexOut b output
+OutOfRead Check b c output = FileOut task_format (codes "task") WhyCheckAnswer b output
+OutOfRead Plan b c output = PlanOutBy WhyVerdict why_refusal b c output
+OutOfRead Mutex b c output = FileOut task_format (codes "task") WhyMutexAnswer b output
 
--- The output with reasons: this, and behind the refusal of a file why it is refused.
-pub record OutWhy (request : Request) (b c : List ℕ) (output : Option Output) : Type 0 where
+-- an output with reasons behind it: `IsOut` holds of the output, `AreReasons` of the reasons
+pub record WithReasons (IsOut : Option Output → Type 0) (AreReasons : List FileLine → Type 0)
+    (output : Option Output) : Type 0 where
   pub of_read : Option Output
   pub reasons : List FileLine
-  pub is_out : OutOfRead request b c of_read
-  pub are_reasons : RefusalReasons request b c reasons
+  pub is_out : IsOut of_read
+  pub are_reasons : AreReasons reasons
   pub whole : output ≡ option_map (with_reasons (file_text reasons)) of_read
+
+-- the output with reasons: this, and behind the refusal of a file why it is refused
+abbrev pub OutWhy : Request → List ℕ → List ℕ → Option Output → Type 0
+OutWhy request b c = WithReasons (OutOfRead request b c) (RefusalReasons request b c)
 
 -- the answer has no reasons: it is the one without
 abbrev pub HasNoReasons : Request → List ℕ → List ℕ → Type 0

@@ -1,168 +1,218 @@
-// The answer to each request, before anything of it is written.
-ghost use Rattle.std.specs.Prelude.{◌≡◌, ◌↔◌, ◌⊎◌, ◌||◌, ℕ, List, false, Some};
-ghost use Rattle.std.specs.Prelude.{IfOk, IfErr, IsErrAnd, IsErrOf, IsFalse, IsTrue};
-ghost use Rattle.std.specs.Io.KnownBytes.{Appends, Consumes};
-ghost use Rattle.sas_requests.specs.Answering.{Answers, AnswersFile, output_of};
-ghost use Rattle.sas_output.specs.Ending.{EndsCounting, IsDecided, IsWrite};
-ghost use Rattle.sas_outputs.specs.Output.{Out, ShowOut, PrintOut, StepsOut, CheckOut, MutexOut, AreInputs};
-ghost use Rattle.sas_outputs.specs.Output.{IsLayeredText, reads_plan, reads_task, refusal};
+// The answer to each request: its inputs are read, and then it goes out.
+ghost use Rattle.std.specs.Prelude.{◌≡◌, ◌⊎◌, ◌↔◌, false, None};
+ghost use Rattle.std.specs.Prelude.{IfErr, IsErrAnd, IsSomeAnd, IsTrue};
+ghost use Rattle.std.specs.Io.KnownBytes.{Appends};
+ghost use Rattle.sas_answers.specs.Answers.{layers_verdict};
+ghost use Rattle.sas_meaning.specs.Layers.{IsLayered};
+ghost use Rattle.sas_output.specs.Ending.{Ends, EndsCounting, IsWrite};
+ghost use Rattle.sas_outputs.specs.Output.{PrintAnswer, ShowAnswer};
+ghost use Rattle.sas_plan_file.specs.PlanFormat.{plan_format};
+ghost use Rattle.sas_task_format.specs.TaskFormat.{task_format};
+ghost use Rattle.sas_requests.specs.Answering.{CheckBy, EndsFile, EndsRequest, MutexBy, PlanBy, TaskBy};
 
-use crate::plans::plan_answer;
+use crate::detail::{Asked, Detail};
+use crate::plans::judge_files;
+use crate::refusals::{refuse_plan, refuse_task};
+use crate::tasks::read_layered;
 use crate::{Request, Status, ToolFault};
-use sas_answers::layers_answer;
-use sas_explain::Explained;
+use sas_answers::accept_layers;
+use sas_flat::FlatTask;
 use sas_lines::Watched;
+use sas_meaning::Layered;
 use sas_output::Told;
-use sas_outputs::refuse_file;
 use sas_plan_file::read_plan_text;
-use sas_reader::{Fault, Kind};
 use sas_summary::Summary;
-use sas_task_reader::{read_flat_task, read_outline, read_task_text};
-use sas_task_reasons::{ExplainedGroups, ExplainedTask, groups_answer};
+use sas_task_reader::{read_outline, read_task_text};
+use sas_task_reasons::{groups_answer, write_groups};
 use std::alloc::Global;
 use std::io::{Read, Write};
 
-/// What is to be written, and its status.
-#[derive(Drop)]
-pub enum Answer {
-    /// A text that is at hand, with its status.
-    Text(Told),
-    /// The summary of a task, which is made only as it goes out. Its status is `Yes`.
-    Summary(Summary),
-    /// Why a plan isn't valid, which is put together only as it goes out. Its status is `No`.
-    Explained(Explained),
-    /// Why a task isn't layered, which is put together only as it goes out. Its status is `No`.
-    Refused(ExplainedTask),
-    /// Why groups aren't exclusive, which is put together only as it goes out. Its status is `Yes` if all are.
-    Groups(ExplainedGroups),
-}
-
-/// Returns the answer to the request about the inputs.
-pub fn answer_to<T: Read, P: Read>(
+/// Answers what is asked about the inputs.
+pub fn answer<T: Read, P: Read, W: Write>(
     alloc: Global,
-    request: Request,
+    asked: Asked,
     task: &mut Watched<T>,
     plan: &mut Watched<P>,
-) -> Result<Answer, ToolFault>
+    out: &mut Watched<W>,
+) -> Result<Status, ToolFault>
     requires task { task.old.failed ≡ false }
     requires plan { plan.old.failed ≡ false }
-    ensures output { (b c : List ℕ)
-        → AreInputs request (T.remaining task.old.device) (P.remaining plan.old.device) b c
-        → Answers (Out request b c) result }
-    ensures taken { IsDecided result → (b c : List ℕ)
-        × Consumes (T.remaining task.old.device) (T.remaining task.new.device) b
-        × Consumes (P.remaining plan.old.device) (P.remaining plan.new.device) c
-        × Answers (Out request b c) result }
-    ensures task_spared { IsFalse (reads_task request) → task.new ≡ task.old }
-    ensures plan_spared { IsFalse (reads_plan request) → plan.new ≡ plan.old }
-    ensures plan_waits { request ≡ Request.Plan → (b : List ℕ)
-        → T.remaining task.old.device ≡ Some b
-        → (IsLayeredText b → ⊥) → plan.new ≡ plan.old }
-    ensures reads { IsErrOf result ToolFault.Read ↔ IsTrue (task.new.failed || plan.new.failed) }
-    ensures writes { IfErr result (λ e. IsWrite e → ⊥) }
+    requires out { out.old.failed ≡ false }
+    ensures ends { EndsRequest T.remaining P.remaining
+        (Appends (W.contents out.old.device) (W.contents out.new.device))
+        asked.detail asked.request task.old task.new plan.old plan.new result }
+    ensures nothing { IfErr result (λ e. IsWrite e ⊎ (out.new ≡ out.old)) }
+    ensures writes { IsErrAnd result IsWrite ↔ IsTrue out.new.failed }
 {
-    match request {
-        Request::Show => show(alloc, task),
-        Request::Print => print(alloc, task),
-        Request::Steps => steps(alloc, plan),
-        Request::Check => check(alloc, task),
-        Request::Plan => plan_answer(alloc, task, plan),
-        Request::Mutex => mutex(alloc, task),
+    let detail = asked.detail;
+    match asked.request {
+        Request::Show => show(alloc, detail, task, out),
+        Request::Print => print(alloc, detail, task, out),
+        Request::Steps => steps(alloc, detail, plan, out),
+        Request::Check => check(alloc, detail, task, out),
+        Request::Plan => judge_files(alloc, detail, task, plan, out),
+        Request::Mutex => mutex(alloc, detail, task, out),
     }
 }
 
-/// Writes an answer, and returns its status. An `Err` is a failed write, or `Memory`; then nothing was written. Not to be called
-/// after a failure.
-pub fn write_answer<W: Write>(
+/// Answers with the summary of a task.
+fn show<R: Read, W: Write>(
     alloc: Global,
-    answer: &Answer,
+    detail: Detail,
+    task: &mut Watched<R>,
     out: &mut Watched<W>,
 ) -> Result<Status, ToolFault>
+    requires task { task.old.failed ≡ false }
+    requires out { out.old.failed ≡ false }
+    ensures ends { EndsFile R.remaining (TaskBy detail ShowAnswer)
+        (Appends (W.contents out.old.device) (W.contents out.new.device))
+        task.old task.new result }
+    ensures nothing { IfErr result (λ e. IsWrite e ⊎ (out.new ≡ out.old)) }
+    ensures writes { IsErrAnd result IsWrite ↔ IsTrue out.new.failed }
+{
+    match read_outline(alloc, task) {
+        Ok(outline) => {
+            let summary = Summary::new(outline);
+            let ended = summary.write(alloc, out);
+            drop(summary);
+            ended
+        }
+        Err(refusal) => refuse_task(alloc, detail, refusal, out),
+    }
+}
+
+/// Answers with the lines of a task.
+fn print<R: Read, W: Write>(
+    alloc: Global,
+    detail: Detail,
+    task: &mut Watched<R>,
+    out: &mut Watched<W>,
+) -> Result<Status, ToolFault>
+    requires task { task.old.failed ≡ false }
+    requires out { out.old.failed ≡ false }
+    ensures ends { EndsFile R.remaining (TaskBy detail (PrintAnswer task_format))
+        (Appends (W.contents out.old.device) (W.contents out.new.device))
+        task.old task.new result }
+    ensures nothing { IfErr result (λ e. IsWrite e ⊎ (out.new ≡ out.old)) }
+    ensures writes { IsErrAnd result IsWrite ↔ IsTrue out.new.failed }
+{
+    match read_task_text(alloc, task) {
+        Ok(text) => {
+            let told = Told {
+                text,
+                status: Status::Yes,
+            };
+            told.write(out)
+        }
+        Err(refusal) => refuse_task(alloc, detail, refusal, out),
+    }
+}
+
+/// Answers with the steps of a plan and its cost.
+fn steps<R: Read, W: Write>(
+    alloc: Global,
+    detail: Detail,
+    plan: &mut Watched<R>,
+    out: &mut Watched<W>,
+) -> Result<Status, ToolFault>
+    requires plan { plan.old.failed ≡ false }
+    requires out { out.old.failed ≡ false }
+    ensures ends { EndsFile R.remaining (PlanBy detail (PrintAnswer plan_format))
+        (Appends (W.contents out.old.device) (W.contents out.new.device))
+        plan.old plan.new result }
+    ensures nothing { IfErr result (λ e. IsWrite e ⊎ (out.new ≡ out.old)) }
+    ensures writes { IsErrAnd result IsWrite ↔ IsTrue out.new.failed }
+{
+    match read_plan_text(alloc, plan) {
+        Ok(text) => {
+            let told = Told {
+                text,
+                status: Status::Yes,
+            };
+            told.write(out)
+        }
+        Err(refusal) => refuse_plan(alloc, detail, refusal, out),
+    }
+}
+
+/// Answers whether a task is layered.
+fn check<R: Read, W: Write>(
+    alloc: Global,
+    detail: Detail,
+    task: &mut Watched<R>,
+    out: &mut Watched<W>,
+) -> Result<Status, ToolFault>
+    requires task { task.old.failed ≡ false }
+    requires out { out.old.failed ≡ false }
+    ensures ends { EndsFile R.remaining (TaskBy detail (CheckBy detail))
+        (Appends (W.contents out.old.device) (W.contents out.new.device))
+        task.old task.new result }
+    ensures nothing { IfErr result (λ e. IsWrite e ⊎ (out.new ≡ out.old)) }
+    ensures writes { IsErrAnd result IsWrite ↔ IsTrue out.new.failed }
+{
+    match read_layered(alloc, detail, task, out) {
+        Ok(layered) => {
+            drop(layered);
+            answer_layered(alloc, out)
+        }
+        Err(ended) => ended,
+    }
+}
+
+/// Answers that a task is layered.
+fn answer_layered<W: Write>(alloc: Global, out: &mut Watched<W>) -> Result<Status, ToolFault>
     requires { out.old.failed ≡ false }
-    ensures ends { EndsCounting (λ output. output ≡ Some (output_of answer.now))
+    ensures ends { Ends (λ output. output ≡ layers_verdict None)
         (Appends (W.contents out.old.device) (W.contents out.new.device)) result }
     ensures nothing { IfErr result (λ e. IsWrite e
         ⊎ ((e ≡ ToolFault.Memory) × (out.new ≡ out.old))) }
     ensures writes { IsErrAnd result IsWrite ↔ IsTrue out.new.failed }
 {
-    match answer {
-        Answer::Text(told) => told.write(out),
-        Answer::Summary(summary) => summary.write(alloc, out),
-        Answer::Explained(explained) => explained.write(alloc, out),
-        Answer::Refused(refused) => refused.write(alloc, out),
-        Answer::Groups(groups) => groups.write(alloc, out),
+    accept_layers(alloc)?.write(out)
+}
+
+/// Answers which mutex groups of a task are exclusive.
+fn mutex<R: Read, W: Write>(
+    alloc: Global,
+    detail: Detail,
+    task: &mut Watched<R>,
+    out: &mut Watched<W>,
+) -> Result<Status, ToolFault>
+    requires task { task.old.failed ≡ false }
+    requires out { out.old.failed ≡ false }
+    ensures ends { EndsFile R.remaining (TaskBy detail (MutexBy detail))
+        (Appends (W.contents out.old.device) (W.contents out.new.device))
+        task.old task.new result }
+    ensures nothing { IfErr result (λ e. IsWrite e ⊎ (out.new ≡ out.old)) }
+    ensures writes { IsErrAnd result IsWrite ↔ IsTrue out.new.failed }
+{
+    match read_layered(alloc, detail, task, out) {
+        Ok(layered) => {
+            let ended = answer_groups(alloc, detail, &layered, out);
+            drop(layered);
+            ended
+        }
+        Err(ended) => ended,
     }
 }
 
-/// Returns the answer with the summary of a task.
-fn show<R: Read>(alloc: Global, reader: &mut Watched<R>) -> Result<Answer, ToolFault>
-    requires { reader.old.failed ≡ false }
-    ensures { AnswersFile R.remaining ShowOut reader.old reader.new result }
+/// Answers which mutex groups of a layered task that was read are exclusive.
+fn answer_groups<W: Write>(
+    alloc: Global,
+    detail: Detail,
+    layered: &Layered<FlatTask>,
+    out: &mut Watched<W>,
+) -> Result<Status, ToolFault>
+    requires layered { IsLayered layered.now }
+    requires out { out.old.failed ≡ false }
+    ensures ends { EndsCounting (λ output. IsSomeAnd output (MutexBy detail layered.now))
+        (Appends (W.contents out.old.device) (W.contents out.new.device)) result }
+    ensures nothing { IfErr result (λ e. IsWrite e
+        ⊎ ((e ≡ ToolFault.Memory) × (out.new ≡ out.old))) }
+    ensures writes { IsErrAnd result IsWrite ↔ IsTrue out.new.failed }
 {
-    match read_outline(alloc, reader) {
-        Ok(outline) => Ok(Answer::Summary(Summary::new(outline))),
-        Err(refusal) => refuse(alloc, "task", refusal.fault),
+    match detail {
+        Detail::Plain => groups_answer(alloc, layered)?.write(out),
+        Detail::Reasons => write_groups(alloc, layered, out),
     }
-}
-
-/// Returns the answer with the lines of a task.
-fn print<R: Read>(alloc: Global, reader: &mut Watched<R>) -> Result<Answer, ToolFault>
-    requires { reader.old.failed ≡ false }
-    ensures { AnswersFile R.remaining PrintOut reader.old reader.new result }
-{
-    match read_task_text(alloc, reader) {
-        Ok(text) => Ok(Answer::Text(Told {
-            text,
-            status: Status::Yes,
-        })),
-        Err(refusal) => refuse(alloc, "task", refusal.fault),
-    }
-}
-
-/// Returns the answer with the steps of a plan and its cost.
-fn steps<R: Read>(alloc: Global, plan: &mut Watched<R>) -> Result<Answer, ToolFault>
-    requires { plan.old.failed ≡ false }
-    ensures { AnswersFile R.remaining StepsOut plan.old plan.new result }
-{
-    match read_plan_text(alloc, plan) {
-        Ok(text) => Ok(Answer::Text(Told {
-            text,
-            status: Status::Yes,
-        })),
-        Err(refusal) => refuse(alloc, "plan", refusal.fault),
-    }
-}
-
-/// Returns the answer to whether a task is layered.
-fn check<R: Read>(alloc: Global, reader: &mut Watched<R>) -> Result<Answer, ToolFault>
-    requires { reader.old.failed ≡ false }
-    ensures { AnswersFile R.remaining CheckOut reader.old reader.new result }
-{
-    let task = match read_flat_task(alloc, reader) {
-        Ok(task) => task,
-        Err(refusal) => return refuse(alloc, "task", refusal.fault),
-    };
-    Ok(Answer::Text(layers_answer(alloc, task)?))
-}
-
-/// Returns the answer to which mutex groups of a task are exclusive.
-fn mutex<R: Read>(alloc: Global, reader: &mut Watched<R>) -> Result<Answer, ToolFault>
-    requires { reader.old.failed ≡ false }
-    ensures { AnswersFile R.remaining MutexOut reader.old reader.new result }
-{
-    let task = match read_flat_task(alloc, reader) {
-        Ok(task) => task,
-        Err(refusal) => return refuse(alloc, "task", refusal.fault),
-    };
-    Ok(Answer::Text(groups_answer(alloc, task)?))
-}
-
-/// Returns the answer that refuses a file for its fault, or why the run ends at it.
-pub fn refuse(alloc: Global, name: &str, fault: Fault) -> Result<Answer, ToolFault>
-    ensures ok { IfOk result (λ a. refusal name.now fault ≡ Some (output_of a)) }
-    ensures long { IsErrOf result ToolFault.TooLong ↔ (fault.kind ≡ Kind.TooLong) }
-    ensures read { IsErrOf result ToolFault.Read ↔ (fault.kind ≡ Kind.Read) }
-    ensures writes { IfErr result (λ e. IsWrite e → ⊥) }
-{
-    Ok(Answer::Text(refuse_file(alloc, name, fault)?))
 }

@@ -2,10 +2,11 @@
 #![tactic(auto)]
 
 mod answers;
+mod detail;
 mod laws;
 mod plans;
 mod refusals;
-mod why;
+mod tasks;
 
 ghost use Rattle.std.specs.Prelude.{◌≡◌, ◌⊎◌, ◌↔◌, ◌||◌, false, List, ℕ, Some};
 ghost use Rattle.std.specs.Prelude.{IfErr, IfOk, IsErrAnd, IsErrOf, IsFalse, IsTrue};
@@ -15,14 +16,14 @@ ghost use Rattle.sas_outputs.specs.Headline.{Headline, Invariants};
 ghost use Rattle.sas_requests.specs.Why.{OutWhy, HasNoReasons};
 ghost use Rattle.sas_output.specs.Ending.{Ends, EndsCounting, IsDecided, IsWrite};
 
-use answers::{answer_to, write_answer};
+use answers::answer;
+use detail::{Asked, Detail};
 pub use laws::{explain_laws, run_laws};
 use sas_lines::Watched;
 pub use sas_output::{Status, ToolFault};
 pub use sas_outputs::{Request, refuse_file};
 use std::alloc::Global;
 use std::io::{Read, Write};
-use why::explanation_to;
 
 /// Answers the request about the inputs. `Show`, `Print`, `Check` and `Mutex` read the task alone, and `Steps` the
 /// plan; `Plan` reads the task, and then the plan if the task is layered. Nothing is written before the answer is
@@ -75,10 +76,8 @@ pub fn run<T: Read, P: Read, W: Write>(
     ensures reads { IsErrOf result ToolFault.Read ↔ IsTrue (task.new.failed || plan.new.failed) }
     ensures writes { IsErrAnd result IsWrite ↔ IsTrue out.new.failed }
 {
-    let answer = answer_to(alloc, request, task, plan)?;
-    let written = write_answer(alloc, &answer, out);
-    drop(answer);
-    written
+    let detail = Detail::Plain;
+    answer(alloc, Asked { request, detail }, task, plan, out)
 }
 
 /// Answers the request about the inputs as `run` does, with the reasons for a no. Lines that begin with two spaces follow the line
@@ -135,8 +134,6 @@ pub fn explain<T: Read, P: Read, W: Write>(
     ensures reads { IsErrOf result ToolFault.Read ↔ IsTrue (task.new.failed || plan.new.failed) }
     ensures writes { IsErrAnd result IsWrite ↔ IsTrue out.new.failed }
 {
-    let answer = explanation_to(alloc, request, task, plan)?;
-    let written = write_answer(alloc, &answer, out);
-    drop(answer);
-    written
+    let detail = Detail::Reasons;
+    answer(alloc, Asked { request, detail }, task, plan, out)
 }

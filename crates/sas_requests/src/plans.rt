@@ -1,68 +1,96 @@
 // Whether a plan solves a task. Both are read, the plan only if it is needed.
-ghost use Rattle.std.specs.Prelude.{◌≡◌, Some, IfOk, IfErr, false};
-ghost use Rattle.sas_answers.specs.Answers.{VerdictAnswer, layers_refusal};
-ghost use Rattle.sas_requests.specs.Answering.{AnswersFile, AnswersFiles, output_of};
-ghost use Rattle.sas_outputs.specs.Output.{PlanOut, VerdictOut};
+ghost use Rattle.std.specs.Prelude.{◌≡◌, ◌⊎◌, ◌↔◌, false};
+ghost use Rattle.std.specs.Prelude.{IfErr, IsErrAnd, IsSomeAnd, IsTrue};
+ghost use Rattle.std.specs.Io.KnownBytes.{Appends};
+ghost use Rattle.sas_output.specs.Ending.{EndsCounting, IsWrite};
+ghost use Rattle.sas_requests.specs.Answering.{EndsFile, EndsRequest, PlanBy, VerdictBy};
 
-use crate::ToolFault;
-use crate::answers::{Answer, refuse};
-use sas_answers::{refuse_layers, verdict_answer};
-use sas_flat::FlatTask;
+use crate::detail::Detail;
+use crate::refusals::refuse_plan;
+use crate::tasks::read_layered;
+use crate::{Request, Status, ToolFault};
+use sas_answers::verdict_answer;
+use sas_explain::write_explained;
+use sas_flat::{FlatPlan, FlatTask};
 use sas_lines::Watched;
-use sas_meaning::{LayerFault, Layered};
+use sas_meaning::Layered;
 use sas_plan_file::read_flat_plan;
-use sas_task_reader::read_flat_task;
 use std::alloc::Global;
-use std::io::Read;
+use std::io::{Read, Write};
 
-/// Returns the answer about a task and a plan. The plan is read only where the task is layered.
-pub fn plan_answer<T: Read, P: Read>(
+/// Answers whether the plan solves the task. The plan is read only where the task is layered.
+pub fn judge_files<T: Read, P: Read, W: Write>(
     alloc: Global,
+    detail: Detail,
     task: &mut Watched<T>,
     plan: &mut Watched<P>,
-) -> Result<Answer, ToolFault>
+    out: &mut Watched<W>,
+) -> Result<Status, ToolFault>
     requires task { task.old.failed ≡ false }
     requires plan { plan.old.failed ≡ false }
-    ensures { AnswersFiles T.remaining P.remaining PlanOut
-        task.old task.new plan.old plan.new result }
+    requires out { out.old.failed ≡ false }
+    ensures ends { EndsRequest T.remaining P.remaining
+        (Appends (W.contents out.old.device) (W.contents out.new.device))
+        detail Request.Plan task.old task.new plan.old plan.new result }
+    ensures nothing { IfErr result (λ e. IsWrite e ⊎ (out.new ≡ out.old)) }
+    ensures writes { IsErrAnd result IsWrite ↔ IsTrue out.new.failed }
 {
-    let read = match read_flat_task(alloc, task) {
-        Ok(read) => read,
-        Err(refusal) => return refuse(alloc, "task", refusal.fault),
-    };
-    match Layered::new(alloc, read) {
+    match read_layered(alloc, detail, task, out) {
         Ok(layered) => {
-            let answer = judge(alloc, &layered, plan);
+            let ended = judge(alloc, detail, &layered, plan, out);
             drop(layered);
-            answer
+            ended
         }
-        Err((task, fault)) => {
-            drop(task);
-            refuse_task(alloc, fault)
-        }
+        Err(ended) => ended,
     }
 }
 
-/// Returns the refusal of a task for a fault of its layers, in a run that can end otherwise.
-fn refuse_task(alloc: Global, fault: LayerFault) -> Result<Answer, ToolFault>
-    ensures ok { IfOk result (λ a. layers_refusal fault ≡ Some (output_of a)) }
-    ensures err { IfErr result (λ e. e ≡ ToolFault.Memory) }
-{
-    Ok(Answer::Text(refuse_layers(alloc, fault)?))
-}
-
-/// Returns the answer about a plan of a layered task.
-fn judge<P: Read>(
+/// Answers whether the plan solves a layered task that was read. The frame of this call is large, and isn't to stand below the reader of
+/// the task.
+#[inline(never)]
+fn judge<P: Read, W: Write>(
     alloc: Global,
+    detail: Detail,
     layered: &Layered<FlatTask>,
     plan: &mut Watched<P>,
-) -> Result<Answer, ToolFault>
-    requires { plan.old.failed ≡ false }
-    ensures { AnswersFile P.remaining (VerdictOut VerdictAnswer layered.now) plan.old plan.new result }
+    out: &mut Watched<W>,
+) -> Result<Status, ToolFault>
+    requires plan { plan.old.failed ≡ false }
+    requires out { out.old.failed ≡ false }
+    ensures ends { EndsFile P.remaining (PlanBy detail (VerdictBy detail layered.now))
+        (Appends (W.contents out.old.device) (W.contents out.new.device))
+        plan.old plan.new result }
+    ensures nothing { IfErr result (λ e. IsWrite e ⊎ (out.new ≡ out.old)) }
+    ensures writes { IsErrAnd result IsWrite ↔ IsTrue out.new.failed }
 {
-    let read = match read_flat_plan(alloc, plan) {
-        Ok(read) => read,
-        Err(refusal) => return refuse(alloc, "plan", refusal.fault),
-    };
-    Ok(Answer::Text(verdict_answer(alloc, layered, &read)?))
+    match read_flat_plan(alloc, plan) {
+        Ok(read) => {
+            let ended = answer_plan(alloc, detail, layered, &read, out);
+            drop(read);
+            ended
+        }
+        Err(refusal) => refuse_plan(alloc, detail, refusal, out),
+    }
+}
+
+/// Answers whether the plan, which was read, solves a layered task.
+fn answer_plan<W: Write>(
+    alloc: Global,
+    detail: Detail,
+    layered: &Layered<FlatTask>,
+    plan: &FlatPlan,
+    out: &mut Watched<W>,
+) -> Result<Status, ToolFault>
+    requires { out.old.failed ≡ false }
+    ensures ends { EndsCounting
+        (λ output. IsSomeAnd output (VerdictBy detail layered.now plan.now))
+        (Appends (W.contents out.old.device) (W.contents out.new.device)) result }
+    ensures nothing { IfErr result (λ e. IsWrite e
+        ⊎ ((e ≡ ToolFault.Memory) × (out.new ≡ out.old))) }
+    ensures writes { IsErrAnd result IsWrite ↔ IsTrue out.new.failed }
+{
+    match detail {
+        Detail::Plain => verdict_answer(alloc, layered, plan)?.write(out),
+        Detail::Reasons => write_explained(alloc, layered, plan, out),
+    }
 }

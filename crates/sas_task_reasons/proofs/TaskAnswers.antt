@@ -1,6 +1,6 @@
 -- What is said of a task with reasons: one thing, and always something; and how the answer comes about.
-use Rattle.std.proofs.Common.{◌≡◌, ℕ, List, [], ◌++◌, refl, sym, ap, subst, ◌∙◌, Option, Some, None}
-use Rattle.std.specs.Prelude.{option_map}
+use Rattle.std.proofs.Common.{◌≡◌, ℕ, List, [], ◌++◌, refl, sym, ap, subst, ◌∙◌, Option, Some, None, Result, Ok, Err}
+use Rattle.std.specs.Prelude.{option_map, IsSomeAnd}
 use Rattle.std.proofs.lemmas.Option.{none-some}
 use Rattle.sas_core.specs.declared.parts.Parts.{Parts}
 use Rattle.sas_core.specs.FirstFault.{first_fault}
@@ -11,8 +11,10 @@ use Rattle.sas_meaning.specs.Layers.{IsLayered}
 use Rattle.sas_meaning.proofs.LayerChecksAreRules.{checks_are_rules}
 use Rattle.sas_output.specs.declared.ending.Status.{Status}
 use Rattle.sas_output.specs.declared.ending.Status.TheVariants.{No}
+use Rattle.sas_output.specs.declared.ending.ToolFault.{ToolFault}
+use Rattle.sas_output.specs.declared.ending.ToolFault.TheVariants as tool_fault
 use Rattle.sas_output.specs.declared.told.Told.{Told}
-use Rattle.sas_output.specs.Ending.{Output, output_told}
+use Rattle.sas_output.specs.Ending.{Output, output_told, EndsCounting}
 use Rattle.sas_answers.specs.Answers.{layers_refusal, layers_verdict}
 use Rattle.sas_answers.specs.LayerWords.{layer_words, layers_line}
 use Rattle.sas_answers.proofs.AnswerLaws.{OneAnswer, SomeAnswer}
@@ -75,6 +77,15 @@ explained p fault told lines is are =
     refused_why p fault plain is
     ∙ ap (λ (s : Status). Some (let x : Output = record { text = plain.text ++ reasons; status = s } in x)) no_
     ∙ ap (λ (l : List Line). Some (let x : Output = record { text = plain.text ++ reasons_text p [] l; status = No } in x)) (sym are)
+
+-- what ends with such a refusal
+pub ends_refused : (p : Parts) (fault : LayerFault) (Sent : List ℕ → Type 0) (o : Output) → why_refusal p fault ≡ Some o → (r : Result Status ToolFault) → EndsCounting (λ output. output ≡ Some o) Sent r
+    → EndsCounting (λ output. IsSomeAnd output (λ told. why_refusal p fault ≡ Some told)) Sent r
+ends_refused p fault Sent o right (Ok status) (output, is, same, sent) = (output, right ∙ sym is, same, sent)
+ends_refused p fault Sent o right (Err (tool_fault.Write written)) (number, counts, (output, is, less, sent)) = (number, counts, (output, right ∙ sym is, less, sent))
+ends_refused p fault Sent o right (Err tool_fault.TooLong) is = absurd (none-some o is)
+ends_refused p fault Sent o right (Err tool_fault.Memory) is = tt
+ends_refused p fault Sent o right (Err tool_fault.Read) is = tt
 
 module _ (p : Parts) (o : Output) where
   pub check_layered : IsLayered p → layers_verdict None ≡ Some o → WhyCheckAnswer p o

@@ -4,12 +4,9 @@ use Rattle.sas_core.specs.declared.parts.Parts.{Parts}
 use Rattle.sas_core.specs.FirstFault.{first_fault}
 use Rattle.sas_meaning.specs.declared.layered.LayerFault.{LayerFault}
 use Rattle.sas_meaning.specs.LayerChecks.{layer_checks}
-use Rattle.sas_output.specs.declared.ending.Status.TheVariants.{No}
-use Rattle.sas_output.specs.Ending.{Output, output_told}
+use Rattle.sas_output.specs.Ending.{Output}
 use Rattle.sas_answers.specs.Answers.{layers_refusal, layers_verdict}
 use Rattle.sas_wording.specs.Line.{reasons_text}
-use Rattle.sas_task_reasons.specs.declared.tasks.TaskAnswer.{TaskAnswer}
-use Rattle.sas_task_reasons.specs.declared.tasks.TaskAnswer.TheVariants.{Text, Explained, Groups}
 use Rattle.sas_task_reasons.specs.LayerReasons.{layer_reasons}
 use Rattle.sas_task_reasons.specs.WhyGroups.{WhyGroupsAnswer}
 
@@ -40,9 +37,3 @@ WhyLayeredGroups p None output = WhyGroupsAnswer p output
 
 abbrev pub WhyMutexAnswer : Parts → Output → Type 0
 WhyMutexAnswer p output = WhyLayeredGroups p (first_fault (layer_checks p)) output
-
--- such an answer, as an output
-abbrev pub output_of_task : TaskAnswer → Output
-output_of_task (Text told) = output_told told
-output_of_task (Explained bytes) = record { text = bytes; status = No }
-output_of_task (Groups output) = output

@@ -1,7 +1,6 @@
-// The answer about the mutex groups of a layered task, with the reasons why groups aren't exclusive. Their names are put in as it is
-// written: they may make it far longer than the numbers that it holds.
-ghost use Rattle.std.specs.Prelude.{◌≡◌, ◌⊎◌, ◌↔◌, [], ◌∷◌, ◌++◌, false, Some};
-ghost use Rattle.std.specs.Prelude.{IfErr, IsErr, IsErrAnd, IsTrue, OnOk, codes, map};
+// The answer about the mutex groups of a layered task, with the reasons why groups aren't exclusive, as it goes out.
+ghost use Rattle.std.specs.Prelude.{◌≡◌, ◌⊎◌, ◌↔◌, [], ◌∷◌, ◌++◌, false};
+ghost use Rattle.std.specs.Prelude.{IfErr, IsErr, IsErrAnd, IsSomeAnd, IsTrue, OnOk, codes, map};
 ghost use Rattle.std.specs.Io.KnownBytes.{Appends};
 ghost use Rattle.sas_lines.specs.Lines.{text};
 ghost use Rattle.sas_answers.specs.GroupWords.{group_line};
@@ -11,86 +10,45 @@ ghost use Rattle.sas_output.specs.Pieces.{PutsOrBreaks};
 ghost use Rattle.sas_output.specs.Words.{line, word_bytes};
 ghost use Rattle.sas_wording.specs.Line.{reasons_text};
 ghost use Rattle.sas_task_reasons.specs.WhyGroups as spec;
-ghost use Rattle.sas_task_reasons.specs.WhyGroups.{why_lines, groups_output};
+ghost use Rattle.sas_task_reasons.specs.WhyGroups.{WhyGroupsAnswer, why_lines};
 
 use crate::facts::member_of;
 use crate::verdicts::groups_status;
 use sas_flat::FlatTask;
-use sas_group_reasons::{Failure, Reason};
+use sas_group_reasons::{Failure, Reason, group_reasons};
 use sas_lines::{Short, Watched};
-use sas_mutex::Verdict;
+use sas_meaning::Layered;
+use sas_mutex::{Verdict, check_groups};
 use sas_output::{Indent, Pieces, Status, ToolFault, Word, Words};
 use sas_wording::{Line, Named, push_lines};
 use std::alloc::Global;
 use std::io::Write;
-use std::marker::Model;
 
-/// The answer about the mutex groups of a layered task: the verdict on each, with the reason behind it where the group isn't
-/// exclusive. In a contract its value is its text and its status.
-pub struct ExplainedGroups {
-    verdicts: Vec<Verdict>,
-    reasons: Vec<Option<Reason>>,
-    task: FlatTask,
-}
-
-impl Drop for ExplainedGroups {
-    fn drop(self) {
-        let ExplainedGroups {
-            verdicts,
-            reasons,
-            task,
-        } = self;
-        drop(verdicts);
-        drop(reasons);
-        drop(task);
-    }
-}
-
-impl Model for ExplainedGroups {
-    ghost use Rattle.sas_output.specs.Ending.{Output};
-    ghost use Rattle.sas_task_reasons.specs.WhyGroups.{groups_output};
-
-    ghost Value = { Output };
-
-    ghost view = { λ g. groups_output g.task g.verdicts.items g.reasons.items };
-}
-
-impl ExplainedGroups {
-    /// Returns the answer with these verdicts, and the reason for each that isn't `Exclusive`.
-    pub(crate) fn new(
-        verdicts: Vec<Verdict>,
-        reasons: Vec<Option<Reason>>,
-        task: FlatTask,
-    ) -> ExplainedGroups
-        ensures { result ≡ groups_output task verdicts.items reasons.items }
-    {
-        ExplainedGroups {
-            verdicts,
-            reasons,
-            task,
-        }
-    }
-
-    /// Writes the text, in pieces, and returns the status. If an `Err` isn't a failed write, it is `Memory`, and nothing was
-    /// written. Not to be called after a failure.
-    pub fn write<W: Write>(&self, alloc: Global, out: &mut Watched<W>) -> Result<Status, ToolFault>
-        requires { out.old.failed ≡ false }
-        ensures ends { EndsCounting (λ output. output ≡ Some self.now)
-            (Appends (W.contents out.old.device) (W.contents out.new.device)) result }
-        ensures nothing { IfErr result (λ e. IsWrite e
-            ⊎ ((e ≡ ToolFault.Memory) × (out.new ≡ out.old))) }
-        ensures writes { IsErrAnd result IsWrite ↔ IsTrue out.new.failed }
-    {
-        // What takes memory comes first.
-        let mut pieces = Pieces::new(alloc)?;
-        let verdicts = self.verdicts.as_slice();
-        let reasons = self.reasons.as_slice();
-        match push_all(&mut pieces, out, &self.task, verdicts, reasons) {
-            Ok(()) => Ok(groups_status(verdicts)),
-            Err(short) => Err(ToolFault::Write {
-                written: short.written,
-            }),
-        }
+/// Writes the answer about the mutex groups of a layered task: the verdict on each, with the reason behind it where the group isn't
+/// exclusive. Returns `Yes` if all are. The names in the reasons are looked up as they go out, in pieces: they may make the answer far
+/// longer than the task. If an `Err` isn't a failed write, it is `Memory`, and nothing was written: all memory is allocated before the
+/// first byte. Not to be called after a failure.
+pub fn write_groups<W: Write>(
+    alloc: Global,
+    task: &Layered<FlatTask>,
+    out: &mut Watched<W>,
+) -> Result<Status, ToolFault>
+    requires { out.old.failed ≡ false }
+    ensures ends { EndsCounting (λ output. IsSomeAnd output (WhyGroupsAnswer task.now))
+        (Appends (W.contents out.old.device) (W.contents out.new.device)) result }
+    ensures nothing { IfErr result (λ e. IsWrite e
+        ⊎ ((e ≡ ToolFault.Memory) × (out.new ≡ out.old))) }
+    ensures writes { IsErrAnd result IsWrite ↔ IsTrue out.new.failed }
+{
+    let verdicts = check_groups(alloc, task)?;
+    let told = verdicts.as_slice();
+    let reasons = group_reasons(alloc, task, told)?;
+    let mut pieces = Pieces::new(alloc)?;
+    match push_all(&mut pieces, out, task.task(), told, reasons.as_slice()) {
+        Ok(()) => Ok(groups_status(told)),
+        Err(short) => Err(ToolFault::Write {
+            written: short.written,
+        }),
     }
 }
 

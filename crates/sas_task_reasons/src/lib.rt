@@ -2,17 +2,15 @@
 //! file is read.
 #![tactic(auto)]
 
-mod explained;
 mod facts;
 mod giver;
 mod groups;
 mod laws;
 mod reasons;
-mod tasks;
+mod unlayered;
 mod verdicts;
 
-pub use explained::ExplainedTask;
-pub use groups::ExplainedGroups;
+pub use groups::write_groups;
 pub use laws::layer_reasons_law;
-pub use tasks::{TaskAnswer, explain_check, explain_groups, explain_layers};
+pub use unlayered::write_unlayered;
 pub use verdicts::groups_answer;

@@ -1,12 +1,11 @@
 // Which mutex groups of a task are exclusive, as an answer.
 ghost use Rattle.std.specs.Prelude.{◌≡◌, [], ◌∷◌, ◌++◌, IfOk, OnOk};
 ghost use Rattle.sas_lines.specs.Lines.{text};
-ghost use Rattle.sas_answers.specs.Answers.{GroupsAnswer, MutexAnswer};
+ghost use Rattle.sas_answers.specs.Answers.{GroupsAnswer};
 ghost use Rattle.sas_output.specs.Ending.{output_told};
 ghost use Rattle.sas_answers.specs.GroupWords as spec;
 ghost use Rattle.sas_answers.specs.GroupWords.{verdict_lines};
 
-use sas_answers::refuse_layers;
 use sas_flat::FlatTask;
 use sas_lines::{push_line, push_number};
 use sas_meaning::Layered;
@@ -14,28 +13,11 @@ use sas_mutex::{Verdict, check_groups};
 use sas_output::{Status, Told};
 use std::alloc::{AllocError, Global};
 
-/// Returns the answer about the mutex groups of a task.
-pub fn groups_answer(alloc: Global, task: FlatTask) -> Result<Told, AllocError>
-    ensures { IfOk result (λ a. MutexAnswer task (output_told a)) }
-{
-    match Layered::new(alloc, task) {
-        Ok(layered) => {
-            let answer = verdicts_answer(alloc, &layered);
-            drop(layered);
-            answer
-        }
-        Err((task, fault)) => {
-            drop(task);
-            refuse_layers(alloc, fault)
-        }
-    }
-}
-
 /// Returns the answer about the mutex groups of a layered task.
-fn verdicts_answer(alloc: Global, layered: &Layered<FlatTask>) -> Result<Told, AllocError>
-    ensures { IfOk result (λ a. GroupsAnswer layered.now (output_told a)) }
+pub fn groups_answer(alloc: Global, task: &Layered<FlatTask>) -> Result<Told, AllocError>
+    ensures { IfOk result (λ a. GroupsAnswer task.now (output_told a)) }
 {
-    let verdicts = check_groups(alloc, layered)?;
+    let verdicts = check_groups(alloc, task)?;
     Ok(Told {
         text: groups_text(alloc, verdicts.as_slice())?,
         status: groups_status(verdicts.as_slice()),

@@ -10,6 +10,8 @@
 //!
 //! let mut held = sas::Task::read(task)?; // read once, for many plans
 //! assert_eq!(held.plan(b"(take f9)\n")?.text, b"plan refused: line 2: end\n");
+//! let why = held.plan_why(b"(take f1)\n(take f2)\n; cost = 2 (unit cost)\n")?;
+//! assert!(why.text.starts_with(b"plan invalid: step 2: not applicable\n  step 2 take f2\n"));
 //! # Ok::<(), Box<dyn std::error::Error>>(())
 //! ```
 //!
@@ -18,7 +20,7 @@
 
 #![warn(missing_docs)]
 
-use std::ffi::c_void;
+use std::ffi::{c_char, c_void, CStr};
 use std::fmt;
 
 /// What `sas` prints, and whether its exit status is 0.
@@ -108,6 +110,12 @@ impl From<Error> for ReadError {
     }
 }
 
+/// Returns the version of the library, such as 1.1.0.
+pub fn version() -> &'static str {
+    // SAFETY: the library returns a text of its own that ends with a zero byte.
+    unsafe { CStr::from_ptr(sas_version()) }.to_str().expect("a version is ASCII")
+}
+
 /// Checks whether a plan solves a task: `sas plan`.
 pub fn plan(task: &[u8], plan: &[u8]) -> Result<Answer, Error> {
     of_both(sas_plan, task, plan, LINE_ROOM)
@@ -180,10 +188,22 @@ impl Task {
 
     /// Checks whether a plan solves the task, as the function `plan` does.
     pub fn plan(&mut self, plan: &[u8]) -> Result<Answer, Error> {
+        self.of_plan(sas_task_plan, plan, LINE_ROOM)
+    }
+
+    /// Checks a plan as [`Task::plan`] does, with the reasons of a no in further lines, as the function [`plan_why`].
+    pub fn plan_why(&mut self, plan: &[u8]) -> Result<Answer, Error> {
+        self.of_plan(sas_task_plan_why, plan, USUAL_ROOM)
+    }
+
+    /// Checks a plan as [`Task::plan`] does, and prints what each of its steps does, as the function [`trace`].
+    pub fn trace(&mut self, plan: &[u8]) -> Result<Answer, Error> {
+        self.of_plan(sas_task_trace, plan, USUAL_ROOM + 10 * plan.len())
+    }
+
+    fn of_plan(&mut self, request: OfHeld, plan: &[u8], room: usize) -> Result<Answer, Error> {
         // SAFETY: as in `read`; `self` is borrowed by one call at a time.
-        answer(LINE_ROOM, |room, length, size| unsafe {
-            sas_task_plan(&mut self.held, plan.as_ptr(), plan.len(), room, length, size)
-        })
+        answer(room, |room, length, size| unsafe { request(&mut self.held, plan.as_ptr(), plan.len(), room, length, size) })
     }
 }
 
@@ -214,8 +234,10 @@ const INPUT_TOO_LONG: u32 = 4;
 
 type OfOne = unsafe extern "C" fn(*const u8, usize, *mut u8, usize, *mut usize) -> u32;
 type OfBoth = unsafe extern "C" fn(*const u8, usize, *const u8, usize, *mut u8, usize, *mut usize) -> u32;
+type OfHeld = unsafe extern "C" fn(*mut Held, *const u8, usize, *mut u8, usize, *mut usize) -> u32;
 
 unsafe extern "C" {
+    fn sas_version() -> *const c_char;
     fn sas_plan(t: *const u8, t_len: usize, p: *const u8, p_len: usize, room: *mut u8, len: usize, size: *mut usize) -> u32;
     fn sas_plan_why(t: *const u8, t_len: usize, p: *const u8, p_len: usize, room: *mut u8, len: usize, size: *mut usize) -> u32;
     fn sas_trace(t: *const u8, t_len: usize, p: *const u8, p_len: usize, room: *mut u8, len: usize, size: *mut usize) -> u32;
@@ -228,6 +250,8 @@ unsafe extern "C" {
     fn sas_steps(plan: *const u8, plan_len: usize, room: *mut u8, len: usize, size: *mut usize) -> u32;
     fn sas_task_read(held: *mut Held, task: *const u8, task_len: usize, room: *mut u8, len: usize, size: *mut usize) -> u32;
     fn sas_task_plan(held: *mut Held, plan: *const u8, plan_len: usize, room: *mut u8, len: usize, size: *mut usize) -> u32;
+    fn sas_task_plan_why(held: *mut Held, plan: *const u8, plan_len: usize, room: *mut u8, len: usize, size: *mut usize) -> u32;
+    fn sas_task_trace(held: *mut Held, plan: *const u8, plan_len: usize, room: *mut u8, len: usize, size: *mut usize) -> u32;
     fn sas_task_free(held: *mut Held);
 }
 

@@ -29,6 +29,23 @@ fn a_task_is_read_once() {
 }
 
 #[test]
+fn a_held_task_gives_reasons_and_traces() {
+    let mut held = sas::Task::read(FUSES).unwrap();
+    let failed: &[u8] = b"(take f1)\n(take f2)\n; cost = 2 (unit cost)\n";
+    for plan in [failed, FUSES_PLAN, b"", failed] {
+        assert_eq!(held.plan(plan), sas::plan(FUSES, plan));
+        assert_eq!(held.plan_why(plan), sas::plan_why(FUSES, plan));
+        assert_eq!(held.trace(plan), sas::trace(FUSES, plan));
+    }
+    assert!(held.trace(failed).unwrap().text.ends_with(b"plan invalid: step 2: not applicable\n"));
+}
+
+#[test]
+fn the_version_is_that_of_the_crate() {
+    assert_eq!(sas::version(), env!("CARGO_PKG_VERSION"));
+}
+
+#[test]
 fn an_error_prints_its_text() {
     let refused = sas::Task::read(LAMPS).unwrap_err();
     assert_eq!(format!("{refused:?}"), "task refused: rule 0: layer order");

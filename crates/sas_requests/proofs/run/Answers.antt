@@ -1,34 +1,20 @@
-use Rattle.std.proofs.Common.{[]}
-use Rattle.sas_answers.specs.Answers.{MutexAnswer, VerdictAnswer}
-use Rattle.sas_requests.specs.Answering.{output_of}
-use Rattle.sas_outputs.specs.Output.{Out, plain_refusal}
-use Rattle.sas_outputs.proofs.Endings.{ends_counting_as, ends_counting_well}
+use Rattle.sas_outputs.specs.Output.{Out}
 use Rattle.sas_output.proofs.Sent.{exact_ends}
-use Rattle.sas_outputs.proofs.Headlines.{tells_valid, headline_of}
-use Rattle.sas_requests.proofs.InvariantGroups.{plain_groups, invariants_of}
-use Rattle.sas_outputs.proofs.PlanOutputs.{plain_refuses}
+use Rattle.sas_requests.specs.declared.detail.Detail.TheVariants.{Plain}
+use Rattle.sas_requests.proofs.RequestEnds.{headline_told, invariants_told}
 use Rattle.sas_requests.proofs.ShortOutputs.{short_output}
 use Rattle.sas_requests.proofs.run.Goals as goal
 
 pub returns-clause-output : goal.returns-clause-output
-returns-clause-output g c = λ b c' inputs.
-    exact_ends (Out c.args.request b c') _ (short_output c.args.request b c') _
-    (ends_counting_as (output_of c.in_ok-answer.answer) _ (Out c.args.request b c') _ (c.in_ok-answer.ensures.output b c' inputs) c.write_answer-written.ensures.ends)
+returns-clause-output g c = λ b c' inputs. exact_ends (Out c.args.request b c') _ (short_output c.args.request b c') _ (c.answer.ensures.ends.output b c' inputs)
 
 pub returns-clause-taken : goal.returns-clause-taken
 returns-clause-taken g c = λ decided.
-    let (b, c', task, plan, is) = c.in_ok-answer.ensures.taken tt in
-    let ends = ends_counting_as (output_of c.in_ok-answer.answer) _ (Out c.args.request b c') _ is c.write_answer-written.ensures.ends in
+    let (b, c', task, plan, ends) = c.answer.ensures.ends.taken decided in
     (b, c', task, plan, exact_ends (Out c.args.request b c') _ (short_output c.args.request b c') _ ends)
 
 pub returns-clause-headline : goal.returns-clause-headline
-returns-clause-headline g c =
-    ends_counting_well (output_of c.in_ok-answer.answer) _ _ _ c.write_answer-written.ensures.ends (λ status same sent. λ plan b c' before known_b known_c known.
-    let answer = c.in_ok-answer.ensures.output b c' (λ _. known_b, λ _. known_c) in
-    headline_of VerdictAnswer plain_refusal tells_valid plain_refuses b c' (output_of c.in_ok-answer.answer) (rw plan at answer) _ _ before status known same sent)
+returns-clause-headline g c = headline_told Plain c.args.request _ _ _ _ c.answer.result c.answer.ensures.ends.output
 
 pub returns-clause-invariants : goal.returns-clause-invariants
-returns-clause-invariants g c =
-    ends_counting_well (output_of c.in_ok-answer.answer) _ _ _ c.write_answer-written.ensures.ends (λ status same sent. λ mutex b before known_b known.
-    let answer = c.in_ok-answer.ensures.output b [] (rw mutex (λ _. known_b, λ e. absurd cc)) in
-    invariants_of MutexAnswer plain_groups b (output_of c.in_ok-answer.answer) (rw mutex at answer) _ _ before known sent)
+returns-clause-invariants g c = invariants_told Plain c.args.request _ (g.P.Read.remaining c.args.plan.now.device) _ _ c.answer.result c.answer.ensures.ends.output

@@ -1,11 +1,20 @@
-use Rattle.std.proofs.Common.{codes, Ok, refl}
+use Rattle.std.proofs.Common.{codes}
+use Rattle.sas_reader.specs.Devices.{ValueOf}
 use Rattle.sas_task_format.specs.TaskFormat.{task_format}
-use Rattle.sas_answers.specs.Answers.{CheckAnswer}
-use Rattle.sas_requests.proofs.FileAnswers.{answers_value, answers_refusal}
+use Rattle.sas_requests.specs.Answering.{CheckBy, UnlayeredBy}
+use Rattle.sas_requests.specs.FileReasons.{TellsTask}
+use Rattle.sas_requests.proofs.FileEnds.{ends_text, ends_more, unread}
+use Rattle.sas_requests.proofs.RequestEnds.{check_yes, check_no}
 use Rattle.sas_requests.proofs.answers.check.Goals as goal
 
-pub returns : goal.returns
-returns g c = answers_value g.R.Read.remaining task_format _ (codes "task") CheckAnswer _ _ c.in-Ok.task _ c.in-Ok.ensures.plain (λ b value. (Ok c.in-Ok.task, value, (_, c.in_ok-layers_answer.ensures, refl)))
+pub returns-in-Ok-clause-ends : goal.returns-in-Ok-clause-ends
+returns-in-Ok-clause-ends g c =
+    let detail = c.args.detail in
+    let p = c.in-Ok.layered in
+    rw c.in-Ok.ensures.silent at (ends_text g.R.Read.remaining task_format TellsTask (ValueOf task_format) (codes "task") _ detail (CheckBy detail) _ _ p _ c.answer_layered.result c.in-Ok.ensures.read
+    (λ b value. (p, value, check_yes detail p c.in-Ok.ensures.layered)) c.answer_layered.ensures.ends (unread _ c.answer_layered.result c.answer_layered.ensures.nothing))
 
-pub returns-in-Err : goal.returns-in-Err
-returns-in-Err g c = answers_refusal g.R.Read.remaining task_format _ (codes "task") CheckAnswer _ _ c.in-Err.refusal.fault c.refuse.result c.in-Err.ensures.plain c.refuse.ensures.ok c.refuse.ensures.long.0 c.refuse.ensures.read c.refuse.ensures.writes
+pub returns-in-Err-clause-ends : goal.returns-in-Err-clause-ends
+returns-in-Err-clause-ends g c =
+    let detail = c.args.detail in
+    ends_more g.R.Read.remaining task_format TellsTask (ValueOf task_format) (codes "task") _ detail (UnlayeredBy detail) _ _ (CheckBy detail) (check_no detail) c.in-Err.ended c.in-Err.ensures.refused

@@ -1,18 +1,26 @@
-use Rattle.std.proofs.Common.{codes, Ok, refl, ap, ◌∙◌}
+use Rattle.std.proofs.Common.{ap, ◌∙◌, codes}
+use Rattle.sas_lines.specs.Lines.{text}
 use Rattle.sas_flat.specs.declared.outline.Outline.{Outline}
 use Rattle.sas_task_format.specs.TaskFormat.{task_format}
-use Rattle.sas_requests.specs.Answering.{output_of}
-use Rattle.sas_requests.specs.declared.answers.Answer.TheVariants.{Summary}
+use Rattle.sas_task_reader.specs.Outline.{OutlineOf}
+use Rattle.sas_output.specs.declared.ending.Status.TheVariants.{Yes}
+use Rattle.sas_output.specs.Ending.{Output}
+use Rattle.sas_summary.specs.Summary.{summary_lines}
 use Rattle.sas_outputs.specs.Output.{ShowAnswer}
-use Rattle.sas_requests.proofs.FileAnswers.{answers_value, answers_refusal}
+use Rattle.sas_requests.specs.FileReasons.{TellsTask}
+use Rattle.sas_requests.proofs.FileEnds.{ends_text, task_refused, unread}
 use Rattle.sas_requests.proofs.SummaryLengths.{summary_fits}
 use Rattle.sas_requests.proofs.answers.show.Goals as goal
 
-pub new-requires : goal.new-requires
-new-requires g c = let read = c.in-Ok.ensures.plain.read in summary_fits read.0 c.in-Ok.outline read.2
+pub new-summary-requires : goal.new-summary-requires
+new-summary-requires g c = let read = c.in-Ok.ensures.plain.read in summary_fits read.0 c.in-Ok.outline read.2
 
-pub returns-in-Ok : goal.returns-in-Ok
-returns-in-Ok g c = answers_value g.R.Read.remaining task_format _ (codes "task") ShowAnswer _ _ c.in-Ok.outline _ c.in-Ok.ensures.plain (λ b outlined. (Ok outlined.0, outlined.1, (_, ap (λ (o : Outline). output_of (Summary o)) (c.new.ensures ∙ outlined.2), refl)))
+pub returns-in-Ok-clause-ends : goal.returns-in-Ok-clause-ends
+returns-in-Ok-clause-ends g c =
+    let told = λ (o : Outline). let x : Output = record { text = text (summary_lines o); status = Yes } in x in
+    ends_text g.R.Read.remaining task_format TellsTask OutlineOf (codes "task") _ c.args.detail ShowAnswer _ _ c.in-Ok.outline (told c.new-summary.result) c.write-ended.result c.in-Ok.ensures.plain
+    (λ b outlined. (outlined.0, outlined.1, ap told (c.new-summary.ensures ∙ outlined.2))) c.write-ended.ensures.ends (unread _ c.write-ended.result c.write-ended.ensures.nothing)
 
-pub returns-in-Err : goal.returns-in-Err
-returns-in-Err g c = answers_refusal g.R.Read.remaining task_format _ (codes "task") ShowAnswer _ _ c.in-Err.refusal.fault c.refuse.result c.in-Err.ensures.plain c.refuse.ensures.ok c.refuse.ensures.long.0 c.refuse.ensures.read c.refuse.ensures.writes
+pub returns-in-Err-clause-ends : goal.returns-in-Err-clause-ends
+returns-in-Err-clause-ends g c =
+    task_refused g.R.Read.remaining OutlineOf _ c.args.detail _ _ ShowAnswer c.in-Err.refusal c.refuse_task.result c.in-Err.ensures c.refuse_task.ensures.ends c.refuse_task.ensures.long c.refuse_task.ensures.reads

@@ -1,11 +1,19 @@
-use Rattle.std.proofs.Common.{codes, Ok, refl}
+use Rattle.std.proofs.Common.{codes, refl}
+use Rattle.sas_reader.specs.Devices.{TextOf}
 use Rattle.sas_plan_file.specs.PlanFormat.{plan_format}
+use Rattle.sas_output.specs.declared.ending.Status.TheVariants.{Yes}
+use Rattle.sas_output.specs.Ending.{Output}
 use Rattle.sas_outputs.specs.Output.{PrintAnswer}
-use Rattle.sas_requests.proofs.FileAnswers.{answers_value, answers_refusal}
+use Rattle.sas_requests.specs.FileReasons.{TellsPlan}
+use Rattle.sas_requests.proofs.FileEnds.{ends_text, plan_refused, written_unread}
 use Rattle.sas_requests.proofs.answers.steps.Goals as goal
 
-pub returns-in-Ok : goal.returns-in-Ok
-returns-in-Ok g c = answers_value g.R.Read.remaining plan_format _ (codes "plan") (PrintAnswer plan_format) _ _ c.in-Ok.text _ c.in-Ok.ensures.plain (λ b text. (Ok text.0, text.1, (_, rw text.2 refl, refl)))
+pub returns-in-Ok-clause-ends : goal.returns-in-Ok-clause-ends
+returns-in-Ok-clause-ends g c =
+    let told : Output = record { text = c.in-Ok.text.items; status = Yes } in
+    ends_text g.R.Read.remaining plan_format TellsPlan (λ b t. TextOf plan_format b t.items) (codes "plan") _ c.args.detail (PrintAnswer plan_format) _ _ c.in-Ok.text told c.write.result c.in-Ok.ensures.plain
+    (λ b text. (text.0, text.1, rw text.2 refl)) c.write.ensures.ends (written_unread c.write.result c.write.ensures.write)
 
-pub returns-in-Err : goal.returns-in-Err
-returns-in-Err g c = answers_refusal g.R.Read.remaining plan_format _ (codes "plan") (PrintAnswer plan_format) _ _ c.in-Err.refusal.fault c.refuse.result c.in-Err.ensures.plain c.refuse.ensures.ok c.refuse.ensures.long.0 c.refuse.ensures.read c.refuse.ensures.writes
+pub returns-in-Err-clause-ends : goal.returns-in-Err-clause-ends
+returns-in-Err-clause-ends g c =
+    plan_refused g.R.Read.remaining (λ b t. TextOf plan_format b t.items) _ c.args.detail _ _ (PrintAnswer plan_format) c.in-Err.refusal c.refuse_plan.result c.in-Err.ensures c.refuse_plan.ensures.ends c.refuse_plan.ensures.long c.refuse_plan.ensures.reads

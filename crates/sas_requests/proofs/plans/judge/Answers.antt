@@ -1,11 +1,19 @@
-use Rattle.std.proofs.Common.{codes, Ok, refl}
+use Rattle.std.proofs.Common.{codes}
+use Rattle.sas_reader.specs.Devices.{ValueOf}
 use Rattle.sas_plan_file.specs.PlanFormat.{plan_format}
-use Rattle.sas_answers.specs.Answers.{VerdictAnswer}
-use Rattle.sas_requests.proofs.FileAnswers.{answers_value, answers_refusal}
+use Rattle.sas_requests.specs.Answering.{VerdictBy}
+use Rattle.sas_requests.specs.FileReasons.{TellsPlan}
+use Rattle.sas_requests.proofs.FileEnds.{ends_value, plan_refused, unread}
 use Rattle.sas_requests.proofs.plans.judge.Goals as goal
 
-pub returns-in-Err : goal.returns-in-Err
-returns-in-Err g c = answers_refusal g.P.Read.remaining plan_format _ (codes "plan") (VerdictAnswer c.args.layered.now) _ _ c.in-Err.refusal.fault c.refuse.result c.in-Err.ensures.plain c.refuse.ensures.ok c.refuse.ensures.long.0 c.refuse.ensures.read c.refuse.ensures.writes
+pub returns-in-Ok-clause-ends : goal.returns-in-Ok-clause-ends
+returns-in-Ok-clause-ends g c =
+    let detail = c.args.detail in
+    let p = c.args.layered.now in
+    let plan = c.in-Ok.read in
+    ends_value g.P.Read.remaining plan_format TellsPlan (ValueOf plan_format) (codes "plan") _ detail (VerdictBy detail p) _ _ plan (VerdictBy detail p plan) (λ b value o is. (plan, value, is)) c.answer_plan-ended.result c.in-Ok.ensures.plain
+    c.answer_plan-ended.ensures.ends (unread _ c.answer_plan-ended.result c.answer_plan-ended.ensures.nothing)
 
-pub returns : goal.returns
-returns g c = answers_value g.P.Read.remaining plan_format _ (codes "plan") (VerdictAnswer c.args.layered.now) _ _ c.in-Ok.read _ c.in-Ok.ensures.plain (λ b value. (Ok c.in-Ok.read, value, (_, c.in_ok-verdict_answer.ensures, refl)))
+pub returns-in-Err-clause-ends : goal.returns-in-Err-clause-ends
+returns-in-Err-clause-ends g c =
+    plan_refused g.P.Read.remaining (ValueOf plan_format) _ c.args.detail _ _ (VerdictBy c.args.detail c.args.layered.now) c.in-Err.refusal c.refuse_plan.result c.in-Err.ensures c.refuse_plan.ensures.ends c.refuse_plan.ensures.long c.refuse_plan.ensures.reads

@@ -1,0 +1,160 @@
+// Plans of a task that is held. It stays held.
+ghost use Rattle.std.specs.Prelude.{◌≡◌, List, ℕ, IfSome, IsNone};
+ghost use Rattle.sas_answers.specs.Answers.{VerdictAnswer};
+ghost use Rattle.sas_explain.specs.Verdict.{WhyVerdict};
+ghost use Rattle.sas_outputs.specs.Output.{PlanOut, VerdictOut};
+ghost use Rattle.sas_trace.specs.Traced.{TraceVerdict};
+ghost use Rattle.sas_requests.specs.Explaining.{PlanOutWhy};
+ghost use Rattle.sas_requests.specs.Why.{OutWhy};
+ghost use Rattle.sas_plans.specs.TraceOut.{TraceOut};
+ghost use Rattle.sas_c.specs.Telling.{Tells, TellsHeadline, TellsLastLine};
+ghost use Rattle.sas_c.specs.Holding.{Holds};
+
+use crate::numbers::{NO_TASK, number_without};
+use crate::telling::{tell, tell_told};
+use sas_held::{Prepared, SasTask};
+use sas_lines::Watched;
+use sas_plans::{judge_bytes, trace_bytes};
+use sas_requests::{Request, explain_bytes};
+use std::alloc::Global;
+
+/// Answers whether the plan solves the task that is held, as `sas_plan` does. It stays held.
+#[unsafe(no_mangle)]
+pub extern "C" fn sas_task_plan(
+    alloc: Global,
+    task: &mut SasTask,
+    plan: &[u8],
+    room: &mut [u8],
+    size: &mut usize,
+) -> u32
+    ensures tells { IfSome task.old.pointer.task (λ prepared.
+        Tells (VerdictOut VerdictAnswer prepared.held plan.now)
+        room.old room.new size.new result) }
+    ensures bytes { (b : List ℕ) → Holds b task.old.pointer.task
+        → Tells (PlanOut b plan.now) room.old room.new size.new result }
+    ensures headline { (b : List ℕ) → Holds b task.old.pointer.task
+        → TellsHeadline b plan.now room.new size.new result }
+    ensures same { task.new.pointer.task ≡ task.old.pointer.task }
+    ensures none { IsNone task.old.pointer.task → (result ≡ 5) × (room.new ≡ room.old) }
+{
+    match task.take(alloc) {
+        Some(mut prepared) => {
+            let number = judge(alloc, &mut prepared, plan, room, size);
+            task.put(prepared);
+            number
+        }
+        None => NO_TASK,
+    }
+}
+
+/// Answers whether the plan solves the task that is held, with the reasons for a no, as `sas_plan_why` does. It stays held.
+#[unsafe(no_mangle)]
+pub extern "C" fn sas_task_plan_why(
+    alloc: Global,
+    task: &mut SasTask,
+    plan: &[u8],
+    room: &mut [u8],
+    size: &mut usize,
+) -> u32
+    ensures tells { IfSome task.old.pointer.task (λ prepared.
+        Tells (PlanOutWhy (WhyVerdict prepared.held) plan.now)
+        room.old room.new size.new result) }
+    ensures bytes { (b : List ℕ) → Holds b task.old.pointer.task
+        → Tells (OutWhy Request.Plan b plan.now) room.old room.new size.new result }
+    ensures headline { (b : List ℕ) → Holds b task.old.pointer.task
+        → TellsHeadline b plan.now room.new size.new result }
+    ensures same { task.new.pointer.task ≡ task.old.pointer.task }
+    ensures none { IsNone task.old.pointer.task → (result ≡ 5) × (room.new ≡ room.old) }
+{
+    match task.take(alloc) {
+        Some(prepared) => {
+            let number = explain(alloc, &prepared, plan, room, size);
+            task.put(prepared);
+            number
+        }
+        None => NO_TASK,
+    }
+}
+
+/// Answers whether the plan solves the task that is held, with what its steps do in front, as `sas_trace` does. It stays held.
+#[unsafe(no_mangle)]
+pub extern "C" fn sas_task_trace(
+    alloc: Global,
+    task: &mut SasTask,
+    plan: &[u8],
+    room: &mut [u8],
+    size: &mut usize,
+) -> u32
+    ensures tells { IfSome task.old.pointer.task (λ prepared.
+        Tells (VerdictOut TraceVerdict prepared.held plan.now)
+        room.old room.new size.new result) }
+    ensures bytes { (b : List ℕ) → Holds b task.old.pointer.task
+        → Tells (TraceOut b plan.now) room.old room.new size.new result }
+    ensures headline { (b : List ℕ) → Holds b task.old.pointer.task
+        → TellsLastLine b plan.now room.new size.new result }
+    ensures same { task.new.pointer.task ≡ task.old.pointer.task }
+    ensures none { IsNone task.old.pointer.task → (result ≡ 5) × (room.new ≡ room.old) }
+{
+    match task.take(alloc) {
+        Some(prepared) => {
+            let number = trace(alloc, &prepared, plan, room, size);
+            task.put(prepared);
+            number
+        }
+        None => NO_TASK,
+    }
+}
+
+/// Writes whether the plan solves the task.
+fn judge(
+    alloc: Global,
+    prepared: &mut Prepared,
+    plan: &[u8],
+    room: &mut [u8],
+    size: &mut usize,
+) -> u32
+    ensures tells { Tells (VerdictOut VerdictAnswer prepared.old.held plan.now)
+        room.old room.new size.new result }
+    ensures same { prepared.new ≡ prepared.old }
+{
+    match judge_bytes(alloc, &mut prepared.held, plan) {
+        Ok(told) => tell_told(told, room, size),
+        Err(fault) => number_without(fault),
+    }
+}
+
+/// Writes whether the plan solves the task, with the reasons for a no.
+fn explain(
+    alloc: Global,
+    prepared: &Prepared,
+    plan: &[u8],
+    room: &mut [u8],
+    size: &mut usize,
+) -> u32
+    ensures { Tells (PlanOutWhy (WhyVerdict prepared.now.held) plan.now)
+        room.old room.new size.new result }
+{
+    let mut text = Watched::new(Vec::new(alloc));
+    match explain_bytes(alloc, prepared.held.layered(), plan, &mut text) {
+        Ok(status) => tell(text.into_device().as_slice(), status, room, size),
+        Err(fault) => number_without(fault),
+    }
+}
+
+/// Writes whether the plan solves the task, behind its trace.
+fn trace(
+    alloc: Global,
+    prepared: &Prepared,
+    plan: &[u8],
+    room: &mut [u8],
+    size: &mut usize,
+) -> u32
+    ensures { Tells (VerdictOut TraceVerdict prepared.now.held plan.now)
+        room.old room.new size.new result }
+{
+    let mut text = Watched::new(Vec::new(alloc));
+    match trace_bytes(alloc, &prepared.held, plan, &mut text) {
+        Ok(status) => tell(text.into_device().as_slice(), status, room, size),
+        Err(fault) => number_without(fault),
+    }
+}

@@ -1,0 +1,204 @@
+-- How the output of a request goes out.
+use Rattle.std.proofs.Common.{◌≡◌, ℕ, false, true, List, [], codes, refl, sym, ap, subst, ◌∙◌, Option, Some, None, Result, Ok, Err}
+use Rattle.std.specs.Prelude.{IsTrue, IfOk, IsSomeAnd}
+use Rattle.std.specs.Io.KnownBytes.{Appends}
+use Rattle.sas_core.specs.declared.parts.Parts.{Parts}
+use Rattle.sas_core.specs.PlanParts.{PlanParts}
+use Rattle.sas_meaning.specs.declared.layered.LayerFault.{LayerFault}
+use Rattle.sas_meaning.specs.Layers.{IsLayered}
+use Rattle.sas_meaning.proofs.LayerChecksAreRules.{checks_are_rules}
+use Rattle.sas_lines.specs.Device.{Device}
+use Rattle.sas_reader.specs.declared.fault.Fault.{Fault}
+use Rattle.sas_reader.specs.Devices.{ValueOf, ReadsAll}
+use Rattle.sas_reader.specs.Format.{ReadsAs}
+use Rattle.sas_reader.specs.Limit.{most_bytes}
+use Rattle.sas_reader.proofs.Known.{known_answer}
+use Rattle.sas_plan_file.specs.PlanFormat.{plan_format}
+use Rattle.sas_task_format.specs.TaskFormat.{task_format}
+use Rattle.sas_task_format.proofs.TaskLaws.{task_laws_hold}
+use Rattle.sas_file_reasons.specs.FileLine.{FileLine}
+use Rattle.sas_output.specs.declared.ending.Status.{Status}
+use Rattle.sas_output.specs.declared.ending.Status.TheVariants.{Yes}
+use Rattle.sas_output.specs.declared.ending.ToolFault.{ToolFault}
+use Rattle.sas_output.specs.Ending.{Output, EndsCounting}
+use Rattle.sas_answers.specs.Answers.{layers_verdict, LayeredGroupsAnswer, MutexAnswer, VerdictAnswer}
+use Rattle.sas_answers.proofs.CheckAnswers.{layered_answer}
+use Rattle.sas_task_reasons.specs.WhyGroups.{WhyGroupsAnswer}
+use Rattle.sas_task_reasons.specs.WhyLayers.{why_refusal, WhyMutexAnswer}
+use Rattle.sas_task_reasons.proofs.TaskAnswers.{check_layered, check_refused, groups_layered, groups_refused}
+use Rattle.sas_explain.specs.Verdict.{WhyVerdict}
+use Rattle.sas_outputs.specs.declared.Request.{Request}
+use Rattle.sas_outputs.specs.declared.Request.TheVariants as request
+use Rattle.sas_outputs.specs.Headline.{Headline, Invariants}
+use Rattle.sas_outputs.specs.Output.{IsAnswerOrRefusal, PlanOutBy, ShowAnswer, PrintAnswer, plain_refusal, AreInputs, reads_task}
+use Rattle.sas_outputs.proofs.Headlines.{tells_valid, headline_of}
+use Rattle.sas_outputs.proofs.Outputs.{takes_nothing}
+use Rattle.sas_outputs.proofs.PlanOutputs.{plain_refuses, first_alone, second_alone, judged_out, unlayered_out}
+use Rattle.sas_requests.specs.declared.detail.Detail.{Detail}
+use Rattle.sas_requests.specs.declared.detail.Detail.TheVariants.{Plain, Reasons}
+use Rattle.sas_requests.specs.Answering.{CheckBy, MutexBy, VerdictBy, UnlayeredBy, layers_by, TaskBy, PlanBy, OutBy, EndsFile, EndsRequest}
+use Rattle.sas_requests.specs.FileReasons.{ReadReasons, TellsTask, LayersFileReasons, JudgedFileReasons}
+use Rattle.sas_requests.proofs.FileEnds.{ends_by}
+use Rattle.sas_requests.proofs.InvariantGroups.{plain_groups, invariants_of}
+use Rattle.sas_requests.proofs.ReasonedOutputs.{headline_why, invariants_why}
+
+-- ---- answers about a task
+
+pub check_yes : (detail : Detail) (p : Parts) → IsLayered p → CheckBy detail p (record { text = codes "task layered\n"; status = Yes })
+check_yes Plain p layered = layered_answer p layered
+check_yes Reasons p layered = check_layered p _ layered refl
+
+pub check_no : (detail : Detail) (p : Parts) (o : Output) → UnlayeredBy detail p o → CheckBy detail p o
+check_no Plain p o (fault, first, is) = ap layers_verdict first ∙ is
+check_no Reasons p o (fault, first, is) = check_refused p o fault is first
+
+-- of the groups of a layered task
+pub mutex_yes : (p : Parts) → IsLayered p → (o : Option Output) → IsSomeAnd o (WhyGroupsAnswer p) → IsSomeAnd o (WhyMutexAnswer p)
+mutex_yes p layered (Some o) told = groups_layered p o layered told
+mutex_yes p layered None told = told
+
+pub mutex_no : (detail : Detail) (p : Parts) (o : Output) → UnlayeredBy detail p o → MutexBy detail p o
+mutex_no Plain p o (fault, first, is) = subst (λ (f : Option LayerFault). LayeredGroupsAnswer p f o) (sym first) is
+mutex_no Reasons p o (fault, first, is) = groups_refused p o fault is first
+
+-- ---- outputs of requests
+
+pub show_by : (detail : Detail) (b c : List ℕ) (o : Option Output) → TaskBy detail ShowAnswer b o → OutBy detail request.Show b c o
+show_by Plain b c o out = out
+show_by Reasons b c o out = out
+
+pub print_by : (detail : Detail) (b c : List ℕ) (o : Option Output) → TaskBy detail (PrintAnswer task_format) b o → OutBy detail request.Print b c o
+print_by Plain b c o out = out
+print_by Reasons b c o out = out
+
+pub steps_by : (detail : Detail) (b c : List ℕ) (o : Option Output) → PlanBy detail (PrintAnswer plan_format) c o → OutBy detail request.Steps b c o
+steps_by Plain b c o out = out
+steps_by Reasons b c o out = out
+
+pub check_by : (detail : Detail) (b c : List ℕ) (o : Option Output) → TaskBy detail (CheckBy detail) b o → OutBy detail request.Check b c o
+check_by Plain b c o out = out
+check_by Reasons b c o out = out
+
+pub mutex_by : (detail : Detail) (b c : List ℕ) (o : Option Output) → TaskBy detail (MutexBy detail) b o → OutBy detail request.Mutex b c o
+mutex_by Plain b c o out = out
+mutex_by Reasons b c o out = out
+
+-- ---- the output of `plan`
+
+-- of a task that is refused
+unlayered_read : (detail : Detail) (Verdict : Parts → PlanParts → Output → Type 0) (b c : List ℕ) (r : Result Parts Fault) (o : Option Output) → ReadsAs task_format most_bytes b r → IsAnswerOrRefusal (codes "task") (UnlayeredBy detail) r o → PlanOutBy Verdict (layers_by detail) b c o
+unlayered_read detail Verdict b c (Ok p) o reads (answer, (fault, first, told), is) = subst (PlanOutBy Verdict (layers_by detail) b c) (sym is) (unlayered_out Verdict (layers_by detail) p fault b c answer reads first told)
+unlayered_read detail Verdict b c (Err fault) o reads is = (Err fault, reads, is)
+
+-- the same reasons stand behind it
+unlayered_reasons : (detail : Detail) (b c : List ℕ) (r : Result Parts Fault) (o : Option Output) (reasons : List FileLine) → IsAnswerOrRefusal (codes "task") (UnlayeredBy detail) r o → ReadReasons task_format TellsTask b r reasons → JudgedFileReasons b r c reasons
+unlayered_reasons detail b c (Ok p) o reasons (answer, (fault, first, told), is) why = subst (λ (f : Option LayerFault). LayersFileReasons f c reasons) (sym first) why
+unlayered_reasons detail b c (Err fault) o reasons is why = why
+
+pub unlayered_by : (detail : Detail) (b c : List ℕ) (o : Option Output) → TaskBy detail (UnlayeredBy detail) b o → OutBy detail request.Plan b c o
+unlayered_by Plain b c o (r, reads, is) = unlayered_read Plain VerdictAnswer b c r o reads is
+unlayered_by Reasons b c o out =
+    let (r, reads, is) = out.is_out in
+    let (other, other_reads, why) = out.are_reasons in
+    let same : other ≡ r = task_laws_hold.one_reading most_bytes b other r other_reads reads in
+    record {
+      of_read = out.of_read;
+      reasons = out.reasons;
+      is_out = unlayered_read Reasons WhyVerdict b c r out.of_read reads is;
+      are_reasons = (r, reads, unlayered_reasons Reasons b c r out.of_read out.reasons is (subst (λ (q : Result Parts Fault). ReadReasons task_format TellsTask b q out.reasons) same why));
+      whole = out.whole;
+    }
+
+-- and of the plan of a layered one
+judged_by : (detail : Detail) (p : Parts) → IsLayered p → (b c : List ℕ) → ReadsAs task_format most_bytes b (Ok p) → (o : Option Output) → PlanBy detail (VerdictBy detail p) c o → OutBy detail request.Plan b c o
+judged_by Plain p layered b c reads o out = judged_out VerdictAnswer plain_refusal p layered b c reads o out
+judged_by Reasons p layered b c reads o out = record {
+  of_read = out.of_read;
+  reasons = out.reasons;
+  is_out = judged_out WhyVerdict why_refusal p layered b c reads out.of_read out.is_out;
+  are_reasons = (Ok p, reads, subst (λ (first : Option LayerFault). LayersFileReasons first c out.reasons) (sym ((checks_are_rules p).1 layered)) out.are_reasons);
+  whole = out.whole;
+}
+
+-- ---- how they go out
+
+module _ {T P : Type 0} (left_task : T → Option (List ℕ)) (left_plan : P → Option (List ℕ)) (Sent : List ℕ → Type 0) (detail : Detail) where
+  -- a request that read the task alone
+  pub of_task : (asked : Request) → IsTrue (reads_task asked) → (FileOutput : List ℕ → Option Output → Type 0) → ((b c : List ℕ) (o : Option Output) → FileOutput b o → OutBy detail asked b c o)
+      → (old new : Device T) (plan : Device P) (r : Result Status ToolFault) → plan.failed ≡ false → EndsFile left_task FileOutput Sent old new r → EndsRequest left_task left_plan Sent detail asked old new plan plan r
+  of_task asked reading FileOutput to old new plan r working one = record {
+    output = λ b c inputs. ends_by Sent (FileOutput b) (OutBy detail asked b c) r (to b c) (one.output b (inputs.0 reading));
+    taken = λ decided.
+        let (b, consumed, ends) = one.taken decided in
+        (b, [], consumed, takes_nothing _, ends_by Sent (FileOutput b) (OutBy detail asked b []) r (to b []) ends);
+    task_spared = λ spared. absurd (let apart : true ≡ false = sym reading ∙ spared in cc);
+    plan_spared = λ _. refl;
+    waits = λ _ b known none. refl;
+    reads = (λ e. (first_alone new.failed plan.failed working).1 (one.reads.0 e), λ t. one.reads.1 ((first_alone new.failed plan.failed working).0 t));
+  }
+
+  -- `steps`, which reads the plan alone
+  pub of_steps : (task : Device T) (old new : Device P) (r : Result Status ToolFault) → task.failed ≡ false → EndsFile left_plan (PlanBy detail (PrintAnswer plan_format)) Sent old new r → EndsRequest left_task left_plan Sent detail request.Steps task task old new r
+  of_steps task old new r working one =
+      let Told = PlanBy detail (PrintAnswer plan_format) in
+      let alone = second_alone task.failed new.failed (λ t. let apart : true ≡ false = sym t ∙ working in cc) in
+      record {
+        output = λ b c inputs. ends_by Sent (Told c) (OutBy detail request.Steps b c) r (steps_by detail b c) (one.output c (inputs.1 refl));
+        taken = λ decided.
+            let (c, consumed, ends) = one.taken decided in
+            ([], c, takes_nothing _, consumed, ends_by Sent (Told c) (OutBy detail request.Steps [] c) r (steps_by detail [] c) ends);
+        task_spared = λ _. refl;
+        plan_spared = λ spared. absurd cc;
+        waits = λ is. absurd cc;
+        reads = (λ e. alone.1 (one.reads.0 e), λ t. one.reads.1 (alone.0 t));
+      }
+
+  -- `plan` of a layered task, which reads both
+  pub of_both : (p : Parts) (old new : Device T) → ReadsAll left_task task_format (ValueOf task_format) old new (Ok p) → IsLayered p
+      → (plan_old plan_new : Device P) (r : Result Status ToolFault) → EndsFile left_plan (PlanBy detail (VerdictBy detail p)) Sent plan_old plan_new r → EndsRequest left_task left_plan Sent detail request.Plan old new plan_old plan_new r
+  of_both p old new read layered plan_old plan_new r one =
+      let Told = PlanBy detail (VerdictBy detail p) in
+      let alone = second_alone new.failed plan_new.failed (λ t. read.note.1 t) in
+      record {
+        output = λ b c inputs.
+            let value = known_answer left_task task_format (ValueOf task_format) old new p b read (inputs.0 refl) in
+            ends_by Sent (Told c) (OutBy detail request.Plan b c) r (judged_by detail p layered b c value) (one.output c (inputs.1 refl));
+        taken = λ decided.
+            let (b, consumed, value) = read.read in
+            let (c, consumed_plan, ends) = one.taken decided in
+            (b, c, consumed.0, consumed_plan, ends_by Sent (Told c) (OutBy detail request.Plan b c) r (judged_by detail p layered b c value) ends);
+        task_spared = λ spared. absurd cc;
+        plan_spared = λ spared. absurd cc;
+        waits = λ _ b known none. absurd (none (p, known_answer left_task task_format (ValueOf task_format) old new p b read known, layered));
+        reads = (λ e. alone.1 (one.reads.0 e), λ t. one.reads.1 (alone.0 t));
+      }
+
+-- ---- what a planner relies on
+
+headline_by : (detail : Detail) (b c : List ℕ) (o : Output) → OutBy detail request.Plan b c (Some o)
+    → (old new : Option (List ℕ)) (before : List ℕ) (status : Status) → old ≡ Some before → status ≡ o.status → Appends old new o.text → Headline b c (Appends old new) status
+headline_by Plain b c o out = headline_of VerdictAnswer plain_refusal tells_valid plain_refuses b c o out
+headline_by Reasons b c o out = headline_why b c o out
+
+invariants_by : (detail : Detail) (b c : List ℕ) (o : Output) → OutBy detail request.Mutex b c (Some o) → (old new : Option (List ℕ)) (before : List ℕ) → old ≡ Some before → Appends old new o.text → Invariants b (Appends old new)
+invariants_by Plain b c o out = invariants_of MutexAnswer plain_groups b o out
+invariants_by Reasons b c o out = invariants_why b c o out
+
+module _ (detail : Detail) (asked : Request) (task plan old new : Option (List ℕ)) where
+  abbrev Ended : Result Status ToolFault → Type 0
+  Ended r = (b c : List ℕ) → AreInputs asked task plan b c → EndsCounting (OutBy detail asked b c) (Appends old new) r
+
+  pub headline_told : (r : Result Status ToolFault) → Ended r
+      → IfOk r (λ status. asked ≡ request.Plan → (b c before : List ℕ) → task ≡ Some b → plan ≡ Some c → old ≡ Some before → Headline b c (Appends old new) status)
+  headline_told (Ok status) ends = λ is b c before known_task known_plan known.
+      let (o, out, same, sent) = ends b c (λ _. known_task, λ _. known_plan) in
+      headline_by detail b c o (subst (λ (q : Request). OutBy detail q b c (Some o)) is out) old new before status known same sent
+  headline_told (Err why) ends = tt
+
+  pub invariants_told : (r : Result Status ToolFault) → Ended r
+      → IfOk r (λ status. asked ≡ request.Mutex → (b before : List ℕ) → task ≡ Some b → old ≡ Some before → Invariants b (Appends old new))
+  invariants_told (Ok status) ends = λ is b before known_task known.
+      let inputs = subst (λ (q : Request). AreInputs q task plan b []) (sym is) (λ _. known_task, λ e. absurd cc) in
+      let (o, out, same, sent) = ends b [] inputs in
+      invariants_by detail b [] o (subst (λ (q : Request). OutBy detail q b [] (Some o)) is out) old new before known sent
+  invariants_told (Err why) ends = tt

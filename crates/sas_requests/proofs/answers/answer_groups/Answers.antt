@@ -1,0 +1,16 @@
+use Rattle.sas_output.specs.Ending.{output_told}
+use Rattle.sas_answers.specs.Answers.{MutexAnswer}
+use Rattle.sas_answers.proofs.MutexAnswers.{groups_answered}
+use Rattle.sas_requests.proofs.FileEnds.{ends_by, ends_some}
+use Rattle.sas_requests.proofs.RequestEnds.{mutex_yes}
+use Rattle.sas_requests.proofs.answers.answer_groups.Goals as goal
+
+pub returns-in_ok-groups_answer-in-Plain-clause-ends : goal.returns-in_ok-groups_answer-in-Plain-clause-ends
+returns-in_ok-groups_answer-in-Plain-clause-ends g c =
+    let p = c.args.layered.now in
+    let told = output_told c.in_ok-groups_answer-in-Plain.field-0 in
+    rw c.in-Plain.is (ends_some _ (MutexAnswer p) told c.write.result (groups_answered p told c.requires.layered c.in_ok-groups_answer-in-Plain.ensures) c.write.ensures.ends)
+
+pub returns-in-Reasons-clause-ends : goal.returns-in-Reasons-clause-ends
+returns-in-Reasons-clause-ends g c =
+    rw c.in-Reasons.is (ends_by _ _ _ c.write_groups.result (mutex_yes c.args.layered.now c.requires.layered) c.write_groups.ensures.ends)

@@ -1,0 +1,19 @@
+// How much a run reports.
+
+use crate::Request;
+
+/// How much is reported.
+#[derive(Clone, Copy)]
+pub enum Detail {
+    /// The answer alone.
+    Plain,
+    /// The answer, and behind a no the reasons for it.
+    Reasons,
+}
+
+/// A request, and how much is reported.
+#[derive(Clone, Copy)]
+pub struct Asked {
+    pub request: Request,
+    pub detail: Detail,
+}

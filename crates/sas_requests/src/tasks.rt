@@ -1,0 +1,80 @@
+// Tasks that are read and are layered. Others are refused.
+ghost use Rattle.std.specs.Prelude.{◌≡◌, ◌⊎◌, ◌↔◌, false, Ok, Some};
+ghost use Rattle.std.specs.Prelude.{IfErr, IfOk, IsErrAnd, IsSomeAnd, IsTrue};
+ghost use Rattle.std.specs.Io.KnownBytes.{Appends};
+ghost use Rattle.sas_meaning.specs.Layers.{IsLayered};
+ghost use Rattle.sas_output.specs.Ending.{EndsCounting, IsWrite};
+ghost use Rattle.sas_reader.specs.Devices.{ReadsAll, ValueOf};
+ghost use Rattle.sas_task_format.specs.TaskFormat.{task_format};
+ghost use Rattle.sas_requests.specs.Answering.{EndsFile, TaskBy, UnlayeredBy, layers_by};
+
+use crate::detail::Detail;
+use crate::refusals::refuse_task;
+use crate::{Status, ToolFault};
+use sas_answers::refuse_layers;
+use sas_flat::FlatTask;
+use sas_lines::Watched;
+use sas_meaning::{LayerFault, Layered};
+use sas_task_reader::read_flat_task;
+use sas_task_reasons::write_unlayered;
+use std::alloc::Global;
+use std::io::{Read, Write};
+
+/// Reads a layered task. Where the file is no task, or the task isn't layered, writes the refusal instead, and returns how that ended
+/// as an `Err`.
+pub fn read_layered<R: Read, W: Write>(
+    alloc: Global,
+    detail: Detail,
+    task: &mut Watched<R>,
+    out: &mut Watched<W>,
+) -> Result<Layered<FlatTask>, Result<Status, ToolFault>>
+    requires task { task.old.failed ≡ false }
+    requires out { out.old.failed ≡ false }
+    ensures read { IfOk result (λ p.
+        ReadsAll R.remaining task_format (ValueOf task_format) task.old task.new (Ok p)) }
+    ensures layered { IfOk result (λ p. IsLayered p) }
+    ensures silent { IfOk result (λ p. out.new ≡ out.old) }
+    ensures refused { IfErr result (λ ended. EndsFile R.remaining
+        (TaskBy detail (UnlayeredBy detail))
+        (Appends (W.contents out.old.device) (W.contents out.new.device))
+        task.old task.new ended) }
+    ensures nothing { IfErr result (λ ended.
+        IfErr ended (λ e. IsWrite e ⊎ (out.new ≡ out.old))) }
+    ensures writes { IfErr result (λ ended.
+        IsErrAnd ended IsWrite ↔ IsTrue out.new.failed) }
+{
+    let read = match read_flat_task(alloc, task) {
+        Ok(read) => read,
+        Err(refusal) => return Err(refuse_task(alloc, detail, refusal, out)),
+    };
+    match Layered::new(alloc, read) {
+        Ok(layered) => Ok(layered),
+        Err((read, fault)) => {
+            let ended = refuse_unlayered(alloc, detail, &read, fault, out);
+            drop(read);
+            Err(ended)
+        }
+    }
+}
+
+/// Writes the refusal of a task for a fault of its layers.
+fn refuse_unlayered<W: Write>(
+    alloc: Global,
+    detail: Detail,
+    task: &FlatTask,
+    fault: LayerFault,
+    out: &mut Watched<W>,
+) -> Result<Status, ToolFault>
+    requires { out.old.failed ≡ false }
+    ensures ends { EndsCounting
+        (λ output. IsSomeAnd output (λ told. layers_by detail task.now fault ≡ Some told))
+        (Appends (W.contents out.old.device) (W.contents out.new.device)) result }
+    ensures nothing { IfErr result (λ e. IsWrite e
+        ⊎ ((e ≡ ToolFault.Memory) × (out.new ≡ out.old))) }
+    ensures writes { IsErrAnd result IsWrite ↔ IsTrue out.new.failed }
+{
+    match detail {
+        Detail::Plain => refuse_layers(alloc, fault)?.write(out),
+        Detail::Reasons => write_unlayered(alloc, task, fault, out),
+    }
+}

@@ -1,0 +1,40 @@
+// The refusal of a task that isn't layered, with the reasons, as it goes out.
+ghost use Rattle.std.specs.Prelude.{◌≡◌, ◌⊎◌, ◌↔◌, false, Some};
+ghost use Rattle.std.specs.Prelude.{IfErr, IsErrAnd, IsSomeAnd, IsTrue};
+ghost use Rattle.std.specs.Io.KnownBytes.{Appends};
+ghost use Rattle.sas_output.specs.Ending.{EndsCounting, IsWrite};
+ghost use Rattle.sas_task_reasons.specs.WhyLayers.{why_refusal};
+
+use crate::reasons::layer_reasons;
+use sas_answers::refuse_layers;
+use sas_flat::FlatTask;
+use sas_lines::Watched;
+use sas_meaning::LayerFault;
+use sas_output::{Status, ToolFault};
+use sas_wording::{Named, write_reasons};
+use std::alloc::Global;
+use std::io::Write;
+
+/// Writes the refusal of the task for a fault of its layers, with the reasons, and returns its status. The names in the reasons are
+/// looked up as they go out, in pieces. If an `Err` isn't a failed write, it is `Memory`, and nothing was written: all memory is
+/// allocated before the first byte. For the fault `Memory` it returns such an `Err`. Not to be called after a failure.
+pub fn write_unlayered<W: Write>(
+    alloc: Global,
+    task: &FlatTask,
+    fault: LayerFault,
+    out: &mut Watched<W>,
+) -> Result<Status, ToolFault>
+    requires { out.old.failed ≡ false }
+    ensures ends { EndsCounting
+        (λ output. IsSomeAnd output (λ told. why_refusal task.now fault ≡ Some told))
+        (Appends (W.contents out.old.device) (W.contents out.new.device)) result }
+    ensures nothing { IfErr result (λ e. IsWrite e
+        ⊎ ((e ≡ ToolFault.Memory) × (out.new ≡ out.old))) }
+    ensures writes { IsErrAnd result IsWrite ↔ IsTrue out.new.failed }
+{
+    let refusal = refuse_layers(alloc, fault)?;
+    let reasons = layer_reasons(alloc, task, fault)?;
+    let named = Named { task, plan: None };
+    let line = refusal.text.as_slice();
+    write_reasons(alloc, out, line, &named, reasons.as_slice())
+}
