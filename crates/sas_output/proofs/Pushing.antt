@@ -1,8 +1,17 @@
 -- Bytes that are pushed, call after call.
 use Rattle.std.proofs.Common.{◌≡◌, ℕ, ◌+◌, ◌<◌, List, [], ◌++◌, append_assoc, append-nil, take, get_or, flat_map, length, refl, sym, ap, subst, ◌∙◌, Option, true, false}
+use Rattle.sas_lines.specs.declared.devices.Short.{Short}
 use Rattle.sas_output.specs.declared.sink.Sink.{Sink}
-use Rattle.sas_output.specs.Sink.{Pushed, Pushes}
-use Rattle.sas_output.proofs.Putting.{next_item}
+use Rattle.sas_output.specs.Pieces.{Piece, Puts, Breaks}
+use Rattle.sas_output.specs.Sink.{empty_piece, Pushed, PushedBy, Pushes}
+use Rattle.sas_output.proofs.Putting.{next_item, puts_then, puts_then_breaks, breaks_with_more}
+
+-- the last bytes that are held go out, or break off
+pub finish_puts : (a b c : Option (List ℕ)) (p q r : Piece) (text : List ℕ) → Puts a b p q text → Puts b c q r [] → Puts a c p r text
+finish_puts a b c p q r text first second = subst (Puts a c p r) (append-nil text) (puts_then a b p q text c r [] first second)
+
+pub finish_breaks : (a b c : Option (List ℕ)) (p q : Piece) (text : List ℕ) (short : Short) → Puts a b p q text → Breaks b c q [] short → Breaks a c p text short
+finish_breaks a b c p q text short first second = subst (λ (l : List ℕ). Breaks a c p l short) (append-nil text) (puts_then_breaks a b p q text c [] short first second)
 
 module _ {W : Type 0} (contents : W → Option (List ℕ)) where
   -- nothing was pushed
@@ -18,6 +27,35 @@ module _ {W : Type 0} (contents : W → Option (List ℕ)) where
     same = second.same ∙ first.same;
     text = λ start text pushed. subst (Pushed contents start u) (append_assoc text x y) (second.text start (text ++ x) (first.text start text pushed));
   }
+
+  -- after a failed write nothing more is written
+  pub pushes_lost : (s : Sink W) (bytes : List ℕ) → s.out.now.failed ≡ true → Pushes contents s s bytes
+  pushes_lost s bytes failed = record {
+    same = refl;
+    text = λ start text pushed.
+        let by = subst (PushedBy start (contents s.out.now.device) s.pieces s.short text) failed pushed in
+        subst (PushedBy start (contents s.out.now.device) s.pieces s.short (text ++ bytes)) (sym failed)
+        (breaks_with_more start (contents s.out.now.device) empty_piece empty_piece text bytes (record { written = s.short }) by);
+  }
+
+  -- what was pushed as long as no write failed
+  pub puts_so_far : (s : Sink W) → s.out.now.failed ≡ false → (start : Option (List ℕ)) (text : List ℕ) → Pushed contents start s text → Puts start (contents s.out.now.device) empty_piece s.pieces text
+  puts_so_far s well start text pushed = subst (PushedBy start (contents s.out.now.device) s.pieces s.short text) well pushed
+
+  module _ (s t : Sink W) (bytes : List ℕ) (same : t.out.ghost_name ≡ s.out.ghost_name) (well : s.out.now.failed ≡ false) where
+    pub pushes_put : t.out.now.failed ≡ false → Puts (contents s.out.now.device) (contents t.out.now.device) s.pieces t.pieces bytes → Pushes contents s t bytes
+    pushes_put is puts = record {
+      same = same;
+      text = λ start text pushed. subst (PushedBy start (contents t.out.now.device) t.pieces t.short (text ++ bytes)) (sym is)
+          (puts_then start (contents s.out.now.device) empty_piece s.pieces text (contents t.out.now.device) t.pieces bytes (puts_so_far s well start text pushed) puts);
+    }
+
+    pub pushes_broken : t.out.now.failed ≡ true → Breaks (contents s.out.now.device) (contents t.out.now.device) s.pieces bytes (record { written = t.short }) → Pushes contents s t bytes
+    pushes_broken is broken = record {
+      same = same;
+      text = λ start text pushed. subst (PushedBy start (contents t.out.now.device) t.pieces t.short (text ++ bytes)) (sym is)
+          (puts_then_breaks start (contents s.out.now.device) empty_piece s.pieces text (contents t.out.now.device) bytes (record { written = t.short }) (puts_so_far s well start text pushed) broken);
+    }
 
   -- the bytes of the next item, behind those of the items before it
   pub pushes_item : {X : Type 0} (says : X → List ℕ) (items : List X) (i : ℕ) (d : X) (s t u : Sink W) → i < length items
