@@ -1,7 +1,12 @@
 -- Bytes that are pushed, call after call.
-use Rattle.std.proofs.Common.{◌≡◌, ℕ, ◌+◌, ◌<◌, List, [], ◌++◌, append_assoc, append-nil, take, get_or, flat_map, length, refl, sym, ap, subst, ◌∙◌, Option, true, false}
+use Rattle.std.proofs.Common.{◌≡◌, ℕ, ◌+◌, ◌<◌, List, [], ◌++◌, append_assoc, append-nil, take, get_or, flat_map, length, refl, sym, ap, subst, ◌∙◌, Option, Some, Result, true, false}
+use Rattle.std.specs.Io.KnownBytes.{Appends}
+use Rattle.sas_lines.specs.Device.{Device}
 use Rattle.sas_lines.specs.declared.devices.Short.{Short}
 use Rattle.sas_output.specs.declared.sink.Sink.{Sink}
+use Rattle.sas_output.specs.declared.ending.Status.{Status}
+use Rattle.sas_output.specs.declared.ending.ToolFault.{ToolFault}
+use Rattle.sas_output.specs.Ending.{Output, EndsCounting}
 use Rattle.sas_output.specs.Pieces.{Piece, Puts, Breaks}
 use Rattle.sas_output.specs.Sink.{empty_piece, Pushed, PushedBy, Pushes}
 use Rattle.sas_output.proofs.Putting.{next_item, puts_then, puts_then_breaks, breaks_with_more}
@@ -62,3 +67,11 @@ module _ {W : Type 0} (contents : W → Option (List ℕ)) where
       → Pushes contents s t (flat_map says (take i items)) → Pushes contents t u (says (get_or items i d)) → Pushes contents s u (flat_map says (take (i + 1) items))
   pushes_item says items i d s t u h first second =
       subst (Pushes contents s u) (sym (next_item says items i d h)) (pushes_then s t u _ _ first second)
+
+  -- how a text ended, for the device that was borrowed
+  pub finish_ends : (s : Sink W) (start : Option (List ℕ)) (status : Status) (result : Result Status ToolFault) (now : Device W) (pushed text : List ℕ) → pushed ≡ text
+      → EndsCounting (λ (output : Option Output). output ≡ Some (record { text = pushed; status = status })) (Appends start (contents s.out.now.device)) result → s.out.now ≡ now
+      → EndsCounting (λ (output : Option Output). output ≡ Some (record { text = text; status = status })) (Appends start (contents now.device)) result
+  finish_ends s start status result now pushed text whole ends is =
+      subst (λ (t : List ℕ). EndsCounting (λ (output : Option Output). output ≡ Some (record { text = t; status = status })) (Appends start (contents now.device)) result) whole
+      (subst (λ (d : Device W). EndsCounting (λ (output : Option Output). output ≡ Some (record { text = pushed; status = status })) (Appends start (contents d.device)) result) is ends)

@@ -1,15 +1,14 @@
 // A text on its way to a device.
-ghost use Rattle.std.specs.Prelude.{◌≡◌, ℕ, List, [], ◌∷◌, ◌++◌, Option, Some, false, IfOk, IfErr, IsErr, IsErrAnd, IsTrue, ◌↔◌};
+ghost use Rattle.std.specs.Prelude.{◌≡◌, ℕ, List, [], ◌∷◌, ◌++◌, Option, Some, false, IfErr, IsErr, IsErrAnd, IsTrue, ◌↔◌};
 ghost use Rattle.std.specs.Io.KnownBytes.{Appends};
 ghost use Rattle.sas_output.specs.Ending.{EndsCounting, IsWrite};
-ghost use Rattle.sas_output.specs.Sink.{Pushed, Pushes};
+ghost use Rattle.sas_output.specs.Sink.{empty_piece, Pushed, Pushes};
 ghost use Rattle.sas_output.specs.Words.{numbered_line, words_line};
 
 use crate::ending::{Status, ToolFault};
 use crate::pieces::Pieces;
 use crate::words::{Numbered, Words};
 use sas_lines::Watched;
-use std::alloc::{AllocError, Global};
 use std::io::Write;
 
 /// A text on its way to a device. It goes out in pieces. After a failed write nothing more is written.
@@ -22,18 +21,18 @@ pub struct Sink<'w, W> {
 }
 
 impl<'w, W: Write> Sink<'w, W> {
-    /// Opens a text that goes to this device.
-    pub fn new(alloc: Global, out: &'w mut Watched<W>) -> Result<Sink<'w, W>, AllocError>
-        requires { out.old.failed ≡ false }
-        ensures same { IfOk result (λ sink. sink.out.ghost_name ≡ out.entry.ghost_name) }
-        ensures text { IfOk result (λ sink. Pushed W.contents (W.contents out.old.device) sink []) }
+    /// Opens a text that goes to this device by these pieces, which hold nothing.
+    pub fn new(pieces: Pieces, out: &'w mut Watched<W>) -> Sink<'w, W>
+        requires failed { out.old.failed ≡ false }
+        requires empty { pieces ≡ empty_piece }
+        ensures same { result.out.ghost_name ≡ out.entry.ghost_name }
+        ensures text { Pushed W.contents (W.contents out.old.device) result [] }
     {
-        let pieces = Pieces::new(alloc)?;
-        Ok(Sink {
+        Sink {
             out,
             pieces,
             short: 0,
-        })
+        }
     }
 
     /// Adds the bytes to the text.

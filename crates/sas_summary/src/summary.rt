@@ -1,44 +1,36 @@
 // The summary of a task, written as it is made: it may be far longer than the task.
-ghost use Rattle.std.specs.Prelude.{◌≡◌, ◌<◌, ◌^◌, ◌⊎◌, ◌↔◌, [], ◌∷◌, ◌++◌, length, false};
-ghost use Rattle.std.specs.Prelude.{Some, IfErr, IfOk, IsErr, IsErrAnd, IsTrue, OnOk};
+ghost use Rattle.std.specs.Prelude.{◌≡◌, ◌⊎◌, ◌↔◌, [], ◌∷◌, ◌++◌, false, Some, IfErr, IfOk, IsErrAnd, IsTrue, OnOk};
 ghost use Rattle.std.specs.Io.KnownBytes.{Appends};
 ghost use Rattle.sas_lines.specs.Lines.{text};
-ghost use Rattle.sas_output.specs.Ending.{Ends, IsWrite};
+ghost use Rattle.sas_output.specs.Ending.{EndsCounting, IsWrite};
 ghost use Rattle.sas_output.specs.Sink.{Pushes};
 ghost use Rattle.sas_summary.specs.Summary as spec;
 ghost use Rattle.sas_summary.specs.Summary.{summary_lines};
 
 use sas_flat::{Outline, Variables};
 use sas_lines::{Watched, push_number};
-use sas_output::{Indent, Sink, Status, ToolFault, Word, Words};
+use sas_output::{Indent, Pieces, Sink, Status, ToolFault, Word, Words};
 use std::alloc::{AllocError, Global};
 use std::io::Write;
 use std::marker::Model;
 
-/// The summary of a task with this outline. A `usize` can hold its length, so the bytes of it that are written can be
-/// counted.
+/// The summary of a task with this outline.
 #[derive(Drop)]
 pub struct Summary {
     outline: Outline,
 }
 
 impl Model for Summary {
-    ghost use Rattle.std.specs.Prelude.{◌<◌, ◌^◌, length};
-    ghost use Rattle.sas_lines.specs.Lines.{text};
     ghost use Rattle.sas_flat.specs.declared.outline.Outline.{Outline};
-    ghost use Rattle.sas_summary.specs.Summary.{summary_lines};
 
     ghost Value = { Outline };
 
     ghost view = { λ s. s.outline };
-
-    ghost invariant = { λ s. length (text (summary_lines s.outline)) < 2 ^ 64 };
 }
 
 impl Summary {
     /// Returns the summary of a task with this outline.
     pub fn new(outline: Outline) -> Summary
-        requires { length (text (summary_lines outline)) < 2 ^ 64 }
         ensures { result ≡ outline }
     {
         Summary { outline }
@@ -48,7 +40,7 @@ impl Summary {
     /// Not to be called after a failure.
     pub fn write<W: Write>(&self, alloc: Global, out: &mut Watched<W>) -> Result<Status, ToolFault>
         requires { out.old.failed ≡ false }
-        ensures ends { Ends
+        ensures ends { EndsCounting
             (λ output. output
             ≡ Some (record { text = text (summary_lines self.now); status = Status.Yes }))
             (Appends (W.contents out.old.device) (W.contents out.new.device)) result }
@@ -58,9 +50,19 @@ impl Summary {
     {
         // What takes memory comes first.
         let numbers = numbers_text(alloc, &self.outline)?;
-        let mut sink = Sink::new(alloc, out)?;
+        let pieces = Pieces::new(alloc)?;
+        let mut sink = Sink::new(pieces, out);
         push_summary(&mut sink, numbers.as_slice(), &self.outline);
-        sink.finish(Status::Yes)
+        let ended = sink.finish(Status::Yes);
+        let Sink {
+            out: device,
+            pieces,
+            short: _,
+        } = sink;
+        drop(pieces);
+        // No effect at run time. The proof reads what `out` holds from this use of `device`.
+        let _ = &*device;
+        ended
     }
 }
 

@@ -15,7 +15,7 @@ use itoa::Buffer;
 use sas_core::{Fact, Grounded};
 use sas_flat::FlatTask;
 use sas_lines::Watched;
-use sas_output::{Sink, Status, ToolFault, Word, Words};
+use sas_output::{Pieces, Sink, Status, ToolFault, Word, Words};
 use std::alloc::Global;
 use std::io::Write;
 
@@ -39,10 +39,20 @@ pub fn write_reasons<W: Write>(
     ensures writes { IsErrAnd result IsWrite ↔ IsTrue out.new.failed }
 {
     // What takes memory comes first.
-    let mut sink = Sink::new(alloc, out)?;
+    let pieces = Pieces::new(alloc)?;
+    let mut sink = Sink::new(pieces, out);
     sink.push(verdict);
     push_lines(&mut sink, named, lines);
-    sink.finish(Status::No)
+    let ended = sink.finish(Status::No);
+    let Sink {
+        out: device,
+        pieces,
+        short: _,
+    } = sink;
+    drop(pieces);
+    // No effect at run time. The proof reads what `out` holds from this use of `device`.
+    let _ = &*device;
+    ended
 }
 
 /// Adds the lines, each with its end, to the text.
