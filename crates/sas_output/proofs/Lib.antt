@@ -1,4 +1,5 @@
 mod Placed
+pub mod Pushing
 pub mod Putting
 pub mod Sent
 mod WordLines

@@ -27,7 +27,7 @@ row_of_both held x y gone between more rest e f =
     sym (append_assoc held x y) ∙ ap (λ (l : List ℕ). l ++ y) e ∙ append_assoc gone between y ∙ ap (λ (l : List ℕ). gone ++ l) f ∙ sym (append_assoc gone more rest)
 
 -- what the items up to the next one say
-next_item : {X : Type 0} (says : X → List ℕ) (items : List X) (i : ℕ) (d : X) → i < length items → flat_map says (take (i + 1) items) ≡ flat_map says (take i items) ++ says (get_or items i d)
+pub next_item : {X : Type 0} (says : X → List ℕ) (items : List X) (i : ℕ) (d : X) → i < length items → flat_map says (take (i + 1) items) ≡ flat_map says (take i items) ++ says (get_or items i d)
 next_item says items i d h =
     ap (flat_map says) (take_more items i d h)
     ∙ flat_map-append says (take i items) (get_or items i d ∷ [])

@@ -1,4 +1,5 @@
 pub mod Ending
 pub mod Pieces
 pub mod Placing
+pub mod Sink
 pub mod Words

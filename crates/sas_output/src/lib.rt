@@ -4,10 +4,12 @@
 mod ending;
 mod pieces;
 mod placing;
+mod sink;
 mod told;
 mod words;
 
 pub use ending::{Status, ToolFault};
 pub use pieces::Pieces;
+pub use sink::Sink;
 pub use told::Told;
 pub use words::{Indent, Numbered, Word, Words};

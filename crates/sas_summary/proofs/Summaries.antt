@@ -1,5 +1,5 @@
 -- The text of a summary, line by line.
-use Rattle.std.proofs.Common.{◌≡◌, ℕ, ◌+◌, ◌<◌, ◌≤◌, List, [], ◌∷◌, ◌++◌, length, take, get_or, codes, zero-add, arith, refl, sym, ap, subst, ◌∙◌, Option}
+use Rattle.std.proofs.Common.{◌≡◌, ℕ, ◌+◌, ◌<◌, ◌≤◌, List, [], ◌∷◌, ◌++◌, length, take, get_or, codes, zero-add, arith, refl, sym, ap, ◌∙◌}
 use Rattle.std.specs.List.{enumerate_from, flat_map}
 use Rattle.std.proofs.lemmas.Grind.{flat_map-append}
 use Rattle.std.proofs.lemmas.List.{take_all}
@@ -7,11 +7,8 @@ use Rattle.std.proofs.lemmas.List.FromFn.{length-enumerate_from, get_or-enumerat
 use Rattle.sas_core.specs.declared.parts.Fact.{Fact}
 use Rattle.sas_core.specs.declared.parts.Variable.{Variable}
 use Rattle.sas_lines.specs.Lines.{text}
-use Rattle.sas_lines.specs.declared.devices.Short.{Short}
 use Rattle.sas_flat.specs.declared.outline.Outline.{Outline}
-use Rattle.sas_output.specs.Pieces.{Piece, Puts, Breaks}
 use Rattle.sas_summary.specs.Summary.{number_lines, fact_lines, initial_lines, goal_fact_lines, summary_lines}
-use Rattle.sas_output.proofs.Putting.{item_puts, item_breaks}
 
 -- lines one after another
 text_of_both : (a b : List (List ℕ)) → text (a ++ b) ≡ text a ++ text b
@@ -42,32 +39,19 @@ module _ (variables : List Variable) where
   pub initial_is : (values : List ℕ) → text (initial_lines variables values) ≡ flat_map initial_text (enumerate_from 0 values)
   initial_is values = text_of_each (λ (var, value). fact_lines (codes "initial") variables var value) (enumerate_from 0 values)
 
-  pub goal_whole : (a b : Option (List ℕ)) (p q : Piece) (facts : List Fact) (n : ℕ) → length facts ≤ n → Puts a b p q (flat_map goal_text (take n facts)) → Puts a b p q (text (goal_fact_lines variables facts))
-  goal_whole a b p q facts n h puts =
-      subst (λ (l : List ℕ). Puts a b p q l) (ap (flat_map goal_text) (take_all n facts h) ∙ sym (goal_is facts)) puts
-
-  pub goal_breaks : (a b c : Option (List ℕ)) (p q r : Piece) (facts : List Fact) (i : ℕ) (d : Fact) (short : Short) → i < length facts → Puts a b p q (flat_map goal_text (take i facts)) → Breaks b c q (goal_text (get_or facts i d)) short → Breaks a c p (text (goal_fact_lines variables facts)) short
-  goal_breaks a b c p q r facts i d short h first second =
-      subst (λ (l : List ℕ). Breaks a c p l short) (sym (goal_is facts)) (item_breaks goal_text a b c p q r facts i d short h first second)
+  -- all items, so that the text is whole
+  pub goal_all : (facts : List Fact) (n : ℕ) → length facts ≤ n → flat_map goal_text (take n facts) ≡ text (goal_fact_lines variables facts)
+  goal_all facts n h = ap (flat_map goal_text) (take_all n facts h) ∙ sym (goal_is facts)
 
   module _ (values : List ℕ) where
-    within : (i : ℕ) → i < length values → i < length (enumerate_from 0 values)
+    pub initial_all : (n : ℕ) → length values ≤ n → flat_map initial_text (take n (enumerate_from 0 values)) ≡ text (initial_lines variables values)
+    initial_all n h =
+        let all = take_all n (enumerate_from 0 values) (omega (arith, h, length-enumerate_from 0 values)) in
+        ap (flat_map initial_text) all ∙ sym (initial_is values)
+
+    pub within : (i : ℕ) → i < length values → i < length (enumerate_from 0 values)
     within i h = omega (arith, h, length-enumerate_from 0 values)
 
     -- the value of a variable, as an item
-    item_is : (i : ℕ) → i < length values → initial_text (i, get_or values i 0) ≡ initial_text (get_or (enumerate_from 0 values) i (0, 0))
+    pub item_is : (i : ℕ) → i < length values → initial_text (i, get_or values i 0) ≡ initial_text (get_or (enumerate_from 0 values) i (0, 0))
     item_is i h = sym (ap initial_text (get_or-enumerate_from 0 values i (0, 0) h ∙ ap (λ (k : ℕ). (k, get_or values i 0)) (zero-add i)))
-
-    pub initial_whole : (a b : Option (List ℕ)) (p q : Piece) (n : ℕ) → length values ≤ n → Puts a b p q (flat_map initial_text (take n (enumerate_from 0 values))) → Puts a b p q (text (initial_lines variables values))
-    initial_whole a b p q n h puts =
-        let all = take_all n (enumerate_from 0 values) (omega (arith, h, length-enumerate_from 0 values)) in
-        subst (λ (l : List ℕ). Puts a b p q l) (ap (flat_map initial_text) all ∙ sym (initial_is values)) puts
-
-    pub initial_puts : (a b c : Option (List ℕ)) (p q r : Piece) (i : ℕ) → i < length values → Puts a b p q (flat_map initial_text (take i (enumerate_from 0 values))) → Puts b c q r (initial_text (i, get_or values i 0)) → Puts a c p r (flat_map initial_text (take (i + 1) (enumerate_from 0 values)))
-    initial_puts a b c p q r i h first second =
-        item_puts initial_text a b c p q r (enumerate_from 0 values) i (0, 0) (within i h) first (subst (λ (l : List ℕ). Puts b c q r l) (item_is i h) second)
-
-    pub initial_breaks : (a b c : Option (List ℕ)) (p q r : Piece) (i : ℕ) (short : Short) → i < length values → Puts a b p q (flat_map initial_text (take i (enumerate_from 0 values))) → Breaks b c q (initial_text (i, get_or values i 0)) short → Breaks a c p (text (initial_lines variables values)) short
-    initial_breaks a b c p q r i short h first second =
-        subst (λ (l : List ℕ). Breaks a c p l short) (sym (initial_is values))
-        (item_breaks initial_text a b c p q r (enumerate_from 0 values) i (0, 0) short (within i h) first (subst (λ (l : List ℕ). Breaks b c q l short) (item_is i h) second))

@@ -1,43 +1,36 @@
-// Writes the summary of a task in pieces, since it may be far longer than the task.
-ghost use Rattle.std.specs.Prelude.{◌≡◌, ◌<◌, ◌^◌, ◌⊎◌, ◌↔◌, [], ◌∷◌, ◌++◌, length, false};
-ghost use Rattle.std.specs.Prelude.{Some, IfErr, IfOk, IsErr, IsErrAnd, IsTrue, OnOk};
+// The summary of a task, written as it is made: it may be far longer than the task.
+ghost use Rattle.std.specs.Prelude.{◌≡◌, ◌⊎◌, ◌↔◌, [], ◌∷◌, ◌++◌, false, Some, IfErr, IfOk, IsErrAnd, IsTrue, OnOk};
 ghost use Rattle.std.specs.Io.KnownBytes.{Appends};
 ghost use Rattle.sas_lines.specs.Lines.{text};
-ghost use Rattle.sas_output.specs.Ending.{Ends, IsWrite};
-ghost use Rattle.sas_output.specs.Pieces.{PutsOrBreaks};
+ghost use Rattle.sas_output.specs.Ending.{EndsCounting, IsWrite};
+ghost use Rattle.sas_output.specs.Sink.{Pushes};
 ghost use Rattle.sas_summary.specs.Summary as spec;
 ghost use Rattle.sas_summary.specs.Summary.{summary_lines};
 
 use sas_flat::{Outline, Variables};
-use sas_lines::{Short, Watched, push_number};
-use sas_output::{Indent, Pieces, Status, ToolFault, Word, Words};
+use sas_lines::{Watched, push_number};
+use sas_output::{Indent, Pieces, Sink, Status, ToolFault, Word, Words};
 use std::alloc::{AllocError, Global};
 use std::io::Write;
 use std::marker::Model;
 
-/// The summary of a task with this outline. Its length fits into a `usize`, so the bytes written can be counted.
+/// The summary of a task with this outline.
 #[derive(Drop)]
 pub struct Summary {
     outline: Outline,
 }
 
 impl Model for Summary {
-    ghost use Rattle.std.specs.Prelude.{◌<◌, ◌^◌, length};
-    ghost use Rattle.sas_lines.specs.Lines.{text};
     ghost use Rattle.sas_flat.specs.declared.outline.Outline.{Outline};
-    ghost use Rattle.sas_summary.specs.Summary.{summary_lines};
 
     ghost Value = { Outline };
 
     ghost view = { λ s. s.outline };
-
-    ghost invariant = { λ s. length (text (summary_lines s.outline)) < 2 ^ 64 };
 }
 
 impl Summary {
     /// Returns the summary of a task with this outline.
     pub fn new(outline: Outline) -> Summary
-        requires { length (text (summary_lines outline)) < 2 ^ 64 }
         ensures { result ≡ outline }
     {
         Summary { outline }
@@ -47,7 +40,7 @@ impl Summary {
     /// nothing was written. The device must not have failed before.
     pub fn write<W: Write>(&self, alloc: Global, out: &mut Watched<W>) -> Result<Status, ToolFault>
         requires { out.old.failed ≡ false }
-        ensures ends { Ends
+        ensures ends { EndsCounting
             (λ output. output
             ≡ Some (record { text = text (summary_lines self.now); status = Status.Yes }))
             (Appends (W.contents out.old.device) (W.contents out.new.device)) result }
@@ -55,37 +48,33 @@ impl Summary {
             ⊎ ((e ≡ ToolFault.Memory) × (out.new ≡ out.old))) }
         ensures writes { IsErrAnd result IsWrite ↔ IsTrue out.new.failed }
     {
-        // All memory is allocated before the first write.
-        let mut pieces = Pieces::new(alloc)?;
+        // What takes memory comes first.
         let numbers = numbers_text(alloc, &self.outline)?;
-        match push_summary(&mut pieces, out, numbers.as_slice(), &self.outline) {
-            Ok(()) => Ok(Status::Yes),
-            Err(short) => Err(ToolFault::Write {
-                written: short.written,
-            }),
-        }
+        let pieces = Pieces::new(alloc)?;
+        let mut sink = Sink::new(pieces, out);
+        push_summary(&mut sink, numbers.as_slice(), &self.outline);
+        let ended = sink.finish(Status::Yes);
+        let Sink {
+            out: device,
+            pieces,
+            short: _,
+        } = sink;
+        drop(pieces);
+        // No effect at run time. The proof reads what `out` holds from this use of `device`.
+        let _ = &*device;
+        ended
     }
 }
 
-/// Writes these lines of numbers and the other lines of the summary, and flushes `pieces`.
-fn push_summary<W: Write>(
-    pieces: &mut Pieces,
-    out: &mut Watched<W>,
-    numbers: &[u8],
-    outline: &Outline,
-) -> Result<(), Short>
-    requires { out.old.failed ≡ false }
-    ensures puts { PutsOrBreaks (W.contents out.old.device) (W.contents out.new.device)
-        pieces.old pieces.new
+/// Adds these lines of numbers and the other lines of the summary.
+fn push_summary<W: Write>(sink: &mut Sink<'_, W>, numbers: &[u8], outline: &Outline)
+    ensures { Pushes W.contents sink.old sink.new
         (numbers.now ++ text (spec.initial_lines outline.now.variables outline.now.init)
-        ++ text (spec.goal_fact_lines outline.now.variables outline.now.goal)) result }
-    ensures empty { OnOk result (pieces.new.held ≡ []) }
-    ensures note { IsErr result ↔ IsTrue out.new.failed }
+        ++ text (spec.goal_fact_lines outline.now.variables outline.now.goal)) }
 {
-    pieces.push(out, numbers)?;
-    push_state(pieces, out, outline)?;
-    push_goal(pieces, out, outline)?;
-    pieces.flush(out)
+    sink.push(numbers);
+    push_state(sink, outline);
+    push_goal(sink, outline);
 }
 
 /// Returns the lines with the task's numbers, each ended by LF.
@@ -138,90 +127,53 @@ struct Valued {
     value: u32,
 }
 
-/// Adds a line for each variable, with its value in the state section.
-fn push_state<W: Write>(
-    pieces: &mut Pieces,
-    out: &mut Watched<W>,
-    outline: &Outline,
-) -> Result<(), Short>
-    requires { out.old.failed ≡ false }
-    ensures puts { PutsOrBreaks (W.contents out.old.device) (W.contents out.new.device)
-        pieces.old pieces.new
-        (text (spec.initial_lines outline.now.variables outline.now.init)) result }
-    ensures note { IsErr result ↔ IsTrue out.new.failed }
+/// Adds a line for each variable: its value in the state section.
+fn push_state<W: Write>(sink: &mut Sink<'_, W>, outline: &Outline)
+    ensures { Pushes W.contents sink.old sink.new
+        (text (spec.initial_lines outline.now.variables outline.now.init)) }
 {
     for (var, value) in outline.init.as_slice().iter().enumerate() {
         let valued = Valued { var, value: *value };
-        push_fact(pieces, out, b"initial", outline, valued)?;
+        push_fact(sink, b"initial", outline, valued);
     }
-    Ok(())
 }
 
 /// Adds a line for each fact of the goal.
-fn push_goal<W: Write>(
-    pieces: &mut Pieces,
-    out: &mut Watched<W>,
-    outline: &Outline,
-) -> Result<(), Short>
-    requires { out.old.failed ≡ false }
-    ensures puts { PutsOrBreaks (W.contents out.old.device) (W.contents out.new.device)
-        pieces.old pieces.new
-        (text (spec.goal_fact_lines outline.now.variables outline.now.goal)) result }
-    ensures note { IsErr result ↔ IsTrue out.new.failed }
+fn push_goal<W: Write>(sink: &mut Sink<'_, W>, outline: &Outline)
+    ensures { Pushes W.contents sink.old sink.new
+        (text (spec.goal_fact_lines outline.now.variables outline.now.goal)) }
 {
     for fact in outline.goal.as_slice() {
         let valued = Valued {
             var: fact.var as usize,
             value: fact.value,
         };
-        push_fact(pieces, out, b"goal", outline, valued)?;
+        push_fact(sink, b"goal", outline, valued);
     }
-    Ok(())
 }
 
-/// Adds the line with a word, a fact and the name of its value. A fact that doesn't exist has no line.
-fn push_fact<W: Write>(
-    pieces: &mut Pieces,
-    out: &mut Watched<W>,
-    word: &[u8],
-    outline: &Outline,
-    valued: Valued,
-) -> Result<(), Short>
-    requires { out.old.failed ≡ false }
-    ensures puts { PutsOrBreaks (W.contents out.old.device) (W.contents out.new.device)
-        pieces.old pieces.new
-        (text (spec.fact_lines word.now outline.now.variables valued.var valued.value))
-        result }
-    ensures note { IsErr result ↔ IsTrue out.new.failed }
+/// Adds the line of a word and a fact, with the name of the fact's value. A fact that doesn't exist has no line.
+fn push_fact<W: Write>(sink: &mut Sink<'_, W>, word: &[u8], outline: &Outline, valued: Valued)
+    ensures { Pushes W.contents sink.old sink.new
+        (text (spec.fact_lines word.now outline.now.variables valued.var valued.value)) }
 {
     let variables = &outline.variables;
-    match variables.value_name(valued.var, valued.value as usize) {
-        Some(name) => push_fact_line(pieces, out, word, valued, name),
-        None => Ok(()),
+    if let Some(name) = variables.value_name(valued.var, valued.value as usize) {
+        push_fact_line(sink, word, valued, name);
     }
 }
 
-/// Adds the line with a word, a variable, its value and the value's name.
-fn push_fact_line<W: Write>(
-    pieces: &mut Pieces,
-    out: &mut Watched<W>,
-    word: &[u8],
-    valued: Valued,
-    name: &[u8],
-) -> Result<(), Short>
-    requires { out.old.failed ≡ false }
-    ensures puts { PutsOrBreaks (W.contents out.old.device) (W.contents out.new.device)
-        pieces.old pieces.new
-        (spec.fact_line word.now valued.var valued.value name.now ++ 10 ∷ []) result }
-    ensures note { IsErr result ↔ IsTrue out.new.failed }
+/// Adds the line of a word, a variable, its value and the value's name.
+fn push_fact_line<W: Write>(sink: &mut Sink<'_, W>, word: &[u8], valued: Valued, name: &[u8])
+    ensures { Pushes W.contents sink.old sink.new
+        (spec.fact_line word.now valued.var valued.value name.now ++ 10 ∷ []) }
 {
     let var = Word::Number(valued.var as u64);
     let value = Word::Number(valued.value as u64);
     let rest = [var, value, Word::Text(name)];
-    let line = Words {
+    sink.push_line(Words {
         indent: Indent::None,
         first: word,
         rest: &rest,
-    };
-    pieces.push_line(out, line)
+    });
 }

@@ -1,22 +1,16 @@
-use Rattle.std.proofs.Common.{arith}
-use Rattle.std.proofs.lemmas.Result.{err_from_is_err_and}
-use Rattle.sas_output.proofs.Putting.{no_failure}
-use Rattle.sas_summary.proofs.Summaries.{initial_whole, initial_puts, initial_breaks}
+use Rattle.std.proofs.Common.{arith, subst}
+use Rattle.sas_output.specs.Sink.{Pushes}
+use Rattle.sas_output.proofs.Pushing.{pushes_item}
+use Rattle.sas_summary.proofs.Summaries.{initial_text, initial_all, item_is, within}
 use Rattle.sas_summary.proofs.summary.push_state.Goals as goal
 
-pub returns-in_err-push_fact-clause-puts : goal.returns-in_err-push_fact-clause-puts
-returns-in_err-push_fact-clause-puts g c =
-    let p = err_from_is_err_and c.from_residual.result c.from_residual.ensures.1 in
-    let broken = initial_breaks c.args.outline.now.variables _ _ _ _ _ _ c.push_fact.new.pieces _ _ c.loop-var-test.true c.loop-var.invariant.puts c.in_err-push_fact.ensures.puts in
-    rw (p.1, p.2) (rw c.as_slice-value-items.ensures at broken)
-
 pub loop-var-preserved : goal.loop-var-preserved
-loop-var-preserved g c = record {
-  note = no_failure _ c.in_ok-push_fact.ensures.note;
-  puts = initial_puts c.args.outline.now.variables _ _ _ _ _ _ _ _ c.loop-var-test.true c.loop-var.invariant.puts c.in_ok-push_fact.ensures.puts;
-}
+loop-var-preserved g c =
+    let below = c.loop-var-test.true in
+    let put = subst (Pushes g.W.Write.contents _ _) (item_is c.args.outline.now.variables _ _ below) c.push_fact.ensures in
+    pushes_item _ (initial_text c.args.outline.now.variables) _ _ (0, 0) _ _ _ (within c.args.outline.now.variables _ _ below) c.loop-var.invariant put
 
-pub returns-clause-puts : goal.returns-clause-puts
-returns-clause-puts g c =
-    let all = initial_whole c.args.outline.now.variables _ _ _ _ _ _ (omega (arith, c.loop-var-test.false)) c.loop-var.invariant.puts in
-    rw c.as_slice-value-items.ensures at all
+pub returns : goal.returns
+returns g c =
+    let all = initial_all c.args.outline.now.variables _ _ (omega (arith, c.loop-var-test.false)) in
+    rw c.as_slice-value-items.ensures at (subst (Pushes g.W.Write.contents _ _) all c.loop-var.invariant)

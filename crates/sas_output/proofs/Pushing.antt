@@ -1,0 +1,77 @@
+-- Bytes that are pushed, call after call.
+use Rattle.std.proofs.Common.{◌≡◌, ℕ, ◌+◌, ◌<◌, List, [], ◌++◌, append_assoc, append-nil, take, get_or, flat_map, length, refl, sym, ap, subst, ◌∙◌, Option, Some, Result, true, false}
+use Rattle.std.specs.Io.KnownBytes.{Appends}
+use Rattle.sas_lines.specs.Device.{Device}
+use Rattle.sas_lines.specs.declared.devices.Short.{Short}
+use Rattle.sas_output.specs.declared.sink.Sink.{Sink}
+use Rattle.sas_output.specs.declared.ending.Status.{Status}
+use Rattle.sas_output.specs.declared.ending.ToolFault.{ToolFault}
+use Rattle.sas_output.specs.Ending.{Output, EndsCounting}
+use Rattle.sas_output.specs.Pieces.{Piece, Puts, Breaks}
+use Rattle.sas_output.specs.Sink.{empty_piece, Pushed, PushedBy, Pushes}
+use Rattle.sas_output.proofs.Putting.{next_item, puts_then, puts_then_breaks, breaks_with_more}
+
+-- the last bytes that are held go out, or break off
+pub finish_puts : (a b c : Option (List ℕ)) (p q r : Piece) (text : List ℕ) → Puts a b p q text → Puts b c q r [] → Puts a c p r text
+finish_puts a b c p q r text first second = subst (Puts a c p r) (append-nil text) (puts_then a b p q text c r [] first second)
+
+pub finish_breaks : (a b c : Option (List ℕ)) (p q : Piece) (text : List ℕ) (short : Short) → Puts a b p q text → Breaks b c q [] short → Breaks a c p text short
+finish_breaks a b c p q text short first second = subst (λ (l : List ℕ). Breaks a c p l short) (append-nil text) (puts_then_breaks a b p q text c [] short first second)
+
+module _ {W : Type 0} (contents : W → Option (List ℕ)) where
+  -- nothing was pushed
+  pub pushes_none : (s : Sink W) → Pushes contents s s []
+  pushes_none s = record {
+    same = refl;
+    text = λ start text pushed. subst (Pushed contents start s) (sym (append-nil text)) pushed;
+  }
+
+  -- bytes were pushed, and others behind them
+  pub pushes_then : (s t u : Sink W) (x y : List ℕ) → Pushes contents s t x → Pushes contents t u y → Pushes contents s u (x ++ y)
+  pushes_then s t u x y first second = record {
+    same = second.same ∙ first.same;
+    text = λ start text pushed. subst (Pushed contents start u) (append_assoc text x y) (second.text start (text ++ x) (first.text start text pushed));
+  }
+
+  -- after a failed write nothing more is written
+  pub pushes_lost : (s : Sink W) (bytes : List ℕ) → s.out.now.failed ≡ true → Pushes contents s s bytes
+  pushes_lost s bytes failed = record {
+    same = refl;
+    text = λ start text pushed.
+        let by = subst (PushedBy start (contents s.out.now.device) s.pieces s.short text) failed pushed in
+        subst (PushedBy start (contents s.out.now.device) s.pieces s.short (text ++ bytes)) (sym failed)
+        (breaks_with_more start (contents s.out.now.device) empty_piece empty_piece text bytes (record { written = s.short }) by);
+  }
+
+  -- what was pushed as long as no write failed
+  pub puts_so_far : (s : Sink W) → s.out.now.failed ≡ false → (start : Option (List ℕ)) (text : List ℕ) → Pushed contents start s text → Puts start (contents s.out.now.device) empty_piece s.pieces text
+  puts_so_far s well start text pushed = subst (PushedBy start (contents s.out.now.device) s.pieces s.short text) well pushed
+
+  module _ (s t : Sink W) (bytes : List ℕ) (same : t.out.ghost_name ≡ s.out.ghost_name) (well : s.out.now.failed ≡ false) where
+    pub pushes_put : t.out.now.failed ≡ false → Puts (contents s.out.now.device) (contents t.out.now.device) s.pieces t.pieces bytes → Pushes contents s t bytes
+    pushes_put is puts = record {
+      same = same;
+      text = λ start text pushed. subst (PushedBy start (contents t.out.now.device) t.pieces t.short (text ++ bytes)) (sym is)
+          (puts_then start (contents s.out.now.device) empty_piece s.pieces text (contents t.out.now.device) t.pieces bytes (puts_so_far s well start text pushed) puts);
+    }
+
+    pub pushes_broken : t.out.now.failed ≡ true → Breaks (contents s.out.now.device) (contents t.out.now.device) s.pieces bytes (record { written = t.short }) → Pushes contents s t bytes
+    pushes_broken is broken = record {
+      same = same;
+      text = λ start text pushed. subst (PushedBy start (contents t.out.now.device) t.pieces t.short (text ++ bytes)) (sym is)
+          (puts_then_breaks start (contents s.out.now.device) empty_piece s.pieces text (contents t.out.now.device) bytes (record { written = t.short }) (puts_so_far s well start text pushed) broken);
+    }
+
+  -- the bytes of the next item, behind those of the items before it
+  pub pushes_item : {X : Type 0} (says : X → List ℕ) (items : List X) (i : ℕ) (d : X) (s t u : Sink W) → i < length items
+      → Pushes contents s t (flat_map says (take i items)) → Pushes contents t u (says (get_or items i d)) → Pushes contents s u (flat_map says (take (i + 1) items))
+  pushes_item says items i d s t u h first second =
+      subst (Pushes contents s u) (sym (next_item says items i d h)) (pushes_then s t u _ _ first second)
+
+  -- how a text ended, for the device that was borrowed
+  pub finish_ends : (s : Sink W) (start : Option (List ℕ)) (status : Status) (result : Result Status ToolFault) (now : Device W) (pushed text : List ℕ) → pushed ≡ text
+      → EndsCounting (λ (output : Option Output). output ≡ Some (record { text = pushed; status = status })) (Appends start (contents s.out.now.device)) result → s.out.now ≡ now
+      → EndsCounting (λ (output : Option Output). output ≡ Some (record { text = text; status = status })) (Appends start (contents now.device)) result
+  finish_ends s start status result now pushed text whole ends is =
+      subst (λ (t : List ℕ). EndsCounting (λ (output : Option Output). output ≡ Some (record { text = t; status = status })) (Appends start (contents now.device)) result) whole
+      (subst (λ (d : Device W). EndsCounting (λ (output : Option Output). output ≡ Some (record { text = pushed; status = status })) (Appends start (contents d.device)) result) is ends)

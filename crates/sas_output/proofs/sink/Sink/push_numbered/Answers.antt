@@ -1,0 +1,13 @@
+use Rattle.std.proofs.Common.{sym, ◌∙◌, refl}
+use Rattle.sas_output.proofs.Putting.{no_failure}
+use Rattle.sas_output.proofs.Pushing.{pushes_lost, pushes_put, pushes_broken}
+use Rattle.sas_output.proofs.sink.Sink.push_numbered.Goals as goal
+
+pub returns-then-failed : goal.returns-then-failed
+returns-then-failed g c = pushes_lost g.W.Write.contents _ _ (sym c.failed.ensures ∙ c.if-failed.true)
+
+pub returns-in-Err : goal.returns-in-Err
+returns-in-Err g c = pushes_broken g.W.Write.contents _ _ _ refl (sym c.failed.ensures ∙ c.if-failed.false) (c.in-Err.ensures.note.0 refl) c.in-Err.ensures.puts
+
+pub returns-in_default : goal.returns-in_default
+returns-in_default g c = pushes_put g.W.Write.contents _ _ _ refl (sym c.failed.ensures ∙ c.if-failed.false) (no_failure _ c.in_default.ensures.note) c.in_default.ensures.puts

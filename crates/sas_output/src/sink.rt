@@ -1,0 +1,98 @@
+// A text on its way to a device.
+ghost use Rattle.std.specs.Prelude.{◌≡◌, ℕ, List, [], ◌∷◌, ◌++◌, Option, Some, false, IfErr, IsErr, IsErrAnd, IsTrue, ◌↔◌};
+ghost use Rattle.std.specs.Io.KnownBytes.{Appends};
+ghost use Rattle.sas_output.specs.Ending.{EndsCounting, IsWrite};
+ghost use Rattle.sas_output.specs.Sink.{empty_piece, Pushed, Pushes};
+ghost use Rattle.sas_output.specs.Words.{numbered_line, words_line};
+
+use crate::ending::{Status, ToolFault};
+use crate::pieces::Pieces;
+use crate::words::{Numbered, Words};
+use sas_lines::Watched;
+use std::io::Write;
+
+/// A text on its way to a device. It goes out in pieces. After a failed write nothing more is written.
+#[derive(Drop)]
+pub struct Sink<'w, W> {
+    pub out: &'w mut Watched<W>,
+    pub pieces: Pieces,
+    /// How many bytes had been written when a write failed.
+    pub short: usize,
+}
+
+impl<'w, W: Write> Sink<'w, W> {
+    /// Opens a text that goes to this device by these pieces, which hold nothing.
+    pub fn new(pieces: Pieces, out: &'w mut Watched<W>) -> Sink<'w, W>
+        requires failed { out.old.failed ≡ false }
+        requires empty { pieces ≡ empty_piece }
+        ensures same { result.out.ghost_name ≡ out.entry.ghost_name }
+        ensures text { Pushed W.contents (W.contents out.old.device) result [] }
+    {
+        Sink {
+            out,
+            pieces,
+            short: 0,
+        }
+    }
+
+    /// Adds the bytes to the text.
+    pub fn push(&mut self, bytes: &[u8])
+        ensures { Pushes W.contents self.old self.new bytes.now }
+    {
+        if self.out.failed() {
+            return;
+        }
+        if let Err(short) = self.pieces.push(self.out, bytes) {
+            self.short = short.written;
+        }
+    }
+
+    /// Adds the line and its end, LF, to the text.
+    #[inline(always)]
+    pub fn push_line(&mut self, line: Words<'_>)
+        ensures { Pushes W.contents self.old self.new (words_line line.entry ++ 10 ∷ []) }
+    {
+        if self.out.failed() {
+            return;
+        }
+        if let Err(short) = self.pieces.push_line(self.out, line) {
+            self.short = short.written;
+        }
+    }
+
+    /// Adds the line and its end, LF, to the text. Where many lines are of this form it is faster than `push_line`: there is no list
+    /// of words to be gone through.
+    #[inline(always)]
+    pub fn push_numbered(&mut self, line: Numbered<'_>)
+        ensures { Pushes W.contents self.old self.new (numbered_line line.entry ++ 10 ∷ []) }
+    {
+        if self.out.failed() {
+            return;
+        }
+        if let Err(short) = self.pieces.push_numbered(self.out, line) {
+            self.short = short.written;
+        }
+    }
+
+    /// Writes what is held back, and returns the status, or that a write failed.
+    pub fn finish(&mut self, status: Status) -> Result<Status, ToolFault>
+        ensures same { self.new.out.ghost_name ≡ self.old.out.ghost_name }
+        ensures ends { (start : Option (List ℕ)) (text : List ℕ) → Pushed W.contents start self.old text
+            → EndsCounting (λ output. output ≡ Some (record { text = text; status = status }))
+            (Appends start (W.contents self.new.out.now.device)) result }
+        ensures write { IfErr result IsWrite }
+        ensures note { IsErrAnd result IsWrite ↔ IsTrue self.new.out.now.failed }
+    {
+        if self.out.failed() {
+            return Err(ToolFault::Write {
+                written: self.short,
+            });
+        }
+        match self.pieces.flush(self.out) {
+            Ok(()) => Ok(status),
+            Err(short) => Err(ToolFault::Write {
+                written: short.written,
+            }),
+        }
+    }
+}
