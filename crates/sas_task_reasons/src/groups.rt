@@ -6,7 +6,7 @@ ghost use Rattle.sas_lines.specs.Lines.{text};
 ghost use Rattle.sas_answers.specs.GroupWords.{group_line};
 ghost use Rattle.sas_group_reasons.specs.Reasons.{reason_at};
 ghost use Rattle.sas_output.specs.Ending.{EndsCounting, IsWrite};
-ghost use Rattle.sas_output.specs.Pieces.{PutsOrBreaks};
+ghost use Rattle.sas_output.specs.Sink.{Pushes};
 ghost use Rattle.sas_output.specs.Words.{line, word_bytes};
 ghost use Rattle.sas_wording.specs.Line.{reasons_text};
 ghost use Rattle.sas_task_reasons.specs.WhyGroups as spec;
@@ -16,10 +16,10 @@ use crate::facts::member_of;
 use crate::verdicts::groups_status;
 use sas_flat::FlatTask;
 use sas_group_reasons::{Failure, Reason, group_reasons};
-use sas_lines::{Short, Watched};
+use sas_lines::Watched;
 use sas_meaning::Layered;
 use sas_mutex::{Verdict, check_groups};
-use sas_output::{Indent, Pieces, Status, ToolFault, Word, Words};
+use sas_output::{Indent, Pieces, Sink, Status, ToolFault, Word, Words};
 use sas_wording::{Line, Named, push_lines};
 use std::alloc::Global;
 use std::io::Write;
@@ -43,47 +43,30 @@ pub fn write_groups<W: Write>(
     let verdicts = check_groups(alloc, task)?;
     let told = verdicts.as_slice();
     let reasons = group_reasons(alloc, task, told)?;
-    let mut pieces = Pieces::new(alloc)?;
-    match push_all(&mut pieces, out, task.task(), told, reasons.as_slice()) {
-        Ok(()) => Ok(groups_status(told)),
-        Err(short) => Err(ToolFault::Write {
-            written: short.written,
-        }),
-    }
-}
-
-/// Writes the lines of all groups. In the end nothing is held back.
-fn push_all<W: Write>(
-    pieces: &mut Pieces,
-    out: &mut Watched<W>,
-    task: &FlatTask,
-    verdicts: &[Verdict],
-    reasons: &[Option<Reason>],
-) -> Result<(), Short>
-    requires { out.old.failed ≡ false }
-    ensures puts { PutsOrBreaks (W.contents out.old.device) (W.contents out.new.device)
-        pieces.old pieces.new
-        (text (why_lines task.now verdicts.now reasons.now)) result }
-    ensures empty { OnOk result (pieces.new.held ≡ []) }
-    ensures note { IsErr result ↔ IsTrue out.new.failed }
-{
-    push_groups(pieces, out, task, verdicts, reasons)?;
-    pieces.flush(out)
+    let pieces = Pieces::new(alloc)?;
+    let mut sink = Sink::new(pieces, out);
+    push_groups(&mut sink, task.task(), told, reasons.as_slice());
+    let ended = sink.finish(groups_status(told));
+    let Sink {
+        out: device,
+        pieces,
+        short: _,
+    } = sink;
+    drop(pieces);
+    // No effect at run time. The proof reads what `out` holds from this use of `device`.
+    let _ = &*device;
+    ended
 }
 
 /// Adds the lines of all groups, each with its end, to the text.
 fn push_groups<W: Write>(
-    pieces: &mut Pieces,
-    out: &mut Watched<W>,
+    sink: &mut Sink<'_, W>,
     task: &FlatTask,
     verdicts: &[Verdict],
     reasons: &[Option<Reason>],
-) -> Result<(), Short>
-    requires { out.old.failed ≡ false }
-    ensures puts { PutsOrBreaks (W.contents out.old.device) (W.contents out.new.device)
-        pieces.old pieces.new
-        (text (why_lines task.now verdicts.now reasons.now)) result }
-    ensures note { IsErr result ↔ IsTrue out.new.failed }
+)
+    ensures { Pushes W.contents sink.old sink.new
+        (text (why_lines task.now verdicts.now reasons.now)) }
 {
     for (place, verdict) in verdicts.iter().enumerate() {
         let group = Group {
@@ -91,9 +74,8 @@ fn push_groups<W: Write>(
             verdict: *verdict,
             reason: reason_of(reasons, place),
         };
-        push_group(pieces, out, task, group)?;
+        push_group(sink, task, group);
     }
-    Ok(())
 }
 
 /// The verdict on the group at a place, and why it isn't exclusive.
@@ -113,41 +95,32 @@ fn reason_of(reasons: &[Option<Reason>], place: usize) -> Option<Reason>
 
 /// Adds the lines of the group, each with its end, to the text.
 fn push_group<W: Write>(
-    pieces: &mut Pieces,
-    out: &mut Watched<W>,
+    sink: &mut Sink<'_, W>,
     task: &FlatTask,
     group: Group,
-) -> Result<(), Short>
-    requires { out.old.failed ≡ false }
-    ensures puts { PutsOrBreaks (W.contents out.old.device) (W.contents out.new.device)
-        pieces.old pieces.new
-        (text (spec.group_lines task.now group.place group.verdict group.reason)) result }
-    ensures note { IsErr result ↔ IsTrue out.new.failed }
+)
+    ensures { Pushes W.contents sink.old sink.new
+        (text (spec.group_lines task.now group.place group.verdict group.reason)) }
 {
-    push_verdict(pieces, out, group.place, group.verdict)?;
-    match group.reason {
-        Some(reason) => push_why(pieces, out, task, group.place, reason),
-        None => Ok(()),
+    push_verdict(sink, group.place, group.verdict);
+    if let Some(reason) = group.reason {
+        push_why(sink, task, group.place, reason);
     }
 }
 
 /// Adds the line of the verdict on the group at this place, and its end.
 fn push_verdict<W: Write>(
-    pieces: &mut Pieces,
-    out: &mut Watched<W>,
+    sink: &mut Sink<'_, W>,
     place: usize,
     verdict: Verdict,
-) -> Result<(), Short>
-    requires { out.old.failed ≡ false }
-    ensures puts { PutsOrBreaks (W.contents out.old.device) (W.contents out.new.device)
-        pieces.old pieces.new
-        (group_line place verdict ++ 10 ∷ []) result }
-    ensures note { IsErr result ↔ IsTrue out.new.failed }
+)
+    ensures { Pushes W.contents sink.old sink.new
+        (group_line place verdict ++ 10 ∷ []) }
 {
     let group = Word::Number(place as u64);
     match verdict {
-        Verdict::Exclusive => push_words(pieces, out, &[group, Word::Text(b"exclusive")]),
-        Verdict::Derived => push_words(pieces, out, &[group, Word::Text(b"derived")]),
+        Verdict::Exclusive => push_words(sink, &[group, Word::Text(b"exclusive")]),
+        Verdict::Derived => push_words(sink, &[group, Word::Text(b"derived")]),
         Verdict::Initial => push_words(
             pieces,
             out,
@@ -156,55 +129,47 @@ fn push_verdict<W: Write>(
         Verdict::Broken { operator } => {
             let words = Word::Text(b"not shown: operator");
             let number = Word::Number(u64::from(operator));
-            push_words(pieces, out, &[group, words, number])
+            push_words(sink, &[group, words, number])
         }
     }
 }
 
 /// Adds the line of the word for a group and these words, and its end.
 fn push_words<W: Write>(
-    pieces: &mut Pieces,
-    out: &mut Watched<W>,
+    sink: &mut Sink<'_, W>,
     words: &[Word<'_>],
-) -> Result<(), Short>
-    requires { out.old.failed ≡ false }
-    ensures puts { PutsOrBreaks (W.contents out.old.device) (W.contents out.new.device)
-        pieces.old pieces.new
-        (line 0 (codes "group" ∷ map word_bytes words.now) ++ 10 ∷ []) result }
-    ensures note { IsErr result ↔ IsTrue out.new.failed }
+)
+    ensures { Pushes W.contents sink.old sink.new
+        (line 0 (codes "group" ∷ map word_bytes words.now) ++ 10 ∷ []) }
 {
     let line = Words {
         indent: Indent::None,
         first: b"group",
         rest: words,
     };
-    pieces.push_line(out, line)
+    sink.push_line(line);
 }
 
 /// Adds the lines of the reason why the group at this place isn't exclusive, each with its end.
 fn push_why<W: Write>(
-    pieces: &mut Pieces,
-    out: &mut Watched<W>,
+    sink: &mut Sink<'_, W>,
     task: &FlatTask,
     group: usize,
     reason: Reason,
-) -> Result<(), Short>
-    requires { out.old.failed ≡ false }
-    ensures puts { PutsOrBreaks (W.contents out.old.device) (W.contents out.new.device)
-        pieces.old pieces.new
-        (reasons_text task.now [] (spec.reason_lines task.now group reason)) result }
-    ensures note { IsErr result ↔ IsTrue out.new.failed }
+)
+    ensures { Pushes W.contents sink.old sink.new
+        (reasons_text task.now [] (spec.reason_lines task.now group reason)) }
 {
     let named = Named { task, plan: None };
     match reason {
-        Reason::OnDerived { fact } => push_lines(pieces, out, &named, &[Line::Derived { fact }]),
+        Reason::OnDerived { fact } => push_lines(sink, &named, &[Line::Derived { fact }]),
         Reason::HoldsTwo { first, second } => {
             let lines = [Line::Holds { fact: first }, Line::Holds { fact: second }];
-            push_lines(pieces, out, &named, &lines)
+            push_lines(sink, &named, &lines)
         }
         Reason::Breaks { operator, failure } => {
             let lines = failure_lines(task, group, operator, failure);
-            push_lines(pieces, out, &named, &lines)
+            push_lines(sink, &named, &lines)
         }
     }
 }
