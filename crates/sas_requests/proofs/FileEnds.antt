@@ -35,10 +35,10 @@ use Rattle.sas_output.specs.declared.ending.Status.{Status}
 use Rattle.sas_output.specs.declared.ending.ToolFault.{ToolFault}
 use Rattle.sas_output.specs.declared.ending.ToolFault.TheVariants as tool_fault
 use Rattle.sas_output.specs.Ending.{Output, Ends, EndsCounting, IsDecided, IsWrite}
-use Rattle.sas_output.proofs.Sent.{counting_ends}
+use Rattle.sas_output.proofs.Sent.{counting_ends, ends_counting_as}
 use Rattle.sas_task_reasons.proofs.TaskAnswers.{not_memory}
 use Rattle.sas_outputs.specs.Output.{refusal, IsAnswerOrRefusal}
-use Rattle.sas_outputs.proofs.Endings.{ends_counting_as}
+use Rattle.sas_outputs.proofs.Endings.{ends_counting_by}
 use Rattle.sas_outputs.proofs.Outputs.{refused_kind, too_long_else, reading_of_refusal}
 use Rattle.sas_outputs.proofs.PlanOutputs.{told_fault}
 use Rattle.sas_requests.specs.declared.detail.Detail.{Detail}
@@ -62,11 +62,7 @@ unread Q r starved is =
 module _ (Sent : List ℕ → Type 0) where
   -- what ends with one output ends with another that follows from it
   pub ends_by : (A B : Option Output → Type 0) (r : Result Status ToolFault) → ((o : Option Output) → A o → B o) → EndsCounting A Sent r → EndsCounting B Sent r
-  ends_by A B (Ok status) to (output, is, same, sent) = (output, to (Some output) is, same, sent)
-  ends_by A B (Err (tool_fault.Write written)) to (number, counts, (output, is, less, sent)) = (number, counts, (output, to (Some output) is, less, sent))
-  ends_by A B (Err tool_fault.TooLong) to is = to None is
-  ends_by A B (Err tool_fault.Memory) to is = tt
-  ends_by A B (Err tool_fault.Read) to is = tt
+  ends_by A B r to = ends_counting_by Sent A B r (λ decided. to)
 
   -- what ends with this output ends with one that is such an answer
   pub ends_some : (P : Output → Type 0) (o : Output) (r : Result Status ToolFault) → P o → Ends (λ output. output ≡ Some o) Sent r → EndsCounting (λ output. IsSomeAnd output P) Sent r
@@ -146,10 +142,10 @@ module _ {D V I S A : Type 0} (left : D → Option (List ℕ)) (F : Format V I S
 
   -- so it is where the answer is this output
   pub ends_text : (a : A) (x : Output) (r : Result Status ToolFault) → ReadsAll left F Gives old new (Ok a) → ((b : List ℕ) → Gives b a → (v : V) × ReadsAs F most_bytes b (Ok v) × IsAnswer v x)
-      → Ends (λ o. o ≡ Some x) Sent r → (IsErrOf r tool_fault.Read → ⊥) → EndsFile left FileOutput Sent old new r
+      → EndsCounting (λ o. o ≡ Some x) Sent r → (IsErrOf r tool_fault.Read → ⊥) → EndsFile left FileOutput Sent old new r
   ends_text a x r read gives ends never =
       ends_value a (λ o. o ≡ x) (λ b given o is. let (v, reads, answer) = gives b given in (v, reads, subst (IsAnswer v) (sym is) answer)) r read
-      (ends_some Sent (λ o. o ≡ x) x r refl ends) never
+      (ends_counting_as x Sent (λ output. IsSomeAnd output (λ o. o ≡ x)) r refl ends) never
 
   -- and where the answers are others that follow
   pub ends_more : (Other : V → Output → Type 0) → ((v : V) (o : Output) → IsAnswer v o → Other v o) → (r : Result Status ToolFault) → EndsFile left FileOutput Sent old new r → EndsFile left (FileBy F Tells name detail Other) Sent old new r

@@ -121,11 +121,7 @@ fn push_verdict<W: Write>(
     match verdict {
         Verdict::Exclusive => push_words(sink, &[group, Word::Text(b"exclusive")]),
         Verdict::Derived => push_words(sink, &[group, Word::Text(b"derived")]),
-        Verdict::Initial => push_words(
-            pieces,
-            out,
-            &[group, Word::Text(b"not shown: initial state")],
-        ),
+        Verdict::Initial => push_words(sink, &[group, Word::Text(b"not shown: initial state")]),
         Verdict::Broken { operator } => {
             let words = Word::Text(b"not shown: operator");
             let number = Word::Number(u64::from(operator));

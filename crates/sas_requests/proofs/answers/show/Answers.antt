@@ -9,11 +9,7 @@ use Rattle.sas_summary.specs.Summary.{summary_lines}
 use Rattle.sas_outputs.specs.Output.{ShowAnswer}
 use Rattle.sas_requests.specs.FileReasons.{TellsTask}
 use Rattle.sas_requests.proofs.FileEnds.{ends_text, task_refused, unread}
-use Rattle.sas_requests.proofs.SummaryLengths.{summary_fits}
 use Rattle.sas_requests.proofs.answers.show.Goals as goal
-
-pub new-summary-requires : goal.new-summary-requires
-new-summary-requires g c = let read = c.in-Ok.ensures.plain.read in summary_fits read.0 c.in-Ok.outline read.2
 
 pub returns-in-Ok-clause-ends : goal.returns-in-Ok-clause-ends
 returns-in-Ok-clause-ends g c =
