@@ -2,4 +2,5 @@ mod Placed
 pub mod Pushing
 pub mod Putting
 pub mod Sent
+pub mod Texts
 mod WordLines

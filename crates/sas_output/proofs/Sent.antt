@@ -1,6 +1,7 @@
 -- What went out of a text that was put in pieces.
 use Rattle.std.proofs.Common.{◌≡◌, ℕ, ◌+◌, ◌^◌, ◌<◌, List, [], ◌++◌, length, take, append-nil, length-append, take_at, arith, refl, sym, ap, subst, ◌∙◌, Option, Some, Result, Ok, Err}
 use Rattle.std.specs.Io.KnownBytes.{Appends}
+use Rattle.std.proofs.lemmas.Option.{none-some}
 use Rattle.sas_lines.specs.declared.devices.Short.{Short}
 use Rattle.sas_output.specs.declared.ending.Status.{Status}
 use Rattle.sas_output.specs.declared.ending.ToolFault.{ToolFault}
@@ -54,3 +55,12 @@ module _ (Out : Option Output → Type 0) (Sent : List ℕ → Type 0) where
   exact_ends short (Err TooLong) is = is
   exact_ends short (Err Memory) is = tt
   exact_ends short (Err Read) is = tt
+
+-- what ends with one output ends with an output that is right
+pub ends_counting_as : (o : Output) (Sent : List ℕ → Type 0) (Out : Option Output → Type 0) (r : Result Status ToolFault) → Out (Some o)
+    → EndsCounting (λ output. output ≡ Some o) Sent r → EndsCounting Out Sent r
+ends_counting_as o Sent Out (Ok status) right (output, is, same, sent) = (output, subst Out (sym is) right, same, sent)
+ends_counting_as o Sent Out (Err (Write written)) right (number, counts, (output, is, less, sent)) = (number, counts, (output, subst Out (sym is) right, less, sent))
+ends_counting_as o Sent Out (Err TooLong) right is = absurd (none-some o is)
+ends_counting_as o Sent Out (Err Memory) right is = tt
+ends_counting_as o Sent Out (Err Read) right is = tt

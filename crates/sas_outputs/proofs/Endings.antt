@@ -17,14 +17,6 @@ module _ (o : Output) (Sent : List ℕ → Type 0) where
   ends_as Out (Err tool_fault.Memory) right is = tt
   ends_as Out (Err tool_fault.Read) right is = tt
 
-  -- and so it does where the number of bytes is exact if it can be
-  pub ends_counting_as : (Out : Option Output → Type 0) (r : Result Status ToolFault) → Out (Some o) → EndsCounting (λ output. output ≡ Some o) Sent r → EndsCounting Out Sent r
-  ends_counting_as Out (Ok status) right (output, is, same, sent) = (output, subst Out (sym is) right, same, sent)
-  ends_counting_as Out (Err (tool_fault.Write written)) right (number, counts, (output, is, less, sent)) = (number, counts, (output, subst Out (sym is) right, less, sent))
-  ends_counting_as Out (Err tool_fault.TooLong) right is = absurd (none-some o is)
-  ends_counting_as Out (Err tool_fault.Memory) right is = tt
-  ends_counting_as Out (Err tool_fault.Read) right is = tt
-
   -- and where it ends well, all of the output went out
   pub ends_counting_well : (P : Status → Type 0) (r : Result Status ToolFault) → EndsCounting (λ output. output ≡ Some o) Sent r → ((status : Status) → status ≡ o.status → Sent o.text → P status) → IfOk r P
   ends_counting_well P (Ok status) (output, is, same_status, sent) so =

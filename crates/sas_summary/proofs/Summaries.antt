@@ -1,22 +1,14 @@
 -- The text of a summary, line by line.
-use Rattle.std.proofs.Common.{◌≡◌, ℕ, ◌+◌, ◌<◌, ◌≤◌, List, [], ◌∷◌, ◌++◌, length, take, get_or, codes, zero-add, arith, refl, sym, ap, ◌∙◌}
+use Rattle.std.proofs.Common.{◌≡◌, ℕ, ◌+◌, ◌<◌, ◌≤◌, List, ◌++◌, length, take, get_or, codes, zero-add, arith, sym, ap, ◌∙◌}
 use Rattle.std.specs.List.{enumerate_from, flat_map}
-use Rattle.std.proofs.lemmas.Grind.{flat_map-append}
 use Rattle.std.proofs.lemmas.List.{take_all}
 use Rattle.std.proofs.lemmas.List.FromFn.{length-enumerate_from, get_or-enumerate_from}
 use Rattle.sas_core.specs.declared.parts.Fact.{Fact}
 use Rattle.sas_core.specs.declared.parts.Variable.{Variable}
 use Rattle.sas_lines.specs.Lines.{text}
 use Rattle.sas_flat.specs.declared.outline.Outline.{Outline}
+use Rattle.sas_output.proofs.Texts.{text_of_both, text_of_each}
 use Rattle.sas_summary.specs.Summary.{number_lines, fact_lines, initial_lines, goal_fact_lines, summary_lines}
-
--- lines in a row
-text_of_both : (a b : List (List ℕ)) → text (a ++ b) ≡ text a ++ text b
-text_of_both a b = flat_map-append (λ (line : List ℕ). line ++ 10 ∷ []) a b
-
-text_of_each : {X : Type 0} (lines_of : X → List (List ℕ)) (items : List X) → text (flat_map lines_of items) ≡ flat_map (λ (x : X). text (lines_of x)) items
-text_of_each lines_of [] = refl
-text_of_each lines_of (x ∷ items) = text_of_both (lines_of x) (flat_map lines_of items) ∙ ap (λ (l : List ℕ). text (lines_of x) ++ l) (text_of_each lines_of items)
 
 -- the summary, part by part
 pub summary_is : (o : Outline) (numbers : List ℕ) → numbers ≡ text (number_lines o) → numbers ++ text (initial_lines o.variables o.init) ++ text (goal_fact_lines o.variables o.goal) ≡ text (summary_lines o)

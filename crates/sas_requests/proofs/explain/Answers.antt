@@ -3,9 +3,9 @@ use Rattle.std.specs.Io.KnownBytes.{Appends}
 use Rattle.std.proofs.lemmas.Result.{err_from_is_err_and}
 use Rattle.sas_requests.specs.Answering.{output_of}
 use Rattle.sas_requests.specs.Why.{OutWhy}
-use Rattle.sas_outputs.proofs.Endings.{ends_counting_as, ends_counting_well, ends_err}
+use Rattle.sas_outputs.proofs.Endings.{ends_counting_well, ends_err}
 use Rattle.sas_outputs.specs.Output.{Out}
-use Rattle.sas_output.proofs.Sent.{exact_ends}
+use Rattle.sas_output.proofs.Sent.{ends_counting_as, exact_ends}
 use Rattle.sas_requests.proofs.ShortOutputs.{short_output}
 use Rattle.sas_requests.proofs.ReasonedOutputs.{headline_why, invariants_why}
 use Rattle.sas_requests.proofs.explain.Goals as goal

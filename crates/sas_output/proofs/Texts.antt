@@ -1,0 +1,13 @@
+-- The text of lines, part by part.
+use Rattle.std.proofs.Common.{◌≡◌, ℕ, List, [], ◌∷◌, ◌++◌, flat_map, refl, ap, ◌∙◌}
+use Rattle.std.proofs.lemmas.Grind.{flat_map-append}
+use Rattle.sas_lines.specs.Lines.{text}
+
+-- lines in a row
+pub text_of_both : (a b : List (List ℕ)) → text (a ++ b) ≡ text a ++ text b
+text_of_both a b = flat_map-append (λ (line : List ℕ). line ++ 10 ∷ []) a b
+
+-- the lines of each item
+pub text_of_each : {X : Type 0} (lines_of : X → List (List ℕ)) (items : List X) → text (flat_map lines_of items) ≡ flat_map (λ (x : X). text (lines_of x)) items
+text_of_each lines_of [] = refl
+text_of_each lines_of (x ∷ items) = text_of_both (lines_of x) (flat_map lines_of items) ∙ ap (λ (l : List ℕ). text (lines_of x) ++ l) (text_of_each lines_of items)
