@@ -1,5 +1,5 @@
--- The changes that were told so far, in the order of the variables.
-use Rattle.std.proofs.Common.{◌≡◌, ℕ, ◌+◌, ◌-◌, ◌<◌, ◌≤◌, Bool, true, false, not, ◌==◌, List, [], ◌∷◌, ◌++◌, length, map, filter, flat_map, get_or, append-nil, codes, decimal, refl, sym, ◌∙◌, ap, subst, inl, inr, arith, get_or-set_other, get_or-set_same, length-set, Option}
+-- The changes that were printed so far, in the order of the variables.
+use Rattle.std.proofs.Common.{◌≡◌, ℕ, ◌+◌, ◌-◌, ◌<◌, ◌≤◌, Bool, true, false, not, ◌==◌, List, [], ◌∷◌, ◌++◌, length, map, filter, flat_map, get_or, append-nil, codes, decimal, refl, sym, ◌∙◌, ap, subst, inl, inr, arith, get_or-set_other, get_or-set_same, length-set}
 use Rattle.std.specs.Prelude.{if◌then◌else◌, slice_index, slice_set, cond}
 use Rattle.std.specs.List.{Contains}
 use Rattle.std.specs.List.Sorted.{IsNonDecreasing}
@@ -9,14 +9,11 @@ use Rattle.std.proofs.lemmas.Grind.{same_number_lists}
 use Rattle.sas_core.specs.declared.parts.Parts.{Parts}
 use Rattle.sas_core.specs.Variables.{value_name}
 use Rattle.std.proofs.lemmas.List.{get_or_default}
-use Rattle.sas_lines.specs.declared.devices.Short.{Short}
 use Rattle.sas_lines.specs.Lines.{text}
-use Rattle.sas_output.specs.Pieces.{Piece, Puts, Breaks}
-use Rattle.sas_output.proofs.Putting.{puts_then, puts_then_breaks, breaks_within}
 use Rattle.sas_output.specs.Words.{line}
 use Rattle.sas_trace.specs.Trace.{variables_of, is_changed, change_line, change_lines}
 use Rattle.sas_trace.specs.Changes.{change_text, CoverChanges}
-use Rattle.sas_trace.proofs.Numbers.{said, said_more, said_quiet, said_within}
+use Rattle.sas_trace.proofs.Numbers.{said, said_more, said_quiet}
 
 -- ---- the same value, or another one
 pub is_same : (x y : ℕ) → x ≡ y → not (x == y) ≡ false
@@ -48,32 +45,29 @@ module _ (p : Parts) (s s' : List ℕ) where
   texts [] = refl
   texts (var ∷ vars) = one_text (is_changed s s' var) var (filter (is_changed s s') vars) ∙ ap (λ (l : List ℕ). says var ++ l) (texts vars)
 
-  pub all_texts : text (change_lines p s s') ≡ said says (length p.variables)
+  all_texts : text (change_lines p s s') ≡ said says (length p.variables)
   all_texts = texts (variables_of p)
 
   -- ---- the text of one
 
-  -- where the value that was told is that of s
-  same_text : (told : List ℕ) (var : ℕ) → get_or told var 0 ≡ get_or s var 0 → change_text p told s' var ≡ says var
-  same_text told var e = ap (λ (x : ℕ). if not (x == slice_index s' var)
+  -- where the value that was printed is that of s
+  same_text : (printed : List ℕ) (var : ℕ) → get_or printed var 0 ≡ get_or s var 0 → change_text p printed s' var ≡ says var
+  same_text printed var e = ap (λ (x : ℕ). if not (x == slice_index s' var)
       then line 0 (codes "change" ∷ decimal var ∷ decimal x ∷ decimal (slice_index s' var)
       ∷ unwrap_or (value_name p.variables var (slice_index s' var)) [] ∷ []) ++ 10 ∷ []
       else []) e
 
   -- where it is that of s'
-  no_text : (told : List ℕ) (var : ℕ) → get_or told var 0 ≡ get_or s' var 0 → change_text p told s' var ≡ []
-  no_text told var e = ap (λ (b : Bool). if b then change_line p told s' var ++ 10 ∷ [] else []) (is_same (get_or told var 0) (get_or s' var 0) e)
+  pub no_text : (printed : List ℕ) (var : ℕ) → get_or printed var 0 ≡ get_or s' var 0 → change_text p printed s' var ≡ []
+  no_text printed var e = ap (λ (b : Bool). if b then change_line p printed s' var ++ 10 ∷ [] else []) (is_same (get_or printed var 0) (get_or s' var 0) e)
 
   -- ---- up to a variable
 
-  -- the variables below b have been told their values in s', the others those in s
-  pub record ToldUpTo (told : List ℕ) (b : ℕ) : Type 0 where
-    pub fits : length told ≡ length s'
-    pub below : (var : ℕ) → var < b → get_or told var 0 ≡ get_or s' var 0
-    pub above : (var : ℕ) → b ≤ var → get_or told var 0 ≡ get_or s var 0
-
-  pub none_told : length s ≡ length s' → ToldUpTo s 0
-  none_told fits = record { fits = fits; below = λ var lt. absurd (omega arith); above = λ var le. refl }
+  -- of the variables below b the values in s' were printed, of the others those in s
+  pub record PrintedUpTo (printed : List ℕ) (b : ℕ) : Type 0 where
+    pub fits : length printed ≡ length s'
+    pub below : (var : ℕ) → var < b → get_or printed var 0 ≡ get_or s' var 0
+    pub above : (var : ℕ) → b ≤ var → get_or printed var 0 ≡ get_or s var 0
 
   -- this one is next, or the last one once more: those between have the same value in both
   pub record IsNext (b var : ℕ) : Type 0 where
@@ -84,57 +78,45 @@ module _ (p : Parts) (s s' : List ℕ) where
   pub next_itself : (var : ℕ) → var < length s' → IsNext var var
   next_itself var lt = record { near = omega arith; exists = lt; still = λ j le late. absurd (omega arith) }
 
-  module _ (told : List ℕ) (b : ℕ) (up : ToldUpTo told b) where
+  module _ (printed : List ℕ) (b : ℕ) (up : PrintedUpTo printed b) where
     module _ (var : ℕ) (next : IsNext b var) where
-      pub told_next : ToldUpTo (slice_set told var (get_or s' var 0)) (var + 1)
-      told_next = record {
-        fits = length-set told var (get_or s' var 0) ∙ up.fits;
+      pub printed_next : PrintedUpTo (slice_set printed var (get_or s' var 0)) (var + 1)
+      printed_next = record {
+        fits = length-set printed var (get_or s' var 0) ∙ up.fits;
         below = λ j lt. elim (cases_eq j var) [
-          | inl e ↦ subst (λ i. get_or (slice_set told var (get_or s' var 0)) i 0 ≡ get_or s' i 0) (sym e)
-              (get_or-set_same told var (get_or s' var 0) 0 (omega (arith, up.fits, next.exists)))
-          | inr ne ↦ get_or-set_other told var j (get_or s' var 0) 0 ne ∙ before j ne lt
+          | inl e ↦ subst (λ i. get_or (slice_set printed var (get_or s' var 0)) i 0 ≡ get_or s' i 0) (sym e)
+              (get_or-set_same printed var (get_or s' var 0) 0 (omega (arith, up.fits, next.exists)))
+          | inr ne ↦ get_or-set_other printed var j (get_or s' var 0) 0 ne ∙ before j ne lt
         ];
         above = λ j le.
             let ne : j ≡ var → ⊥ = λ e. absurd (omega arith) in
-            get_or-set_other told var j (get_or s' var 0) 0 ne ∙ up.above j (let n = next.near in omega arith);
+            get_or-set_other printed var j (get_or s' var 0) 0 ne ∙ up.above j (let n = next.near in omega arith);
       }
         where
-          before : (j : ℕ) → (j ≡ var → ⊥) → j < var + 1 → get_or told j 0 ≡ get_or s' j 0
+          before : (j : ℕ) → (j ≡ var → ⊥) → j < var + 1 → get_or printed j 0 ≡ get_or s' j 0
           before j ne lt = elim (cases_lt j b) [
             | inl early ↦ up.below j early
             | inr late ↦ up.above j late ∙ sym (next.still j late (omega arith))
           ]
 
-      pub text_next : said says b ++ change_text p told s' var ≡ said says (var + 1)
+      pub text_next : said says b ++ change_text p printed s' var ≡ said says (var + 1)
       text_next = elim (cases_lt var b) [
         | inl again ↦
             let e : b ≡ var + 1 = (let n = next.near in omega arith) in
-            ap (λ (l : List ℕ). said says b ++ l) (no_text told var (up.below var again)) ∙ append-nil (said says b) ∙ ap (said says) e
+            ap (λ (l : List ℕ). said says b ++ l) (no_text printed var (up.below var again)) ∙ append-nil (said says b) ∙ ap (said says) e
         | inr new ↦
             let e : var ≡ b + (var - b) = omega arith in
             let quiet : said says var ≡ said says b = ap (said says) e ∙ said_quiet says b (var - b) (λ j le lt. no_text s j (sym (next.still j le (omega arith)))) in
-            ap (λ (l : List ℕ). said says b ++ l) (same_text told var (up.above var new))
-            ∙ ap (λ (l : List ℕ). l ++ says var) (sym quiet) ∙ sym (said_more says var)
+            ap (λ (l : List ℕ). said says b ++ l) (same_text printed var (up.above var new))
+            ∙ ap (λ (l : List ℕ). l ++ says var) (sym quiet) ∙ said_more says var
       ]
-
-      module _ (a b' c : Option (List ℕ)) (q r r' : Piece) where
-        -- its change goes behind those that were told
-        pub change_puts : Puts a b' q r (said says b) → Puts b' c r r' (change_text p told s' var) → Puts a c q r' (said says (var + 1))
-        change_puts first second = subst (λ (l : List ℕ). Puts a c q r' l) text_next (puts_then a b' q r (said says b) c r' (change_text p told s' var) first second)
-
-        pub change_breaks : (short : Short) → var < length p.variables → Puts a b' q r (said says b) → Breaks b' c r (change_text p told s' var) short
-            → Breaks a c q (text (change_lines p s s')) short
-        change_breaks short lt first second =
-            let w = said_within says (var + 1) (length p.variables) (omega arith) in
-            breaks_within a c q r' (said says (var + 1)) (text (change_lines p s s')) w.0 short (all_texts ∙ w.1)
-            (subst (λ (l : List ℕ). Breaks a c q l short) text_next (puts_then_breaks a b' q r (said says b) c (change_text p told s' var) short first second))
 
     -- ---- in the end
 
     module _ (fits : length s' ≡ length p.variables) (within : b ≤ length p.variables)
         (still : (j : ℕ) → b ≤ j → j < length p.variables → get_or s' j 0 ≡ get_or s j 0) where
-      pub told_all : told ≡ s'
-      told_all = same_number_lists told s' up.fits (λ j lt. elim (cases_lt j b) [
+      pub printed_all : printed ≡ s'
+      printed_all = same_number_lists printed s' up.fits (λ j lt. elim (cases_lt j b) [
         | inl early ↦ up.below j early
         | inr late ↦ up.above j late ∙ sym (still j late (omega (arith, up.fits, fits)))
       ])
@@ -145,9 +127,6 @@ module _ (p : Parts) (s s' : List ℕ) where
           let e : b + (n - b) ≡ n = omega arith in
           sym (said_quiet says b (n - b) (λ j le lt. no_text s j (sym (still j le (omega arith))))) ∙ (ap (said says) e ∙ sym all_texts)
 
-      pub puts_all : (a b' : Option (List ℕ)) (q r : Piece) → Puts a b' q r (said says b) → Puts a b' q r (text (change_lines p s s'))
-      puts_all a b' q r puts = subst (λ (l : List ℕ). Puts a b' q r l) text_all puts
-
   -- ---- up to a place of a list
 
   -- the variables up to this place of the list are below b, the others aren't, but for the last one
@@ -155,9 +134,6 @@ module _ (p : Parts) (s s' : List ℕ) where
     pub within : b ≤ length s'
     pub before : (j : ℕ) → j < i → get_or listed j 0 < b
     pub behind : (j : ℕ) → i ≤ j → j < length listed → b ≤ get_or listed j 0 + 1
-
-  pub none_listed : (listed : List ℕ) → ListedUpTo listed 0 0
-  none_listed listed = record { within = omega arith; before = λ j lt. absurd (omega arith); behind = λ j le lt. omega arith }
 
   module _ (listed : List ℕ) (up : IsNonDecreasing listed) (cover : CoverChanges s s' listed) (fits : length s ≡ length s') (i b : ℕ) (at : ListedUpTo listed i b) where
     module _ (lt : i < length listed) where

@@ -1,8 +1,7 @@
 mod Numbers
 mod Changing
-mod InitialTexts
 mod Listing
-mod StepTexts
+mod RunTexts
 mod Standing
 mod Replaying
 pub mod Answering

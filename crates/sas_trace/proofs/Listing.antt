@@ -14,9 +14,6 @@ use Rattle.sas_axioms.proofs.Derived.{derived_within}
 use Rattle.sas_run.specs.Stepping.{ListsChanges}
 use Rattle.sas_trace.specs.Changes.{IsNoted, Grows, CoverChanges}
 
-pub grows_none : (n : ℕ) (xs : List ℕ) → Grows n xs xs
-grows_none n xs = record { kept = λ var there. there; exist = λ all. all }
-
 module _ (n : ℕ) (xs ys zs : List ℕ) (first : Grows n xs ys) (second : Grows n ys zs) where
   pub grows_then : Grows n xs zs
   grows_then = record { kept = λ var there. second.kept var (first.kept var there); exist = λ all. second.exist (first.exist all) }

@@ -1,4 +1,4 @@
--- What the changes tell, written over the values before, gives the values behind the step.
+-- The changes, written over the values before, give the values behind the step.
 use Rattle.std.proofs.Common.{◌≡◌, ℕ, zero, suc, ◌+◌, ◌<◌, ◌≤◌, Bool, true, false, List, ◌∷◌, length, map, filter, get_or, refl, sym, ◌∙◌, ap, subst, inl, inr, arith, get_or-set_other, get_or-set_same, length-set}
 use Rattle.std.specs.Prelude.{fold, slice_set, slice_index, cond}
 use Rattle.std.specs.List.{range_with_len}
@@ -9,7 +9,7 @@ use Rattle.std.proofs.Math.Numerals.{add-one}
 use Rattle.sas_core.specs.declared.parts.Fact.{Fact}
 use Rattle.sas_run.specs.Runs.{state_at}
 use Rattle.sas_trace.specs.Trace.{is_changed}
-use Rattle.sas_trace.specs.Laws.{facts_told, Replays}
+use Rattle.sas_trace.specs.Laws.{facts_printed, Replays}
 use Rattle.sas_trace.proofs.Changing.{is_same, is_other}
 use Rattle.sas_run.proofs.Runs.{state_fits}
 
@@ -26,9 +26,9 @@ values_are s n e = same_number_lists (map (slice_index s) (range_with_len 0 n)) 
     get_or-map-range_with_len (slice_index s) 0 n k k 0 below at)
 
 module _ (s s' : List ℕ) where
-  -- what the changes of these variables tell
-  abbrev told : List ℕ → List Fact
-  told vars = map (λ var. record { var = var; value = slice_index s' var }) (filter (is_changed s s') vars)
+  -- the facts that the changes of these variables bring
+  abbrev printed : List ℕ → List Fact
+  printed vars = map (λ var. record { var = var; value = slice_index s' var }) (filter (is_changed s s') vars)
 
   one_of : (b : Bool) (t : List ℕ) (var : ℕ) (vars : List ℕ) → fold put t (map (λ v. record { var = v; value = slice_index s' v }) (cond b (var ∷ vars) vars))
       ≡ fold put (cond b (slice_set t var (slice_index s' var)) t) (map (λ v. record { var = v; value = slice_index s' v }) vars)
@@ -64,13 +64,13 @@ module _ (s s' : List ℕ) where
     })
   ]
 
-  writes : (n a : ℕ) (t : List ℕ) → length s' ≡ a + n → Written a n t → fold put t (told (range_with_len a n)) ≡ s'
+  writes : (n a : ℕ) (t : List ℕ) → length s' ≡ a + n → Written a n t → fold put t (printed (range_with_len a n)) ≡ s'
   writes zero a t fits w = same_number_lists t s' (w.fits ∙ sym fits) (λ k lt. w.below k (let f = w.fits in omega arith))
   writes (suc n) a t fits w = one_of (is_changed s s' a) t a (filter (is_changed s s') (range_with_len (a + 1) n))
       ∙ writes n (a + 1) (cond (is_changed s s' a) (slice_set t a (get_or s' a 0)) t) (omega arith) (next a n t w)
 
   -- all changes of s
-  pub all_written : (n : ℕ) → length s ≡ n → length s' ≡ n → fold put s (told (range_with_len 0 n)) ≡ s'
+  pub all_written : (n : ℕ) → length s ≡ n → length s' ≡ n → fold put s (printed (range_with_len 0 n)) ≡ s'
   all_written n fits fits' =
       let e : n ≡ 0 + n = omega arith in
       writes n 0 s (fits' ∙ e) (record { fits = fits ∙ e; below = λ k lt. absurd (omega arith); above = λ k le. refl })
@@ -79,6 +79,6 @@ pub replays : Replays
 replays p run zero ranged through le = values_are (state_at run 0) (length p.variables) (state_fits p run through 0 le).one_each
 replays p run (suc k) ranged through le =
     let e : k + 1 ≡ suc k = add-one k in
-    ap (λ (s : List ℕ). fold put s (facts_told p run k)) (replays p run k ranged through (omega arith))
+    ap (λ (s : List ℕ). fold put s (facts_printed p run k)) (replays p run k ranged through (omega arith))
     ∙ (all_written (state_at run k) (state_at run (k + 1)) (length p.variables) (state_fits p run through k (omega arith)).one_each (state_fits p run through (k + 1) (omega arith)).one_each
     ∙ ap (state_at run) e)

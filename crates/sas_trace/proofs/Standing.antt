@@ -12,7 +12,7 @@ use Rattle.sas_trace.specs.Trace.{step_line, change_lines, step_lines, run_lines
 use Rattle.sas_trace.specs.Traced.{TraceVerdict}
 use Rattle.sas_trace.specs.Tracing.{StandsAt, HasVerdict}
 
-module _ (p : Parts) (run : Run) (e : Executed) (told : List ℕ) (at : StandsAt p run e told) where
+module _ (p : Parts) (run : Run) (e : Executed) (printed : List ℕ) (at : StandsAt p run e printed) where
   -- its state has a value for each variable
   pub stands_fits : length e.state ≡ length p.variables
   stands_fits = (executed_fits run e at.executes).one_each ∙ ap (λ (q : Parts). length q.variables) at.task
@@ -23,18 +23,18 @@ module _ (p : Parts) (run : Run) (e : Executed) (told : List ℕ) (at : StandsAt
 
   -- the next step is that of the run
   module _ (k : ℕ) (made : e.made ≡ k) (new : Executed) (operator : ℕ) (advances : Advances e operator new) (along : Executes run new) where
-    pub stands_next : (told' : List ℕ) → told' ≡ new.state → StandsAt p run new told'
-    stands_next told' is = record { task = advances.task ∙ at.task; executes = along; values = is }
+    pub stands_next : (printed' : List ℕ) → printed' ≡ new.state → StandsAt p run new printed'
+    stands_next printed' is = record { task = advances.task ∙ at.task; executes = along; values = is }
 
-    pub step_text : text (step_line p (k + 1) (next_operator e) ∷ change_lines p e.state new.state) ≡ text (step_lines p run k)
-    step_text =
+    pub step_is : text (step_line p (k + 1) (next_operator e) ∷ change_lines p e.state new.state) ≡ text (step_lines p run k)
+    step_is =
         ap (λ o. text (step_line p (k + 1) o ∷ change_lines p e.state new.state)) (sym (ap (λ (os : List ℕ). get_or os e.made 0) at.executes.operators) ∙ ap (λ n. get_or run.operators n 0) made)
         ∙ (ap (λ (s : List ℕ). text (step_line p (k + 1) (get_or run.operators k 0) ∷ change_lines p s new.state)) (at.executes.state ∙ ap (state_at run) made)
         ∙ ap (λ (s : List ℕ). text (step_line p (k + 1) (get_or run.operators k 0) ∷ change_lines p (state_at run k) s)) (along.state ∙ ap (state_at run) (advances.made ∙ ap (λ n. n + 1) made)))
 
 -- where the answer was found, a trace stands before the first step
-pub stands_first : (p : Parts) (plan : PlanParts) (run : Run) (verdict : Told) (e : Executed) (told : List ℕ) → HasVerdict p plan run verdict e → told ≡ e.state → StandsAt p run e told
-stands_first p plan run verdict e told has is = record { task = has.task; executes = has.executes; values = is }
+pub stands_first : (p : Parts) (plan : PlanParts) (run : Run) (verdict : Told) (e : Executed) (printed : List ℕ) → HasVerdict p plan run verdict e → printed ≡ e.state → StandsAt p run e printed
+stands_first p plan run verdict e printed has is = record { task = has.task; executes = has.executes; values = is }
 
 -- what was written, as an output
 abbrev pub written : Parts → Told → Run → Output

@@ -15,8 +15,8 @@ use Rattle.sas_trace.specs.Trace.{variables_of, changed}
 use Rattle.sas_trace.specs.Traced.{TraceVerdict}
 
 -- the facts that step k + 1 of a run brings, as the lines of its changes have them
-abbrev pub facts_told : Parts → Run → ℕ → List Fact
-facts_told p run k = map (λ var. record { var = var; value = slice_index (state_at run (k + 1)) var })
+abbrev pub facts_printed : Parts → Run → ℕ → List Fact
+facts_printed p run k = map (λ var. record { var = var; value = slice_index (state_at run (k + 1)) var })
     (changed p (state_at run k) (state_at run (k + 1)))
 
 -- the values that a reader of a trace has behind the first k steps: those of the initial lines,
@@ -24,7 +24,7 @@ facts_told p run k = map (λ var. record { var = var; value = slice_index (state
 abbrev pub replayed : Parts → Run → ℕ → List ℕ
 replayed p run zero = map (slice_index (state_at run 0)) (variables_of p)
 replayed p run (suc k) =
-    fold (λ s (f : Fact). slice_set s f.var f.value) (replayed p run k) (facts_told p run k)
+    fold (λ s (f : Fact). slice_set s f.var f.value) (replayed p run k) (facts_printed p run k)
 
 -- these are the state behind the first k steps
 abbrev pub Replays : Type 0

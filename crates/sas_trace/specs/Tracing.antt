@@ -9,10 +9,10 @@ use Rattle.sas_run.specs.Runs.{Run}
 use Rattle.sas_trace.specs.Traced.{EndsWith}
 
 -- the first steps of the run were made, and these are the values that were printed
-pub record StandsAt (p : Parts) (run : Run) (e : Executed) (told : List ℕ) : Type 0 where
+pub record StandsAt (p : Parts) (run : Run) (e : Executed) (printed : List ℕ) : Type 0 where
   pub task : e.task ≡ p
   pub executes : Executes run e
-  pub values : told ≡ e.state
+  pub values : printed ≡ e.state
 
 -- this is the answer about the plan, and none of the steps that go through was made since
 pub record HasVerdict (p : Parts) (plan : PlanParts) (run : Run) (verdict : Told) (e : Executed)

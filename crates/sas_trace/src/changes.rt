@@ -13,19 +13,19 @@ use sas_run::Execution;
 /// may have changed is looked at.
 pub fn list_changes<E: Settle<T> + Drop, T: Grounded, P: Stepwise>(
     listed: &mut Vec<u32>,
-    told: &[u32],
+    printed: &[u32],
     execution: &Execution<'_, '_, E, T, P>,
 ) -> bool
-    requires fits { length told.now ≡ length execution.now.task.variables }
-    requires step { ListsChanges execution.now.task told.now execution.now.state
+    requires fits { length printed.now ≡ length execution.now.task.variables }
+    requires step { ListsChanges execution.now.task printed.now execution.now.state
         execution.now.deleted execution.now.touched }
-    ensures { IsTrue result → CoverChanges told.now execution.now.state listed.new.items }
+    ensures { IsTrue result → CoverChanges printed.now execution.now.state listed.new.items }
 {
     listed.clear();
     match execution.touched().vars() {
         Some(touched) => {
-            list_deleted(listed, told, execution.state(), execution.deleted())
-                && list_touched(listed, told, execution.state(), touched)
+            list_deleted(listed, printed, execution.state(), execution.deleted())
+                && list_touched(listed, printed, execution.state(), touched)
         }
         None => false,
     }
@@ -33,15 +33,15 @@ pub fn list_changes<E: Settle<T> + Drop, T: Grounded, P: Stepwise>(
 
 /// Adds the variables of the facts whose values in the state aren't those that were printed. Returns whether there is room for
 /// them.
-fn list_deleted(listed: &mut Vec<u32>, told: &[u32], state: &State, deleted: &[Fact]) -> bool
-    requires fits { length told.now ≡ length state.now }
+fn list_deleted(listed: &mut Vec<u32>, printed: &[u32], state: &State, deleted: &[Fact]) -> bool
+    requires fits { length printed.now ≡ length state.now }
     requires exist { All (λ (f : Fact). f.var < length state.now) deleted.now }
     ensures grows { Grows (length state.now) listed.old.items listed.new.items }
     ensures noted { IsTrue result
-        → All (λ (f : Fact). IsNoted told.now state.now listed.new.items f.var) deleted.now }
+        → All (λ (f : Fact). IsNoted printed.now state.now listed.new.items f.var) deleted.now }
 {
     for fact in deleted {
-        if !list_variable(listed, told, state, fact.var) {
+        if !list_variable(listed, printed, state, fact.var) {
             return false;
         }
     }
@@ -49,15 +49,15 @@ fn list_deleted(listed: &mut Vec<u32>, told: &[u32], state: &State, deleted: &[F
 }
 
 /// Adds those of the variables whose values in the state aren't those that were printed. Returns whether there is room for them.
-fn list_touched(listed: &mut Vec<u32>, told: &[u32], state: &State, touched: &[u32]) -> bool
-    requires fits { length told.now ≡ length state.now }
+fn list_touched(listed: &mut Vec<u32>, printed: &[u32], state: &State, touched: &[u32]) -> bool
+    requires fits { length printed.now ≡ length state.now }
     requires exist { All (λ var. var < length state.now) touched.now }
     ensures grows { Grows (length state.now) listed.old.items listed.new.items }
     ensures noted { IsTrue result
-        → All (IsNoted told.now state.now listed.new.items) touched.now }
+        → All (IsNoted printed.now state.now listed.new.items) touched.now }
 {
     for var in touched {
-        if !list_variable(listed, told, state, *var) {
+        if !list_variable(listed, printed, state, *var) {
             return false;
         }
     }
@@ -65,13 +65,13 @@ fn list_touched(listed: &mut Vec<u32>, told: &[u32], state: &State, touched: &[u
 }
 
 /// Adds the variable if its value in the state isn't the one that was printed. Returns whether there is room for it.
-fn list_variable(listed: &mut Vec<u32>, told: &[u32], state: &State, var: u32) -> bool
-    requires fits { length told.now ≡ length state.now }
+fn list_variable(listed: &mut Vec<u32>, printed: &[u32], state: &State, var: u32) -> bool
+    requires fits { length printed.now ≡ length state.now }
     requires exists { var < length state.now }
     ensures grows { Grows (length state.now) listed.old.items listed.new.items }
-    ensures noted { IsTrue result → IsNoted told.now state.now listed.new.items var }
+    ensures noted { IsTrue result → IsNoted printed.now state.now listed.new.items var }
 {
-    if told[var as usize] == state.value(var) {
+    if printed[var as usize] == state.value(var) {
         return true;
     }
     if listed.len() == listed.capacity() {

@@ -1,16 +1,15 @@
 // The lines of a trace, as they go out: here names are put in.
-ghost use Rattle.std.specs.Prelude.{◌≡◌, ◌<◌, ◌↔◌, false, [], ◌∷◌, ◌++◌, length, IsErr, IsTrue, codes, decimal};
+ghost use Rattle.std.specs.Prelude.{◌≡◌, ◌<◌, [], ◌∷◌, ◌++◌, length, codes, decimal};
 ghost use Rattle.std.specs.Option.{unwrap_or};
 ghost use Rattle.sas_core.specs.Variables as spec;
-ghost use Rattle.sas_output.specs.Pieces.{PutsOrBreaks};
+ghost use Rattle.sas_output.specs.Sink.{Pushes};
 ghost use Rattle.sas_output.specs.Words.{line};
 ghost use Rattle.sas_trace.specs.Trace.{initial_line, step_line};
 
 use sas_core::{Fact, Grounded};
 use sas_flat::FlatTask;
-use sas_lines::{Short, Watched};
 use sas_meaning::{Layered, State};
-use sas_output::{Indent, Numbered, Pieces, Word, Words};
+use sas_output::{Indent, Numbered, Sink, Word, Words};
 use std::io::Write;
 
 /// Returns the name of the fact's value; if there is no such value, no bytes.
@@ -25,19 +24,14 @@ fn name_of(task: &Layered<FlatTask>, fact: Fact) -> &[u8]
 
 /// Adds the line of a variable of the initial state.
 pub fn push_initial_line<W: Write>(
-    pieces: &mut Pieces,
-    out: &mut Watched<W>,
+    sink: &mut Sink<'_, W>,
     task: &Layered<FlatTask>,
     state: &State,
     var: u32,
-) -> Result<(), Short>
-    requires out { out.old.failed ≡ false }
-    requires exists { var < length state.now }
-    requires state { length state.now ≡ length task.now.variables }
-    ensures puts { PutsOrBreaks (W.contents out.old.device) (W.contents out.new.device)
-        pieces.old pieces.new
-        (initial_line task.now state.now var ++ 10 ∷ []) result }
-    ensures note { IsErr result ↔ IsTrue out.new.failed }
+)
+    requires { var < length state.now }
+    ensures { Pushes W.contents sink.old sink.new
+        (initial_line task.now state.now var ++ 10 ∷ []) }
 {
     let value = state.value(var);
     let rest = [
@@ -45,61 +39,50 @@ pub fn push_initial_line<W: Write>(
         Word::Number(u64::from(value)),
         Word::Text(name_of(task, Fact { var, value })),
     ];
-    let line = Words {
+    sink.push_line(Words {
         indent: Indent::None,
         first: b"initial",
         rest: &rest,
-    };
-    pieces.push_line(out, line)
+    });
 }
 
 /// Adds the line of a step, counted from 1, that is made by the operator.
 pub fn push_step_line<W: Write>(
-    pieces: &mut Pieces,
-    out: &mut Watched<W>,
+    sink: &mut Sink<'_, W>,
     task: &Layered<FlatTask>,
     step: usize,
     operator: u32,
-) -> Result<(), Short>
-    requires operator { operator < length task.now.operators }
-    requires out { out.old.failed ≡ false }
-    ensures puts { PutsOrBreaks (W.contents out.old.device) (W.contents out.new.device)
-        pieces.old pieces.new
-        (step_line task.now step operator ++ 10 ∷ []) result }
-    ensures note { IsErr result ↔ IsTrue out.new.failed }
+)
+    requires { operator < length task.now.operators }
+    ensures { Pushes W.contents sink.old sink.new
+        (step_line task.now step operator ++ 10 ∷ []) }
 {
-    let line = Numbered {
+    sink.push_numbered(Numbered {
         word: b"step",
         first: step as u64,
         second: u64::from(operator),
         third: u64::from(task.cost(operator)),
         name: task.name(operator),
-    };
-    pieces.push_numbered(out, line)
+    });
 }
 
 /// Adds the line of a fact that a step brings, in place of this value of its variable.
 pub fn push_change_line<W: Write>(
-    pieces: &mut Pieces,
-    out: &mut Watched<W>,
+    sink: &mut Sink<'_, W>,
     task: &Layered<FlatTask>,
     before: u32,
     fact: Fact,
-) -> Result<(), Short>
-    requires { out.old.failed ≡ false }
-    ensures puts { PutsOrBreaks (W.contents out.old.device) (W.contents out.new.device)
-        pieces.old pieces.new
+)
+    ensures { Pushes W.contents sink.old sink.new
         (line 0 (codes "change" ∷ decimal fact.var ∷ decimal before ∷ decimal fact.value
         ∷ unwrap_or (spec.value_name task.now.variables fact.var fact.value) [] ∷ [])
-        ++ 10 ∷ []) result }
-    ensures note { IsErr result ↔ IsTrue out.new.failed }
+        ++ 10 ∷ []) }
 {
-    let line = Numbered {
+    sink.push_numbered(Numbered {
         word: b"change",
         first: u64::from(fact.var),
         second: u64::from(before),
         third: u64::from(fact.value),
         name: name_of(task, fact),
-    };
-    pieces.push_numbered(out, line)
+    });
 }

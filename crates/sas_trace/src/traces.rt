@@ -14,7 +14,7 @@ use sas_core::{Grounded, Stepwise};
 use sas_flat::{FlatPlan, FlatTask};
 use sas_lines::Watched;
 use sas_meaning::{Layered, Settle};
-use sas_output::{Status, Told, ToolFault};
+use sas_output::{Sink, Status, Told, ToolFault};
 use sas_run::Execution;
 use std::alloc::{AllocError, Global};
 use std::io::Write;
@@ -58,14 +58,13 @@ fn write_execution<W: Write, E: Settle<FlatTask> + Drop>(
         ⊎ ((e ≡ ToolFault.Memory) × (out.new ≡ out.old))) }
     ensures writes { IsErrAnd result IsWrite ↔ IsTrue out.new.failed }
 {
+    // What takes memory comes first.
     let verdict = judge(alloc, plan, execution)?;
     let mut tracer = Tracer::new(alloc, execution.state())?;
-    match tracer.write(out, task, execution, verdict.text.as_slice()) {
-        Ok(()) => Ok(verdict.status),
-        Err(short) => Err(ToolFault::Write {
-            written: short.written,
-        }),
-    }
+    let mut sink = Sink::new(alloc, out)?;
+    tracer.push_run(&mut sink, task, execution);
+    sink.push(verdict.text.as_slice());
+    sink.finish(verdict.status)
 }
 
 /// Returns the answer about the plan. Its execution then knows which steps go through, and is at its start.

@@ -28,7 +28,7 @@ list_touched-requires-clause-exist g c =
     let fits = c.state-then-list_deleted.ensures.fits in
     let listed = c.in-Some.ensures.some.1 ∙ ap (λ (t : Touched). t.vars.items) c.touched.ensures in
     rw (listed, c.state-then-list_deleted.ensures.now)
-    (touched_exist execution.task c.args.told.now execution.state execution.deleted execution.touched c.requires.step fits.one_each)
+    (touched_exist execution.task c.args.printed.now execution.state execution.deleted execution.touched c.requires.step fits.one_each)
 
 pub returns-then-list_deleted : goal.returns-then-list_deleted
 returns-then-list_deleted g c all =
@@ -36,7 +36,7 @@ returns-then-list_deleted g c all =
     let fits = c.state.ensures.fits in
     let some = c.in-Some.ensures.some in
     let listed = some.1 ∙ ap (λ (t : Touched). t.vars.items) c.touched.ensures in
-    covers_both execution.task c.args.told.now execution.state execution.deleted execution.touched c.requires.step c.list_deleted.new.listed.items c.list_touched.new.listed.items
+    covers_both execution.task c.args.printed.now execution.state execution.deleted execution.touched c.requires.step c.list_deleted.new.listed.items c.list_touched.new.listed.items
     (c.requires.fits ∙ sym fits.one_each)
     (rw (c.state.ensures.now, c.clear.ensures.items) at c.list_deleted.ensures.grows)
     (rw (c.state.ensures.now, c.deleted.ensures) at (c.list_deleted.ensures.noted c.if-list_deleted.true))

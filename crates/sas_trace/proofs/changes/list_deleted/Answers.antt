@@ -10,6 +10,6 @@ loop-fact-preserved c =
     let grows = c.list_variable.ensures.grows in
     record {
       grows = grows_then n c.args.listed.now.items c.loop-fact.listed.items c.list_variable.new.listed.items c.loop-fact.invariant.grows grows;
-      noted = noted_more (λ (f : Fact). f.var) n c.args.told.now c.args.state.now c.loop-fact.listed.items c.list_variable.new.listed.items c.args.deleted.now c.loop-fact.fact-index _
+      noted = noted_more (λ (f : Fact). f.var) n c.args.printed.now c.args.state.now c.loop-fact.listed.items c.list_variable.new.listed.items c.args.deleted.now c.loop-fact.fact-index _
           c.loop-fact-test.true grows c.loop-fact.invariant.noted (c.if-not-list_variable.ensures.noted refl);
     }

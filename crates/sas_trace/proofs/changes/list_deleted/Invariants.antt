@@ -7,5 +7,5 @@ use Rattle.sas_trace.proofs.changes.list_deleted.Given as goal
 abbrev pub invariant-loop-fact : goal.invariant-loop-fact
 invariant-loop-fact l = record {
   grows : Grows (length l.state) l.fn.listed.items l.listed.items;
-  noted : (j : ℕ) (d : Fact) → j < l.fact-index → IsNoted l.told l.state l.listed.items (get_or l.deleted j d).var;
+  noted : (j : ℕ) (d : Fact) → j < l.fact-index → IsNoted l.printed l.state l.listed.items (get_or l.deleted j d).var;
 }

@@ -9,6 +9,6 @@ loop-var-preserved c =
     let grows = c.list_variable.ensures.grows in
     record {
       grows = grows_then n c.args.listed.now.items c.loop-var.listed.items c.list_variable.new.listed.items c.loop-var.invariant.grows grows;
-      noted = noted_more (λ (var : ℕ). var) n c.args.told.now c.args.state.now c.loop-var.listed.items c.list_variable.new.listed.items c.args.touched.now c.loop-var.var-index _
+      noted = noted_more (λ (var : ℕ). var) n c.args.printed.now c.args.state.now c.loop-var.listed.items c.list_variable.new.listed.items c.args.touched.now c.loop-var.var-index _
           c.loop-var-test.true grows c.loop-var.invariant.noted (c.if-not-list_variable.ensures.noted refl);
     }

@@ -9,7 +9,7 @@ pub push_listed-requires-clause-cover : goal.push_listed-requires-clause-cover
 push_listed-requires-clause-cover g c =
     let listed = c.list_changes.new.listed.items in
     let covers = subst (λ (s : List ℕ). CoverChanges s c.args.execution.now.state listed) c.as_slice.ensures.value (c.if-list_changes.ensures refl) in
-    rw c.state.ensures.now (covers_permuted c.args.self.now.told.items c.args.execution.now.state listed c.sort_unstable.new.self.items c.sort_unstable.ensures.permutation covers)
+    rw c.state.ensures.now (covers_permuted c.args.self.now.printed.items c.args.execution.now.state listed c.sort_unstable.new.self.items c.sort_unstable.ensures.permutation covers)
 
 pub push_listed-requires-clause-ascending : goal.push_listed-requires-clause-ascending
 push_listed-requires-clause-ascending g c = IsNonDecreasingBy-from_sort (λ (var : ℕ). var) c.sort_unstable.new.self.items c.sort_unstable.ensures.sorted

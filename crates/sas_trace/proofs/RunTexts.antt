@@ -1,0 +1,34 @@
+-- The text of a run: of its initial state, and of its steps.
+use Rattle.std.proofs.Common.{◌≡◌, ℕ, List, [], ◌∷◌, ◌++◌, flat_map, length, sym, ◌∙◌, ap}
+use Rattle.std.specs.List.{range_with_len}
+use Rattle.std.proofs.lemmas.List.Folds.{flat_map-map}
+use Rattle.sas_core.specs.declared.parts.Parts.{Parts}
+use Rattle.sas_lines.specs.Lines.{text}
+use Rattle.sas_output.proofs.Texts.{text_of_both, text_of_each}
+use Rattle.sas_run.specs.Runs.{Run, state_at}
+use Rattle.sas_trace.specs.Trace.{variables_of, initial_line, initial_lines, step_lines, run_lines}
+use Rattle.sas_trace.proofs.Numbers.{said}
+
+module _ (p : Parts) (s : List ℕ) where
+  -- the line of a variable in the initial state, with its end
+  abbrev pub initial_text : ℕ → List ℕ
+  initial_text var = initial_line p s var ++ 10 ∷ []
+
+  pub initial_all : (n : ℕ) → n ≡ length p.variables → said initial_text n ≡ text (initial_lines p s)
+  initial_all n e = ap (said initial_text) e ∙ sym (flat_map-map (λ (line : List ℕ). line ++ 10 ∷ []) (initial_line p s) (variables_of p))
+
+module _ (p : Parts) (run : Run) where
+  -- the lines of a step, each with its end
+  abbrev pub step_text : ℕ → List ℕ
+  step_text k = text (step_lines p run k)
+
+  abbrev all_step_lines : List (List ℕ)
+  all_step_lines = flat_map (step_lines p run) (range_with_len 0 (length run.steps))
+
+  pub steps_all : (n : ℕ) → n ≡ length run.steps → said step_text n ≡ text all_step_lines
+  steps_all n e = ap (said step_text) e ∙ sym (text_of_each (step_lines p run) (range_with_len 0 (length run.steps)))
+
+  -- all lines of a run that begins with this state
+  pub run_text : (s : List ℕ) → s ≡ state_at run 0 → text (initial_lines p s) ++ text all_step_lines ≡ text (run_lines p run)
+  run_text s start =
+      ap (λ (i : List ℕ). text (initial_lines p i) ++ text all_step_lines) start ∙ sym (text_of_both (initial_lines p (state_at run 0)) all_step_lines)
