@@ -14,7 +14,7 @@ use sas_core::{Grounded, Stepwise};
 use sas_flat::{FlatPlan, FlatTask};
 use sas_lines::Watched;
 use sas_meaning::{Layered, Settle};
-use sas_output::{Sink, Status, Told, ToolFault};
+use sas_output::{Pieces, Sink, Status, Told, ToolFault};
 use sas_run::Execution;
 use std::alloc::{AllocError, Global};
 use std::io::Write;
@@ -61,10 +61,20 @@ fn write_execution<W: Write, E: Settle<FlatTask> + Drop>(
     // What takes memory comes first.
     let verdict = judge(alloc, plan, execution)?;
     let mut tracer = Tracer::new(alloc, execution.state())?;
-    let mut sink = Sink::new(alloc, out)?;
+    let pieces = Pieces::new(alloc)?;
+    let mut sink = Sink::new(pieces, out);
     tracer.push_run(&mut sink, task, execution);
     sink.push(verdict.text.as_slice());
-    sink.finish(verdict.status)
+    let ended = sink.finish(verdict.status);
+    let Sink {
+        out: device,
+        pieces,
+        short: _,
+    } = sink;
+    drop(pieces);
+    // No effect at run time. The proof reads what `out` holds from this use of `device`.
+    let _ = &*device;
+    ended
 }
 
 /// Returns the answer about the plan. Its execution then knows which steps go through, and is at its start.

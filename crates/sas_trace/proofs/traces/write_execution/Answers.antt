@@ -1,22 +1,30 @@
 -- What is pushed in the second pass is the trace.
-use Rattle.std.proofs.Common.{[], subst}
+use Rattle.std.proofs.Common.{rules, refl, subst, ◌∙◌}
 use Rattle.sas_core.specs.declared.parts.Parts.{Parts}
-use Rattle.sas_output.proofs.Pushing.{pushes_then}
+use Rattle.sas_output.proofs.Pushing.{finish_ends}
 use Rattle.sas_output.proofs.Sent.{ends_counting_as}
 use Rattle.sas_trace.specs.Traced.{IsTraced}
 use Rattle.sas_trace.specs.Tracing.{HasVerdict}
 use Rattle.sas_trace.proofs.Standing.{stands_first, written, is_traced}
 use Rattle.sas_trace.proofs.traces.write_execution.Goals as goal
 
-pub returns-clause-ends : goal.returns-clause-ends
-returns-clause-ends g c =
+pub returns : goal.returns
+returns g c =
     let p = c.args.task.now in
     let plan = c.args.plan.now in
     let w = c.in_ok-verdict.ensures in
     let verdict = c.in_ok-verdict.verdict in
     let execution = c.judge.new.execution in
     let has = subst (λ (q : Parts). HasVerdict q plan w.0 verdict execution) c.requires.execution.task w.1 in
-    let stands = stands_first p plan w.0 verdict execution c.in_ok-tracer.tracer.printed.items has (rw c.state.ensures.now at c.in_ok-tracer.ensures) in
-    let pushed = pushes_then _ _ _ _ _ _ (c.push_run.ensures w.0 stands) (rw c.as_slice.ensures.value at c.push.ensures) in
-    let whole = pushed.text _ [] c.in_ok-sink.ensures.text in
-    ends_counting_as (written p verdict w.0) _ (IsTraced p plan) _ (is_traced p plan verdict w.0 execution has) (c.finish.ensures.ends _ _ whole)
+    let run = c.push_run.ensures w.0 (stands_first p plan w.0 verdict execution c.in_ok-tracer.tracer.printed.items has (rw c.state.ensures.now at c.in_ok-tracer.ensures)) in
+    let answer = rw c.as_slice.ensures.value at c.push.ensures in
+    let ended = c.finish-ended.ensures in
+    let name = ended.same ∙ (answer.same ∙ (run.same ∙ c.new-sink.ensures.same)) in
+    let start = g.W.Write.contents c.args.out.now.device in
+    record {
+      ends = ends_counting_as (written p verdict w.0) _ (IsTraced p plan) _ (is_traced p plan verdict w.0 execution has)
+          (finish_ends g.W.Write.contents c.finish-ended.new.self start verdict.status c.finish-ended.result c.out-1.given.0 _ _ refl
+          (ended.ends _ _ (answer.text _ _ (run.text _ _ c.new-sink.ensures.text))) (search rules));
+      nothing = search rules;
+      writes = let note = ended.note in search rules;
+    }
