@@ -1,5 +1,5 @@
 -- What is told follows from how a run ended.
-use Rattle.std.proofs.Common.{◌≡◌, ℕ, ◌<◌, List, [], ◌++◌, length, take, drop, codes, arith, refl, sym, ap, subst, ◌∙◌, Option, Some, None, Result, Ok, Err}
+use Rattle.std.proofs.Common.{◌≡◌, ℕ, ◌<◌, List, [], ◌++◌, length, take, drop, codes, arith, refl, sym, ap, subst, ◌∙◌, Option, Some, None, Ok, Err}
 use Rattle.std.specs.Prelude.{IfSome}
 use Rattle.std.specs.Io.KnownBytes.{Appends}
 use Rattle.sas_core.specs.declared.parts.Parts.{Parts}
@@ -23,8 +23,8 @@ use Rattle.sas_outputs.specs.declared.Request.{Request}
 use Rattle.sas_outputs.specs.declared.Request.TheVariants.{Plan, Mutex}
 use Rattle.sas_outputs.specs.Headline.{Headline, Invariants}
 use Rattle.sas_outputs.specs.Output.{CheckOut, FileOut, PlanOut, PlanOutBy, VerdictOut, plain_refusal}
-use Rattle.sas_outputs.proofs.Headlines.{TellsValid, tells_valid, headline_of}
-use Rattle.sas_outputs.proofs.PlanOutputs.{Refuses, plain_refuses, judged_out}
+use Rattle.sas_outputs.proofs.Headlines.{TellsValid, headline_of}
+use Rattle.sas_outputs.proofs.PlanOutputs.{Refuses, judged_out}
 use Rattle.sas_requests.proofs.InvariantGroups.{TellsGroups, invariants_of}
 use Rattle.sas_requests.proofs.ReasonedOutputs.{headline_why, invariants_why}
 use Rattle.sas_requests.proofs.RequestEnds.{judged_by}
