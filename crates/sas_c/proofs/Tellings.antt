@@ -1,5 +1,5 @@
 -- What is told follows from how a run ended.
-use Rattle.std.proofs.Common.{◌≡◌, ℕ, ◌<◌, List, [], ◌++◌, length, take, drop, codes, arith, refl, sym, ap, subst, ◌∙◌, Option, Some, None, Result, Ok, Err}
+use Rattle.std.proofs.Common.{◌≡◌, ℕ, ◌<◌, List, [], ◌++◌, length, take, drop, codes, arith, refl, sym, ap, subst, ◌∙◌, Option, Some, None, Ok, Err}
 use Rattle.std.specs.Prelude.{IfSome}
 use Rattle.std.specs.Io.KnownBytes.{Appends}
 use Rattle.sas_core.specs.declared.parts.Parts.{Parts}
@@ -23,13 +23,14 @@ use Rattle.sas_outputs.specs.declared.Request.{Request}
 use Rattle.sas_outputs.specs.declared.Request.TheVariants.{Plan, Mutex}
 use Rattle.sas_outputs.specs.Headline.{Headline, Invariants}
 use Rattle.sas_outputs.specs.Output.{CheckOut, FileOut, PlanOut, PlanOutBy, VerdictOut, plain_refusal}
-use Rattle.sas_outputs.proofs.Headlines.{TellsValid, tells_valid, headline_of}
-use Rattle.sas_outputs.proofs.PlanOutputs.{Refuses, plain_refuses, judged_out}
-use Rattle.sas_requests.proofs.ExplainedPlans.{judged_why}
+use Rattle.sas_outputs.proofs.Headlines.{TellsValid, headline_of}
+use Rattle.sas_outputs.proofs.PlanOutputs.{Refuses, judged_out}
 use Rattle.sas_requests.proofs.InvariantGroups.{TellsGroups, invariants_of}
 use Rattle.sas_requests.proofs.ReasonedOutputs.{headline_why, invariants_why}
-use Rattle.sas_requests.specs.Explaining.{PlanOutWhy}
-use Rattle.sas_requests.specs.Why.{OutWhy}
+use Rattle.sas_requests.proofs.RequestEnds.{judged_by}
+use Rattle.sas_requests.specs.declared.detail.Detail.TheVariants.{Reasons}
+use Rattle.sas_requests.specs.FileReasons.{PlanFileReasons}
+use Rattle.sas_requests.specs.Why.{OutWhy, WithReasons}
 use Rattle.sas_plans.specs.declared.held.Opening.{Opening}
 use Rattle.sas_plans.specs.declared.held.Opening.TheVariants.{Ready, Refused}
 use Rattle.sas_plans.specs.Opened.{Opens}
@@ -187,8 +188,11 @@ module _ (b c before room : List ℕ) (size number : ℕ) (held : Option Prepare
   pub plan_told : IfSome held (λ prepared. Tells (VerdictOut VerdictAnswer prepared.held c) before room size number) → Tells (PlanOut b c) before room size number
   plan_told t = held_told (λ p. VerdictOut VerdictAnswer p c) (PlanOut b c) b before room size number (λ p layered reads. judged_out VerdictAnswer plain_refusal p layered b c reads) held holds t
 
-  pub why_told : IfSome held (λ prepared. Tells (PlanOutWhy (WhyVerdict prepared.held) c) before room size number) → Tells (OutWhy Plan b c) before room size number
-  why_told t = held_told (λ p. PlanOutWhy (WhyVerdict p) c) (OutWhy Plan b c) b before room size number (λ p layered reads. judged_why p layered b c reads) held holds t
+  abbrev PlanWhy : Parts → Option Output → Type 0
+  PlanWhy p = WithReasons (VerdictOut WhyVerdict p c) (PlanFileReasons c)
+
+  pub why_told : IfSome held (λ prepared. Tells (PlanWhy prepared.held) before room size number) → Tells (OutWhy Plan b c) before room size number
+  why_told t = held_told PlanWhy (OutWhy Plan b c) b before room size number (λ p layered reads. judged_by Reasons p layered b c reads) held holds t
 
   pub trace_told : IfSome held (λ prepared. Tells (VerdictOut TraceVerdict prepared.held c) before room size number) → Tells (TraceOut b c) before room size number
   trace_told t = held_told (λ p. VerdictOut TraceVerdict p c) (TraceOut b c) b before room size number (λ p layered reads. judged_out TraceVerdict plain_refusal p layered b c reads) held holds t

@@ -1,5 +1,5 @@
 -- Behind a trace stands, as its last line, whether the plan solves the task.
-use Rattle.std.proofs.Common.{◌≡◌, ℕ, List, [], ◌∷◌, ◌++◌, length, codes, decimal, refl, sym, ap, subst, ◌∙◌, inl, inr, Option, Some, None, Result, Ok, Err}
+use Rattle.std.proofs.Common.{◌≡◌, ℕ, List, [], ◌∷◌, ◌++◌, codes, decimal, refl, sym, ap, subst, ◌∙◌, inl, inr, Option, Some, None, Result, Ok, Err}
 use Rattle.std.proofs.lemmas.List.{same_from_push}
 use Rattle.sas_core.specs.declared.parts.Parts.{Parts}
 use Rattle.sas_core.specs.FirstFault.{first_fault}
@@ -14,7 +14,7 @@ use Rattle.sas_output.specs.Ending.{Output}
 use Rattle.sas_answers.specs.Answers.{VerdictAnswer}
 use Rattle.sas_answers.specs.PlanWords.{valid_line}
 use Rattle.sas_outputs.specs.Headline.{Headline}
-use Rattle.sas_outputs.specs.Output.{IsAnswerOrRefusal, LayersOut, JudgedOut, PlanOut, plain_refusal}
+use Rattle.sas_outputs.specs.Output.{IsAnswerOrRefusal, LayersOut, JudgedOut, plain_refusal}
 use Rattle.sas_outputs.proofs.Headlines.{tells_valid, headline_of}
 use Rattle.sas_outputs.proofs.PlanOutputs.{plain_refuses}
 use Rattle.sas_trace.specs.Trace.{run_lines}

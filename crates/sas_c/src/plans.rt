@@ -4,8 +4,8 @@ ghost use Rattle.sas_answers.specs.Answers.{VerdictAnswer};
 ghost use Rattle.sas_explain.specs.Verdict.{WhyVerdict};
 ghost use Rattle.sas_outputs.specs.Output.{PlanOut, VerdictOut};
 ghost use Rattle.sas_trace.specs.Traced.{TraceVerdict};
-ghost use Rattle.sas_requests.specs.Explaining.{PlanOutWhy};
-ghost use Rattle.sas_requests.specs.Why.{OutWhy};
+ghost use Rattle.sas_requests.specs.FileReasons.{PlanFileReasons};
+ghost use Rattle.sas_requests.specs.Why.{OutWhy, WithReasons};
 ghost use Rattle.sas_plans.specs.TraceOut.{TraceOut};
 ghost use Rattle.sas_c.specs.Telling.{Tells, TellsHeadline, TellsLastLine};
 ghost use Rattle.sas_c.specs.Holding.{Holds};
@@ -56,8 +56,8 @@ pub extern "C" fn sas_task_plan_why(
     room: &mut [u8],
     size: &mut usize,
 ) -> u32
-    ensures tells { IfSome task.old.pointer.task (λ prepared.
-        Tells (PlanOutWhy (WhyVerdict prepared.held) plan.now)
+    ensures tells { IfSome task.old.pointer.task (λ prepared. Tells
+        (WithReasons (VerdictOut WhyVerdict prepared.held plan.now) (PlanFileReasons plan.now))
         room.old room.new size.new result) }
     ensures bytes { (b : List ℕ) → Holds b task.old.pointer.task
         → Tells (OutWhy Request.Plan b plan.now) room.old room.new size.new result }
@@ -131,7 +131,8 @@ fn explain(
     room: &mut [u8],
     size: &mut usize,
 ) -> u32
-    ensures { Tells (PlanOutWhy (WhyVerdict prepared.now.held) plan.now)
+    ensures { Tells
+        (WithReasons (VerdictOut WhyVerdict prepared.now.held plan.now) (PlanFileReasons plan.now))
         room.old room.new size.new result }
 {
     let mut text = Watched::new(Vec::new(alloc));
@@ -142,13 +143,7 @@ fn explain(
 }
 
 /// Writes whether the plan solves the task, behind its trace.
-fn trace(
-    alloc: Global,
-    prepared: &Prepared,
-    plan: &[u8],
-    room: &mut [u8],
-    size: &mut usize,
-) -> u32
+fn trace(alloc: Global, prepared: &Prepared, plan: &[u8], room: &mut [u8], size: &mut usize) -> u32
     ensures { Tells (VerdictOut TraceVerdict prepared.now.held plan.now)
         room.old room.new size.new result }
 {

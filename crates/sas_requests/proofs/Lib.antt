@@ -11,4 +11,4 @@ pub mod RefusalReasons
 mod RefusalLaws
 pub mod ReasonedOutputs
 mod FileEnds
-mod RequestEnds
+pub mod RequestEnds

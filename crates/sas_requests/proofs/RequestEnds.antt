@@ -110,7 +110,7 @@ unlayered_by Reasons b c o out =
     }
 
 -- and of the plan of a layered one
-judged_by : (detail : Detail) (p : Parts) → IsLayered p → (b c : List ℕ) → ReadsAs task_format most_bytes b (Ok p) → (o : Option Output) → PlanBy detail (VerdictBy detail p) c o → OutBy detail request.Plan b c o
+pub judged_by : (detail : Detail) (p : Parts) → IsLayered p → (b c : List ℕ) → ReadsAs task_format most_bytes b (Ok p) → (o : Option Output) → PlanBy detail (VerdictBy detail p) c o → OutBy detail request.Plan b c o
 judged_by Plain p layered b c reads o out = judged_out VerdictAnswer plain_refusal p layered b c reads o out
 judged_by Reasons p layered b c reads o out = record {
   of_read = out.of_read;

@@ -19,6 +19,7 @@ ghost use Rattle.sas_output.specs.Ending.{Ends, EndsCounting, IsDecided, IsWrite
 use answers::answer;
 use detail::{Asked, Detail};
 pub use laws::{explain_laws, run_laws};
+pub use plans::explain_bytes;
 use sas_lines::Watched;
 pub use sas_output::{Status, ToolFault};
 pub use sas_outputs::{Request, refuse_file};

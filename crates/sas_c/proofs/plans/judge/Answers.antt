@@ -1,7 +1,7 @@
 use Rattle.sas_output.specs.Ending.{output_told}
 use Rattle.sas_answers.specs.Answers.{VerdictAnswer}
 use Rattle.sas_outputs.specs.Output.{VerdictOut}
-use Rattle.sas_c.proofs.Tellings.{tells_fault, tells_output}
+use Rattle.sas_c.proofs.Tellings.{tells_output}
 use Rattle.sas_c.proofs.plans.judge.Goals as goal
 
 pub returns-in-Ok-clause-tells : goal.returns-in-Ok-clause-tells
