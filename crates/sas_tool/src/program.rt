@@ -32,10 +32,10 @@ const WRITE_FAILED: &str = "sas: write failed";
 
 const INPUT_TWICE: &str = "sas: standard input used twice";
 
-/// Runs the program. In this order: its arguments, replacing closed standard streams, opening its inputs, the run, and flushing
-/// standard output. The first of these that fails is reported by a line on standard error; a failure to write that line is ignored.
-/// The exit status is 0 for yes, 1 for no, 2 for invalid arguments, and 3 otherwise. A read of standard input that is closed at the
-/// start fails, and so does a write to standard output that is.
+/// Runs the program. `input`, `output` and `error` are its standard streams. In this order: its arguments, replacing closed streams,
+/// opening its inputs, the run, and flushing standard output. The first of these that fails is reported by a line on standard error;
+/// a failure to write that line is ignored. The exit status is 0 for yes, 1 for no, 2 for invalid arguments, and 3 otherwise. A read
+/// of standard input that is closed at the start fails, and so does a write to standard output that is.
 pub fn start<R: AllocGlobal + Env + Files + Input + Print + Eprint>(
     rt: &R,
     input: &impl AsFd,
