@@ -1,11 +1,9 @@
-use Rattle.std.proofs.Common.{[], None, Err}
-use Rattle.std.specs.Io.KnownBytes.{Appends}
-use Rattle.std.proofs.lemmas.Result.{err_from_is_err_and}
-use Rattle.sas_requests.specs.Answering.{output_of}
-use Rattle.sas_requests.specs.Why.{OutWhy}
-use Rattle.sas_outputs.proofs.Endings.{ends_counting_well, ends_err}
 use Rattle.sas_outputs.specs.Output.{Out}
-use Rattle.sas_output.proofs.Sent.{ends_counting_as, exact_ends}
+use Rattle.sas_output.proofs.Sent.{exact_ends}
+use Rattle.sas_requests.specs.declared.detail.Detail.TheVariants.{Reasons}
+use Rattle.sas_requests.specs.Why.{OutWhy}
+use Rattle.sas_requests.proofs.FileEnds.{ends_by}
+use Rattle.sas_requests.proofs.RequestEnds.{headline_told, invariants_told}
 use Rattle.sas_requests.proofs.ShortOutputs.{short_output}
 use Rattle.sas_requests.proofs.explain.Goals as goal
 

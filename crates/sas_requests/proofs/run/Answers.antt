@@ -1,12 +1,7 @@
-use Rattle.std.proofs.Common.{[]}
-use Rattle.sas_answers.specs.Answers.{MutexAnswer, VerdictAnswer}
-use Rattle.sas_requests.specs.Answering.{output_of}
-use Rattle.sas_outputs.specs.Output.{Out, plain_refusal}
-use Rattle.sas_outputs.proofs.Endings.{ends_counting_well}
-use Rattle.sas_output.proofs.Sent.{ends_counting_as, exact_ends}
-use Rattle.sas_outputs.proofs.Headlines.{tells_valid, headline_of}
-use Rattle.sas_requests.proofs.InvariantGroups.{plain_groups, invariants_of}
-use Rattle.sas_outputs.proofs.PlanOutputs.{plain_refuses}
+use Rattle.sas_outputs.specs.Output.{Out}
+use Rattle.sas_output.proofs.Sent.{exact_ends}
+use Rattle.sas_requests.specs.declared.detail.Detail.TheVariants.{Plain}
+use Rattle.sas_requests.proofs.RequestEnds.{headline_told, invariants_told}
 use Rattle.sas_requests.proofs.ShortOutputs.{short_output}
 use Rattle.sas_requests.proofs.run.Goals as goal
 
