@@ -8,10 +8,10 @@ use Rattle.std.proofs.lemmas.List.Elements.{All-nil, All-push, All-weaker}
 use Rattle.sas_core.specs.declared.parts.Fact.{Fact}
 use Rattle.sas_core.specs.declared.parts.Parts.{Parts}
 use Rattle.sas_core.specs.Grounded.{rule_at}
-use Rattle.sas_lists.specs.declared.by_key.Entry.{Entry}
-use Rattle.sas_lists.specs.ByKey.{items_of, by_key}
-use Rattle.sas_lists.proofs.Tables.{length-table}
-use Rattle.sas_lists.proofs.ByKey.{items_none, items_cons, under_key, all_items}
+use Rattle.sas_flat.specs.declared.by_key.Entry.{Entry}
+use Rattle.sas_flat.specs.ByKey.{items_of, by_key}
+use Rattle.sas_flat.proofs.Tables.{length-table}
+use Rattle.sas_flat.proofs.ByKey.{items_none, items_cons, under_key, all_items}
 use Rattle.sas_meaning.specs.Layers.{IsOnLayer}
 use Rattle.sas_meaning.proofs.Layers.{layer_tells, on_layer_within}
 use Rattle.sas_axioms.specs.declared.waiting.Waiting.{Waiting}

@@ -9,10 +9,10 @@ use Rattle.std.proofs.lemmas.List.Elements.{All-nil, All-push, Contains-get_or}
 use Rattle.sas_core.specs.declared.parts.Rule.{Rule}
 use Rattle.sas_core.specs.declared.parts.Parts.{Parts}
 use Rattle.sas_core.specs.Grounded.{rule_at}
-use Rattle.sas_lists.specs.declared.by_key.Entry.{Entry}
-use Rattle.sas_lists.specs.ByKey.{items_of, by_key}
-use Rattle.sas_lists.proofs.Tables.{length-table}
-use Rattle.sas_lists.proofs.ByKey.{item_if, items_none, items_append, items_cons, under_key}
+use Rattle.sas_flat.specs.declared.by_key.Entry.{Entry}
+use Rattle.sas_flat.specs.ByKey.{items_of, by_key}
+use Rattle.sas_flat.proofs.Tables.{length-table}
+use Rattle.sas_flat.proofs.ByKey.{item_if, items_none, items_append, items_cons, under_key}
 use Rattle.sas_meaning.specs.Layers.{IsOnLayer, default_of, CanFire, can_fire}
 use Rattle.sas_meaning.specs.Places.{places, can_give}
 use Rattle.sas_meaning.proofs.Layers.{on_layer_within}

@@ -5,7 +5,7 @@ use Rattle.sas_core.specs.declared.parts.Fact.{Fact}
 use Rattle.sas_core.specs.declared.parts.Parts.{Parts}
 use Rattle.sas_core.specs.Grounded.{rule_at}
 use Rattle.sas_core.specs.WellRanged.{WellRanged}
-use Rattle.sas_lists.specs.declared.by_key.Entry.{Entry}
+use Rattle.sas_flat.specs.declared.by_key.Entry.{Entry}
 use Rattle.sas_meaning.specs.Layers.{IsBasic}
 use Rattle.sas_axioms.specs.declared.counting.Counted.{Counted}
 use Rattle.sas_axioms.specs.declared.waiting.Waiting.{Waiting}

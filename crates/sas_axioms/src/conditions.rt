@@ -7,7 +7,7 @@ ghost use Rattle.sas_axioms.specs.Conditions.{IsFullIndex, AreAllConditions, Are
 use crate::layer_rules::firing_layer;
 use crate::waiting::{Waiting, entry_of};
 use sas_core::Grounded;
-use sas_lists::{Entry, Lists};
+use sas_flat::{Entry, Lists};
 use sas_meaning::Layered;
 use std::alloc::{AllocError, Global};
 

@@ -9,7 +9,7 @@ use crate::conditions::index_of_all;
 use crate::firing::open_of;
 use crate::waiting::Waiting;
 use sas_core::{Fact, Grounded, Items};
-use sas_lists::Lists;
+use sas_flat::Lists;
 use sas_meaning::{Layered, State};
 use std::alloc::{AllocError, Global};
 

@@ -25,7 +25,7 @@ use crate::layer_rules::{LayerRule, rules_of_variables};
 use crate::resting::Resting;
 use crate::waiting::{Waiting, index_of_own_layers};
 use sas_core::{Fact, Grounded, Items};
-use sas_lists::Lists;
+use sas_flat::Lists;
 use sas_meaning::{Layered, State, Touched};
 use std::alloc::{AllocError, Global};
 

@@ -26,7 +26,7 @@ use crate::firing::Work;
 use crate::layer_rules::{LayerRule, firing_layer};
 use crate::waiting::Waiting;
 use sas_core::{Fact, Grounded};
-use sas_lists::Lists;
+use sas_flat::Lists;
 use sas_meaning::{Layered, State, Touched};
 
 /// The former and the new value of a variable.

@@ -3,7 +3,7 @@ ghost use Rattle.std.specs.Prelude.{◌≡◌, ◌<◌, ◌≤◌, ◌^◌, ℕ,
 ghost use Rattle.sas_axioms.specs.LayerRules.{IsRuleOn, AreFiringRules, AreLayerRules, IsLayerEnd, IsLayerSpan, AreSpans, AreRulesOf};
 
 use sas_core::Grounded;
-use sas_lists::{Entry, Lists};
+use sas_flat::{Entry, Lists};
 use sas_meaning::Layered;
 use std::alloc::{AllocError, Global};
 

@@ -5,7 +5,7 @@ ghost use Rattle.sas_axioms.specs.Waiting.{entry_of, IsWaiting, AddsWaiting, IsI
 
 use crate::layer_rules::firing_layer;
 use sas_core::{Fact, Grounded};
-use sas_lists::{Entry, Lists};
+use sas_flat::{Entry, Lists};
 use sas_meaning::Layered;
 use std::alloc::{AllocError, Global};
 

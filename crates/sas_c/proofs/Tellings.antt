@@ -17,7 +17,7 @@ use Rattle.sas_output.specs.declared.told.Told.{Told}
 use Rattle.sas_output.specs.Ending.{Output, Ends, EndsCounting, output_told}
 use Rattle.sas_answers.specs.Answers.{layers_verdict, VerdictAnswer}
 use Rattle.sas_core.specs.PlanParts.{PlanParts}
-use Rattle.sas_explain.specs.Verdict.{WhyVerdict}
+use Rattle.sas_why.specs.Verdict.{WhyVerdict}
 use Rattle.sas_trace.specs.Traced.{TraceVerdict}
 use Rattle.sas_outputs.specs.declared.Request.{Request}
 use Rattle.sas_outputs.specs.declared.Request.TheVariants.{Plan, Mutex}
@@ -35,7 +35,7 @@ use Rattle.sas_plans.specs.declared.held.Opening.{Opening}
 use Rattle.sas_plans.specs.declared.held.Opening.TheVariants.{Ready, Refused}
 use Rattle.sas_plans.specs.Opened.{Opens}
 use Rattle.sas_plans.specs.TraceOut.{TraceOut}
-use Rattle.sas_held.specs.declared.prepared.Prepared.{Prepared}
+use Rattle.sas_c.specs.declared.prepared.Prepared.{Prepared}
 use Rattle.sas_c.specs.Holding.{Holds}
 use Rattle.sas_c.specs.Telling.{Tells, TellsHeadline, EndsInLine, TellsLastLine, TellsInvariants, number_of_fault, number_of_status}
 use Rattle.sas_c.proofs.TracedPlans.{traced_headline}

@@ -4,7 +4,7 @@ use Rattle.sas_meaning.specs.Layers.{IsLayered}
 use Rattle.sas_reader.specs.Format.{ReadsAs}
 use Rattle.sas_reader.specs.Limit.{most_bytes}
 use Rattle.sas_task_format.specs.TaskFormat.{task_format}
-use Rattle.sas_held.specs.declared.prepared.Prepared.{Prepared}
+use Rattle.sas_c.specs.declared.prepared.Prepared.{Prepared}
 
 -- a task is held, the one that the bytes are a text of, and it is layered
 abbrev pub Holds : List ℕ → Option Prepared → Type 0

@@ -1,2 +1,3 @@
+pub mod TaskPointers
 pub mod Telling
 pub mod Holding

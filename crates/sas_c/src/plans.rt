@@ -1,7 +1,7 @@
 // Plans of a task that is held. It stays held.
 ghost use Rattle.std.specs.Prelude.{◌≡◌, List, ℕ, IfSome, IsNone};
 ghost use Rattle.sas_answers.specs.Answers.{VerdictAnswer};
-ghost use Rattle.sas_explain.specs.Verdict.{WhyVerdict};
+ghost use Rattle.sas_why.specs.Verdict.{WhyVerdict};
 ghost use Rattle.sas_outputs.specs.Output.{PlanOut, VerdictOut};
 ghost use Rattle.sas_trace.specs.Traced.{TraceVerdict};
 ghost use Rattle.sas_requests.specs.FileReasons.{PlanFileReasons};
@@ -11,8 +11,9 @@ ghost use Rattle.sas_c.specs.Telling.{Tells, TellsHeadline, TellsLastLine};
 ghost use Rattle.sas_c.specs.Holding.{Holds};
 
 use crate::numbers::{NO_TASK, number_without};
+use crate::prepared::Prepared;
+use crate::sas_task::SasTask;
 use crate::telling::{tell, tell_told};
-use sas_held::{Prepared, SasTask};
 use sas_lines::Watched;
 use sas_plans::{judge_bytes, trace_bytes};
 use sas_requests::{Request, explain_bytes};

@@ -6,10 +6,11 @@ ghost use Rattle.sas_c.specs.Telling.{Tells};
 ghost use Rattle.sas_c.specs.Holding.{Holds};
 
 use crate::numbers::{OUT_OF_MEMORY, YES, number_without};
+use crate::prepared::Prepared;
+use crate::sas_task::SasTask;
 use crate::telling::{tell, tell_told};
 use sas_axioms::Worklist;
 use sas_flat::FlatTask;
-use sas_held::{Prepared, SasTask};
 use sas_output::Status;
 use sas_plans::{Opening, open_task};
 use sas_run::Held;

@@ -7,10 +7,10 @@ use Rattle.std.proofs.Math.Seq.{get_or-append_seam, drop-append_seam}
 use Rattle.sas_core.specs.declared.grounded.Change.{Change}
 use Rattle.sas_core.specs.declared.parts.Fact.{Fact}
 use Rattle.sas_core.specs.declared.parts.Effect.{Effect}
-use Rattle.sas_lists.specs.Table.{table}
+use Rattle.sas_flat.specs.Table.{table}
 use Rattle.sas_core.specs.Changes.{plain_effect, plain_effects}
 use Rattle.sas_flat.specs.Effects.{effect, change_in, effects_of, effect_in}
-use Rattle.sas_lists.proofs.Tables.{length-table, table_same, table_none, table_more, table_append, get_or-table, take-table}
+use Rattle.sas_flat.proofs.Tables.{length-table, table_same, table_none, table_more, table_append, get_or-table, take-table}
 
 pub no_effect : (cs : List Change) (ds : List (List Fact)) → cs ≡ [] → effects_of cs ds ≡ []
 no_effect cs ds none = table_none (length cs) _ (ap length none)

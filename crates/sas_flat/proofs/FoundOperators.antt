@@ -9,10 +9,10 @@ use Rattle.sas_core.specs.declared.parts.Operator.{Operator}
 use Rattle.sas_flat.specs.declared.operators.Head.{Head}
 use Rattle.sas_flat.specs.declared.operators.Columns.{Columns}
 use Rattle.sas_flat.specs.Effects.{effect_in}
-use Rattle.sas_lists.specs.Lists.{start_of, list_at, lists_of, AreEnds}
+use Rattle.sas_flat.specs.Lists.{start_of, list_at, lists_of, AreEnds}
 use Rattle.sas_flat.specs.Operators.{operator, name_ends, prevail_ends, effect_ends, costs, operators_in, operator_in, end_head, AreAligned}
-use Rattle.sas_lists.proofs.Tables.{length-table, table_more, get_or-table}
-use Rattle.sas_lists.proofs.Blocks.{list_of, lists_more, ends_more, list_length, item_of_list}
+use Rattle.sas_flat.proofs.Tables.{length-table, table_more, get_or-table}
+use Rattle.sas_flat.proofs.Blocks.{list_of, lists_more, ends_more, list_length, item_of_list}
 use Rattle.sas_flat.proofs.Rows.{last_item}
 
 -- where an operator starts, the head before its own says

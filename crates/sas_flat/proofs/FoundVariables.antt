@@ -5,10 +5,10 @@ use Rattle.std.proofs.lemmas.Option.{slice_get-get_or}
 use Rattle.sas_core.specs.declared.parts.Variable.{Variable}
 use Rattle.sas_core.specs.Variables.{range_of, layer_of, value_name}
 use Rattle.sas_flat.specs.declared.variables.Columns.{Columns}
-use Rattle.sas_lists.specs.Lists.{start_of, list_at, lists_of}
+use Rattle.sas_flat.specs.Lists.{start_of, list_at, lists_of}
 use Rattle.sas_flat.specs.Variables.{variables_in, variables_of, AreAligned, OneMore}
-use Rattle.sas_lists.proofs.Tables.{length-table, get_or-table}
-use Rattle.sas_lists.proofs.Blocks.{lists_more, list_length, item_of_list}
+use Rattle.sas_flat.proofs.Tables.{length-table, get_or-table}
+use Rattle.sas_flat.proofs.Blocks.{lists_more, list_length, item_of_list}
 use Rattle.sas_flat.proofs.Rows.{variable_count, name_is, range_is, layer_is, value_is, variables_more}
 
 module _ (c : Columns) (vs : List Variable) (is : variables_in c ≡ vs) where

@@ -8,9 +8,9 @@ use Rattle.sas_core.specs.declared.parts.Effect.{Effect}
 use Rattle.sas_core.specs.declared.parts.Fact.{Fact}
 use Rattle.sas_core.specs.declared.parts.Operator.{Operator}
 use Rattle.sas_core.specs.declared.parts.Variable.{Variable}
-use Rattle.sas_lists.specs.Lists.{list_at, lists_of}
-use Rattle.sas_lists.specs.Table.{table}
-use Rattle.sas_lists.proofs.Blocks.{ends_more}
+use Rattle.sas_flat.specs.Lists.{list_at, lists_of}
+use Rattle.sas_flat.specs.Table.{table}
+use Rattle.sas_flat.proofs.Blocks.{ends_more}
 use Rattle.sas_flat.specs.Growing.{Kept}
 use Rattle.sas_flat.specs.declared.operators.Head.{Head}
 use Rattle.sas_flat.specs.declared.operators.Columns as in_operators

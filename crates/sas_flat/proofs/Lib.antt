@@ -1,3 +1,8 @@
+pub mod Tables
+pub mod Blocks
+pub mod ByKey
+pub mod Kept
+mod Placing
 mod EffectRows
 mod Rows
 mod FoundOperators

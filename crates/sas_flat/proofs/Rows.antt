@@ -8,7 +8,7 @@ use Rattle.std.proofs.Math.Seq.{get_or-append_seam}
 use Rattle.sas_core.specs.declared.parts.Variable.{Variable}
 use Rattle.sas_core.specs.Variables.{range_of, layer_of, value_name}
 use Rattle.sas_flat.specs.Variables.{variable, variables_of}
-use Rattle.sas_lists.proofs.Tables.{length-table, table_none, table_more, slice_get-table}
+use Rattle.sas_flat.proofs.Tables.{length-table, table_none, table_more, slice_get-table}
 
 -- in a column with as many items as another, what is put behind the items stands at the other's end
 pub last_item : {X : Type 0} (xs : List X) (x : X) (d : X) (n : ℕ) → length xs ≡ n → get_or (xs ++ x ∷ []) n d ≡ x

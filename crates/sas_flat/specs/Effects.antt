@@ -3,7 +3,7 @@ use Rattle.std.specs.Prelude.{ℕ, List, [], length, slice_index_or, None}
 use Rattle.sas_core.specs.declared.grounded.Change.{Change}
 use Rattle.sas_core.specs.declared.parts.Fact.{Fact}
 use Rattle.sas_core.specs.declared.parts.Effect.{Effect}
-use Rattle.sas_lists.specs.Table.{table}
+use Rattle.sas_flat.specs.Table.{table}
 
 -- the effect with this change and these conditions
 abbrev pub effect : Change → List Fact → Effect

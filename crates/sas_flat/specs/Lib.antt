@@ -1,3 +1,6 @@
+pub mod Table
+pub mod Lists
+pub mod ByKey
 pub mod Growing
 pub mod Effects
 pub mod Rules

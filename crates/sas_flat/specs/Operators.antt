@@ -6,8 +6,8 @@ use Rattle.sas_core.specs.declared.parts.Effect.{Effect}
 use Rattle.sas_core.specs.declared.parts.Operator.{Operator}
 use Rattle.sas_flat.specs.declared.operators.Head.{Head}
 use Rattle.sas_flat.specs.declared.operators.Columns.{Columns}
-use Rattle.sas_lists.specs.Lists.{list_at, AreEnds}
-use Rattle.sas_lists.specs.Table.{table}
+use Rattle.sas_flat.specs.Lists.{list_at, AreEnds}
+use Rattle.sas_flat.specs.Table.{table}
 
 abbrev pub operator : List ℕ → List Fact → List Effect → ℕ → Operator
 operator name prevail effects cost =

@@ -2,8 +2,8 @@
 use Rattle.std.specs.Prelude.{◌≡◌, ℕ, List, [], ◌∷◌, ◌++◌, ◌+◌, length, slice_index_or, Option, None}
 use Rattle.sas_core.specs.declared.parts.Variable.{Variable}
 use Rattle.sas_flat.specs.declared.variables.Columns.{Columns}
-use Rattle.sas_lists.specs.Lists.{lists_of, AreEnds}
-use Rattle.sas_lists.specs.Table.{table}
+use Rattle.sas_flat.specs.Lists.{lists_of, AreEnds}
+use Rattle.sas_flat.specs.Table.{table}
 
 abbrev pub variable : List ℕ → Option ℕ → List (List ℕ) → Variable
 variable name layer values = record { name = name; layer = layer; values = values }

@@ -1,9 +1,9 @@
 // The columns of a flat task.
+use crate::lists::Lists;
 use crate::operators::Operators;
 use crate::rules::Rules;
 use crate::variables::Variables;
 use sas_core::{Fact, Items};
-use sas_lists::Lists;
 
 /// The contents of a task in a few blocks of memory. They may violate the rules of the format.
 #[derive(Debug, Drop)]

@@ -5,8 +5,8 @@ ghost use Rattle.sas_core.specs.Changes as changes;
 ghost use Rattle.sas_core.specs.Changes.{plain_effects};
 ghost use Rattle.sas_flat.specs.Effects.{effect, effect_in};
 
+use crate::lists::Lists;
 use sas_core::{Change, Fact};
-use sas_lists::Lists;
 use std::alloc::{AllocError, Global};
 use std::marker::Model;
 

@@ -5,7 +5,7 @@ ghost use Rattle.sas_core.specs.Changes as changes;
 ghost use Rattle.sas_core.specs.Changes.{plain_effects};
 ghost use Rattle.sas_flat.specs.Effects.{effect_in};
 ghost use Rattle.sas_flat.specs.Growing.{Kept};
-ghost use Rattle.sas_lists.specs.Lists.{start_of};
+ghost use Rattle.sas_flat.specs.Lists.{start_of};
 ghost use Rattle.sas_flat.specs.Operators.{operator, operator_in, name_ends, prevail_ends, effect_ends, end_head};
 
 use crate::effects::Effects;

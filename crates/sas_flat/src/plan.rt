@@ -3,8 +3,8 @@ ghost use Rattle.std.specs.Prelude.{◌≡◌};
 ghost use Rattle.std.specs.List.{AllByRecursion};
 ghost use Rattle.sas_core.specs.Names.{IsName};
 
+use crate::lists::Lists;
 use sas_core::{CostKind, Stepwise};
-use sas_lists::Lists;
 use std::marker::Model;
 
 /// A plan whose step names are stored in one block of memory. In a contract its value is the contents of the plan.

@@ -3,10 +3,11 @@ ghost use Rattle.std.specs.Prelude.{◌≡◌, ◌<◌, ◌≤◌, [], ◌∷◌
 ghost use Rattle.sas_core.specs.declared.parts.Variable.{Variable};
 ghost use Rattle.sas_core.specs.Variables as spec;
 ghost use Rattle.sas_flat.specs.Growing.{Kept};
-ghost use Rattle.sas_lists.specs.Lists.{AreEnds};
+ghost use Rattle.sas_flat.specs.Lists.{AreEnds};
 ghost use Rattle.sas_flat.specs.Variables.{variable, OneMore};
 
-use sas_lists::{Ends, Lists};
+use crate::ends::Ends;
+use crate::lists::Lists;
 use std::alloc::{AllocError, Global};
 use std::marker::Model;
 

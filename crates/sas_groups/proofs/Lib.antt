@@ -1,3 +1,11 @@
+pub mod Numbering
+pub mod InLists
+pub mod Entering
+pub mod InOrder
+pub mod RunLengths
+pub mod ByVariable
+pub mod Existing
+pub mod NotesOfFacts
 pub mod Invariance
 pub mod GreatestFamily
 pub mod Turns

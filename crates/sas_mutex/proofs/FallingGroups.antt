@@ -12,7 +12,7 @@ use Rattle.sas_groups.specs.Lists.{known}
 use Rattle.sas_groups.specs.Families.{IsIn, IsGroupOf, IsGroupOfOr, IsKeptJointly, IsGreatest}
 use Rattle.sas_groups.proofs.GreatestFamily.{group_of_larger, keeps_more}
 use Rattle.sas_mutex.specs.declared.family.Family.{Family}
-use Rattle.sas_group_index.specs.Kept.{family_of}
+use Rattle.sas_groups.specs.Kept.{family_of}
 use Rattle.sas_mutex.specs.Effects.{IsKept, EffectKeeps, KeepsAt, KeepsWithItself}
 use Rattle.sas_mutex.specs.Basis.{EffectKeepsByBasis, KeepsByBasis, IsBasis}
 use Rattle.sas_mutex.specs.Falling.{IsEffectAtRest, IsAtRest, RestsAt, AreCandidates, newly, Falls, IsWithin, RestsOn}

@@ -11,16 +11,16 @@ use Rattle.sas_core.specs.declared.parts.Parts.{Parts}
 use Rattle.sas_core.specs.Variables.{FactExists}
 use Rattle.sas_groups.specs.Checks.{IsGone}
 use Rattle.sas_groups.specs.Lists.{known}
-use Rattle.sas_group_index.specs.declared.index.Index.{Index}
-use Rattle.sas_group_index.specs.declared.notes.Notes.{Notes}
+use Rattle.sas_groups.specs.declared.index.Index.{Index}
+use Rattle.sas_groups.specs.declared.notes.Notes.{Notes}
 use Rattle.sas_mutex.specs.Effects.{IsKept}
-use Rattle.sas_group_index.specs.Index.{IsIndexOf}
-use Rattle.sas_group_index.specs.Notes.{value_note}
+use Rattle.sas_groups.specs.Index.{IsIndexOf}
+use Rattle.sas_groups.specs.Notes.{value_note}
 use Rattle.sas_mutex.specs.ByNotes.{AreKnown, IsUnknown, IsDecidedByFirst}
-use Rattle.sas_group_index.specs.Distinct.{AreDistinct}
-use Rattle.sas_group_index.specs.Runs.{AreOnOne, AreRuns}
-use Rattle.sas_group_index.proofs.Existing.{variable_below}
-use Rattle.sas_group_index.proofs.NotesOfFacts.{a_note, value_note_tells}
+use Rattle.sas_groups.specs.Distinct.{AreDistinct}
+use Rattle.sas_groups.specs.Runs.{AreOnOne, AreRuns}
+use Rattle.sas_groups.proofs.Existing.{variable_below}
+use Rattle.sas_groups.proofs.NotesOfFacts.{a_note, value_note_tells}
 use Rattle.sas_mutex.proofs.ToldByNotes.{other_value_clashes}
 
 -- of the facts of a run that is settled none is known, so that what is noted for their variable is

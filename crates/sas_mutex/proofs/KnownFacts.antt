@@ -11,18 +11,18 @@ use Rattle.sas_core.specs.declared.parts.Parts.{Parts}
 use Rattle.sas_core.specs.Grounded.{group_at}
 use Rattle.sas_core.specs.Variables.{FactExists}
 use Rattle.sas_groups.specs.Clashes.{Contradict, Clash}
-use Rattle.sas_group_index.specs.declared.index.Index.{Index}
-use Rattle.sas_group_index.specs.declared.notes.Notes.{Notes}
-use Rattle.sas_group_index.specs.declared.notes.Noted.{Noted}
-use Rattle.sas_group_index.specs.declared.notes.Noted.TheVariants.{Nothing, One, Several}
+use Rattle.sas_groups.specs.declared.index.Index.{Index}
+use Rattle.sas_groups.specs.declared.notes.Notes.{Notes}
+use Rattle.sas_groups.specs.declared.notes.Noted.{Noted}
+use Rattle.sas_groups.specs.declared.notes.Noted.TheVariants.{Nothing, One, Several}
 use Rattle.sas_mutex.specs.Effects.{IsKept}
-use Rattle.sas_group_index.specs.Index.{IsIndexOf, HasFact, groups_of}
-use Rattle.sas_group_index.specs.Notes.{value_note, group_note, IsWide, AreBlank, AreFrom, IsValueNote, IsOfGroup, IsOfGroupBeside, IsNoteOf, IsGroupNote}
-use Rattle.sas_group_index.specs.Noting.{Takes, ShareKept, IsContradicted, ChangesAt, IsThere, IsNew, IsSetApart}
+use Rattle.sas_groups.specs.Index.{IsIndexOf, HasFact, groups_of}
+use Rattle.sas_groups.specs.Notes.{value_note, group_note, IsWide, AreBlank, AreFrom, IsValueNote, IsOfGroup, IsOfGroupBeside, IsNoteOf, IsGroupNote}
+use Rattle.sas_groups.specs.Noting.{Takes, ShareKept, IsContradicted, ChangesAt, IsThere, IsNew, IsSetApart}
 use Rattle.sas_mutex.specs.ByNotes.{ShareOne, AreKnown}
-use Rattle.sas_group_index.proofs.Lists.{in_none, is_among}
-use Rattle.sas_group_index.proofs.Existing.{variable_below}
-use Rattle.sas_group_index.proofs.NotesOfFacts.{none_or_some, same_inside, apart_or_not, value_note_tells, no_value_note_tells, value_note_of, note_stays, note_changes, other_known, no_other, from_apart, noted_still}
+use Rattle.sas_groups.proofs.InLists.{in_none, is_among}
+use Rattle.sas_groups.proofs.Existing.{variable_below}
+use Rattle.sas_groups.proofs.NotesOfFacts.{none_or_some, same_inside, apart_or_not, value_note_tells, no_value_note_tells, value_note_of, note_stays, note_changes, other_known, no_other, from_apart, noted_still}
 
 -- where several are, they clash if the group counts
 pub several_clash : (p : Parts) (Counts : List Fact → Type 0) (facts : List Fact) (place : ℕ) → Counts (group_at p place)

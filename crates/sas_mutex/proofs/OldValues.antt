@@ -16,12 +16,12 @@ use Rattle.sas_core.specs.WellRanged.{WellRanged}
 use Rattle.sas_meaning.specs.Steps.{old_fact, preconditions}
 use Rattle.sas_groups.specs.Families.{IsIn}
 use Rattle.sas_groups.specs.Lists.{known}
-use Rattle.sas_group_index.specs.declared.index.Index.{Index}
-use Rattle.sas_group_index.specs.Kept.{family_of}
+use Rattle.sas_groups.specs.declared.index.Index.{Index}
+use Rattle.sas_groups.specs.Kept.{family_of}
 use Rattle.sas_mutex.specs.Effects.{IsKept}
-use Rattle.sas_group_index.specs.Index.{IsIndexOf, groups_of}
+use Rattle.sas_groups.specs.Index.{IsIndexOf, groups_of}
 use Rattle.sas_mutex.specs.ByNotes.{AreGone}
-use Rattle.sas_group_index.proofs.Lists.{in_flat, given_is}
+use Rattle.sas_groups.proofs.InLists.{in_flat, given_is}
 use Rattle.sas_mutex.proofs.TaskFacts.{conditions_exist, known_exist}
 use Rattle.sas_mutex.proofs.ToldByNotes.{known_one_is_all}
 

@@ -12,8 +12,8 @@ use Rattle.sas_core.specs.Variables.{FactExists}
 use Rattle.sas_core.specs.WellRanged.{WellRanged}
 use Rattle.sas_groups.specs.Clashes.{Clash, sets}
 use Rattle.sas_groups.specs.Lists.{known}
-use Rattle.sas_group_index.specs.declared.index.Index.{Index}
-use Rattle.sas_group_index.specs.Index.{IsIndexOf, groups_of}
+use Rattle.sas_groups.specs.declared.index.Index.{Index}
+use Rattle.sas_groups.specs.Index.{IsIndexOf, groups_of}
 use Rattle.sas_mutex.specs.declared.marks.Marks.{Marks}
 use Rattle.sas_mutex.specs.Effects.{IsKept}
 use Rattle.sas_mutex.specs.Firing.{EffectPlace, operator_of, effect_of}

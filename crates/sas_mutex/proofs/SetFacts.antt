@@ -15,8 +15,8 @@ use Rattle.sas_core.specs.WellRanged.{WellRanged, Listed, OperatorFits, EffectFi
 use Rattle.sas_core.proofs.Places.{holds_at}
 use Rattle.sas_meaning.proofs.Forced.{fact_within}
 use Rattle.sas_groups.specs.Clashes.{sets}
-use Rattle.sas_group_index.specs.declared.index.Index.{Index}
-use Rattle.sas_group_index.specs.Index.{IsIndexOf, HasFact, groups_of}
+use Rattle.sas_groups.specs.declared.index.Index.{Index}
+use Rattle.sas_groups.specs.Index.{IsIndexOf, HasFact, groups_of}
 
 module _ (p : Parts) (ranged : WellRanged p) where
   pub set_exists : (operator effect : ℕ) → operator < length p.operators → effect < length (operator_at p operator).effects

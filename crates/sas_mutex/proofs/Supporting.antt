@@ -6,7 +6,7 @@ use Rattle.std.proofs.lemmas.List.Elements.{All-nil, All-cons, All-append, Conta
 use Rattle.std.specs.List.{All, Contains}
 use Rattle.sas_core.specs.declared.parts.Parts.{Parts}
 use Rattle.sas_mutex.specs.declared.family.Family.{Family}
-use Rattle.sas_group_index.specs.Kept.{family_of}
+use Rattle.sas_groups.specs.Kept.{family_of}
 use Rattle.sas_mutex.specs.Basis.{IsBasis, IsOfNone}
 use Rattle.sas_mutex.specs.Falling.{Falls}
 

@@ -17,18 +17,18 @@ use Rattle.sas_groups.specs.Verdicts.{IsJointVerdict}
 use Rattle.sas_groups.specs.Checks.{IsFirstVerdict}
 use Rattle.sas_groups.proofs.GreatestFamily.{outside_is_broken, clash_more}
 use Rattle.sas_mutex.specs.declared.marks.Marks.{Marks}
-use Rattle.sas_group_index.specs.declared.notes.Noted.{Noted}
-use Rattle.sas_group_index.specs.declared.notes.Noted.TheVariants.{Several}
-use Rattle.sas_group_index.specs.Kept.{family_of}
+use Rattle.sas_groups.specs.declared.notes.Noted.{Noted}
+use Rattle.sas_groups.specs.declared.notes.Noted.TheVariants.{Several}
+use Rattle.sas_groups.specs.Kept.{family_of}
 use Rattle.sas_mutex.specs.Effects.{IsKept, EffectKeeps, KeepsWithItself}
 use Rattle.sas_mutex.specs.Falling.{AreCandidates}
-use Rattle.sas_group_index.specs.Index.{HasFact}
+use Rattle.sas_groups.specs.Index.{HasFact}
 use Rattle.sas_groups.specs.Joint.{verdict_at, AreJointVerdicts}
 use Rattle.sas_mutex.specs.Judging.{AreFirstVerdicts, IsUntold, KeptSoFar, IsVerdictSoFar, AreVerdictsSoFar}
-use Rattle.sas_group_index.specs.Notes.{IsGroupNote}
+use Rattle.sas_groups.specs.Notes.{IsGroupNote}
 use Rattle.sas_mutex.specs.ByNotes.{IsNotedFor, known_at}
 use Rattle.sas_mutex.proofs.Keeping.{effect_keeps_more, keeps_from_effects, effect_of_keeps}
-use Rattle.sas_group_index.proofs.NotesOfFacts.{at_most_one}
+use Rattle.sas_groups.proofs.NotesOfFacts.{at_most_one}
 use Rattle.sas_mutex.proofs.KnownFacts.{several_clash}
 use Rattle.sas_mutex.proofs.ToldByNotes.{clash_keeps}
 

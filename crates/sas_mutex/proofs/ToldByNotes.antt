@@ -14,19 +14,19 @@ use Rattle.sas_meaning.specs.Steps.{preconditions}
 use Rattle.sas_groups.specs.Clashes.{Contradict, Clash, IsRemoved}
 use Rattle.sas_groups.specs.Families.{IsIn}
 use Rattle.sas_groups.specs.Lists.{known}
-use Rattle.sas_group_index.specs.declared.index.Index.{Index}
+use Rattle.sas_groups.specs.declared.index.Index.{Index}
 use Rattle.sas_mutex.specs.declared.marks.Marks.{Marks}
-use Rattle.sas_group_index.specs.declared.notes.Notes.{Notes}
+use Rattle.sas_groups.specs.declared.notes.Notes.{Notes}
 use Rattle.sas_groups.specs.Checks.{IsGone}
 use Rattle.sas_groups.proofs.GreatestFamily.{clash_more, group_of_larger}
-use Rattle.sas_group_index.specs.Kept.{family_of}
+use Rattle.sas_groups.specs.Kept.{family_of}
 use Rattle.sas_mutex.specs.Effects.{IsKept, EffectKeeps}
-use Rattle.sas_group_index.specs.Index.{IsIndexOf, HasFact, groups_of}
-use Rattle.sas_group_index.specs.Notes.{value_note, group_note, IsOfGroupBeside}
-use Rattle.sas_group_index.specs.Noting.{HasOtherValue, HasNotedGroup, ShareKept, SharesApart}
+use Rattle.sas_groups.specs.Index.{IsIndexOf, HasFact, groups_of}
+use Rattle.sas_groups.specs.Notes.{value_note, group_note, IsOfGroupBeside}
+use Rattle.sas_groups.specs.Noting.{HasOtherValue, HasNotedGroup, ShareKept, SharesApart}
 use Rattle.sas_mutex.specs.ByNotes.{ShareOne, AreKnown, IsMet, Removes, SomeRemoves, AreGone, IsNotedFor, known_at}
-use Rattle.sas_group_index.proofs.Existing.{variable_below}
-use Rattle.sas_group_index.proofs.NotesOfFacts.{a_note, apart_or_not, one_or_two, value_note_tells, no_value_note_tells, no_note_tells, some_note_tells, shared_turned}
+use Rattle.sas_groups.proofs.Existing.{variable_below}
+use Rattle.sas_groups.proofs.NotesOfFacts.{a_note, apart_or_not, one_or_two, value_note_tells, no_value_note_tells, no_note_tells, some_note_tells, shared_turned}
 use Rattle.sas_mutex.proofs.KnownFacts.{contradict_turned, not_itself, shares_contradicts, contradicts_shares, share_one, share_kept}
 
 module _ (p : Parts) (index : Index) (kept : List Bool) (notes : Notes) (o : Operator) (conditions : List Fact) (indexed : IsIndexOf p index)

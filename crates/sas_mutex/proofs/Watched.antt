@@ -9,7 +9,7 @@ use Rattle.sas_groups.specs.Families.{IsIn}
 use Rattle.sas_mutex.specs.declared.family.Family.{Family}
 use Rattle.sas_mutex.specs.declared.watches.Watch.{Watch}
 use Rattle.sas_mutex.specs.declared.watches.Watches.{Watches}
-use Rattle.sas_group_index.specs.Kept.{family_of}
+use Rattle.sas_groups.specs.Kept.{family_of}
 use Rattle.sas_mutex.specs.Falling.{Falls, newly, IsWithin, IsAtRest, RestsOn}
 use Rattle.sas_mutex.specs.Watching.{watch_at, since_of, IsLastBelow, AreChained, IsWatchOf, HasWatchFrom, RestsBy, IsOver, IsTold, IsToldBehind, AreFallen, AreUnwatched, AreWatched, AreMore, IsWatchedAnew, AreTold, StayTold, AreLooseAtRest}
 use Rattle.sas_mutex.proofs.FallingGroups.{fallen_exist}

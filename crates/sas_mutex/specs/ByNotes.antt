@@ -10,17 +10,17 @@ use Rattle.sas_core.specs.Grounded.{operator_at, effect_at, group_at}
 use Rattle.sas_groups.specs.Clashes.{Clash}
 use Rattle.sas_groups.specs.Lists.{known}
 use Rattle.sas_mutex.specs.declared.marks.Marks.{Marks}
-use Rattle.sas_group_index.specs.declared.notes.Notes.{Notes}
+use Rattle.sas_groups.specs.declared.notes.Notes.{Notes}
 use Rattle.sas_groups.specs.Checks.{NotBoth, IsGone}
 use Rattle.sas_mutex.specs.Effects.{IsKept, KeepsAt, KeepsWithItself}
-use Rattle.sas_group_index.specs.declared.index.Index.{Index}
-use Rattle.sas_group_index.specs.ByVariable.{variable_of}
-use Rattle.sas_group_index.specs.Index.{groups_of}
+use Rattle.sas_groups.specs.declared.index.Index.{Index}
+use Rattle.sas_groups.specs.ByVariable.{variable_of}
+use Rattle.sas_groups.specs.Index.{groups_of}
 use Rattle.sas_mutex.specs.Firing.{EffectPlace, operator_of, effect_of}
-use Rattle.sas_group_index.specs.Notes.{value_note, AreNotesOf}
+use Rattle.sas_groups.specs.Notes.{value_note, AreNotesOf}
 use Rattle.sas_mutex.specs.Marks.{IsNotedFrom}
 use Rattle.sas_groups.specs.Families.{IsIn}
-use Rattle.sas_group_index.specs.Kept.{family_of}
+use Rattle.sas_groups.specs.Kept.{family_of}
 
 -- a group of the family contains both facts
 pub record ShareOne (p : Parts) (kept : List Bool) (f g : Fact) : Type 0 where

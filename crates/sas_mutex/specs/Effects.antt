@@ -7,7 +7,7 @@ use Rattle.sas_core.specs.declared.parts.Parts.{Parts}
 use Rattle.sas_core.specs.Grounded.{operator_at, effect_at, group_at}
 use Rattle.sas_groups.specs.Families.{IsGroupOf, IsGroupOfOr}
 use Rattle.sas_groups.specs.Checks.{NotBoth, IsGone}
-use Rattle.sas_group_index.specs.Kept.{family_of}
+use Rattle.sas_groups.specs.Kept.{family_of}
 
 -- the groups of the family
 abbrev pub IsKept : Parts → List Bool → List Fact → Type 0

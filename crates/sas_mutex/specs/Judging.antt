@@ -8,7 +8,7 @@ use Rattle.sas_groups.specs.Clashes.{sets, Keeps}
 use Rattle.sas_groups.specs.Families.{IsIn, IsGroupOfOr, MayBeExclusive}
 use Rattle.sas_groups.specs.Verdicts.{IsJointVerdict}
 use Rattle.sas_groups.specs.Checks.{IsFirstVerdict}
-use Rattle.sas_group_index.specs.Kept.{family_of}
+use Rattle.sas_groups.specs.Kept.{family_of}
 use Rattle.sas_mutex.specs.Effects.{KeepsWithItself}
 use Rattle.sas_groups.specs.Joint.{verdict_at}
 

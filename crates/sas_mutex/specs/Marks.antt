@@ -3,7 +3,7 @@ use Rattle.std.specs.Prelude.{List}
 use Rattle.sas_core.specs.declared.parts.Fact.{Fact}
 use Rattle.sas_core.specs.declared.parts.Parts.{Parts}
 use Rattle.sas_mutex.specs.declared.marks.Marks.{Marks}
-use Rattle.sas_group_index.specs.Notes.{AreBlank, AreFrom, AreNotesOf}
+use Rattle.sas_groups.specs.Notes.{AreBlank, AreFrom, AreNotesOf}
 
 -- nothing is recorded
 pub record IsClean (p : Parts) (marks : Marks) : Type 0 where

@@ -5,7 +5,7 @@ use Rattle.sas_groups.specs.Families.{IsIn}
 use Rattle.sas_mutex.specs.declared.family.Family.{Family}
 use Rattle.sas_mutex.specs.declared.watches.Watch.{Watch}
 use Rattle.sas_mutex.specs.declared.watches.Watches.{Watches}
-use Rattle.sas_group_index.specs.Kept.{family_of}
+use Rattle.sas_groups.specs.Kept.{family_of}
 use Rattle.sas_mutex.specs.Falling.{IsWithin, IsAtRest}
 
 -- the watch with this index

@@ -4,13 +4,13 @@ ghost use Rattle.sas_core.specs.Grounded.{operator_at, effect_at};
 ghost use Rattle.sas_core.specs.Changes.{plain_effects};
 ghost use Rattle.sas_core.specs.Variables.{FactExists};
 ghost use Rattle.sas_groups.specs.Families.{IsIn};
-ghost use Rattle.sas_group_index.specs.Index.{groups_of};
-ghost use Rattle.sas_group_index.specs.ByVariable.{AreOn};
-ghost use Rattle.sas_group_index.specs.Runs.{AreOnOne};
-ghost use Rattle.sas_group_index.specs.Kept.{family_of};
+ghost use Rattle.sas_groups.specs.Index.{groups_of};
+ghost use Rattle.sas_groups.specs.ByVariable.{AreOn};
+ghost use Rattle.sas_groups.specs.Runs.{AreOnOne};
+ghost use Rattle.sas_groups.specs.Kept.{family_of};
 ghost use Rattle.sas_mutex.specs.Firing.{operator_of, effect_of};
-ghost use Rattle.sas_group_index.specs.Notes.{IsWide, IsGroupNote, value_note};
-ghost use Rattle.sas_group_index.specs.Noting.{AreBelow, IsReadable};
+ghost use Rattle.sas_groups.specs.Notes.{IsWide, IsGroupNote, value_note};
+ghost use Rattle.sas_groups.specs.Noting.{AreBelow, IsReadable};
 ghost use Rattle.sas_mutex.specs.ByNotes.{IsMet, SomeRemoves, Removes, known_at};
 ghost use Rattle.sas_mutex.specs.ByNotes.{IsNotedAt, KeepsGroup, KeepsGroupItself, BothClashAt, NotBothAt};
 ghost use Rattle.sas_mutex.specs.ByNotes.{ClashesAt, SomeClashesAt, SharesBesideAt};
@@ -21,8 +21,9 @@ ghost use Rattle.sas_mutex.specs.Basis.{SetsNone};
 
 use crate::marks::{Marks, facts_clash};
 use sas_core::{Change, Fact, Grounded, Items};
-use sas_group_index::{Index, IndexedTask, Noted, Notes, has_noted, shares_apart, some_has};
-use sas_groups::{Known, Premises};
+use sas_groups::{
+    Index, IndexedTask, Known, Noted, Notes, Premises, has_noted, shares_apart, some_has,
+};
 use sas_meaning::Layered;
 use std::marker::Model;
 
@@ -41,7 +42,7 @@ impl<'a, 'b, T: Grounded> Model for Firing<'a, 'b, T> {
     ghost use Rattle.std.specs.Prelude.{◌<◌, length};
     ghost use Rattle.sas_core.specs.Grounded.{operator_at};
     ghost use Rattle.sas_core.specs.WellRanged.{WellRanged};
-    ghost use Rattle.sas_group_index.specs.Index.{IsIndexOf};
+    ghost use Rattle.sas_groups.specs.Index.{IsIndexOf};
     ghost use Rattle.sas_mutex.specs.Firing.{EffectPlace};
 
     ghost Value = { EffectPlace };

@@ -1,6 +1,6 @@
 // The family: the groups that may still be preserved jointly.
 ghost use Rattle.std.specs.Prelude.{◌≡◌, ◌⊎◌, ◌≤◌, ◌+◌, ◌++◌, [], ◌∷◌, false, ℕ, ◌<◌, length, Contains, IsTrue, All, slice_set, vec_capacity};
-ghost use Rattle.sas_group_index.specs.Kept.{family_of};
+ghost use Rattle.sas_groups.specs.Kept.{family_of};
 ghost use Rattle.sas_mutex.specs.Falling.{count};
 ghost use Rattle.sas_mutex.specs.Basis.{IsBasis, IsBasisKept, IsOfNone, IsWithout};
 

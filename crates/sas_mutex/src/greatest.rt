@@ -1,7 +1,7 @@
 // Finds the greatest family of groups that is preserved jointly.
 ghost use Rattle.std.specs.Prelude.{◌≡◌, ◌<◌, ◌≤◌, ℕ, [], length, All, Contains, IsTrue};
 ghost use Rattle.sas_groups.specs.Families.{IsIn, IsGreatest};
-ghost use Rattle.sas_group_index.specs.Kept.{family_of};
+ghost use Rattle.sas_groups.specs.Kept.{family_of};
 ghost use Rattle.sas_mutex.specs.Marks.{IsClean};
 ghost use Rattle.sas_mutex.specs.Falling.{IsReady, AreCandidates, newly, Falls, IsAtRest, RestsOn};
 ghost use Rattle.sas_mutex.specs.Basis.{KeepsByBasis};
@@ -12,7 +12,7 @@ use crate::looking::look_at;
 use crate::marks::Marks;
 use crate::watches::Watches;
 use sas_core::Grounded;
-use sas_group_index::IndexedTask;
+use sas_groups::IndexedTask;
 
 /// Removes groups from the family until every operator preserves each remaining group. At first the family must contain exactly the groups
 /// that may be exclusive. After a group is removed, only operators that watch it are checked again, and then those that are loose.

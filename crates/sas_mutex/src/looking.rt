@@ -1,12 +1,12 @@
 // Removes the groups from the family that an operator doesn't preserve.
 ghost use Rattle.std.specs.Prelude.{◌≡◌, ◌<◌, [], length, Contains, IsTrue, IsFalse, All};
 ghost use Rattle.sas_core.specs.Grounded.{operator_at, group_at};
-ghost use Rattle.sas_group_index.specs.Index.{IsIndexOf};
+ghost use Rattle.sas_groups.specs.Index.{IsIndexOf};
 ghost use Rattle.sas_groups.specs.Clashes.{sets, Clash};
 ghost use Rattle.sas_groups.specs.Families.{IsIn};
 ghost use Rattle.sas_groups.specs.Lists.{known, known_on};
 ghost use Rattle.sas_core.specs.Variables.{FactExists};
-ghost use Rattle.sas_group_index.specs.Kept.{family_of};
+ghost use Rattle.sas_groups.specs.Kept.{family_of};
 ghost use Rattle.sas_mutex.specs.Effects.{IsKept, IsPlain};
 ghost use Rattle.sas_mutex.specs.Firing.{effect_of};
 ghost use Rattle.sas_mutex.specs.Marks.{IsClean};
@@ -18,8 +18,7 @@ use crate::effects::Firing;
 use crate::family::Family;
 use crate::marks::{Marks, forget_known, note_known};
 use sas_core::{Fact, Grounded};
-use sas_group_index::{Index, IndexedTask};
-use sas_groups::Premises;
+use sas_groups::{Index, IndexedTask, Premises};
 use sas_meaning::Layered;
 
 /// Removes the groups from the family that the operator doesn't preserve. Returns true only if it preserves each remaining group, assuming

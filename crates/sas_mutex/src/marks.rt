@@ -4,17 +4,16 @@ ghost use Rattle.sas_core.specs.Variables.{FactExists};
 ghost use Rattle.sas_groups.specs.Clashes.{Clash};
 ghost use Rattle.sas_groups.specs.Lists.{known_on};
 ghost use Rattle.sas_mutex.specs.Effects.{IsKept};
-ghost use Rattle.sas_group_index.specs.Index.{IsIndexOf};
-ghost use Rattle.sas_group_index.specs.Notes.{AreBlank, AreFrom};
+ghost use Rattle.sas_groups.specs.Index.{IsIndexOf};
+ghost use Rattle.sas_groups.specs.Notes.{AreBlank, AreFrom};
 ghost use Rattle.sas_mutex.specs.Marks.{IsClean, IsNotedFrom, IsNoted};
-ghost use Rattle.sas_group_index.specs.Noting.{IsReadable};
+ghost use Rattle.sas_groups.specs.Noting.{IsReadable};
 
 use sas_core::{Fact, Grounded};
-use sas_group_index::{
-    Deciding, Index, IndexedTask, Notes, forget, forget_facts, has_wide, note, set_apart, wider,
-    widest_of,
+use sas_groups::{
+    Deciding, Index, IndexedTask, Known, Notes, Premises, forget, forget_facts, has_wide, note,
+    set_apart, wider, widest_of,
 };
-use sas_groups::{Known, Premises};
 use sas_meaning::Layered;
 use std::alloc::{AllocError, Global};
 

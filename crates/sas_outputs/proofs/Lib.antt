@@ -1,3 +1,6 @@
+pub mod Summaries
+mod ShownTexts
+pub mod ReasonLines
 pub mod Outputs
 pub mod PlanOutputs
 pub mod WordedLines

@@ -1,3 +1,8 @@
 -- What the public clauses cite.
+pub mod Summary
+pub mod ShownBytes
+pub mod FileLine
+pub mod FileReasons
+pub mod Laws
 pub mod Output
 pub mod Headline

@@ -22,7 +22,7 @@ use Rattle.sas_answers.specs.Answers.{layers_refusal, CheckAnswer, MutexAnswer, 
 use Rattle.sas_output.specs.Ending.{Output}
 use Rattle.sas_outputs.specs.declared.Request.{Request}
 use Rattle.sas_outputs.specs.declared.Request.TheVariants.{Show, Print, Steps, Check, Plan, Mutex}
-use Rattle.sas_summary.specs.Summary.{summary_lines}
+use Rattle.sas_outputs.specs.Summary.{summary_lines}
 
 -- the word for a kind of fault; the kinds without a word mean that the file was not read as a whole
 abbrev pub word_of : Kind → Option (List ℕ)

@@ -1,9 +1,19 @@
-//! Defines what is printed for one task and one plan, and writes the line that refuses a file.
+//! The outputs: what is printed for one task and one plan, as definitions. The summary of a task, written in pieces as it is made. The
+//! refusal of a file, and the lines that `--why` prints behind it: where in a task the line stands, what is expected there, which number
+//! may not stand there, and what was found. No file is read.
 #![tactic(auto)]
 
+mod dues;
+mod file_reasons;
+mod found;
+mod laws;
 mod refusals;
+mod summary;
 
+pub use file_reasons::{push_plan_reasons, push_task_reasons};
+pub use laws::file_reason_laws;
 pub use refusals::refuse_file;
+pub use summary::Summary;
 
 /// A request.
 #[derive(Clone, Copy, Debug, PartialEq, Eq)]

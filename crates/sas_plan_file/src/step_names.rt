@@ -2,7 +2,7 @@
 ghost use Rattle.std.specs.Prelude.{◌≡◌, ◌∷◌, ◌++◌, [], OnOk, OnErr};
 
 use sas_core::Items;
-use sas_lists::Lists;
+use sas_flat::Lists;
 use std::alloc::{AllocError, Global};
 
 /// A list of the names of the steps so far.

@@ -19,8 +19,8 @@ use Rattle.sas_meaning.proofs.Rules.{new_value_is}
 use Rattle.sas_meaning.proofs.Unique.{differs_tells}
 use Rattle.sas_meaning.proofs.Forced.{differs_not}
 use Rattle.sas_meaning.specs.Places.{can_give}
-use Rattle.sas_wording.specs.declared.line.Line.{Line}
-use Rattle.sas_wording.specs.declared.line.Line.TheVariants as line
+use Rattle.sas_output.specs.declared.line.Line.{Line}
+use Rattle.sas_output.specs.declared.line.Line.TheVariants as line
 use Rattle.sas_run.specs.Runs.{Run, last_state}
 use Rattle.sas_reasons.specs.Cause.{fails, is_derived, is_given, TellsGivers, actual_fact, since_line, missing_lines, IsCause}
 use Rattle.sas_reasons.specs.Laws.{DefaultIfNotGiven, EachRuleFails}

@@ -7,9 +7,9 @@ use Rattle.std.proofs.lemmas.List.Elements.{Contains-append_left, Contains-appen
 use Rattle.std.proofs.lemmas.List.Kept.{AllPairs-cons}
 use Rattle.std.proofs.lemmas.List.Folds.{Any-from_list_any, list_any_at}
 use Rattle.sas_meaning.proofs.Members.{contains_head, contains_tail, contains_cases, contains_none}
-use Rattle.sas_wording.specs.declared.line.Line.{Line}
-use Rattle.sas_wording.specs.Line.{is_rule_line, is_same_rule_line}
-use Rattle.sas_wording.proofs.RuleLines.{same_is, is_same}
+use Rattle.sas_output.specs.declared.line.Line.{Line}
+use Rattle.sas_output.specs.Line.{is_rule_line, is_same_rule_line}
+use Rattle.sas_output.proofs.RuleLines.{same_is, is_same}
 use Rattle.sas_reasons.specs.Lines.{with_line, with_lines}
 use Rattle.sas_reasons.specs.Laws.{NoneIsLost, RulesToldOnce}
 

@@ -21,8 +21,8 @@ use Rattle.sas_reasons.specs.Since.{value_at, IsSince}
 use Rattle.sas_reasons.specs.Likeness.{folded, IsLike}
 use Rattle.sas_reasons.specs.MayMean.{HasOther, MayMean}
 use Rattle.sas_reasons.specs.Derivation.{IsRank, IsGivenBy, InDerivation, ComesBefore, IsDerivation}
-use Rattle.sas_wording.specs.declared.line.Line.{Line}
-use Rattle.sas_wording.specs.Line.{is_rule_line}
+use Rattle.sas_output.specs.declared.line.Line.{Line}
+use Rattle.sas_output.specs.Line.{is_rule_line}
 use Rattle.sas_reasons.specs.Lines.{with_lines}
 use Rattle.sas_reasons.specs.Cause.{fails, can_be_given}
 use Rattle.sas_reasons.specs.Conflicts.{IsConflict}

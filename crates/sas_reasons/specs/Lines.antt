@@ -1,8 +1,8 @@
 -- Lists of lines of reasons.
 use Rattle.std.specs.Prelude.{◌≡◌, ◌+◌, if◌then◌else◌, List, [], ◌∷◌, ◌++◌}
 use Rattle.std.specs.List.{list_any}
-use Rattle.sas_wording.specs.declared.line.Line.{Line}
-use Rattle.sas_wording.specs.Line.{is_same_rule_line}
+use Rattle.sas_output.specs.declared.line.Line.{Line}
+use Rattle.sas_output.specs.Line.{is_same_rule_line}
 
 -- these lines and one more, unless that is a line of a rule and already among them
 abbrev pub with_line : List Line → Line → List Line

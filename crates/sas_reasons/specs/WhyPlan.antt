@@ -13,8 +13,8 @@ use Rattle.sas_meaning.specs.Places.{places}
 use Rattle.sas_run.specs.declared.plan_check.PlanFault.{PlanFault}
 use Rattle.sas_run.specs.declared.plan_check.PlanFault.TheVariants.{Memory, NoOperator, NotApplicable}
 use Rattle.sas_run.specs.declared.plan_check.PlanFault.TheVariants.{Conflict, GoalMissed, CostDiffers}
-use Rattle.sas_wording.specs.declared.line.Line.{Line}
-use Rattle.sas_wording.specs.declared.line.Line.TheVariants as line
+use Rattle.sas_output.specs.declared.line.Line.{Line}
+use Rattle.sas_output.specs.declared.line.Line.TheVariants as line
 use Rattle.sas_reasons.specs.Lines.{with_lines, TellsBehind, TellsEach}
 use Rattle.sas_run.specs.Runs.{Run, last_state, GoesThrough, steps_before}
 use Rattle.sas_reasons.specs.Likeness.{IsLike}

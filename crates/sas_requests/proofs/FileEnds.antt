@@ -29,8 +29,8 @@ use Rattle.sas_task_format.specs.TaskFormat.{task_format}
 use Rattle.sas_task_format.specs.TaskReasons.{IsTaskReason}
 use Rattle.sas_task_reader.specs.declared.task_refusal.TaskRefusal.{TaskRefusal}
 use Rattle.sas_task_reader.specs.TaskRefusal.{fault_in, found_in, HasReason, ReadsTask}
-use Rattle.sas_file_reasons.specs.FileLine.{FileLine}
-use Rattle.sas_file_reasons.specs.Reasons.{task_reasons, plan_reasons, file_text}
+use Rattle.sas_outputs.specs.FileLine.{FileLine}
+use Rattle.sas_outputs.specs.FileReasons.{task_reasons, plan_reasons, file_text}
 use Rattle.sas_output.specs.declared.ending.Status.{Status}
 use Rattle.sas_output.specs.declared.ending.ToolFault.{ToolFault}
 use Rattle.sas_output.specs.declared.ending.ToolFault.TheVariants as tool_fault

@@ -10,8 +10,8 @@ use Rattle.sas_lines.proofs.Splitting.{Plain, lines-text}
 use Rattle.sas_task_format.proofs.TaskSections.{all_map}
 use Rattle.sas_groups.specs.declared.verdict.Verdict.{Verdict}
 use Rattle.sas_groups.specs.declared.verdict.Verdict.TheVariants.{Exclusive, Derived, Initial, Broken}
-use Rattle.sas_group_reasons.specs.declared.reason.Reason.{Reason}
-use Rattle.sas_group_reasons.specs.Reasons.{IsReasonIfAny, reason_at}
+use Rattle.sas_task_reasons.specs.declared.reason.Reason.{Reason}
+use Rattle.sas_task_reasons.specs.GroupReasons.{IsReasonIfAny, reason_at}
 use Rattle.sas_output.specs.declared.ending.Status.TheVariants.{Yes}
 use Rattle.sas_answers.specs.GroupWords.{group_line, verdict_lines_from, verdict_lines, groups_status}
 use Rattle.sas_task_reasons.specs.WhyGroups.{reason_lines, why_group, group_lines, why_lines_from, why_lines}

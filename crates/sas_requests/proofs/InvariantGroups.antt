@@ -25,13 +25,13 @@ use Rattle.sas_groups.specs.declared.verdict.Verdict.{Verdict}
 use Rattle.sas_groups.specs.declared.verdict.Verdict.TheVariants.{Exclusive, Derived, Initial, Broken}
 use Rattle.sas_groups.specs.Joint.{AreJointVerdicts}
 use Rattle.sas_groups.proofs.JointLists.{listed_invariants}
-use Rattle.sas_group_reasons.specs.declared.reason.Reason.{Reason}
-use Rattle.sas_group_reasons.specs.Reasons.{reason_at}
+use Rattle.sas_task_reasons.specs.declared.reason.Reason.{Reason}
+use Rattle.sas_task_reasons.specs.GroupReasons.{reason_at}
 use Rattle.sas_outputs.specs.Headline.{HasInvariant, Invariants}
 use Rattle.sas_answers.specs.GroupWords.{verdict_words, group_line, verdict_lines_from, verdict_lines}
 use Rattle.sas_answers.specs.LayerWords.{layer_words, layers_line}
 use Rattle.sas_answers.specs.Answers.{layers_refusal, GroupsAnswer, LayeredGroupsAnswer, MutexAnswer}
-use Rattle.sas_wording.specs.Line.{line_bytes}
+use Rattle.sas_output.specs.Line.{line_bytes}
 use Rattle.sas_task_reasons.specs.LayerReasons.{layer_reasons}
 use Rattle.sas_task_reasons.specs.WhyGroups.{why_lines_from, why_lines, WhyGroupsAnswer}
 use Rattle.sas_task_reasons.specs.WhyLayers.{why_refusal, WhyLayeredGroups, WhyMutexAnswer}

@@ -6,13 +6,13 @@ use Rattle.sas_core.specs.Names.{IsName}
 use Rattle.sas_core.specs.WellRanged.{WellRanged}
 use Rattle.sas_reader.specs.System.{IsPlain}
 use Rattle.sas_reader.proofs.Plain.{plain_bytes}
-use Rattle.sas_wording.specs.declared.line.Line.{Line}
-use Rattle.sas_wording.specs.Laws.{IsReasonLine}
-use Rattle.sas_wording.specs.Line.{line_bytes}
-use Rattle.sas_wording.proofs.PlainLines.{lines_are_reasons}
-use Rattle.sas_file_reasons.specs.FileLine.{FileLine, file_line_bytes}
-use Rattle.sas_file_reasons.specs.Reasons.{file_lines}
-use Rattle.sas_file_reasons.proofs.ReasonLines.{file_lines_are_reasons}
+use Rattle.sas_output.specs.declared.line.Line.{Line}
+use Rattle.sas_output.specs.Laws.{IsReasonLine}
+use Rattle.sas_output.specs.Line.{line_bytes}
+use Rattle.sas_output.proofs.PlainLines.{lines_are_reasons}
+use Rattle.sas_outputs.specs.FileLine.{FileLine, file_line_bytes}
+use Rattle.sas_outputs.specs.FileReasons.{file_lines}
+use Rattle.sas_outputs.proofs.ReasonLines.{file_lines_are_reasons}
 use Rattle.sas_requests.specs.Why.{is_reason}
 
 -- the line is one of reasons

@@ -9,15 +9,15 @@ use Rattle.sas_reader.specs.declared.fault.Fault.{Fault}
 use Rattle.sas_reader.specs.System.{IsPlain}
 use Rattle.sas_reader.proofs.Plain.{plain_bytes}
 use Rattle.sas_groups.specs.declared.verdict.Verdict.TheVariants.{Exclusive}
-use Rattle.sas_file_reasons.specs.FileLine.{FileLine}
-use Rattle.sas_file_reasons.specs.Reasons.{file_lines, file_text}
+use Rattle.sas_outputs.specs.FileLine.{FileLine}
+use Rattle.sas_outputs.specs.FileReasons.{file_lines, file_text}
 use Rattle.sas_output.specs.declared.ending.Status.{Status}
 use Rattle.sas_output.specs.declared.ending.Status.TheVariants.{Yes, No}
 use Rattle.sas_output.specs.Ending.{Output}
 use Rattle.sas_answers.specs.GroupWords.{group_line}
 use Rattle.sas_answers.specs.PlanWords.{valid_line}
 use Rattle.sas_task_reasons.specs.WhyLayers.{with_reasons, why_refusal, WhyMutexAnswer}
-use Rattle.sas_explain.specs.Verdict.{WhyVerdict}
+use Rattle.sas_why.specs.Verdict.{WhyVerdict}
 use Rattle.sas_outputs.specs.declared.Request.{Request}
 use Rattle.sas_outputs.specs.declared.Request.TheVariants.{Plan, Mutex}
 use Rattle.sas_outputs.specs.Headline.{Solves, Headline, Invariants}

@@ -27,8 +27,8 @@ use Rattle.sas_task_format.proofs.MarkLaws.{one_task_reason}
 use Rattle.sas_task_format.proofs.SomeReason.{some_task_reason}
 use Rattle.sas_task_format.proofs.TaskGrammar.{task_grammar}
 use Rattle.sas_task_format.proofs.TaskLaws.{task_laws_hold}
-use Rattle.sas_file_reasons.specs.FileLine.{FileLine}
-use Rattle.sas_file_reasons.specs.Reasons.{task_reasons}
+use Rattle.sas_outputs.specs.FileLine.{FileLine}
+use Rattle.sas_outputs.specs.FileReasons.{task_reasons}
 use Rattle.sas_outputs.specs.declared.Request.{Request}
 use Rattle.sas_outputs.specs.declared.Request.TheVariants.{Show, Print, Steps, Check, Plan, Mutex}
 use Rattle.sas_requests.specs.FileReasons.{FaultReasons, told, past_limit, ReadReasons, FileReasons, TellsTask, TellsPlan, LayersFileReasons, JudgedFileReasons, FilesReasons, RefusalReasons}

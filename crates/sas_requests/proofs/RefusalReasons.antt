@@ -15,10 +15,10 @@ use Rattle.sas_plan_file.specs.PlanFormat.{plan_format}
 use Rattle.sas_plan_file.proofs.PlanLaws.{plan_laws_hold}
 use Rattle.sas_task_format.specs.TaskFormat.{task_format}
 use Rattle.sas_task_format.proofs.TaskLaws.{task_laws_hold}
-use Rattle.sas_file_reasons.specs.FileLine.{FileLine}
+use Rattle.sas_outputs.specs.FileLine.{FileLine}
 use Rattle.sas_output.specs.Ending.{Output}
 use Rattle.sas_task_reasons.specs.WhyLayers.{with_reasons, why_refusal, WhyCheckAnswer, WhyMutexAnswer}
-use Rattle.sas_explain.specs.Verdict.{WhyVerdict}
+use Rattle.sas_why.specs.Verdict.{WhyVerdict}
 use Rattle.sas_outputs.specs.declared.Request.{Request}
 use Rattle.sas_outputs.specs.declared.Request.TheVariants.{Show, Print, Steps, Check, Plan, Mutex}
 use Rattle.sas_requests.specs.FileReasons.{ReadReasons, FileReasons, TellsTask, TellsPlan, LayersFileReasons, JudgedFileReasons, RefusalReasons}

@@ -16,7 +16,7 @@ use Rattle.sas_reader.proofs.Known.{known_answer}
 use Rattle.sas_plan_file.specs.PlanFormat.{plan_format}
 use Rattle.sas_task_format.specs.TaskFormat.{task_format}
 use Rattle.sas_task_format.proofs.TaskLaws.{task_laws_hold}
-use Rattle.sas_file_reasons.specs.FileLine.{FileLine}
+use Rattle.sas_outputs.specs.FileLine.{FileLine}
 use Rattle.sas_output.specs.declared.ending.Status.{Status}
 use Rattle.sas_output.specs.declared.ending.Status.TheVariants.{Yes}
 use Rattle.sas_output.specs.declared.ending.ToolFault.{ToolFault}
@@ -26,7 +26,7 @@ use Rattle.sas_answers.proofs.CheckAnswers.{layered_answer}
 use Rattle.sas_task_reasons.specs.WhyGroups.{WhyGroupsAnswer}
 use Rattle.sas_task_reasons.specs.WhyLayers.{why_refusal, WhyMutexAnswer}
 use Rattle.sas_task_reasons.proofs.TaskAnswers.{check_layered, check_refused, groups_layered, groups_refused}
-use Rattle.sas_explain.specs.Verdict.{WhyVerdict}
+use Rattle.sas_why.specs.Verdict.{WhyVerdict}
 use Rattle.sas_outputs.specs.declared.Request.{Request}
 use Rattle.sas_outputs.specs.declared.Request.TheVariants as request
 use Rattle.sas_outputs.specs.Headline.{Headline, Invariants}

@@ -11,8 +11,8 @@ use Rattle.sas_lines.specs.Lines.{text}
 use Rattle.sas_groups.specs.declared.verdict.Verdict.{Verdict}
 use Rattle.sas_groups.specs.declared.verdict.Verdict.TheVariants.{Exclusive}
 use Rattle.sas_groups.specs.Joint.{AreJointVerdicts}
-use Rattle.sas_group_reasons.specs.declared.reason.Reason.{Reason}
-use Rattle.sas_group_reasons.specs.Reasons.{IsReasonIfAny, AreReasons, reason_at}
+use Rattle.sas_task_reasons.specs.declared.reason.Reason.{Reason}
+use Rattle.sas_task_reasons.specs.GroupReasons.{IsReasonIfAny, AreReasons, reason_at}
 use Rattle.sas_reader.specs.declared.fault.Fault.{Fault}
 use Rattle.sas_reader.specs.Format.{Format, ReadsAs}
 use Rattle.sas_reader.specs.Limit.{most_bytes}
@@ -28,8 +28,8 @@ use Rattle.sas_answers.specs.PlanWords.{fault_words, invalid_line}
 use Rattle.sas_task_reasons.specs.LayerReasons.{layer_reasons}
 use Rattle.sas_task_reasons.specs.WhyGroups.{why_lines}
 use Rattle.sas_task_reasons.specs.WhyLayers.{why_refusal, why_verdict, WhyCheckAnswer, WhyLayeredGroups, WhyMutexAnswer}
-use Rattle.sas_wording.specs.Line.{line_bytes, reasons_text}
-use Rattle.sas_explain.specs.Verdict.{WhyVerdict, Explains}
+use Rattle.sas_output.specs.Line.{line_bytes, reasons_text}
+use Rattle.sas_why.specs.Verdict.{WhyVerdict, Explains}
 use Rattle.sas_outputs.specs.declared.Request.{Request}
 use Rattle.sas_outputs.specs.declared.Request.TheVariants.{Show, Print, Steps, Check, Plan, Mutex}
 use Rattle.sas_outputs.specs.Output.{Out, IsAnswerOrRefusal, FileOut, LayersOut, JudgedOut, plain_refusal, ShowAnswer, PrintAnswer}

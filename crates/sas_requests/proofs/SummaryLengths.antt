@@ -22,9 +22,9 @@ use Rattle.sas_flat.specs.declared.outline.Outline.{Outline}
 use Rattle.sas_task_reader.specs.Outline.{OutlineOf}
 use Rattle.sas_flat.specs.Outlines.{outline_of}
 use Rattle.sas_core.specs.Variables.{value_name}
-use Rattle.sas_summary.specs.Summary.{fact_line, fact_lines, derived_count, number_line, number_lines, initial_lines, goal_fact_lines, summary_lines}
+use Rattle.sas_outputs.specs.Summary.{fact_line, fact_lines, derived_count, number_line, number_lines, initial_lines, goal_fact_lines, summary_lines}
 use Rattle.sas_outputs.proofs.Lengths.{text_short}
-use Rattle.sas_summary.proofs.Summaries.{goal_text, initial_text, goal_is, initial_is, summary_is}
+use Rattle.sas_outputs.proofs.Summaries.{goal_text, initial_text, goal_is, initial_is, summary_is}
 
 -- ---- how many bytes lines of a file take
 

@@ -20,10 +20,10 @@ use Rattle.sas_answers.specs.PlanWords.{valid_line, fault_words, invalid_line}
 use Rattle.sas_task_reasons.specs.LayerReasons.{layer_reasons}
 use Rattle.sas_task_reasons.specs.WhyLayers.{with_reasons, why_refusal}
 use Rattle.sas_task_reasons.proofs.TaskAnswers.{refused_why}
-use Rattle.sas_wording.specs.declared.line.Line.{Line}
-use Rattle.sas_wording.specs.Line.{reasons_text}
+use Rattle.sas_output.specs.declared.line.Line.{Line}
+use Rattle.sas_output.specs.Line.{reasons_text}
 use Rattle.sas_reasons.proofs.WhyPlan.{one_why, some_why}
-use Rattle.sas_explain.specs.Verdict.{WhyVerdict, Explains}
+use Rattle.sas_why.specs.Verdict.{WhyVerdict, Explains}
 use Rattle.sas_outputs.proofs.Headlines.{TellsValid}
 use Rattle.sas_outputs.proofs.PlanOutputs.{OneVerdictAnswer, SomeVerdictAnswer, IsRefusal, Refuses}
 use Rattle.sas_outputs.proofs.WordedLines.{worded}

@@ -7,7 +7,7 @@ use Rattle.sas_plan_file.proofs.PlanLaws.{plan_laws_hold}
 use Rattle.sas_task_format.proofs.TaskLaws.{task_laws_hold}
 use Rattle.sas_task_reasons.specs.WhyLayers.{why_refusal, WhyCheckAnswer, WhyMutexAnswer}
 use Rattle.sas_task_reasons.proofs.TaskAnswers.{one_why_check, some_why_check, one_why_mutex, some_why_mutex}
-use Rattle.sas_explain.specs.Verdict.{WhyVerdict}
+use Rattle.sas_why.specs.Verdict.{WhyVerdict}
 use Rattle.sas_outputs.specs.declared.Request.TheVariants.{Show, Print, Steps, Check, Plan, Mutex}
 use Rattle.sas_output.specs.Ending.{Output}
 use Rattle.sas_outputs.specs.declared.Request.{Request}

@@ -15,8 +15,8 @@ use Rattle.sas_task_format.specs.declared.marks.Mark.{Mark}
 use Rattle.sas_task_format.specs.declared.marks.WrongWord.{WrongWord}
 use Rattle.sas_task_format.specs.TaskFormat.{task_format}
 use Rattle.sas_task_format.specs.TaskReasons.{IsTaskReason}
-use Rattle.sas_file_reasons.specs.FileLine.{FileLine}
-use Rattle.sas_file_reasons.specs.Reasons.{task_reasons, plan_reasons}
+use Rattle.sas_outputs.specs.FileLine.{FileLine}
+use Rattle.sas_outputs.specs.FileReasons.{task_reasons, plan_reasons}
 use Rattle.sas_outputs.specs.declared.Request.{Request}
 use Rattle.sas_outputs.specs.declared.Request.TheVariants.{Show, Print, Steps, Check, Plan, Mutex}
 

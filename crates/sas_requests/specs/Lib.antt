@@ -4,7 +4,7 @@ pub use Rattle.sas_answers.specs.PlanWords
 pub use Rattle.sas_answers.specs.GroupWords
 pub use Rattle.sas_answers.specs.Answers
 pub use Rattle.sas_output.specs.Ending
-pub use Rattle.sas_summary.specs.Summary
+pub use Rattle.sas_outputs.specs.Summary
 pub use Rattle.sas_outputs.specs.Output
 pub use Rattle.sas_outputs.specs.Headline
 pub mod FileReasons

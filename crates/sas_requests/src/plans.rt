@@ -2,7 +2,7 @@
 ghost use Rattle.std.specs.Prelude.{◌≡◌, ◌⊎◌, ◌↔◌, false};
 ghost use Rattle.std.specs.Prelude.{IfErr, IsErrAnd, IsSomeAnd, IsTrue};
 ghost use Rattle.std.specs.Io.KnownBytes.{Appends};
-ghost use Rattle.sas_explain.specs.Verdict.{WhyVerdict};
+ghost use Rattle.sas_why.specs.Verdict.{WhyVerdict};
 ghost use Rattle.sas_output.specs.Ending.{EndsCounting, IsWrite};
 ghost use Rattle.sas_outputs.specs.Output.{VerdictOut};
 ghost use Rattle.sas_requests.specs.Answering.{EndsFile, EndsRequest, PlanBy, VerdictBy};
@@ -14,11 +14,11 @@ use crate::refusals::refuse_plan;
 use crate::tasks::read_layered;
 use crate::{Request, Status, ToolFault};
 use sas_answers::verdict_answer;
-use sas_explain::write_explained;
 use sas_flat::{FlatPlan, FlatTask};
 use sas_lines::Watched;
 use sas_meaning::Layered;
 use sas_plan_file::read_flat_plan;
+use sas_why::write_explained;
 use std::alloc::Global;
 use std::io::{Read, Write};
 

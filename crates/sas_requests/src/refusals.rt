@@ -7,10 +7,9 @@ ghost use Rattle.sas_requests.specs.Answering.{plan_refusal_lines, refusal_by, t
 
 use crate::detail::Detail;
 use crate::{Status, ToolFault};
-use sas_file_reasons::{push_plan_reasons, push_task_reasons};
 use sas_lines::Watched;
 use sas_output::Told;
-use sas_outputs::refuse_file;
+use sas_outputs::{push_plan_reasons, push_task_reasons, refuse_file};
 use sas_plan_file::PlanRefusal;
 use sas_reader::Kind;
 use sas_task_reader::TaskRefusal;

@@ -12,7 +12,7 @@ use crate::ahead::{
 };
 use crate::task_line::{change_in, value_in};
 use sas_core::{Change, Fact, Items};
-use sas_lists::Lists;
+use sas_flat::Lists;
 use sas_reader::Front;
 use std::alloc::{AllocError, Global};
 

@@ -8,7 +8,7 @@ ghost use Rattle.sas_task_line.specs.Sections.{VariableAhead, GroupAhead, gather
 use crate::ahead::{name_before, number_before, signed_before, word_before};
 use crate::sections::{Gathered, facts_before};
 use sas_core::Items;
-use sas_lists::Lists;
+use sas_flat::Lists;
 use sas_reader::Front;
 use std::alloc::AllocError;
 

@@ -15,8 +15,7 @@ ghost use Rattle.sas_task_reader.specs.TaskOutline.{outline_with};
 
 use crate::fronts::NO_VARIABLE;
 use sas_core::{Change, Fact, Items};
-use sas_flat::{Effects, FlatTask, Operators, Outline, Rules, TaskColumns, Variables};
-use sas_lists::Lists;
+use sas_flat::{Effects, FlatTask, Lists, Operators, Outline, Rules, TaskColumns, Variables};
 use sas_reader::{Front, Kind};
 use sas_task_judge::{Keeper, VariableKept};
 use sas_task_line::{

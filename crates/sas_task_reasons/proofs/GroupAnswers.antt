@@ -8,10 +8,10 @@ use Rattle.sas_groups.specs.declared.verdict.Verdict.TheVariants.{Exclusive, Der
 use Rattle.sas_groups.specs.Verdicts.{IsJointVerdict}
 use Rattle.sas_groups.specs.Joint.{verdict_at, AreJointVerdicts}
 use Rattle.sas_groups.proofs.JointLists.{one_list, some_list}
-use Rattle.sas_group_reasons.specs.declared.reason.Reason.{Reason}
-use Rattle.sas_group_reasons.specs.declared.reason.Reason.TheVariants.{OnDerived, HoldsTwo, Breaks}
-use Rattle.sas_group_reasons.specs.Reasons.{verdict_of, IsReasonIfAny, reason_at, AreReasons}
-use Rattle.sas_group_reasons.proofs.GroupReasons.{one_reason, some_reason}
+use Rattle.sas_task_reasons.specs.declared.reason.Reason.{Reason}
+use Rattle.sas_task_reasons.specs.declared.reason.Reason.TheVariants.{OnDerived, HoldsTwo, Breaks}
+use Rattle.sas_task_reasons.specs.GroupReasons.{verdict_of, IsReasonIfAny, reason_at, AreReasons}
+use Rattle.sas_task_reasons.proofs.GroupReasons.{one_reason, some_reason}
 use Rattle.sas_answers.proofs.AnswerLaws.{OneAnswer, SomeAnswer}
 use Rattle.sas_task_reasons.specs.WhyGroups.{groups_output, WhyGroupsAnswer}
 

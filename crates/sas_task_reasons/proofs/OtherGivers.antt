@@ -11,7 +11,7 @@ use Rattle.sas_meaning.specs.Layers.{CanFire, can_fire}
 use Rattle.sas_meaning.specs.LayerChecks.{agrees_with}
 use Rattle.sas_meaning.proofs.RuleTests.{fires, agrees_with_earlier}
 use Rattle.sas_task_reasons.specs.LayerReasons.{gives_other}
-use Rattle.sas_task_reasons.specs.Laws.{IsOtherGiver, IsToldOther}
+use Rattle.sas_task_reasons.specs.LayerLaws.{IsOtherGiver, IsToldOther}
 
 abbrev none : Rule
 none = record { conditions = []; var = 0; old = None; new = 0 }

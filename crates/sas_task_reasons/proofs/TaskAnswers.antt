@@ -19,8 +19,8 @@ use Rattle.sas_answers.specs.Answers.{layers_refusal, layers_verdict}
 use Rattle.sas_answers.specs.LayerWords.{layer_words, layers_line}
 use Rattle.sas_answers.proofs.AnswerLaws.{OneAnswer, SomeAnswer}
 use Rattle.sas_answers.proofs.CheckAnswers.{some_check_answer}
-use Rattle.sas_wording.specs.declared.line.Line.{Line}
-use Rattle.sas_wording.specs.Line.{reasons_text}
+use Rattle.sas_output.specs.declared.line.Line.{Line}
+use Rattle.sas_output.specs.Line.{reasons_text}
 use Rattle.sas_task_reasons.specs.LayerReasons.{layer_reasons}
 use Rattle.sas_task_reasons.specs.WhyGroups.{WhyGroupsAnswer}
 use Rattle.sas_task_reasons.specs.WhyLayers.{with_reasons, why_refusal, why_verdict, WhyCheckAnswer, WhyLayeredGroups, WhyMutexAnswer}

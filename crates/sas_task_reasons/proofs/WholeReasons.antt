@@ -14,7 +14,7 @@ use Rattle.sas_meaning.specs.declared.layered.LayerFault.{LayerFault}
 use Rattle.sas_meaning.specs.declared.layered.LayerFault.TheVariants.{EffectOnDerived, RuleOnBasic, OldValue, TwoValues, LayerOrder}
 use Rattle.sas_meaning.specs.Layers.{default_of, can_fire}
 use Rattle.sas_meaning.specs.LayerChecks.{numbered, effect_layer_checks, operator_layer_checks, agrees_with, looks_down, firing_checks, rule_layer_checks, layer_checks}
-use Rattle.sas_task_reasons.specs.Laws.{IsToldOld, IsWhole, LayerReasonsAreWhole}
+use Rattle.sas_task_reasons.specs.LayerLaws.{IsToldOld, IsWhole, LayerReasonsAreWhole}
 use Rattle.sas_task_reasons.proofs.FailingChecks.{IsFirst, check_fails, asked_fails, either_fails, numbered_fails}
 use Rattle.sas_task_reasons.proofs.OtherGivers.{other_told}
 

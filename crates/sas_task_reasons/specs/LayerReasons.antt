@@ -12,8 +12,8 @@ use Rattle.sas_meaning.specs.declared.layered.LayerFault.TheVariants.{EffectOnDe
 use Rattle.sas_meaning.specs.declared.layered.LayerFault.TheVariants.{OldValue, TwoValues}
 use Rattle.sas_meaning.specs.declared.layered.LayerFault.TheVariants.{LayerOrder, Memory}
 use Rattle.sas_meaning.specs.Layers.{default_of, can_fire}
-use Rattle.sas_wording.specs.declared.line.Line.{Line}
-use Rattle.sas_wording.specs.declared.line.Line.TheVariants as line
+use Rattle.sas_output.specs.declared.line.Line.{Line}
+use Rattle.sas_output.specs.declared.line.Line.TheVariants as line
 
 -- the condition of a rule at this place; behind the last one, that variable 0 has value 0
 abbrev pub condition_at : Rule → ℕ → Fact

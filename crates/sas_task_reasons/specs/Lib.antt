@@ -1,4 +1,10 @@
+-- The modules that public contracts cite.
+pub mod Failures
+pub mod GroupReasons
+pub mod GroupLaws
+pub mod Lowest
+pub mod Telling
 pub mod LayerReasons
 pub mod WhyGroups
 pub mod WhyLayers
-pub mod Laws
+pub mod LayerLaws

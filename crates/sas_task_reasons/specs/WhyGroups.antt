@@ -7,16 +7,16 @@ use Rattle.sas_core.specs.Grounded.{group_at}
 use Rattle.sas_lines.specs.Lines.{text}
 use Rattle.sas_groups.specs.declared.verdict.Verdict.{Verdict}
 use Rattle.sas_groups.specs.Joint.{AreJointVerdicts}
-use Rattle.sas_group_reasons.specs.declared.reason.Failure.{Failure}
-use Rattle.sas_group_reasons.specs.declared.reason.Failure.TheVariants.{SetsTwo, MayStay}
-use Rattle.sas_group_reasons.specs.declared.reason.Reason.{Reason}
-use Rattle.sas_group_reasons.specs.declared.reason.Reason.TheVariants.{OnDerived, HoldsTwo, Breaks}
-use Rattle.sas_group_reasons.specs.Reasons.{AreReasons, reason_at}
+use Rattle.sas_task_reasons.specs.declared.reason.Failure.{Failure}
+use Rattle.sas_task_reasons.specs.declared.reason.Failure.TheVariants.{SetsTwo, MayStay}
+use Rattle.sas_task_reasons.specs.declared.reason.Reason.{Reason}
+use Rattle.sas_task_reasons.specs.declared.reason.Reason.TheVariants.{OnDerived, HoldsTwo, Breaks}
+use Rattle.sas_task_reasons.specs.GroupReasons.{AreReasons, reason_at}
 use Rattle.sas_output.specs.Ending.{Output}
 use Rattle.sas_answers.specs.GroupWords.{group_line, groups_status}
-use Rattle.sas_wording.specs.declared.line.Line.{Line}
-use Rattle.sas_wording.specs.declared.line.Line.TheVariants as line
-use Rattle.sas_wording.specs.Line.{line_bytes}
+use Rattle.sas_output.specs.declared.line.Line.{Line}
+use Rattle.sas_output.specs.declared.line.Line.TheVariants as line
+use Rattle.sas_output.specs.Line.{line_bytes}
 
 -- the fact at this place of a group; behind the last one, that variable 0 has value 0
 abbrev pub member_at : Parts → ℕ → ℕ → Fact

@@ -4,23 +4,23 @@ ghost use Rattle.std.specs.Prelude.{IfErr, IsErr, IsErrAnd, IsSomeAnd, IsTrue, O
 ghost use Rattle.std.specs.Io.KnownBytes.{Appends};
 ghost use Rattle.sas_lines.specs.Lines.{text};
 ghost use Rattle.sas_answers.specs.GroupWords.{group_line};
-ghost use Rattle.sas_group_reasons.specs.Reasons.{reason_at};
+ghost use Rattle.sas_task_reasons.specs.GroupReasons.{reason_at};
 ghost use Rattle.sas_output.specs.Ending.{EndsCounting, IsWrite};
 ghost use Rattle.sas_output.specs.Sink.{Pushes};
 ghost use Rattle.sas_output.specs.Words.{line, word_bytes};
-ghost use Rattle.sas_wording.specs.Line.{reasons_text};
+ghost use Rattle.sas_output.specs.Line.{reasons_text};
 ghost use Rattle.sas_task_reasons.specs.WhyGroups as spec;
 ghost use Rattle.sas_task_reasons.specs.WhyGroups.{WhyGroupsAnswer, why_lines};
 
 use crate::facts::member_of;
+use crate::reason::{Failure, Reason};
+use crate::reasons::group_reasons;
 use crate::verdicts::groups_status;
 use sas_flat::FlatTask;
-use sas_group_reasons::{Failure, Reason, group_reasons};
 use sas_lines::Watched;
 use sas_meaning::Layered;
 use sas_mutex::{Verdict, check_groups};
-use sas_output::{Indent, Pieces, Sink, Status, ToolFault, Word, Words};
-use sas_wording::{Line, Named, push_lines};
+use sas_output::{Indent, Line, Named, Pieces, Sink, Status, ToolFault, Word, Words, push_lines};
 use std::alloc::Global;
 use std::io::Write;
 

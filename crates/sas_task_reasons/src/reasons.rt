@@ -1,118 +1,117 @@
-// Why a task isn't layered, as lines of numbers.
-ghost use Rattle.std.specs.Prelude.{◌≡◌, [], ◌∷◌, ◌++◌, IfOk, OnOk};
-ghost use Rattle.sas_meaning.specs.declared.layered.LayerFault.TheVariants as fault;
-ghost use Rattle.sas_task_reasons.specs.LayerReasons as spec;
+// The reasons for the verdicts on all groups.
+ghost use Rattle.std.specs.Prelude.{◌≡◌, ◌<◌, ◌↔◌, ℕ, Bool, List, length, All, IfOk, IsTrue, IsFalse};
+ghost use Rattle.sas_groups.specs.declared.verdict.Verdict.{Verdict};
+ghost use Rattle.sas_groups.specs.declared.verdict.Verdict.TheVariants.{Broken};
+ghost use Rattle.sas_groups.specs.Kept.{family_of};
+ghost use Rattle.sas_groups.specs.Joint.{AreJointVerdicts};
+ghost use Rattle.sas_task_reasons.specs.GroupReasons.{AreReasons};
+ghost use Rattle.sas_task_reasons.specs.Telling.{AreReasonsSoFar, IsBroken, AreMarked};
 
-use crate::facts::{change_by, condition_of, default_fact, layer_of};
-use crate::giver::other_giver;
-use sas_core::{Fact, Items};
-use sas_flat::FlatTask;
-use sas_meaning::LayerFault;
-use sas_wording::{Line, set_by};
+use crate::before_operators::first_reasons;
+use crate::broken::{Greatest, tell_failures};
+use crate::reason::Reason;
+use sas_core::{Grounded, Items};
+use sas_groups::{Index, IndexedTask, Verdict};
+use sas_meaning::Layered;
+use sas_mutex::{Marks, exclusive_of};
 use std::alloc::{AllocError, Global};
 
-/// Returns the lines of why the task has this fault of its layers. For `Memory` there is none.
-pub fn layer_reasons(
+/// Returns for each group of the task, in order, the reason for the joint verdict on it, or `None` if it is exclusive. All memory is
+/// allocated before the operators are checked. `Err` means out of memory.
+pub fn group_reasons<T: Grounded>(
     alloc: Global,
-    task: &FlatTask,
-    fault: LayerFault,
-) -> Result<Items<Line>, AllocError>
-    ensures { IfOk result (λ lines. lines ≡ spec.layer_reasons task.now fault) }
+    layered: &Layered<T>,
+    verdicts: &[Verdict],
+) -> Result<Vec<Option<Reason>>, AllocError>
+    requires { AreJointVerdicts layered.now verdicts.now }
+    ensures { IfOk result (λ reasons. AreReasons layered.now verdicts.now reasons.items) }
 {
-    match fault {
-        LayerFault::EffectOnDerived { operator, effect } => {
-            effect_reasons(alloc, task, operator, effect)
-        }
-        LayerFault::RuleOnBasic { rule } => rule_reasons(alloc, rule),
-        LayerFault::OldValue { rule } => old_reasons(alloc, task, rule),
-        LayerFault::TwoValues { rule } => value_reasons(alloc, task, rule),
-        LayerFault::LayerOrder { rule, condition } => order_reasons(alloc, task, rule, condition),
-        LayerFault::Memory => Ok(Items::new(alloc)),
+    // The contract of `task` ensures that the task is well ranged.
+    let _ = layered.task();
+    let mut reasons = first_reasons(alloc, layered, verdicts)?;
+    // If no operator breaks a group, all reasons are found.
+    if !some_broken(verdicts) {
+        return Ok(reasons.into_vec());
     }
+    let index = Index::new(alloc, layered)?;
+    let indexed = IndexedTask {
+        task: layered,
+        index: &index,
+    };
+    let told = tell_breaking(alloc, &indexed, verdicts, &mut reasons);
+    drop(index);
+    told?;
+    Ok(reasons.into_vec())
 }
 
-/// Returns the lines for an effect on a derived variable.
-fn effect_reasons(
+/// Finds the reason of each group that an operator breaks. Allocates the memory for this.
+fn tell_breaking<T: Grounded>(
     alloc: Global,
-    task: &FlatTask,
-    operator: u32,
-    effect: u32,
-) -> Result<Items<Line>, AllocError>
-    ensures { IfOk result (λ lines.
-        lines ≡ spec.layer_reasons task.now (fault.EffectOnDerived operator effect)) }
+    indexed: &IndexedTask<'_, '_, T>,
+    verdicts: &[Verdict],
+    reasons: &mut Items<Option<Reason>>,
+) -> Result<(), AllocError>
+    requires joint { AreJointVerdicts indexed.now verdicts.now }
+    requires so_far { (kept : List Bool)
+        → AreReasonsSoFar indexed.now kept 0 0 verdicts.now reasons.old }
+    ensures { IfOk result (λ _. AreReasons indexed.now verdicts.now reasons.new) }
 {
-    let mut lines = Items::new(alloc);
-    lines.push(Line::NamedOperator { operator })?;
-    lines.push(Line::EffectSets { operator, effect })?;
-    push_layer(task, set_by(task, operator, effect).var, &mut lines)?;
-    Ok(lines)
-}
-
-/// Returns the line for a rule on a basic variable.
-fn rule_reasons(alloc: Global, rule: u32) -> Result<Items<Line>, AllocError>
-    ensures { IfOk result (λ lines. lines ≡ Line.Rule rule ∷ []) }
-{
-    let mut lines = Items::new(alloc);
-    lines.push(Line::Rule { rule })?;
-    Ok(lines)
-}
-
-/// Returns the lines for a rule with an old value that isn't the default.
-fn old_reasons(alloc: Global, task: &FlatTask, rule: u32) -> Result<Items<Line>, AllocError>
-    ensures { IfOk result (λ lines. lines ≡ spec.layer_reasons task.now (fault.OldValue rule)) }
-{
-    let mut lines = Items::new(alloc);
-    lines.push(Line::Rule { rule })?;
-    let change = change_by(task, rule);
-    if let Some(value) = change.old {
-        let fact = Fact {
-            var: change.var,
-            value,
-        };
-        lines.push(Line::OldValue { fact })?;
-    }
-    let fact = default_fact(task, change.var);
-    lines.push(Line::DefaultValue { fact })?;
-    Ok(lines)
-}
-
-/// Returns the lines for a rule that derives another value than an earlier one.
-fn value_reasons(alloc: Global, task: &FlatTask, rule: u32) -> Result<Items<Line>, AllocError>
-    ensures { IfOk result (λ lines. lines ≡ spec.layer_reasons task.now (fault.TwoValues rule)) }
-{
-    let mut lines = Items::new(alloc);
-    lines.push(Line::Rule { rule })?;
-    if let Some(other) = other_giver(task, rule) {
-        lines.push(Line::Rule { rule: other })?;
-    }
-    Ok(lines)
-}
-
-/// Returns the lines for a condition that doesn't look down.
-fn order_reasons(
-    alloc: Global,
-    task: &FlatTask,
-    rule: u32,
-    condition: u32,
-) -> Result<Items<Line>, AllocError>
-    ensures { IfOk result (λ lines.
-        lines ≡ spec.layer_reasons task.now (fault.LayerOrder rule condition)) }
-{
-    let mut lines = Items::new(alloc);
-    lines.push(Line::Rule { rule })?;
-    push_layer(task, change_by(task, rule).var, &mut lines)?;
-    let fact = condition_of(task, rule, condition);
-    lines.push(Line::ConditionRequires { condition, fact })?;
-    push_layer(task, fact.var, &mut lines)?;
-    Ok(lines)
-}
-
-/// Adds the line of the variable's layer, if it is derived.
-fn push_layer(task: &FlatTask, var: u32, lines: &mut Items<Line>) -> Result<(), AllocError>
-    ensures { OnOk result (lines.new ≡ lines.old ++ spec.layer_lines task.now var) }
-{
-    if let Some(layer) = layer_of(task, var) {
-        lines.push(Line::OnLayer { layer })?;
-    }
+    let marked = breaking_operators(alloc, indexed.task.operators(), verdicts)?;
+    let kept = exclusive_of(alloc, verdicts)?;
+    let marks = Marks::new(alloc, indexed.task, indexed.index)?;
+    let mut greatest = Greatest { kept, marks };
+    tell_failures(indexed, verdicts, marked.as_slice(), &mut greatest, reasons);
+    drop(marked);
+    drop(greatest);
     Ok(())
+}
+
+/// Returns whether one of the verdicts is `Broken`.
+fn some_broken(verdicts: &[Verdict]) -> bool
+    ensures { IsFalse result → All (λ (verdict : Verdict). IsBroken verdict → ⊥) verdicts.now }
+{
+    for verdict in verdicts {
+        if is_broken(*verdict) {
+            return true;
+        }
+    }
+    false
+}
+
+/// Returns whether the verdict is `Broken`.
+fn is_broken(verdict: Verdict) -> bool
+    ensures { IsTrue result ↔ IsBroken verdict }
+{
+    matches!(verdict, Verdict::Broken { .. })
+}
+
+/// Returns for each operator whether it breaks a group. `Err` means out of memory.
+fn breaking_operators(
+    alloc: Global,
+    operators: u32,
+    verdicts: &[Verdict],
+) -> Result<Items<bool>, AllocError>
+    ensures for_each { IfOk result (λ marked. length marked ≡ operators) }
+    ensures marked { IfOk result (λ marked. AreMarked verdicts.now marked) }
+{
+    let mut marked = Items::from_vec(vec![in alloc; false; operators as usize]?);
+    for verdict in verdicts {
+        mark(*verdict, &mut marked);
+    }
+    Ok(marked)
+}
+
+/// Marks the operator that breaks the group, if any.
+fn mark(verdict: Verdict, marked: &mut Items<bool>)
+    ensures as_many { length marked.new ≡ length marked.old }
+    ensures marked { (operator : ℕ) → verdict ≡ Broken operator → operator < length marked.old
+        → IsTrue (family_of marked.new operator) }
+    ensures still { (operator : ℕ) → IsTrue (family_of marked.old operator)
+        → IsTrue (family_of marked.new operator) }
+{
+    if let Verdict::Broken { operator } = verdict {
+        if (operator as usize) < marked.len() {
+            marked.set(operator as usize, true);
+        }
+    }
 }

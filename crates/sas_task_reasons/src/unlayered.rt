@@ -5,13 +5,12 @@ ghost use Rattle.std.specs.Io.KnownBytes.{Appends};
 ghost use Rattle.sas_output.specs.Ending.{EndsCounting, IsWrite};
 ghost use Rattle.sas_task_reasons.specs.WhyLayers.{why_refusal};
 
-use crate::reasons::layer_reasons;
+use crate::layers::layer_reasons;
 use sas_answers::refuse_layers;
 use sas_flat::FlatTask;
 use sas_lines::Watched;
 use sas_meaning::LayerFault;
-use sas_output::{Status, ToolFault};
-use sas_wording::{Named, write_reasons};
+use sas_output::{Named, Status, ToolFault, write_reasons};
 use std::alloc::Global;
 use std::io::Write;
 

@@ -17,3 +17,4 @@ pub use Rattle.sas_task_reader.specs.TaskReader
 pub use Rattle.sas_task_reader.specs.TaskRefusal
 pub use Rattle.sas_task_reader.specs.Outline
 pub use Rattle.sas_flat.specs.Outlines
+pub mod TaskText

@@ -1,5 +1,8 @@
-//! Reads and writes task files and plan files. Files are read in pieces. A fault is reported with its line and kind.
+//! The two formats of text, the task file and the plan file, read in pieces and written. Each fault is reported at its
+//! exact place.
 #![tactic(auto)]
+
+mod task_writer;
 
 pub use sas_flat::Outline;
 pub use sas_plan_file::{
@@ -10,4 +13,4 @@ pub use sas_task_format::{Due, FixedWord, Location, Mark, WrongWord, task_laws};
 pub use sas_task_reader::{
     TaskReader, TaskRefusal, read_flat_task, read_outline, read_task, read_task_text,
 };
-pub use sas_task_writer::encode_task;
+pub use task_writer::encode_task;

@@ -9,7 +9,7 @@ use Rattle.sas_core.specs.Grounded.{operator_at}
 use Rattle.sas_core.specs.Tasks.{cost_of}
 use Rattle.sas_core.specs.Variables.{value_name}
 use Rattle.sas_output.specs.Words.{line}
-use Rattle.sas_wording.specs.Facts.{fact_words}
+use Rattle.sas_output.specs.Facts.{fact_words}
 use Rattle.sas_run.specs.Runs.{Run, state_at}
 
 -- the variables of a task, ascending

@@ -14,9 +14,9 @@ use Rattle.sas_axioms.proofs.RulesOf.{of_variable}
 use Rattle.sas_meaning.specs.Places.{places, can_give}
 use Rattle.sas_meaning.proofs.Members.{contains_head, contains_tail, contains_cases, contains_none}
 use Rattle.sas_meaning.proofs.Places.{places_ascend}
-use Rattle.sas_wording.specs.declared.line.Line.{Line}
-use Rattle.sas_wording.specs.declared.line.Line.TheVariants.{RuleDerives, RuleRequires}
-use Rattle.sas_wording.specs.Line.{rule_numbers, is_rule_line}
+use Rattle.sas_output.specs.declared.line.Line.{Line}
+use Rattle.sas_output.specs.declared.line.Line.TheVariants.{RuleDerives, RuleRequires}
+use Rattle.sas_output.specs.Line.{rule_numbers, is_rule_line}
 use Rattle.sas_reasons.specs.Lines.{with_lines}
 use Rattle.sas_reasons.specs.Derivation.{ComesBefore, IsDerivation}
 use Rattle.sas_reasons.specs.Cause.{fails, failing_lines}

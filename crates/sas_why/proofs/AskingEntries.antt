@@ -9,10 +9,10 @@ use Rattle.sas_core.specs.declared.parts.Parts.{Parts}
 use Rattle.sas_core.specs.Grounded.{rule_at}
 use Rattle.sas_core.specs.Variables.{IsDerived}
 use Rattle.sas_core.specs.WellRanged.{WellRanged}
-use Rattle.sas_lists.specs.declared.by_key.Entry.{Entry}
-use Rattle.sas_lists.specs.ByKey.{items_of, by_key}
-use Rattle.sas_lists.proofs.Tables.{length-table}
-use Rattle.sas_lists.proofs.ByKey.{under_key, all_items, holds}
+use Rattle.sas_flat.specs.declared.by_key.Entry.{Entry}
+use Rattle.sas_flat.specs.ByKey.{items_of, by_key}
+use Rattle.sas_flat.proofs.Tables.{length-table}
+use Rattle.sas_flat.proofs.ByKey.{under_key, all_items, holds}
 use Rattle.sas_meaning.proofs.Forced.{condition_within}
 use Rattle.sas_why.specs.Asking.{asked_entry, AsksFor, IsAsked, AddsAsked, asking_at, IsAskingIndex}
 

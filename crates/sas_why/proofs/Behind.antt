@@ -14,8 +14,8 @@ use Rattle.sas_run.specs.declared.plan_check.PlanFault.TheVariants.{Conflict}
 use Rattle.sas_run.specs.Plans.{LeadsTo}
 use Rattle.sas_run.specs.Verdicts.{ComesTo, IsFaultOf}
 use Rattle.sas_run.proofs.Determined.{leads_one_way}
-use Rattle.sas_wording.specs.declared.line.Line.{Line}
-use Rattle.sas_wording.specs.declared.line.Line.TheVariants as line
+use Rattle.sas_output.specs.declared.line.Line.{Line}
+use Rattle.sas_output.specs.declared.line.Line.TheVariants as line
 use Rattle.sas_run.specs.Runs.{Run, last_state, GoesThrough, steps_before, EndsBy}
 use Rattle.sas_run.proofs.Runs.{leads_to_last, last_rests}
 use Rattle.sas_reasons.specs.WhyPlan.{TellsOther, TellsFault, IsWhy}

@@ -18,3 +18,4 @@ pub mod RoundEnds
 pub mod TellingSteps
 pub mod Placing
 pub mod ToldRules
+mod Explaining

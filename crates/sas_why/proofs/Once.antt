@@ -7,10 +7,10 @@ use Rattle.std.proofs.lemmas.Bool.{cases_Bool, false≢true}
 use Rattle.std.proofs.lemmas.Bool.Decides.{same_from_decides}
 use Rattle.std.proofs.lemmas.List.Elements.{All-contains}
 use Rattle.sas_meaning.proofs.Members.{contains_head, contains_tail, contains_cases, contains_none}
-use Rattle.sas_wording.specs.declared.line.Line.{Line}
-use Rattle.sas_wording.specs.declared.line.Line.TheVariants.{RuleDerives}
-use Rattle.sas_wording.specs.Line.{rule_numbers, is_rule_line, is_same_rule_line}
-use Rattle.sas_wording.proofs.RuleLines.{same_is}
+use Rattle.sas_output.specs.declared.line.Line.{Line}
+use Rattle.sas_output.specs.declared.line.Line.TheVariants.{RuleDerives}
+use Rattle.sas_output.specs.Line.{rule_numbers, is_rule_line, is_same_rule_line}
+use Rattle.sas_output.proofs.RuleLines.{same_is}
 use Rattle.sas_reasons.specs.Lines.{with_line, with_lines}
 use Rattle.sas_reasons.proofs.Telling.{is_among, among_is, is_among_when, line_then, line_else}
 

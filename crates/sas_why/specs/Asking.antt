@@ -4,7 +4,7 @@ use Rattle.sas_core.specs.declared.parts.Fact.{Fact}
 use Rattle.sas_core.specs.declared.parts.Parts.{Parts}
 use Rattle.sas_core.specs.Grounded.{rule_at}
 use Rattle.sas_core.specs.Variables.{IsDerived}
-use Rattle.sas_lists.specs.declared.by_key.Entry.{Entry}
+use Rattle.sas_flat.specs.declared.by_key.Entry.{Entry}
 
 -- the entry of a rule under a variable
 abbrev pub asked_entry : ℕ → ℕ → Entry ℕ

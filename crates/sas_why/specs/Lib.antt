@@ -5,3 +5,4 @@ pub mod Noting
 pub mod Conflicts
 pub mod Report
 pub mod Rounds
+pub mod Verdict

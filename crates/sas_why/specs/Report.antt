@@ -7,8 +7,8 @@ use Rattle.sas_core.specs.Grounded.{rule_at}
 use Rattle.sas_core.specs.Variables.{IsState}
 use Rattle.sas_meaning.specs.Settled.{IsSettled}
 use Rattle.sas_meaning.specs.Places.{places, can_give}
-use Rattle.sas_wording.specs.declared.line.Line.{Line}
-use Rattle.sas_wording.specs.declared.line.Line.TheVariants.{RuleDerives, RuleRequires}
+use Rattle.sas_output.specs.declared.line.Line.{Line}
+use Rattle.sas_output.specs.declared.line.Line.TheVariants.{RuleDerives, RuleRequires}
 use Rattle.sas_axioms.specs.LayerRules.{AreRulesOf}
 use Rattle.sas_reasons.specs.Lines.{with_lines}
 use Rattle.sas_run.specs.Runs.{Run, last_state, GoesThrough}

@@ -3,7 +3,7 @@ ghost use Rattle.std.specs.Prelude.{◌<◌, length, IfOk, OnOk};
 ghost use Rattle.sas_why.specs.Asking.{AddsAsked, IsAskingIndex};
 
 use sas_core::Grounded;
-use sas_lists::{Entry, Lists};
+use sas_flat::{Entry, Lists};
 use sas_meaning::Layered;
 use std::alloc::{AllocError, Global};
 

@@ -13,7 +13,7 @@ use crate::report::Report;
 use crate::retraced::Retraced;
 use sas_core::{Fact, Grounded, Items};
 use sas_meaning::{Layered, State};
-use sas_wording::Line;
+use sas_output::Line;
 use std::alloc::AllocError;
 
 /// Reports the cause of a fact that fails in the last state.

@@ -17,8 +17,8 @@ use crate::report::Report;
 use crate::retraced::Retraced;
 use sas_core::{Grounded, Items, Stepwise};
 use sas_meaning::{Layered, Preconditions, State};
+use sas_output::Line;
 use sas_run::PlanFault;
-use sas_wording::Line;
 use std::alloc::{AllocError, Global};
 
 /// Returns why the plan isn't valid: the lines of reasons behind its verdict.

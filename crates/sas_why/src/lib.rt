@@ -1,4 +1,5 @@
-//! Why a plan isn't valid: the reasons, as lines of numbers. Names are put in only where the lines are written.
+//! Why a plan isn't valid: the reasons, as lines of numbers, and the answer with them. Names are put in only where the lines are
+//! written. No file is read.
 #![tactic(auto)]
 
 mod asking;
@@ -13,7 +14,9 @@ mod report;
 mod retraced;
 mod rounds;
 mod second_pass;
+mod writing;
 
 pub use faults::reasons;
 pub use retraced::{Other, Retraced};
 pub use second_pass::retrace;
+pub use writing::write_explained;

@@ -6,9 +6,9 @@ ghost use Rattle.sas_meaning.specs.Settled.{IsSettled};
 use crate::origins::Origins;
 use sas_axioms::rules_of_variables;
 use sas_core::{Grounded, Items};
-use sas_lists::Lists;
+use sas_flat::Lists;
 use sas_meaning::{Layered, State};
-use sas_wording::Line;
+use sas_output::Line;
 use std::alloc::{AllocError, Global};
 
 /// The lines of reasons so far, and what keeps a line of a rule from standing twice.

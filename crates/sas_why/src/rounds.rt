@@ -7,7 +7,7 @@ ghost use Rattle.sas_why.specs.Rounds.{HaveOrigins, value_in_round, IsReached, A
 
 use crate::asking::asking_rules;
 use sas_core::Grounded;
-use sas_lists::Lists;
+use sas_flat::Lists;
 use sas_meaning::{Layered, State};
 use std::alloc::{AllocError, Global};
 use std::mem;

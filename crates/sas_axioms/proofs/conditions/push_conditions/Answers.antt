@@ -4,7 +4,7 @@ use Rattle.std.proofs.Math.Seq.{append_snoc}
 use Rattle.std.proofs.lemmas.List.{drop_all, drop_more}
 use Rattle.sas_core.specs.declared.parts.Fact.{Fact}
 use Rattle.sas_core.specs.Grounded.{rule_at}
-use Rattle.sas_lists.specs.declared.by_key.Entry.{Entry}
+use Rattle.sas_flat.specs.declared.by_key.Entry.{Entry}
 use Rattle.sas_axioms.specs.declared.waiting.Waiting.{Waiting}
 use Rattle.sas_axioms.specs.Conditions.{entries}
 use Rattle.sas_axioms.specs.Waiting.{entry_of}

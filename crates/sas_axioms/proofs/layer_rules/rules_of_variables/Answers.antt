@@ -3,7 +3,7 @@ use Rattle.std.proofs.Common.{◌≡◌, ◌<◌, length, sym, ap, subst, ◌∙
 use Rattle.std.proofs.lemmas.Result.{IfOk-weaker}
 use Rattle.sas_core.specs.declared.grounded.Change.{Change}
 use Rattle.sas_core.specs.Grounded.{rule_at}
-use Rattle.sas_lists.specs.ByKey.{by_key}
+use Rattle.sas_flat.specs.ByKey.{by_key}
 use Rattle.sas_meaning.specs.Layers.{default_of}
 use Rattle.sas_meaning.proofs.Forced.{fact_within, rule_new}
 use Rattle.sas_axioms.specs.LayerRules.{AreRulesOf}

@@ -2,7 +2,7 @@ use Rattle.std.proofs.Common.{ℕ, ap, subst, Some, Err, ◌∙◌}
 use Rattle.std.specs.Global.{Vec}
 use Rattle.std.specs.Io.KnownBytes.{Appends}
 use Rattle.sas_core.specs.declared.parts.Parts.{Parts}
-use Rattle.sas_explain.specs.Verdict.{WhyVerdict}
+use Rattle.sas_why.specs.Verdict.{WhyVerdict}
 use Rattle.sas_output.specs.Ending.{EndsCounting}
 use Rattle.sas_outputs.specs.Output.{VerdictOut}
 use Rattle.sas_requests.specs.FileReasons.{PlanFileReasons}

@@ -1,5 +1,5 @@
 use Rattle.std.proofs.Common.{sym, ap, subst, ◌∙◌, Some}
-use Rattle.sas_held.specs.declared.prepared.Prepared.{Prepared}
+use Rattle.sas_c.specs.declared.prepared.Prepared.{Prepared}
 use Rattle.sas_answers.specs.Answers.{VerdictAnswer}
 use Rattle.sas_outputs.specs.Output.{plain_refusal}
 use Rattle.sas_outputs.proofs.Headlines.{tells_valid}

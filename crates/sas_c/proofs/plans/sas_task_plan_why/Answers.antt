@@ -1,5 +1,5 @@
 use Rattle.std.proofs.Common.{sym, ap, subst, ◌∙◌, Some}
-use Rattle.sas_held.specs.declared.prepared.Prepared.{Prepared}
+use Rattle.sas_c.specs.declared.prepared.Prepared.{Prepared}
 use Rattle.sas_c.specs.Holding.{Holds}
 use Rattle.sas_c.proofs.Tellings.{why_told, headline_why_told}
 use Rattle.sas_c.proofs.plans.sas_task_plan_why.Goals as goal

@@ -3,7 +3,7 @@ use Rattle.std.proofs.Common.{◌≡◌, ℕ, ◌<◌, false, length, get_or, se
 use Rattle.std.proofs.lemmas.List.{length-set}
 use Rattle.std.proofs.lemmas.List.Elements.{All-get_or}
 use Rattle.sas_core.proofs.Places.{each_more}
-use Rattle.sas_group_index.specs.Kept.{family_of}
+use Rattle.sas_groups.specs.Kept.{family_of}
 use Rattle.sas_mutex.proofs.SetFacts.{at_item}
 use Rattle.sas_mutex.proofs.Supporting.{out_still, out_now, out_less}
 use Rattle.sas_mutex.proofs.family.take_out.Goals as goal

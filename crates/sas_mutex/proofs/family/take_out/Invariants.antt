@@ -1,6 +1,6 @@
 -- The groups so far are removed.
 use Rattle.std.proofs.Common.{◌≡◌, ℕ, ◌<◌, true, false, length, get_or}
-use Rattle.sas_group_index.specs.Kept.{family_of}
+use Rattle.sas_groups.specs.Kept.{family_of}
 use Rattle.sas_mutex.proofs.family.take_out.Given as goal
 
 abbrev pub invariant-loop-group : goal.invariant-loop-group

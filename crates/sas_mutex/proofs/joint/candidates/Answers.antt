@@ -3,7 +3,7 @@ use Rattle.std.proofs.Common.{◌≡◌, Bool, false, List, length, replicate, a
 use Rattle.std.proofs.Math.ListN.{get_or-eq_default}
 use Rattle.std.proofs.lemmas.Bool.{cases_lt}
 use Rattle.std.proofs.lemmas.List.{length-replicate, get_or-replicate}
-use Rattle.sas_group_index.specs.Kept.{family_of}
+use Rattle.sas_groups.specs.Kept.{family_of}
 use Rattle.sas_mutex.proofs.joint.candidates.Goals as goal
 
 pub returns-clause-one_each : goal.returns-clause-one_each

@@ -11,7 +11,7 @@ use Rattle.sas_groups.specs.declared.verdict.Verdict.{Verdict}
 use Rattle.sas_groups.specs.Clashes.{sets, Clash}
 use Rattle.sas_groups.specs.Lists.{known}
 use Rattle.sas_mutex.specs.Effects.{IsKept}
-use Rattle.sas_group_index.specs.Index.{HasFact}
+use Rattle.sas_groups.specs.Index.{HasFact}
 use Rattle.sas_mutex.specs.declared.marks.Marks.{Marks}
 use Rattle.sas_mutex.specs.Marks.{IsClean, IsNoted, IsNotedFrom}
 use Rattle.sas_mutex.specs.ByNotes.{known_at}

@@ -7,7 +7,7 @@ use Rattle.std.proofs.lemmas.List.{length-set, length_push, get_or-set_same}
 use Rattle.sas_core.specs.Grounded.{operator_at, effect_at, group_at}
 use Rattle.sas_groups.specs.Families.{IsIn}
 use Rattle.sas_mutex.specs.declared.family.Family.{Family}
-use Rattle.sas_group_index.specs.Kept.{family_of}
+use Rattle.sas_groups.specs.Kept.{family_of}
 use Rattle.sas_mutex.specs.Effects.{IsKept, EffectKeeps}
 use Rattle.sas_mutex.specs.Firing.{EffectPlace, operator_of}
 use Rattle.sas_mutex.proofs.Counting.{count_fell}

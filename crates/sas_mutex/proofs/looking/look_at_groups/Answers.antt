@@ -8,7 +8,7 @@ use Rattle.sas_core.specs.Grounded.{operator_at, effect_at}
 use Rattle.sas_groups.specs.Clashes.{sets}
 use Rattle.sas_mutex.specs.Falling.{newly, RestsAt}
 use Rattle.sas_mutex.specs.Basis.{KeptByBasis}
-use Rattle.sas_group_index.specs.Index.{HasFact}
+use Rattle.sas_groups.specs.Index.{HasFact}
 use Rattle.sas_mutex.proofs.FallingGroups.{none_fell, falls_then, rests_later, rests_now}
 use Rattle.sas_mutex.proofs.SetFacts.{groups_setting, at_item}
 use Rattle.sas_mutex.proofs.looking.look_at_groups.Goals as goal

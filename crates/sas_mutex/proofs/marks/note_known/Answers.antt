@@ -10,8 +10,8 @@ use Rattle.sas_core.specs.Variables.{FactExists}
 use Rattle.sas_groups.specs.Lists.{known_on, known_left}
 use Rattle.sas_groups.proofs.Turns.{turn_has, turn_left}
 use Rattle.sas_mutex.proofs.TaskFacts.{known_exist}
-use Rattle.sas_group_index.proofs.Existing.{variable_below, groups_below}
-use Rattle.sas_group_index.proofs.NotesOfFacts.{blank_same}
+use Rattle.sas_groups.proofs.Existing.{variable_below, groups_below}
+use Rattle.sas_groups.proofs.NotesOfFacts.{blank_same}
 use Rattle.sas_mutex.proofs.KnownFacts.{none_so_far, one_so_far, refused_so_far, from_still, all_known}
 use Rattle.sas_mutex.proofs.marks.note_known.Goals as goal
 

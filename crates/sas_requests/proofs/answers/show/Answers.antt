@@ -5,7 +5,7 @@ use Rattle.sas_task_format.specs.TaskFormat.{task_format}
 use Rattle.sas_task_reader.specs.Outline.{OutlineOf}
 use Rattle.sas_output.specs.declared.ending.Status.TheVariants.{Yes}
 use Rattle.sas_output.specs.Ending.{Output}
-use Rattle.sas_summary.specs.Summary.{summary_lines}
+use Rattle.sas_outputs.specs.Summary.{summary_lines}
 use Rattle.sas_outputs.specs.Output.{ShowAnswer}
 use Rattle.sas_requests.specs.FileReasons.{TellsTask}
 use Rattle.sas_requests.proofs.FileEnds.{ends_text, task_refused, unread}

@@ -4,7 +4,7 @@ use Rattle.std.specs.Io.KnownBytes.{Appends}
 use Rattle.sas_core.specs.declared.parts.Parts.{Parts}
 use Rattle.sas_lines.specs.Lines.{text}
 use Rattle.sas_groups.specs.Joint.{AreJointVerdicts}
-use Rattle.sas_group_reasons.specs.declared.reason.Reason.{Reason}
+use Rattle.sas_task_reasons.specs.declared.reason.Reason.{Reason}
 use Rattle.sas_output.specs.declared.ending.Status.{Status}
 use Rattle.sas_output.specs.Ending.{Output}
 use Rattle.sas_output.proofs.Pushing.{finish_ends}

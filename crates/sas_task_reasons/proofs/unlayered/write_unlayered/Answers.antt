@@ -2,8 +2,8 @@ use Rattle.std.proofs.Common.{◌++◌, List, [], ℕ, ap, subst, ◌∙◌, ◌
 use Rattle.std.specs.Io.KnownBytes.{Appends}
 use Rattle.sas_output.specs.declared.ending.Status.TheVariants.{No}
 use Rattle.sas_output.specs.Ending.{EndsCounting}
-use Rattle.sas_wording.specs.declared.line.Line.{Line}
-use Rattle.sas_wording.specs.Line.{reasons_text}
+use Rattle.sas_output.specs.declared.line.Line.{Line}
+use Rattle.sas_output.specs.Line.{reasons_text}
 use Rattle.sas_task_reasons.proofs.TaskAnswers.{explained, ends_refused}
 use Rattle.sas_task_reasons.proofs.unlayered.write_unlayered.Goals as goal
 

@@ -1,7 +1,7 @@
 -- Each turn adds the entries of a rule.
 use Rattle.std.proofs.Common.{◌≡◌, sym, ap, subst, ◌∙◌, arith}
 use Rattle.std.proofs.lemmas.Result.{IfOk-weaker}
-use Rattle.sas_lists.specs.ByKey.{by_key}
+use Rattle.sas_flat.specs.ByKey.{by_key}
 use Rattle.sas_why.specs.Asking.{IsAskingIndex}
 use Rattle.sas_why.proofs.AskingEntries.{asked_none, asked_more, asked_exist, asked_index}
 use Rattle.sas_why.proofs.asking.asking_rules.Goals as goal

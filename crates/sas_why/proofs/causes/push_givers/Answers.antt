@@ -1,7 +1,7 @@
 -- One line more.
 use Rattle.std.proofs.Common.{List, ℕ, ◌++◌, map, sym, ◌∙◌, ap}
 use Rattle.std.proofs.lemmas.List.{append-nil, take_all}
-use Rattle.sas_wording.specs.declared.line.Line.TheVariants.{RuleDerives}
+use Rattle.sas_output.specs.declared.line.Line.TheVariants.{RuleDerives}
 use Rattle.sas_why.proofs.Composing.{map_more}
 use Rattle.sas_why.proofs.causes.push_givers.Goals as goal
 

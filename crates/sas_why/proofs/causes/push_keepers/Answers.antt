@@ -6,7 +6,7 @@ use Rattle.std.specs.Option.{option_map_or}
 use Rattle.std.proofs.lemmas.List.{append-nil, take_all}
 use Rattle.sas_core.specs.declared.parts.Fact.{Fact}
 use Rattle.sas_core.specs.Grounded.{rule_at}
-use Rattle.sas_wording.specs.declared.line.Line.TheVariants.{RuleRequires}
+use Rattle.sas_output.specs.declared.line.Line.TheVariants.{RuleRequires}
 use Rattle.sas_reasons.specs.Cause.{fails, failing_lines}
 use Rattle.sas_why.proofs.Composing.{flat_more}
 use Rattle.sas_why.proofs.Within.{conditions_within}

@@ -1,7 +1,7 @@
 -- The rules of the derivation, and their lines.
 use Rattle.std.proofs.Common.{◌≡◌, ℕ, List, ◌++◌, map, sym, ◌∙◌, subst}
 use Rattle.std.proofs.lemmas.Result.{on_ok_weaker}
-use Rattle.sas_wording.specs.declared.line.Line.TheVariants.{RuleDerives}
+use Rattle.sas_output.specs.declared.line.Line.TheVariants.{RuleDerives}
 use Rattle.sas_why.specs.Origins.{TellsDerivation}
 use Rattle.sas_why.proofs.Composing.{no_givers, some_givers}
 use Rattle.sas_why.proofs.causes.report_givers.Goals as goal

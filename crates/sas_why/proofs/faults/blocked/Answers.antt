@@ -1,5 +1,5 @@
 -- All is reported of a state of which nothing was.
-use Rattle.sas_wording.specs.declared.line.Line.TheVariants.{Step}
+use Rattle.sas_output.specs.declared.line.Line.TheVariants.{Step}
 use Rattle.sas_reasons.specs.Lines.{TellsBehind}
 use Rattle.sas_reasons.specs.WhyPlan.{TellsOperators}
 use Rattle.sas_why.proofs.Faulty.{all_told}

@@ -6,7 +6,7 @@ use Rattle.sas_core.specs.Grounded.{operator_at}
 use Rattle.sas_meaning.specs.Steps.{Agree}
 use Rattle.sas_run.specs.declared.plan_check.PlanFault.{PlanFault}
 use Rattle.sas_run.specs.declared.plan_check.PlanFault.TheVariants.{Conflict}
-use Rattle.sas_wording.specs.declared.line.Line.TheVariants.{Step}
+use Rattle.sas_output.specs.declared.line.Line.TheVariants.{Step}
 use Rattle.sas_reasons.specs.Lines.{TellsBehind}
 use Rattle.sas_reasons.specs.WhyPlan.{TellsLike, TellsOperators, TellsConflict, TellsFault, cost_lines}
 use Rattle.sas_why.specs.Report.{TellsOnce}

@@ -4,7 +4,7 @@ use Rattle.sas_core.specs.Grounded.{operator_at}
 use Rattle.sas_meaning.proofs.Places.{places_to, places_all}
 use Rattle.sas_reasons.specs.Lines.{TellsEach}
 use Rattle.sas_reasons.specs.WhyPlan.{operators_of, TellsInapplicable, TellsOperators}
-use Rattle.sas_wording.specs.declared.line.Line.TheVariants.{Step}
+use Rattle.sas_output.specs.declared.line.Line.TheVariants.{Step}
 use Rattle.sas_why.specs.declared.report.Report.{Report}
 use Rattle.sas_why.specs.Report.{Adds}
 use Rattle.sas_why.proofs.Composing.{more_can_tell, plain_can_tell, line_and_more, one_more}

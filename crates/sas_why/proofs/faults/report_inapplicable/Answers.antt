@@ -11,7 +11,7 @@ use Rattle.sas_reasons.specs.Lines.{TellsEach}
 use Rattle.sas_run.specs.Runs.{last_state}
 use Rattle.sas_reasons.specs.Cause.{fails, IsCause}
 use Rattle.sas_reasons.specs.WhyPlan.{failing}
-use Rattle.sas_wording.specs.declared.line.Line.TheVariants.{Operator}
+use Rattle.sas_output.specs.declared.line.Line.TheVariants.{Operator}
 use Rattle.sas_why.proofs.Within.{preconditions_have_values}
 use Rattle.sas_why.proofs.Composing.{more_can_tell, plain_can_tell, line_and_more, none_yet, one_more}
 use Rattle.sas_why.proofs.Faulty.{one_more_fails, one_more_holds, same_items, at_last}

@@ -8,7 +8,7 @@ use Rattle.sas_meaning.proofs.Places.{places_to, places_all}
 use Rattle.sas_reasons.specs.Lines.{TellsEach}
 use Rattle.sas_reasons.specs.Cause.{fails, IsCause}
 use Rattle.sas_reasons.specs.WhyPlan.{goal_fact_at, TellsGoalFact}
-use Rattle.sas_wording.specs.declared.line.Line.TheVariants.{GoalFact}
+use Rattle.sas_output.specs.declared.line.Line.TheVariants.{GoalFact}
 use Rattle.sas_why.specs.declared.report.Report.{Report}
 use Rattle.sas_why.specs.Report.{Adds}
 use Rattle.sas_why.proofs.Within.{goal_within}

@@ -1,7 +1,7 @@
 -- The operator of nearly that name, if there is one.
 use Rattle.std.proofs.Common.{◌≡◌, List, [], ◌∷◌, ◌++◌, None, Some, ◌∙◌, ap, subst}
-use Rattle.sas_wording.specs.declared.line.Line.{Line}
-use Rattle.sas_wording.specs.declared.line.Line.TheVariants.{Step, SimilarOperator}
+use Rattle.sas_output.specs.declared.line.Line.{Line}
+use Rattle.sas_output.specs.declared.line.Line.TheVariants.{Step, SimilarOperator}
 use Rattle.sas_reasons.specs.Likeness.{IsLike}
 use Rattle.sas_why.proofs.Faulty.{unknown_told}
 use Rattle.sas_why.proofs.faults.unknown.Goals as goal

@@ -2,7 +2,7 @@ use Rattle.std.proofs.Common.{◌-◌, ◌++◌, length, ap, ◌∙◌, arith}
 use Rattle.std.proofs.lemmas.List.{nil_from_length}
 use Rattle.sas_flat.specs.Effects.{effects_of}
 use Rattle.sas_flat.proofs.EffectRows.{effects_filled, filled_append, bare_append, on_any_error}
-use Rattle.sas_lists.proofs.Kept.{not_ok}
+use Rattle.sas_flat.proofs.Kept.{not_ok}
 use Rattle.sas_flat.proofs.effects.Effects.append.Goals as goal
 use Rattle.sas_flat.proofs.effects.Effects.append.Goals.{then-len-gt0+in_ok-fill+in_ok-append, else-len-gt0}
 

@@ -1,5 +1,5 @@
 use Rattle.std.proofs.Common.{length, ap}
-use Rattle.sas_lists.proofs.Tables.{table_none}
+use Rattle.sas_flat.proofs.Tables.{table_none}
 use Rattle.sas_flat.proofs.operators.Operators.new.Goals as goal
 
 pub returns : goal.returns

@@ -5,7 +5,7 @@ use Rattle.sas_flat.proofs.FoundOperators.{one_more}
 use Rattle.sas_flat.proofs.FoundOperators as found
 use Rattle.sas_flat.specs.declared.operators.Head.{Head}
 use Rattle.sas_flat.proofs.EffectRows.{on_any_error}
-use Rattle.sas_lists.proofs.Kept.{not_ok}
+use Rattle.sas_flat.proofs.Kept.{not_ok}
 use Rattle.sas_flat.proofs.Grown.{kept_more, kept_long, kept_front, still_aligned, same_effects, same_operators}
 use Rattle.sas_flat.proofs.operators.Operators.push_plain.Goals as goal
 

@@ -1,5 +1,5 @@
 use Rattle.std.proofs.Common.{◌≡◌, ◌+◌, ◌++◌, ◌∷◌, [], length, refl, ap, ◌∙◌, arith, length-append}
-use Rattle.sas_lists.proofs.Kept.{not_ok}
+use Rattle.sas_flat.proofs.Kept.{not_ok}
 use Rattle.std.proofs.lemmas.Result.{on_ok_weaker}
 use Rattle.sas_flat.proofs.Grown.{kept_all, kept_more, kept_by}
 use Rattle.sas_flat.proofs.variables.Columns.push.Goals as goal

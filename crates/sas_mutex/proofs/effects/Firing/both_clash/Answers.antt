@@ -7,7 +7,7 @@ use Rattle.sas_core.specs.declared.parts.Fact.{Fact}
 use Rattle.sas_core.specs.Grounded.{operator_at, effect_at}
 use Rattle.sas_core.specs.Variables.{FactExists}
 use Rattle.sas_groups.specs.Clashes.{Clash}
-use Rattle.sas_group_index.specs.Notes.{AreBlank}
+use Rattle.sas_groups.specs.Notes.{AreBlank}
 use Rattle.sas_mutex.specs.Firing.{EffectPlace, operator_of}
 use Rattle.sas_mutex.specs.Effects.{IsKept}
 use Rattle.sas_mutex.proofs.TaskFacts.{conditions_exist}

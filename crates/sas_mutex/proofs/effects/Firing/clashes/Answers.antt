@@ -3,7 +3,7 @@ use Rattle.std.proofs.Common.{◌≡◌, ◌≢◌, ap, sym, ◌∙◌, arith}
 use Rattle.std.proofs.lemmas.Grind.{common_steps}
 use Rattle.std.specs.Prelude.{Some}
 use Rattle.sas_core.specs.Grounded.{operator_at, effect_at}
-use Rattle.sas_group_index.specs.Notes.{value_note}
+use Rattle.sas_groups.specs.Notes.{value_note}
 use Rattle.sas_mutex.proofs.ToldByNotes.{other_value_clashes, noted_no_clash}
 use Rattle.sas_mutex.proofs.effects.Firing.clashes.Goals as goal
 

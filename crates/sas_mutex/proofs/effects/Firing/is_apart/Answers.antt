@@ -6,7 +6,7 @@ use Rattle.sas_core.specs.declared.parts.Fact.{Fact}
 use Rattle.sas_core.specs.Grounded.{operator_at, effect_at}
 use Rattle.sas_groups.specs.Clashes.{sets}
 use Rattle.sas_groups.proofs.Effects.{set_is}
-use Rattle.sas_group_index.specs.Index.{HasFact, groups_of}
+use Rattle.sas_groups.specs.Index.{HasFact, groups_of}
 use Rattle.sas_mutex.proofs.TaskFacts.{effect_fits}
 use Rattle.sas_mutex.proofs.effects.Firing.is_apart.Goals as goal
 

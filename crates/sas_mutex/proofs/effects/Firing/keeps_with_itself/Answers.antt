@@ -3,9 +3,9 @@ use Rattle.std.proofs.Common.{◌≢◌, Bool, true, false, List, length, get_or
 use Rattle.std.proofs.lemmas.Bool.{true≢false, both_ways}
 use Rattle.std.proofs.lemmas.List.{length-set}
 use Rattle.sas_core.specs.Grounded.{operator_at, effect_at, group_at}
-use Rattle.sas_group_index.specs.declared.notes.Noted.TheVariants.{Several}
+use Rattle.sas_groups.specs.declared.notes.Noted.TheVariants.{Several}
 use Rattle.sas_mutex.specs.Effects.{IsKept, EffectKeeps}
-use Rattle.sas_group_index.specs.Notes.{IsGroupNote}
+use Rattle.sas_groups.specs.Notes.{IsGroupNote}
 use Rattle.sas_mutex.specs.ByNotes.{IsNotedFor, known_at}
 use Rattle.sas_mutex.proofs.Telling.{keeps_then, keeps_itself, put_back, several_never_fire, noted_with, is_more}
 use Rattle.sas_mutex.proofs.ToldByNotes.{noted_fewer}

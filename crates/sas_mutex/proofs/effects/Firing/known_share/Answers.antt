@@ -4,7 +4,7 @@ use Rattle.std.proofs.lemmas.Bool.{both_ways}
 use Rattle.std.specs.List.{Contains}
 use Rattle.sas_core.specs.declared.parts.Fact.{Fact}
 use Rattle.sas_core.specs.Variables.{FactExists}
-use Rattle.sas_group_index.specs.Index.{IsIndexOf}
+use Rattle.sas_groups.specs.Index.{IsIndexOf}
 use Rattle.sas_groups.specs.Lists.{known_left}
 use Rattle.sas_groups.proofs.Turns.{turn_has, turn_left, turn_more}
 use Rattle.sas_mutex.specs.Firing.{EffectPlace}

@@ -9,13 +9,13 @@ use Rattle.sas_groups.specs.Lists.{known}
 use Rattle.sas_core.specs.WellRanged.{WellRanged}
 use Rattle.sas_mutex.specs.Firing.{EffectPlace}
 use Rattle.sas_mutex.specs.Effects.{IsKept}
-use Rattle.sas_group_index.specs.declared.notes.Noted.TheVariants.{One}
+use Rattle.sas_groups.specs.declared.notes.Noted.TheVariants.{One}
 use Rattle.sas_mutex.specs.ByNotes.{IsUnknown}
-use Rattle.sas_group_index.specs.Distinct.{facts_at, AreDistinct}
-use Rattle.sas_group_index.specs.Runs.{AreRuns}
-use Rattle.sas_group_index.proofs.Entering.{group_fact_exists}
+use Rattle.sas_groups.specs.Distinct.{facts_at, AreDistinct}
+use Rattle.sas_groups.specs.Runs.{AreRuns}
+use Rattle.sas_groups.proofs.Entering.{group_fact_exists}
 use Rattle.sas_mutex.proofs.GoneRuns.{SuchBefore, such_none, such_all, next_within, next_on_one, next_too, such_more}
-use Rattle.sas_group_index.proofs.NotesOfFacts.{one_note_tells}
+use Rattle.sas_groups.proofs.NotesOfFacts.{one_note_tells}
 use Rattle.sas_mutex.proofs.KnownFacts.{none_if_not_one}
 use Rattle.sas_mutex.proofs.ToldByNotes.{known_one_is_all}
 use Rattle.sas_mutex.proofs.effects.Firing.none_stays.Goals as goal

@@ -5,8 +5,8 @@ use Rattle.sas_core.specs.Grounded.{operator_at, effect_at}
 use Rattle.sas_groups.specs.Checks.{IsGone}
 use Rattle.sas_core.proofs.Places.{each_more}
 use Rattle.sas_mutex.specs.Firing.{EffectPlace}
-use Rattle.sas_group_index.specs.Index.{IsIndexOf}
-use Rattle.sas_group_index.proofs.Existing.{variable_below}
+use Rattle.sas_groups.specs.Index.{IsIndexOf}
+use Rattle.sas_groups.proofs.Existing.{variable_below}
 use Rattle.sas_mutex.specs.Effects.{IsKept}
 use Rattle.sas_mutex.proofs.GoneRuns.{settled_are_gone}
 use Rattle.sas_mutex.proofs.effects.Firing.run_is_gone.Goals as goal

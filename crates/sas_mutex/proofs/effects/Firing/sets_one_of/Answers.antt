@@ -5,8 +5,8 @@ use Rattle.std.specs.Prelude.{◌↔◌, IsFalse}
 use Rattle.std.proofs.lemmas.List.Elements.{Contains-get_or, All-contains}
 use Rattle.sas_core.specs.Grounded.{operator_at, effect_at}
 use Rattle.sas_groups.specs.Clashes.{sets}
-use Rattle.sas_group_index.specs.Index.{HasFact}
-use Rattle.sas_group_index.specs.Kept.{family_of}
+use Rattle.sas_groups.specs.Index.{HasFact}
+use Rattle.sas_groups.specs.Kept.{family_of}
 use Rattle.sas_mutex.proofs.SetFacts.{groups_setting}
 use Rattle.sas_mutex.proofs.effects.Firing.sets_one_of.Goals as goal
 use Rattle.sas_mutex.proofs.effects.Firing.sets_one_of.Given.{Over}

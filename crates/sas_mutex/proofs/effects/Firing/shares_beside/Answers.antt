@@ -1,10 +1,10 @@
 -- A known fact other than the one set apart is recorded for each group that contains it.
 use Rattle.std.proofs.Common.{ℕ, List, length, sym, subst, ◌∙◌, ap}
 use Rattle.sas_core.specs.Grounded.{operator_at, effect_at}
-use Rattle.sas_group_index.specs.Index.{groups_of}
-use Rattle.sas_group_index.specs.declared.notes.Noted.{Noted}
-use Rattle.sas_group_index.specs.Noting.{AreBelow, HasNotedGroup}
-use Rattle.sas_group_index.proofs.Existing.{groups_below}
+use Rattle.sas_groups.specs.Index.{groups_of}
+use Rattle.sas_groups.specs.declared.notes.Noted.{Noted}
+use Rattle.sas_groups.specs.Noting.{AreBelow, HasNotedGroup}
+use Rattle.sas_groups.proofs.Existing.{groups_below}
 use Rattle.sas_mutex.proofs.ToldByNotes.{noted_beside, beside_noted}
 use Rattle.sas_mutex.proofs.effects.Firing.shares_beside.Goals as goal
 

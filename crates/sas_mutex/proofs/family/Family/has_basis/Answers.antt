@@ -1,7 +1,7 @@
 -- Each group of the basis is one of the supports, and all of these are in the family.
 use Rattle.std.proofs.Common.{◌≡◌, ℕ, true, List, get_or, length, ap, subst, arith}
 use Rattle.sas_core.proofs.Places.{each_more}
-use Rattle.sas_group_index.specs.Kept.{family_of}
+use Rattle.sas_groups.specs.Kept.{family_of}
 use Rattle.sas_mutex.proofs.SetFacts.{at_item}
 use Rattle.sas_mutex.proofs.family.Family.has_basis.Goals as goal
 

@@ -4,7 +4,7 @@ use Rattle.std.specs.List.{Contains}
 use Rattle.std.proofs.lemmas.Bool.{false≢true}
 use Rattle.std.proofs.lemmas.List.{length-replicate}
 use Rattle.sas_meaning.proofs.Members.{contains_none}
-use Rattle.sas_wording.specs.declared.line.Line.{Line}
+use Rattle.sas_output.specs.declared.line.Line.{Line}
 use Rattle.sas_why.proofs.report.Report.new.Goals as goal
 
 none_kept : (n var : ℕ) → get_or (replicate n false) var false ≡ false

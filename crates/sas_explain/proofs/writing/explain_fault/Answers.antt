@@ -1,4 +1,0 @@
-use Rattle.sas_explain.proofs.writing.explain_fault.Goals as goal
-
-pub returns-clause-verdict : goal.returns-clause-verdict
-returns-clause-verdict c = rw c.cost.ensures at c.in_ok-verdict.ensures

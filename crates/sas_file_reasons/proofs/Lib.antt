@@ -1,2 +1,0 @@
-mod ShownTexts
-pub mod ReasonLines

@@ -1,4 +1,0 @@
-pub mod Shown
-pub mod FileLine
-pub mod Reasons
-pub mod Laws

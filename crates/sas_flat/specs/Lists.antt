@@ -1,0 +1,20 @@
+-- Lists that are stored one after another, each given by its end.
+use Rattle.std.specs.Prelude.{◌≡◌, ℕ, zero, suc, ◌<◌, ◌≤◌, List, length, slice_index, slice_range}
+use Rattle.sas_flat.specs.Table.{table}
+
+-- a list starts at the end of the previous list
+abbrev pub start_of : List ℕ → ℕ → ℕ
+start_of ends zero = 0
+start_of ends (suc index) = slice_index ends index
+
+abbrev pub list_at : {X : Type 0} → List X → List ℕ → ℕ → List X
+list_at items ends index = slice_range items (start_of ends index) (slice_index ends index)
+
+abbrev pub lists_of : {X : Type 0} → List X → List ℕ → List (List X)
+lists_of items ends = table (length ends) (list_at items ends)
+
+-- the ends of lists with `count` items in total
+pub record AreEnds (ends : List ℕ) (count : ℕ) : Type 0 where
+  pub ascending : (index : ℕ) → index < length ends → start_of ends index ≤ slice_index ends index
+  pub within : (index : ℕ) → index < length ends → slice_index ends index ≤ count
+  pub closed : start_of ends (length ends) ≡ count

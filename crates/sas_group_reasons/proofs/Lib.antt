@@ -1,7 +1,0 @@
-pub mod Least
-pub mod Failing
-pub mod GroupReasons
-pub mod GreatestOfVerdicts
-pub mod ReasonsSoFar
-pub mod LowestEffects
-pub mod FirstOfEffect

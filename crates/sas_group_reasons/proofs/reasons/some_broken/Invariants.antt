@@ -1,8 +1,0 @@
--- None of the verdicts so far is `Broken`.
-use Rattle.std.proofs.Common.{ℕ, ◌<◌, get_or}
-use Rattle.sas_groups.specs.declared.verdict.Verdict.{Verdict}
-use Rattle.sas_group_reasons.specs.Telling.{IsBroken}
-use Rattle.sas_group_reasons.proofs.reasons.some_broken.Given as goal
-
-abbrev pub invariant-loop-verdict : goal.invariant-loop-verdict
-invariant-loop-verdict l = (k : ℕ) (d : Verdict) → k < l.verdict-index → IsBroken (get_or l.verdicts k d) → ⊥

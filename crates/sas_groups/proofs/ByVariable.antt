@@ -1,0 +1,55 @@
+-- The entries of the effects of large operators.
+use Rattle.std.proofs.Common.{◌≡◌, ℕ, ◌+◌, ◌<◌, List, [], ◌∷◌, ◌++◌, length, get_or, sym, subst, inl, inr, arith}
+use Rattle.std.specs.List.{All, Contains}
+use Rattle.std.proofs.lemmas.Bool.{cases_eq}
+use Rattle.std.proofs.lemmas.List.Elements.{Contains-append_left, Contains-push}
+use Rattle.sas_core.specs.declared.parts.Parts.{Parts}
+use Rattle.sas_core.specs.Grounded.{operator_at}
+use Rattle.sas_flat.specs.declared.by_key.Entry.{Entry}
+use Rattle.sas_flat.specs.ByKey.{by_key}
+use Rattle.sas_flat.proofs.ByKey.{under_holds}
+use Rattle.sas_groups.specs.ByVariable.{IsLarge, entry_of, AreEntered, AreByVariable, place_of}
+
+-- one effect more
+pub effect_entered : (p : Parts) (places operator effect : ℕ) (before now after : List (Entry ℕ)) (entry : Entry ℕ) → AreEntered p places operator effect before now
+    → entry ≡ entry_of p places operator effect → after ≡ now ++ entry ∷ [] → AreEntered p places operator (effect + 1) before after
+effect_entered p places operator effect before now after entry entered is more = record {
+  each = λ other lt. subst (λ (es : List (Entry ℕ)). Contains es (entry_of p places operator other)) (sym more) (elim (cases_eq other effect) [
+    | inl e ↦ subst (λ (n : ℕ). Contains (now ++ entry ∷ []) (entry_of p places operator n)) (sym e)
+        (subst (λ (x : Entry ℕ). Contains (now ++ entry ∷ []) x) is (Contains-push now entry))
+    | inr ne ↦ Contains-append_left now (entry ∷ []) (entry_of p places operator other) (entered.each other (omega arith))
+  ]);
+  still = λ x there. subst (λ (es : List (Entry ℕ)). Contains es x) (sym more) (Contains-append_left now (entry ∷ []) x (entered.still x there));
+}
+
+-- the effects of the first operators, where these are large
+abbrev pub AreLargeEntered : Parts → ℕ → ℕ → List (Entry ℕ) → Type 0
+AreLargeEntered p places operators entries = (operator : ℕ) → operator < operators → IsLarge p operator
+    → (effect : ℕ) → effect < length (operator_at p operator).effects → Contains entries (entry_of p places operator effect)
+
+-- one operator more, which is large or isn't
+pub large_entered : (p : Parts) (places operator : ℕ) (before after : List (Entry ℕ)) → AreLargeEntered p places operator before
+    → AreEntered p places operator (length (operator_at p operator).effects) before after → AreLargeEntered p places (operator + 1) after
+large_entered p places operator before after were entered other lt large effect within = elim (cases_eq other operator) [
+  | inl e ↦ subst (λ (o : ℕ). Contains after (entry_of p places o effect)) (sym e)
+      (entered.each effect (subst (λ (o : ℕ). effect < length (operator_at p o).effects) e within))
+  | inr ne ↦ entered.still (entry_of p places other effect) (were other (omega arith) large effect within)
+]
+
+pub small_passed : (p : Parts) (places operator : ℕ) (entries : List (Entry ℕ)) → AreLargeEntered p places operator entries → (IsLarge p operator → ⊥)
+    → AreLargeEntered p places (operator + 1) entries
+small_passed p places operator entries were small other lt large effect within = elim (cases_eq other operator) [
+  | inl e ↦ absurd (small (subst (IsLarge p) e large))
+  | inr ne ↦ were other (omega arith) large effect within
+]
+
+-- by key, they are by variable
+pub large_by_variable : (p : Parts) (places : ℕ) (entries : List (Entry ℕ)) → 0 < places → length (by_key entries places) ≡ places
+    → All (λ (e : Entry ℕ). e.key < places) entries → AreLargeEntered p places (length p.operators) entries → AreByVariable p (by_key entries places)
+large_by_variable p places entries some many low entered = record {
+  some = subst (λ (n : ℕ). 0 < n) (sym many) some;
+  are = λ operator lt large var effect within on.
+      subst (λ (n : ℕ). Contains (get_or (by_key entries places) (place_of operator var n) []) effect) (sym many)
+      ((under_holds entries places (place_of operator var places) effect low).1
+      (subst (λ (v : ℕ). Contains entries (record { key = place_of operator v places; item = effect })) on (entered operator lt large effect within)));
+}

@@ -1,0 +1,19 @@
+-- If a fact exists, so do its variable and the groups that contain it.
+use Rattle.std.proofs.Common.{◌≡◌, ℕ, ◌<◌, length, get_or, subst, sym}
+use Rattle.std.proofs.lemmas.List.Elements.{Contains-get_or}
+use Rattle.sas_core.specs.declared.parts.Fact.{Fact}
+use Rattle.sas_core.specs.declared.parts.Parts.{Parts}
+use Rattle.sas_core.specs.Variables.{FactExists}
+use Rattle.sas_meaning.proofs.Forced.{fact_within}
+use Rattle.sas_groups.specs.declared.index.Index.{Index}
+use Rattle.sas_groups.specs.Index.{IsIndexOf, groups_of}
+use Rattle.sas_groups.specs.Noting.{AreBelow}
+
+pub variable_below : (p : Parts) (fact : Fact) → FactExists p.variables fact → fact.var < length p.variables
+variable_below p fact exists = fact_within p fact.var fact.value exists
+
+pub groups_below : (p : Parts) (index : Index) (fact : Fact) (n : ℕ) → IsIndexOf p index → FactExists p.variables fact → n ≡ length p.groups
+    → AreBelow n (groups_of index fact)
+groups_below p index fact n indexed exists same k d lt =
+    subst (λ m. get_or (groups_of index fact) k d < m) (sym same)
+    ((indexed.groups fact exists (get_or (groups_of index fact) k d)).0 (Contains-get_or (groups_of index fact) k d lt)).exists

@@ -1,0 +1,360 @@
+-- The notes after one more fact is recorded or removed.
+use Rattle.std.proofs.Common.{◌≡◌, ◌≢◌, ◌⊎◌, ℕ, ◌<◌, Bool, IsTrue, length, set, List, Option, None, Some, subst, refl, sym, ap, ◌∙◌, inl, inr, arith}
+use Rattle.std.specs.List.{All, Contains}
+use Rattle.std.proofs.lemmas.Bool.{cases_eq}
+use Rattle.std.proofs.lemmas.List.{get_or-set_same, get_or-set_other, length-set}
+use Rattle.std.proofs.lemmas.List.Elements.{All-contains}
+use Rattle.sas_core.specs.declared.parts.Fact.{Fact}
+use Rattle.sas_core.specs.declared.parts.Parts.{Parts}
+use Rattle.sas_core.specs.Variables.{FactExists}
+use Rattle.sas_groups.specs.declared.index.Index.{Index}
+use Rattle.sas_groups.specs.declared.notes.Notes.{Notes}
+use Rattle.sas_groups.specs.declared.notes.Noted.{Noted}
+use Rattle.sas_groups.specs.declared.notes.Noted.TheVariants.{Nothing, One, Several}
+use Rattle.sas_groups.specs.Kept.{family_of}
+use Rattle.sas_groups.specs.Index.{IsIndexOf, groups_of}
+use Rattle.sas_groups.specs.Notes.{value_note, group_note, AreBlank, AreFrom, IsValueNote, IsOfGroup, IsOfGroupBeside, IsNoteOf, IsGroupNote, AreNotesOf}
+use Rattle.sas_groups.specs.Noting.{IsNotedToo, Takes, TakenBySome, ShareKept, ChangesAt, IsSetApart, IsSet, IsCompleted, Forgets, IsForgotten}
+use Rattle.sas_groups.proofs.InLists.{is_among}
+use Rattle.sas_groups.proofs.Existing.{variable_below}
+
+pub none_or_some : {A : Type 0} (x : A) (noted : Option A) → noted ≡ None → noted ≡ Some x → ⊥
+none_or_some x noted none some = let e : None ≡ Some x = sym none ∙ some in absurd cc
+
+pub same_inside : {A : Type 0} (x y : A) → Some x ≡ Some y → x ≡ y
+same_inside x y is = cc
+
+-- two facts are one, or they aren't
+pub one_or_two : (f g : Fact) → (f ≡ g) ⊎ (f ≢ g)
+one_or_two f g = elim (cases_eq f.var g.var) [
+  | inr ne ↦ inr (λ e. ne (ap (λ (x : Fact). x.var) e))
+  | inl var ↦ elim (cases_eq f.value g.value) [
+    | inr ne ↦ inr (λ e. ne (ap (λ (x : Fact). x.value) e))
+    | inl value ↦ inl (same f.var f.value g.var g.value var value)
+  ]
+]
+  where
+    same : (v a w b : ℕ) → v ≡ w → a ≡ b → (let x : Fact = record { var = v; value = a } in x) ≡ record { var = w; value = b }
+    same v a w b var value = rw (var, value) refl
+
+-- a fact is the one apart, or it isn't
+pub apart_or_not : (apart : Option Fact) (f : Fact) → (apart ≡ Some f) ⊎ (apart ≢ Some f)
+apart_or_not None f = inr (λ e. absurd cc)
+apart_or_not (Some g) f = elim (one_or_two g f) [
+  | inl e ↦ inl (ap (λ x. Some x) e)
+  | inr ne ↦ inr (λ e. ne (same_inside g f e))
+]
+
+-- a note is nothing, or something
+pub a_note : {A : Type 0} (noted : Option A) → (noted ≡ None) ⊎ ((x : A) × (noted ≡ Some x))
+a_note None = inl refl
+a_note (Some x) = inr (x, refl)
+
+nothing_or_not : (noted : Noted) → (noted ≡ Nothing) ⊎ (noted ≢ Nothing)
+nothing_or_not Nothing = inl refl
+nothing_or_not (One f) = inr (λ e. absurd cc)
+nothing_or_not Several = inr (λ e. absurd cc)
+
+-- a fact that is noted twice is noted once
+one_again : (fact : Fact) (after : Noted) → IsNotedToo (One fact) fact after → after ≡ One fact
+one_again fact after too = elim too [
+  | inl w ↦ w.1
+  | inr w ↦ absurd (w.0 refl)
+]
+
+pub noted_again : (before now : Noted) (fact : Fact) (after : Noted) → IsNotedToo before fact now → IsNotedToo now fact after → IsNotedToo before fact after
+noted_again Nothing now fact after first second = one_again fact after (subst (λ noted. IsNotedToo noted fact after) first second)
+noted_again (One other) now fact after first second = elim first [
+  | inl w ↦ inl (w.0, one_again fact after (subst (λ noted. IsNotedToo noted fact after) w.1 second))
+  | inr w ↦ inr (w.0, subst (λ noted. IsNotedToo noted fact after) w.1 second)
+]
+noted_again Several now fact after first second = subst (λ noted. IsNotedToo noted fact after) first second
+
+-- the groups that take a fact, one more of them
+module _ (groups : List ℕ) (kept : List Bool) (fact : Fact) (before now : List Noted) (some : TakenBySome groups kept fact before now)
+    (place : ℕ) (after : Noted) (too : IsNotedToo (group_note now place) fact after) where
+  pub since_before : IsNotedToo (group_note before place) fact after
+  since_before = elim (some.each place) [
+    | inl same ↦ subst (λ noted. IsNotedToo noted fact after) same too
+    | inr takes ↦ noted_again (group_note before place) (group_note now place) fact after takes.now too
+  ]
+
+  module _ (within : place < length now) (among : Contains groups place) (alone : IsTrue (family_of kept place) → after ≢ Several) where
+    at_place : group_note (set now place after) place ≡ after
+    at_place = get_or-set_same now place after Nothing within
+
+    elsewhere : (q : ℕ) → q ≢ place → group_note (set now place after) q ≡ group_note now q
+    elsewhere q ne = get_or-set_other now place q after Nothing ne
+
+    pub takes_here : Takes groups kept fact before (set now place after) place
+    takes_here = record {
+      among = among;
+      now = subst (λ noted. IsNotedToo (group_note before place) fact noted) (sym at_place) since_before;
+      alone = λ in_family several. alone in_family (sym at_place ∙ several);
+    }
+
+    pub takes_still : (q : ℕ) → Takes groups kept fact before now q → Takes groups kept fact before (set now place after) q
+    takes_still q takes = elim (cases_eq q place) [
+      | inl e ↦ subst (λ x. Takes groups kept fact before (set now place after) x) (sym e) takes_here
+      | inr ne ↦ record {
+        among = takes.among;
+        now = subst (λ noted. IsNotedToo (group_note before q) fact noted) (sym (elsewhere q ne)) takes.now;
+        alone = λ in_family several. takes.alone in_family (sym (elsewhere q ne) ∙ several);
+      }
+    ]
+
+    pub taken_more : TakenBySome groups kept fact before (set now place after)
+    taken_more = record {
+      as_many = length-set now place after ∙ some.as_many;
+      each = λ q. elim (cases_eq q place) [
+        | inl e ↦ inr (subst (λ x. Takes groups kept fact before (set now place after) x) (sym e) takes_here)
+        | inr ne ↦ elim (some.each q) [
+          | inl same ↦ inl (elsewhere q ne ∙ same)
+          | inr takes ↦ inr (takes_still q takes)
+        ]
+      ];
+    }
+
+-- what the notes tell of the facts, and when they are the notes of facts
+pub value_note_tells : (facts : List Fact) (var value : ℕ) (noted : Option ℕ) → IsValueNote facts var noted → noted ≡ Some value
+    → Contains facts (record { var = var; value = value })
+value_note_tells facts var value noted is at = (let some = subst (λ n. IsValueNote facts var n) at is in some.some)
+
+pub no_value_note_tells : (facts : List Fact) (var : ℕ) (noted : Option ℕ) → IsValueNote facts var noted → noted ≡ None
+    → (f : Fact) → Contains facts f → f.var ≢ var
+no_value_note_tells facts var noted is at = (let none = subst (λ n. IsValueNote facts var n) at is in none.none)
+
+pub one_note_tells : (p : Parts) (facts : List Fact) (place : ℕ) (f : Fact) (noted : Noted) → IsGroupNote p facts place noted → noted ≡ One f
+    → IsOfGroup p facts place f × ((other : Fact) → IsOfGroup p facts place other → other ≡ f)
+one_note_tells p facts place f noted is at = subst (IsGroupNote p facts place) at is
+
+pub no_note_tells : (Are : Fact → Type 0) (noted : Noted) → IsNoteOf Are noted → noted ≡ Nothing → (f : Fact) → Are f → ⊥
+no_note_tells Are noted is at = subst (IsNoteOf Are) at is
+
+pub some_note_tells : (Are : Fact → Type 0) (noted : Noted) → IsNoteOf Are noted → noted ≢ Nothing → (f : Fact) × Are f
+some_note_tells Are Nothing is some = absurd (some refl)
+some_note_tells Are (One f) is some = (f, is.0)
+some_note_tells Are Several is some = (is.0, is.2)
+
+-- where not several facts are noted, two that are known are one
+pub at_most_one : (p : Parts) (facts : List Fact) (place : ℕ) (noted : Noted) → IsGroupNote p facts place noted → noted ≢ Several
+    → (f g : Fact) → IsOfGroup p facts place f → IsOfGroup p facts place g → f ≡ g
+at_most_one p facts place Nothing is few f g of_f of_g = absurd (is f of_f)
+at_most_one p facts place (One one) is few f g of_f of_g = is.1 f of_f ∙ sym (is.1 g of_g)
+at_most_one p facts place Several is few f g of_f of_g = absurd (few refl)
+
+pub value_note_of : (facts : List Fact) (var : ℕ) (noted : Option ℕ) → ((value : ℕ) → noted ≡ Some value → Contains facts (record { var = var; value = value }))
+    → (noted ≡ None → (f : Fact) → Contains facts f → f.var ≢ var) → IsValueNote facts var noted
+value_note_of facts var None some none = record { some = tt; none = none refl }
+value_note_of facts var (Some value) some none = record { some = some value refl; none = tt }
+
+-- what is noted of some facts, as one more is among them
+module _ (Before After : Fact → Type 0) (fact : Fact) (too_then : (f : Fact) → Before f → After f) (either : (f : Fact) → After f → Before f ⊎ (fact ≡ f)) where
+  -- it stays where no such fact is new
+  pub note_stays : (noted : Noted) → ((f : Fact) → After f → Before f) → IsNoteOf Before noted → IsNoteOf After noted
+  note_stays Nothing back is = λ f of. is f (back f of)
+  note_stays (One one) back is = (too_then one is.0, λ other of. is.1 other (back other of))
+  note_stays Several back is = (is.0, is.1, too_then is.0 is.2, too_then is.1 is.3, is.4)
+
+  pub note_changes : (noted after : Noted) → After fact → IsNotedToo noted fact after → IsNoteOf Before noted → IsNoteOf After after
+  note_changes Nothing after its too is = subst (IsNoteOf After) (sym too) (
+    its,
+    λ other of. elim (either other of) [
+      | inl was ↦ absurd (is other was)
+      | inr new ↦ sym new
+    ],
+  )
+  note_changes (One one) after its too is = elim too [
+    | inl w ↦ subst (IsNoteOf After) (sym w.1) (
+      its,
+      λ other of. elim (either other of) [
+        | inl was ↦ is.1 other was ∙ w.0
+        | inr new ↦ sym new
+      ],
+    )
+    | inr w ↦ subst (IsNoteOf After) (sym w.1) (one, fact, too_then one is.0, its, w.0)
+  ]
+  note_changes Several after its too is = subst (IsNoteOf After) (sym too) (is.0, is.1, too_then is.0 is.2, too_then is.1 is.3, is.4)
+
+-- where a fact is refused another is noted, and where it isn't none is
+module _ (Before : Fact → Type 0) (fact : Fact) where
+  pub other_known : (noted : Noted) → IsNotedToo noted fact Several → IsNoteOf Before noted → (g : Fact) × Before g × (fact ≢ g)
+  other_known Nothing too is = absurd cc
+  other_known (One one) too is = elim too [
+    | inl w ↦ (let never : Several ≡ One fact = w.1 in absurd cc)
+    | inr w ↦ (one, is.0, λ e. w.0 (sym e))
+  ]
+  other_known Several too is = elim (one_or_two fact is.0) [
+    | inl e ↦ (is.1, is.3, λ e'. is.4 (sym e ∙ e'))
+    | inr ne ↦ (is.0, is.2, ne)
+  ]
+
+  pub no_other : (noted after : Noted) → IsNoteOf Before noted → IsNotedToo noted fact after → after ≢ Several → (f : Fact) → Before f → f ≡ fact
+  no_other Nothing after is too few f of = absurd (is f of)
+  no_other (One one) after is too few f of = elim too [
+    | inl w ↦ is.1 f of ∙ w.0
+    | inr w ↦ absurd (few w.1)
+  ]
+  no_other Several after is too few f of = absurd (few too)
+
+pub shared_turned : (index : Index) (kept : List Bool) (f g : Fact) → ShareKept index kept f g → ShareKept index kept g f
+shared_turned index kept f g share = record { place = share.place; first = share.second; second = share.first; kept_there = share.kept_there }
+
+-- what is noted for a group, completed by the fact apart, is what is noted of all facts
+pub completed : (p : Parts) (index : Index) (facts : List Fact) (notes : Notes) (place : ℕ) (noted : Noted) → IsIndexOf p index
+    → ((f : Fact) → Contains facts f → FactExists p.variables f) → place < length p.groups
+    → AreNotesOf p facts notes → IsCompleted index notes place noted → IsGroupNote p facts place noted
+completed p index facts notes place noted indexed there exists are is = elim (a_note notes.apart) [
+  | inl none ↦ subst (IsGroupNote p facts place) (sym (is.without (λ f has. none_or_some f notes.apart none has.0)))
+      (all_beside (λ f e. none_or_some f notes.apart none e))
+  | inr w ↦ elim (is_among (groups_of index w.0) place) [
+    | inl among ↦ note_changes Beside Are w.0 (λ f beside. beside.of) (λ f of. elim (apart_or_not notes.apart f) [
+      | inl e ↦ inr (same_inside w.0 f (sym w.1 ∙ e))
+      | inr ne ↦ inl (record { of = of; beside = ne })
+    ]) (group_note notes.groups place) noted
+        (record { among = are.one_apart w.0 w.1; has = (indexed.groups w.0 (there w.0 (are.one_apart w.0 w.1)) place).0 among })
+        (is.with_apart w.0 (w.1, among)) (are.groups place exists)
+    | inr out ↦ subst (IsGroupNote p facts place) (sym (is.without (λ f has. out (subst (λ (x : Fact). Contains (groups_of index x) place) (same_inside f w.0 (sym has.0 ∙ w.1)) has.1))))
+        (all_beside' w.0 w.1 out)
+  ]
+]
+  where
+    Are : Fact → Type 0
+    Are = IsOfGroup p facts place
+
+    Beside : Fact → Type 0
+    Beside = IsOfGroupBeside p facts notes.apart place
+
+    by_beside : ((f : Fact) → Are f → Beside f) → IsGroupNote p facts place (group_note notes.groups place)
+    by_beside back = note_stays Beside Are (record { var = 0; value = 0 }) (λ f beside. beside.of) (λ f of. inl (back f of)) (group_note notes.groups place) back (are.groups place exists)
+
+    all_beside : ((f : Fact) → notes.apart ≢ Some f) → IsGroupNote p facts place (group_note notes.groups place)
+    all_beside none = by_beside (λ f of. record { of = of; beside = none f })
+
+    all_beside' : (one : Fact) → notes.apart ≡ Some one → (Contains (groups_of index one) place → ⊥) → IsGroupNote p facts place (group_note notes.groups place)
+    all_beside' one is_one out = by_beside (λ f of. record {
+      of = of;
+      beside = λ e. out (subst (λ (x : Fact). Contains (groups_of index x) place) (same_inside f one (sym e ∙ is_one))
+          ((indexed.groups f (there f of.among) place).1 of.has));
+    })
+
+-- nothing is noted by notes that say the same as others by which nothing is
+pub blank_same : (p : Parts) (old new : Notes) → new.values ≡ old.values → new.groups ≡ old.groups → new.apart ≡ old.apart → AreBlank p old → AreBlank p new
+blank_same p old new values groups apart blank = record {
+  wide = record { variables = ap length values ∙ blank.wide.variables; groups = ap length groups ∙ blank.wide.groups };
+  values = λ var lt. ap (λ vs. value_note vs var) values ∙ blank.values var lt;
+  groups = λ place lt. ap (λ gs. group_note gs place) groups ∙ blank.groups place lt;
+  none_apart = apart ∙ blank.none_apart;
+}
+
+-- at first notes are from the one apart
+module _ (p : Parts) (old new : Notes) (blank : AreBlank p old) where
+  pub from_apart : (apart : Option Fact) (all : List Fact) → IsSetApart apart old new → ((f : Fact) → apart ≡ Some f → Contains all f) → AreFrom p all new
+  from_apart apart all is_set among = record {
+    wide = record { variables = as_wide apart is_set.values ∙ blank.wide.variables; groups = ap length is_set.same_groups ∙ blank.wide.groups };
+    values = λ var lt some. from_value apart var lt is_set.values among some;
+    groups = λ place lt some. absurd (some (ap (λ gs. group_note gs place) is_set.same_groups ∙ blank.groups place lt));
+  }
+    where
+      as_wide : (apart : Option Fact) → IsSet apart old.values new.values → length new.values ≡ length old.values
+      as_wide None is_set = ap length is_set
+      as_wide (Some one) is_set = ap length is_set ∙ length-set old.values one.var (Some one.value)
+
+      from_value : (apart : Option Fact) (var : ℕ) → var < length p.variables → IsSet apart old.values new.values → ((f : Fact) → apart ≡ Some f → Contains all f)
+          → value_note new.values var ≢ None → (f : Fact) × Contains all f × (f.var ≡ var)
+      from_value None var lt is_set among some = absurd (some (ap (λ vs. value_note vs var) is_set ∙ blank.values var lt))
+      from_value (Some one) var lt is_set among some = elim (cases_eq var one.var) [
+        | inl e ↦ (one, among one refl, sym e)
+        | inr ne ↦ absurd (some (ap (λ vs. value_note vs var) is_set ∙ (get_or-set_other old.values one.var var (Some one.value) None ne ∙ blank.values var lt)))
+      ]
+
+module _ (p : Parts) (index : Index) (all : List Fact) (old new : Notes) (indexed : IsIndexOf p index) (from : AreFrom p all old)
+    (fact : Fact) (exists : FactExists p.variables fact) where
+  -- a change at a fact of these leaves notes of these
+  pub noted_still : Contains all fact → (value_note old.values fact.var ≡ None → old.apart ≢ Some fact) → ChangesAt (groups_of index fact) fact old new → AreFrom p all new
+  noted_still in_all beside changes = record {
+    wide = record { variables = changes.as_many_values ∙ from.wide.variables; groups = changes.as_many_groups ∙ from.wide.groups };
+    values = λ var lt some. elim (changes.values var) [
+      | inl same ↦ from.values var lt (λ none. some (same ∙ none))
+      | inr on ↦ (fact, in_all, sym on)
+    ];
+    groups = λ place lt some. elim (changes.by_group place) [
+      | inl same ↦ (let (f, among, has, ne) = from.groups place lt (λ none. some (same ∙ none)) in (f, among, has, λ e. ne (sym changes.same_apart ∙ e)))
+      | inr w ↦ (fact, in_all, (indexed.groups fact exists place).0 w.0, λ e. beside w.1 (sym changes.same_apart ∙ e))
+    ];
+  }
+
+  module _ (forgets : Forgets (groups_of index fact) fact old new) where
+    within : fact.var < length old.values
+    within = let w = from.wide.variables in let l = variable_below p fact exists in omega arith
+
+    forgotten_value : value_note new.values fact.var ≡ None
+    forgotten_value = ap (λ vs. value_note vs fact.var) forgets.values ∙ get_or-set_same old.values fact.var None None within
+
+    value_or_none : (var : ℕ) → (value_note new.values var ≡ value_note old.values var) ⊎ (value_note new.values var ≡ None)
+    value_or_none var = elim (cases_eq var fact.var) [
+      | inl e ↦ inr (ap (value_note new.values) e ∙ forgotten_value)
+      | inr ne ↦ inl (ap (λ vs. value_note vs var) forgets.values ∙ get_or-set_other old.values fact.var var None None ne)
+    ]
+
+    note_or_none : (place : ℕ) → (group_note new.groups place ≡ group_note old.groups place) ⊎ (group_note new.groups place ≡ Nothing)
+    note_or_none place = elim forgets.by_group [
+      | inl w ↦ inl (ap (λ gs. group_note gs place) w.1)
+      | inr by_group ↦ by_group.each place
+    ]
+
+    as_many_groups : length new.groups ≡ length old.groups
+    as_many_groups = elim forgets.by_group [ inl w ↦ ap length w.1 | inr by_group ↦ by_group.as_many ]
+
+    -- so does a fact that is forgotten
+    pub noted_less : AreFrom p all new
+    noted_less = record {
+      wide = record {
+        variables = ap length forgets.values ∙ (length-set old.values fact.var None ∙ from.wide.variables);
+        groups = as_many_groups ∙ from.wide.groups;
+      };
+      values = λ var lt some. elim (value_or_none var) [
+        | inl same ↦ from.values var lt (λ none. some (same ∙ none))
+        | inr none ↦ absurd (some none)
+      ];
+      groups = λ place lt some. elim (note_or_none place) [
+        | inl same ↦ (let (f, among, has, ne) = from.groups place lt (λ none. some (same ∙ none)) in (f, among, has, λ e. ne (sym forgets.same_apart ∙ e)))
+        | inr none ↦ absurd (some none)
+      ];
+    }
+
+    pub forgotten_now : IsForgotten p new fact
+    forgotten_now = record {
+      value = forgotten_value;
+      groups = λ place has. elim forgets.by_group [
+        | inl w ↦ inl (forgets.same_apart ∙ w.0)
+        | inr by_group ↦ inr (All-contains (λ (q : ℕ). group_note new.groups q ≡ Nothing) (groups_of index fact) place by_group.none ((indexed.groups fact exists place).1 has))
+      ];
+    }
+
+    pub forgotten_still : (f : Fact) → IsForgotten p old f → IsForgotten p new f
+    forgotten_still f was = record {
+      value = elim (value_or_none f.var) [ inl same ↦ same ∙ was.value | inr none ↦ none ];
+      groups = λ place has. elim (was.groups place has) [
+        | inl e ↦ inl (forgets.same_apart ∙ e)
+        | inr nothing ↦ inr (elim (note_or_none place) [ inl same ↦ same ∙ nothing | inr none ↦ none ])
+      ];
+    }
+
+-- where all that notes are from is forgotten, and none is apart any more, nothing is noted
+pub blank_in_the_end : (p : Parts) (all : List Fact) (notes after : Notes) → AreFrom p all notes → All (IsForgotten p notes) all
+    → after.values ≡ notes.values → after.groups ≡ notes.groups → after.apart ≡ None → AreBlank p after
+blank_in_the_end p all notes after from forgotten same_values same_groups none_apart = record {
+  wide = record { variables = ap length same_values ∙ from.wide.variables; groups = ap length same_groups ∙ from.wide.groups };
+  values = λ var lt. ap (λ vs. value_note vs var) same_values ∙ elim (a_note (value_note notes.values var)) [
+    | inl none ↦ none
+    | inr w ↦ (let (f, in_all, on) = from.values var lt (λ none. none_or_some w.0 (value_note notes.values var) none w.1) in
+        subst (λ v. value_note notes.values v ≡ None) on (All-contains (IsForgotten p notes) all f forgotten in_all).value)
+  ];
+  groups = λ place lt. ap (λ gs. group_note gs place) same_groups ∙ elim (nothing_or_not (group_note notes.groups place)) [
+    | inl nothing ↦ nothing
+    | inr some ↦ (let (f, in_all, has, beside) = from.groups place lt some in
+        elim ((All-contains (IsForgotten p notes) all f forgotten in_all).groups place has) [ inl e ↦ absurd (beside e) | inr none ↦ none ])
+  ];
+  none_apart = none_apart;
+}

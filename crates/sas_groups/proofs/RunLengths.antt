@@ -1,0 +1,49 @@
+-- Splitting facts into runs, one by one.
+use Rattle.std.proofs.Common.{◌≡◌, ℕ, ◌+◌, ◌<◌, ◌≤◌, length, get_or, take, drop, List, [], ◌∷◌, ◌++◌, sym, ap, subst, ◌∙◌, append_assoc, arith}
+use Rattle.std.specs.List.{All}
+use Rattle.std.proofs.lemmas.List.{take_more, take_all, take-append-drop, drop_all, length-append, take-append-le, drop-append-le}
+use Rattle.std.proofs.lemmas.List.Elements.{All-nil, All-cons, All-append}
+use Rattle.sas_core.specs.declared.parts.Fact.{Fact}
+use Rattle.sas_groups.specs.Runs.{AreOnOne, AreRuns}
+
+-- one fact more is on the variable
+pub on_more : (facts : List Fact) (var place : ℕ) (d : Fact) → place < length facts → All (λ (f : Fact). f.var ≡ var) (take place facts)
+    → (get_or facts place d).var ≡ var → All (λ (f : Fact). f.var ≡ var) (take (place + 1) facts)
+on_more facts var place d below all is =
+    subst (All (λ (f : Fact). f.var ≡ var)) (sym (take_more facts place d below))
+    (All-append (λ (f : Fact). f.var ≡ var) (take place facts) (get_or facts place d ∷ []) all
+    (All-cons (λ (f : Fact). f.var ≡ var) (get_or facts place d) [] is (All-nil (λ (f : Fact). f.var ≡ var))))
+
+-- a list and its length
+take_whole : {A : Type 0} (xs : List A) → take (length xs) xs ≡ xs
+take_whole xs = take_all (length xs) xs (omega arith)
+
+take_front : {A : Type 0} (n : ℕ) (xs ys : List A) → n ≤ length xs → take n (xs ++ ys) ≡ take n xs
+take_front n xs ys h = take-append-le n xs ys h
+
+drop_front : {A : Type 0} (n : ℕ) (xs ys : List A) → n ≤ length xs → drop n (xs ++ ys) ≡ drop n xs ++ ys
+drop_front n xs ys h = drop-append-le n xs ys h
+
+-- one run more, behind the others
+pub runs_more : (before run : List Fact) (runs : List ℕ) → AreRuns before runs → AreOnOne run → AreRuns (before ++ run) (runs ++ length run ∷ [])
+runs_more before run [] is one = subst (λ (fs : List Fact). AreRuns (fs ++ run) (length run ∷ [])) (sym is) (
+  omega arith,
+  subst AreOnOne (sym (take_whole run)) one,
+  drop_all (length run) run (omega arith),
+)
+runs_more before run (n ∷ runs) (within, here, later) one = (
+  omega (arith, length-append before run),
+  subst AreOnOne (sym (take_front n before run within)) here,
+  subst (λ (fs : List Fact). AreRuns fs (runs ++ length run ∷ [])) (sym (drop_front n before run within)) (runs_more (drop n before) run runs later one),
+)
+
+-- the first of these facts, and as many behind it as are on its variable, are the next run
+pub next_run : (facts left run rest : List Fact) (runs more : List ℕ) (n var : ℕ) → (before : List Fact) × (facts ≡ before ++ left) × AreRuns before runs
+    → n ≤ length left → All (λ (f : Fact). f.var ≡ var) (take n left) → run ≡ take n left → rest ≡ drop n left → more ≡ runs ++ length run ∷ []
+    → (before : List Fact) × (facts ≡ before ++ rest) × AreRuns before more
+next_run facts left run rest runs more n var (before, is, are) within on_it run_is rest_is more_is = (
+  before ++ run,
+  is ∙ ap (λ (xs : List Fact). before ++ xs) (sym (take-append-drop n left) ∙ ap (λ (xs : List Fact). xs ++ drop n left) (sym run_is) ∙ ap (λ (xs : List Fact). run ++ xs) (sym rest_is))
+      ∙ sym (append_assoc before run rest),
+  subst (AreRuns (before ++ run)) (sym more_is) (runs_more before run runs are (var, subst (All (λ (f : Fact). f.var ≡ var)) (sym run_is) on_it)),
+)

@@ -1,0 +1,12 @@
+-- The large operators so far have entries.
+use Rattle.std.proofs.Common.{ℕ, ◌<◌}
+use Rattle.std.specs.List.{All}
+use Rattle.sas_flat.specs.declared.by_key.Entry.{Entry}
+use Rattle.sas_groups.proofs.ByVariable.{AreLargeEntered}
+use Rattle.sas_groups.proofs.by_variable.effects_by_variable.Given as goal
+
+abbrev pub invariant-loop-operator : goal.invariant-loop-operator
+invariant-loop-operator g l = record {
+  low : All (λ (entry : Entry ℕ). entry.key < l.places) l.entries.items;
+  entered : AreLargeEntered l.task l.places l.operator l.entries.items;
+}

@@ -1,0 +1,12 @@
+-- The effects so far have entries.
+use Rattle.std.proofs.Common.{ℕ, ◌<◌}
+use Rattle.std.specs.List.{All}
+use Rattle.sas_flat.specs.declared.by_key.Entry.{Entry}
+use Rattle.sas_groups.specs.ByVariable.{AreEntered}
+use Rattle.sas_groups.proofs.by_variable.enter_effects.Given as goal
+
+abbrev pub invariant-loop-effect : goal.invariant-loop-effect
+invariant-loop-effect g l = record {
+  low : All (λ (entry : Entry ℕ). entry.key < l.places) l.entries.items;
+  entered : AreEntered l.task l.places l.operator l.effect l.fn.entries.items l.entries.items;
+}

@@ -1,0 +1,11 @@
+-- The groups so far have their own lists.
+use Rattle.std.proofs.Common.{ℕ, ◌<◌, ◌≤◌, length}
+use Rattle.sas_core.specs.Grounded.{group_at}
+use Rattle.sas_groups.specs.Distinct.{facts_at, AreDistinct}
+use Rattle.sas_groups.proofs.distinct.own_lists.Given as goal
+
+abbrev pub invariant-loop-group : goal.invariant-loop-group
+invariant-loop-group g l = record {
+  short : length l.own ≤ l.group;
+  are : (place : ℕ) → place < l.group → AreDistinct (facts_at l.task l.own place) (group_at l.task place);
+}

@@ -1,0 +1,16 @@
+-- The list of a large operator and a variable contains all effects on the variable.
+use Rattle.std.proofs.Common.{◌≡◌, ℕ, List, [], length, get_or, sym, ap, subst, ◌∙◌, arith}
+use Rattle.std.specs.List.{Contains}
+use Rattle.sas_groups.specs.ByVariable.{IsLarge, place_of}
+use Rattle.sas_groups.proofs.index.Index.effects_on.Goals as goal
+
+pub returns-then-effects-gt-FEW_EFFECTS : goal.returns-then-effects-gt-FEW_EFFECTS
+returns-then-effects-gt-FEW_EFFECTS g c =
+    let p = c.args.task.now in
+    let lists = c.args.self.now.effects in
+    let large : IsLarge p c.args.operator = let more = c.if-effects-gt-FEW_EFFECTS.true in let count = c.effects.ensures in omega (arith, count) in
+    let same : c.under.result.now ≡ get_or lists (place_of c.args.operator c.args.var (length lists)) [] =
+    c.under.ensures ∙ ap (λ (place : ℕ). get_or lists place [])
+    (c.place_of-place.ensures.is ∙ ap (λ (places : ℕ). place_of c.args.operator c.args.var places) c.len.ensures) in
+    λ effect lt on. subst (λ (effects : List ℕ). Contains effects effect) (sym same)
+    (c.requires.index.effects.are c.args.operator c.requires.operator large c.args.var effect lt on)

@@ -1,0 +1,41 @@
+-- One more fact is removed; in the end all are.
+use Rattle.std.proofs.Common.{length, get_or, refl, subst, arith}
+use Rattle.sas_core.specs.declared.parts.Fact.{Fact}
+use Rattle.sas_core.specs.declared.parts.Parts.{Parts}
+use Rattle.sas_groups.specs.Index.{IsIndexOf}
+use Rattle.sas_core.proofs.Places.{each_more}
+use Rattle.sas_groups.specs.Noting.{IsForgotten}
+use Rattle.sas_groups.proofs.Existing.{groups_below}
+use Rattle.sas_groups.proofs.NotesOfFacts.{noted_less, forgotten_now, forgotten_still, blank_in_the_end}
+use Rattle.sas_groups.proofs.notes.forget_facts.Goals as goal
+
+pub forget-requires-clause-groups : goal.forget-requires-clause-groups
+forget-requires-clause-groups g c =
+    let indexed = subst (λ (q : Parts). IsIndexOf q c.indexed.inside.index.now) c.indexed.view_is c.indexed.invariant.1 in
+    groups_below c.args.indexed.now c.indexed.inside.index.now _ (length c.loop-fact.notes.groups) indexed (c.requires.exist c.loop-fact.fact-index _ c.loop-fact-test.true)
+    c.loop-fact.invariant.from.wide.groups
+
+pub loop-fact-preserved : goal.loop-fact-preserved
+loop-fact-preserved g c =
+    let p = c.args.indexed.now in
+    let index = c.indexed.inside.index.now in
+    let facts = c.args.facts.now in
+    let n = c.loop-fact.fact-index in
+    let old = c.loop-fact.notes in
+    let new = c.forget.new.notes in
+    let inv = c.loop-fact.invariant in
+    let indexed = subst (λ (q : Parts). IsIndexOf q index) c.indexed.view_is c.indexed.invariant.1 in
+    let fact : Fact = get_or facts n (record { var = 0; value = 0 }) in
+    let exists = c.requires.exist n (record { var = 0; value = 0 }) c.loop-fact-test.true in
+    record {
+      came = each_more (IsForgotten p new) facts n _ c.loop-fact-test.true
+          (λ k d below. forgotten_still p index facts old new indexed inv.from fact exists c.forget.ensures (get_or facts k d) (inv.came k d below))
+          (forgotten_now p index facts old new indexed inv.from fact exists c.forget.ensures);
+      from = noted_less p index facts old new indexed inv.from fact exists c.forget.ensures;
+    }
+
+pub returns : goal.returns
+returns g c =
+    let inv = c.loop-fact.invariant in
+    blank_in_the_end c.args.indexed.now c.args.facts.now c.loop-fact.notes _ inv.from
+    (λ k d below. inv.came k d (let all = c.loop-fact-test.false in omega arith)) refl refl refl

@@ -1,0 +1,12 @@
+-- Nothing is recorded for the facts so far.
+use Rattle.std.proofs.Common.{ℕ, ◌<◌, get_or}
+use Rattle.sas_core.specs.declared.parts.Fact.{Fact}
+use Rattle.sas_groups.specs.Notes.{AreFrom}
+use Rattle.sas_groups.specs.Noting.{IsForgotten}
+use Rattle.sas_groups.proofs.notes.forget_facts.Given as goal
+
+abbrev pub invariant-loop-fact : goal.invariant-loop-fact
+invariant-loop-fact g l = record {
+  came : (k : ℕ) (d : Fact) → k < l.fact-index → IsForgotten l.indexed l.notes (get_or l.facts k d);
+  from : AreFrom l.indexed l.facts l.notes;
+}

@@ -1,0 +1,10 @@
+-- No fact is recorded for the groups so far that are in the family.
+use Rattle.std.proofs.Common.{◌≡◌, ℕ, ◌<◌, get_or, IsTrue}
+use Rattle.sas_groups.specs.declared.notes.Noted.TheVariants.{Nothing}
+use Rattle.sas_groups.specs.Kept.{family_of}
+use Rattle.sas_groups.specs.Notes.{group_note}
+use Rattle.sas_groups.proofs.notes.has_noted.Given as goal
+
+abbrev pub invariant-loop-group : goal.invariant-loop-group
+invariant-loop-group l = (k d : ℕ) → k < l.group-index → IsTrue (family_of l.kept (get_or l.groups k d))
+    → group_note l.noted (get_or l.groups k d) ≡ Nothing

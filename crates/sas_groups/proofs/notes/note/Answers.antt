@@ -1,0 +1,86 @@
+-- Only the records of the fact's variable and groups change.
+use Rattle.std.proofs.Common.{ℕ, ◌≡◌, List, Option, None, Some, length, refl, sym, ap, subst, ◌∙◌, inl, inr, rules}
+use Rattle.std.specs.List.{Contains}
+use Rattle.std.proofs.lemmas.Bool.{true≢false, cases_eq, eqb-false}
+use Rattle.std.proofs.lemmas.List.{length-set, get_or-set_other}
+use Rattle.sas_groups.specs.Notes.{value_note}
+use Rattle.sas_groups.specs.Noting.{IsRefused, TakenBySome, TakenByAll}
+use Rattle.sas_groups.proofs.notes.note.Goals as goal
+
+pub returns-then-shares_apart-clause-yes : goal.returns-then-shares_apart-clause-yes
+returns-then-shares_apart-clause-yes c = λ t. absurd (true≢false (sym t))
+
+pub returns-then-shares_apart-clause-no : goal.returns-then-shares_apart-clause-no
+returns-then-shares_apart-clause-no c = λ f. inr (inr (
+  subst (λ (values : List (Option ℕ)). value_note values c.args.fact.var ≡ None) c.as_slice.ensures c.in-None.is,
+  c.shares_apart.ensures.yes c.if-shares_apart.true,
+))
+
+pub returns-then-shares_apart-clause-changes : goal.returns-then-shares_apart-clause-changes
+returns-then-shares_apart-clause-changes c = record {
+  as_many_values = refl;
+  as_many_groups = refl;
+  values = λ var. inl refl;
+  by_group = λ place. inl refl;
+  same_apart = refl;
+}
+
+pub returns-in-Some-clause-yes : goal.returns-in-Some-clause-yes
+returns-in-Some-clause-yes c = search rules
+
+pub returns-in-Some-clause-no : goal.returns-in-Some-clause-no
+returns-in-Some-clause-no c = λ f. inl (
+  c.in-Some.value,
+  subst (λ (values : List (Option ℕ)). value_note values c.args.fact.var ≡ Some c.in-Some.value) c.as_slice.ensures c.in-Some.is,
+  eqb-false c.in-Some.value c.args.fact.value f,
+)
+
+pub returns-in-Some-clause-changes : goal.returns-in-Some-clause-changes
+returns-in-Some-clause-changes c = record {
+  as_many_values = refl;
+  as_many_groups = refl;
+  values = λ var. inl refl;
+  by_group = λ place. inl refl;
+  same_apart = refl;
+}
+
+pub returns-else-shares_apart-clause-yes : goal.returns-else-shares_apart-clause-yes
+returns-else-shares_apart-clause-yes c =
+    let fact = c.args.fact in
+    let kept = c.args.kept.now in
+    let before = c.args.notes.now.groups in
+    let after = c.note_in_groups.new.noted in
+    λ t. inr (record {
+      none = subst (λ (values : List (Option ℕ)). value_note values fact.var ≡ None) c.as_slice.ensures c.in-None.is;
+      values = c.set.ensures;
+      some = subst (λ (groups : List ℕ). TakenBySome groups kept fact before after) c.groups_of-groups.ensures c.note_in_groups.ensures.some;
+      all = subst (λ (groups : List ℕ). TakenByAll groups kept fact before after) c.groups_of-groups.ensures (c.note_in_groups.ensures.yes t);
+      same_apart = refl;
+      alone = c.shares_apart.ensures.no c.if-shares_apart.false;
+    })
+
+pub returns-else-shares_apart-clause-no : goal.returns-else-shares_apart-clause-no
+returns-else-shares_apart-clause-no c =
+    λ f. inr (inl (subst (λ (groups : List ℕ). IsRefused groups c.args.kept.now c.args.fact c.args.notes.now.groups) c.groups_of-groups.ensures (c.note_in_groups.ensures.no f)))
+
+pub returns-else-shares_apart-clause-changes : goal.returns-else-shares_apart-clause-changes
+returns-else-shares_apart-clause-changes c =
+    let fact = c.args.fact in
+    let values = c.args.notes.now.values in
+    let some = c.note_in_groups.ensures.some in
+    record {
+      as_many_values = ap length c.set.ensures ∙ length-set values fact.var (Some fact.value);
+      as_many_groups = some.as_many;
+      values = λ var. elim (cases_eq var fact.var) [
+        | inl same ↦ inr same
+        | inr other ↦ inl (ap (λ (xs : List (Option ℕ)). value_note xs var) c.set.ensures ∙ get_or-set_other values fact.var var (Some fact.value) None other)
+      ];
+      by_group = λ place. elim (some.each place) [
+        | inl same ↦ inl same
+        | inr takes ↦ inr (
+          subst (λ (groups : List ℕ). Contains groups place) c.groups_of-groups.ensures takes.among,
+          subst (λ (xs : List (Option ℕ)). value_note xs fact.var ≡ None) c.as_slice.ensures c.in-None.is,
+        )
+      ];
+      same_apart = refl;
+    }

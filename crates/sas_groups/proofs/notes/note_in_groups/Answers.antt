@@ -1,0 +1,56 @@
+-- The fact is recorded for one more group.
+use Rattle.std.proofs.Common.{◌≢◌, ◌<◌, List, length, get_or, IsTrue, subst, sym, ◌∙◌, arith}
+use Rattle.std.proofs.lemmas.Bool.{both_ways}
+use Rattle.std.proofs.lemmas.List.Elements.{Contains-get_or}
+use Rattle.sas_core.proofs.Places.{each_more}
+use Rattle.sas_groups.specs.declared.notes.Noted.{Noted}
+use Rattle.sas_groups.specs.declared.notes.Noted.TheVariants.{Several}
+use Rattle.sas_groups.specs.Kept.{family_of}
+use Rattle.sas_groups.specs.Notes.{group_note}
+use Rattle.sas_groups.specs.Noting.{IsNotedToo, Takes}
+use Rattle.sas_groups.proofs.NotesOfFacts.{since_before, takes_still, takes_here, taken_more}
+use Rattle.sas_groups.proofs.notes.note_in_groups.Goals as goal
+use Rattle.sas_groups.proofs.notes.note_in_groups.Goals.{else-is_several-via-then-is_several+else-is_kept, else-is_several-via-else-is_several}
+
+pub returns-then-is_kept-clause-no : goal.returns-then-is_kept-clause-no
+returns-then-is_kept-clause-no c =
+    let groups = c.args.groups.now in
+    let kept = c.args.kept.now in
+    let fact = c.args.fact in
+    let n = c.loop-group.group-index in
+    let place = get_or groups n 0 in
+    let now = c.loop-group.noted in
+    let too : IsNotedToo (group_note now place) fact c.with-now.result =
+    subst (λ (xs : List Noted). IsNotedToo (group_note xs place) fact c.with-now.result) c.as_slice.ensures c.with-now.ensures in
+    let several = c.is_several.ensures.0 c.if-is_several.true in
+    λ _. record {
+      place = place;
+      among = Contains-get_or groups n 0 c.loop-group-test.true;
+      kept_there = sym c.is_kept.ensures ∙ c.if-is_kept.true;
+      other = since_before groups kept fact c.args.noted.now now c.loop-group.invariant.some place Several
+          (subst (λ (after : Noted). IsNotedToo (group_note now place) fact after) several too);
+    }
+
+pub loop-group-preserved : goal.loop-group-preserved
+loop-group-preserved c =
+    let groups = c.args.groups.now in
+    let kept = c.args.kept.now in
+    let fact = c.args.fact in
+    let n = c.loop-group.group-index in
+    let place = get_or groups n 0 in
+    let now = c.loop-group.noted in
+    let after = c.with-now.result in
+    let inv = c.loop-group.invariant in
+    let among = Contains-get_or groups n 0 c.loop-group-test.true in
+    let below : place < length now = let e = inv.some.as_many in let h = c.requires n 0 c.loop-group-test.true in omega arith in
+    let too : IsNotedToo (group_note now place) fact after = subst (λ (xs : List Noted). IsNotedToo (group_note xs place) fact after) c.as_slice.ensures c.with-now.ensures in
+    let alone : IsTrue (family_of kept place) → after ≢ Several = λ in_family several. elim c.else-is_several.branch [
+      | else-is_several-via-then-is_several+else-is_kept w ↦ both_ways (family_of kept place) (sym w.is_kept.ensures ∙ w.if-is_kept.false) in_family
+      | else-is_several-via-else-is_several w ↦ both_ways c.is_several.result w.if-is_several.false (c.is_several.ensures.1 several)
+    ] in
+    rw c.set.ensures record {
+      some = taken_more groups kept fact c.args.noted.now now inv.some place after too below among alone;
+      all = each_more (Takes groups kept fact c.args.noted.now _) groups n 0 c.loop-group-test.true
+          (λ k d lt. takes_still groups kept fact c.args.noted.now now inv.some place after too below among alone (get_or groups k d) (inv.all k d lt))
+          (takes_here groups kept fact c.args.noted.now now inv.some place after too below among alone);
+    }

@@ -1,0 +1,58 @@
+-- A group of the one fact that is in the family contains the other fact, or doesn't.
+use Rattle.std.proofs.Common.{ℕ, List, length, get_or, sym, ap, subst, ◌∙◌, below_more, arith, IsTrue}
+use Rattle.std.specs.List.{Contains}
+use Rattle.std.proofs.lemmas.Bool.{true≢false}
+use Rattle.std.proofs.lemmas.List.{get_or_default}
+use Rattle.std.proofs.lemmas.List.Elements.{Contains-get_or}
+use Rattle.sas_groups.specs.Index.{groups_of}
+use Rattle.sas_groups.specs.Kept.{family_of}
+use Rattle.sas_groups.proofs.notes.some_has.Goals as goal
+use Rattle.sas_groups.proofs.notes.some_has.Goals.{else-is_kept-via-then-is_kept+else-has, else-is_kept-via-else-is_kept}
+
+pub loop-group-init : goal.loop-group-init
+loop-group-init c = λ k d lt. absurd (omega arith)
+
+pub has-requires-clause-low : goal.has-requires-clause-low
+has-requires-clause-low c = c.requires.low
+
+pub has-requires-clause-ascending : goal.has-requires-clause-ascending
+has-requires-clause-ascending c = c.requires.ascending c.args.other
+
+pub returns-then-has-clause-yes : goal.returns-then-has-clause-yes
+returns-then-has-clause-yes c =
+    let groups = c.groups_of-group-items.result.now in
+    let group = get_or groups c.loop-group.group-index 0 in
+    λ t. record {
+      place = group;
+      first = subst (λ (xs : List ℕ). Contains xs group) c.groups_of-group-items.ensures (Contains-get_or groups c.loop-group.group-index 0 c.loop-group-test.true);
+      second = c.has.ensures.0 c.if-has.true;
+      kept_there = sym c.is_kept.ensures ∙ c.if-is_kept.true;
+    }
+
+pub returns-then-has-clause-no : goal.returns-then-has-clause-no
+returns-then-has-clause-no c = λ t. absurd (true≢false t)
+
+pub loop-group-preserved : goal.loop-group-preserved
+loop-group-preserved c =
+    let kept = c.args.kept.now in
+    let groups = groups_of c.args.index.now c.args.fact in
+    let others = groups_of c.args.index.now c.args.other in
+    let i = c.loop-group.group-index in
+    let Out : ℕ → Type 0 = λ group. IsTrue (family_of kept group) → Contains others group → ⊥ in
+    let here : Out (get_or c.groups_of-group-items.result.now i 0) = elim c.else-is_kept.branch [
+      | else-is_kept-via-then-is_kept+else-has w ↦ λ is_kept has. absurd (true≢false (sym (w.has.ensures.1 has) ∙ w.if-has.false))
+      | else-is_kept-via-else-is_kept w ↦ λ is_kept has. absurd (true≢false (sym is_kept ∙ (sym c.is_kept.ensures ∙ w.if-is_kept.false)))
+    ] in
+    λ k d lt. below_more (λ n. Out (get_or groups n d)) i (λ n below. c.loop-group.invariant n d below)
+    (subst Out
+    (ap (λ (xs : List ℕ). get_or xs i 0) c.groups_of-group-items.ensures ∙ get_or_default groups i 0 d (omega (arith, c.loop-group-test.true, ap length c.groups_of-group-items.ensures)))
+    here) k lt
+
+pub returns-clause-yes : goal.returns-clause-yes
+returns-clause-yes c = λ t. absurd (true≢false (sym t))
+
+pub returns-clause-no : goal.returns-clause-no
+returns-clause-no c =
+    λ t shared. c.loop-group.invariant shared.first.0 shared.place (omega (arith, shared.first.1, ap length c.groups_of-group-items.ensures, c.loop-group-test.false))
+    (subst (λ n. IsTrue (family_of c.args.kept.now n)) (sym shared.first.2) shared.kept_there)
+    (subst (λ n. Contains (groups_of c.args.index.now c.args.other) n) (sym shared.first.2) shared.second)

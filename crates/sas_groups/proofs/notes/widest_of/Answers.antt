@@ -1,0 +1,15 @@
+-- This fact is chosen, or the previous choice.
+use Rattle.std.proofs.Common.{sym, subst, inl, inr}
+use Rattle.std.specs.List.{Contains}
+use Rattle.std.specs.Prelude.{IfSome, Option}
+use Rattle.std.proofs.lemmas.List.Elements.{Contains-get_or}
+use Rattle.sas_core.specs.declared.parts.Fact.{Fact}
+use Rattle.sas_groups.proofs.notes.widest_of.Goals as goal
+
+pub loop-fact-preserved : goal.loop-fact-preserved
+loop-fact-preserved c =
+    let facts = c.args.facts.now in
+    elim c.wider-widest.ensures [
+      | inl e ↦ subst (λ (chosen : Option Fact). IfSome chosen (Contains facts)) (sym e) (Contains-get_or facts c.loop-fact.fact-index _ c.loop-fact-test.true)
+      | inr e ↦ subst (λ (chosen : Option Fact). IfSome chosen (Contains facts)) (sym e) c.loop-fact.invariant
+    ]

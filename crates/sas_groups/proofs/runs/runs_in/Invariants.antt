@@ -1,0 +1,11 @@
+-- The facts so far consist of the runs so far.
+use Rattle.std.proofs.Common.{◌≡◌, ◌++◌, List, length}
+use Rattle.sas_core.specs.declared.parts.Fact.{Fact}
+use Rattle.sas_groups.specs.Runs.{AreRuns}
+use Rattle.sas_groups.proofs.runs.runs_in.Given as goal
+
+abbrev pub invariant-loop-first : goal.invariant-loop-first
+invariant-loop-first l = (before : List Fact) × (l.facts ≡ before ++ l.left) × AreRuns before l.runs
+
+abbrev pub decreases-loop-first : goal.decreases-loop-first
+decreases-loop-first l = length l.left

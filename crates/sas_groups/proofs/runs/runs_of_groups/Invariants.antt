@@ -1,0 +1,11 @@
+-- The runs of the groups so far.
+use Rattle.std.proofs.Common.{◌≡◌, ℕ, ◌<◌, length}
+use Rattle.sas_groups.specs.Distinct.{facts_at}
+use Rattle.sas_groups.specs.Runs.{AreRuns, runs_at}
+use Rattle.sas_groups.proofs.runs.runs_of_groups.Given as goal
+
+abbrev pub invariant-loop-group : goal.invariant-loop-group
+invariant-loop-group g l = record {
+  one_each : length l.runs ≡ l.group;
+  are : (place : ℕ) → place < l.group → AreRuns (facts_at l.task l.own place) (runs_at l.runs place);
+}

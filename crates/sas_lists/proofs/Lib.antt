@@ -1,5 +1,0 @@
-pub mod Tables
-pub mod Blocks
-pub mod ByKey
-pub mod Kept
-mod Placing

@@ -1,6 +1,0 @@
-use Rattle.std.proofs.Common.{◌∙◌}
-use Rattle.sas_lists.proofs.Blocks.{count_of}
-use Rattle.sas_lists.proofs.lists.Lists.len.Goals as goal
-
-pub returns : goal.returns
-returns g c = c.len.ensures ∙ count_of c.self.inside.items.items c.self.inside.ends c.args.self.now c.self.view_is

@@ -1,3 +1,0 @@
-pub mod Table
-pub mod Lists
-pub mod ByKey

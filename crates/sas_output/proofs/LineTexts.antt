@@ -1,0 +1,19 @@
+-- The text of lines, line by line.
+use Rattle.std.proofs.Common.{◌≡◌, ℕ, List, [], ◌∷◌, ◌++◌, length, flat_map, take, ◌≤◌, refl, ap, ◌∙◌}
+use Rattle.std.proofs.lemmas.List.{take_all}
+use Rattle.sas_core.specs.declared.parts.Parts.{Parts}
+use Rattle.sas_output.specs.declared.line.Line.{Line}
+use Rattle.sas_output.specs.Line.{line_bytes, reasons_text}
+
+module _ (p : Parts) (steps : List (List ℕ)) where
+  -- a line with its end
+  abbrev pub ended : Line → List ℕ
+  ended line = line_bytes p steps line ++ 10 ∷ []
+
+  text_is : (lines : List Line) → flat_map ended lines ≡ reasons_text p steps lines
+  text_is [] = refl
+  text_is (line ∷ lines) = ap (λ (l : List ℕ). ended line ++ l) (text_is lines)
+
+  -- all lines, so that the text is whole
+  pub all_lines : (lines : List Line) (n : ℕ) → length lines ≤ n → flat_map ended (take n lines) ≡ reasons_text p steps lines
+  all_lines lines n h = ap (flat_map ended) (take_all n lines h) ∙ text_is lines

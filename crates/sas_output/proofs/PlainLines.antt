@@ -1,0 +1,126 @@
+-- Each line begins with two spaces, and holds neither LF nor CR.
+use Rattle.std.proofs.Common.{◌≡◌, ℕ, zero, suc, ◌-◌, Bool, true, false, List, [], ◌∷◌, ◌++◌, get_or, refl, ap, arith, IsTrue, not}
+use Rattle.std.specs.Prelude.{◌==◌, ◌&&◌, length, if◌then◌else◌, codes, decimal, slice_get}
+use Rattle.std.specs.List.{AllByRecursion, list_all}
+use Rattle.std.specs.Option.{unwrap_or}
+use Rattle.std.proofs.lemmas.Bool.{and_parts, and_from, ne_eqb}
+use Rattle.sas_core.specs.declared.parts.Fact.{Fact}
+use Rattle.sas_core.specs.declared.parts.Operator.{Operator}
+use Rattle.sas_core.specs.declared.parts.Variable.{Variable}
+use Rattle.sas_core.specs.declared.parts.Parts.{Parts}
+use Rattle.sas_core.specs.Grounded.{operator_at, effect_at, rule_at}
+use Rattle.sas_core.specs.Names.{is_plain, IsName}
+use Rattle.sas_core.specs.Variables.{value_name}
+use Rattle.sas_core.specs.WellRanged.{VariableFits, OperatorFits, WellRanged}
+use Rattle.sas_lines.specs.Parts.{Without}
+use Rattle.sas_lines.specs.Spelling.{joined}
+use Rattle.sas_lines.proofs.Words.{Without-decimal}
+use Rattle.sas_output.specs.declared.line.Line.{Line}
+use Rattle.sas_output.specs.declared.line.Line.TheVariants.{Step, SimilarOperator, Operator as TheOperator, NamedOperator, GoalFact, Requires, Actual, SinceInitialState, SinceStep, RuleDerives, NoRuleDerives, RuleRequires, ConflictingEffect, Metric, Steps, CostLines, CouldBe, EffectSets, Rule, ConditionRequires, OldValue, DefaultValue, OnLayer, Derived, Holds, MayRemain}
+use Rattle.sas_output.specs.Facts.{fact_of_effect, fact_of_rule}
+use Rattle.sas_output.specs.Line.{words_of, effect_words, rule_words, line_bytes}
+use Rattle.sas_output.specs.Laws.{IsReasonLine, LinesAreReasons}
+
+abbrev pub IsPlain : List ℕ → Type 0
+IsPlain bytes = IsTrue (list_all is_plain bytes)
+
+-- ---- numbers and names
+
+pub plain-append : (a b : List ℕ) → IsPlain a → IsPlain b → IsPlain (a ++ b)
+plain-append [] b h g = g
+plain-append (x ∷ a) b h g = let p = and_parts (is_plain x) (list_all is_plain a) h in
+    and_from (is_plain x) (list_all is_plain (a ++ b)) p.0 (plain-append a b p.1 g)
+
+plain_without : (bytes : List ℕ) → Without 10 bytes → Without 13 bytes → IsPlain bytes
+plain_without [] h g = refl
+plain_without (b ∷ bytes) h g =
+    and_from (is_plain b) (list_all is_plain bytes)
+    (and_from (not (b == 10)) (not (b == 13)) (ap not (ne_eqb b 10 h.0)) (ap not (ne_eqb b 13 g.0)))
+    (plain_without bytes h.1 g.1)
+
+pub number : (n : ℕ) → IsPlain (decimal n)
+number n = plain_without (decimal n) (Without-decimal 10 n (omega arith)) (Without-decimal 13 n (omega arith))
+
+pub number_then : (n : ℕ) (rest : List ℕ) → IsPlain rest → IsPlain (decimal n ++ rest)
+number_then n rest h = plain-append (decimal n) rest (number n) h
+
+plain-name : (bytes : List ℕ) → IsName bytes → IsPlain bytes
+plain-name bytes h = (and_parts (not (length bytes == 0)) (list_all is_plain bytes) h).1
+
+plain_value : (values : List (List ℕ)) (value : ℕ) → AllByRecursion IsName values → IsPlain (unwrap_or (slice_get values value) [])
+plain_value [] value names = refl
+plain_value (first ∷ values) zero names = plain-name first names.0
+plain_value (first ∷ values) (suc value) names = plain_value values value names.1
+
+plain_values : (variables : List Variable) (var value : ℕ) → AllByRecursion VariableFits variables → IsPlain (unwrap_or (value_name variables var value) [])
+plain_values [] var value fit = refl
+plain_values (v ∷ variables) zero value fit = let first = fit.0 in plain_value v.values value first.values.each
+plain_values (v ∷ variables) (suc var) value fit = plain_values variables var value fit.1
+
+plain_operator : (variables : List Variable) (operators : List Operator) (place : ℕ) (none : Operator) → IsPlain none.name → AllByRecursion (OperatorFits variables) operators
+    → IsPlain (get_or operators place none).name
+plain_operator variables [] place none plain fit = plain
+plain_operator variables (o ∷ operators) zero none plain fit = let first = fit.0 in plain-name o.name first.name
+plain_operator variables (o ∷ operators) (suc place) none plain fit = plain_operator variables operators place none plain fit.1
+
+plain_step : (steps : List (List ℕ)) (place : ℕ) → AllByRecursion IsName steps → IsPlain (get_or steps place [])
+plain_step [] place names = refl
+plain_step (first ∷ steps) zero names = plain-name first names.0
+plain_step (first ∷ steps) (suc place) names = plain_step steps place names.1
+
+-- ---- lines
+
+pub two : (behind : List ℕ) → IsPlain behind → IsReasonLine (32 ∷ 32 ∷ behind)
+two behind plain = record { behind = behind; spaces = refl; plain = plain }
+
+module _ (p : Parts) (steps : List (List ℕ)) (ranged : WellRanged p) (names : AllByRecursion IsName steps) where
+  step : (n : ℕ) → IsPlain (decimal n ++ 32 ∷ get_or steps (n - 1) [])
+  step n = number_then n (32 ∷ get_or steps (n - 1) []) (plain_step steps (n - 1) names)
+
+  operator : (n : ℕ) → IsPlain (decimal n ++ 32 ∷ (operator_at p n).name)
+  operator n = number_then n (32 ∷ (operator_at p n).name)
+      (plain_operator p.variables p.operators n (record { name = []; prevail = []; effects = []; cost = 0 }) refl ranged.operators.each)
+
+  of_fact : (f : Fact) → IsPlain (joined (words_of p f))
+  of_fact f = let name = unwrap_or (value_name p.variables f.var f.value) [] in
+      number_then f.var (32 ∷ decimal f.value ++ 32 ∷ name) (number_then f.value (32 ∷ name) (plain_values p.variables f.var f.value ranged.variables.each))
+
+  part : (n : ℕ) (verb : List ℕ) (f : Fact) → IsPlain verb → IsPlain (joined (decimal n ∷ verb ∷ words_of p f))
+  part n verb f plain = number_then n (32 ∷ joined (verb ∷ words_of p f)) (plain-append verb (32 ∷ joined (words_of p f)) plain (of_fact f))
+
+  effect : (o e : ℕ) → IsPlain (joined (effect_words p o e))
+  effect o e = part e (codes "sets") (fact_of_effect (effect_at (operator_at p o) e)) refl
+
+  rule : (r : ℕ) → IsPlain (joined (rule_words p r))
+  rule r = part r (codes "derives") (fact_of_rule (rule_at p r)) refl
+
+  is_reason_line : (l : Line) → IsReasonLine (line_bytes p steps l)
+  is_reason_line (Step n) = two _ (step n)
+  is_reason_line (SimilarOperator n) = two _ (operator n)
+  is_reason_line (TheOperator n) = two _ (number n)
+  is_reason_line (NamedOperator n) = two _ (operator n)
+  is_reason_line (GoalFact n) = two _ (number n)
+  is_reason_line (Requires f) = two _ (of_fact f)
+  is_reason_line (Actual f) = two _ (of_fact f)
+  is_reason_line SinceInitialState = two _ refl
+  is_reason_line (SinceStep n) = two _ (step n)
+  is_reason_line (RuleDerives r) = two _ (rule r)
+  is_reason_line NoRuleDerives = two _ refl
+  is_reason_line (RuleRequires r f) = two _ (part r (codes "requires") f refl)
+  is_reason_line (ConflictingEffect o e) = two _ (effect o e)
+  is_reason_line Metric = two _ (number (if p.metric then 1 else 0))
+  is_reason_line (Steps n) = two _ (number n)
+  is_reason_line (CostLines n) = two _ (number n)
+  is_reason_line (CouldBe n o) = two _ (number_then n (codes " could also be operator " ++ decimal o) (number o))
+  is_reason_line (EffectSets o e) = two _ (effect o e)
+  is_reason_line (Rule r) = two _ (rule r)
+  is_reason_line (ConditionRequires c f) = two _ (part c (codes "requires") f refl)
+  is_reason_line (OldValue f) = two _ (of_fact f)
+  is_reason_line (DefaultValue f) = two _ (of_fact f)
+  is_reason_line (OnLayer n) = two _ (number n)
+  is_reason_line (Derived f) = two _ (of_fact f)
+  is_reason_line (Holds f) = two _ (of_fact f)
+  is_reason_line (MayRemain f) = two _ (of_fact f)
+
+pub lines_are_reasons : LinesAreReasons
+lines_are_reasons p steps l ranged names = is_reason_line p steps ranged names l

@@ -1,0 +1,173 @@
+-- The bytes of a line of a rule are those of no other line.
+use Rattle.std.proofs.Common.{◌≡◌, ℕ, ◌<◌, ◌^◌, Bool, true, false, List, [], ◌∷◌, ◌++◌, length, drop, get_or, refl, sym, ap, subst, ◌∙◌, arith}
+use Rattle.std.specs.Prelude.{◌==◌, not, bytes_eq, codes, decimal}
+use Rattle.std.specs.List.{AllByRecursion, list_all}
+use Rattle.std.proofs.lemmas.Bool.{and_parts, and_from, eq-eqb, false≢true}
+use Rattle.std.proofs.lemmas.Slice.Eq.{bytes_eq-Decides}
+use Rattle.std.specs.Option.{unwrap_or}
+use Rattle.sas_core.specs.declared.parts.Fact.{Fact}
+use Rattle.sas_core.specs.declared.parts.Parts.{Parts}
+use Rattle.sas_core.specs.Grounded.{rule_at}
+use Rattle.sas_core.specs.Variables.{value_name}
+use Rattle.sas_lines.specs.Parts.{parts}
+use Rattle.sas_lines.specs.Spelling.{joined}
+use Rattle.sas_lines.proofs.Words.{NoSpace, words-first, same_first, NoSpace-decimal, own_decimal}
+use Rattle.sas_output.specs.Words.{line}
+use Rattle.sas_output.specs.declared.line.Line.{Line}
+use Rattle.sas_output.specs.declared.line.Line.TheVariants.{Step, SimilarOperator, Operator, NamedOperator, GoalFact, Requires, Actual, SinceInitialState, SinceStep, RuleDerives, NoRuleDerives, RuleRequires, ConflictingEffect, Metric, Steps, CostLines, CouldBe, EffectSets, Rule, ConditionRequires, OldValue, DefaultValue, OnLayer, Derived, Holds, MayRemain}
+use Rattle.sas_output.specs.Facts.{fact_of_rule}
+use Rattle.sas_output.specs.Line.{words_of, line_bytes, rule_numbers, is_rule_line, is_same_rule_line}
+use Rattle.sas_output.specs.Laws.{RuleLinesDiffer}
+
+-- ---- lines of rules
+
+-- a line of a rule is one of two
+pub data IsOfRule : Line → Type 0 where
+  Deriving : (rule : ℕ) → IsOfRule (RuleDerives rule)
+  Requiring : (rule : ℕ) (fact : Fact) → IsOfRule (RuleRequires rule fact)
+
+pub rule_cases : (l : Line) → is_rule_line l ≡ true → IsOfRule l
+rule_cases (RuleDerives r) e = Deriving r
+rule_cases (RuleRequires r f) e = Requiring r f
+rule_cases (Step n) e = absurd cc
+rule_cases (SimilarOperator n) e = absurd cc
+rule_cases (Operator n) e = absurd cc
+rule_cases (NamedOperator n) e = absurd cc
+rule_cases (GoalFact n) e = absurd cc
+rule_cases (Requires f) e = absurd cc
+rule_cases (Actual f) e = absurd cc
+rule_cases SinceInitialState e = absurd cc
+rule_cases (SinceStep n) e = absurd cc
+rule_cases NoRuleDerives e = absurd cc
+rule_cases (ConflictingEffect o k) e = absurd cc
+rule_cases Metric e = absurd cc
+rule_cases (Steps n) e = absurd cc
+rule_cases (CostLines n) e = absurd cc
+rule_cases (CouldBe n o) e = absurd cc
+rule_cases (EffectSets o k) e = absurd cc
+rule_cases (Rule r) e = absurd cc
+rule_cases (ConditionRequires c f) e = absurd cc
+rule_cases (OldValue f) e = absurd cc
+rule_cases (DefaultValue f) e = absurd cc
+rule_cases (OnLayer n) e = absurd cc
+rule_cases (Derived f) e = absurd cc
+rule_cases (Holds f) e = absurd cc
+rule_cases (MayRemain f) e = absurd cc
+
+-- it is told from all others by its second letter, which is the sixth byte
+abbrev sixth : List ℕ → ℕ
+sixth bytes = get_or bytes 5 0
+
+other_byte : (byte : ℕ) → (byte == 117) ≡ false → byte ≡ 117 → ⊥
+other_byte byte not_so e = false≢true (sym not_so ∙ eq-eqb byte 117 e)
+
+of_rule : (p : Parts) (steps : List (List ℕ)) (l : Line) → sixth (line_bytes p steps l) ≡ 117 → is_rule_line l ≡ true
+of_rule p steps (RuleDerives r) e = refl
+of_rule p steps (RuleRequires r f) e = refl
+of_rule p steps (Step n) e = absurd (other_byte _ refl e)
+of_rule p steps (SimilarOperator n) e = absurd (other_byte _ refl e)
+of_rule p steps (Operator n) e = absurd (other_byte _ refl e)
+of_rule p steps (NamedOperator n) e = absurd (other_byte _ refl e)
+of_rule p steps (GoalFact n) e = absurd (other_byte _ refl e)
+of_rule p steps (Requires f) e = absurd (other_byte _ refl e)
+of_rule p steps (Actual f) e = absurd (other_byte _ refl e)
+of_rule p steps SinceInitialState e = absurd (other_byte _ refl e)
+of_rule p steps (SinceStep n) e = absurd (other_byte _ refl e)
+of_rule p steps NoRuleDerives e = absurd (other_byte _ refl e)
+of_rule p steps (ConflictingEffect o k) e = absurd (other_byte _ refl e)
+of_rule p steps Metric e = absurd (other_byte _ refl e)
+of_rule p steps (Steps n) e = absurd (other_byte _ refl e)
+of_rule p steps (CostLines n) e = absurd (other_byte _ refl e)
+of_rule p steps (CouldBe n o) e = absurd (other_byte _ refl e)
+of_rule p steps (EffectSets o k) e = absurd (other_byte _ refl e)
+of_rule p steps (Rule r) e = absurd (other_byte _ refl e)
+of_rule p steps (ConditionRequires c f) e = absurd (other_byte _ refl e)
+of_rule p steps (OldValue f) e = absurd (other_byte _ refl e)
+of_rule p steps (DefaultValue f) e = absurd (other_byte _ refl e)
+of_rule p steps (OnLayer n) e = absurd (other_byte _ refl e)
+of_rule p steps (Derived f) e = absurd (other_byte _ refl e)
+of_rule p steps (Holds f) e = absurd (other_byte _ refl e)
+of_rule p steps (MayRemain f) e = absurd (other_byte _ refl e)
+
+-- the line is given by its numbers
+abbrev line_of : List ℕ → Line
+line_of (rule ∷ []) = RuleDerives rule
+line_of (rule ∷ var ∷ value ∷ []) = RuleRequires rule (record { var = var; value = value })
+line_of other = Metric
+
+given_by_numbers : (l : Line) → IsOfRule l → line_of (rule_numbers l) ≡ l
+given_by_numbers l (Deriving r) = refl
+given_by_numbers l (Requiring r f) = refl
+
+pub same_is : (l other : Line) → is_same_rule_line l other ≡ true → l ≡ other
+same_is l other e =
+    let both = and_parts (is_rule_line l) (bytes_eq (rule_numbers l) (rule_numbers other)) e in
+    let same : rule_numbers l ≡ rule_numbers other = (bytes_eq-Decides (rule_numbers l) (rule_numbers other)).0 both.1 in
+    let its : is_rule_line other ≡ true = subst (λ (ns : List ℕ). not (length ns == 0) ≡ true) same both.0 in
+    sym (given_by_numbers l (rule_cases l both.0)) ∙ ap line_of same ∙ given_by_numbers other (rule_cases other its)
+
+pub is_same : (l : Line) → is_rule_line l ≡ true → is_same_rule_line l l ≡ true
+is_same l is = and_from (is_rule_line l) (bytes_eq (rule_numbers l) (rule_numbers l)) is ((bytes_eq-Decides (rule_numbers l) (rule_numbers l)).1 refl)
+
+-- ---- the numbers of such a line
+
+abbrev behind_rule : ℕ → List (List ℕ) → List ℕ
+behind_rule rule words = line 4 (codes "rule" ∷ decimal rule ∷ words)
+
+behind_number : (r r' : ℕ) (w w' : List ℕ) (ws ws' : List (List ℕ)) → behind_rule r (w ∷ ws) ≡ behind_rule r' (w' ∷ ws')
+    → (decimal r ≡ decimal r') × (parts 32 (joined (w ∷ ws)) ≡ parts 32 (joined (w' ∷ ws')))
+behind_number r r' w w' ws ws' e =
+    same_first (decimal r) (decimal r') (joined (w ∷ ws)) (joined (w' ∷ ws')) (NoSpace-decimal r) (NoSpace-decimal r') (ap (λ (l : List ℕ). drop 9 l) e)
+
+no_space : (bytes : List ℕ) → list_all (λ b. not (b == 32)) bytes ≡ true → NoSpace bytes
+no_space [] h = tt
+no_space (b ∷ bytes) h =
+    let both = and_parts (not (b == 32)) (list_all (λ c. not (c == 32)) bytes) h in
+    (λ (e : b ≡ 32). let is : (b == 32) ≡ true = eq-eqb b 32 e in let not_so : not true ≡ true = ap not (sym is) ∙ both.0 in absurd cc, no_space bytes both.1)
+
+first_word : (w v a b : List ℕ) → NoSpace w → NoSpace v → parts 32 (w ++ 32 ∷ a) ≡ parts 32 (v ++ 32 ∷ b) → (w ≡ v) × (parts 32 a ≡ parts 32 b)
+first_word w v a b h i e = let l : w ∷ parts 32 a ≡ v ∷ parts 32 b = sym (words-first w a h) ∙ e ∙ words-first v b i in (cc, cc)
+
+module _ (p : Parts) where
+  abbrev rest_of : Fact → List ℕ
+  rest_of f = decimal f.value ++ 32 ∷ unwrap_or (value_name p.variables f.var f.value) []
+
+  same_fact : (f f' : Fact) → f.var < 2 ^ 64 → f.value < 2 ^ 64 → parts 32 (joined (words_of p f)) ≡ parts 32 (joined (words_of p f')) → f ≡ f'
+  same_fact f f' var value e =
+      let first = first_word (decimal f.var) (decimal f'.var) (rest_of f) (rest_of f') (NoSpace-decimal f.var) (NoSpace-decimal f'.var) e in
+      let second = first_word (decimal f.value) (decimal f'.value) _ _ (NoSpace-decimal f.value) (NoSpace-decimal f'.value) first.1 in
+      let vars : f.var ≡ f'.var = own_decimal f.var f'.var var first.0 in
+      let values : f.value ≡ f'.value = own_decimal f.value f'.value value second.0 in
+      ap (λ v. let x : Fact = record { var = v; value = f.value } in x) vars ∙ ap (λ v. let x : Fact = record { var = f'.var; value = v } in x) values
+
+  both_rules : (steps : List (List ℕ)) (l other : Line) → IsOfRule l → IsOfRule other → AllByRecursion (λ n. n < 2 ^ 64) (rule_numbers l)
+      → line_bytes p steps l ≡ line_bytes p steps other → l ≡ other
+  both_rules steps l other (Deriving r) (Deriving r') small e =
+      let words = words_of p (fact_of_rule (rule_at p r)) in
+      let words' = words_of p (fact_of_rule (rule_at p r')) in
+      ap (λ n. RuleDerives n) (own_decimal r r' small.0 (behind_number r r' (codes "derives") (codes "derives") words words' e).0)
+  both_rules steps l other (Deriving r) (Requiring r' f) small e =
+      let words = words_of p (fact_of_rule (rule_at p r)) in
+      let behind = behind_number r r' (codes "derives") (codes "requires") words (words_of p f) e in
+      let first = first_word (codes "derives") (codes "requires") (joined words) (joined (words_of p f)) (no_space (codes "derives") refl) (no_space (codes "requires") refl) behind.1 in
+      absurd (let e : 7 ≡ 8 = ap (λ (l : List ℕ). length l) first.0 in omega (arith, e))
+  both_rules steps l other (Requiring r f) (Deriving r') small e =
+      let words = words_of p (fact_of_rule (rule_at p r')) in
+      let behind = behind_number r r' (codes "requires") (codes "derives") (words_of p f) words e in
+      let first = first_word (codes "requires") (codes "derives") (joined (words_of p f)) (joined words) (no_space (codes "requires") refl) (no_space (codes "derives") refl) behind.1 in
+      absurd (let e : 8 ≡ 7 = ap (λ (l : List ℕ). length l) first.0 in omega (arith, e))
+  both_rules steps l other (Requiring r f) (Requiring r' f') small e =
+      let behind = behind_number r r' (codes "requires") (codes "requires") (words_of p f) (words_of p f') e in
+      let first = first_word (codes "requires") (codes "requires") (joined (words_of p f)) (joined (words_of p f')) (no_space (codes "requires") refl) (no_space (codes "requires") refl) behind.1 in
+      let rules : r ≡ r' = own_decimal r r' small.0 behind.0 in
+      ap (λ n. RuleRequires n f) rules ∙ ap (λ (g : Fact). RuleRequires r' g) (same_fact f f' small.1.0 small.1.1.0 first.1)
+
+-- the sixth byte of a line of a rule
+is_sixth : (p : Parts) (steps : List (List ℕ)) (l : Line) → IsOfRule l → sixth (line_bytes p steps l) ≡ 117
+is_sixth p steps l (Deriving r) = refl
+is_sixth p steps l (Requiring r f) = refl
+
+pub rule_lines_differ : RuleLinesDiffer
+rule_lines_differ p steps l other is small e =
+    let its = rule_cases l is in
+    both_rules p steps l other its (rule_cases other (of_rule p steps other (sym (ap sixth e) ∙ is_sixth p steps l its))) small e

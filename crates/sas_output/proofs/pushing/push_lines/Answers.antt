@@ -1,0 +1,21 @@
+use Rattle.std.proofs.Common.{arith, subst}
+use Rattle.sas_output.specs.Sink.{Pushes}
+use Rattle.sas_output.proofs.Pushing.{pushes_item}
+use Rattle.sas_output.specs.declared.line.Line.{Line}
+use Rattle.sas_output.specs.declared.line.Line.TheVariants.{Step}
+use Rattle.sas_output.specs.Wording.{steps_of}
+use Rattle.sas_output.proofs.LineTexts.{ended, all_lines}
+use Rattle.sas_output.proofs.pushing.push_lines.Goals as goal
+
+abbrev no_line : Line
+no_line = Step 0
+
+pub loop-line-preserved : goal.loop-line-preserved
+loop-line-preserved g c =
+    let named = c.args.named.now in
+    pushes_item _ (ended named.task.now (steps_of named.plan)) _ _ no_line _ _ _ c.loop-line-test.true c.loop-line.invariant c.push_line.ensures
+
+pub returns : goal.returns
+returns g c =
+    let named = c.args.named.now in
+    subst (Pushes g.W.Write.contents _ _) (all_lines named.task.now (steps_of named.plan) _ _ (omega (arith, c.loop-line-test.false))) c.loop-line.invariant

@@ -1,0 +1,234 @@
+// How lines of reasons go out: names are looked up here.
+ghost use Rattle.std.specs.Prelude.{◌≡◌, ◌↔◌, ◌⊎◌, false, [], ◌∷◌, ◌++◌, map, Some};
+ghost use Rattle.std.specs.Prelude.{IfErr, IsErr, IsErrAnd, IsTrue, OnOk, decimal, if◌then◌else◌};
+ghost use Rattle.std.specs.Io.KnownBytes.{Appends};
+ghost use Rattle.sas_output.specs.Ending.{EndsCounting, IsWrite};
+ghost use Rattle.sas_output.specs.Sink.{Pushes};
+ghost use Rattle.sas_output.specs.Words.{word_bytes};
+ghost use Rattle.sas_output.specs.Line.{words_of, line_bytes, reasons_text};
+ghost use Rattle.sas_output.specs.Wording.{steps_of, verb_words, part_words, could_be_words, rest_words, line_with};
+
+use crate::ending::{Status, ToolFault};
+use crate::line::Line;
+use crate::names::{Named, given_by, operator_name, set_by, value_name};
+use crate::pieces::Pieces;
+use crate::sink::Sink;
+use crate::wording::{Part, Rest, Start, wording};
+use crate::words::{Word, Words};
+use itoa::Buffer;
+use sas_core::{Fact, Grounded};
+use sas_flat::FlatTask;
+use sas_lines::Watched;
+use std::alloc::Global;
+use std::io::Write;
+
+/// Writes an answer that says no: its verdict, a line with its end, and its reasons. The text goes out in pieces. If an `Err` isn't
+/// a failed write, it is `Memory`, and nothing was written. Not to be called after a failure.
+pub fn write_reasons<W: Write>(
+    alloc: Global,
+    out: &mut Watched<W>,
+    verdict: &[u8],
+    named: &Named<'_>,
+    lines: &[Line],
+) -> Result<Status, ToolFault>
+    requires { out.old.failed ≡ false }
+    ensures ends { EndsCounting (λ output. output ≡ Some (record {
+      text = verdict.now
+          ++ reasons_text named.now.task.now (steps_of named.now.plan) lines.now;
+      status = Status.No;
+    })) (Appends (W.contents out.old.device) (W.contents out.new.device)) result }
+    ensures nothing { IfErr result (λ e. IsWrite e
+        ⊎ ((e ≡ ToolFault.Memory) × (out.new ≡ out.old))) }
+    ensures writes { IsErrAnd result IsWrite ↔ IsTrue out.new.failed }
+{
+    // What takes memory comes first.
+    let pieces = Pieces::new(alloc)?;
+    let mut sink = Sink::new(pieces, out);
+    sink.push(verdict);
+    push_lines(&mut sink, named, lines);
+    let ended = sink.finish(Status::No);
+    let Sink {
+        out: device,
+        pieces,
+        short: _,
+    } = sink;
+    drop(pieces);
+    // No effect at run time. The proof reads what `out` holds from this use of `device`.
+    let _ = &*device;
+    ended
+}
+
+/// Adds the lines, each with its end, to the text.
+pub fn push_lines<W: Write>(
+    sink: &mut Sink<'_, W>,
+    named: &Named<'_>,
+    lines: &[Line],
+)
+    ensures { Pushes W.contents sink.old sink.new
+        (reasons_text named.now.task.now (steps_of named.now.plan) lines.now) }
+{
+    for line in lines {
+        push_line(sink, named, *line);
+    }
+}
+
+/// Adds the line and its end to the text.
+fn push_line<W: Write>(
+    sink: &mut Sink<'_, W>,
+    named: &Named<'_>,
+    line: Line,
+)
+    ensures { Pushes W.contents sink.old sink.new
+        (line_bytes named.now.task.now (steps_of named.now.plan) line ++ 10 ∷ []) }
+{
+    let (indent, words, rest) = wording(line);
+    push_rest(sink, named, Start { indent, words }, rest)
+}
+
+/// Adds the line that begins so, with this rest, and its end.
+fn push_rest<W: Write>(
+    sink: &mut Sink<'_, W>,
+    named: &Named<'_>,
+    start: Start,
+    rest: Rest,
+)
+    ensures { Pushes W.contents sink.old sink.new
+        (line_with start (rest_words named.now.task.now (steps_of named.now.plan) rest) ++ 10 ∷ []) }
+{
+    let task = named.task;
+    match rest {
+        Rest::Nothing => push_words(sink, start, &[]),
+        Rest::Number(number) => push_words(sink, start, &[Word::Number(number)]),
+        Rest::Sum(sum) => push_sum(sink, start, sum),
+        Rest::Metric => push_metric(sink, start, task),
+        Rest::Step(step) => push_named(sink, start, step as u64, named.step_name(step)),
+        Rest::Operator(operator) => {
+            let name = operator_name(task, operator);
+            push_named(sink, start, u64::from(operator), name)
+        }
+        Rest::CouldBe(step, operator) => push_could_be(sink, start, step, operator),
+        Rest::OfFact(fact) => push_fact(sink, task, start, fact),
+        Rest::OfPart(part) => push_part(sink, task, start, part),
+    }
+}
+
+/// Adds the line with these words behind its first ones, and its end.
+fn push_words<W: Write>(
+    sink: &mut Sink<'_, W>,
+    start: Start,
+    words: &[Word<'_>],
+)
+    ensures { Pushes W.contents sink.old sink.new
+        (line_with start (map word_bytes words.now) ++ 10 ∷ []) }
+{
+    let line = Words {
+        indent: start.indent,
+        first: start.words,
+        rest: words,
+    };
+    sink.push_line(line);
+}
+
+/// Adds the line of a sum, which may be larger than a `u64`, and its end.
+fn push_sum<W: Write>(
+    sink: &mut Sink<'_, W>,
+    start: Start,
+    sum: u128,
+)
+    ensures { Pushes W.contents sink.old sink.new
+        (line_with start (decimal sum ∷ []) ++ 10 ∷ []) }
+{
+    let mut buffer = Buffer::new();
+    let digits = buffer.format(sum).as_bytes();
+    push_words(sink, start, &[Word::Text(digits)])
+}
+
+/// Adds the line of the task's metric, and its end.
+fn push_metric<W: Write>(
+    sink: &mut Sink<'_, W>,
+    start: Start,
+    task: &FlatTask,
+)
+    ensures { Pushes W.contents sink.old sink.new
+        (line_with start (decimal (if task.now.metric then 1 else 0) ∷ []) ++ 10 ∷ []) }
+{
+    let metric = u64::from(task.metric());
+    push_words(sink, start, &[Word::Number(metric)])
+}
+
+/// Adds the line of a number and a name, and its end.
+fn push_named<W: Write>(
+    sink: &mut Sink<'_, W>,
+    start: Start,
+    number: u64,
+    name: &[u8],
+)
+    ensures { Pushes W.contents sink.old sink.new
+        (line_with start (decimal number ∷ name.now ∷ []) ++ 10 ∷ []) }
+{
+    let words = [Word::Number(number), Word::Text(name)];
+    push_words(sink, start, &words)
+}
+
+/// Adds the line of a fact, and its end.
+fn push_fact<W: Write>(
+    sink: &mut Sink<'_, W>,
+    task: &FlatTask,
+    start: Start,
+    fact: Fact,
+)
+    ensures { Pushes W.contents sink.old sink.new
+        (line_with start (words_of task.now fact) ++ 10 ∷ []) }
+{
+    let var = Word::Number(u64::from(fact.var));
+    let value = Word::Number(u64::from(fact.value));
+    let name = value_name(task, fact);
+    push_words(sink, start, &[var, value, Word::Text(name)])
+}
+
+/// Adds the line of what a part of the task does with a fact, and its end.
+fn push_part<W: Write>(
+    sink: &mut Sink<'_, W>,
+    task: &FlatTask,
+    start: Start,
+    part: Part,
+)
+    ensures { Pushes W.contents sink.old sink.new
+        (line_with start (part_words task.now part) ++ 10 ∷ []) }
+{
+    let (number, verb, fact) = deed(task, part);
+    let var = Word::Number(u64::from(fact.var));
+    let value = Word::Number(u64::from(fact.value));
+    let name = Word::Text(value_name(task, fact));
+    let words = [Word::Number(number), Word::Text(verb), var, value, name];
+    push_words(sink, start, &words)
+}
+
+/// Returns the number of the part, the verb, and the fact.
+fn deed(task: &FlatTask, part: Part) -> (u64, &'static [u8], Fact)
+    ensures { verb_words task.now result.0 result.1.now result.2 ≡ part_words task.now part }
+{
+    match part {
+        Part::Derives(rule) => (u64::from(rule), b"derives", given_by(task, rule)),
+        Part::Sets(operator, effect) => {
+            (u64::from(effect), b"sets", set_by(task, operator, effect))
+        }
+        Part::Requires(number, fact) => (u64::from(number), b"requires", fact),
+    }
+}
+
+/// Adds the line of an operator that a step could also be, and its end.
+fn push_could_be<W: Write>(
+    sink: &mut Sink<'_, W>,
+    start: Start,
+    step: usize,
+    operator: u32,
+)
+    ensures { Pushes W.contents sink.old sink.new
+        (line_with start (could_be_words step operator) ++ 10 ∷ []) }
+{
+    let could_be = Word::Text(b"could also be operator");
+    let operator = Word::Number(u64::from(operator));
+    let words = [Word::Number(step as u64), could_be, operator];
+    push_words(sink, start, &words)
+}

@@ -1,0 +1,137 @@
+-- Each line of reasons begins with two spaces, and contains neither LF nor CR.
+use Rattle.std.proofs.Common.{◌+◌, ℕ, ◌/◌, ◌%◌, ◌<◌, Bool, true, false, List, [], ◌∷◌, ◌++◌, codes, flat_map, refl, arith, ap, IsTrue, not}
+use Rattle.std.specs.Prelude.{nat_lt, ◌&&◌, ◌==◌, if◌then◌else◌, decimal}
+use Rattle.std.specs.List.{list_all}
+use Rattle.std.proofs.lemmas.Bool.{and_from, ne_eqb, ltb-true}
+use Rattle.sas_core.specs.Names.{is_plain}
+use Rattle.sas_reader.specs.declared.fault.Kind.{Kind}
+use Rattle.sas_reader.specs.declared.fault.Kind.TheVariants as kinds
+use Rattle.sas_task_format.specs.Marks.{word_bytes}
+use Rattle.sas_task_format.specs.declared.marks.Due.{Due}
+use Rattle.sas_task_format.specs.declared.marks.Due.TheVariants as due
+use Rattle.sas_task_format.specs.declared.marks.FixedWord.{FixedWord}
+use Rattle.sas_task_format.specs.declared.marks.FixedWord.TheVariants as fixed
+use Rattle.sas_task_format.specs.declared.marks.Location.{Location}
+use Rattle.sas_task_format.specs.declared.marks.Location.TheVariants as at
+use Rattle.sas_output.proofs.PlainLines.{IsPlain, plain-append, number, number_then, two}
+use Rattle.sas_outputs.specs.FileLine.{At, Expected, ExpectedInPlan, NumberMustBe, Found, EmptyLine, Unfinished, EndOfFile}
+use Rattle.sas_outputs.specs.FileLine.{location_words, due_words, plan_due_words, least_words}
+use Rattle.sas_outputs.specs.Laws.{FileLinesAreReasons}
+use Rattle.sas_outputs.specs.ShownBytes.{hex_digit_of, in_digits, shown_byte, shown_whole, shown}
+
+-- ---- what was found
+
+above : (b : ℕ) → 13 < b → IsTrue (is_plain b)
+above b h = and_from (not (b == 10)) (not (b == 13)) (ap not (ne_eqb b 10 (λ e. omega (arith, e, h)))) (ap not (ne_eqb b 13 (λ e. omega (arith, e, h))))
+
+digit_plain : (n : ℕ) → IsTrue (is_plain (hex_digit_of n))
+digit_plain n = either (nat_lt n 10)
+  where
+    either : (low : Bool) → IsTrue (is_plain (if low then 48 + n else 87 + n))
+    either true = above (48 + n) (omega arith)
+    either false = above (87 + n) (omega arith)
+
+digits_plain : (b : ℕ) → IsPlain (in_digits b)
+digits_plain b =
+    let last = hex_digit_of (b % 16) in
+    and_from (is_plain (hex_digit_of (b / 16))) (list_all is_plain (last ∷ [])) (digit_plain (b / 16)) (and_from (is_plain last) true (digit_plain (b % 16)) refl)
+
+byte_plain : (b : ℕ) → IsPlain (shown_byte b)
+byte_plain b = either (nat_lt 31 b) (nat_lt b 127) (not (b == 92)) (λ h. above b (let over = ltb-true 31 b h in omega (arith, over)))
+  where
+    either : (over under other : Bool) → (IsTrue over → IsTrue (is_plain b)) → IsPlain (if over && under && other then b ∷ [] else in_digits b)
+    either false under other h = digits_plain b
+    either true false other h = digits_plain b
+    either true true false h = digits_plain b
+    either true true true h = and_from (is_plain b) true (h refl) refl
+
+bytes_plain : (bytes : List ℕ) → IsPlain (flat_map shown_byte bytes)
+bytes_plain [] = refl
+bytes_plain (b ∷ bytes) = plain-append (shown_byte b) (flat_map shown_byte bytes) (byte_plain b) (bytes_plain bytes)
+
+whole_plain : (bytes : List ℕ) → IsPlain (shown_whole bytes)
+whole_plain [] = refl
+whole_plain (b ∷ []) = either (b == 32)
+  where
+    either : (is_space : Bool) → IsPlain (if is_space then in_digits b else shown_byte b)
+    either true = digits_plain b
+    either false = byte_plain b
+whole_plain (b ∷ next ∷ bytes) = plain-append (shown_byte b) (shown_whole (next ∷ bytes)) (byte_plain b) (whole_plain (next ∷ bytes))
+
+shown_plain : (bytes : List ℕ) (more : Bool) → IsPlain (shown bytes more)
+shown_plain bytes true = plain-append (flat_map shown_byte bytes) (codes " ..") (bytes_plain bytes) refl
+shown_plain bytes false = whole_plain bytes
+
+-- ---- the location of a line, and what is expected there
+
+location_plain : (at : Location) → IsPlain (location_words at)
+location_plain at.Version = refl
+location_plain at.Metric = refl
+location_plain at.Variables = refl
+location_plain (at.Variable n) = number n
+location_plain at.Groups = refl
+location_plain (at.Group n) = number n
+location_plain at.State = refl
+location_plain at.Goal = refl
+location_plain at.Operators = refl
+location_plain (at.Operator n) = number n
+location_plain at.Rules = refl
+location_plain (at.Rule n) = number n
+location_plain at.End = refl
+
+word_plain : (w : FixedWord) → IsPlain (word_bytes w)
+word_plain fixed.BeginVersion = refl
+word_plain fixed.EndVersion = refl
+word_plain fixed.BeginMetric = refl
+word_plain fixed.EndMetric = refl
+word_plain fixed.BeginVariable = refl
+word_plain fixed.EndVariable = refl
+word_plain fixed.BeginMutexGroup = refl
+word_plain fixed.EndMutexGroup = refl
+word_plain fixed.BeginState = refl
+word_plain fixed.EndState = refl
+word_plain fixed.BeginGoal = refl
+word_plain fixed.EndGoal = refl
+word_plain fixed.BeginOperator = refl
+word_plain fixed.EndOperator = refl
+word_plain fixed.BeginRule = refl
+word_plain fixed.EndRule = refl
+
+due_plain : (d : Due) → IsPlain (due_words d)
+due_plain (due.Word w) = word_plain w
+due_plain due.Name = refl
+due_plain (due.Number least most) = plain-append (decimal least ++ codes " to ") (decimal most) (number_then least (codes " to ") refl) (number most)
+due_plain due.Layer = refl
+due_plain due.Fact = refl
+due_plain due.Head = refl
+due_plain due.Effect = refl
+due_plain due.Nothing = refl
+
+plan_due_plain : (kind : Kind) → IsPlain (plan_due_words kind)
+plan_due_plain kinds.Name = refl
+plan_due_plain kinds.Shape = refl
+plan_due_plain kinds.Trailing = refl
+plan_due_plain kinds.Keyword = refl
+plan_due_plain kinds.End = refl
+plan_due_plain kinds.Value = refl
+plan_due_plain kinds.TooLong = refl
+plan_due_plain kinds.Read = refl
+plan_due_plain kinds.Memory = refl
+
+least_plain : (may_be_none : Bool) → IsPlain (least_words may_be_none)
+least_plain true = refl
+least_plain false = refl
+
+-- ---- each line
+
+pub file_lines_are_reasons : FileLinesAreReasons
+file_lines_are_reasons (At at) = two _ (location_plain at)
+file_lines_are_reasons (Expected d) = two _ (due_plain d)
+file_lines_are_reasons (ExpectedInPlan kind) = two _ (plan_due_plain kind)
+file_lines_are_reasons (NumberMustBe w) =
+    let range = least_words w.may_be_none ++ (codes " to " ++ decimal w.most) in
+    two _ (number_then w.word (codes " must be " ++ range) (plain-append (least_words w.may_be_none) (codes " to " ++ decimal w.most) (least_plain w.may_be_none) (number w.most)))
+file_lines_are_reasons (Found bytes more) = two _ (shown_plain bytes more)
+file_lines_are_reasons EmptyLine = two _ refl
+file_lines_are_reasons (Unfinished bytes more) = two _ (shown_plain bytes more)
+file_lines_are_reasons EndOfFile = two _ refl

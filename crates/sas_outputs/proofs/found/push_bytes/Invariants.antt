@@ -1,0 +1,9 @@
+use Rattle.std.proofs.Common.{◌≡◌, ◌++◌, take, flat_map}
+use Rattle.sas_outputs.specs.ShownBytes.{shown_byte}
+use Rattle.sas_outputs.proofs.found.push_bytes.Given as goal
+
+-- the bytes so far were appended as they are shown
+abbrev pub invariant-loop-byte : goal.invariant-loop-byte
+invariant-loop-byte l = record {
+  appended : l.out.items ≡ l.fn.out.items ++ flat_map shown_byte (take l.byte-index l.bytes);
+}

@@ -1,0 +1,14 @@
+use Rattle.std.proofs.Common.{arith, subst}
+use Rattle.sas_output.specs.Sink.{Pushes}
+use Rattle.sas_output.proofs.Pushing.{pushes_item}
+use Rattle.sas_outputs.proofs.Summaries.{goal_text, goal_all}
+use Rattle.sas_outputs.proofs.summary.push_goal.Goals as goal
+
+pub loop-fact-preserved : goal.loop-fact-preserved
+loop-fact-preserved g c =
+    pushes_item _ (goal_text c.args.outline.now.variables) _ _ _ _ _ _ c.loop-fact-test.true c.loop-fact.invariant c.push_fact.ensures
+
+pub returns : goal.returns
+returns g c =
+    let all = goal_all c.args.outline.now.variables _ _ (omega (arith, c.loop-fact-test.false)) in
+    rw c.as_slice-fact-items.ensures at (subst (Pushes g.W.Write.contents _ _) all c.loop-fact.invariant)

@@ -1,0 +1,87 @@
+-- Lines of the reasons why a file is refused.
+use Rattle.std.specs.Prelude.{ℕ, Bool, true, false, List, [], ◌∷◌, ◌++◌, codes, decimal}
+use Rattle.sas_reader.specs.declared.fault.Kind.{Kind}
+use Rattle.sas_reader.specs.declared.fault.Kind.TheVariants as kinds
+use Rattle.sas_output.specs.Words.{line}
+use Rattle.sas_task_format.specs.Marks.{word_bytes}
+use Rattle.sas_task_format.specs.declared.marks.Due.{Due}
+use Rattle.sas_task_format.specs.declared.marks.Due.TheVariants as due
+use Rattle.sas_task_format.specs.declared.marks.Location.{Location}
+use Rattle.sas_task_format.specs.declared.marks.Location.TheVariants as at
+use Rattle.sas_task_format.specs.declared.marks.WrongWord.{WrongWord}
+use Rattle.sas_outputs.specs.ShownBytes.{shown}
+
+-- a line as data
+pub data FileLine : Type 0 where
+  -- the location of the line in a task
+  At : Location → FileLine
+  -- what is expected there
+  Expected : Due → FileLine
+  -- what is expected in a plan at a fault of this kind
+  ExpectedInPlan : Kind → FileLine
+  -- the first wrong number, and which numbers are allowed
+  NumberMustBe : WrongWord → FileLine
+  -- the wrong line or the byte after the end: its first bytes, and whether more follow
+  Found : List ℕ → Bool → FileLine
+  -- the wrong line is empty
+  EmptyLine : FileLine
+  -- the unfinished last line: its first bytes, and whether more follow
+  Unfinished : List ℕ → Bool → FileLine
+  -- nothing follows the last line end
+  EndOfFile : FileLine
+
+-- the words for a location in a task
+abbrev pub location_words : Location → List ℕ
+location_words at.Version = codes "version"
+location_words at.Metric = codes "metric"
+location_words at.Variables = codes "variables"
+location_words (at.Variable n) = codes "variable " ++ decimal n
+location_words at.Groups = codes "groups"
+location_words (at.Group n) = codes "group " ++ decimal n
+location_words at.State = codes "state"
+location_words at.Goal = codes "goal"
+location_words at.Operators = codes "operators"
+location_words (at.Operator n) = codes "operator " ++ decimal n
+location_words at.Rules = codes "rules"
+location_words (at.Rule n) = codes "rule " ++ decimal n
+location_words at.End = codes "the end"
+
+-- the words for what is expected in a task
+abbrev pub due_words : Due → List ℕ
+due_words (due.Word w) = word_bytes w
+due_words due.Name = codes "a name"
+due_words (due.Number least most) = codes "number " ++ decimal least ++ codes " to " ++ decimal most
+due_words due.Layer = codes "number -1 to 2147483647"
+due_words due.Fact = codes "fact: VAR VALUE"
+due_words due.Head = codes "head: VAR OLD NEW"
+due_words due.Effect = codes "effect: COUNT, COUNT times VAR VALUE, VAR OLD NEW"
+due_words due.Nothing = codes "end of file"
+
+-- the words for what is expected in a plan, by the kind of its fault
+abbrev pub plan_due_words : Kind → List ℕ
+plan_due_words kinds.Name = codes "(NAME)"
+plan_due_words kinds.Shape = codes "; cost = N (unit cost) or ; cost = N (general cost)"
+plan_due_words kinds.Trailing = codes "end of file"
+plan_due_words _ = codes "(NAME) or ; cost = N (unit cost) or ; cost = N (general cost)"
+
+-- the least number that is allowed in place of a wrong one
+abbrev pub least_words : Bool → List ℕ
+least_words true = codes "-1"
+least_words false = codes "0"
+
+-- the bytes of a line, without its end
+abbrev pub file_line_bytes : FileLine → List ℕ
+file_line_bytes (At at) = line 2 (codes "at" ∷ location_words at ∷ [])
+file_line_bytes (Expected d) = line 2 (codes "expected" ∷ due_words d ∷ [])
+file_line_bytes (ExpectedInPlan kind) = line 2 (codes "expected" ∷ plan_due_words kind ∷ [])
+file_line_bytes (NumberMustBe w) =
+    line 2 (codes "number" ∷ decimal w.word ∷ codes "must be" ∷ least_words w.may_be_none
+    ∷ codes "to" ∷ decimal w.most ∷ [])
+file_line_bytes (Found bytes more) = line 2 (codes "found" ∷ shown bytes more ∷ [])
+file_line_bytes EmptyLine = line 2 (codes "empty line" ∷ [])
+file_line_bytes (Unfinished bytes more) = line 2 (codes "unfinished" ∷ shown bytes more ∷ [])
+file_line_bytes EndOfFile = line 2 (codes "end of file" ∷ [])
+
+-- the bytes of a line, with its end
+abbrev pub ended : FileLine → List ℕ
+ended l = file_line_bytes l ++ 10 ∷ []

@@ -1,0 +1,179 @@
+// The summary of a task, written as it is made: it may be far longer than the task.
+ghost use Rattle.std.specs.Prelude.{◌≡◌, ◌⊎◌, ◌↔◌, [], ◌∷◌, ◌++◌, false, Some, IfErr, IfOk, IsErrAnd, IsTrue, OnOk};
+ghost use Rattle.std.specs.Io.KnownBytes.{Appends};
+ghost use Rattle.sas_lines.specs.Lines.{text};
+ghost use Rattle.sas_output.specs.Ending.{EndsCounting, IsWrite};
+ghost use Rattle.sas_output.specs.Sink.{Pushes};
+ghost use Rattle.sas_outputs.specs.Summary as spec;
+ghost use Rattle.sas_outputs.specs.Summary.{summary_lines};
+
+use sas_flat::{Outline, Variables};
+use sas_lines::{Watched, push_number};
+use sas_output::{Indent, Pieces, Sink, Status, ToolFault, Word, Words};
+use std::alloc::{AllocError, Global};
+use std::io::Write;
+use std::marker::Model;
+
+/// The summary of a task with this outline.
+#[derive(Drop)]
+pub struct Summary {
+    outline: Outline,
+}
+
+impl Model for Summary {
+    ghost use Rattle.sas_flat.specs.declared.outline.Outline.{Outline};
+
+    ghost Value = { Outline };
+
+    ghost view = { λ s. s.outline };
+}
+
+impl Summary {
+    /// Returns the summary of a task with this outline.
+    pub fn new(outline: Outline) -> Summary
+        ensures { result ≡ outline }
+    {
+        Summary { outline }
+    }
+
+    /// Writes the lines of the summary, in pieces. Returns `Write` if a write fails, or `Memory` if out of memory. In the latter case
+    /// nothing was written. The device must not have failed before.
+    pub fn write<W: Write>(&self, alloc: Global, out: &mut Watched<W>) -> Result<Status, ToolFault>
+        requires { out.old.failed ≡ false }
+        ensures ends { EndsCounting
+            (λ output. output
+            ≡ Some (record { text = text (summary_lines self.now); status = Status.Yes }))
+            (Appends (W.contents out.old.device) (W.contents out.new.device)) result }
+        ensures nothing { IfErr result (λ e. IsWrite e
+            ⊎ ((e ≡ ToolFault.Memory) × (out.new ≡ out.old))) }
+        ensures writes { IsErrAnd result IsWrite ↔ IsTrue out.new.failed }
+    {
+        // What takes memory comes first.
+        let numbers = numbers_text(alloc, &self.outline)?;
+        let pieces = Pieces::new(alloc)?;
+        let mut sink = Sink::new(pieces, out);
+        push_summary(&mut sink, numbers.as_slice(), &self.outline);
+        let ended = sink.finish(Status::Yes);
+        let Sink {
+            out: device,
+            pieces,
+            short: _,
+        } = sink;
+        drop(pieces);
+        // No effect at run time. The proof reads what `out` holds from this use of `device`.
+        let _ = &*device;
+        ended
+    }
+}
+
+/// Adds these lines of numbers and the other lines of the summary.
+fn push_summary<W: Write>(sink: &mut Sink<'_, W>, numbers: &[u8], outline: &Outline)
+    ensures { Pushes W.contents sink.old sink.new
+        (numbers.now ++ text (spec.initial_lines outline.now.variables outline.now.init)
+        ++ text (spec.goal_fact_lines outline.now.variables outline.now.goal)) }
+{
+    sink.push(numbers);
+    push_state(sink, outline);
+    push_goal(sink, outline);
+}
+
+/// Returns the lines with the task's numbers, each ended by LF.
+fn numbers_text(alloc: Global, outline: &Outline) -> Result<Vec<u8>, AllocError>
+    ensures { IfOk result (λ t. t.items ≡ text (spec.number_lines outline.now)) }
+{
+    let mut text = Vec::new(alloc);
+    push_number_line(&mut text, b"metric", u128::from(outline.metric))?;
+    push_number_line(&mut text, b"variables", outline.variables.len() as u128)?;
+    push_number_line(
+        &mut text,
+        b"derived",
+        derived_count(&outline.variables) as u128,
+    )?;
+    push_number_line(&mut text, b"groups", u128::from(outline.groups))?;
+    push_number_line(&mut text, b"operators", u128::from(outline.operators))?;
+    push_number_line(&mut text, b"rules", u128::from(outline.rules))?;
+    Ok(text)
+}
+
+/// Appends the line with a word and a number.
+fn push_number_line(out: &mut Vec<u8>, word: &[u8], n: u128) -> Result<(), AllocError>
+    ensures { OnOk result (out.new.items ≡ out.old.items
+        ++ (spec.number_line word.now n ++ 10 ∷ [])) }
+{
+    out.extend_from_slice(word)?;
+    out.push(b' ')?;
+    push_number(out, n)?;
+    out.push(b'\n')?;
+    Ok(())
+}
+
+/// Returns how many of the variables are derived.
+fn derived_count(variables: &Variables) -> usize
+    ensures { result ≡ spec.derived_count variables.now }
+{
+    let mut count = 0;
+    for var in 0..variables.len() {
+        if variables.layer(var).is_some() {
+            count += 1;
+        }
+    }
+    count
+}
+
+/// The number of a variable, and one of its values.
+#[derive(Clone, Copy)]
+struct Valued {
+    var: usize,
+    value: u32,
+}
+
+/// Adds a line for each variable: its value in the state section.
+fn push_state<W: Write>(sink: &mut Sink<'_, W>, outline: &Outline)
+    ensures { Pushes W.contents sink.old sink.new
+        (text (spec.initial_lines outline.now.variables outline.now.init)) }
+{
+    for (var, value) in outline.init.as_slice().iter().enumerate() {
+        let valued = Valued { var, value: *value };
+        push_fact(sink, b"initial", outline, valued);
+    }
+}
+
+/// Adds a line for each fact of the goal.
+fn push_goal<W: Write>(sink: &mut Sink<'_, W>, outline: &Outline)
+    ensures { Pushes W.contents sink.old sink.new
+        (text (spec.goal_fact_lines outline.now.variables outline.now.goal)) }
+{
+    for fact in outline.goal.as_slice() {
+        let valued = Valued {
+            var: fact.var as usize,
+            value: fact.value,
+        };
+        push_fact(sink, b"goal", outline, valued);
+    }
+}
+
+/// Adds the line of a word and a fact, with the name of the fact's value. A fact that doesn't exist has no line.
+fn push_fact<W: Write>(sink: &mut Sink<'_, W>, word: &[u8], outline: &Outline, valued: Valued)
+    ensures { Pushes W.contents sink.old sink.new
+        (text (spec.fact_lines word.now outline.now.variables valued.var valued.value)) }
+{
+    let variables = &outline.variables;
+    if let Some(name) = variables.value_name(valued.var, valued.value as usize) {
+        push_fact_line(sink, word, valued, name);
+    }
+}
+
+/// Adds the line of a word, a variable, its value and the value's name.
+fn push_fact_line<W: Write>(sink: &mut Sink<'_, W>, word: &[u8], valued: Valued, name: &[u8])
+    ensures { Pushes W.contents sink.old sink.new
+        (spec.fact_line word.now valued.var valued.value name.now ++ 10 ∷ []) }
+{
+    let var = Word::Number(valued.var as u64);
+    let value = Word::Number(valued.value as u64);
+    let rest = [var, value, Word::Text(name)];
+    sink.push_line(Words {
+        indent: Indent::None,
+        first: word,
+        rest: &rest,
+    });
+}

@@ -1,8 +1,0 @@
-use Rattle.std.proofs.Common.{take, flat_map}
-use Rattle.sas_output.specs.Sink.{Pushes}
-use Rattle.sas_summary.proofs.Summaries.{goal_text}
-use Rattle.sas_summary.proofs.summary.push_goal.Given as goal
-
--- the lines of the facts so far were pushed
-abbrev pub invariant-loop-fact : goal.invariant-loop-fact
-invariant-loop-fact g l = Pushes g.W.Write.contents l.fn.sink l.sink (flat_map (goal_text l.outline.variables) (take l.fact-index l.fact-items))

@@ -1,6 +1,0 @@
-//! Writes the summary of a task, in pieces.
-#![tactic(auto)]
-
-mod summary;
-
-pub use summary::Summary;

@@ -1,0 +1,233 @@
+-- An operator doesn't preserve a group if and only if it has a failure. Then it has exactly one
+-- first failure.
+use Rattle.std.proofs.Common.{◌≡◌, ℕ, ◌<◌, ◌⊎◌, List, [], ◌∷◌, length, Some, refl, sym, ◌∙◌, ap, subst, inl, inr}
+use Rattle.std.proofs.lemmas.Bool.{cases_order}
+use Rattle.std.proofs.lemmas.Option.{slice_get-get_or}
+use Rattle.std.specs.List.{Contains}
+use Rattle.std.specs.Prelude.{slice_get}
+use Rattle.sas_core.specs.declared.parts.Fact.{Fact}
+use Rattle.sas_core.specs.declared.parts.Operator.{Operator}
+use Rattle.sas_core.specs.Grounded.{effect_at}
+use Rattle.sas_groups.specs.Clashes.{Keeps, sets}
+use Rattle.sas_groups.specs.Checks.{NotBoth, IsGone}
+use Rattle.sas_groups.specs.Lists.{known}
+use Rattle.sas_groups.proofs.GreatestFamily.{clash_more}
+use Rattle.sas_mutex.specs.Effects.{EffectKeeps}
+use Rattle.sas_mutex.proofs.Keeping.{keeps_from_effects, effect_of_keeps}
+use Rattle.sas_task_reasons.specs.declared.reason.Failure.{Failure}
+use Rattle.sas_task_reasons.specs.declared.reason.Failure.TheVariants.{SetsTwo, MayStay}
+use Rattle.sas_task_reasons.specs.Failures.{effect_of, FailsSo, Fails, IsEarlier, ComesBefore, IsFirstFailure}
+use Rattle.sas_task_reasons.specs.Lowest.{IsFirstOfEffect}
+use Rattle.sas_task_reasons.proofs.Least.{all_below, IsLeast, none_at_all, has_or_not, item_at}
+
+module _ (Counts : List Fact → Type 0) (o : Operator) (group : List Fact) where
+  -- ---- what is kept doesn't fail
+
+  -- an effect that keeps the group has no failure
+  kept_so : (failure : Failure) → EffectKeeps Counts o group (effect_at o (effect_of failure)) → FailsSo Counts o group failure → ⊥
+  kept_so (SetsTwo effect other) keeps (within, two) = two.no_clash (keeps.single other within two.sets_other two.differ)
+  kept_so (MayStay effect place) keeps (fact, here, lets) = elim (keeps.others fact (item_at group place fact here) lets.differ) [
+    | inl clash ↦ lets.no_clash clash
+    | inr removed ↦ lets.stays removed
+  ]
+
+  -- the effect of a failure sets a fact of the group
+  pub sets_one : (failure : Failure) → FailsSo Counts o group failure → Contains group (sets (effect_at o (effect_of failure)))
+  sets_one (SetsTwo effect other) (within, two) = two.sets_one
+  sets_one (MayStay effect place) (fact, here, lets) = lets.sets_one
+
+  pub kept_never_fails : (failure : Failure) → EffectKeeps Counts o group (effect_at o (effect_of failure)) → Fails Counts o group failure → ⊥
+  kept_never_fails failure keeps fails = kept_so failure keeps fails.so
+
+  pub fails_not_kept : (failure : Failure) → Fails Counts o group failure → Keeps Counts o group → ⊥
+  fails_not_kept failure fails keeps = kept_never_fails failure
+      (effect_of_keeps Counts o group keeps (effect_of failure) fails.exists (sets_one failure fails.so)) fails
+
+  -- ---- what isn't kept fails
+
+  -- effects that may set two facts of the group
+  pub two_fails : (effect other : ℕ) → effect < length o.effects → other < length o.effects → Contains group (sets (effect_at o effect))
+      → (NotBoth Counts o group (effect_at o effect) (effect_at o other) → ⊥) → Fails Counts o group (SetsTwo effect other)
+  two_fails effect other lt lt' has may = elim (has_or_not group (sets (effect_at o other))) [
+    | inl has' ↦ record {
+      exists = lt;
+      so = (lt', record { sets_one = has; sets_other = has'; differ = λ same. may (λ h ne. absurd (ne same)); no_clash = λ clash. may (λ h ne. clash) });
+    }
+    | inr none ↦ absurd (may (λ h ne. absurd (none h)))
+  ]
+
+  -- a fact that may stay
+  pub stay_fails : (effect place : ℕ) (fact : Fact) → effect < length o.effects → Contains group (sets (effect_at o effect)) → slice_get group place ≡ Some fact
+      → (IsGone Counts o (effect_at o effect) fact → ⊥) → Fails Counts o group (MayStay effect place)
+  stay_fails effect place fact lt has here stays = record {
+    exists = lt;
+    so = (fact, here, record { sets_one = has; differ = λ same. stays (λ ne. absurd (ne same)); no_clash = λ clash. stays (λ ne. inl clash); stays = λ removed. stays (λ ne. inr removed) });
+  }
+
+  module _ (none : (failure : Failure) → Fails Counts o group failure → ⊥) where
+    -- then an effect that sets a fact of the group can't but keep it
+    effect_keeps : (effect : ℕ) → effect < length o.effects → Contains group (sets (effect_at o effect))
+        → (EffectKeeps Counts o group (effect_at o effect) → ⊥) → ⊥
+    effect_keeps effect lt has not =
+        all_below (length o.effects) (λ other. NotBoth Counts o group (effect_at o effect) (effect_at o other))
+        (λ other lt' may. none (SetsTwo effect other) (two_fails effect other lt lt' has may))
+        (λ single. all_below (length group) (λ place. (fact : Fact) → slice_get group place ≡ Some fact → IsGone Counts o (effect_at o effect) fact)
+        (λ place within stays. stays (λ fact here ne. absurd (none (MayStay effect place) (later place fact here stays))))
+        (λ gone. not (record {
+          single = single;
+          others = λ f among. gone among.0 among.1 f (slice_get-get_or group among.0 f among.1 ∙ ap (λ (y : Fact). Some y) among.2);
+        })))
+      where
+        later : (place : ℕ) (fact : Fact) → slice_get group place ≡ Some fact
+            → (((f : Fact) → slice_get group place ≡ Some f → IsGone Counts o (effect_at o effect) f) → ⊥) → Fails Counts o group (MayStay effect place)
+        later place fact here stays = stay_fails effect place fact lt has here (λ gone. stays (λ f here'.
+            subst (λ (x : Fact). IsGone Counts o (effect_at o effect) x) (same here here') gone))
+          where
+            same : {f : Fact} → slice_get group place ≡ Some fact → slice_get group place ≡ Some f → fact ≡ f
+            same h h' = cc
+
+    all_keep : (Keeps Counts o group → ⊥) → ⊥
+    all_keep not = all_below (length o.effects) (λ effect. Contains group (sets (effect_at o effect)) → EffectKeeps Counts o group (effect_at o effect))
+        (λ effect lt not_kept. elim (has_or_not group (sets (effect_at o effect))) [
+          | inl has ↦ effect_keeps effect lt has (λ keeps. not_kept (λ h. keeps))
+          | inr has_not ↦ not_kept (λ h. absurd (has_not h))
+        ])
+        (λ each. not (keeps_from_effects Counts o group each))
+
+  -- ---- the first failure
+
+  -- failures of one effect are those with another effect and those with a fact
+  abbrev Of : ℕ → Type 0
+  Of effect = (failure : Failure) × (effect_of failure ≡ effect) × Fails Counts o group failure
+
+  module _ (no_first : (failure : Failure) → IsFirstFailure Counts o group failure → ⊥) where
+    module _ (effect : ℕ) (none_below : (lower : ℕ) → lower < effect → Of lower → ⊥) where
+      no_two : (other : ℕ) → Fails Counts o group (SetsTwo effect other) → ⊥
+      no_two = none_at_all (λ other. Fails Counts o group (SetsTwo effect other)) (λ other least.
+          no_first (SetsTwo effect other) (record { fails = least.has; first = λ x before fails. earlier other least x before fails }))
+        where
+          earlier : (other : ℕ) → IsLeast (λ n. Fails Counts o group (SetsTwo effect n)) other → (x : Failure) → ComesBefore x (SetsTwo effect other)
+              → Fails Counts o group x → ⊥
+          earlier other least x (inl lower) fails = none_below (effect_of x) lower (x, refl, fails)
+          earlier other least (SetsTwo effect' other') (inr (same, lt)) fails =
+              least.none_below other' lt (subst (λ n. Fails Counts o group (SetsTwo n other')) same fails)
+          earlier other least (MayStay effect' place) (inr (same, never)) fails = never
+
+      no_stay : (place : ℕ) → Fails Counts o group (MayStay effect place) → ⊥
+      no_stay = none_at_all (λ place. Fails Counts o group (MayStay effect place)) (λ place least.
+          no_first (MayStay effect place) (record { fails = least.has; first = λ x before fails. earlier place least x before fails }))
+        where
+          earlier : (place : ℕ) → IsLeast (λ n. Fails Counts o group (MayStay effect n)) place → (x : Failure) → ComesBefore x (MayStay effect place)
+              → Fails Counts o group x → ⊥
+          earlier place least x (inl lower) fails = none_below (effect_of x) lower (x, refl, fails)
+          earlier place least (SetsTwo effect' other) (inr (same, first)) fails = no_two other (subst (λ n. Fails Counts o group (SetsTwo n other)) same fails)
+          earlier place least (MayStay effect' place') (inr (same, lt)) fails =
+              least.none_below place' lt (subst (λ n. Fails Counts o group (MayStay n place')) same fails)
+
+      none_of : (failure : Failure) → effect_of failure ≡ effect → Fails Counts o group failure → ⊥
+      none_of (SetsTwo effect' other) same fails = no_two other (subst (λ n. Fails Counts o group (SetsTwo n other)) same fails)
+      none_of (MayStay effect' place) same fails = no_stay place (subst (λ n. Fails Counts o group (MayStay n place)) same fails)
+
+    none_fails : (failure : Failure) → Fails Counts o group failure → ⊥
+    none_fails failure fails = none_at_all Of (λ effect least. none_of effect least.none_below least.has.0 least.has.1 least.has.2)
+        (effect_of failure) (failure, refl, fails)
+
+  -- the first one of its effect is the first one of all where the effects below have none
+  pub first_of_all : (effect : ℕ) (failure : Failure) → IsFirstOfEffect Counts o group effect failure
+      → ((other : Failure) → effect_of other < effect → Fails Counts o group other → ⊥) → IsFirstFailure Counts o group failure
+  first_of_all effect failure first none = record {
+    fails = first.fails;
+    first = λ other before fails. elim before [
+      | inl lower ↦ none other (subst (λ n. effect_of other < n) first.of lower) fails
+      | inr (same, earlier) ↦ first.first other (same ∙ first.of) earlier fails
+    ];
+  }
+
+  -- an operator that doesn't keep the group can't be without a failure, nor without a first one
+  pub some_failure : (Keeps Counts o group → ⊥) → ((failure : Failure) → Fails Counts o group failure → ⊥) → ⊥
+  some_failure not none = all_keep none not
+
+  pub some_first : (Keeps Counts o group → ⊥) → ((failure : Failure) → IsFirstFailure Counts o group failure → ⊥) → ⊥
+  some_first not no_first = all_keep (none_fails no_first) not
+
+-- ---- one comes before the other
+
+-- of one effect
+compare_of : (a b : Failure) → effect_of a ≡ effect_of b → (a ≡ b) ⊎ (IsEarlier a b ⊎ IsEarlier b a)
+compare_of (SetsTwo effect other) (SetsTwo effect' other') same = elim (cases_order other other') [
+  | inl is ↦ inl (ap (λ (n : ℕ). SetsTwo n other) same ∙ ap (λ (n : ℕ). SetsTwo effect' n) is)
+  | inr differ ↦ inr differ
+]
+compare_of (SetsTwo effect other) (MayStay effect' place) same = inr (inl tt)
+compare_of (MayStay effect place) (SetsTwo effect' other) same = inr (inr tt)
+compare_of (MayStay effect place) (MayStay effect' place') same = elim (cases_order place place') [
+  | inl is ↦ inl (ap (λ (n : ℕ). MayStay n place) same ∙ ap (λ (n : ℕ). MayStay effect' n) is)
+  | inr differ ↦ inr differ
+]
+
+compare : (a b : Failure) → (a ≡ b) ⊎ (ComesBefore a b ⊎ ComesBefore b a)
+compare a b = elim (cases_order (effect_of a) (effect_of b)) [
+  | inl same ↦ elim (compare_of a b same) [
+    | inl is ↦ inl is
+    | inr differ ↦ elim differ [
+      | inl earlier ↦ inr (inl (inr (same, earlier)))
+      | inr later ↦ inr (inr (inr (sym same, later)))
+    ]
+  ]
+  | inr differ ↦ elim differ [
+    | inl lower ↦ inr (inl (inl lower))
+    | inr higher ↦ inr (inr (inl higher))
+  ]
+]
+
+pub one_first : (Counts : List Fact → Type 0) (o : Operator) (group : List Fact) (a b : Failure)
+    → IsFirstFailure Counts o group a → IsFirstFailure Counts o group b → a ≡ b
+one_first Counts o group a b first first' = elim (compare a b) [
+  | inl is ↦ is
+  | inr differ ↦ elim differ [
+    | inl before ↦ absurd (first'.first a before first.fails)
+    | inr behind ↦ absurd (first.first b behind first'.fails)
+  ]
+]
+
+-- ---- where the same groups count, the same failures are there
+
+module _ (Counts Others : List Fact → Type 0) (o : Operator) (group : List Fact) (fewer : (g : List Fact) → Others g → Counts g) where
+  fails_so_too : (failure : Failure) → FailsSo Counts o group failure → FailsSo Others o group failure
+  fails_so_too (SetsTwo effect other) (within, two) = (
+    within,
+    record {
+      sets_one = two.sets_one;
+      sets_other = two.sets_other;
+      differ = two.differ;
+      no_clash = λ clash. two.no_clash (clash_more Others Counts (known o (effect_at o effect).conditions (effect_at o other).conditions) fewer clash);
+    },
+  )
+  fails_so_too (MayStay effect place) (fact, here, lets) = (
+    fact,
+    here,
+    record {
+      sets_one = lets.sets_one;
+      differ = lets.differ;
+      no_clash = λ clash. lets.no_clash (clash_more Others Counts (known o (effect_at o effect).conditions (fact ∷ [])) fewer clash);
+      stays = lets.stays;
+    },
+  )
+
+  pub fails_too : (failure : Failure) → Fails Counts o group failure → Fails Others o group failure
+  fails_too failure fails = record { exists = fails.exists; so = fails_so_too failure fails.so }
+
+module _ (Counts Others : List Fact → Type 0) (o : Operator) (group : List Fact)
+    (more : (g : List Fact) → Counts g → Others g) (fewer : (g : List Fact) → Others g → Counts g) where
+  pub first_too : (failure : Failure) → IsFirstFailure Counts o group failure → IsFirstFailure Others o group failure
+  first_too failure first = record {
+    fails = fails_too Counts Others o group fewer failure first.fails;
+    first = λ other before fails. first.first other before (fails_too Others Counts o group more other fails);
+  }
+
+  pub first_of_effect_too : (effect : ℕ) (failure : Failure) → IsFirstOfEffect Counts o group effect failure → IsFirstOfEffect Others o group effect failure
+  first_of_effect_too effect failure first = record {
+    of = first.of;
+    fails = fails_too Counts Others o group fewer failure first.fails;
+    first = λ other of earlier fails. first.first other of earlier (fails_too Others Counts o group more other fails);
+  }

@@ -1,0 +1,52 @@
+-- The groups with the joint verdict `Exclusive` are the greatest family.
+use Rattle.std.proofs.Common.{◌≡◌, ℕ, ◌<◌, Bool, List, length, refl, subst}
+use Rattle.std.specs.Prelude.{◌↔◌, IsTrue}
+use Rattle.sas_core.specs.declared.parts.Parts.{Parts}
+use Rattle.sas_core.specs.Grounded.{operator_at, group_at}
+use Rattle.sas_groups.specs.declared.verdict.Verdict.{Verdict}
+use Rattle.sas_groups.specs.declared.verdict.Verdict.TheVariants.{Exclusive, Derived, Initial, Broken}
+use Rattle.sas_groups.specs.Clashes.{Keeps}
+use Rattle.sas_groups.specs.Families.{IsIn, IsGroupOf, IsGroupOfOr, IsKeptJointly, IsGreatest}
+use Rattle.sas_groups.specs.Verdicts.{IsJointVerdict}
+use Rattle.sas_groups.proofs.GreatestFamily.{keeps_more, all_keep_more, group_of_larger}
+use Rattle.sas_groups.specs.Kept.{family_of}
+use Rattle.sas_groups.specs.Joint.{verdict_at, AreJointVerdicts}
+use Rattle.sas_groups.proofs.JointVerdicts.{same_or_itself}
+
+module _ (p : Parts) (verdicts : List Verdict) (kept : List Bool) (joint : AreJointVerdicts p verdicts)
+    (exclusive : (place : ℕ) → place < length p.groups → IsTrue (family_of kept place) ↔ (verdict_at verdicts place ≡ Exclusive)) where
+  -- a group of a family that is kept jointly is exclusive by its verdict
+  verdict_in : (other : ℕ → Bool) → IsKeptJointly p other → (place : ℕ) → IsIn p other place → (verdict : Verdict) → IsJointVerdict p place verdict → verdict ≡ Exclusive
+  verdict_in other jointly place among Exclusive is = refl
+  verdict_in other jointly place among Derived is = absurd (is (jointly.may place among).basic)
+  verdict_in other jointly place among Initial is = absurd (is.1 (jointly.may place among).initial)
+  verdict_in other jointly place among (Broken operator) (family, greatest, outside, basic, initial, first) =
+      absurd (outside (greatest.greatest other jointly place among))
+
+  has_all : (other : ℕ → Bool) → IsKeptJointly p other → (place : ℕ) → IsIn p other place → IsIn p (family_of kept) place
+  has_all other jointly place among = record {
+    exists = among.exists;
+    chosen = (exclusive place among.exists).1 (verdict_in other jointly place among (verdict_at verdicts place) (joint.are place among.exists));
+  }
+
+  -- each group that is chosen is one of a greatest family
+  of_greatest : (place : ℕ) → IsIn p (family_of kept) place → IsJointVerdict p place Exclusive
+  of_greatest place among = subst (IsJointVerdict p place) ((exclusive place among.exists).0 among.chosen) (joint.are place among.exists)
+
+  kept_jointly : IsKeptJointly p (family_of kept)
+  kept_jointly = record {
+    may = λ place among. (let (family, greatest, there) = of_greatest place among in greatest.jointly.may place there);
+    kept = λ place among. (let (family, greatest, there) = of_greatest place among in
+        all_keep_more p (IsGroupOf p family) (IsGroupOf p (family_of kept)) (group_at p place)
+        (group_of_larger p family (family_of kept) (has_all family greatest.jointly)) (greatest.jointly.kept place there));
+  }
+
+  pub exclusive_is_greatest : IsGreatest p (family_of kept)
+  exclusive_is_greatest = record { jointly = kept_jointly; greatest = has_all }
+
+-- an operator that breaks the group doesn't keep it under any greatest family and itself
+pub breaks_under : (p : Parts) (family : ℕ → Bool) (place operator : ℕ) → IsGreatest p family → IsJointVerdict p place (Broken operator)
+    → Keeps (IsGroupOfOr p family (group_at p place)) (operator_at p operator) (group_at p place) → ⊥
+breaks_under p family place operator greatest (other, greatest', outside, basic, initial, first) keeps =
+    first.breaks (keeps_more (IsGroupOfOr p family (group_at p place)) (IsGroupOfOr p other (group_at p place)) (operator_at p operator) (group_at p place)
+    (same_or_itself p family other (group_at p place) greatest greatest') keeps)

@@ -1,0 +1,231 @@
+-- The reasons after each effect and each operator.
+use Rattle.std.proofs.Common.{◌≡◌, ℕ, ◌+◌, ◌<◌, Bool, List, [], ◌∷◌, ◌++◌, length, set, Option, None, Some, refl, sym, ◌∙◌, ap, subst, inl, inr, arith}
+use Rattle.std.proofs.lemmas.Bool.{cases_eq}
+use Rattle.std.proofs.lemmas.List.{length_push, get_or_push, get_or_append_left, length-set, get_or-set_same, get_or-set_other}
+use Rattle.std.specs.List.{Contains}
+use Rattle.std.specs.Prelude.{IsTrue}
+use Rattle.sas_core.specs.declared.parts.Parts.{Parts}
+use Rattle.sas_core.specs.Grounded.{operator_at, effect_at, group_at}
+use Rattle.sas_groups.specs.declared.verdict.Verdict.{Verdict}
+use Rattle.sas_groups.specs.declared.verdict.Verdict.TheVariants.{Exclusive, Derived, Initial, Broken}
+use Rattle.sas_groups.specs.Clashes.{sets}
+use Rattle.sas_groups.specs.Families.{IsGroupOfOr, IsGreatest}
+use Rattle.sas_groups.specs.Verdicts.{IsJointVerdict}
+use Rattle.sas_groups.specs.Index.{HasFact}
+use Rattle.sas_groups.specs.Kept.{family_of}
+use Rattle.sas_mutex.specs.Effects.{KeepsWithItself}
+use Rattle.sas_groups.specs.Joint.{verdict_at, AreJointVerdicts}
+use Rattle.sas_mutex.proofs.Keeping.{keeps_from_effects}
+use Rattle.sas_task_reasons.specs.declared.reason.Failure.{Failure}
+use Rattle.sas_task_reasons.specs.declared.reason.Reason.{Reason}
+use Rattle.sas_task_reasons.specs.declared.reason.Reason.TheVariants.{Breaks}
+use Rattle.sas_task_reasons.specs.Failures.{effect_of}
+use Rattle.sas_task_reasons.specs.Lowest.{IsFirstOfEffect}
+use Rattle.sas_task_reasons.specs.GroupReasons.{IsReason, IsReasonIfAny, reason_at, AreReasons}
+use Rattle.sas_task_reasons.specs.Telling.{KeptBelow, IsPending, IsReasonSoFar, AreReasonsSoFar, IsAsked, IsBroken}
+use Rattle.sas_task_reasons.proofs.Least.{has_or_not}
+use Rattle.sas_task_reasons.proofs.Failing.{sets_one, kept_never_fails, first_of_all}
+use Rattle.sas_task_reasons.proofs.GreatestOfVerdicts.{breaks_under}
+
+-- ---- the first reasons
+
+-- those of the first groups
+pub record FirstUpTo (p : Parts) (n : ℕ) (verdicts : List Verdict) (reasons : List (Option Reason)) : Type 0 where
+  pub one_each : length reasons ≡ n
+  pub are : (place : ℕ) → place < n → (kept : List Bool) → IsReasonSoFar p kept 0 0 place (verdict_at verdicts place) (reason_at reasons place)
+
+module _ (p : Parts) (verdicts : List Verdict) where
+  pub first_none : FirstUpTo p 0 verdicts []
+  first_none = record { one_each = refl; are = λ place lt. absurd (omega arith) }
+
+  pub first_more : (n : ℕ) (reasons : List (Option Reason)) (reason : Option Reason) → FirstUpTo p n verdicts reasons
+      → ((kept : List Bool) → IsReasonSoFar p kept 0 0 n (verdict_at verdicts n) reason) → FirstUpTo p (n + 1) verdicts (reasons ++ reason ∷ [])
+  first_more n reasons reason first is = record {
+    one_each = length_push reasons reason ∙ ap (λ i. i + 1) first.one_each;
+    are = λ place lt kept. elim (cases_eq place n) [
+      | inl e ↦ subst (λ i. IsReasonSoFar p kept 0 0 i (verdict_at verdicts i) (reason_at (reasons ++ reason ∷ []) i)) (sym e)
+          (subst (IsReasonSoFar p kept 0 0 n (verdict_at verdicts n)) (sym (get_or_push reasons reason None n first.one_each)) (is kept))
+      | inr ne ↦ subst (IsReasonSoFar p kept 0 0 place (verdict_at verdicts place))
+          (sym (get_or_append_left reasons (reason ∷ []) None place (let len = first.one_each in omega arith))) (first.are place (omega arith) kept)
+    ];
+  }
+
+  pub first_all : (n : ℕ) (reasons : List (Option Reason)) → n ≡ length p.groups → FirstUpTo p n verdicts reasons
+      → (kept : List Bool) → AreReasonsSoFar p kept 0 0 verdicts reasons
+  first_all n reasons all first kept = record {
+    one_each = first.one_each ∙ all;
+    are = λ place lt. first.are place (omega arith) kept;
+  }
+
+-- ---- the reasons so far
+
+module _ (p : Parts) (kept : List Bool) where
+  -- what is pending, said again further on
+  pending_by : (operator effect operator' effect' place : ℕ) (verdict : Verdict)
+      → ((breaking : ℕ) → verdict ≡ Broken breaking → IsPending p kept operator effect place (Broken breaking) → IsPending p kept operator' effect' place (Broken breaking))
+      → IsPending p kept operator effect place verdict → IsPending p kept operator' effect' place verdict
+  pending_by operator effect operator' effect' place Exclusive more is = is
+  pending_by operator effect operator' effect' place Derived more is = is
+  pending_by operator effect operator' effect' place Initial more is = is
+  pending_by operator effect operator' effect' place (Broken breaking) more is = more breaking refl is
+
+  -- a reason is told for good
+  pub so_far_by : (operator effect operator' effect' place : ℕ) (verdict : Verdict) (reason : Option Reason)
+      → ((breaking : ℕ) → reason ≡ None → verdict ≡ Broken breaking → IsPending p kept operator effect place (Broken breaking)
+      → IsPending p kept operator' effect' place (Broken breaking))
+      → IsReasonSoFar p kept operator effect place verdict reason → IsReasonSoFar p kept operator' effect' place verdict reason
+  so_far_by operator effect operator' effect' place verdict None more is =
+      pending_by operator effect operator' effect' place verdict (λ breaking. more breaking refl) is
+  so_far_by operator effect operator' effect' place verdict (Some reason) more is = is
+
+  -- an effect that keeps the group, or sets no fact of it
+  pub kept_more : (operator effect place : ℕ)
+      → (Contains (group_at p place) (sets (effect_at (operator_at p operator) effect)) → KeepsWithItself p kept operator effect place)
+      → KeptBelow p kept operator effect place → KeptBelow p kept operator (effect + 1) place
+  kept_more operator effect place keeps below = record {
+    keeps = λ lower lt has. elim (cases_eq lower effect) [
+      | inl e ↦ subst (λ i. KeepsWithItself p kept operator i place) (sym e)
+          (keeps (subst (λ i. Contains (group_at p place) (sets (effect_at (operator_at p operator) i))) e has))
+      | inr ne ↦ below.keeps lower (omega arith) has
+    ];
+  }
+
+  -- such an effect leaves pending what was
+  pub pending_more : (operator effect place : ℕ) (verdict : Verdict) (reason : Option Reason)
+      → (Contains (group_at p place) (sets (effect_at (operator_at p operator) effect)) → KeepsWithItself p kept operator effect place)
+      → IsReasonSoFar p kept operator effect place verdict reason → IsReasonSoFar p kept operator (effect + 1) place verdict reason
+  pending_more operator effect place verdict reason keeps = so_far_by operator effect operator (effect + 1) place verdict reason
+      (λ breaking untold is pending. (pending.0, λ same. kept_more operator effect place keeps (pending.1 same)))
+
+  pub next_effect : (operator effect : ℕ) (verdicts : List Verdict) (reasons : List (Option Reason))
+      → ((place : ℕ) → HasFact p place (sets (effect_at (operator_at p operator) effect))
+      → IsReasonSoFar p kept operator (effect + 1) place (verdict_at verdicts place) (reason_at reasons place))
+      → AreReasonsSoFar p kept operator effect verdicts reasons → AreReasonsSoFar p kept operator (effect + 1) verdicts reasons
+  next_effect operator effect verdicts reasons told so_far = record {
+    one_each = so_far.one_each;
+    are = λ place lt. elim (has_or_not (group_at p place) (sets (effect_at (operator_at p operator) effect))) [
+      | inl has ↦ told place (record { exists = lt; among = has })
+      | inr has_not ↦ pending_more operator effect place (verdict_at verdicts place) (reason_at reasons place) (λ has. absurd (has_not has)) (so_far.are place lt)
+    ];
+  }
+
+  -- where no reason is asked for, the operator leaves pending what was
+  pub not_asked : (operator effect place : ℕ) (verdicts : List Verdict) (reasons : List (Option Reason)) → (IsAsked operator verdicts reasons place → ⊥)
+      → IsReasonSoFar p kept operator effect place (verdict_at verdicts place) (reason_at reasons place)
+      → IsReasonSoFar p kept operator (effect + 1) place (verdict_at verdicts place) (reason_at reasons place)
+  not_asked operator effect place verdicts reasons not = so_far_by operator effect operator (effect + 1) place (verdict_at verdicts place) (reason_at reasons place)
+      (λ breaking untold is pending. (pending.0, λ same. absurd (not (record { breaks = is ∙ ap (λ (n : ℕ). Broken n) same; untold = untold }))))
+
+  -- one reason is told
+  pub one_told : (operator effect place : ℕ) (verdicts : List Verdict) (reasons : List (Option Reason)) (reason : Reason) → place < length p.groups
+      → AreReasonsSoFar p kept operator effect verdicts reasons → IsReason p place (verdict_at verdicts place) reason
+      → AreReasonsSoFar p kept operator effect verdicts (set reasons place (Some reason))
+  one_told operator effect place verdicts reasons reason exists so_far is = record {
+    one_each = length-set reasons place (Some reason) ∙ so_far.one_each;
+    are = λ n lt. elim (cases_eq n place) [
+      | inl e ↦ subst (λ i. IsReasonSoFar p kept operator effect i (verdict_at verdicts i) (reason_at (set reasons place (Some reason)) i)) (sym e)
+          (subst (IsReasonSoFar p kept operator effect place (verdict_at verdicts place))
+          (sym (get_or-set_same reasons place (Some reason) None (let len = so_far.one_each in omega arith))) is)
+      | inr ne ↦ subst (IsReasonSoFar p kept operator effect n (verdict_at verdicts n)) (sym (get_or-set_other reasons place n (Some reason) None ne)) (so_far.are n lt)
+    ];
+  }
+
+  -- what is asked for is pending
+  pub asked_pending : (operator effect place : ℕ) (verdicts : List Verdict) (reasons : List (Option Reason)) → IsAsked operator verdicts reasons place
+      → IsReasonSoFar p kept operator effect place (verdict_at verdicts place) (reason_at reasons place) → KeptBelow p kept operator effect place
+  asked_pending operator effect place verdicts reasons asked is =
+      let pending : IsPending p kept operator effect place (Broken operator) = subst (IsPending p kept operator effect place) asked.breaks
+      (subst (IsReasonSoFar p kept operator effect place (verdict_at verdicts place)) asked.untold is) in
+      pending.1 refl
+
+  -- the first failure of the effect is the reason
+  pub failure_is_reason : (operator effect place : ℕ) (verdict : Verdict) (failure : Failure) → IsGreatest p (family_of kept) → verdict ≡ Broken operator
+      → KeptBelow p kept operator effect place
+      → IsFirstOfEffect (IsGroupOfOr p (family_of kept) (group_at p place)) (operator_at p operator) (group_at p place) effect failure
+      → IsReason p place verdict (Breaks operator failure)
+  failure_is_reason operator effect place verdict failure greatest breaks below first = record {
+    told = breaks;
+    says = (
+      family_of kept,
+      greatest,
+      first_of_all (IsGroupOfOr p (family_of kept) (group_at p place)) (operator_at p operator) (group_at p place) effect failure first
+          (λ other lower fails. kept_never_fails (IsGroupOfOr p (family_of kept) (group_at p place)) (operator_at p operator) (group_at p place) other
+          (below.keeps (effect_of other) lower (sets_one (IsGroupOfOr p (family_of kept) (group_at p place)) (operator_at p operator) (group_at p place) other fails.so)) fails),
+    );
+  }
+
+  -- ---- one operator more
+
+  module _ (verdicts : List Verdict) (joint : AreJointVerdicts p verdicts) (greatest : IsGreatest p (family_of kept)) where
+    -- an operator that breaks the group has an effect that doesn't keep it
+    not_all_keep : (operator effects place : ℕ) → place < length p.groups → effects ≡ length (operator_at p operator).effects
+        → verdict_at verdicts place ≡ Broken operator → KeptBelow p kept operator effects place → ⊥
+    not_all_keep operator effects place exists all is below = breaks_under p (family_of kept) place operator greatest
+        (subst (IsJointVerdict p place) is (joint.are place exists))
+        (keeps_from_effects (IsGroupOfOr p (family_of kept) (group_at p place)) (operator_at p operator) (group_at p place)
+        (λ effect within has. below.keeps effect (omega arith) has))
+
+    pub next_operator : (operator effects : ℕ) (reasons : List (Option Reason)) → effects ≡ length (operator_at p operator).effects
+        → AreReasonsSoFar p kept operator effects verdicts reasons → AreReasonsSoFar p kept (operator + 1) 0 verdicts reasons
+    next_operator operator effects reasons all so_far = record {
+      one_each = so_far.one_each;
+      are = λ place lt. so_far_by operator effects (operator + 1) 0 place (verdict_at verdicts place) (reason_at reasons place)
+          (λ breaking untold is pending. elim (cases_eq breaking operator) [
+            | inl same ↦ absurd (not_all_keep operator effects place lt all (is ∙ ap (λ (n : ℕ). Broken n) same) (pending.1 same))
+            | inr differ ↦ (let below = pending.0 in omega arith, λ same. record { keeps = λ lower less. absurd (omega arith) })
+          ])
+          (so_far.are place lt);
+    }
+
+    -- an operator that breaks no group has nothing to be told of
+    pub skip_operator : (operator : ℕ) (reasons : List (Option Reason))
+        → ((place : ℕ) → place < length p.groups → verdict_at verdicts place ≡ Broken operator → ⊥)
+        → AreReasonsSoFar p kept operator 0 verdicts reasons → AreReasonsSoFar p kept (operator + 1) 0 verdicts reasons
+    skip_operator operator reasons none so_far = record {
+      one_each = so_far.one_each;
+      are = λ place lt. so_far_by operator 0 (operator + 1) 0 place (verdict_at verdicts place) (reason_at reasons place)
+          (λ breaking untold is pending. elim (cases_eq breaking operator) [
+            | inl same ↦ absurd (none place lt (is ∙ ap (λ (n : ℕ). Broken n) same))
+            | inr differ ↦ (let below = pending.0 in omega arith, λ same. record { keeps = λ lower less. absurd (omega arith) })
+          ])
+          (so_far.are place lt);
+    }
+
+    -- in the end each is told
+    told_in_the_end : (place : ℕ) (verdict : Verdict) (reason : Option Reason) → IsJointVerdict p place verdict
+        → IsReasonSoFar p kept (length p.operators) 0 place verdict reason → IsReasonIfAny p place verdict reason
+    told_in_the_end place verdict (Some reason) said is = is
+    told_in_the_end place Exclusive None said is = refl
+    told_in_the_end place Derived None said is = absurd is
+    told_in_the_end place Initial None said is = absurd is
+    told_in_the_end place (Broken breaking) None (family, great, outside, basic, initial, first) is = absurd (let lt = first.exists in let ge = is.0 in omega arith)
+
+    pub reasons_in_the_end : (operators : ℕ) (reasons : List (Option Reason)) → operators ≡ length p.operators
+        → AreReasonsSoFar p kept operators 0 verdicts reasons → AreReasons p verdicts reasons
+    reasons_in_the_end operators reasons all so_far = record {
+      one_each = so_far.one_each;
+      are = λ place lt. told_in_the_end place (verdict_at verdicts place) (reason_at reasons place) (joint.are place lt)
+          (subst (λ n. IsReasonSoFar p kept n 0 place (verdict_at verdicts place) (reason_at reasons place)) all (so_far.are place lt));
+    }
+
+-- where no operator breaks a group, the first reasons are all
+pub none_broken : (p : Parts) (verdicts : List Verdict) (reasons : List (Option Reason))
+    → ((place : ℕ) → place < length p.groups → IsBroken (verdict_at verdicts place) → ⊥)
+    → AreReasonsSoFar p [] 0 0 verdicts reasons → AreReasons p verdicts reasons
+none_broken p verdicts reasons none so_far = record {
+  one_each = so_far.one_each;
+  are = λ place lt. told place (verdict_at verdicts place) (reason_at reasons place) (none place lt) (so_far.are place lt);
+}
+  where
+    told : (place : ℕ) (verdict : Verdict) (reason : Option Reason) → (IsBroken verdict → ⊥)
+        → IsReasonSoFar p [] 0 0 place verdict reason → IsReasonIfAny p place verdict reason
+    told place verdict (Some reason) not is = is
+    told place Exclusive None not is = refl
+    told place Derived None not is = absurd is
+    told place Initial None not is = absurd is
+    told place (Broken breaking) None not is = absurd (not (record { operator = breaking; is = refl }))
+
+-- each operator that breaks one of the first groups is marked
+pub record MarkedUpTo (verdicts : List Verdict) (n : ℕ) (operators : ℕ) (marked : List Bool) : Type 0 where
+  pub for_each : length marked ≡ operators
+  pub all : (place operator : ℕ) → place < n → operator < operators → verdict_at verdicts place ≡ Broken operator → IsTrue (family_of marked operator)

@@ -1,0 +1,60 @@
+-- One more fact, which can't remain or may.
+use Rattle.std.proofs.Common.{◌≡◌, ◌<◌, List, length, get_or, sym, ap, subst, ◌∙◌, arith}
+use Rattle.std.specs.List.{All, Contains}
+use Rattle.sas_core.specs.declared.parts.Fact.{Fact}
+use Rattle.sas_core.specs.Grounded.{group_at}
+use Rattle.sas_core.specs.Variables.{FactExists}
+use Rattle.sas_core.proofs.Places.{each_more}
+use Rattle.sas_mutex.specs.Firing.{EffectPlace}
+use Rattle.sas_mutex.proofs.TaskFacts.{group_facts}
+use Rattle.sas_mutex.specs.ByNotes.{IsGoneAt}
+use Rattle.sas_task_reasons.proofs.FirstOfEffect.{none_stays, one_stays}
+use Rattle.sas_task_reasons.proofs.failures.first_staying.Goals as goal
+
+pub returns-then-removes_others : goal.returns-then-removes_others
+returns-then-removes_others g c =
+    let gone = rw (← c.firing.view_is) at c.removes_others.ensures.yes in
+    rw (← c.firing.view_is) (none_stays _ c.args.kept.now c.group-facts.result.now _ c.group-facts.ensures (gone c.if-removes_others.true))
+
+pub returns-then-not-is_gone : goal.returns-then-not-is_gone
+returns-then-not-is_gone g c =
+    let before = rw (← c.firing.view_is) at c.loop-place.invariant in
+    let stays = rw (← c.firing.view_is) at c.is_gone.ensures.no in
+    rw (← c.firing.view_is) (one_stays _ c.args.kept.now c.group-facts.result.now _ c.group-facts.ensures c.loop-place.place _ c.loop-place-test.true before (stays c.if-not-is_gone.true))
+
+pub loop-place-preserved : goal.loop-place-preserved
+loop-place-preserved g c = each_more (IsGoneAt c.args.firing.now c.args.kept.now) c.group-facts.result.now c.loop-place.place _ c.loop-place-test.true c.loop-place.invariant
+    (c.is_gone.ensures.yes c.if-not-is_gone.false)
+
+pub group-facts-requires : goal.group-facts-requires
+group-facts-requires g c = subst (λ (f : EffectPlace). c.args.group < length f.task.groups) (sym c.firing.view_is) c.requires.group.exists
+
+pub removes_others-requires-clause-notes : goal.removes_others-requires-clause-notes
+removes_others-requires-clause-notes g c = c.requires.notes
+
+pub removes_others-requires-clause-group : goal.removes_others-requires-clause-group
+removes_others-requires-clause-group g c = c.requires.group
+
+pub loop-place-init : goal.loop-place-init
+loop-place-init g c = λ k d lt. absurd (omega arith)
+
+pub is_gone-requires-clause-notes : goal.is_gone-requires-clause-notes
+is_gone-requires-clause-notes g c = c.requires.notes
+
+pub is_gone-requires-clause-fact : goal.is_gone-requires-clause-fact
+is_gone-requires-clause-fact g c =
+    let p = c.firing.inside.task.now in
+    let exists = subst (λ (f : EffectPlace). c.args.group < length f.task.groups) (sym c.firing.view_is) c.requires.group.exists in
+    let exist = subst (All (FactExists p.variables)) (sym c.group-facts.ensures) (group_facts p c.firing.invariant.0 c.args.group exists) in
+    subst (λ (f : EffectPlace). FactExists f.task.variables (get_or c.group-facts.result.now c.loop-place.place (record { var = 0; value = 0 }))) c.firing.view_is
+    (exist c.loop-place.place (record { var = 0; value = 0 }) c.loop-place-test.true)
+
+pub returns : goal.returns
+returns g c =
+    let f = c.args.firing.now in
+    let kept = c.args.kept.now in
+    let facts = c.group-facts.result.now in
+    let same : facts ≡ group_at f.task c.args.group = c.group-facts.ensures ∙ ap (λ (s : EffectPlace). group_at s.task c.args.group) c.firing.view_is in
+    none_stays f kept facts (group_at f.task c.args.group) same
+    (λ fact among. (let here = subst (λ (xs : List Fact). Contains xs fact) (sym same) among in
+    subst (IsGoneAt f kept) here.2 (c.loop-place.invariant here.0 fact (omega (arith, here.1, c.loop-place-test.false)))))

@@ -1,0 +1,8 @@
+-- None of the facts so far may remain.
+use Rattle.std.proofs.Common.{ℕ, ◌<◌, get_or}
+use Rattle.sas_core.specs.declared.parts.Fact.{Fact}
+use Rattle.sas_mutex.specs.ByNotes.{IsGoneAt}
+use Rattle.sas_task_reasons.proofs.failures.first_staying.Given as goal
+
+abbrev pub invariant-loop-place : goal.invariant-loop-place
+invariant-loop-place g l = (k : ℕ) (d : Fact) → k < l.place → IsGoneAt l.firing l.kept (get_or l.facts k d)

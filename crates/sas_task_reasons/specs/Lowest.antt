@@ -1,0 +1,64 @@
+-- The lowest effect and the first fact with which an effect fails to preserve a group, among those
+-- that were checked.
+use Rattle.std.specs.Prelude.{◌≡◌, ℕ, ◌<◌, ◌≤◌, Bool, List, length, Some, slice_get}
+use Rattle.sas_core.specs.declared.parts.Fact.{Fact}
+use Rattle.sas_core.specs.declared.parts.Operator.{Operator}
+use Rattle.sas_mutex.specs.Firing.{EffectPlace, operator_of}
+use Rattle.sas_mutex.specs.ByNotes.{NotBothAt, IsGoneAt}
+use Rattle.sas_groups.specs.ByVariable.{variable_of}
+use Rattle.sas_task_reasons.specs.declared.reason.Failure.{Failure}
+use Rattle.sas_task_reasons.specs.Failures.{Fails, effect_of, IsEarlier}
+
+-- The lowest effect, among those that were checked, that may set a fact of the group on another
+-- variable in the same step; the number of all effects if there is none.
+pub record IsLowest (f : EffectPlace) (kept : List Bool) (place : ℕ) (IsLookedAt : ℕ → Type 0)
+    (lowest : ℕ) : Type 0 where
+  pub within : lowest ≤ length (operator_of f).effects
+  pub may : lowest < length (operator_of f).effects → NotBothAt f kept lowest place → ⊥
+  pub below : (other : ℕ) → other < lowest → IsLookedAt other → NotBothAt f kept other place
+
+-- all effects
+abbrev pub IsAny : ℕ → Type 0
+IsAny effect = Unit {0}
+
+-- the effects of the operator that set the variable
+abbrev pub SetsVariable : EffectPlace → ℕ → ℕ → Type 0
+SetsVariable f var effect = variable_of f.task f.operator effect ≡ var
+
+-- one of the first `count` of these effects
+pub record IsOneOfFirst (effects : List ℕ) (count effect : ℕ) : Type 0 where
+  pub place : ℕ
+  pub early : place < count
+  pub here : slice_get effects place ≡ Some effect
+
+-- the effects of the operator that set the variable of one of the first `count` facts
+pub record SetsOneOfFirst (f : EffectPlace) (facts : List Fact) (count effect : ℕ) : Type 0 where
+  pub place : ℕ
+  pub early : place < count
+  pub fact : Fact
+  pub here : slice_get facts place ≡ Some fact
+  pub on : variable_of f.task f.operator effect ≡ fact.var
+
+-- an earlier fact is on the same variable as the fact at this index
+pub record FollowsOnVariable (facts : List Fact) (place : ℕ) : Type 0 where
+  pub before : ℕ
+  pub early : before < place
+  pub same : (fact other : Fact) → slice_get facts before ≡ Some fact
+      → slice_get facts place ≡ Some other → fact.var ≡ other.var
+
+-- the index of the first fact of the group that may remain; the number of its facts if there is
+-- none
+pub record IsFirstStaying (f : EffectPlace) (kept : List Bool) (group : List Fact) (first : ℕ)
+    : Type 0 where
+  pub within : first ≤ length group
+  pub stays : (fact : Fact) → slice_get group first ≡ Some fact → IsGoneAt f kept fact → ⊥
+  pub below : (lower : ℕ) (fact : Fact) → lower < first → slice_get group lower ≡ Some fact
+      → IsGoneAt f kept fact
+
+-- the first failure of this effect
+pub record IsFirstOfEffect (Counts : List Fact → Type 0) (o : Operator) (group : List Fact)
+    (effect : ℕ) (failure : Failure) : Type 0 where
+  pub of : effect_of failure ≡ effect
+  pub fails : Fails Counts o group failure
+  pub first : (other : Failure) → effect_of other ≡ effect → IsEarlier other failure
+      → Fails Counts o group other → ⊥

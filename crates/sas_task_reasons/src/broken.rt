@@ -1,0 +1,218 @@
+// The reasons of groups that an operator breaks.
+ghost use Rattle.std.specs.Prelude.{◌≡◌, ◌≢◌, ◌+◌, ◌<◌, ℕ, length, All, IsTrue, IsFalse};
+ghost use Rattle.sas_groups.specs.Clashes.{sets};
+ghost use Rattle.sas_groups.specs.Families.{IsGreatest};
+ghost use Rattle.sas_groups.specs.Index.{HasFact};
+ghost use Rattle.sas_groups.specs.Kept.{family_of};
+ghost use Rattle.sas_mutex.specs.Firing.{effect_of};
+ghost use Rattle.sas_groups.specs.Joint.{verdict_at, AreJointVerdicts};
+ghost use Rattle.sas_mutex.specs.Marks.{IsClean};
+ghost use Rattle.sas_groups.specs.Noting.{AreBelow};
+ghost use Rattle.sas_mutex.specs.ByNotes.{IsNotedAt};
+ghost use Rattle.sas_task_reasons.specs.GroupReasons.{reason_at, AreReasons};
+ghost use Rattle.sas_task_reasons.specs.Telling.{IsReasonSoFar, AreReasonsSoFar, IsAsked, AreMarked};
+
+use crate::failures::first_failure;
+use crate::reason::Reason;
+use sas_core::{Grounded, Items};
+use sas_groups::{IndexedTask, Premises, Verdict};
+use sas_mutex::{Firing, Marks, forget_known, note_known};
+
+/// The greatest family, and the facts recorded while effects are checked.
+#[derive(Drop)]
+pub struct Greatest {
+    /// For each group, whether it is in the family.
+    pub kept: Items<bool>,
+    pub marks: Marks,
+}
+
+/// Finds, for each group that an operator breaks, the first way in which the operator fails to preserve it, assuming the family and the
+/// group itself. `marked` must contain each operator that breaks a group.
+pub fn tell_failures<T: Grounded>(
+    indexed: &IndexedTask<'_, '_, T>,
+    verdicts: &[Verdict],
+    marked: &[bool],
+    greatest: &mut Greatest,
+    reasons: &mut Items<Option<Reason>>,
+)
+    requires marked { AreMarked verdicts.now marked.now }
+    requires for_each { length marked.now ≡ length indexed.now.operators }
+    requires joint { AreJointVerdicts indexed.now verdicts.now }
+    requires greatest { IsGreatest indexed.now (family_of greatest.old.kept) }
+    requires one_each { length greatest.old.kept ≡ length indexed.now.groups }
+    requires so_far { AreReasonsSoFar indexed.now greatest.old.kept 0 0 verdicts.now reasons.old }
+    requires clean { IsClean indexed.now greatest.old.marks }
+    ensures { AreReasons indexed.now verdicts.now reasons.new }
+{
+    for operator in 0..indexed.task.operators() {
+        let breaks = marked[operator as usize];
+        if breaks {
+            tell_failures_of(indexed, operator, verdicts, greatest, reasons);
+        }
+    }
+}
+
+/// Finds, for each group that the operator breaks, the first failure to preserve it.
+fn tell_failures_of<T: Grounded>(
+    indexed: &IndexedTask<'_, '_, T>,
+    operator: u32,
+    verdicts: &[Verdict],
+    greatest: &mut Greatest,
+    reasons: &mut Items<Option<Reason>>,
+)
+    requires operator { operator < length indexed.now.operators }
+    requires joint { AreJointVerdicts indexed.now verdicts.now }
+    requires greatest { IsGreatest indexed.now (family_of greatest.old.kept) }
+    requires one_each { length greatest.old.kept ≡ length indexed.now.groups }
+    requires so_far { let kept = greatest.old.kept in
+        AreReasonsSoFar indexed.now kept operator 0 verdicts.now reasons.old }
+    requires clean { IsClean indexed.now greatest.old.marks }
+    ensures so_far { let kept = greatest.old.kept in
+        AreReasonsSoFar indexed.now kept (operator + 1) 0 verdicts.now reasons.new }
+    ensures kept { greatest.new.kept ≡ greatest.old.kept }
+    ensures clean { IsClean indexed.now greatest.new.marks }
+{
+    for effect in 0..indexed.task.effects(operator) {
+        let firing = Firing {
+            task: indexed.task,
+            index: indexed.index,
+            operator,
+            effect,
+        };
+        tell_failures_at(&firing, verdicts, greatest, reasons);
+    }
+}
+
+/// Finds the first failure of the effect to preserve each group whose reason is still missing. The known facts of the effect are recorded
+/// once for all groups. If they clash, the effect never fires.
+fn tell_failures_at<T: Grounded>(
+    firing: &Firing<'_, '_, T>,
+    verdicts: &[Verdict],
+    greatest: &mut Greatest,
+    reasons: &mut Items<Option<Reason>>,
+)
+    requires verdicts { length verdicts.now ≡ length firing.now.task.groups }
+    requires greatest { IsGreatest firing.now.task (family_of greatest.old.kept) }
+    requires one_each { length greatest.old.kept ≡ length firing.now.task.groups }
+    requires so_far { let f = firing.now in AreReasonsSoFar f.task greatest.old.kept f.operator
+        f.effect verdicts.now reasons.old }
+    requires clean { IsClean firing.now.task greatest.old.marks }
+    ensures so_far { let f = firing.now in AreReasonsSoFar f.task greatest.old.kept f.operator
+        (f.effect + 1) verdicts.now reasons.new }
+    ensures kept { greatest.new.kept ≡ greatest.old.kept }
+    ensures clean { IsClean firing.now.task greatest.new.marks }
+{
+    let change = firing.task.effect_change(firing.operator, firing.effect);
+    let groups = firing.index.groups_of(change.fact());
+    if !some_asked(groups, firing.operator, verdicts, reasons.as_slice()) {
+        return;
+    }
+    let premises = Premises {
+        operator: firing.operator,
+        first: firing
+            .task
+            .effect_conditions(firing.operator, firing.effect),
+        second: &[],
+    };
+    let kept = greatest.kept.as_slice();
+    let marks = &mut greatest.marks;
+    if !note_known(firing.task, firing.index, kept, &premises, marks) {
+        tell_groups(firing, groups, verdicts, greatest, reasons);
+    }
+    forget_known(firing.task, firing.index, &premises, &mut greatest.marks);
+}
+
+/// Returns whether the reason of one of these groups is still missing.
+fn some_asked(
+    groups: &[u32],
+    operator: u32,
+    verdicts: &[Verdict],
+    reasons: &[Option<Reason>],
+) -> bool
+    requires verdicts { AreBelow (length verdicts.now) groups.now }
+    requires reasons { AreBelow (length reasons.now) groups.now }
+    ensures { IsFalse result
+        → All (λ (place : ℕ). IsAsked operator verdicts.now reasons.now place → ⊥) groups.now }
+{
+    for group in groups {
+        if is_asked(*group, operator, verdicts, reasons) {
+            return true;
+        }
+    }
+    false
+}
+
+/// Returns whether the reason of the group is still missing: the operator breaks it, and no reason was found yet.
+fn is_asked(group: u32, operator: u32, verdicts: &[Verdict], reasons: &[Option<Reason>]) -> bool
+    requires verdicts { group < length verdicts.now }
+    requires reasons { group < length reasons.now }
+    ensures yes { IsTrue result → IsAsked operator verdicts.now reasons.now group }
+    ensures no { IsFalse result → IsAsked operator verdicts.now reasons.now group → ⊥ }
+{
+    verdicts[group as usize] == Verdict::Broken { operator } && reasons[group as usize].is_none()
+}
+
+/// Finds the first failure of the effect to preserve each of these groups whose reason is still missing. The groups must contain the fact
+/// that the effect sets, and the known facts must be recorded.
+fn tell_groups<T: Grounded>(
+    firing: &Firing<'_, '_, T>,
+    groups: &[u32],
+    verdicts: &[Verdict],
+    greatest: &mut Greatest,
+    reasons: &mut Items<Option<Reason>>,
+)
+    requires have { All (λ (place : ℕ). HasFact firing.now.task place
+        (sets (effect_of firing.now))) groups.now }
+    requires verdicts { length verdicts.now ≡ length firing.now.task.groups }
+    requires greatest { IsGreatest firing.now.task (family_of greatest.old.kept) }
+    requires so_far { let f = firing.now in AreReasonsSoFar f.task greatest.old.kept f.operator
+        f.effect verdicts.now reasons.old }
+    requires notes { IsNotedAt firing.now greatest.old.kept greatest.old.marks }
+    ensures so_far { let f = firing.now in AreReasonsSoFar f.task greatest.old.kept f.operator
+        f.effect verdicts.now reasons.new }
+    ensures told { let f = firing.now in All (λ (place : ℕ).
+        IsReasonSoFar f.task greatest.old.kept f.operator (f.effect + 1) place
+        (verdict_at verdicts.now place) (reason_at reasons.new place)) groups.now }
+    ensures kept { greatest.new.kept ≡ greatest.old.kept }
+    ensures notes { IsNotedAt firing.now greatest.old.kept greatest.new.marks }
+{
+    for group in groups {
+        tell_group(firing, *group, verdicts, greatest, reasons);
+    }
+}
+
+/// Finds the first failure of the effect to preserve the group, if its reason is still missing. The group must contain the fact that the
+/// effect sets, and the known facts must be recorded.
+fn tell_group<T: Grounded>(
+    firing: &Firing<'_, '_, T>,
+    group: u32,
+    verdicts: &[Verdict],
+    greatest: &mut Greatest,
+    reasons: &mut Items<Option<Reason>>,
+)
+    requires has { HasFact firing.now.task group (sets (effect_of firing.now)) }
+    requires verdicts { length verdicts.now ≡ length firing.now.task.groups }
+    requires greatest { IsGreatest firing.now.task (family_of greatest.old.kept) }
+    requires so_far { let f = firing.now in AreReasonsSoFar f.task greatest.old.kept f.operator
+        f.effect verdicts.now reasons.old }
+    requires notes { IsNotedAt firing.now greatest.old.kept greatest.old.marks }
+    ensures so_far { let f = firing.now in AreReasonsSoFar f.task greatest.old.kept f.operator
+        f.effect verdicts.now reasons.new }
+    ensures told { let f = firing.now in
+        IsReasonSoFar f.task greatest.old.kept f.operator (f.effect + 1) group
+        (verdict_at verdicts.now group) (reason_at reasons.new group) }
+    ensures others { (place : ℕ) → place ≢ group
+        → reason_at reasons.new place ≡ reason_at reasons.old place }
+    ensures kept { greatest.new.kept ≡ greatest.old.kept }
+    ensures notes { IsNotedAt firing.now greatest.old.kept greatest.new.marks }
+{
+    let operator = firing.operator;
+    if !is_asked(group, operator, verdicts, reasons.as_slice()) {
+        return;
+    }
+    let kept = &mut greatest.kept;
+    let marks = &mut greatest.marks;
+    if let Some(failure) = first_failure(firing, group, kept, marks) {
+        reasons.set(group as usize, Some(Reason::Breaks { operator, failure }));
+    }
+}

@@ -1,8 +1,0 @@
-use Rattle.std.proofs.Common.{◌≡◌, ◌++◌, take}
-use Rattle.std.specs.List.{flat_map}
-use Rattle.sas_task_writer.specs.TaskText.{text_of}
-use Rattle.sas_task_writer.proofs.task_writer.push_each.Given as goal
-
--- the lines of the items so far
-abbrev pub invariant-loop-item : goal.invariant-loop-item
-invariant-loop-item g l = l.out.items ≡ l.fn.out.items ++ text_of (flat_map g.T.Encode.lines (take l.item-index l.item-items))

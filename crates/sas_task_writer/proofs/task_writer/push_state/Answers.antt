@@ -1,8 +1,0 @@
-use Rattle.std.proofs.Common.{codes}
-use Rattle.std.specs.List.{flat_map}
-use Rattle.sas_task_format.specs.TaskFormat.{number, line}
-use Rattle.sas_task_writer.proofs.TaskTexts.{between_on_ok}
-use Rattle.sas_task_writer.proofs.task_writer.push_state.Goals as goal
-
-pub returns : goal.returns
-returns c = between_on_ok _ _ _ _ _ (codes "begin_state") (flat_map (line number) c.args.values.now) (codes "end_state") c.in_ok-push_word.ensures c.in_ok-push_each.ensures c.push_word-2.ensures

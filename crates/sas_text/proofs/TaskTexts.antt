@@ -1,0 +1,52 @@
+-- The text of lines of a task file, part by part.
+use Rattle.std.proofs.Common.{◌≡◌, ℕ, List, [], ◌∷◌, ◌++◌, length, map, refl, sym, ap, ◌∙◌, append_assoc, Result, Ok, Err}
+use Rattle.std.specs.List.{flat_map}
+use Rattle.std.specs.Result.{OnOk}
+use Rattle.std.proofs.lemmas.Grind.{flat_map-append}
+use Rattle.std.proofs.lemmas.List.{map-append}
+use Rattle.std.specs.Fmt.{decimal}
+use Rattle.sas_core.specs.declared.parts.Effect.{Effect}
+use Rattle.sas_lines.specs.Spelling.{signed_decimal, joined}
+use Rattle.sas_task_format.specs.TaskFormat.{TaskLine, word, effect, head, fact_words, task_line_bytes, line, between}
+use Rattle.sas_text.specs.TaskText.{text_of, spaced}
+
+-- lines one after another
+pub text_of_append : (a b : List TaskLine) → text_of (a ++ b) ≡ text_of a ++ text_of b
+text_of_append a b = ap (flat_map (λ (line : List ℕ). line ++ 10 ∷ [])) (map-append task_line_bytes a b) ∙ flat_map-append (λ (line : List ℕ). line ++ 10 ∷ []) (map task_line_bytes a) (map task_line_bytes b)
+
+-- lines appended to lines
+pub lines_after : (before middle after : List ℕ) (first others : List TaskLine) → middle ≡ before ++ text_of first → after ≡ middle ++ text_of others → after ≡ before ++ text_of (first ++ others)
+lines_after before middle after first others e f = f ∙ ap (λ (x : List ℕ). x ++ text_of others) e ∙ append_assoc before (text_of first) (text_of others) ∙ ap (λ (x : List ℕ). before ++ x) (sym (text_of_append first others))
+
+-- the same for a call that may be out of memory
+lines_on_ok : {E : Type 0} (result : Result (Unit {0}) E) (before middle after : List ℕ) (first others : List TaskLine) → middle ≡ before ++ text_of first → OnOk result (after ≡ middle ++ text_of others) → OnOk result (after ≡ before ++ text_of (first ++ others))
+lines_on_ok (Ok u) before middle after first others e f = lines_after before middle after first others e f
+lines_on_ok (Err u) before middle after first others e f = tt
+
+-- lines appended between their first and their last word
+pub between_on_ok : {E : Type 0} (result : Result (Unit {0}) E) (before start middle after : List ℕ) (first : List ℕ) (lines : List TaskLine) (last : List ℕ) → start ≡ before ++ text_of (line word first) → middle ≡ start ++ text_of lines → OnOk result (after ≡ middle ++ text_of (line word last)) → OnOk result (after ≡ before ++ text_of (between first lines last))
+between_on_ok result before start middle after first lines last e f g = lines_on_ok result before middle after (line word first ++ lines) (line word last) (lines_after before start middle (line word first) lines e f) g
+
+-- a word before other words
+joined_first : (first : List ℕ) (words : List (List ℕ)) (next : List ℕ) (more : List (List ℕ)) → joined (first ∷ words ++ next ∷ more) ≡ first ++ 32 ∷ joined (words ++ next ∷ more)
+joined_first first [] next more = refl
+joined_first first (w ∷ words) next more = refl
+
+-- joined words are the first words, each followed by a space, and the joined other words
+joined_spaced : (words : List (List ℕ)) (next : List ℕ) (more : List (List ℕ)) → joined (words ++ next ∷ more) ≡ spaced words ++ joined (next ∷ more)
+joined_spaced [] next more = refl
+joined_spaced (w ∷ words) next more = joined_first w words next more ∙ ap (λ (x : List ℕ). w ++ 32 ∷ x) (joined_spaced words next more) ∙ sym (simp append_assoc)
+
+-- the line of an effect, appended as the number of its conditions, a space, its conditions, each
+-- followed by a space, and its head
+effect_after : (before counted spaced_count conditions after : List ℕ) (e : Effect) → counted ≡ before ++ decimal (length e.conditions) → spaced_count ≡ counted ++ 32 ∷ [] → conditions ≡ spaced_count ++ spaced (flat_map fact_words e.conditions) → after ≡ conditions ++ text_of (head e.var e.old e.new ∷ []) → after ≡ before ++ text_of (line effect e)
+effect_after before counted spaced_count conditions after e p q r s =
+    let count = decimal (length e.conditions) in
+    let facts = flat_map fact_words e.conditions in
+    let last = text_of (head e.var e.old e.new ∷ []) in
+    s ∙ ap (λ (x : List ℕ). x ++ last) (r ∙ ap (λ (x : List ℕ). x ++ spaced facts) (q ∙ ap (λ (x : List ℕ). x ++ 32 ∷ []) p))
+    ∙ sym (rw (joined_spaced (count ∷ facts) (decimal e.var) (signed_decimal e.old ∷ decimal e.new ∷ [])) (simp append_assoc))
+
+pub effect_on_ok : {E : Type 0} (result : Result (Unit {0}) E) (before counted spaced_count conditions after : List ℕ) (e : Effect) → counted ≡ before ++ decimal (length e.conditions) → spaced_count ≡ counted ++ 32 ∷ [] → conditions ≡ spaced_count ++ spaced (flat_map fact_words e.conditions) → OnOk result (after ≡ conditions ++ text_of (head e.var e.old e.new ∷ [])) → OnOk result (after ≡ before ++ text_of (line effect e))
+effect_on_ok (Ok u) before counted spaced_count conditions after e p q r s = effect_after before counted spaced_count conditions after e p q r s
+effect_on_ok (Err u) before counted spaced_count conditions after e p q r s = tt

@@ -1,0 +1,9 @@
+use Rattle.std.proofs.Common.{◌≡◌, ◌++◌, take}
+use Rattle.std.specs.List.{flat_map}
+use Rattle.sas_task_format.specs.TaskFormat.{fact_words}
+use Rattle.sas_text.specs.TaskText.{spaced}
+use Rattle.sas_text.proofs.task_writer.push_conditions.Given as goal
+
+-- the words of the facts so far
+abbrev pub invariant-loop-fact : goal.invariant-loop-fact
+invariant-loop-fact l = l.out.items ≡ l.fn.out.items ++ spaced (flat_map fact_words (take l.fact-index l.fact-items))

@@ -1,0 +1,99 @@
+// The answer about a plan with the reasons why it isn't valid, as it goes out.
+ghost use Rattle.std.specs.Prelude.{◌≡◌, ◌⊎◌, ◌↔◌, false, Some};
+ghost use Rattle.std.specs.Prelude.{IfErr, IfOk, IsErrAnd, IsTrue};
+ghost use Rattle.std.specs.Io.KnownBytes.{Appends};
+ghost use Rattle.sas_answers.specs.Answers.{invalid_answer};
+ghost use Rattle.sas_output.specs.Ending.{EndsCounting, IsWrite, output_told};
+ghost use Rattle.sas_reasons.specs.WhyPlan.{IsWhy};
+ghost use Rattle.sas_run.specs.Executions.{IsFound};
+ghost use Rattle.sas_why.specs.Verdict.{IsExplained};
+ghost use Rattle.sas_why.specs.Retracing.{IsRetraced};
+
+use crate::faults::reasons;
+use crate::retraced::Retraced;
+use crate::second_pass::retrace;
+use sas_answers::{accept_plan, refuse_plan};
+use sas_axioms::Worklist;
+use sas_core::Stepwise;
+use sas_flat::{FlatPlan, FlatTask};
+use sas_lines::Watched;
+use sas_meaning::Layered;
+use sas_output::{Line, Named, Status, Told, ToolFault, write_reasons};
+use sas_run::{Execution, PlanFault};
+use std::alloc::{AllocError, Global};
+use std::io::Write;
+
+/// Writes the answer about a plan of the task, with the reasons where it isn't valid, and returns its status. The plan is judged
+/// first; then its steps are gone through once more. The names in the reasons are looked up as they go out, in pieces: names that
+/// are repeated may make the answer far longer than the task. If an `Err` isn't a failed write, it is `Memory`, and nothing was
+/// written: all memory is allocated before the first byte. Not to be called after a failure.
+pub fn write_explained<W: Write>(
+    alloc: Global,
+    task: &Layered<FlatTask>,
+    plan: &FlatPlan,
+    out: &mut Watched<W>,
+) -> Result<Status, ToolFault>
+    requires { out.old.failed ≡ false }
+    ensures ends { EndsCounting (IsExplained task.now plan.now)
+        (Appends (W.contents out.old.device) (W.contents out.new.device)) result }
+    ensures nothing { IfErr result (λ e. IsWrite e
+        ⊎ ((e ≡ ToolFault.Memory) × (out.new ≡ out.old))) }
+    ensures writes { IsErrAnd result IsWrite ↔ IsTrue out.new.failed }
+{
+    let worklist = Worklist::new(alloc, task)?;
+    let mut execution = Execution::new(alloc, task, worklist, plan)?;
+    match execution.find_fault() {
+        None => {
+            drop(execution);
+            let accepted = accept_plan(alloc, plan)?;
+            accepted.write(out)
+        }
+        Some(fault) => {
+            let (verdict, reasons) = explain_execution(alloc, task, plan, execution, fault)?;
+            let named = Named {
+                task: task.task(),
+                plan: Some(plan),
+            };
+            let line = verdict.text.as_slice();
+            write_reasons(alloc, out, line, &named, reasons.as_slice())
+        }
+    }
+}
+
+/// Goes through the steps of the plan by its execution once more, which found this fault. Returns the verdict, and the reasons for it.
+fn explain_execution(
+    alloc: Global,
+    task: &Layered<FlatTask>,
+    plan: &FlatPlan,
+    execution: Execution<'_, '_, Worklist, FlatTask, FlatPlan>,
+    fault: PlanFault,
+) -> Result<(Told, Vec<Line>), AllocError>
+    requires { IsFound task.now plan.now (Some fault) execution }
+    ensures verdict { IfOk result (λ told.
+        invalid_answer plan.now.cost fault ≡ Some (output_told told.0)) }
+    ensures reasons { IfOk result (λ told. IsWhy task.now plan.now fault told.1.items) }
+{
+    let noted = retrace(alloc, execution, fault)?;
+    let explained = explain_fault(alloc, task, plan, &noted, fault);
+    drop(noted);
+    explained
+}
+
+/// Returns the verdict on the plan's fault, and the reasons for it.
+fn explain_fault(
+    alloc: Global,
+    task: &Layered<FlatTask>,
+    plan: &FlatPlan,
+    noted: &Retraced,
+    fault: PlanFault,
+) -> Result<(Told, Vec<Line>), AllocError>
+    requires noted { IsRetraced task.now plan.now noted.now }
+    requires fault { noted.now.fault ≡ Some fault }
+    ensures verdict { IfOk result (λ told.
+        invalid_answer plan.now.cost fault ≡ Some (output_told told.0)) }
+    ensures reasons { IfOk result (λ told. IsWhy task.now plan.now fault told.1.items) }
+{
+    let lines = reasons(alloc, task, plan, noted, fault)?;
+    let verdict = refuse_plan(alloc, plan.cost(), fault)?;
+    Ok((verdict, lines))
+}

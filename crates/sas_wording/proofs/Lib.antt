@@ -1,3 +1,0 @@
-mod LineTexts
-pub mod PlainLines
-pub mod RuleLines

@@ -1,9 +1,0 @@
-use Rattle.std.proofs.Common.{take, flat_map}
-use Rattle.sas_output.specs.Sink.{Pushes}
-use Rattle.sas_wording.specs.Wording.{steps_of}
-use Rattle.sas_wording.proofs.LineTexts.{ended}
-use Rattle.sas_wording.proofs.pushing.push_lines.Given as goal
-
--- the lines so far were pushed
-abbrev pub invariant-loop-line : goal.invariant-loop-line
-invariant-loop-line g l = Pushes g.W.Write.contents l.fn.sink l.sink (flat_map (ended l.named.task.now (steps_of l.named.plan)) (take l.line-index l.lines))

@@ -1,4 +1,0 @@
-pub mod Facts
-pub mod Laws
-pub mod Line
-pub mod Wording
