@@ -5,19 +5,19 @@ use Rattle.sas_meaning.specs.declared.layered.LayerFault.TheVariants.{EffectOnDe
 use Rattle.sas_meaning.specs.declared.layered.LayerFault.TheVariants.{TwoValues, LayerOrder, Memory}
 
 -- `PART I: WHAT`, where I is the part's place
-abbrev pub part_words : List ℕ → ℕ → List ℕ → List ℕ
-part_words part place what = part ++ codes " " ++ decimal place ++ codes ": " ++ what
+abbrev pub words_at_part : List ℕ → ℕ → List ℕ → List ℕ
+words_at_part part place what = part ++ codes " " ++ decimal place ++ codes ": " ++ what
 
 -- the words for a fault of a task's layers; refused memory is no fault of the task
 abbrev pub layer_words : LayerFault → Option (List ℕ)
 layer_words (EffectOnDerived operator effect) =
-    Some (part_words (codes "operator") operator (codes "effect on derived variable"))
+    Some (words_at_part (codes "operator") operator (codes "effect on derived variable"))
 layer_words (RuleOnBasic rule) =
-    Some (part_words (codes "rule") rule (codes "not on a derived variable"))
-layer_words (OldValue rule) = Some (part_words (codes "rule") rule (codes "old value"))
-layer_words (TwoValues rule) = Some (part_words (codes "rule") rule (codes "two values"))
+    Some (words_at_part (codes "rule") rule (codes "not on a derived variable"))
+layer_words (OldValue rule) = Some (words_at_part (codes "rule") rule (codes "old value"))
+layer_words (TwoValues rule) = Some (words_at_part (codes "rule") rule (codes "two values"))
 layer_words (LayerOrder rule condition) =
-    Some (part_words (codes "rule") rule (codes "layer order"))
+    Some (words_at_part (codes "rule") rule (codes "layer order"))
 layer_words Memory = None
 
 -- the line that refuses a task with these words

@@ -2,7 +2,7 @@
 ghost use Rattle.std.specs.Prelude.{◌≡◌, Some, None, IfOk, option_map};
 ghost use Rattle.sas_answers.specs.Answers.{CheckAnswer, layers_refusal, layers_verdict};
 ghost use Rattle.sas_output.specs.Ending.{output_told};
-ghost use Rattle.sas_answers.specs.LayerWords.{layer_words, layers_line, part_words};
+ghost use Rattle.sas_answers.specs.LayerWords.{layer_words, layers_line, words_at_part};
 
 use sas_flat::FlatTask;
 use sas_lines::{push_line, push_number};
@@ -66,7 +66,7 @@ fn layers_text(alloc: Global, fault: LayerFault) -> Result<Vec<u8>, AllocError>
 
 /// Returns the line that refuses a task for a fault of this part of it.
 fn part_text(alloc: Global, part: &str, place: u32, what: &str) -> Result<Vec<u8>, AllocError>
-    ensures { IfOk result (λ t. t.items ≡ layers_line (part_words part.now place what.now)) }
+    ensures { IfOk result (λ t. t.items ≡ layers_line (words_at_part part.now place what.now)) }
 {
     let mut text = Vec::from_slice(alloc, b"task refused: ")?;
     text.extend_from_slice(part.as_bytes())?;

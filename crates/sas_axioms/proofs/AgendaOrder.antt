@@ -11,7 +11,7 @@ use Rattle.std.specs.declared.cmp.Reverse.{Reverse}
 use Rattle.sas_axioms.specs.declared.agenda.Agenda.{Agenda}
 use Rattle.sas_axioms.specs.declared.layer_rules.LayerRule.{LayerRule}
 use Rattle.sas_core.specs.declared.parts.Parts.{Parts}
-use Rattle.sas_axioms.specs.Agenda.{layer_cmp, entry_for, IsNoted, Notes, work_left}
+use Rattle.sas_axioms.specs.Agenda.{layer_cmp, entry_for, IsOnAgenda, AddsToAgenda, work_left}
 use Rattle.sas_axioms.specs.Following.{NotesMore}
 use Rattle.sas_axioms.specs.LayerRules.{IsRuleOn}
 
@@ -56,10 +56,10 @@ popped_there xs rest x is = rw is (Contains-push rest x)
 
 -- ---- a rule is noted
 
-pub noted_there : (layer rule : ℕ) (a a' : Agenda) → Notes layer rule a a' → IsNoted a' layer rule
+pub noted_there : (layer rule : ℕ) (a a' : Agenda) → AddsToAgenda layer rule a a' → IsOnAgenda a' layer rule
 noted_there layer rule a a' notes = Contains-permutation (entry_for layer rule ∷ heap_items a.noted) (heap_items a'.noted) (entry_for layer rule) notes.noted (zero, omega arith, refl)
 
-pub notes_more : (p : Parts) (layer rule : ℕ) (a a' : Agenda) → IsRuleOn p layer rule → Notes layer rule a a' → NotesMore p (λ r. r ≡ rule) a a'
+pub notes_more : (p : Parts) (layer rule : ℕ) (a a' : Agenda) → IsRuleOn p layer rule → AddsToAgenda layer rule a a' → NotesMore p (λ r. r ≡ rule) a a'
 notes_more p layer rule a a' is notes = record {
   keeps = λ m other there. Contains-permutation (entry_for layer rule ∷ heap_items a.noted) (heap_items a'.noted) (entry_for m other) notes.noted
       (contains_behind (entry_for layer rule) (entry_for m other) (heap_items a.noted) there);
@@ -73,7 +73,7 @@ notes_more p layer rule a a' is notes = record {
   ready = notes.ready;
 }
 
-pub notes_paid : (layer rule price : ℕ) (a b a' : Agenda) → heap_items b.noted ≡ heap_items a.noted → b.ready ≡ a.ready → b.left + price ≡ a.left → Notes layer rule b a' → Notes layer rule a a'
+pub notes_paid : (layer rule price : ℕ) (a b a' : Agenda) → heap_items b.noted ≡ heap_items a.noted → b.ready ≡ a.ready → b.left + price ≡ a.left → AddsToAgenda layer rule b a' → AddsToAgenda layer rule a a'
 notes_paid layer rule price a b a' noted ready left notes = record {
   noted = subst (λ (es : List (Reverse LayerRule)). IsPermutation (entry_for layer rule ∷ es) (heap_items a'.noted)) noted notes.noted;
   ordered = notes.ordered;
@@ -81,7 +81,7 @@ notes_paid layer rule price a b a' noted ready left notes = record {
   left = let l = notes.left in omega arith;
 }
 
-pub notes_left : (layer rule : ℕ) (a a' : Agenda) → Notes layer rule a a' → work_left a' ≤ work_left a + 2
+pub notes_left : (layer rule : ℕ) (a a' : Agenda) → AddsToAgenda layer rule a a' → work_left a' ≤ work_left a + 2
 notes_left layer rule a a' notes =
     let n = length_permutation (entry_for layer rule ∷ heap_items a.noted) (heap_items a'.noted) notes.noted in
     let l = notes.left in

@@ -17,7 +17,7 @@ use Rattle.sas_flat.proofs.ByKey.{under_key, all_items}
 use Rattle.sas_meaning.proofs.Forced.{condition_within}
 use Rattle.sas_axioms.specs.declared.waiting.Waiting.{Waiting}
 use Rattle.sas_axioms.specs.LayerRules.{IsRuleOn}
-use Rattle.sas_axioms.specs.Waiting.{asking, entry_of, waits, waiting_at, released, occurrences}
+use Rattle.sas_axioms.specs.Waiting.{asking, waiting_entry, waits, waiting_at, released, occurrences}
 use Rattle.sas_axioms.specs.Conditions.{open_conditions, IsOfRule, IsCondition, entries, AreAllConditions, IsFullIndex, AreCounted}
 use Rattle.sas_axioms.proofs.Entries.{asked, counted_own, counted_other, waits_append, released_counts}
 
@@ -34,7 +34,7 @@ waits_other other rule var value (c ∷ cs) ne = let ih = waits_other other rule
 all_entries : (p : Parts) (rule : ℕ) (cs : List Fact) → IsOfRule p (record { value = 0; rule = rule }) → All (λ (c : Fact). c.var < length p.variables) cs → All (IsCondition p) (entries rule cs)
 all_entries p rule [] of_rule exist = All-nil (IsCondition p)
 all_entries p rule (c ∷ cs) of_rule exist =
-    All-cons (IsCondition p) (entry_of c rule) (entries rule cs) (record { of_rule = of_rule; exists = exist 0 c (omega arith) })
+    All-cons (IsCondition p) (waiting_entry c rule) (entries rule cs) (record { of_rule = of_rule; exists = exist 0 c (omega arith) })
     (all_entries p rule cs of_rule (All-tail (λ (c : Fact). c.var < length p.variables) c cs exist))
 
 -- the conditions of the first `k` rules

@@ -15,7 +15,7 @@ use Rattle.sas_meaning.proofs.Forced.{condition_within}
 use Rattle.sas_axioms.specs.declared.waiting.Waiting.{Waiting}
 use Rattle.sas_axioms.specs.LayerRules.{IsRuleOn}
 use Rattle.sas_axioms.specs.Waiting.{asking, waiting_at, released, occurrences}
-use Rattle.sas_axioms.specs.Conditions.{IsAsked, AreAskedBasic, IsFullIndex}
+use Rattle.sas_axioms.specs.Conditions.{IsRequired, AreRequiredBasic, IsFullIndex}
 
 -- ---- what waits for a variable that is asked about
 
@@ -31,7 +31,7 @@ occurrences_length n value (w ∷ ws) = let ih = occurrences_length n value ws i
   | inr e ↦ rw e.0 (omega arith)
 ]
 
-pub asked_waits : (p : Parts) (index : List (List Waiting)) (var : ℕ) → IsFullIndex p index → IsAsked p var → 0 < length (waiting_at index var)
+pub asked_waits : (p : Parts) (index : List (List Waiting)) (var : ℕ) → IsFullIndex p index → IsRequired p var → 0 < length (waiting_at index var)
 asked_waits p index var is asked =
     let layer = asked.0 in
     let rule = asked.1 in
@@ -44,7 +44,7 @@ asked_waits p index var is asked =
     omega arith
 
 -- a variable that is asked about exists
-asked_within : (p : Parts) (var : ℕ) → WellRanged p → IsAsked p var → var < length p.variables
+asked_within : (p : Parts) (var : ℕ) → WellRanged p → IsRequired p var → var < length p.variables
 asked_within p var ranged asked =
     let c = asked.2 in
     let there = asked.4 in
@@ -57,7 +57,7 @@ asked_within p var ranged asked =
 pub record AskedUpTo (p : Parts) (k : ℕ) (variables : List ℕ) : Type 0 where
   pub basic : All (IsBasic p) variables
   pub exist : All (λ v. v < length p.variables) variables
-  pub each : (v : ℕ) → v < k → IsBasic p v → IsAsked p v → Contains variables v
+  pub each : (v : ℕ) → v < k → IsBasic p v → IsRequired p v → Contains variables v
 
 pub asked_none : (p : Parts) → AskedUpTo p 0 []
 asked_none p = record { basic = All-nil (IsBasic p); exist = All-nil (λ v. v < length p.variables); each = λ v lt basic asked. absurd (omega arith) }
@@ -72,17 +72,17 @@ asked_more p k variables basic exists up = record {
   ];
 }
 
-pub asked_skip : (p : Parts) (k : ℕ) (variables : List ℕ) → (IsBasic p k → IsAsked p k → ⊥) → AskedUpTo p k variables → AskedUpTo p (k + 1) variables
+pub asked_skip : (p : Parts) (k : ℕ) (variables : List ℕ) → (IsBasic p k → IsRequired p k → ⊥) → AskedUpTo p k variables → AskedUpTo p (k + 1) variables
 asked_skip p k variables not up = record {
   basic = up.basic;
   exist = up.exist;
   each = λ v lt basic asked. elim (cases_eq v k) [
-    | inl e ↦ absurd (not (subst (λ x. IsBasic p x) e basic) (subst (λ x. IsAsked p x) e asked))
+    | inl e ↦ absurd (not (subst (λ x. IsBasic p x) e basic) (subst (λ x. IsRequired p x) e asked))
     | inr ne ↦ up.each v (omega arith) basic asked
   ];
 }
 
-pub asked_all : (p : Parts) (k : ℕ) (variables : List ℕ) → WellRanged p → length p.variables ≤ k → AskedUpTo p k variables → AreAskedBasic p variables
+pub asked_all : (p : Parts) (k : ℕ) (variables : List ℕ) → WellRanged p → length p.variables ≤ k → AskedUpTo p k variables → AreRequiredBasic p variables
 asked_all p k variables ranged past up = record {
   basic = up.basic;
   exist = up.exist;
@@ -90,6 +90,6 @@ asked_all p k variables ranged past up = record {
 }
 
 -- what a condition of a rule that can fire is on is asked about
-pub condition_asked : (p : Parts) (layer k : ℕ) (r : Rule) → IsRuleOn p layer k → rule_at p k ≡ r → (j : ℕ) (d : Fact) → j < length r.conditions → IsAsked p (get_or r.conditions j d).var
-condition_asked p layer k r is same = subst (λ (r' : Rule). (j : ℕ) (d : Fact) → j < length r'.conditions → IsAsked p (get_or r'.conditions j d).var) same
+pub condition_asked : (p : Parts) (layer k : ℕ) (r : Rule) → IsRuleOn p layer k → rule_at p k ≡ r → (j : ℕ) (d : Fact) → j < length r.conditions → IsRequired p (get_or r.conditions j d).var
+condition_asked p layer k r is same = subst (λ (r' : Rule). (j : ℕ) (d : Fact) → j < length r'.conditions → IsRequired p (get_or r'.conditions j d).var) same
     (λ j d lt. (layer, k, get_or (rule_at p k).conditions j d, is, (j, lt, get_or_default (rule_at p k).conditions j (get_or (rule_at p k).conditions j d) d lt), refl))

@@ -22,7 +22,7 @@ use Rattle.sas_axioms.specs.Conditions.{open_conditions}
 use Rattle.sas_axioms.specs.declared.firing.Work.{Work}
 use Rattle.sas_axioms.proofs.OneLayer.{one_layer}
 use Rattle.sas_axioms.proofs.Sources.{no_rule}
-use Rattle.sas_axioms.specs.Worklist.{SameCountsOff, value_seen, IsRunning, AreCounted, HaveFired, IsAtWork, WorkGoesOn, FiresRule}
+use Rattle.sas_axioms.specs.Worklist.{SameCountsOff, value_seen, IsRunning, AreCountedWithStack, HaveFired, IsAtWork, WorkGoesOn, FiresRule}
 use Rattle.std.specs.List.{All}
 use Rattle.std.proofs.lemmas.List.Elements.{All-nil, All-cons, All-head, All-tail}
 use Rattle.sas_meaning.proofs.Forced.{Fired, fired_there, rule_new, differs_true, differs_not, fact_within}
@@ -218,7 +218,7 @@ open_popped value value' v x (c ∷ cs) same new asks = by_cases (open_popped va
 -- ---- the counters of a layer
 
 -- a rule whose counter is at zero has conditions that hold
-pub ready : (t : Parts) (layer : ℕ) (s stack counters left : List ℕ) (k : ℕ) → IsLayered t → IsRunning t layer s stack → AreCounted t layer s stack counters left → IsRuleOn t layer k
+pub ready : (t : Parts) (layer : ℕ) (s stack counters left : List ℕ) (k : ℕ) → IsLayered t → IsRunning t layer s stack → AreCountedWithStack t layer s stack counters left → IsRuleOn t layer k
     → get_or counters k 0 ≡ 0 → AllHold (λ v. get_or s v 0) (rule_at t k).conditions
 ready t layer s stack counters left k layered run counts on nil j e lt' =
     elim (seen_tells t s stack (get_or (rule_at t k).conditions j e).var) [
@@ -230,7 +230,7 @@ ready t layer s stack counters left k layered run counts on nil j e lt' =
     holds : value_seen t s stack (get_or (rule_at t k).conditions j e).var ≡ (get_or (rule_at t k).conditions j e).value
     holds = all_hold_when_none_open (value_seen t s stack) (rule_at t k).conditions (let n = counts k on in omega arith) j e lt'
 
-pub counts_seen : (t : Parts) (layer : ℕ) (s s' stack stack' counters left : List ℕ) → ((v : ℕ) → value_seen t s' stack' v ≡ value_seen t s stack v) → AreCounted t layer s stack counters left → AreCounted t layer s' stack' counters left
+pub counts_seen : (t : Parts) (layer : ℕ) (s s' stack stack' counters left : List ℕ) → ((v : ℕ) → value_seen t s' stack' v ≡ value_seen t s stack v) → AreCountedWithStack t layer s stack counters left → AreCountedWithStack t layer s' stack' counters left
 counts_seen t layer s s' stack stack' counters left same counts k on =
     let e = open_same (value_seen t s' stack') (value_seen t s stack) (rule_at t k).conditions same in
     let f = counts k on in omega arith
@@ -239,7 +239,7 @@ pub fired_kept : (t : Parts) (layer : ℕ) (s s' counters : List ℕ) → ((v : 
 fired_kept t layer s s' counters kept fired k on nil =
     let e = fired k on nil in kept (rule_at t k).var (differs_true t s (rule_at t k).var (λ f. on.can (sym e ∙ f))) ∙ e
 
-pub counted_down : (t : Parts) (layer : ℕ) (s stack counters left : List ℕ) (k : ℕ) → k < length counters → AreCounted t layer s stack counters (k ∷ left) → AreCounted t layer s stack (set counters k (get_or counters k 0 - 1)) left
+pub counted_down : (t : Parts) (layer : ℕ) (s stack counters left : List ℕ) (k : ℕ) → k < length counters → AreCountedWithStack t layer s stack counters (k ∷ left) → AreCountedWithStack t layer s stack (set counters k (get_or counters k 0 - 1)) left
 counted_down t layer s stack counters left k within counts j on = elim (eqb_tells k j) [
   | inl w ↦ subst (λ i. get_or (set counters k (get_or counters k 0 - 1)) i 0 ≡ open_conditions (value_seen t s stack) (rule_at t j).conditions + occurrences j left) w.1
       (get_or-set_same counters k (get_or counters k 0 - 1) 0 within
@@ -250,7 +250,7 @@ counted_down t layer s stack counters left k within counts j on = elim (eqb_tell
 ]
 
 -- a rule that waits has an open condition
-pub waits : (t : Parts) (layer : ℕ) (s stack counters left : List ℕ) (k : ℕ) → IsRuleOn t layer k → AreCounted t layer s stack counters (k ∷ left) → 1 ≤ get_or counters k 0
+pub waits : (t : Parts) (layer : ℕ) (s stack counters left : List ℕ) (k : ℕ) → IsRuleOn t layer k → AreCountedWithStack t layer s stack counters (k ∷ left) → 1 ≤ get_or counters k 0
 waits t layer s stack counters left k on counts =
     let n : get_or counters k 0 ≡ open_conditions (value_seen t s stack) (rule_at t k).conditions + (1 + occurrences k left) = rw (eq-eqb k k refl) at (counts k on) in omega arith
 
@@ -281,7 +281,7 @@ top_is t layer s rest v run = elim (occurrences_pushed v v rest) [
 
 pub popped_counts : (t : Parts) (layer : ℕ) (s rest counters left : List ℕ) (v : ℕ) → IsLayered t → IsRunning t layer s (rest ++ v ∷ [])
     → ((k : ℕ) → IsRuleOn t layer k → occurrences k left ≡ asking v (get_or s v 0) (rule_at t k).conditions)
-    → AreCounted t layer s (rest ++ v ∷ []) counters [] → AreCounted t layer s rest counters left
+    → AreCountedWithStack t layer s (rest ++ v ∷ []) counters [] → AreCountedWithStack t layer s rest counters left
 popped_counts t layer s rest counters left v layered run each counts k on =
     let a = counts k on in
     let b = open_popped (value_seen t s (rest ++ v ∷ [])) (value_seen t s rest) v (get_or s v 0) (rule_at t k).conditions others now asks in
@@ -312,7 +312,7 @@ popped_counts t layer s rest counters left v layered run each counts k on =
         let z : layer < layer = (down layer layer on.on (subst (λ u. IsOnLayer t layer u) (sym is_v) v_on)).1 (is_default ∙ (default ∙ ap (default_of t) (sym is_v))) in absurd (omega arith)
 
 -- with nothing left on the stack the layer is settled
-pub settled_when_empty : (t : Parts) (layer : ℕ) (s counters : List ℕ) → IsRunning t layer s [] → AreCounted t layer s [] counters [] → HaveFired t layer s counters → IsSettledAt t layer s
+pub settled_when_empty : (t : Parts) (layer : ℕ) (s counters : List ℕ) → IsRunning t layer s [] → AreCountedWithStack t layer s [] counters [] → HaveFired t layer s counters → IsSettledAt t layer s
 settled_when_empty t layer s counters run counts fired = settled_when_fired t layer s run.forced (λ k d lt.
     subst (λ (r : Rule). HasFired t layer s r) (get_or_default t.rules k no_rule d lt) (has k lt))
   where

@@ -12,7 +12,7 @@ use Rattle.sas_axioms.specs.declared.agenda.Agenda.{Agenda}
 use Rattle.sas_axioms.specs.declared.firing.Work.{Work}
 use Rattle.sas_axioms.specs.declared.layer_rules.LayerRule.{LayerRule}
 use Rattle.sas_axioms.specs.declared.waiting.Waiting.{Waiting}
-use Rattle.sas_axioms.specs.Agenda.{IsNoted, IsOrdered, work_left}
+use Rattle.sas_axioms.specs.Agenda.{IsOnAgenda, IsOrdered, work_left}
 use Rattle.sas_axioms.specs.Following.{SameWork, NotesMore, CountsTo, Recounts}
 use Rattle.sas_axioms.specs.LayerRules.{IsRuleOn}
 use Rattle.sas_axioms.specs.Waiting.{occurrences, released}
@@ -188,7 +188,7 @@ module _ (former value : ℕ) (waiting : List Waiting) (i : ℕ) (cs0 cs : List 
 pub record CountedEntries (p : Parts) (former value : ℕ) (waiting : List Waiting) (i : ℕ) (w0 w : Work) : Type 0 where
   pub same : SameWork w0 w
   pub counters : CountersSoFar former value waiting i w0.counters w.counters
-  pub crossed : (layer rule : ℕ) → IsRuleOn p layer rule → IsNoted w.agenda layer rule ⊎ ((get_or w0.counters rule 0 ≡ 0) ↔ (get_or w.counters rule 0 ≡ 0))
+  pub crossed : (layer rule : ℕ) → IsRuleOn p layer rule → IsOnAgenda w.agenda layer rule ⊎ ((get_or w0.counters rule 0 ≡ 0) ↔ (get_or w.counters rule 0 ≡ 0))
   pub notes : NotesMore p (Waits waiting) w0.agenda w.agenda
   pub left : work_left w.agenda + 3 * length waiting ≤ work_left w0.agenda + 2 * i
 
@@ -236,13 +236,13 @@ module _ (p : Parts) (former value : ℕ) (waiting : List Waiting) (i : ℕ) (w0
     other : (rule : ℕ) → (get_or waiting i no_entry).rule ≢ rule → get_or w'.counters rule 0 ≡ get_or w.counters rule 0
     other = other_count former value waiting i w0.counters w.counters lt counted.counters n w'.counters exists counts.counters
 
-    crossed_still : (layer rule : ℕ) → IsRuleOn p layer rule → IsNoted w'.agenda layer rule ⊎ ((get_or w0.counters rule 0 ≡ 0) ↔ (get_or w'.counters rule 0 ≡ 0))
+    crossed_still : (layer rule : ℕ) → IsRuleOn p layer rule → IsOnAgenda w'.agenda layer rule ⊎ ((get_or w0.counters rule 0 ≡ 0) ↔ (get_or w'.counters rule 0 ≡ 0))
     crossed_still layer rule is = elim (counted.crossed layer rule is) [
       | inl noted ↦ inl (counts.notes.keeps layer rule noted)
       | inr same ↦ elim (cases_eq (get_or waiting i no_entry).rule rule) [
         | inr ne ↦ inr ((λ z. other rule ne ∙ same.0 z), (λ z. same.1 (sym (other rule ne) ∙ z)))
         | inl e ↦ elim (counts.crossed layer (subst (λ r. IsRuleOn p layer r) (sym e) is)) [
-          | inl noted ↦ inl (subst (λ r. IsNoted w'.agenda layer r) e noted)
+          | inl noted ↦ inl (subst (λ r. IsOnAgenda w'.agenda layer r) e noted)
           | inr now ↦ inr (
             (λ z. subst (λ r. get_or w'.counters r 0 ≡ 0) e (here ∙ now.0 (subst (λ r. get_or w.counters r 0 ≡ 0) (sym e) (same.0 z)))),
             (λ z. same.1 (subst (λ r. get_or w.counters r 0 ≡ 0) e (now.1 (sym here ∙ subst (λ r. get_or w'.counters r 0 ≡ 0) (sym e) z)))),

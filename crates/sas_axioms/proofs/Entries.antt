@@ -16,7 +16,7 @@ use Rattle.sas_meaning.specs.Layers.{IsOnLayer}
 use Rattle.sas_meaning.proofs.Layers.{layer_tells, on_layer_within}
 use Rattle.sas_axioms.specs.declared.waiting.Waiting.{Waiting}
 use Rattle.sas_axioms.specs.LayerRules.{IsRuleOn}
-use Rattle.sas_axioms.specs.Waiting.{asking, entry_of, waits, released, occurrences, IsOfOneLayer, IsWaiting, AddsWaiting, IsIndex}
+use Rattle.sas_axioms.specs.Waiting.{asking, waiting_entry, waits, released, occurrences, IsOfOneLayer, IsWaiting, AddsWaiting, IsIndex}
 use Rattle.sas_axioms.proofs.OneLayer.{one_layer}
 
 -- an entry of a rule that can fire, and of a variable of its layer
@@ -44,15 +44,15 @@ pub waits_pushed : (rule var value : ℕ) (ws : List (Entry Waiting)) (w : Entry
 waits_pushed rule var value ws w = let e = waits_append rule var value ws (w ∷ []) in omega arith
 
 -- an entry of a rule's own condition
-pub counted_own : (rule var value : ℕ) (c : Fact) → counted rule var value (entry_of c rule) ≡ asked var value c
+pub counted_own : (rule var value : ℕ) (c : Fact) → counted rule var value (waiting_entry c rule) ≡ asked var value c
 counted_own rule var value c = rw (eq-eqb rule rule refl) refl
 
 -- an entry of another rule
-pub counted_other : (other rule var value : ℕ) (c : Fact) → other ≢ rule → counted other var value (entry_of c rule) ≡ 0
+pub counted_other : (other rule var value : ℕ) (c : Fact) → other ≢ rule → counted other var value (waiting_entry c rule) ≡ 0
 counted_other other rule var value c ne = elim (eqb_tells rule other) [ inl e ↦ absurd (ne (sym e.1)) | inr e ↦ rw e.0 refl ]
 
 -- an entry for another variable
-pub counted_off : (other rule var value : ℕ) (c : Fact) → c.var ≢ var → counted other var value (entry_of c rule) ≡ 0
+pub counted_off : (other rule var value : ℕ) (c : Fact) → c.var ≢ var → counted other var value (waiting_entry c rule) ≡ 0
 counted_off other rule var value c ne = elim (eqb_tells c.var var) [
   | inl e ↦ absurd (ne e.1)
   | inr e ↦ elim (eqb_tells rule other) [ inl f ↦ rw (f.0, e.0) refl | inr f ↦ rw f.0 refl ]
@@ -77,22 +77,22 @@ adds_none p layer rule all ws = record { only = λ h. h; each = λ _ _ _ _. refl
 
 -- a condition on the layer is added
 pub adds_more : (p : Parts) (layer rule : ℕ) (all left : List Fact) (c : Fact) (ws ws' : List (Entry Waiting)) → IsRuleOn p layer rule → IsOnLayer p layer c.var
-    → AddsUpTo p layer rule all (c ∷ left) ws ws' → AddsUpTo p layer rule all left ws (ws' ++ entry_of c rule ∷ [])
+    → AddsUpTo p layer rule all (c ∷ left) ws ws' → AddsUpTo p layer rule all left ws (ws' ++ waiting_entry c rule ∷ [])
 adds_more p layer rule all left c ws ws' is on up = record {
-  only = λ h. All-push (OfOneLayer p) ws' (entry_of c rule) (up.only h) (layer, is, on);
+  only = λ h. All-push (OfOneLayer p) ws' (waiting_entry c rule) (up.only h) (layer, is, on);
   each = λ other var value here.
-      (let pushed = waits_pushed other var value ws' (entry_of c rule) in
+      (let pushed = waits_pushed other var value ws' (waiting_entry c rule) in
       let before = up.each other var value here in
       elim (eqb_tells other rule) [
-        | inl e ↦ (let one : counted other var value (entry_of c rule) ≡ asked var value c = subst (λ i. counted other var value (entry_of c i) ≡ asked var value c) e.1 (counted_own other var value c) in
+        | inl e ↦ (let one : counted other var value (waiting_entry c rule) ≡ asked var value c = subst (λ i. counted other var value (waiting_entry c i) ≡ asked var value c) e.1 (counted_own other var value c) in
             let b = rw e.0 at before in rw e.0 (omega arith))
-        | inr e ↦ (let none : counted other var value (entry_of c rule) ≡ 0 = counted_other other rule var value c e.1 in
+        | inr e ↦ (let none : counted other var value (waiting_entry c rule) ≡ 0 = counted_other other rule var value c e.1 in
             let b = rw e.0 at before in rw e.0 (omega arith))
       ]);
   off = λ other var value not.
-      (let pushed = waits_pushed other var value ws' (entry_of c rule) in
+      (let pushed = waits_pushed other var value ws' (waiting_entry c rule) in
       let before = up.off other var value not in
-      let none : counted other var value (entry_of c rule) ≡ 0 = counted_off other rule var value c (λ e. not (subst (λ v. IsOnLayer p layer v) e on)) in
+      let none : counted other var value (waiting_entry c rule) ≡ 0 = counted_off other rule var value c (λ e. not (subst (λ v. IsOnLayer p layer v) e on)) in
       omega arith);
 }
 

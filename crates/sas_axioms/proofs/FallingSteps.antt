@@ -18,8 +18,8 @@ use Rattle.sas_axioms.specs.declared.agenda.Agenda.{Agenda}
 use Rattle.sas_axioms.specs.declared.firing.Work.{Work}
 use Rattle.sas_axioms.specs.declared.layer_rules.LayerRule.{LayerRule}
 use Rattle.std.specs.BinaryHeap.{heap_items}
-use Rattle.sas_axioms.specs.Agenda.{entry_for, IsNoted, IsAwaited, AreBehind, Takes, IsMadeReady, AreMadeReady, work_left}
-use Rattle.sas_axioms.specs.Following.{SameFrom, AreNoted, SameWork, Moves, IsOnTrack, IsFalling, IsRising}
+use Rattle.sas_axioms.specs.Agenda.{entry_for, IsOnAgenda, IsAwaited, AreBehind, RemovesFromAgenda, IsMadeReady, AreMadeReady, work_left}
+use Rattle.sas_axioms.specs.Following.{SameFrom, ChangesAreNoted, SameWork, CountsChange, IsOnTrack, IsFalling, IsRising}
 use Rattle.sas_axioms.specs.Sources.{IsHolding, HaveSources, SourcesHold}
 use Rattle.sas_axioms.specs.LayerRules.{IsRuleOn}
 use Rattle.sas_axioms.proofs.OneLayer.{one_layer}
@@ -31,7 +31,7 @@ pub not_higher : (p : Parts) (layer m rule : ℕ) → IsRuleOn p layer rule → 
 not_higher p layer m rule a b le = let e : m ≡ layer = one_layer p m layer rule b a in absurd (omega arith)
 
 -- a rule behind the layer stays noted where one of the layer is taken off
-pub noted_taken : (p : Parts) (layer rule : ℕ) (s0 s : List ℕ) (a a' : Agenda) → IsRuleOn p layer rule → Takes layer rule a a' → AreNoted p (layer + 1) s0 s a → AreNoted p (layer + 1) s0 s a'
+pub noted_taken : (p : Parts) (layer rule : ℕ) (s0 s : List ℕ) (a a' : Agenda) → IsRuleOn p layer rule → RemovesFromAgenda layer rule a a' → ChangesAreNoted p (layer + 1) s0 s a → ChangesAreNoted p (layer + 1) s0 s a'
 noted_taken p layer rule s0 s a a' is takes noted m other le on = elim (noted m other le on) [
   | inr same ↦ inr same
   | inl there ↦ elim (takes.noted m other there) [
@@ -41,7 +41,7 @@ noted_taken p layer rule s0 s a a' is takes noted m other le on = elim (noted m 
 ]
 
 -- what two states share, and what they and a third share
-pub noted_moved : (p : Parts) (from var : ℕ) (s0 s s' : List ℕ) (w w' : Work) → Moves p var s w s' w' → AreNoted p from s0 s w.agenda → AreNoted p from s0 s' w'.agenda
+pub noted_moved : (p : Parts) (from var : ℕ) (s0 s s' : List ℕ) (w w' : Work) → CountsChange p var s w s' w' → ChangesAreNoted p from s0 s w.agenda → ChangesAreNoted p from s0 s' w'.agenda
 noted_moved p from var s0 s s' w w' moves noted m other le on = elim (moves.crossed m other (omega arith) on) [
   | inl there ↦ inl there
   | inr crossed ↦ elim (noted m other le on) [
@@ -61,22 +61,22 @@ pub record FallingBut (p : Parts) (s0 s : List ℕ) (rule : ℕ) (w : Work) : Ty
   pub settled : IsSettled p s0
   pub is : IsRuleOn p w.layer rule
   pub same : SameFrom p (w.layer + 1) s0 s
-  pub noted : AreNoted p (w.layer + 1) s0 s w.agenda
+  pub noted : ChangesAreNoted p (w.layer + 1) s0 s w.agenda
   pub have : (m : ℕ) → HaveSources p m s w.sources
   pub held : (m : ℕ) → w.layer < m → SourcesHold p m w.sources s s0
   pub sources : (v : ℕ) → IsOnLayer p w.layer v → differs p s v ≡ true
-      → IsHolding p s (get_or w.sources v 0) ⊎ (IsNoted w.agenda w.layer (get_or w.sources v 0) ⊎ (get_or w.sources v 0 ≡ rule))
+      → IsHolding p s (get_or w.sources v 0) ⊎ (IsOnAgenda w.agenda w.layer (get_or w.sources v 0) ⊎ (get_or w.sources v 0 ≡ rule))
   pub fired : (other : ℕ) → IsRuleOn p w.layer other → IsHolding p s other
       → (differs p s (rule_at p other).var ≡ true) ⊎ (IsAwaited w.agenda w.layer other ⊎ (other ≡ rule))
 
 -- what is awaited is still so where a rule is taken off, but for that one
-pub still_awaited : (layer rule : ℕ) (a a' : Agenda) → Takes layer rule a a' → (other : ℕ) → IsAwaited a layer other → IsAwaited a' layer other ⊎ (other ≡ rule)
+pub still_awaited : (layer rule : ℕ) (a a' : Agenda) → RemovesFromAgenda layer rule a a' → (other : ℕ) → IsAwaited a layer other → IsAwaited a' layer other ⊎ (other ≡ rule)
 still_awaited layer rule a a' takes other awaited = elim awaited [
   | inl noted ↦ elim (takes.noted layer other noted) [ inl still ↦ inl (inl still) | inr e ↦ inr e ]
   | inr ready ↦ elim (takes.ready other ready) [ inl still ↦ inl (inr still) | inr e ↦ inr e ]
 ]
 
-pub falling_taken : (p : Parts) (s0 s : List ℕ) (w : Work) (a' : Agenda) (rule : ℕ) → IsFalling p s0 s w → Takes w.layer rule w.agenda a'
+pub falling_taken : (p : Parts) (s0 s : List ℕ) (w : Work) (a' : Agenda) (rule : ℕ) → IsFalling p s0 s w → RemovesFromAgenda w.layer rule w.agenda a'
     → FallingBut p s0 s rule (record { layer = w.layer; counters = w.counters; stack = w.stack; sources = w.sources; agenda = a' })
 falling_taken p s0 s w a' rule falling takes = record {
   track = track_taken p w.layer rule s w a' falling.track takes;
@@ -134,7 +134,7 @@ falling_passed p s0 s rule w a' but holds made = record {
 -- its variable falls, and all rules of it are made ready
 module _ (p : Parts) (s0 s : List ℕ) (rule : ℕ) (w w' : Work) (a' : Agenda) (rules : List ℕ) (layered : IsLayered p) (but : FallingBut p s0 s rule w)
     (within : (rule_at p rule).var < length s) (state : IsState p.variables (set s (rule_at p rule).var (default_of p (rule_at p rule).var)))
-    (same : SameWork w w') (moves : Moves p (rule_at p rule).var s w (set s (rule_at p rule).var (default_of p (rule_at p rule).var)) w')
+    (same : SameWork w w') (moves : CountsChange p (rule_at p rule).var s w (set s (rule_at p rule).var (default_of p (rule_at p rule).var)) w')
     (all : All (λ (r : ℕ). IsRuleOn p w.layer r) rules) (each : (other : ℕ) → IsRuleOn p w.layer other → (rule_at p other).var ≡ (rule_at p rule).var → Contains rules other)
     (made : AreMadeReady rules w'.agenda a') where
   abbrev var : ℕ
@@ -156,7 +156,7 @@ module _ (p : Parts) (s0 s : List ℕ) (rule : ℕ) (w w' : Work) (a' : Agenda) 
   differs_other : (v : ℕ) → v ≢ var → differs p s v ≡ true → differs p after v ≡ true
   differs_other v ne d = differs_true p after v (λ e. differs_not p s v d (sym (value_other v ne) ∙ e))
 
-  noted_still : (m other : ℕ) → IsNoted w.agenda m other → IsNoted a' m other
+  noted_still : (m other : ℕ) → IsOnAgenda w.agenda m other → IsOnAgenda a' m other
   noted_still m other noted = rw made.noted (moves.notes.keeps m other noted)
 
   ready_still : (other : ℕ) → Contains w.agenda.ready.items other → Contains a'.ready.items other
@@ -165,13 +165,13 @@ module _ (p : Parts) (s0 s : List ℕ) (rule : ℕ) (w w' : Work) (a' : Agenda) 
   ready_now : (other : ℕ) → IsRuleOn p w.layer other → (rule_at p other).var ≡ var → Contains a'.ready.items other
   ready_now other on e = rw made.ready (Contains-append_right w'.agenda.ready.items rules other (each other on e))
 
-  holds_or_noted : (other : ℕ) → IsRuleOn p w.layer other → IsHolding p s other → IsHolding p after other ⊎ IsNoted a' w.layer other
+  holds_or_noted : (other : ℕ) → IsRuleOn p w.layer other → IsHolding p s other → IsHolding p after other ⊎ IsOnAgenda a' w.layer other
   holds_or_noted other on hold = elim (moves.crossed w.layer other (omega arith) on) [
     | inl noted ↦ inr (rw made.noted noted)
     | inr crossed ↦ inl (crossed.0 hold)
   ]
 
-  source_fell : (v : ℕ) → IsOnLayer p w.layer v → differs p after v ≡ true → IsHolding p after (get_or w.sources v 0) ⊎ IsNoted a' w.layer (get_or w.sources v 0)
+  source_fell : (v : ℕ) → IsOnLayer p w.layer v → differs p after v ≡ true → IsHolding p after (get_or w.sources v 0) ⊎ IsOnAgenda a' w.layer (get_or w.sources v 0)
   source_fell v on d = elim (but.sources v on (differed v d)) [
     | inl hold ↦ holds_or_noted (get_or w.sources v 0) ((but.have w.layer).source v on (differed v d)).is hold
     | inr (inl noted) ↦ inr (noted_still w.layer (get_or w.sources v 0) noted)
@@ -217,7 +217,7 @@ risen_from_fallen p s0 s w falling behind = record {
   fired = falling.fired;
 }
   where
-    not_noted : (other : ℕ) → IsNoted w.agenda w.layer other → {A : Type 0} → A
+    not_noted : (other : ℕ) → IsOnAgenda w.agenda w.layer other → {A : Type 0} → A
     not_noted other noted =
         let lt : w.layer < w.layer = All-contains (λ (e : Reverse LayerRule). w.layer < e.0.layer) (heap_items w.agenda.noted) (entry_for w.layer other) behind noted in absurd (omega arith)
 
@@ -232,8 +232,8 @@ module _ (p : Parts) (s s' : List ℕ) (rule value : ℕ) (change : Change) (of_
       (state_set p s (rule_at p rule).var (default_of p (rule_at p rule).var) state (ranged.init.in_range (rule_at p rule).var within))
 
 -- less is left in the end: what was noted on the layer was taken off
-pub less_in_the_end : (layer rule : ℕ) (a0 a : Agenda) → IsNoted a0 layer rule → AreBehind layer a → (work_left a < work_left a0) ⊎ (a ≡ a0) → work_left a < work_left a0
+pub less_in_the_end : (layer rule : ℕ) (a0 a : Agenda) → IsOnAgenda a0 layer rule → AreBehind layer a → (work_left a < work_left a0) ⊎ (a ≡ a0) → work_left a < work_left a0
 less_in_the_end layer rule a0 a noted behind (inl lt) = lt
 less_in_the_end layer rule a0 a noted behind (inr e) =
-    let lt : layer < layer = All-contains (λ (e : Reverse LayerRule). layer < e.0.layer) (heap_items a.noted) (entry_for layer rule) behind (subst (λ x. IsNoted x layer rule) (sym e) noted) in
+    let lt : layer < layer = All-contains (λ (e : Reverse LayerRule). layer < e.0.layer) (heap_items a.noted) (entry_for layer rule) behind (subst (λ x. IsOnAgenda x layer rule) (sym e) noted) in
     absurd (omega arith)

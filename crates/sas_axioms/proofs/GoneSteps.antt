@@ -18,7 +18,7 @@ use Rattle.sas_axioms.specs.declared.firing.Work.{Work}
 use Rattle.sas_axioms.specs.declared.layer_rules.LayerRule.{LayerRule}
 use Rattle.sas_axioms.specs.Agenda.{IsEmpty}
 use Rattle.sas_axioms.specs.Sources.{IsHolding, SourcesHold, AreGiven}
-use Rattle.sas_axioms.specs.Following.{Moves, IsFollowed, CountedSoFar, IsBetween}
+use Rattle.sas_axioms.specs.Following.{CountsChange, IsFollowed, CountedSoFar, IsBetween}
 use Rattle.sas_axioms.specs.LayerRules.{IsRuleOn}
 use Rattle.sas_axioms.proofs.Counters.{open_same}
 use Rattle.sas_axioms.proofs.FallingSteps.{noted_moved}
@@ -76,7 +76,7 @@ counted_nothing p s w followed empty = record {
 }
 
 -- one basic variable more
-pub counted_more : (p : Parts) (s0 m : List ℕ) (w w' : Work) (v value : ℕ) → IsBasic p v → w'.sources ≡ w.sources → CountedSoFar p s0 m w → Moves p v m w (set m v value) w' → CountedSoFar p s0 (set m v value) w'
+pub counted_more : (p : Parts) (s0 m : List ℕ) (w w' : Work) (v value : ℕ) → IsBasic p v → w'.sources ≡ w.sources → CountedSoFar p s0 m w → CountsChange p v m w (set m v value) w' → CountedSoFar p s0 (set m v value) w'
 counted_more p s0 m w w' v value basic same_sources so_far moves = rw same_sources record {
   counts = moves.counts;
   ordered = moves.notes.ordered;

@@ -11,7 +11,7 @@ use Rattle.sas_meaning.specs.Layers.{IsBasic, IsOnLayer}
 use Rattle.sas_meaning.specs.Forced.{AtDefault}
 use Rattle.sas_meaning.proofs.Layers.{layer_cases}
 use Rattle.sas_axioms.specs.LayerRules.{IsRuleOn}
-use Rattle.sas_axioms.specs.Conditions.{open_conditions, SameAsked}
+use Rattle.sas_axioms.specs.Conditions.{open_conditions, SameRequired}
 use Rattle.sas_axioms.specs.Resting.{StaysOn, AreLooks}
 use Rattle.sas_axioms.proofs.Asked.{condition_asked}
 
@@ -23,7 +23,7 @@ open_alike value value' (c ∷ cs) same =
     (let ih = open_alike value value' cs (All-tail (λ (c : Fact). value c.var ≡ value' c.var) c cs same) in omega arith)
 
 -- a rule that doesn't look below begins its layer with what is kept
-pub begins_as_kept : (p : Parts) (layer k : ℕ) (s values : List ℕ) → IsRuleOn p layer k → StaysOn p layer k → SameAsked p s values → AtDefault p layer s → ((l : ℕ) → AtDefault p l values)
+pub begins_as_kept : (p : Parts) (layer k : ℕ) (s values : List ℕ) → IsRuleOn p layer k → StaysOn p layer k → SameRequired p s values → AtDefault p layer s → ((l : ℕ) → AtDefault p l values)
     → open_conditions (λ v. get_or values v 0) (rule_at p k).conditions ≡ open_conditions (λ v. get_or s v 0) (rule_at p k).conditions
 begins_as_kept p layer k s values is stays follows at kept =
     open_alike (λ v. get_or values v 0) (λ v. get_or s v 0) (rule_at p k).conditions (λ j d lt. elim (layer_cases p (get_or (rule_at p k).conditions j d).var) [

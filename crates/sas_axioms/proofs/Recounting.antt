@@ -11,7 +11,7 @@ use Rattle.sas_core.specs.WellRanged.{WellRanged}
 use Rattle.sas_axioms.specs.declared.firing.Work.{Work}
 use Rattle.sas_axioms.specs.declared.waiting.Waiting.{Waiting}
 use Rattle.sas_axioms.specs.Conditions.{IsFullIndex, AreCounted}
-use Rattle.sas_axioms.specs.Following.{AsksAbout, SameWork, Recounts, Moves}
+use Rattle.sas_axioms.specs.Following.{AsksAbout, SameWork, Recounts, CountsChange}
 use Rattle.sas_axioms.specs.LayerRules.{IsRuleOn}
 use Rattle.sas_axioms.specs.Waiting.{asking, occurrences, released, waiting_at}
 use Rattle.sas_axioms.proofs.AllConditions.{recounted}
@@ -46,7 +46,7 @@ waiting_asks p index var w layer is_index there is =
 
 pub moved_when_recounted : (p : Parts) (index : List (List Waiting)) (var former value : ℕ) → WellRanged p → IsFullIndex p index → var < length p.variables
     → (s : List ℕ) (w w' : Work) → AreCounted p s w.counters → get_or s var 0 ≡ former → SameWork w w'
-    → Recounts p (waiting_at index var) former value w w' → Moves p var s w (set s var value) w'
+    → Recounts p (waiting_at index var) former value w w' → CountsChange p var s w (set s var value) w'
 moved_when_recounted p index var former value ranged is_index exists s w w' counts is same recounts = record {
   counts = after;
   crossed = λ layer rule le on. elim (recounts.crossed layer rule on) [

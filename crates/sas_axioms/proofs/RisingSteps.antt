@@ -16,8 +16,8 @@ use Rattle.sas_meaning.proofs.Settling.{settled_off}
 use Rattle.sas_axioms.specs.declared.firing.Work.{Work}
 use Rattle.sas_axioms.specs.declared.agenda.Agenda.{Agenda}
 use Rattle.sas_axioms.specs.declared.layer_rules.LayerRule.{LayerRule}
-use Rattle.sas_axioms.specs.Agenda.{entry_for, IsNoted, IsAwaited, AreFrom, AreBehind, Takes}
-use Rattle.sas_axioms.specs.Following.{SameFrom, AreNoted, SameWork, Moves, IsOnTrack, IsBetween, IsFalling, IsRising, HasRisen, IsFollowed}
+use Rattle.sas_axioms.specs.Agenda.{entry_for, IsOnAgenda, IsAwaited, NoLowerLayer, AreBehind, RemovesFromAgenda}
+use Rattle.sas_axioms.specs.Following.{SameFrom, ChangesAreNoted, SameWork, CountsChange, IsOnTrack, IsBetween, IsFalling, IsRising, HasRisen, IsFollowed}
 use Rattle.sas_axioms.specs.LayerRules.{IsRuleOn}
 use Rattle.sas_axioms.specs.Sources.{IsHolding, HaveSources, SourcesHold, AreGiven}
 use Rattle.sas_axioms.proofs.Counters.{was_default}
@@ -31,14 +31,14 @@ pub record RisingBut (p : Parts) (s0 s : List ℕ) (rule : ℕ) (w : Work) : Typ
   pub settled : IsSettled p s0
   pub is : IsRuleOn p w.layer rule
   pub same : SameFrom p (w.layer + 1) s0 s
-  pub noted : AreNoted p (w.layer + 1) s0 s w.agenda
+  pub noted : ChangesAreNoted p (w.layer + 1) s0 s w.agenda
   pub have : (m : ℕ) → HaveSources p m s w.sources
   pub held : (m : ℕ) → w.layer < m → SourcesHold p m w.sources s s0
   pub hold : SourcesHold p w.layer w.sources s s
   pub fired : (other : ℕ) → IsRuleOn p w.layer other → IsHolding p s other
       → (differs p s (rule_at p other).var ≡ true) ⊎ (IsAwaited w.agenda w.layer other ⊎ (other ≡ rule))
 
-pub rising_taken : (p : Parts) (s0 s : List ℕ) (w : Work) (a' : Agenda) (rule : ℕ) → IsRising p s0 s w → Takes w.layer rule w.agenda a'
+pub rising_taken : (p : Parts) (s0 s : List ℕ) (w : Work) (a' : Agenda) (rule : ℕ) → IsRising p s0 s w → RemovesFromAgenda w.layer rule w.agenda a'
     → RisingBut p s0 s rule (record { layer = w.layer; counters = w.counters; stack = w.stack; sources = w.sources; agenda = a' })
 rising_taken p s0 s w a' rule rising takes = record {
   track = track_taken p w.layer rule s w a' rising.track takes;
@@ -87,7 +87,7 @@ module _ (p : Parts) (s0 s : List ℕ) (rule : ℕ) (w : Work) (ranged : WellRan
       (record { on = but.is.on; can = but.is.can; hold = holding; new = ne })
 
   module _ (w' : Work) (within : (rule_at p rule).var < length s) (place : (rule_at p rule).var < length w.sources) (same : SameWork w w')
-      (moves : Moves p (rule_at p rule).var s w (set s (rule_at p rule).var (rule_at p rule).new) w') where
+      (moves : CountsChange p (rule_at p rule).var s w (set s (rule_at p rule).var (rule_at p rule).new) w') where
     abbrev var : ℕ
     var = (rule_at p rule).var
 
@@ -187,7 +187,7 @@ risen_in_the_end p s0 s w layered rising behind empty = record {
 -- ---- from layer to layer
 
 -- the layers of which no rule is noted are given and settled as before
-module _ (p : Parts) (s0 s : List ℕ) (from : ℕ) (w : Work) (m : ℕ) (layered : IsLayered p) (between : IsBetween p s0 from s w) (le : from ≤ m) (none : (rule : ℕ) → IsNoted w.agenda m rule → ⊥) where
+module _ (p : Parts) (s0 s : List ℕ) (from : ℕ) (w : Work) (m : ℕ) (layered : IsLayered p) (between : IsBetween p s0 from s w) (le : from ≤ m) (none : (rule : ℕ) → IsOnAgenda w.agenda m rule → ⊥) where
   same_holding : (rule : ℕ) → IsRuleOn p m rule → IsHolding p s0 rule ↔ IsHolding p s rule
   same_holding rule is = elim (between.noted m rule le is) [ inl noted ↦ absurd (none rule noted) | inr same ↦ same ]
 
@@ -203,7 +203,7 @@ module _ (p : Parts) (s0 s : List ℕ) (from : ℕ) (w : Work) (m : ℕ) (layere
       differs_true p s (rule_at p rule).var (λ e. differs_not p s0 (rule_at p rule).var d (between.same m (rule_at p rule).var le is.on ∙ e))))
 
 -- the lowest layer of which a rule is noted is at hand
-pub falling_begins : (p : Parts) (s0 s : List ℕ) (from layer : ℕ) (w : Work) → IsBetween p s0 from s w → from ≤ layer → AreFrom layer w.agenda
+pub falling_begins : (p : Parts) (s0 s : List ℕ) (from layer : ℕ) (w : Work) → IsBetween p s0 from s w → from ≤ layer → NoLowerLayer layer w.agenda
     → IsFalling p s0 s (record { layer = layer; counters = w.counters; stack = w.stack; sources = w.sources; agenda = w.agenda })
 falling_begins p s0 s from layer w between le lowest = record {
   track = record {
@@ -234,9 +234,9 @@ falling_begins p s0 s from layer w between le lowest = record {
     differs_now other on d = differs_true p s (rule_at p other).var (λ e. differs_not p s0 (rule_at p other).var d (between.same layer (rule_at p other).var le on.on ∙ e))
 
 -- the layer at hand is settled, and the next ones are at hand
-module _ (p : Parts) (s0 s s' : List ℕ) (from layer : ℕ) (w w' : Work) (layered : IsLayered p) (between : IsBetween p s0 from s w) (le : from ≤ layer) (lowest : AreFrom layer w.agenda)
+module _ (p : Parts) (s0 s s' : List ℕ) (from layer : ℕ) (w w' : Work) (layered : IsLayered p) (between : IsBetween p s0 from s w) (le : from ≤ layer) (lowest : NoLowerLayer layer w.agenda)
     (is : w'.layer ≡ layer) (off : SameOff p layer s s') (same_sources : (v : ℕ) → (IsOnLayer p layer v → ⊥) → get_or w'.sources v 0 ≡ get_or w.sources v 0) (risen : HasRisen p s0 s' w') where
-  not_noted : (m : ℕ) → m < layer → (rule : ℕ) → IsNoted w.agenda m rule → ⊥
+  not_noted : (m : ℕ) → m < layer → (rule : ℕ) → IsOnAgenda w.agenda m rule → ⊥
   not_noted m lt rule noted =
       let le' : layer ≤ m = All-contains (λ (e : Reverse LayerRule). layer ≤ e.0.layer) (heap_items w.agenda.noted) (entry_for m rule) lowest noted in omega arith
 
@@ -301,5 +301,5 @@ followed_when_none p s0 s from w layered between empty = record {
   ];
 }
   where
-    none : (m rule : ℕ) → IsNoted w.agenda m rule → ⊥
+    none : (m rule : ℕ) → IsOnAgenda w.agenda m rule → ⊥
     none m rule noted = let there = rw empty at noted in absurd (omega (arith, there.1))

@@ -9,11 +9,11 @@ use Rattle.sas_meaning.specs.Layers.{IsOnLayer, CanFire}
 use Rattle.sas_axioms.specs.declared.layer_rules.LayerRule.{LayerRule}
 use Rattle.sas_axioms.specs.ByLayers.{IsIdle}
 use Rattle.sas_axioms.specs.LayerRules.{AreLayerRules, IsLayerSpan, AreRulesOn}
-use Rattle.sas_axioms.specs.Worklist.{StandsAt}
+use Rattle.sas_axioms.specs.Worklist.{LayerBeginsAt}
 use Rattle.sas_axioms.proofs.Groups.{layer_group}
 use Rattle.sas_axioms.proofs.Sources.{no_rule}
 
-module _ (p : Parts) (rules : List LayerRule) (from place : ℕ) (firing : AreLayerRules p rules) (stands : StandsAt rules from place) where
+module _ (p : Parts) (rules : List LayerRule) (from place : ℕ) (firing : AreLayerRules p rules) (stands : LayerBeginsAt rules from place) where
   -- a layer is idle if no rule that is left is on it
   idle_without : (layer : ℕ) → from ≤ layer → ((k : ℕ) (d : LayerRule) → place ≤ k → k < length rules → (get_or rules k d).layer ≢ layer) → IsIdle p layer
   idle_without layer le none k d lt on can = not_there (firing.firing.each layer k (record {
@@ -58,7 +58,7 @@ module _ (p : Parts) (rules : List LayerRule) (from place : ℕ) (firing : AreLa
         span.ends
 
     -- behind the span the next layers are left
-    pub stands_behind : StandsAt rules (layer + 1) end
+    pub stands_behind : LayerBeginsAt rules (layer + 1) end
     stands_behind = record {
       within = span.ends.within;
       before = λ k d lt. elim (cases_lt k place) [

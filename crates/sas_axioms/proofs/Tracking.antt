@@ -9,18 +9,18 @@ use Rattle.sas_core.specs.Grounded.{rule_at}
 use Rattle.sas_core.specs.Variables.{IsState}
 use Rattle.sas_meaning.specs.Layers.{IsOnLayer, IsLayered, LooksDown}
 use Rattle.sas_meaning.specs.declared.touched.Touched.{Touched}
-use Rattle.sas_meaning.specs.Touched.{Notes, StillTells}
+use Rattle.sas_meaning.specs.Touched.{AddsTouched, StillTells}
 use Rattle.sas_meaning.proofs.Layers.{looks_down}
 use Rattle.sas_meaning.proofs.Telling.{tells_set}
 use Rattle.sas_axioms.specs.declared.agenda.Agenda.{Agenda}
 use Rattle.sas_axioms.specs.declared.firing.Work.{Work}
 use Rattle.sas_axioms.specs.declared.layer_rules.LayerRule.{LayerRule}
-use Rattle.sas_axioms.specs.Agenda.{IsAwaited, Takes}
+use Rattle.sas_axioms.specs.Agenda.{IsAwaited, RemovesFromAgenda}
 use Rattle.sas_axioms.specs.Conditions.{AreCounted}
 use Rattle.sas_axioms.specs.Sources.{IsHolding}
 use Rattle.sas_meaning.specs.Forced.{SameOff}
 use Rattle.std.proofs.lemmas.List.{get_or-set_other}
-use Rattle.sas_axioms.specs.Following.{AsksAbout, Moves, IsOnTrack, SameWork, KeepsRoom}
+use Rattle.sas_axioms.specs.Following.{AsksAbout, CountsChange, IsOnTrack, SameWork, KeepsRoom}
 use Rattle.sas_axioms.specs.LayerRules.{IsRuleOn}
 use Rattle.sas_axioms.proofs.Counters.{all_hold_when_none_open, none_open_when_all_hold}
 use Rattle.sas_axioms.proofs.Sources.{no_rule}
@@ -44,7 +44,7 @@ awaited_on p layer rule s w track awaited = elim awaited [
 ]
 
 -- a rule is taken off
-pub track_taken : (p : Parts) (layer rule : ℕ) (s : List ℕ) (w : Work) (a' : Agenda) → IsOnTrack p layer s w → Takes layer rule w.agenda a'
+pub track_taken : (p : Parts) (layer rule : ℕ) (s : List ℕ) (w : Work) (a' : Agenda) → IsOnTrack p layer s w → RemovesFromAgenda layer rule w.agenda a'
     → IsOnTrack p layer s (record { layer = w.layer; counters = w.counters; stack = w.stack; sources = w.sources; agenda = a' })
 track_taken p layer rule s w a' track takes = record {
   state = track.state;
@@ -78,7 +78,7 @@ asks_down p layer its var rule layered on is asks =
 
 -- a variable of the layer changes
 pub track_moved : (p : Parts) (layer var : ℕ) (s s' : List ℕ) (w w' : Work) → IsLayered p → IsOnLayer p layer var → IsState p.variables s'
-    → IsOnTrack p layer s w → Moves p var s w s' w' → length w'.sources ≡ length w.sources → IsOnTrack p layer s' w'
+    → IsOnTrack p layer s w → CountsChange p var s w s' w' → length w'.sources ≡ length w.sources → IsOnTrack p layer s' w'
 track_moved p layer var s s' w w' layered on state track moves sources = record {
   state = state;
   counts = moves.counts;
@@ -116,7 +116,7 @@ off_step p layer at s0 s s' var value same so_far on is v off = so_far v off ∙
 
 -- ---- what is told of it
 
-pub told_step : (p : Parts) (layer : ℕ) (s0 s s' : List ℕ) (var value : ℕ) (t0 t t' : Touched) → StillTells p s0 t0 s t → IsOnLayer p layer var → s' ≡ set s var value → Notes var t t' → StillTells p s0 t0 s' t'
+pub told_step : (p : Parts) (layer : ℕ) (s0 s s' : List ℕ) (var value : ℕ) (t0 t t' : Touched) → StillTells p s0 t0 s t → IsOnLayer p layer var → s' ≡ set s var value → AddsTouched var t t' → StillTells p s0 t0 s' t'
 told_step p layer s0 s s' var value t0 t t' so_far on is notes before tells = tells_set p s s' var value t t' (ap is_some on) is notes before (so_far before tells)
 
 pub same_more : (w w' w'' : Work) → SameWork w w' → SameWork w' w'' → SameWork w w''

@@ -17,20 +17,20 @@ abbrev pub entry_for : ℕ → ℕ → Reverse LayerRule
 entry_for layer rule = record { 0 = record { layer = layer; rule = rule } }
 
 -- the rule of this layer is noted
-abbrev pub IsNoted : Agenda → ℕ → ℕ → Type 0
-IsNoted a layer rule = Contains (heap_items a.noted) (entry_for layer rule)
+abbrev pub IsOnAgenda : Agenda → ℕ → ℕ → Type 0
+IsOnAgenda a layer rule = Contains (heap_items a.noted) (entry_for layer rule)
 
 -- the rule of the current layer is noted or ready
 abbrev pub IsAwaited : Agenda → ℕ → ℕ → Type 0
-IsAwaited a layer rule = IsNoted a layer rule ⊎ Contains a.ready.items rule
+IsAwaited a layer rule = IsOnAgenda a layer rule ⊎ Contains a.ready.items rule
 
 -- `noted` is a heap: the lowest layer comes first
 abbrev pub IsOrdered : Agenda → Type 0
 IsOrdered a = IsHeap (λ x y. layer_cmp y.0 x.0) (heap_items a.noted)
 
 -- no rule of a lower layer is noted
-abbrev pub AreFrom : ℕ → Agenda → Type 0
-AreFrom layer a = All (λ (e : Reverse LayerRule). layer ≤ e.0.layer) (heap_items a.noted)
+abbrev pub NoLowerLayer : ℕ → Agenda → Type 0
+NoLowerLayer layer a = All (λ (e : Reverse LayerRule). layer ≤ e.0.layer) (heap_items a.noted)
 
 -- no rule of this layer or a lower one is noted
 abbrev pub AreBehind : ℕ → Agenda → Type 0
@@ -49,20 +49,20 @@ pub record IsEmpty (a : Agenda) : Type 0 where
 
 -- this is the lowest layer with a noted rule
 pub record Lowest (a : Agenda) (layer : ℕ) : Type 0 where
-  pub noted : (rule : ℕ) × IsNoted a layer rule
-  pub from : AreFrom layer a
+  pub noted : (rule : ℕ) × IsOnAgenda a layer rule
+  pub from : NoLowerLayer layer a
 
 -- adds this rule to the noted rules
-pub record Notes (layer rule : ℕ) (a a' : Agenda) : Type 0 where
+pub record AddsToAgenda (layer rule : ℕ) (a a' : Agenda) : Type 0 where
   pub noted : IsPermutation (entry_for layer rule ∷ heap_items a.noted) (heap_items a'.noted)
   pub ordered : IsOrdered a'
   pub ready : a'.ready ≡ a.ready
   pub left : a'.left ≤ a.left
 
 -- removes this rule, which was noted or ready; all other rules are kept
-pub record Takes (layer rule : ℕ) (a a' : Agenda) : Type 0 where
+pub record RemovesFromAgenda (layer rule : ℕ) (a a' : Agenda) : Type 0 where
   pub was : IsAwaited a layer rule
-  pub noted : (m other : ℕ) → IsNoted a m other → IsNoted a' m other ⊎ (other ≡ rule)
+  pub noted : (m other : ℕ) → IsOnAgenda a m other → IsOnAgenda a' m other ⊎ (other ≡ rule)
   pub ready : (other : ℕ) → Contains a.ready.items other
       → Contains a'.ready.items other ⊎ (other ≡ rule)
   pub still_noted : All (Contains (heap_items a.noted)) (heap_items a'.noted)

@@ -10,7 +10,7 @@ use Rattle.sas_meaning.specs.Layers.{IsBasic}
 use Rattle.sas_axioms.specs.declared.counting.Counted.{Counted}
 use Rattle.sas_axioms.specs.declared.waiting.Waiting.{Waiting}
 use Rattle.sas_axioms.specs.LayerRules.{IsRuleOn}
-use Rattle.sas_axioms.specs.Waiting.{asking, entry_of, waits, released, occurrences, waiting_at}
+use Rattle.sas_axioms.specs.Waiting.{asking, waiting_entry, waits, released, occurrences, waiting_at}
 
 -- the entry belongs to a rule that can fire
 abbrev pub IsOfRule : Parts → Waiting → Type 0
@@ -24,7 +24,7 @@ pub record IsCondition (p : Parts) (e : Entry Waiting) : Type 0 where
 -- the conditions of a rule as entries
 abbrev pub entries : ℕ → List Fact → List (Entry Waiting)
 entries rule [] = []
-entries rule (c ∷ cs) = entry_of c rule ∷ entries rule cs
+entries rule (c ∷ cs) = waiting_entry c rule ∷ entries rule cs
 
 -- for each rule that can fire, each fact has as many entries as it occurs in the rule's conditions
 pub record AreAllConditions (p : Parts) (es : List (Entry Waiting)) : Type 0 where
@@ -42,19 +42,19 @@ pub record IsFullIndex (p : Parts) (index : List (List Waiting)) : Type 0 where
       ≡ asking var value (rule_at p rule).conditions
 
 -- a rule that can fire has a condition on the variable
-abbrev pub IsAsked : Parts → ℕ → Type 0
-IsAsked p var = (layer rule : ℕ) × (c : Fact)
+abbrev pub IsRequired : Parts → ℕ → Type 0
+IsRequired p var = (layer rule : ℕ) × (c : Fact)
     × IsRuleOn p layer rule × Contains (rule_at p rule).conditions c × (c.var ≡ var)
 
 -- the basic variables that occur in conditions, each at least once
-pub record AreAskedBasic (p : Parts) (variables : List ℕ) : Type 0 where
+pub record AreRequiredBasic (p : Parts) (variables : List ℕ) : Type 0 where
   pub basic : All (IsBasic p) variables
   pub exist : All (λ var. var < length p.variables) variables
-  pub each : (var : ℕ) → IsBasic p var → IsAsked p var → Contains variables var
+  pub each : (var : ℕ) → IsBasic p var → IsRequired p var → Contains variables var
 
 -- the basic variables that occur in conditions have the same values in both states
-abbrev pub SameAsked : Parts → List ℕ → List ℕ → Type 0
-SameAsked p s s' = (var : ℕ) → IsBasic p var → IsAsked p var
+abbrev pub SameRequired : Parts → List ℕ → List ℕ → Type 0
+SameRequired p s s' = (var : ℕ) → IsBasic p var → IsRequired p var
     → slice_index s var ≡ slice_index s' var
 
 -- the number of conditions that don't hold

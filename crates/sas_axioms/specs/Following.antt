@@ -12,7 +12,7 @@ use Rattle.sas_axioms.specs.declared.agenda.Agenda.{Agenda}
 use Rattle.sas_axioms.specs.declared.firing.Work.{Work}
 use Rattle.sas_axioms.specs.declared.layer_rules.LayerRule.{LayerRule}
 use Rattle.sas_axioms.specs.declared.waiting.Waiting.{Waiting}
-use Rattle.sas_axioms.specs.Agenda.{IsNoted, IsAwaited, IsOrdered, AreFrom, AreBehind, work_left}
+use Rattle.sas_axioms.specs.Agenda.{IsOnAgenda, IsAwaited, IsOrdered, NoLowerLayer, AreBehind, work_left}
 use Rattle.sas_axioms.specs.Conditions.{AreCounted}
 use Rattle.sas_axioms.specs.LayerRules.{IsRuleOn}
 use Rattle.sas_axioms.specs.Sources.{IsHolding, HaveSources, SourcesHold, AreGiven}
@@ -23,9 +23,9 @@ abbrev pub AsksAbout : Parts → ℕ → ℕ → Type 0
 AsksAbout p var rule = (c : Fact) × Contains (rule_at p rule).conditions c × (c.var ≡ var)
 
 -- on this layer and higher ones, each rule that holds in exactly one of the two states is noted
-abbrev pub AreNoted : Parts → ℕ → List ℕ → List ℕ → Agenda → Type 0
-AreNoted p from s s' a = (layer rule : ℕ) → from ≤ layer → IsRuleOn p layer rule
-    → IsNoted a layer rule ⊎ (IsHolding p s rule ↔ IsHolding p s' rule)
+abbrev pub ChangesAreNoted : Parts → ℕ → List ℕ → List ℕ → Agenda → Type 0
+ChangesAreNoted p from s s' a = (layer rule : ℕ) → from ≤ layer → IsRuleOn p layer rule
+    → IsOnAgenda a layer rule ⊎ (IsHolding p s rule ↔ IsHolding p s' rule)
 
 -- on this layer and higher ones, the derived variables have the same values in both states
 abbrev pub SameFrom : Parts → ℕ → List ℕ → List ℕ → Type 0
@@ -48,7 +48,7 @@ pub record SameWork (w w' : Work) : Type 0 where
 
 -- more rules are noted, and each of the new ones satisfies `May`
 pub record NotesMore (p : Parts) (May : ℕ → Type 0) (a a' : Agenda) : Type 0 where
-  pub keeps : (layer rule : ℕ) → IsNoted a layer rule → IsNoted a' layer rule
+  pub keeps : (layer rule : ℕ) → IsOnAgenda a layer rule → IsOnAgenda a' layer rule
   pub only : All (λ (e : Reverse LayerRule). Contains (heap_items a.noted) e
       ⊎ (IsRuleOn p e.0.layer e.0.rule × May e.0.rule)) (heap_items a'.noted)
   pub ordered : IsOrdered a'
@@ -60,7 +60,7 @@ pub record CountsTo (p : Parts) (rule n : ℕ) (w w' : Work) : Type 0 where
   pub same : SameWork w w'
   pub counters : w'.counters ≡ slice_set w.counters rule n
   pub crossed : (layer : ℕ) → IsRuleOn p layer rule
-      → IsNoted w'.agenda layer rule ⊎ ((slice_index w.counters rule ≡ 0) ↔ (n ≡ 0))
+      → IsOnAgenda w'.agenda layer rule ⊎ ((slice_index w.counters rule ≡ 0) ↔ (n ≡ 0))
   pub notes : NotesMore p (λ r. r ≡ rule) w.agenda w'.agenda
   pub left : work_left w'.agenda ≤ work_left w.agenda + 2
 
@@ -72,7 +72,7 @@ pub record Recounts (p : Parts) (waiting : List Waiting) (former value : ℕ) (w
       → slice_index w'.counters rule + occurrences rule (released value waiting)
       ≡ slice_index w.counters rule + occurrences rule (released former waiting)
   pub crossed : (layer rule : ℕ) → IsRuleOn p layer rule
-      → IsNoted w'.agenda layer rule
+      → IsOnAgenda w'.agenda layer rule
       ⊎ ((slice_index w.counters rule ≡ 0) ↔ (slice_index w'.counters rule ≡ 0))
   pub notes : NotesMore p
       (λ rule. (w : Waiting) × Contains waiting w × (w.rule ≡ rule)) w.agenda w'.agenda
@@ -80,10 +80,10 @@ pub record Recounts (p : Parts) (waiting : List Waiting) (former value : ℕ) (w
 
 -- a variable changed: the counters are those of the new state, and rules that hold in exactly one
 -- of the states are noted
-pub record Moves (p : Parts) (var : ℕ) (s : List ℕ) (w : Work) (s' : List ℕ) (w' : Work)
+pub record CountsChange (p : Parts) (var : ℕ) (s : List ℕ) (w : Work) (s' : List ℕ) (w' : Work)
     : Type 0 where
   pub counts : AreCounted p s' w'.counters
-  pub crossed : AreNoted p 0 s s' w'.agenda
+  pub crossed : ChangesAreNoted p 0 s s' w'.agenda
   pub notes : NotesMore p (AsksAbout p var) w.agenda w'.agenda
   pub left : work_left w'.agenda ≤ work_left w.agenda
 
@@ -95,7 +95,7 @@ pub record IsOnTrack (p : Parts) (layer : ℕ) (s : List ℕ) (w : Work) : Type 
   pub ordered : IsOrdered w.agenda
   pub noted : All (λ (e : Reverse LayerRule). IsRuleOn p e.0.layer e.0.rule)
       (heap_items w.agenda.noted)
-  pub from : AreFrom layer w.agenda
+  pub from : NoLowerLayer layer w.agenda
   pub ready : All (λ rule. IsRuleOn p layer rule) w.agenda.ready.items
 
 -- The counters are those of the values m: the settled state s0 with some basic variables changed.
@@ -105,7 +105,7 @@ pub record CountedSoFar (p : Parts) (s0 m : List ℕ) (w : Work) : Type 0 where
   pub ordered : IsOrdered w.agenda
   pub rules : All (λ (e : Reverse LayerRule). IsRuleOn p e.0.layer e.0.rule)
       (heap_items w.agenda.noted)
-  pub noted : AreNoted p 0 s0 m w.agenda
+  pub noted : ChangesAreNoted p 0 s0 m w.agenda
   pub same : SameFrom p 0 s0 m
   pub have : (layer : ℕ) → HaveSources p layer m w.sources
   pub held : (layer : ℕ) → SourcesHold p layer w.sources m s0
@@ -118,7 +118,7 @@ pub record IsBetween (p : Parts) (s0 : List ℕ) (layer : ℕ) (s : List ℕ) (w
   pub settled : IsSettled p s0
   pub below : (m : ℕ) → m < layer → IsSettledAt p m s
   pub same : SameFrom p layer s0 s
-  pub noted : AreNoted p layer s0 s w.agenda
+  pub noted : ChangesAreNoted p layer s0 s w.agenda
   pub have : (m : ℕ) → HaveSources p m s w.sources
   pub hold : (m : ℕ) → m < layer → SourcesHold p m w.sources s s
   pub held : (m : ℕ) → layer ≤ m → SourcesHold p m w.sources s s0
@@ -130,12 +130,12 @@ pub record IsFalling (p : Parts) (s0 s : List ℕ) (w : Work) : Type 0 where
   pub track : IsOnTrack p w.layer s w
   pub settled : IsSettled p s0
   pub same : SameFrom p (w.layer + 1) s0 s
-  pub noted : AreNoted p (w.layer + 1) s0 s w.agenda
+  pub noted : ChangesAreNoted p (w.layer + 1) s0 s w.agenda
   pub have : (m : ℕ) → HaveSources p m s w.sources
   pub held : (m : ℕ) → w.layer < m → SourcesHold p m w.sources s s0
   pub sources : (var : ℕ) → IsOnLayer p w.layer var → IsTrue (differs p s var)
       → IsHolding p s (slice_index w.sources var)
-      ⊎ IsNoted w.agenda w.layer (slice_index w.sources var)
+      ⊎ IsOnAgenda w.agenda w.layer (slice_index w.sources var)
   pub fired : (rule : ℕ) → IsRuleOn p w.layer rule → IsHolding p s rule
       → IsTrue (differs p s (rule_at p rule).var) ⊎ IsAwaited w.agenda w.layer rule
 
@@ -145,7 +145,7 @@ pub record IsRising (p : Parts) (s0 s : List ℕ) (w : Work) : Type 0 where
   pub track : IsOnTrack p w.layer s w
   pub settled : IsSettled p s0
   pub same : SameFrom p (w.layer + 1) s0 s
-  pub noted : AreNoted p (w.layer + 1) s0 s w.agenda
+  pub noted : ChangesAreNoted p (w.layer + 1) s0 s w.agenda
   pub have : (m : ℕ) → HaveSources p m s w.sources
   pub held : (m : ℕ) → w.layer < m → SourcesHold p m w.sources s s0
   pub hold : SourcesHold p w.layer w.sources s s
@@ -158,7 +158,7 @@ pub record HasRisen (p : Parts) (s0 s : List ℕ) (w : Work) : Type 0 where
   pub settled : IsSettled p s0
   pub here : IsSettledAt p w.layer s
   pub same : SameFrom p (w.layer + 1) s0 s
-  pub noted : AreNoted p (w.layer + 1) s0 s w.agenda
+  pub noted : ChangesAreNoted p (w.layer + 1) s0 s w.agenda
   pub have : (m : ℕ) → HaveSources p m s w.sources
   pub held : (m : ℕ) → w.layer < m → SourcesHold p m w.sources s s0
   pub hold : SourcesHold p w.layer w.sources s s

@@ -7,7 +7,7 @@ use Rattle.sas_meaning.specs.Layers.{IsOnLayer}
 use Rattle.sas_meaning.specs.Forced.{AtDefault}
 use Rattle.sas_axioms.specs.declared.resting.Resting.{Resting}
 use Rattle.sas_axioms.specs.LayerRules.{IsRuleOn}
-use Rattle.sas_axioms.specs.Conditions.{AreAskedBasic, IsCounted}
+use Rattle.sas_axioms.specs.Conditions.{AreRequiredBasic, IsCounted}
 
 -- all conditions of the rule on derived variables are on this layer
 abbrev pub StaysOn : Parts → ℕ → ℕ → Type 0
@@ -22,7 +22,7 @@ pub record AreLooks (p : Parts) (below : List Bool) : Type 0 where
 
 -- the counters are those of a state in which each derived variable has its default
 pub record IsResting (p : Parts) (r : Resting) : Type 0 where
-  pub asked : AreAskedBasic p r.asked.items
+  pub asked : AreRequiredBasic p r.asked.items
   pub counted : IsCounted p r.counted
   pub default : (layer : ℕ) → AtDefault p layer r.counted.values
   pub looks : AreLooks p r.looks_below.items

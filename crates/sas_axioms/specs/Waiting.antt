@@ -15,8 +15,8 @@ asking var value (c ∷ cs) =
     (if (c.var == var) && (c.value == value) then 1 else 0) + asking var value cs
 
 -- the entry for a condition of the rule; its key is the variable of the condition
-abbrev pub entry_of : Fact → ℕ → Entry Waiting
-entry_of condition rule =
+abbrev pub waiting_entry : Fact → ℕ → Entry Waiting
+waiting_entry condition rule =
     record { key = condition.var; item = record { value = condition.value; rule = rule } }
 
 -- how many entries the rule has for this fact

@@ -14,7 +14,7 @@ use Rattle.sas_axioms.specs.declared.worklist.Worklist.{Worklist}
 use Rattle.sas_axioms.specs.LayerRules.{IsRuleOn, AreLayerRules, AreSpans, AreRulesOf}
 use Rattle.sas_axioms.specs.Sources.{AreGiven, SameSourcesOff}
 use Rattle.sas_axioms.specs.Waiting.{occurrences, IsIndex}
-use Rattle.sas_axioms.specs.Conditions.{open_conditions, SameAsked}
+use Rattle.sas_axioms.specs.Conditions.{open_conditions, SameRequired}
 use Rattle.sas_axioms.specs.Resting.{IsResting}
 
 -- the value that the counters use: the default for a variable on the stack, else its value
@@ -34,8 +34,8 @@ pub record IsRunning (p : Parts) (layer : ℕ) (s stack : List ℕ) : Type 0 whe
 
 -- each counter is the number of conditions of its rule that are open under `value_seen`, plus the
 -- number of times the rule occurs in `left`, the rules still to be counted down
-abbrev pub AreCounted : Parts → ℕ → List ℕ → List ℕ → List ℕ → List ℕ → Type 0
-AreCounted p layer s stack counters left = (rule : ℕ) → IsRuleOn p layer rule
+abbrev pub AreCountedWithStack : Parts → ℕ → List ℕ → List ℕ → List ℕ → List ℕ → Type 0
+AreCountedWithStack p layer s stack counters left = (rule : ℕ) → IsRuleOn p layer rule
     → slice_index counters rule
     ≡ open_conditions (value_seen p s stack) (rule_at p rule).conditions + occurrences rule left
 
@@ -58,7 +58,7 @@ pub record HasRoom (p : Parts) (w : Work) : Type 0 where
 pub record IsAtWork (p : Parts) (s : List ℕ) (w : Work) (left : List ℕ) : Type 0 where
   pub room : HasRoom p w
   pub running : IsRunning p w.layer s w.stack.items
-  pub counts : AreCounted p w.layer s w.stack.items w.counters left
+  pub counts : AreCountedWithStack p w.layer s w.stack.items w.counters left
   pub fired : HaveFired p w.layer s w.counters
   pub given : AreGiven p w.layer s w.sources
 
@@ -94,7 +94,7 @@ pub record FiresRule (p : Parts) (rule : ℕ) (s : List ℕ) (w : Work) (s' : Li
   pub kept : (var : ℕ) → IsTrue (differs p s var) → slice_index s' var ≡ slice_index s var
 
 -- the data for settling layers fit the task, and the stack is empty
-pub record IsPrepared (p : Parts) (f : Firing) : Type 0 where
+pub record IsFiringReady (p : Parts) (f : Firing) : Type 0 where
   pub index : IsIndex p f.index
   pub resting : IsResting p f.resting
   pub rules_of : AreRulesOf p f.rules_of
@@ -106,10 +106,10 @@ pub record IsReadyFor (p : Parts) (w : Worklist) : Type 0 where
   pub variables : AreDerived p w.derived.items
   pub rules : AreLayerRules p w.rules.items
   pub spans : AreSpans w.rules.items 0 w.spans.items (length w.rules.items)
-  pub firing : IsPrepared p w.firing
+  pub firing : IsFiringReady p w.firing
 
 -- the rules from index `place` on are those of `layer` and higher layers
-pub record StandsAt (rules : List LayerRule) (layer place : ℕ) : Type 0 where
+pub record LayerBeginsAt (rules : List LayerRule) (layer place : ℕ) : Type 0 where
   pub within : place ≤ length rules
   pub before : (k : ℕ) (d : LayerRule) → k < place → (slice_index_or rules k d).layer < layer
   pub behind : (k : ℕ) (d : LayerRule) → place ≤ k → k < length rules
@@ -119,8 +119,8 @@ pub record StandsAt (rules : List LayerRule) (layer place : ℕ) : Type 0 where
 -- the state
 pub record IsReadyFrom (p : Parts) (layer : ℕ) (s : List ℕ) (w : Worklist) : Type 0 where
   pub ready : IsReadyFor p w
-  pub stands : StandsAt w.rules.items layer w.start
+  pub stands : LayerBeginsAt w.rules.items layer w.start
   pub left : AreSpans w.rules.items w.start (drop w.next w.spans.items) (length w.rules.items)
-  pub follows : SameAsked p s w.firing.resting.counted.values
+  pub follows : SameRequired p s w.firing.resting.counted.values
   pub counts : (below : ℕ) → below < layer → AreCountedOn p below s w.firing.work.counters
   pub given : (below : ℕ) → below < layer → AreGiven p below s w.firing.work.sources

@@ -1,7 +1,7 @@
 // The rules that must be re-evaluated after a settled state has changed.
 ghost use Rattle.std.specs.Prelude.{◌≡◌, ◌+◌, ◌≤◌, [], IfOk, OnOk, IfSome, OnSome, IfNone};
 ghost use Rattle.std.specs.BinaryHeap.{heap_items};
-ghost use Rattle.sas_axioms.specs.Agenda.{IsEmpty, IsOrdered, AreFrom, AreBehind, Lowest, Notes, Takes, IsMadeReady, work_left};
+ghost use Rattle.sas_axioms.specs.Agenda.{IsEmpty, IsOrdered, NoLowerLayer, AreBehind, Lowest, AddsToAgenda, RemovesFromAgenda, IsMadeReady, work_left};
 
 use crate::layer_rules::LayerRule;
 use std::alloc::{AllocError, Global};
@@ -105,7 +105,7 @@ impl Agenda {
     /// Notes the rule and subtracts the work for it. Returns an error if too little work or memory remains. Allocates no memory.
     pub fn note(&mut self, entry: LayerRule) -> Result<(), TooMuch>
         requires { IsOrdered self.old }
-        ensures { OnOk result (Notes entry.layer entry.rule self.old self.new) }
+        ensures { OnOk result (AddsToAgenda entry.layer entry.rule self.old self.new) }
     {
         self.pay(NOTING)?;
         self.push(entry)
@@ -114,7 +114,7 @@ impl Agenda {
     /// Notes the rule. The work for it has been subtracted.
     fn push(&mut self, entry: LayerRule) -> Result<(), TooMuch>
         requires { IsOrdered self.old }
-        ensures { OnOk result (Notes entry.layer entry.rule self.old self.new) }
+        ensures { OnOk result (AddsToAgenda entry.layer entry.rule self.old self.new) }
     {
         if self.noted.len() == self.noted.capacity() {
             return Err(TooMuch);
@@ -140,8 +140,8 @@ impl Agenda {
     /// Removes a noted rule of this layer and returns it, or `None` if there is none. Lower layers must have no noted rules.
     pub fn take(&mut self, layer: u32) -> Option<u32>
         requires ordered { IsOrdered self.old }
-        requires lowest { AreFrom layer self.old }
-        ensures some { IfSome result (λ rule. Takes layer rule self.old self.new) }
+        requires lowest { NoLowerLayer layer self.old }
+        ensures some { IfSome result (λ rule. RemovesFromAgenda layer rule self.old self.new) }
         ensures left { OnSome result (work_left self.new + 2 ≤ work_left self.old) }
         ensures none { IfNone result (AreBehind layer self.new) }
         ensures same { IfNone result (self.new ≡ self.old) }
@@ -158,8 +158,8 @@ impl Agenda {
     /// Removes a ready or noted rule of this layer and returns it, or `None` if there is none. Lower layers must have no noted rules.
     pub fn next(&mut self, layer: u32) -> Option<u32>
         requires ordered { IsOrdered self.old }
-        requires lowest { AreFrom layer self.old }
-        ensures some { IfSome result (λ rule. Takes layer rule self.old self.new) }
+        requires lowest { NoLowerLayer layer self.old }
+        ensures some { IfSome result (λ rule. RemovesFromAgenda layer rule self.old self.new) }
         ensures none { IfNone result (AreBehind layer self.new) }
         ensures empty { IfNone result (self.new.ready.items ≡ []) }
         ensures same { IfNone result (self.new ≡ self.old) }

@@ -2,7 +2,7 @@
 ghost use Rattle.std.specs.Prelude.{◌≡◌, ◌<◌, ◌++◌, IfOk, OnOk, length};
 ghost use Rattle.sas_core.specs.Grounded.{rule_at};
 ghost use Rattle.sas_axioms.specs.LayerRules.{IsRuleOn};
-ghost use Rattle.sas_axioms.specs.Conditions.{IsFullIndex, AreAllConditions, AreAskedBasic, entries};
+ghost use Rattle.sas_axioms.specs.Conditions.{IsFullIndex, AreAllConditions, AreRequiredBasic, entries};
 
 use crate::layer_rules::firing_layer;
 use crate::waiting::{Waiting, entry_of};
@@ -29,7 +29,7 @@ pub fn asked_variables<T: Grounded>(
     index: &Lists<Waiting>,
 ) -> Result<Vec<u32>, AllocError>
     requires index { IsFullIndex task.now index.now }
-    ensures { IfOk result (λ variables. AreAskedBasic task.now variables.items) }
+    ensures { IfOk result (λ variables. AreRequiredBasic task.now variables.items) }
 {
     let mut variables = Vec::new(alloc);
     for var in 0..task.variables() {

@@ -11,13 +11,13 @@ ghost use Rattle.sas_axioms.specs.declared.waiting.Waiting.{Waiting};
 ghost use Rattle.sas_axioms.specs.ByLayers.{SettlesLayer};
 ghost use Rattle.sas_axioms.specs.LayerRules.{IsRuleOn, AreRulesOn};
 ghost use Rattle.sas_axioms.specs.Waiting.{IsIndex, released};
-ghost use Rattle.sas_axioms.specs.Conditions.{open_conditions, SameAsked};
+ghost use Rattle.sas_axioms.specs.Conditions.{open_conditions, SameRequired};
 ghost use Rattle.sas_axioms.specs.Resting.{IsResting};
 ghost use Rattle.sas_axioms.specs.Agenda.{IsEmpty};
 ghost use Rattle.sas_axioms.specs.Sources.{AreGiven, SameSourcesOff};
 ghost use Rattle.sas_axioms.specs.Following.{IsFollowed};
 ghost use Rattle.sas_axioms.specs.Worklist.{AreCountedOn, SameCountsOff};
-ghost use Rattle.sas_axioms.specs.Worklist.{IsRunning, AreCounted, HasRoom, IsAtWork, WorkGoesOn, FiresRule, IsPrepared};
+ghost use Rattle.sas_axioms.specs.Worklist.{IsRunning, AreCountedWithStack, HasRoom, IsAtWork, WorkGoesOn, FiresRule, IsFiringReady};
 
 use crate::agenda::{Agenda, TooMuch};
 use crate::following::{count_gone, settle_noted};
@@ -111,7 +111,7 @@ impl Firing {
         task: &Layered<T>,
         share: usize,
     ) -> Result<Firing, AllocError>
-        ensures { IfOk result (λ firing. IsPrepared task.now firing) }
+        ensures { IfOk result (λ firing. IsFiringReady task.now firing) }
     {
         let work = Work::new(alloc, task, share)?;
         Ok(Firing {
@@ -130,12 +130,12 @@ impl Firing {
         rules: &[LayerRule],
         state: &mut State,
     )
-        requires prepared { IsPrepared task.now self.old }
-        requires follows { SameAsked task.now state.old self.old.resting.counted.values }
+        requires prepared { IsFiringReady task.now self.old }
+        requires follows { SameRequired task.now state.old self.old.resting.counted.values }
         requires rules { AreRulesOn task.now layer rules.now }
         requires state { IsState task.now.variables state.old }
         requires default { AtDefault task.now layer state.old }
-        ensures prepared { IsPrepared task.now self.new }
+        ensures prepared { IsFiringReady task.now self.new }
         ensures same { self.new.resting ≡ self.old.resting }
         ensures settles { SettlesLayer task.now layer state.old state.new }
         ensures counts { AreCountedOn task.now layer state.new self.new.work.counters }
@@ -158,11 +158,11 @@ impl Firing {
         state: &mut State,
         touched: &mut Touched,
     ) -> Result<(), TooMuch>
-        requires prepared { IsPrepared task.now self.old }
+        requires prepared { IsFiringReady task.now self.old }
         requires state { IsState task.now.variables state.old }
         requires follows { (s : List ℕ)
             × IsFollowed task.now s self.old.work × HaveGone task.now gone.now s state.old }
-        ensures prepared { IsPrepared task.now self.new }
+        ensures prepared { IsFiringReady task.now self.new }
         ensures state { IsState task.now.variables state.new }
         ensures basic { SameBasic task.now state.old state.new }
         ensures told { StillTells task.now state.old touched.old state.new touched.new }
@@ -182,12 +182,12 @@ impl Firing {
         state: &mut State,
         touched: &mut Touched,
     ) -> Result<(), TooMuch>
-        requires prepared { IsPrepared task.now self.old }
+        requires prepared { IsFiringReady task.now self.old }
         requires state { IsState task.now.variables state.old }
         requires follows { (s : List ℕ)
             × IsFollowed task.now s self.old.work × HaveGone task.now gone.now s state.old }
         requires empty { IsEmpty self.old.work.agenda }
-        ensures prepared { IsPrepared task.now self.new }
+        ensures prepared { IsFiringReady task.now self.new }
         ensures state { IsState task.now.variables state.new }
         ensures basic { SameBasic task.now state.old state.new }
         ensures told { StillTells task.now state.old touched.old state.new touched.new }
@@ -209,14 +209,14 @@ fn count_conditions<T: Grounded>(
 )
     requires rules { AreRulesOn task.now work.old.layer rules.now }
     requires resting { IsResting task.now resting.now }
-    requires follows { SameAsked task.now state.now resting.now.counted.values }
+    requires follows { SameRequired task.now state.now resting.now.counted.values }
     requires room { HasRoom task.now work.old }
     requires state { IsState task.now.variables state.now }
     requires default { AtDefault task.now work.old.layer state.now }
     ensures layer { work.new.layer ≡ work.old.layer }
     ensures stack { work.new.stack ≡ work.old.stack }
     ensures room { HasRoom task.now work.new }
-    ensures counts { AreCounted task.now work.old.layer state.now [] work.new.counters [] }
+    ensures counts { AreCountedWithStack task.now work.old.layer state.now [] work.new.counters [] }
     ensures others { SameCountsOff task.now work.old.layer work.old.counters work.new.counters }
     ensures sources { work.new.sources ≡ work.old.sources }
 {
@@ -252,7 +252,7 @@ fn fire_ready<T: Grounded>(
     requires rules { AreRulesOn task.now work.old.layer rules.now }
     requires room { HasRoom task.now work.old }
     requires running { IsRunning task.now work.old.layer state.old work.old.stack.items }
-    requires counts { AreCounted task.now work.old.layer state.old work.old.stack.items
+    requires counts { AreCountedWithStack task.now work.old.layer state.old work.old.stack.items
         work.old.counters [] }
     requires given { AreGiven task.now work.old.layer state.old work.old.sources }
     ensures at_work { IsAtWork task.now state.new work.new [] }

@@ -11,14 +11,14 @@ ghost use Rattle.sas_core.specs.Variables.{IsDerived, IsState};
 ghost use Rattle.sas_meaning.specs.Following.{HaveGone};
 ghost use Rattle.sas_meaning.specs.Forced.{SameOff};
 ghost use Rattle.sas_meaning.specs.Settled.{SameBasic, differs};
-ghost use Rattle.sas_meaning.specs.Touched.{Notes, StillTells};
+ghost use Rattle.sas_meaning.specs.Touched.{AddsTouched, StillTells};
 ghost use Rattle.sas_axioms.specs.declared.waiting.Waiting.{Waiting};
-ghost use Rattle.sas_axioms.specs.Agenda.{IsEmpty, IsNoted, IsOrdered, AreMadeReady, work_left};
+ghost use Rattle.sas_axioms.specs.Agenda.{IsEmpty, IsOnAgenda, IsOrdered, AreMadeReady, work_left};
 ghost use Rattle.sas_axioms.specs.Conditions.{AreCounted, IsFullIndex};
 ghost use Rattle.sas_axioms.specs.LayerRules.{IsRuleOn, AreRulesOf};
 ghost use Rattle.sas_axioms.specs.Sources.{SameSourcesOff};
 ghost use Rattle.sas_axioms.specs.Waiting.{occurrences, released};
-ghost use Rattle.sas_axioms.specs.Following.{SameWork, KeepsRoom, NotesMore, CountsTo, Recounts, Moves};
+ghost use Rattle.sas_axioms.specs.Following.{SameWork, KeepsRoom, NotesMore, CountsTo, Recounts, CountsChange};
 ghost use Rattle.sas_axioms.specs.Following.{IsBetween, IsFalling, IsRising, HasRisen, IsFollowed};
 
 use crate::agenda::{Agenda, TooMuch};
@@ -109,7 +109,7 @@ fn fall<T: Grounded>(
     requires index { IsFullIndex task.now index.now }
     requires rules { AreRulesOf task.now rules_of.now }
     requires falling { (s : List ℕ) × IsFalling task.now s state.old work.old }
-    requires noted { (rule : ℕ) × IsNoted work.old.agenda work.old.layer rule }
+    requires noted { (rule : ℕ) × IsOnAgenda work.old.agenda work.old.layer rule }
     ensures same { SameWork work.old work.new }
     ensures state { IsState task.now.variables state.new }
     ensures off { SameOff task.now work.old.layer state.old state.new }
@@ -234,9 +234,10 @@ fn set_to<T: Grounded>(
     requires derived { IsDerived task.now.variables fact.var }
     requires other { slice_index state.old fact.var ≢ fact.value }
     ensures state { state.new ≡ slice_set state.old fact.var fact.value }
-    ensures noted { Notes fact.var touched.old touched.new }
+    ensures noted { AddsTouched fact.var touched.old touched.new }
     ensures same { SameWork work.old work.new }
-    ensures moves { OnOk result (Moves task.now fact.var state.old work.old state.new work.new) }
+    ensures moves { OnOk result
+        (CountsChange task.now fact.var state.old work.old state.new work.new) }
 {
     let moved = Moved {
         former: state.value(fact.var),
@@ -264,7 +265,7 @@ fn recount<T: Grounded>(
     ensures same { SameWork work.old work.new }
     ensures moves { OnOk result ((s : List ℕ) → AreCounted task.now s work.old.counters
         → slice_index s var ≡ moved.former
-        → Moves task.now var s work.old (slice_set s var moved.value) work.new) }
+        → CountsChange task.now var s work.old (slice_set s var moved.value) work.new) }
 {
     // The contract of `task` ensures that the task is well ranged and layered.
     let _ = task.task();
@@ -328,7 +329,7 @@ fn note<T: Grounded>(task: &Layered<T>, rule: u32, agenda: &mut Agenda) -> Resul
     requires exists { rule < length task.now.rules }
     requires ordered { IsOrdered agenda.old }
     ensures noted { OnOk result ((layer : ℕ) → IsRuleOn task.now layer rule
-        → IsNoted agenda.new layer rule) }
+        → IsOnAgenda agenda.new layer rule) }
     ensures notes { OnOk result (NotesMore task.now (λ r. r ≡ rule) agenda.old agenda.new) }
     ensures left { OnOk result (work_left agenda.new ≤ work_left agenda.old + 2) }
 {

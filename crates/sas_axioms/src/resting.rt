@@ -4,7 +4,7 @@ ghost use Rattle.sas_core.specs.Grounded.{rule_at};
 ghost use Rattle.sas_core.specs.Variables.{IsState};
 ghost use Rattle.sas_meaning.specs.Forced.{AtDefault};
 ghost use Rattle.sas_axioms.specs.LayerRules.{IsRuleOn};
-ghost use Rattle.sas_axioms.specs.Conditions.{AreAskedBasic, SameAsked, open_conditions, IsCounted};
+ghost use Rattle.sas_axioms.specs.Conditions.{AreRequiredBasic, SameRequired, open_conditions, IsCounted};
 ghost use Rattle.sas_axioms.specs.Resting.{StaysOn, AreLooks, IsResting};
 
 use crate::conditions::asked_variables;
@@ -64,7 +64,7 @@ impl Resting {
         requires resting { IsResting task.now self.old }
         requires state { IsState task.now.variables state.now }
         ensures resting { IsResting task.now self.new }
-        ensures follows { SameAsked task.now state.now self.new.counted.values }
+        ensures follows { SameRequired task.now state.now self.new.counted.values }
     {
         follow_asked(task, self.asked.as_slice(), state, &mut self.counted);
     }
@@ -80,7 +80,7 @@ impl Resting {
     ) -> u32
         requires rule { IsRuleOn task.now layer rule }
         requires resting { IsResting task.now self.now }
-        requires follows { SameAsked task.now state.now self.now.counted.values }
+        requires follows { SameRequired task.now state.now self.now.counted.values }
         requires state { IsState task.now.variables state.now }
         requires default { AtDefault task.now layer state.now }
         ensures { result
@@ -98,13 +98,13 @@ impl Resting {
 
 /// Updates the counts for the values of the `asked` variables in the state.
 fn follow_asked<T: Grounded>(task: &Layered<T>, asked: &[u32], state: &State, counted: &mut Counted)
-    requires asked { AreAskedBasic task.now asked.now }
+    requires asked { AreRequiredBasic task.now asked.now }
     requires state { IsState task.now.variables state.now }
     requires counts { IsCounted task.now counted.old }
     requires default { (layer : ℕ) → AtDefault task.now layer counted.old.values }
     ensures counts { IsCounted task.now counted.new }
     ensures default { (layer : ℕ) → AtDefault task.now layer counted.new.values }
-    ensures follows { SameAsked task.now state.now counted.new.values }
+    ensures follows { SameRequired task.now state.now counted.new.values }
 {
     for var in asked {
         let value = state.value(*var);
@@ -119,7 +119,7 @@ fn asked_and_counted<T: Grounded>(
     alloc: Global,
     task: &Layered<T>,
 ) -> Result<(Vec<u32>, Counted), AllocError>
-    ensures asked { IfOk result (λ r. AreAskedBasic task.now r.0.items) }
+    ensures asked { IfOk result (λ r. AreRequiredBasic task.now r.0.items) }
     ensures values { IfOk result (λ r. r.1.values ≡ task.now.init) }
     ensures counts { IfOk result (λ r. IsCounted task.now r.1) }
 {

@@ -1,7 +1,7 @@
 // An index from each variable to the conditions of rules on it.
 ghost use Rattle.std.specs.Prelude.{◌≡◌, IfOk, OnOk};
 ghost use Rattle.sas_axioms.specs.LayerRules.{IsRuleOn};
-ghost use Rattle.sas_axioms.specs.Waiting.{entry_of, IsWaiting, AddsWaiting, IsIndex};
+ghost use Rattle.sas_axioms.specs.Waiting.{waiting_entry, IsWaiting, AddsWaiting, IsIndex};
 
 use crate::layer_rules::firing_layer;
 use sas_core::{Fact, Grounded};
@@ -65,7 +65,7 @@ fn push_waiting<T: Grounded>(
 
 /// Returns the entry for this condition of the rule. Its key is the variable of the condition.
 pub fn entry_of(condition: Fact, rule: u32) -> Entry<Waiting>
-    ensures { result ≡ entry_of condition rule }
+    ensures { result ≡ waiting_entry condition rule }
 {
     Entry {
         key: condition.var as usize,

@@ -36,8 +36,8 @@ use Rattle.sas_plans.specs.declared.held.Opening.TheVariants.{Ready, Refused}
 use Rattle.sas_plans.specs.Opened.{Opens}
 use Rattle.sas_plans.specs.TraceOut.{TraceOut}
 use Rattle.sas_c.specs.declared.prepared.Prepared.{Prepared}
-use Rattle.sas_c.specs.Holding.{Holds}
-use Rattle.sas_c.specs.Telling.{Tells, TellsHeadline, EndsInLine, TellsLastLine, TellsInvariants, number_of_fault, number_of_status}
+use Rattle.sas_c.specs.Holding.{HoldsTask}
+use Rattle.sas_c.specs.Telling.{Returns, ReturnsHeadline, EndsInLine, ReturnsLastLine, ReturnsInvariants, number_of_fault, number_of_status}
 use Rattle.sas_c.proofs.TracedPlans.{traced_headline}
 
 same_number : (s t : Status) → number_of_status s ≡ number_of_status t → s ≡ t
@@ -54,7 +54,7 @@ low_number No = omega arith
 
 module _ (text : List ℕ) (status : Status) (before room : List ℕ) (size : ℕ) (long : size ≡ length text) where
   abbrev TellsText : ℕ → Type 0
-  TellsText number = Tells (λ (o : Option Output). o ≡ Some (record { text = text; status = status })) before room size number
+  TellsText number = Returns (λ (o : Option Output). o ≡ Some (record { text = text; status = status })) before room size number
 
   -- that was copied is told
   pub tells_copied : (number : ℕ) → number ≡ number_of_status status → take (length text) room ≡ text → drop (length text) room ≡ drop (length text) before → length room ≡ length before → TellsText number
@@ -85,7 +85,7 @@ module _ (text : List ℕ) (status : Status) (before room : List ℕ) (size : �
 -- ---- an end without one, which leaves the room as it was
 
 module _ (Out : Option Output → Type 0) (room : List ℕ) (size : ℕ) where
-  tells_too_long : Out None → Tells Out room room size 4
+  tells_too_long : Out None → Returns Out room room size 4
   tells_too_long none = record {
     told = λ s e. let low = low_number s in absurd (omega arith);
     longer = λ e. absurd (omega arith);
@@ -96,7 +96,7 @@ module _ (Out : Option Output → Type 0) (room : List ℕ) (size : ℕ) where
     as_long = refl;
   }
 
-  tells_nothing : Tells Out room room size 3
+  tells_nothing : Returns Out room room size 3
   tells_nothing = record {
     told = λ s e. let low = low_number s in absurd (omega arith);
     longer = λ e. absurd (omega arith);
@@ -107,22 +107,22 @@ module _ (Out : Option Output → Type 0) (room : List ℕ) (size : ℕ) where
     as_long = refl;
   }
 
-  by_fault : (why : ToolFault) → (why ≡ TooLong → Out None) → Tells Out room room size (number_of_fault why)
+  by_fault : (why : ToolFault) → (why ≡ TooLong → Out None) → Returns Out room room size (number_of_fault why)
   by_fault TooLong long = tells_too_long (long refl)
   by_fault Memory long = tells_nothing
   by_fault Read long = tells_nothing
   by_fault (Write written) long = tells_nothing
 
-  pub tells_fault : (why : ToolFault) (number : ℕ) → number ≡ number_of_fault why → (why ≡ TooLong → Out None) → Tells Out room room size number
-  tells_fault why number is long = subst (λ (n : ℕ). Tells Out room room size n) (sym is) (by_fault why long)
+  pub tells_fault : (why : ToolFault) (number : ℕ) → number ≡ number_of_fault why → (why ≡ TooLong → Out None) → Returns Out room room size number
+  tells_fault why number is long = subst (λ (n : ℕ). Returns Out room room size n) (sym is) (by_fault why long)
 
-  pub ends_fault : (Sent : List ℕ → Type 0) (why : ToolFault) (number : ℕ) → number ≡ number_of_fault why → EndsCounting Out Sent (Err why) → Tells Out room room size number
+  pub ends_fault : (Sent : List ℕ → Type 0) (why : ToolFault) (number : ℕ) → number ≡ number_of_fault why → EndsCounting Out Sent (Err why) → Returns Out room room size number
   ends_fault Sent why number is ends = tells_fault why number is (λ long. subst (λ (w : ToolFault). EndsCounting Out Sent (Err w)) long ends)
 
 -- ---- what is told of one output is told of another that follows from it
 
 module _ (A B : Option Output → Type 0) (to : (o : Option Output) → A o → B o) (before room : List ℕ) (size number : ℕ) where
-  pub tells_by : Tells A before room size number → Tells B before room size number
+  pub tells_by : Returns A before room size number → Returns B before room size number
   tells_by t = record {
     told = λ status is. let x = t.told status is in (x.0, to (Some x.0) x.1, x.2, x.3, x.4);
     longer = λ is. let x = t.longer is in (x.0, to (Some x.0) x.1, x.2, x.3);
@@ -135,16 +135,16 @@ module _ (A B : Option Output → Type 0) (to : (o : Option Output) → A o → 
 
 -- what is told of a text is told of the same text
 pub tells_same : (text other : List ℕ) (status : Status) (before room : List ℕ) (size number : ℕ) → text ≡ other
-    → Tells (λ o. o ≡ Some (record { text = text; status = status })) before room size number → Tells (λ o. o ≡ Some (record { text = other; status = status })) before room size number
-tells_same text other status before room size number same t = subst (λ (xs : List ℕ). Tells (λ (o : Option Output). o ≡ Some (record { text = xs; status = status })) before room size number) same t
+    → Returns (λ o. o ≡ Some (record { text = text; status = status })) before room size number → Returns (λ o. o ≡ Some (record { text = other; status = status })) before room size number
+tells_same text other status before room size number same t = subst (λ (xs : List ℕ). Returns (λ (o : Option Output). o ≡ Some (record { text = xs; status = status })) before room size number) same t
 
 -- what is known to be the output is told
-pub tells_output : (Out : Option Output → Type 0) (o : Output) → Out (Some o) → (before room : List ℕ) (size number : ℕ) → Tells (λ x. x ≡ Some o) before room size number → Tells Out before room size number
+pub tells_output : (Out : Option Output → Type 0) (o : Output) → Out (Some o) → (before room : List ℕ) (size number : ℕ) → Returns (λ x. x ≡ Some o) before room size number → Returns Out before room size number
 tells_output Out o is before room size number t = tells_by (λ x. x ≡ Some o) Out (λ x e. subst Out (sym e) is) before room size number t
 
 -- what a writer into empty memory was given is told
 pub tells_ended : (Out : Option Output → Type 0) (was items text : List ℕ) (status : Status) (before room : List ℕ) (size number : ℕ) → was ≡ [] → text ≡ items
-    → Ends Out (Appends (Some was) (Some items)) (Ok status) → Tells (λ o. o ≡ Some (record { text = text; status = status })) before room size number → Tells Out before room size number
+    → Ends Out (Appends (Some was) (Some items)) (Ok status) → Returns (λ o. o ≡ Some (record { text = text; status = status })) before room size number → Returns Out before room size number
 tells_ended Out was items text status before room size number empty same ends t =
     let all : text ≡ (ends.0).text = same ∙ ends.3 ∙ ap (λ (xs : List ℕ). xs ++ (ends.0).text) empty in
     let out : Some (record { text = text; status = status }) ≡ Some ends.0 = λ i. Some (record { text = all i; status = ends.2 i }) in
@@ -152,26 +152,26 @@ tells_ended Out was items text status before room size number empty same ends t 
 
 -- what is told of what was asked is told of the same request and bytes
 pub asked_told : (F : Request → List ℕ → List ℕ → Option Output → Type 0) (asked request : Request) (task b plan c before room : List ℕ) (size number : ℕ)
-    → asked ≡ request → task ≡ b → plan ≡ c → Tells (F asked task plan) before room size number → Tells (F request b c) before room size number
+    → asked ≡ request → task ≡ b → plan ≡ c → Returns (F asked task plan) before room size number → Returns (F request b c) before room size number
 asked_told F asked request task b plan c before room size number is same_task same_plan t =
-    subst (λ (r : Request). Tells (F r b c) before room size number) is
-    (subst (λ (xs : List ℕ). Tells (F asked xs c) before room size number) same_task (subst (λ (xs : List ℕ). Tells (F asked task xs) before room size number) same_plan t))
+    subst (λ (r : Request). Returns (F r b c) before room size number) is
+    (subst (λ (xs : List ℕ). Returns (F asked xs c) before room size number) same_task (subst (λ (xs : List ℕ). Returns (F asked task xs) before room size number) same_plan t))
 
 -- ---- whether a plan solves a task
 
-pub headline_told : (Verdict : Parts → PlanParts → Output → Type 0) (refused : Parts → LayerFault → Option Output) → TellsValid Verdict → Refuses refused → (b c before room : List ℕ) (size number : ℕ) → Tells (PlanOutBy Verdict refused b c) before room size number → TellsHeadline b c room size number
+pub headline_told : (Verdict : Parts → PlanParts → Output → Type 0) (refused : Parts → LayerFault → Option Output) → TellsValid Verdict → Refuses refused → (b c before room : List ℕ) (size number : ℕ) → Returns (PlanOutBy Verdict refused b c) before room size number → ReturnsHeadline b c room size number
 headline_told Verdict refused tells refuses b c before room size number t = λ status is.
     let x = t.told status is in
     subst (λ (text : List ℕ). Headline b c (λ line. text ≡ line) status) (sym x.4) (headline_of Verdict refused tells refuses b c x.0 x.1 (Some []) (Some (x.0).text) [] status refl (sym x.2) refl)
 
 -- the same with reasons
-pub headline_why_told : (b c before room : List ℕ) (size number : ℕ) → Tells (OutWhy Plan b c) before room size number → TellsHeadline b c room size number
+pub headline_why_told : (b c before room : List ℕ) (size number : ℕ) → Returns (OutWhy Plan b c) before room size number → ReturnsHeadline b c room size number
 headline_why_told b c before room size number t = λ status is.
     let x = t.told status is in
     subst (λ (text : List ℕ). Headline b c (λ line. text ≡ line) status) (sym x.4) (headline_why b c x.0 x.1 (Some []) (Some (x.0).text) [] status refl (sym x.2) refl)
 
 -- the same behind a trace
-pub last_line_told : (b c before room : List ℕ) (size number : ℕ) → Tells (TraceOut b c) before room size number → TellsLastLine b c room size number
+pub last_line_told : (b c before room : List ℕ) (size number : ℕ) → Returns (TraceOut b c) before room size number → ReturnsLastLine b c room size number
 last_line_told b c before room size number t = λ status is.
     let x = t.told status is in
     subst (λ (text : List ℕ). Headline b c (EndsInLine text) status) (sym x.4) (subst (λ (s : Status). Headline b c (EndsInLine (x.0).text) s) x.2 (traced_headline b c x.0 x.1))
@@ -180,32 +180,32 @@ last_line_told b c before room size number t = λ status is.
 
 -- what is told for the task that is held is told for the bytes that it was read from
 module _ (For : Parts → Option Output → Type 0) (Out : Option Output → Type 0) (b before room : List ℕ) (size number : ℕ) (to : (p : Parts) → IsLayered p → ReadsAs task_format most_bytes b (Ok p) → (o : Option Output) → For p o → Out o) where
-  held_told : (held : Option Prepared) → Holds b held → IfSome held (λ prepared. Tells (For prepared.held) before room size number) → Tells Out before room size number
+  held_told : (held : Option Prepared) → HoldsTask b held → IfSome held (λ prepared. Returns (For prepared.held) before room size number) → Returns Out before room size number
   held_told None holds t = absurd holds
   held_told (Some prepared) (reads, layered) t = tells_by (For prepared.held) Out (to prepared.held layered reads) before room size number t
 
-module _ (b c before room : List ℕ) (size number : ℕ) (held : Option Prepared) (holds : Holds b held) where
-  pub plan_told : IfSome held (λ prepared. Tells (VerdictOut VerdictAnswer prepared.held c) before room size number) → Tells (PlanOut b c) before room size number
+module _ (b c before room : List ℕ) (size number : ℕ) (held : Option Prepared) (holds : HoldsTask b held) where
+  pub plan_told : IfSome held (λ prepared. Returns (VerdictOut VerdictAnswer prepared.held c) before room size number) → Returns (PlanOut b c) before room size number
   plan_told t = held_told (λ p. VerdictOut VerdictAnswer p c) (PlanOut b c) b before room size number (λ p layered reads. judged_out VerdictAnswer plain_refusal p layered b c reads) held holds t
 
   abbrev PlanWhy : Parts → Option Output → Type 0
   PlanWhy p = WithReasons (VerdictOut WhyVerdict p c) (PlanFileReasons c)
 
-  pub why_told : IfSome held (λ prepared. Tells (PlanWhy prepared.held) before room size number) → Tells (OutWhy Plan b c) before room size number
+  pub why_told : IfSome held (λ prepared. Returns (PlanWhy prepared.held) before room size number) → Returns (OutWhy Plan b c) before room size number
   why_told t = held_told PlanWhy (OutWhy Plan b c) b before room size number (λ p layered reads. judged_by Reasons p layered b c reads) held holds t
 
-  pub trace_told : IfSome held (λ prepared. Tells (VerdictOut TraceVerdict prepared.held c) before room size number) → Tells (TraceOut b c) before room size number
+  pub trace_told : IfSome held (λ prepared. Returns (VerdictOut TraceVerdict prepared.held c) before room size number) → Returns (TraceOut b c) before room size number
   trace_told t = held_told (λ p. VerdictOut TraceVerdict p c) (TraceOut b c) b before room size number (λ p layered reads. judged_out TraceVerdict plain_refusal p layered b c reads) held holds t
 
 -- ---- which mutex groups are exclusive
 
-pub invariants_told : (IsAnswer : Parts → Output → Type 0) → TellsGroups IsAnswer → (b before room : List ℕ) (size number : ℕ) → Tells (FileOut task_format (codes "task") IsAnswer b) before room size number → TellsInvariants b room size number
+pub invariants_told : (IsAnswer : Parts → Output → Type 0) → TellsGroups IsAnswer → (b before room : List ℕ) (size number : ℕ) → Returns (FileOut task_format (codes "task") IsAnswer b) before room size number → ReturnsInvariants b room size number
 invariants_told IsAnswer tells b before room size number t = λ status is.
     let x = t.told status is in
     subst (λ (text : List ℕ). Invariants b (λ out. text ≡ out)) (sym x.4) (invariants_of IsAnswer tells b x.0 x.1 (Some []) (Some (x.0).text) [] refl refl)
 
 -- the same with reasons
-pub invariants_why_told : (b c before room : List ℕ) (size number : ℕ) → Tells (OutWhy Mutex b c) before room size number → TellsInvariants b room size number
+pub invariants_why_told : (b c before room : List ℕ) (size number : ℕ) → Returns (OutWhy Mutex b c) before room size number → ReturnsInvariants b room size number
 invariants_why_told b c before room size number t = λ status is.
     let x = t.told status is in
     subst (λ (text : List ℕ). Invariants b (λ out. text ≡ out)) (sym x.4) (invariants_why b c x.0 x.1 (Some []) (Some (x.0).text) [] refl refl)
@@ -220,7 +220,7 @@ fault_number Read number is zero = omega arith
 fault_number (Write written) number is zero = omega arith
 
 -- what isn't yes is never told as yes
-pub never_yes : (o : Output) (before room : List ℕ) (size number : ℕ) → o.status ≡ No → Tells (λ x. x ≡ Some o) before room size number → number ≡ 0 → ⊥
+pub never_yes : (o : Output) (before room : List ℕ) (size number : ℕ) → o.status ≡ No → Returns (λ x. x ≡ Some o) before room size number → number ≡ 0 → ⊥
 never_yes o before room size number refused t zero =
     let x = t.told Yes zero in
     let same : x.0 ≡ o = cc in

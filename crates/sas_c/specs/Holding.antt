@@ -7,7 +7,7 @@ use Rattle.sas_task_format.specs.TaskFormat.{task_format}
 use Rattle.sas_c.specs.declared.prepared.Prepared.{Prepared}
 
 -- a task is held, the one that the bytes are a text of, and it is layered
-abbrev pub Holds : List ℕ → Option Prepared → Type 0
-Holds b None = ⊥
-Holds b (Some prepared) =
+abbrev pub HoldsTask : List ℕ → Option Prepared → Type 0
+HoldsTask b None = ⊥
+HoldsTask b (Some prepared) =
     ReadsAs task_format most_bytes b (Ok prepared.held) × IsLayered prepared.held

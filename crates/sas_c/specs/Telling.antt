@@ -22,7 +22,7 @@ number_of_fault (Write written) = 3
 
 -- What a call returns: its number, `size`, and the caller's memory for the answer, which held
 -- `before` and now holds `room`. `Out` holds of the right output, or of none if there is none.
-pub record Tells (Out : Option Output → Type 0) (before room : List ℕ) (size number : ℕ)
+pub record Returns (Out : Option Output → Type 0) (before room : List ℕ) (size number : ℕ)
     : Type 0 where
   -- 0 and 1: the output's text stands at the front of the room, and the number is its status
   pub told : (status : Status) → number ≡ number_of_status status → (output : Output)
@@ -45,8 +45,8 @@ pub record Tells (Out : Option Output → Type 0) (before room : List ℕ) (size
 
 -- If an answer about the bytes b of the task and c of the plan is written, `plan valid` stands in
 -- the room exactly if the plan solves the task at that cost, and exactly then the answer is yes.
-abbrev pub TellsHeadline : List ℕ → List ℕ → List ℕ → ℕ → ℕ → Type 0
-TellsHeadline b c room size number = (status : Status) → number ≡ number_of_status status
+abbrev pub ReturnsHeadline : List ℕ → List ℕ → List ℕ → ℕ → ℕ → Type 0
+ReturnsHeadline b c room size number = (status : Status) → number ≡ number_of_status status
     → Headline b c (λ line. take size room ≡ line) status
 
 -- the bytes are some lines, each ended by LF, and behind them this one
@@ -54,12 +54,12 @@ abbrev pub EndsInLine : List ℕ → List ℕ → Type 0
 EndsInLine bytes line = (front : List (List ℕ)) × (bytes ≡ text front ++ line)
 
 -- If an answer is written behind a trace, the same holds of the last line in the room.
-abbrev pub TellsLastLine : List ℕ → List ℕ → List ℕ → ℕ → ℕ → Type 0
-TellsLastLine b c room size number = (status : Status) → number ≡ number_of_status status
+abbrev pub ReturnsLastLine : List ℕ → List ℕ → List ℕ → ℕ → ℕ → Type 0
+ReturnsLastLine b c room size number = (status : Status) → number ≡ number_of_status status
     → Headline b c (EndsInLine (take size room)) status
 
 -- If an answer is written about the mutex groups of the task b, `group K exclusive` is a line of it
 -- only if group K is an invariant of the task.
-abbrev pub TellsInvariants : List ℕ → List ℕ → ℕ → ℕ → Type 0
-TellsInvariants b room size number = (status : Status) → number ≡ number_of_status status
+abbrev pub ReturnsInvariants : List ℕ → List ℕ → ℕ → ℕ → Type 0
+ReturnsInvariants b room size number = (status : Status) → number ≡ number_of_status status
     → Invariants b (λ out. take size room ≡ out)

@@ -3,7 +3,7 @@ ghost use Rattle.std.specs.Prelude.{◌≡◌};
 ghost use Rattle.sas_outputs.specs.Output.{Out};
 ghost use Rattle.sas_requests.specs.Why.{OutWhy};
 ghost use Rattle.sas_plans.specs.TraceOut.{TraceOut};
-ghost use Rattle.sas_c.specs.Telling.{Tells};
+ghost use Rattle.sas_c.specs.Telling.{Returns};
 
 use crate::numbers::number_without;
 use crate::telling::tell;
@@ -37,7 +37,7 @@ impl<'b> Asked<'b> {
 
 /// Writes the answer to the request.
 pub fn answer(alloc: Global, asked: Asked<'_>, room: &mut [u8], size: &mut usize) -> u32
-    ensures { Tells (Out asked.entry.request asked.entry.task.now asked.entry.plan.now)
+    ensures { Returns (Out asked.entry.request asked.entry.task.now asked.entry.plan.now)
         room.old room.new size.new result }
 {
     let mut task = Watched::new(asked.task);
@@ -51,7 +51,7 @@ pub fn answer(alloc: Global, asked: Asked<'_>, room: &mut [u8], size: &mut usize
 
 /// Writes the answer to the request, with the reasons for a no.
 pub fn answer_why(alloc: Global, asked: Asked<'_>, room: &mut [u8], size: &mut usize) -> u32
-    ensures { Tells (OutWhy asked.entry.request asked.entry.task.now asked.entry.plan.now)
+    ensures { Returns (OutWhy asked.entry.request asked.entry.task.now asked.entry.plan.now)
         room.old room.new size.new result }
 {
     let mut task = Watched::new(asked.task);
@@ -71,7 +71,7 @@ pub fn answer_trace(
     room: &mut [u8],
     size: &mut usize,
 ) -> u32
-    ensures { Tells (TraceOut task.now plan.now) room.old room.new size.new result }
+    ensures { Returns (TraceOut task.now plan.now) room.old room.new size.new result }
 {
     let mut task = Watched::new(task);
     let mut plan = Watched::new(plan);

@@ -7,8 +7,8 @@ ghost use Rattle.sas_trace.specs.Traced.{TraceVerdict};
 ghost use Rattle.sas_requests.specs.FileReasons.{PlanFileReasons};
 ghost use Rattle.sas_requests.specs.Why.{OutWhy, WithReasons};
 ghost use Rattle.sas_plans.specs.TraceOut.{TraceOut};
-ghost use Rattle.sas_c.specs.Telling.{Tells, TellsHeadline, TellsLastLine};
-ghost use Rattle.sas_c.specs.Holding.{Holds};
+ghost use Rattle.sas_c.specs.Telling.{Returns, ReturnsHeadline, ReturnsLastLine};
+ghost use Rattle.sas_c.specs.Holding.{HoldsTask};
 
 use crate::numbers::{NO_TASK, number_without};
 use crate::prepared::Prepared;
@@ -29,12 +29,12 @@ pub extern "C" fn sas_task_plan(
     size: &mut usize,
 ) -> u32
     ensures tells { IfSome task.old.pointer.task (λ prepared.
-        Tells (VerdictOut VerdictAnswer prepared.held plan.now)
+        Returns (VerdictOut VerdictAnswer prepared.held plan.now)
         room.old room.new size.new result) }
-    ensures bytes { (b : List ℕ) → Holds b task.old.pointer.task
-        → Tells (PlanOut b plan.now) room.old room.new size.new result }
-    ensures headline { (b : List ℕ) → Holds b task.old.pointer.task
-        → TellsHeadline b plan.now room.new size.new result }
+    ensures bytes { (b : List ℕ) → HoldsTask b task.old.pointer.task
+        → Returns (PlanOut b plan.now) room.old room.new size.new result }
+    ensures headline { (b : List ℕ) → HoldsTask b task.old.pointer.task
+        → ReturnsHeadline b plan.now room.new size.new result }
     ensures same { task.new.pointer.task ≡ task.old.pointer.task }
     ensures none { IsNone task.old.pointer.task → (result ≡ 5) × (room.new ≡ room.old) }
 {
@@ -57,13 +57,13 @@ pub extern "C" fn sas_task_plan_why(
     room: &mut [u8],
     size: &mut usize,
 ) -> u32
-    ensures tells { IfSome task.old.pointer.task (λ prepared. Tells
+    ensures tells { IfSome task.old.pointer.task (λ prepared. Returns
         (WithReasons (VerdictOut WhyVerdict prepared.held plan.now) (PlanFileReasons plan.now))
         room.old room.new size.new result) }
-    ensures bytes { (b : List ℕ) → Holds b task.old.pointer.task
-        → Tells (OutWhy Request.Plan b plan.now) room.old room.new size.new result }
-    ensures headline { (b : List ℕ) → Holds b task.old.pointer.task
-        → TellsHeadline b plan.now room.new size.new result }
+    ensures bytes { (b : List ℕ) → HoldsTask b task.old.pointer.task
+        → Returns (OutWhy Request.Plan b plan.now) room.old room.new size.new result }
+    ensures headline { (b : List ℕ) → HoldsTask b task.old.pointer.task
+        → ReturnsHeadline b plan.now room.new size.new result }
     ensures same { task.new.pointer.task ≡ task.old.pointer.task }
     ensures none { IsNone task.old.pointer.task → (result ≡ 5) × (room.new ≡ room.old) }
 {
@@ -87,12 +87,12 @@ pub extern "C" fn sas_task_trace(
     size: &mut usize,
 ) -> u32
     ensures tells { IfSome task.old.pointer.task (λ prepared.
-        Tells (VerdictOut TraceVerdict prepared.held plan.now)
+        Returns (VerdictOut TraceVerdict prepared.held plan.now)
         room.old room.new size.new result) }
-    ensures bytes { (b : List ℕ) → Holds b task.old.pointer.task
-        → Tells (TraceOut b plan.now) room.old room.new size.new result }
-    ensures headline { (b : List ℕ) → Holds b task.old.pointer.task
-        → TellsLastLine b plan.now room.new size.new result }
+    ensures bytes { (b : List ℕ) → HoldsTask b task.old.pointer.task
+        → Returns (TraceOut b plan.now) room.old room.new size.new result }
+    ensures headline { (b : List ℕ) → HoldsTask b task.old.pointer.task
+        → ReturnsLastLine b plan.now room.new size.new result }
     ensures same { task.new.pointer.task ≡ task.old.pointer.task }
     ensures none { IsNone task.old.pointer.task → (result ≡ 5) × (room.new ≡ room.old) }
 {
@@ -114,7 +114,7 @@ fn judge(
     room: &mut [u8],
     size: &mut usize,
 ) -> u32
-    ensures tells { Tells (VerdictOut VerdictAnswer prepared.old.held plan.now)
+    ensures tells { Returns (VerdictOut VerdictAnswer prepared.old.held plan.now)
         room.old room.new size.new result }
     ensures same { prepared.new ≡ prepared.old }
 {
@@ -132,7 +132,7 @@ fn explain(
     room: &mut [u8],
     size: &mut usize,
 ) -> u32
-    ensures { Tells
+    ensures { Returns
         (WithReasons (VerdictOut WhyVerdict prepared.now.held plan.now) (PlanFileReasons plan.now))
         room.old room.new size.new result }
 {
@@ -145,7 +145,7 @@ fn explain(
 
 /// Writes whether the plan solves the task, behind its trace.
 fn trace(alloc: Global, prepared: &Prepared, plan: &[u8], room: &mut [u8], size: &mut usize) -> u32
-    ensures { Tells (VerdictOut TraceVerdict prepared.now.held plan.now)
+    ensures { Returns (VerdictOut TraceVerdict prepared.now.held plan.now)
         room.old room.new size.new result }
 {
     let mut text = Watched::new(Vec::new(alloc));

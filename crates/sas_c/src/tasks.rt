@@ -2,8 +2,8 @@
 ghost use Rattle.std.specs.Prelude.{◌≡◌, Some, None};
 ghost use Rattle.sas_answers.specs.Answers.{layers_verdict};
 ghost use Rattle.sas_outputs.specs.Output.{CheckOut};
-ghost use Rattle.sas_c.specs.Telling.{Tells};
-ghost use Rattle.sas_c.specs.Holding.{Holds};
+ghost use Rattle.sas_c.specs.Telling.{Returns};
+ghost use Rattle.sas_c.specs.Holding.{HoldsTask};
 
 use crate::numbers::{OUT_OF_MEMORY, YES, number_without};
 use crate::prepared::Prepared;
@@ -26,8 +26,8 @@ pub extern "C" fn sas_task_read(
     room: &mut [u8],
     size: &mut usize,
 ) -> u32
-    ensures tells { Tells (CheckOut bytes.now) room.old room.new size.new result }
-    ensures held { result ≡ 0 → Holds bytes.now task.new.pointer.task }
+    ensures tells { Returns (CheckOut bytes.now) room.old room.new size.new result }
+    ensures held { result ≡ 0 → HoldsTask bytes.now task.new.pointer.task }
     ensures none { (result ≡ 0 → ⊥) → task.new.pointer.task ≡ None }
 {
     let before = task.take(alloc);
@@ -56,7 +56,7 @@ fn hold(
     size: &mut usize,
 ) -> u32
     requires { task.old.pointer.task ≡ None }
-    ensures tells { Tells (λ output. output ≡ layers_verdict None)
+    ensures tells { Returns (λ output. output ≡ layers_verdict None)
         room.old room.new size.new result }
     ensures held { result ≡ 0 → task.new.pointer.task ≡ Some (record { held = held }) }
     ensures none { (result ≡ 0 → ⊥) → task.new.pointer.task ≡ None }
@@ -70,7 +70,7 @@ fn hold(
 /// Writes that the task is layered, and holds it if there is room for that.
 fn tell_held(task: &mut SasTask, prepared: Box<Prepared>, room: &mut [u8], size: &mut usize) -> u32
     requires { task.old.pointer.task ≡ None }
-    ensures tells { Tells (λ output. output ≡ layers_verdict None)
+    ensures tells { Returns (λ output. output ≡ layers_verdict None)
         room.old room.new size.new result }
     ensures held { result ≡ 0 → task.new.pointer.task ≡ Some prepared.value }
     ensures none { (result ≡ 0 → ⊥) → task.new.pointer.task ≡ None }

@@ -1,14 +1,14 @@
 // How an answer goes into the caller's memory.
 ghost use Rattle.std.specs.Prelude.{◌≡◌, ◌<◌, length, take, drop, IsTrue, IsFalse, Some};
 ghost use Rattle.sas_output.specs.Ending.{output_told};
-ghost use Rattle.sas_c.specs.Telling.{Tells};
+ghost use Rattle.sas_c.specs.Telling.{Returns};
 
 use crate::numbers::{ROOM_TOO_SHORT, number_of};
 use sas_output::{Status, Told};
 
 /// Writes an answer with this text and this status. Returns the status as a number, or that the text is longer than the room.
 pub fn tell(text: &[u8], status: Status, room: &mut [u8], size: &mut usize) -> u32
-    ensures { Tells (λ output. output ≡ Some (record { text = text.now; status = status }))
+    ensures { Returns (λ output. output ≡ Some (record { text = text.now; status = status }))
         room.old room.new size.new result }
 {
     if copy(text, room, size) {
@@ -20,7 +20,7 @@ pub fn tell(text: &[u8], status: Status, room: &mut [u8], size: &mut usize) -> u
 
 /// Writes an answer, and drops it.
 pub fn tell_told(told: Told, room: &mut [u8], size: &mut usize) -> u32
-    ensures { Tells (λ output. output ≡ Some (output_told told))
+    ensures { Returns (λ output. output ≡ Some (output_told told))
         room.old room.new size.new result }
 {
     let number = tell(told.text.as_slice(), told.status, room, size);

@@ -9,7 +9,7 @@ use Rattle.sas_core.specs.declared.parts.Fact.{Fact}
 use Rattle.sas_core.specs.declared.parts.Effect.{Effect}
 use Rattle.sas_flat.specs.Table.{table}
 use Rattle.sas_core.specs.Changes.{plain_effect, plain_effects}
-use Rattle.sas_flat.specs.Effects.{effect, change_in, effects_of, effect_in}
+use Rattle.sas_flat.specs.Effects.{effect, change_in_list, effects_of, effect_in_list}
 use Rattle.sas_flat.proofs.Tables.{length-table, table_same, table_none, table_more, table_append, get_or-table, take-table}
 
 pub no_effect : (cs : List Change) (ds : List (List Fact)) → cs ≡ [] → effects_of cs ds ≡ []
@@ -22,8 +22,8 @@ module _ (cs : List Change) (ds : List (List Fact)) (es : List Effect) (is : eff
   pub effect_count : length cs ≡ length es
   effect_count = sym (length-table (length cs) _) ∙ ap length is
 
-  pub effect_at_place : (i : ℕ) → i < length es → effect_in es i ≡ effect (change_in cs i) (get_or ds i [])
-  effect_at_place i h = ap (λ l. effect_in l i) (sym is) ∙ get_or-table (length cs) _ i _ (omega (arith, effect_count))
+  pub effect_at_place : (i : ℕ) → i < length es → effect_in_list es i ≡ effect (change_in_list cs i) (get_or ds i [])
+  effect_at_place i h = ap (λ l. effect_in_list l i) (sym is) ∙ get_or-table (length cs) _ i _ (omega (arith, effect_count))
 
 pub effects_more : (cs : List Change) (ds : List (List Fact)) (c : Change) (d : List Fact) → length ds ≡ length cs
     → effects_of (cs ++ c ∷ []) (ds ++ d ∷ []) ≡ effects_of cs ds ++ effect c d ∷ []
@@ -35,7 +35,7 @@ effects_more cs ds c d pairs = table_more (length cs) (length (cs ++ c ∷ [])) 
 pub effects_append : (cs more : List Change) (ds behind : List (List Fact)) → length ds ≡ length cs
     → effects_of (cs ++ more) (ds ++ behind) ≡ effects_of cs ds ++ effects_of more behind
 effects_append cs more ds behind pairs =
-    ap (λ n. table n (λ i. effect (change_in (cs ++ more) i) (get_or (ds ++ behind) i []))) (length-append cs more)
+    ap (λ n. table n (λ i. effect (change_in_list (cs ++ more) i) (get_or (ds ++ behind) i []))) (length-append cs more)
     ∙ table_append (length cs) (length more) _ _ _
     (λ i h. same_effect _ _ _ _ (get_or-append cs more _ i h) (get_or-append ds behind [] i (omega (arith, pairs))))
     (λ j h. same_effect _ _ _ _ (get_or-append-add cs more j _)
@@ -122,14 +122,14 @@ bare_append cs more ds none fits is =
 pub effects_taken : (cs : List Change) (ds : List (List Fact)) (n : ℕ) → n ≤ length cs
     → effects_of (take n cs) (take n ds) ≡ take n (effects_of cs ds)
 effects_taken cs ds n h =
-    ap (λ m. table m (λ i. effect (change_in (take n cs) i) (get_or (take n ds) i []))) (length-take-le n cs h)
+    ap (λ m. table m (λ i. effect (change_in_list (take n cs) i) (get_or (take n ds) i []))) (length-take-le n cs h)
     ∙ table_same n _ _ (λ i b. same_effect _ _ _ _ (get_or-take n cs i _ b) (get_or-take n ds i [] b))
     ∙ sym (take-table (length cs) _ n h)
 
 -- where all lists of conditions stay
 pub effects_cut : (cs : List Change) (ds : List (List Fact)) (n : ℕ) → n ≤ length cs → effects_of (take n cs) ds ≡ take n (effects_of cs ds)
 effects_cut cs ds n h =
-    ap (λ m. table m (λ i. effect (change_in (take n cs) i) (get_or ds i []))) (length-take-le n cs h)
+    ap (λ m. table m (λ i. effect (change_in_list (take n cs) i) (get_or ds i []))) (length-take-le n cs h)
     ∙ table_same n _ _ (λ i b. same_effect _ _ _ _ (get_or-take n cs i _ b) refl)
     ∙ sym (take-table (length cs) _ n h)
 

@@ -8,9 +8,9 @@ use Rattle.sas_core.specs.declared.parts.Effect.{Effect}
 use Rattle.sas_core.specs.declared.parts.Operator.{Operator}
 use Rattle.sas_flat.specs.declared.operators.Head.{Head}
 use Rattle.sas_flat.specs.declared.operators.Columns.{Columns}
-use Rattle.sas_flat.specs.Effects.{effect_in}
+use Rattle.sas_flat.specs.Effects.{effect_in_list}
 use Rattle.sas_flat.specs.Lists.{start_of, list_at, lists_of, AreEnds}
-use Rattle.sas_flat.specs.Operators.{operator, name_ends, prevail_ends, effect_ends, costs, operators_in, operator_in, end_head, AreAligned}
+use Rattle.sas_flat.specs.Operators.{operator, name_ends, prevail_ends, effect_ends, costs, operators_in, operator_in, end_head, OperatorColumnsAlign}
 use Rattle.sas_flat.proofs.Tables.{length-table, table_more, get_or-table}
 use Rattle.sas_flat.proofs.Blocks.{list_of, lists_more, ends_more, list_length, item_of_list}
 use Rattle.sas_flat.proofs.Rows.{last_item}
@@ -46,7 +46,7 @@ module _ (c : Columns) (os : List Operator) (is : operators_in c ≡ os) where
         pub within : end head ≤ count
         within = omega (arith, end_is, are.within k there)
 
-    module _ (aligned : AreAligned c) where
+    module _ (aligned : OperatorColumnsAlign c) where
       below : k < length (effect_ends c.heads.items)
       below = omega (arith, h, as_many, length-map c.heads.items (λ (h : Head). h.effects))
 
@@ -59,9 +59,9 @@ module _ (c : Columns) (os : List Operator) (is : operators_in c ≡ os) where
         pub effect_within : start_of (effect_ends c.heads.items) k + e < length c.effects
         effect_within = omega (arith, b, effect_number, aligned.effects.within k below)
 
-        pub effect_found : effect_in (operator_in os k).effects e ≡ effect_in c.effects (start_of (effect_ends c.heads.items) k + e)
+        pub effect_found : effect_in_list (operator_in os k).effects e ≡ effect_in_list c.effects (start_of (effect_ends c.heads.items) k + e)
         effect_found =
-            ap (λ (o : Operator). effect_in o.effects e) found
+            ap (λ (o : Operator). effect_in_list o.effects e) found
             ∙ item_of_list c.effects (effect_ends c.heads.items) aligned.effects k below e _ (omega (arith, b, ap (λ (o : Operator). length o.effects) found))
 
 -- ---- one more
@@ -102,7 +102,7 @@ same_operator : (n m : List ℕ) (p q : List Fact) (e f : List Effect) (c d : �
 same_operator n m p q e f c d names prevails effects costs =
     ap (λ x. operator x p e c) names ∙ ap (λ x. operator m x e c) prevails ∙ ap (λ x. operator m q x c) effects ∙ ap (λ x. operator m q f x) costs
 
-module _ (old new : Columns) (o : Operator) (aligned : AreAligned old) (names : new.names.items ≡ old.names.items ++ o.name) (prevail : new.prevail.items ≡ old.prevail.items ++ o.prevail)
+module _ (old new : Columns) (o : Operator) (aligned : OperatorColumnsAlign old) (names : new.names.items ≡ old.names.items ++ o.name) (prevail : new.prevail.items ≡ old.prevail.items ++ o.prevail)
     (effects : new.effects ≡ old.effects ++ o.effects) (heads : new.heads.items ≡ old.heads.items ++ end_head new o.cost ∷ []) where
   name_grows : Grows (λ (h : Head). h.name) old.names.items new.names.items o.name old.heads.items new.heads.items
   name_grows = grows _ _ _ _ _ _ (end_head new o.cost) aligned.names names heads refl
@@ -113,7 +113,7 @@ module _ (old new : Columns) (o : Operator) (aligned : AreAligned old) (names : 
   effects_grow : Grows (λ (h : Head). h.effects) old.effects new.effects o.effects old.heads.items new.heads.items
   effects_grow = grows _ _ _ _ _ _ (end_head new o.cost) aligned.effects effects heads refl
 
-  pub still_aligned : AreAligned new
+  pub still_aligned : OperatorColumnsAlign new
   still_aligned = record { names = name_grows.ends; prevail = prevail_grows.ends; effects = effects_grow.ends }
 
   cost_at : costs new.heads.items ≡ costs old.heads.items ++ o.cost ∷ []

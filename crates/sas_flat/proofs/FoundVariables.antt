@@ -6,7 +6,7 @@ use Rattle.sas_core.specs.declared.parts.Variable.{Variable}
 use Rattle.sas_core.specs.Variables.{range_of, layer_of, value_name}
 use Rattle.sas_flat.specs.declared.variables.Columns.{Columns}
 use Rattle.sas_flat.specs.Lists.{start_of, list_at, lists_of}
-use Rattle.sas_flat.specs.Variables.{variables_in, variables_of, AreAligned, OneMore}
+use Rattle.sas_flat.specs.Variables.{variables_in, variables_from, AreAligned, OneMore}
 use Rattle.sas_flat.proofs.Tables.{length-table, get_or-table}
 use Rattle.sas_flat.proofs.Blocks.{lists_more, list_length, item_of_list}
 use Rattle.sas_flat.proofs.Rows.{variable_count, name_is, range_is, layer_is, value_is, variables_more}
@@ -57,9 +57,9 @@ module _ (c : Columns) (vs : List Variable) (is : variables_in c ≡ vs) where
 pub one_more : (old new : Columns) (v : Variable) → AreAligned old → OneMore old new v → variables_in new ≡ variables_in old ++ v ∷ []
 one_more old new v aligned more =
     let many = length-table (length old.ends) (list_at old.values old.ends) in
-    ap (λ l. variables_of l new.layers.items (lists_of new.values new.ends)) more.names
-    ∙ ap (λ l. variables_of (old.names ++ v.name ∷ []) l (lists_of new.values new.ends)) more.layers
-    ∙ ap (λ l. variables_of (old.names ++ v.name ∷ []) (old.layers.items ++ v.layer ∷ []) l)
+    ap (λ l. variables_from l new.layers.items (lists_of new.values new.ends)) more.names
+    ∙ ap (λ l. variables_from (old.names ++ v.name ∷ []) l (lists_of new.values new.ends)) more.layers
+    ∙ ap (λ l. variables_from (old.names ++ v.name ∷ []) (old.layers.items ++ v.layer ∷ []) l)
     (ap (λ l. lists_of l new.ends) more.values ∙ ap (λ l. lists_of (old.values ++ v.values) l) more.ends
     ∙ lists_more old.values v.values old.ends _ aligned.values (omega arith))
     ∙ variables_more old.names old.layers.items (lists_of old.values old.ends) v.name v.layer v.values

@@ -16,7 +16,7 @@ use Rattle.sas_flat.specs.declared.operators.Head.{Head}
 use Rattle.sas_flat.specs.declared.operators.Columns as in_operators
 use Rattle.sas_flat.specs.Operators as operators
 use Rattle.sas_flat.specs.declared.variables.Columns.{Columns}
-use Rattle.sas_flat.specs.Variables.{AreAligned, OneMore, variables_in, variables_of}
+use Rattle.sas_flat.specs.Variables.{AreAligned, OneMore, variables_in, variables_from}
 
 -- ---- one list
 
@@ -59,10 +59,10 @@ module _ (old new : Columns) (names : new.names ≡ old.names) (layers : new.lay
 
   pub same_variables : variables_in new ≡ variables_in old
   same_variables =
-      ap (λ l. variables_of l new.layers.items (lists_of new.values new.ends)) names
-      ∙ ap (λ l. variables_of old.names l (lists_of new.values new.ends)) layers
-      ∙ ap (λ l. variables_of old.names old.layers.items (lists_of l new.ends)) values
-      ∙ ap (λ l. variables_of old.names old.layers.items (lists_of old.values l)) ends
+      ap (λ l. variables_from l new.layers.items (lists_of new.values new.ends)) names
+      ∙ ap (λ l. variables_from old.names l (lists_of new.values new.ends)) layers
+      ∙ ap (λ l. variables_from old.names old.layers.items (lists_of l new.ends)) values
+      ∙ ap (λ l. variables_from old.names old.layers.items (lists_of old.values l)) ends
 
 -- ---- operators
 
@@ -78,7 +78,7 @@ same_effects old effects e = ap (λ l. operators_of old.names.items old.prevail.
 
 -- where each column is as it was, so are the operators
 module _ (old new : in_operators.Columns) (names : new.names.items ≡ old.names.items) (prevail : new.prevail.items ≡ old.prevail.items) (effects : new.effects ≡ old.effects) (heads : new.heads.items ≡ old.heads.items) where
-  pub still_aligned : operators.AreAligned old → operators.AreAligned new
+  pub still_aligned : operators.OperatorColumnsAlign old → operators.OperatorColumnsAlign new
   still_aligned a = record { names = rw (names, heads) a.names; prevail = rw (prevail, heads) a.prevail; effects = rw (effects, heads) a.effects }
 
   pub same_operators : operators.operators_in new ≡ operators.operators_in old

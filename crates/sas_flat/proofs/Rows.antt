@@ -7,7 +7,7 @@ use Rattle.std.proofs.Math.ListN.{get_or-append}
 use Rattle.std.proofs.Math.Seq.{get_or-append_seam}
 use Rattle.sas_core.specs.declared.parts.Variable.{Variable}
 use Rattle.sas_core.specs.Variables.{range_of, layer_of, value_name}
-use Rattle.sas_flat.specs.Variables.{variable, variables_of}
+use Rattle.sas_flat.specs.Variables.{variable, variables_from}
 use Rattle.sas_flat.proofs.Tables.{length-table, table_none, table_more, slice_get-table}
 
 -- in a column with as many items as another, what is put behind the items stands at the other's end
@@ -16,7 +16,7 @@ last_item xs x d n is = ap (λ k. get_or (xs ++ x ∷ []) k d) (sym is) ∙ get_
 
 -- ---- variables
 
-pub no_variable : (ns : List (List ℕ)) (ls : List (Option ℕ)) (vs : List (List (List ℕ))) → length vs ≡ 0 → variables_of ns ls vs ≡ []
+pub no_variable : (ns : List (List ℕ)) (ls : List (Option ℕ)) (vs : List (List (List ℕ))) → length vs ≡ 0 → variables_from ns ls vs ≡ []
 no_variable ns ls vs none = table_none (length vs) _ none
 
 same_variable : (n m : List ℕ) (l k : Option ℕ) (v w : List (List ℕ)) → n ≡ m → l ≡ k → v ≡ w → variable n l v ≡ variable m k w
@@ -25,13 +25,13 @@ same_variable n m l k v w names layers values =
 
 module _ (ns : List (List ℕ)) (ls : List (Option ℕ)) (vs : List (List (List ℕ))) where
   pub variables_more : (n : List ℕ) (l : Option ℕ) (v : List (List ℕ)) → length ns ≡ length vs → length ls ≡ length vs
-      → variables_of (ns ++ n ∷ []) (ls ++ l ∷ []) (vs ++ v ∷ []) ≡ variables_of ns ls vs ++ variable n l v ∷ []
+      → variables_from (ns ++ n ∷ []) (ls ++ l ∷ []) (vs ++ v ∷ []) ≡ variables_from ns ls vs ++ variable n l v ∷ []
   variables_more n l v names layers = table_more (length vs) (length (vs ++ v ∷ [])) _ _ (variable n l v) (omega (arith, length-append vs (v ∷ [])))
       (λ i h. same_variable _ _ _ _ _ _ (get_or-append ns (n ∷ []) [] i (omega (arith, names))) (get_or-append ls (l ∷ []) None i (omega (arith, layers)))
       (get_or-append vs (v ∷ []) [] i h))
       (same_variable _ _ _ _ _ _ (last_item ns n [] (length vs) names) (last_item ls l None (length vs) layers) (get_or-append_seam vs v [] []))
 
-  module _ (all : List Variable) (is : variables_of ns ls vs ≡ all) where
+  module _ (all : List Variable) (is : variables_from ns ls vs ≡ all) where
     pub variable_count : length vs ≡ length all
     variable_count = sym (length-table (length vs) _) ∙ ap length is
 

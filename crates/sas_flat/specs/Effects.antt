@@ -10,15 +10,16 @@ abbrev pub effect : Change → List Fact → Effect
 effect c conditions = record { conditions = conditions; var = c.var; old = c.old; new = c.new }
 
 -- the change at this index; past the last change, one that sets variable 0 to value 0
-abbrev pub change_in : List Change → ℕ → Change
-change_in changes index = slice_index_or changes index (record { var = 0; old = None; new = 0 })
+abbrev pub change_in_list : List Change → ℕ → Change
+change_in_list changes index = slice_index_or changes index
+    (record { var = 0; old = None; new = 0 })
 
 abbrev pub effects_of : List Change → List (List Fact) → List Effect
 effects_of changes conditions =
     table (length changes)
-    (λ index. effect (change_in changes index) (slice_index_or conditions index []))
+    (λ index. effect (change_in_list changes index) (slice_index_or conditions index []))
 
 -- the effect at this index; past the last effect, one that sets variable 0 to value 0
-abbrev pub effect_in : List Effect → ℕ → Effect
-effect_in effects index =
+abbrev pub effect_in_list : List Effect → ℕ → Effect
+effect_in_list effects index =
     slice_index_or effects index (record { conditions = []; var = 0; old = None; new = 0 })

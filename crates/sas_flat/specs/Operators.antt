@@ -35,7 +35,7 @@ operators_in c = table (length c.heads.items) (λ index. operator
     (slice_index (costs c.heads.items) index))
 
 -- the ends in the heads ascend, and the last ones are the ends of the columns
-pub record AreAligned (c : Columns) : Type 0 where
+pub record OperatorColumnsAlign (c : Columns) : Type 0 where
   pub names : AreEnds (name_ends c.heads.items) (length c.names.items)
   pub prevail : AreEnds (prevail_ends c.heads.items) (length c.prevail.items)
   pub effects : AreEnds (effect_ends c.heads.items) (length c.effects)

@@ -17,6 +17,6 @@ abbrev pub rule : Change → List Fact → Rule
 rule c conditions = record { conditions = conditions; var = c.var; old = c.old; new = c.new }
 
 -- the rule at this index; past the last rule, one that sets variable 0 to value 0
-abbrev pub rule_in : List Rule → ℕ → Rule
-rule_in rules index = slice_index_or rules index
+abbrev pub rule_in_list : List Rule → ℕ → Rule
+rule_in_list rules index = slice_index_or rules index
     (record { conditions = []; var = 0; old = None; new = 0 })

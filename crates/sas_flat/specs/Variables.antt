@@ -9,13 +9,13 @@ abbrev pub variable : List ℕ → Option ℕ → List (List ℕ) → Variable
 variable name layer values = record { name = name; layer = layer; values = values }
 
 -- the variables with these names, layers and values; item i of each list belongs to variable i
-abbrev pub variables_of : List (List ℕ) → List (Option ℕ) → List (List (List ℕ)) → List Variable
-variables_of names layers values = table (length values) (λ index.
+abbrev pub variables_from : List (List ℕ) → List (Option ℕ) → List (List (List ℕ)) → List Variable
+variables_from names layers values = table (length values) (λ index.
     variable (slice_index_or names index []) (slice_index_or layers index None)
     (slice_index_or values index []))
 
 abbrev pub variables_in : Columns → List Variable
-variables_in c = variables_of c.names c.layers.items (lists_of c.values c.ends)
+variables_in c = variables_from c.names c.layers.items (lists_of c.values c.ends)
 
 -- the columns have one item per variable, and `ends` are the ends of its value names
 pub record AreAligned (c : Columns) : Type 0 where

@@ -3,7 +3,7 @@ ghost use Rattle.std.specs.Prelude.{◌≡◌, ◌<◌, ◌≤◌, [], ◌∷◌
 ghost use Rattle.sas_core.specs.Grounded as grounded;
 ghost use Rattle.sas_core.specs.Changes as changes;
 ghost use Rattle.sas_core.specs.Changes.{plain_effects};
-ghost use Rattle.sas_flat.specs.Effects.{effect, effect_in};
+ghost use Rattle.sas_flat.specs.Effects.{effect, effect_in_list};
 
 use crate::lists::Lists;
 use sas_core::{Change, Fact};
@@ -63,7 +63,7 @@ impl Effects {
     /// Returns the change that the effect makes.
     pub(crate) fn change(&self, index: usize) -> Change
         requires { index < length self.now }
-        ensures { result ≡ changes.effect_change (effect_in self.now index) }
+        ensures { result ≡ changes.effect_change (effect_in_list self.now index) }
     {
         self.changes.as_slice()[index]
     }
@@ -71,7 +71,7 @@ impl Effects {
     /// Returns the conditions of the effect.
     pub(crate) fn conditions(&self, index: usize) -> &[Fact]
         requires { index < length self.now }
-        ensures { result.now ≡ (effect_in self.now index).conditions }
+        ensures { result.now ≡ (effect_in_list self.now index).conditions }
     {
         if index < self.conditions.len() {
             self.conditions.get(index)

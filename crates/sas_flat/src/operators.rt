@@ -3,7 +3,7 @@ ghost use Rattle.std.specs.Prelude.{◌≡◌, ◌<◌, ◌≤◌, [], ◌∷◌
 ghost use Rattle.sas_core.specs.Grounded as grounded;
 ghost use Rattle.sas_core.specs.Changes as changes;
 ghost use Rattle.sas_core.specs.Changes.{plain_effects};
-ghost use Rattle.sas_flat.specs.Effects.{effect_in};
+ghost use Rattle.sas_flat.specs.Effects.{effect_in_list};
 ghost use Rattle.sas_flat.specs.Growing.{Kept};
 ghost use Rattle.sas_flat.specs.Lists.{start_of};
 ghost use Rattle.sas_flat.specs.Operators.{operator, operator_in, name_ends, prevail_ends, effect_ends, end_head};
@@ -56,13 +56,13 @@ pub struct Operators {
 impl Model for Operators {
     ghost use Rattle.std.specs.Prelude.{List};
     ghost use Rattle.sas_core.specs.declared.parts.Operator.{Operator};
-    ghost use Rattle.sas_flat.specs.Operators.{operators_in, AreAligned};
+    ghost use Rattle.sas_flat.specs.Operators.{operators_in, OperatorColumnsAlign};
 
     ghost Value = { List Operator };
 
     ghost view = { λ o. operators_in o.columns };
 
-    ghost invariant = { λ o. AreAligned o.columns };
+    ghost invariant = { λ o. OperatorColumnsAlign o.columns };
 }
 
 impl Columns {
@@ -243,7 +243,8 @@ impl Operators {
         requires operator { operator < length self.now }
         requires effect { effect < length (operator_in self.now operator).effects }
         ensures { result
-            ≡ changes.effect_change (effect_in (operator_in self.now operator).effects effect) }
+            ≡ changes.effect_change
+            (effect_in_list (operator_in self.now operator).effects effect) }
     {
         // The number of all effects fits into a `usize`, so this index doesn't overflow.
         let _effects = self.columns.effects.len();
@@ -269,7 +270,7 @@ impl Operators {
         requires operator { operator < length self.now }
         requires effect { effect < length (operator_in self.now operator).effects }
         ensures { result.now
-            ≡ (effect_in (operator_in self.now operator).effects effect).conditions }
+            ≡ (effect_in_list (operator_in self.now operator).effects effect).conditions }
     {
         // The number of all effects fits into a `usize`, so this index doesn't overflow.
         let _effects = self.columns.effects.len();

@@ -2,7 +2,7 @@
 ghost use Rattle.std.specs.Prelude.{◌≡◌, ◌<◌, [], ◌∷◌, ◌++◌, length, OnOk, OnErr};
 ghost use Rattle.sas_core.specs.Grounded as grounded;
 ghost use Rattle.sas_core.specs.Changes as changes;
-ghost use Rattle.sas_flat.specs.Rules.{rule, rule_in};
+ghost use Rattle.sas_flat.specs.Rules.{rule, rule_in_list};
 
 use crate::effects::Effects;
 use sas_core::{Change, Fact};
@@ -45,7 +45,7 @@ impl Rules {
     /// Returns the change that the rule makes.
     pub(crate) fn change(&self, index: usize) -> Change
         requires { index < length self.now }
-        ensures { result ≡ changes.rule_change (rule_in self.now index) }
+        ensures { result ≡ changes.rule_change (rule_in_list self.now index) }
     {
         self.effects.change(index)
     }
@@ -53,7 +53,7 @@ impl Rules {
     /// Returns the conditions of the rule.
     pub(crate) fn conditions(&self, index: usize) -> &[Fact]
         requires { index < length self.now }
-        ensures { result.now ≡ (rule_in self.now index).conditions }
+        ensures { result.now ≡ (rule_in_list self.now index).conditions }
     {
         self.effects.conditions(index)
     }

@@ -8,16 +8,16 @@ use Rattle.sas_core.specs.Grounded.{operator_at}
 use Rattle.sas_flat.specs.declared.by_key.Entry.{Entry}
 use Rattle.sas_flat.specs.ByKey.{by_key}
 use Rattle.sas_flat.proofs.ByKey.{under_holds}
-use Rattle.sas_groups.specs.ByVariable.{IsLarge, entry_of, AreEntered, AreByVariable, place_of}
+use Rattle.sas_groups.specs.ByVariable.{IsLarge, effect_entry, AreEntered, AreByVariable, place_of}
 
 -- one effect more
 pub effect_entered : (p : Parts) (places operator effect : ℕ) (before now after : List (Entry ℕ)) (entry : Entry ℕ) → AreEntered p places operator effect before now
-    → entry ≡ entry_of p places operator effect → after ≡ now ++ entry ∷ [] → AreEntered p places operator (effect + 1) before after
+    → entry ≡ effect_entry p places operator effect → after ≡ now ++ entry ∷ [] → AreEntered p places operator (effect + 1) before after
 effect_entered p places operator effect before now after entry entered is more = record {
-  each = λ other lt. subst (λ (es : List (Entry ℕ)). Contains es (entry_of p places operator other)) (sym more) (elim (cases_eq other effect) [
-    | inl e ↦ subst (λ (n : ℕ). Contains (now ++ entry ∷ []) (entry_of p places operator n)) (sym e)
+  each = λ other lt. subst (λ (es : List (Entry ℕ)). Contains es (effect_entry p places operator other)) (sym more) (elim (cases_eq other effect) [
+    | inl e ↦ subst (λ (n : ℕ). Contains (now ++ entry ∷ []) (effect_entry p places operator n)) (sym e)
         (subst (λ (x : Entry ℕ). Contains (now ++ entry ∷ []) x) is (Contains-push now entry))
-    | inr ne ↦ Contains-append_left now (entry ∷ []) (entry_of p places operator other) (entered.each other (omega arith))
+    | inr ne ↦ Contains-append_left now (entry ∷ []) (effect_entry p places operator other) (entered.each other (omega arith))
   ]);
   still = λ x there. subst (λ (es : List (Entry ℕ)). Contains es x) (sym more) (Contains-append_left now (entry ∷ []) x (entered.still x there));
 }
@@ -25,15 +25,15 @@ effect_entered p places operator effect before now after entry entered is more =
 -- the effects of the first operators, where these are large
 abbrev pub AreLargeEntered : Parts → ℕ → ℕ → List (Entry ℕ) → Type 0
 AreLargeEntered p places operators entries = (operator : ℕ) → operator < operators → IsLarge p operator
-    → (effect : ℕ) → effect < length (operator_at p operator).effects → Contains entries (entry_of p places operator effect)
+    → (effect : ℕ) → effect < length (operator_at p operator).effects → Contains entries (effect_entry p places operator effect)
 
 -- one operator more, which is large or isn't
 pub large_entered : (p : Parts) (places operator : ℕ) (before after : List (Entry ℕ)) → AreLargeEntered p places operator before
     → AreEntered p places operator (length (operator_at p operator).effects) before after → AreLargeEntered p places (operator + 1) after
 large_entered p places operator before after were entered other lt large effect within = elim (cases_eq other operator) [
-  | inl e ↦ subst (λ (o : ℕ). Contains after (entry_of p places o effect)) (sym e)
+  | inl e ↦ subst (λ (o : ℕ). Contains after (effect_entry p places o effect)) (sym e)
       (entered.each effect (subst (λ (o : ℕ). effect < length (operator_at p o).effects) e within))
-  | inr ne ↦ entered.still (entry_of p places other effect) (were other (omega arith) large effect within)
+  | inr ne ↦ entered.still (effect_entry p places other effect) (were other (omega arith) large effect within)
 ]
 
 pub small_passed : (p : Parts) (places operator : ℕ) (entries : List (Entry ℕ)) → AreLargeEntered p places operator entries → (IsLarge p operator → ⊥)

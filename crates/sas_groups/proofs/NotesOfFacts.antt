@@ -14,7 +14,7 @@ use Rattle.sas_groups.specs.declared.notes.Noted.TheVariants.{Nothing, One, Seve
 use Rattle.sas_groups.specs.Kept.{family_of}
 use Rattle.sas_groups.specs.Index.{IsIndexOf, groups_of}
 use Rattle.sas_groups.specs.Notes.{value_note, group_note, AreBlank, AreFrom, IsValueNote, IsOfGroup, IsOfGroupBeside, IsNoteOf, IsGroupNote, AreNotesOf}
-use Rattle.sas_groups.specs.Noting.{IsNotedToo, Takes, TakenBySome, ShareKept, ChangesAt, IsSetApart, IsSet, IsCompleted, Forgets, IsForgotten}
+use Rattle.sas_groups.specs.Noting.{IsNotedToo, NotesForGroup, TakenBySome, ShareKept, ChangesAt, IsSetApart, IsSet, IsCompleted, Forgets, IsForgotten}
 use Rattle.sas_groups.proofs.InLists.{is_among}
 use Rattle.sas_groups.proofs.Existing.{variable_below}
 
@@ -86,16 +86,16 @@ module _ (groups : List ℕ) (kept : List Bool) (fact : Fact) (before now : List
     elsewhere : (q : ℕ) → q ≢ place → group_note (set now place after) q ≡ group_note now q
     elsewhere q ne = get_or-set_other now place q after Nothing ne
 
-    pub takes_here : Takes groups kept fact before (set now place after) place
+    pub takes_here : NotesForGroup groups kept fact before (set now place after) place
     takes_here = record {
       among = among;
       now = subst (λ noted. IsNotedToo (group_note before place) fact noted) (sym at_place) since_before;
       alone = λ in_family several. alone in_family (sym at_place ∙ several);
     }
 
-    pub takes_still : (q : ℕ) → Takes groups kept fact before now q → Takes groups kept fact before (set now place after) q
+    pub takes_still : (q : ℕ) → NotesForGroup groups kept fact before now q → NotesForGroup groups kept fact before (set now place after) q
     takes_still q takes = elim (cases_eq q place) [
-      | inl e ↦ subst (λ x. Takes groups kept fact before (set now place after) x) (sym e) takes_here
+      | inl e ↦ subst (λ x. NotesForGroup groups kept fact before (set now place after) x) (sym e) takes_here
       | inr ne ↦ record {
         among = takes.among;
         now = subst (λ noted. IsNotedToo (group_note before q) fact noted) (sym (elsewhere q ne)) takes.now;
@@ -107,7 +107,7 @@ module _ (groups : List ℕ) (kept : List Bool) (fact : Fact) (before now : List
     taken_more = record {
       as_many = length-set now place after ∙ some.as_many;
       each = λ q. elim (cases_eq q place) [
-        | inl e ↦ inr (subst (λ x. Takes groups kept fact before (set now place after) x) (sym e) takes_here)
+        | inl e ↦ inr (subst (λ x. NotesForGroup groups kept fact before (set now place after) x) (sym e) takes_here)
         | inr ne ↦ elim (some.each q) [
           | inl same ↦ inl (elsewhere q ne ∙ same)
           | inr takes ↦ inr (takes_still q takes)

@@ -17,14 +17,15 @@ abbrev pub variable_of : Parts → ℕ → ℕ → ℕ
 variable_of p operator effect = (effect_at (operator_at p operator) effect).var
 
 -- the entry for an effect
-abbrev pub entry_of : Parts → ℕ → ℕ → ℕ → Entry ℕ
-entry_of p places operator effect =
+abbrev pub effect_entry : Parts → ℕ → ℕ → ℕ → Entry ℕ
+effect_entry p places operator effect =
     record { key = place_of operator (variable_of p operator effect) places; item = effect }
 
 -- the entries of the first effects of the operator were added, and no entry was removed
 pub record AreEntered (p : Parts) (places operator effects : ℕ) (before after : List (Entry ℕ))
     : Type 0 where
-  pub each : (effect : ℕ) → effect < effects → Contains after (entry_of p places operator effect)
+  pub each : (effect : ℕ) → effect < effects
+      → Contains after (effect_entry p places operator effect)
   pub still : (entry : Entry ℕ) → Contains before entry → Contains after entry
 
 -- the list contains all effects of the operator that set the variable

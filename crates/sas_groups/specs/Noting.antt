@@ -45,7 +45,7 @@ IsNotedToo (One other) fact after =
 IsNotedToo Several fact after = after ≡ Several
 
 -- another fact is recorded for one of these groups that is in the family
-pub record IsRefused (groups : List ℕ) (kept : List Bool) (fact : Fact) (noted : List Noted)
+pub record IsExcluded (groups : List ℕ) (kept : List Bool) (fact : Fact) (noted : List Noted)
     : Type 0 where
   pub place : ℕ
   pub among : Contains groups place
@@ -54,7 +54,8 @@ pub record IsRefused (groups : List ℕ) (kept : List Bool) (fact : Fact) (noted
 
 -- the fact is now recorded for this group, which is one of these groups; if it is in the family, no
 -- other fact is recorded for it
-pub record Takes (groups : List ℕ) (kept : List Bool) (fact : Fact) (before after : List Noted)
+pub record NotesForGroup (groups : List ℕ) (kept : List Bool)
+    (fact : Fact) (before after : List Noted)
     (place : ℕ) : Type 0 where
   pub among : Contains groups place
   pub now : IsNotedToo (group_note before place) fact (group_note after place)
@@ -65,12 +66,12 @@ pub record TakenBySome (groups : List ℕ) (kept : List Bool) (fact : Fact)
     (before after : List Noted) : Type 0 where
   pub as_many : length after ≡ length before
   pub each : (place : ℕ) → (group_note after place ≡ group_note before place)
-      ⊎ Takes groups kept fact before after place
+      ⊎ NotesForGroup groups kept fact before after place
 
 -- the fact was recorded for all of these groups
 abbrev pub TakenByAll : List ℕ → List Bool → Fact → List Noted → List Noted → Type 0
 TakenByAll groups kept fact before after =
-    (place : ℕ) → Contains groups place → Takes groups kept fact before after place
+    (place : ℕ) → Contains groups place → NotesForGroup groups kept fact before after place
 
 -- another value is recorded for the variable of the fact
 abbrev pub HasOtherValue : List (Option ℕ) → Fact → Type 0
@@ -81,7 +82,7 @@ HasOtherValue values fact = (value : ℕ)
 -- the fact contradicts a recorded fact
 abbrev pub IsContradicted : Index → List Bool → Fact → Notes → Type 0
 IsContradicted index kept fact notes = HasOtherValue notes.values fact
-    ⊎ (IsRefused (groups_of index fact) kept fact notes.groups
+    ⊎ (IsExcluded (groups_of index fact) kept fact notes.groups
     ⊎ (value_note notes.values fact.var ≡ None) × SharesApart index kept fact notes.apart)
 
 -- only the entries of the fact's variable and of its groups may change
@@ -103,7 +104,7 @@ pub record IsThere (fact : Fact) (before after : Notes) : Type 0 where
   pub same_apart : after.apart ≡ before.apart
 
 -- no fact was recorded for the variable, and this one is recorded now
-pub record IsNew (index : Index) (kept : List Bool) (fact : Fact) (before after : Notes)
+pub record NotesFirstFact (index : Index) (kept : List Bool) (fact : Fact) (before after : Notes)
     : Type 0 where
   pub none : value_note before.values fact.var ≡ None
   pub values : after.values ≡ slice_set before.values fact.var (Some fact.value)

@@ -6,8 +6,8 @@ ghost use Rattle.sas_groups.specs.declared.notes.Noted.TheVariants.{Nothing, One
 ghost use Rattle.sas_groups.specs.Index.{groups_of};
 ghost use Rattle.sas_groups.specs.Notes.{AreBlank, AreFrom};
 ghost use Rattle.sas_groups.specs.Noting.{AreBelow, IsReadable, ShareKept, SharesApart, IsContradicted};
-ghost use Rattle.sas_groups.specs.Noting.{IsNotedToo, IsRefused, TakenBySome, TakenByAll};
-ghost use Rattle.sas_groups.specs.Noting.{ChangesAt, IsThere, IsNew, ForgetsGroups, Forgets, IsSetApart, IsCompleted};
+ghost use Rattle.sas_groups.specs.Noting.{IsNotedToo, IsExcluded, TakenBySome, TakenByAll};
+ghost use Rattle.sas_groups.specs.Noting.{ChangesAt, IsThere, NotesFirstFact, ForgetsGroups, Forgets, IsSetApart, IsCompleted};
 ghost use Rattle.sas_groups.specs.Noting.{HasNotedGroup};
 
 use crate::deciding::Deciding;
@@ -209,7 +209,7 @@ pub fn note(
     requires value { fact.var < length notes.old.values }
     requires groups { AreBelow (length notes.old.groups) (groups_of index.now fact) }
     ensures yes { IsTrue result → IsThere fact notes.old notes.new
-        ⊎ IsNew index.now kept.now fact notes.old notes.new }
+        ⊎ NotesFirstFact index.now kept.now fact notes.old notes.new }
     ensures no { IsFalse result → IsContradicted index.now kept.now fact notes.old }
     ensures changes { ChangesAt (groups_of index.now fact) fact notes.old notes.new }
 {
@@ -299,7 +299,7 @@ fn note_in_groups(
 ) -> bool
     requires { AreBelow (length noted.old) groups.now }
     ensures yes { IsTrue result → TakenByAll groups.now kept.now fact noted.old noted.new }
-    ensures no { IsFalse result → IsRefused groups.now kept.now fact noted.old }
+    ensures no { IsFalse result → IsExcluded groups.now kept.now fact noted.old }
     ensures some { TakenBySome groups.now kept.now fact noted.old noted.new }
 {
     for group in groups {

@@ -13,7 +13,7 @@ use Rattle.sas_core.proofs.Places.{holds_at}
 use Rattle.sas_meaning.specs.declared.layered.LayerFault.{LayerFault}
 use Rattle.sas_meaning.specs.declared.layered.LayerFault.TheVariants.{OldValue, TwoValues, LayerOrder}
 use Rattle.sas_meaning.specs.Layers.{CanFire, default_of}
-use Rattle.sas_meaning.specs.LayerChecks.{numbered, agrees_with, looks_down, firing_checks}
+use Rattle.sas_meaning.specs.LayerChecks.{numbered_checks, agrees_with, looks_down, firing_checks}
 use Rattle.sas_meaning.specs.NewValues.{NewValues}
 use Rattle.sas_meaning.proofs.Forced.{fact_within}
 use Rattle.sas_meaning.proofs.NumberedChecks.{same_check}
@@ -26,7 +26,7 @@ passed false e none = absurd (cc)
 -- the checks of the conditions of a rule
 abbrev pub condition_checks : Parts → ℕ → Rule → List (Check LayerFault)
 condition_checks p place rule =
-    numbered (λ condition c. check (looks_down p rule.var c) (LayerOrder place condition)) rule.conditions
+    numbered_checks (λ condition c. check (looks_down p rule.var c) (LayerOrder place condition)) rule.conditions
 
 -- the rule at a place, and what it changes
 module _ (p : Parts) (place : ℕ) (change : Change) (is : change ≡ rule_change (rule_at p place)) (below : place < length p.rules) where

@@ -15,7 +15,7 @@ use Rattle.sas_core.specs.Variables.{layer_of, IsDerived}
 use Rattle.sas_meaning.specs.declared.layered.LayerFault.{LayerFault}
 use Rattle.sas_meaning.specs.declared.layered.LayerFault.TheVariants.{EffectOnDerived, RuleOnBasic, OldValue, TwoValues, LayerOrder}
 use Rattle.sas_meaning.specs.Layers.{IsBasic, default_of, CanFire, can_fire, LooksDown, IsLayeredRule, IsLayered}
-use Rattle.sas_meaning.specs.LayerChecks.{numbered, effect_layer_checks, operator_layer_checks, agrees_with, looks_down, firing_checks, rule_layer_checks, layer_checks, LayerChecksAreTheRules}
+use Rattle.sas_meaning.specs.LayerChecks.{numbered_checks, effect_layer_checks, operator_layer_checks, agrees_with, looks_down, firing_checks, rule_layer_checks, layer_checks, LayerChecksAreTheRules}
 use Rattle.sas_meaning.proofs.RuleTests.{fires, agrees_with_earlier}
 
 -- checks that are made only where a test says so
@@ -51,14 +51,14 @@ module _ {A : Type 0} (checks_of : ℕ → A → List (Check LayerFault)) where
       record { none = join_row (checks_of n item) (flat_map (λ (place, item). checks_of place item) (enumerate_from (n + 1) items)) first.none rest.none }
 
   -- the checks of all items pass exactly where those of the item at each place do
-  numbered_pass : (items : List A) → Pass (numbered checks_of items) ↔ ((place : ℕ) (d : A) → place < length items → Pass (checks_of place (get_or items place d)))
+  numbered_pass : (items : List A) → Pass (numbered_checks checks_of items) ↔ ((place : ℕ) (d : A) → place < length items → Pass (checks_of place (get_or items place d)))
   numbered_pass items = (
     λ pass place d below. moved (0 + place) place (get_or items place d) (omega arith) (passes_each 0 items pass place d below),
     λ each. each_passes 0 items (λ place d below. moved place (0 + place) (get_or items place d) (omega arith) (each place d below)),
   )
 
   -- where the checks of an item say the same at each place
-  all_follow : (Follows : A → Type 0) (items : List A) → ((place : ℕ) (item : A) → Pass (checks_of place item) ↔ Follows item) → Pass (numbered checks_of items) ↔ All Follows items
+  all_follow : (Follows : A → Type 0) (items : List A) → ((place : ℕ) (item : A) → Pass (checks_of place item) ↔ Follows item) → Pass (numbered_checks checks_of items) ↔ All Follows items
   all_follow Follows items same = (
     λ pass place d below. (same place (get_or items place d)).0 ((numbered_pass items).0 pass place d below),
     λ all. (numbered_pass items).1 (λ place d below. (same place (get_or items place d)).1 (all place d below)),
@@ -114,7 +114,7 @@ down_is (Some here) (Some its) value default = (
 )
 
 module _ (p : Parts) where
-  conditions_follow : (place : ℕ) (rule : Rule) → Pass (numbered (λ condition c. check (looks_down p rule.var c) (LayerOrder place condition)) rule.conditions) ↔ All (LooksDown p rule.var) rule.conditions
+  conditions_follow : (place : ℕ) (rule : Rule) → Pass (numbered_checks (λ condition c. check (looks_down p rule.var c) (LayerOrder place condition)) rule.conditions) ↔ All (LooksDown p rule.var) rule.conditions
   conditions_follow place rule =
       all_follow (λ condition c. check (looks_down p rule.var c) (LayerOrder place condition)) (LooksDown p rule.var) rule.conditions (λ condition c. by_test (looks_down p rule.var c) (LayerOrder place condition) (LooksDown p rule.var c) (down_is (layer_of p.variables rule.var) (layer_of p.variables c.var) c.value (default_of p c.var)))
 
@@ -145,7 +145,7 @@ module _ (p : Parts) where
   abbrev Followed : Type 0
   Followed = (place : ℕ) → place < length p.rules → IsDerived p.variables (rule_at p place).var × (CanFire p (rule_at p place) → Firing place (rule_at p place))
 
-  rules_follow : Pass (numbered (rule_layer_checks p) p.rules) ↔ Followed
+  rules_follow : Pass (numbered_checks (rule_layer_checks p) p.rules) ↔ Followed
   rules_follow = (
     λ pass place below.
         (rule_follows place (rule_at p place) (omega arith)).0 ((numbered_pass (rule_layer_checks p) p.rules).0 pass place _ below),
@@ -179,7 +179,7 @@ module _ (p : Parts) where
   sections : Pass (layer_checks p) ↔ IsLayered p
   sections =
       let operators = all_follow (operator_layer_checks p) (λ (o : Operator). All (λ (e : Effect). IsBasic p e.var) o.effects) p.operators (operator_follows p) in
-      let both = and_then (numbered (operator_layer_checks p) p.operators) (numbered (rule_layer_checks p) p.rules) _ _ operators rules_follow in (
+      let both = and_then (numbered_checks (operator_layer_checks p) p.operators) (numbered_checks (rule_layer_checks p) p.rules) _ _ operators rules_follow in (
         λ pass.
             let q = both.0 pass in
             record {

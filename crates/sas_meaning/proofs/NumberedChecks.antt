@@ -7,7 +7,7 @@ use Rattle.std.specs.List.{enumerate_from}
 use Rattle.sas_core.specs.FirstFault.{Check, first_fault, check}
 use Rattle.sas_core.proofs.FirstFaults.{fails_before, decides_after}
 use Rattle.sas_meaning.specs.declared.layered.LayerFault.{LayerFault}
-use Rattle.sas_meaning.specs.LayerChecks.{numbered}
+use Rattle.sas_meaning.specs.LayerChecks.{numbered_checks}
 
 -- a check, and one whose test says the same
 pub same_check : (passes test : Bool) (e : LayerFault) (found : Option LayerFault) → passes ≡ test → found ≡ first_fault (check passes e) → found ≡ first_fault (check test e)
@@ -19,11 +19,11 @@ named checks_of items = flat_map (λ (place, item). checks_of place item) items
 
 -- the items before this place pass, so the first fault is that of the items from there on
 pub record PassBefore {A : Type 0} (checks_of : ℕ → A → List (Check LayerFault)) (items : List A) (place : ℕ) : Type 0 where
-  pub rest_decides : first_fault (numbered checks_of items) ≡ first_fault (named checks_of (drop place (enumerate_from 0 items)))
+  pub rest_decides : first_fault (numbered_checks checks_of items) ≡ first_fault (named checks_of (drop place (enumerate_from 0 items)))
 
 module _ {A : Type 0} (checks_of : ℕ → A → List (Check LayerFault)) (items : List A) where
   -- no item is left
-  pub pass_all : (place : ℕ) → length items ≤ place → PassBefore checks_of items place → None ≡ first_fault (numbered checks_of items)
+  pub pass_all : (place : ℕ) → length items ≤ place → PassBefore checks_of items place → None ≡ first_fault (numbered_checks checks_of items)
   pass_all place past before =
       sym
       (before.rest_decides
@@ -49,7 +49,7 @@ module _ {A : Type 0} (checks_of : ℕ → A → List (Check LayerFault)) (items
     }
 
     -- the item at this place fails
-    pub fails_at : (e : LayerFault) → Some e ≡ first_fault (checks_of place item) → Some e ≡ first_fault (numbered checks_of items)
+    pub fails_at : (e : LayerFault) → Some e ≡ first_fault (checks_of place item) → Some e ≡ first_fault (numbered_checks checks_of items)
     fails_at e some =
         fails_before (checks_of place item) (named checks_of (drop (place + 1) (enumerate_from 0 items))) e some
         ∙ sym (before.rest_decides ∙ ap (λ rest. first_fault (named checks_of rest)) at_item)

@@ -10,38 +10,38 @@ use Rattle.sas_core.specs.Variables.{layer_of, IsDerived}
 use Rattle.sas_meaning.specs.declared.touched.Touched.{Touched}
 use Rattle.sas_meaning.specs.Following.{HaveGone}
 use Rattle.sas_meaning.specs.Layers.{IsBasic}
-use Rattle.sas_meaning.specs.Touched.{MayHaveChanged, IsCleared, Notes, TellsChanges, StillTells}
+use Rattle.sas_meaning.specs.Touched.{MayHaveChanged, IsCleared, AddsTouched, TellsChanges, StillTells}
 
 by_test : (b : Bool) (xs ys zs : List ℕ) → zs ≡ (if b then xs else ys) → ((b ≡ true) × (zs ≡ xs)) ⊎ (zs ≡ ys)
 by_test true xs ys zs e = inl (refl, e)
 by_test false xs ys zs e = inr e
 
 -- any variable may have changed, or what is noted is on the list
-listed : (var : ℕ) (t t' : Touched) → Notes var t t' → ((t'.any ≡ true) × (t'.vars.items ≡ t.vars.items)) ⊎ (t'.vars.items ≡ t.vars.items ++ var ∷ [])
+listed : (var : ℕ) (t t' : Touched) → AddsTouched var t t' → ((t'.any ≡ true) × (t'.vars.items ≡ t.vars.items)) ⊎ (t'.vars.items ≡ t.vars.items ++ var ∷ [])
 listed var t t' notes = by_test t'.any t.vars.items (t.vars.items ++ var ∷ []) t'.vars.items notes.vars
 
 -- what may have changed still may
-pub may_still : (var : ℕ) (t t' : Touched) → Notes var t t' → (v : ℕ) → MayHaveChanged t v → MayHaveChanged t' v
+pub may_still : (var : ℕ) (t t' : Touched) → AddsTouched var t t' → (v : ℕ) → MayHaveChanged t v → MayHaveChanged t' v
 may_still var t t' notes v (inl any) = inl (notes.any.1 (inl any))
 may_still var t t' notes v (inr on) = elim (listed var t t' notes) [
   | inl any ↦ inl any.0
   | inr more ↦ inr (rw more (Contains-append_left t.vars.items (var ∷ []) v on))
 ]
 
-pub noted_may : (var : ℕ) (t t' : Touched) → Notes var t t' → MayHaveChanged t' var
+pub noted_may : (var : ℕ) (t t' : Touched) → AddsTouched var t t' → MayHaveChanged t' var
 noted_may var t t' notes = elim (listed var t t' notes) [
   | inl any ↦ inl any.0
   | inr more ↦ inr (rw more (Contains-push t.vars.items var))
 ]
 
-pub only_noted : (P : ℕ → Type 0) (var : ℕ) (t t' : Touched) → Notes var t t' → P var → All P t.vars.items → All P t'.vars.items
+pub only_noted : (P : ℕ → Type 0) (var : ℕ) (t t' : Touched) → AddsTouched var t t' → P var → All P t.vars.items → All P t'.vars.items
 only_noted P var t t' notes its all = elim (listed var t t' notes) [
   | inl any ↦ rw any.1 all
   | inr more ↦ rw more (All-push P t.vars.items var all its)
 ]
 
 -- a derived variable is noted, and set
-pub tells_set : (p : Parts) (s s' : List ℕ) (var value : ℕ) (t t' : Touched) → IsDerived p.variables var → s' ≡ set s var value → Notes var t t' → StillTells p s t s' t'
+pub tells_set : (p : Parts) (s s' : List ℕ) (var value : ℕ) (t t' : Touched) → IsDerived p.variables var → s' ≡ set s var value → AddsTouched var t t' → StillTells p s t s' t'
 tells_set p s s' var value t t' derived is notes before tells = rw is record {
   only = only_noted (IsDerived p.variables) var t t' notes derived tells.only;
   each = λ v on. elim (cases_eq v var) [

@@ -16,9 +16,10 @@ use Rattle.sas_meaning.specs.declared.layered.LayerFault.TheVariants.{OldValue, 
 use Rattle.sas_meaning.specs.Layers.{default_of, can_fire, IsLayered}
 
 -- the checks of all items in order; the checks of an item may use its index
-abbrev pub numbered : {A : Type 0} → (ℕ → A → List (Check LayerFault)) → List A
+abbrev pub numbered_checks : {A : Type 0} → (ℕ → A → List (Check LayerFault)) → List A
     → List (Check LayerFault)
-numbered checks_of items = flat_map (λ (place, item). checks_of place item) (enumerate_from 0 items)
+numbered_checks checks_of items = flat_map
+    (λ (place, item). checks_of place item) (enumerate_from 0 items)
 
 -- ---- operators
 
@@ -27,7 +28,7 @@ effect_layer_checks p operator effect e =
     check (not (is_some (layer_of p.variables e.var))) (EffectOnDerived operator effect)
 
 abbrev pub operator_layer_checks : Parts → ℕ → Operator → List (Check LayerFault)
-operator_layer_checks p operator o = numbered (effect_layer_checks p operator) o.effects
+operator_layer_checks p operator o = numbered_checks (effect_layer_checks p operator) o.effects
 
 -- ---- rules
 
@@ -51,7 +52,7 @@ abbrev pub firing_checks : Parts → ℕ → Rule → List (Check LayerFault)
 firing_checks p place rule =
     check (option_map_or (λ old. old == default_of p rule.var) rule.old true) (OldValue place)
     ++ check (agrees_with p (take place p.rules) rule) (TwoValues place)
-    ++ numbered (λ condition c. check (looks_down p rule.var c) (LayerOrder place condition))
+    ++ numbered_checks (λ condition c. check (looks_down p rule.var c) (LayerOrder place condition))
     rule.conditions
 
 abbrev pub rule_layer_checks : Parts → ℕ → Rule → List (Check LayerFault)
@@ -62,7 +63,8 @@ rule_layer_checks p place rule =
 -- all checks of a task: those of the operators, then those of the rules
 abbrev pub layer_checks : Parts → List (Check LayerFault)
 layer_checks p =
-    numbered (operator_layer_checks p) p.operators ++ numbered (rule_layer_checks p) p.rules
+    numbered_checks (operator_layer_checks p) p.operators
+    ++ numbered_checks (rule_layer_checks p) p.rules
 
 -- a task is layered if and only if all checks pass
 abbrev pub LayerChecksAreTheRules : Type 0

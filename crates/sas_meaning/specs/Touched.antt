@@ -15,7 +15,7 @@ pub record IsCleared (t : Touched) : Type 0 where
 
 -- the variable is recorded: it is appended to the list, or any variable may have changed because
 -- the list is full
-pub record Notes (var : ℕ) (t t' : Touched) : Type 0 where
+pub record AddsTouched (var : ℕ) (t t' : Touched) : Type 0 where
   pub any : IsTrue t'.any ↔ IsTrue t.any ⊎ (vec_capacity t.vars ≤ length t.vars.items)
   pub vars : t'.vars.items
       ≡ (if t'.any then t.vars.items else t.vars.items ++ var ∷ [])

@@ -32,7 +32,8 @@ fn check_operators<T: Grounded>(task: &T) -> Result<(), LayerFault>
     requires { WellRanged (T.says task.now) }
     ensures { result_err result
         ≡ first_fault
-        (spec.numbered (spec.operator_layer_checks (T.says task.now)) (T.says task.now).operators) }
+        (spec.numbered_checks (spec.operator_layer_checks (T.says task.now))
+        (T.says task.now).operators) }
 {
     for operator in 0..task.operators() {
         check_operator(task, operator)?;
@@ -64,7 +65,7 @@ fn check_rules<T: Grounded>(task: &T, new_values: &mut Items<Option<u32>>) -> Re
     requires well_ranged { WellRanged (T.says task.now) }
     requires known { NewValues (T.says task.now) 0 new_values.old }
     ensures { result_err result
-        ≡ first_fault (spec.numbered (spec.rule_layer_checks (T.says task.now))
+        ≡ first_fault (spec.numbered_checks (spec.rule_layer_checks (T.says task.now))
         (T.says task.now).rules) }
 {
     for rule in 0..task.rules() {
@@ -131,7 +132,7 @@ fn check_conditions<T: Grounded>(task: &T, rule: u32, var: u32) -> Result<(), La
     requires well_ranged { WellRanged (T.says task.now) }
     requires rule { rule < length (T.says task.now).rules }
     requires var { var ≡ (rule_at (T.says task.now) rule).var }
-    ensures { result_err result ≡ first_fault (spec.numbered
+    ensures { result_err result ≡ first_fault (spec.numbered_checks
         (λ condition c.
         check (spec.looks_down (T.says task.now) (rule_at (T.says task.now) rule).var c)
         (LayerOrder rule condition))

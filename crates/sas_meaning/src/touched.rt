@@ -1,6 +1,6 @@
 // The derived variables that may have changed while a state was settled.
 ghost use Rattle.std.specs.Prelude.{◌≡◌, vec_capacity, IsTrue, IsFalse, IfOk, IfSome, IfNone};
-ghost use Rattle.sas_meaning.specs.Touched.{IsCleared, Notes};
+ghost use Rattle.sas_meaning.specs.Touched.{IsCleared, AddsTouched};
 
 use std::alloc::{AllocError, Global};
 
@@ -46,7 +46,7 @@ impl Touched {
 
     /// Adds a variable that may have changed.
     pub fn note(&mut self, var: u32)
-        ensures { Notes var self.old self.new }
+        ensures { AddsTouched var self.old self.new }
     {
         if self.any {
             return;

@@ -18,7 +18,7 @@ use Rattle.sas_groups.specs.declared.notes.Noted.TheVariants.{Nothing, One, Seve
 use Rattle.sas_mutex.specs.Effects.{IsKept}
 use Rattle.sas_groups.specs.Index.{IsIndexOf, HasFact, groups_of}
 use Rattle.sas_groups.specs.Notes.{value_note, group_note, IsWide, AreBlank, AreFrom, IsValueNote, IsOfGroup, IsOfGroupBeside, IsNoteOf, IsGroupNote}
-use Rattle.sas_groups.specs.Noting.{Takes, ShareKept, IsContradicted, ChangesAt, IsThere, IsNew, IsSetApart}
+use Rattle.sas_groups.specs.Noting.{NotesForGroup, ShareKept, IsContradicted, ChangesAt, IsThere, NotesFirstFact, IsSetApart}
 use Rattle.sas_mutex.specs.ByNotes.{ShareOne, AreKnown}
 use Rattle.sas_groups.proofs.InLists.{in_none, is_among}
 use Rattle.sas_groups.proofs.Existing.{variable_below}
@@ -237,7 +237,7 @@ module _ (p : Parts) (index : Index) (kept : List Bool) (before : List Fact) (ol
         share,
   ))
 
-  module _ (new : Notes) (is : IsNew index kept fact old new) where
+  module _ (new : Notes) (is : NotesFirstFact index kept fact old new) where
     none_on_variable : (f : Fact) → Contains before f → f.var ≢ fact.var
     none_on_variable = no_value_note_tells before fact.var (value_note old.values fact.var) (known.noted.values fact.var on_variable) is.none
 
@@ -262,7 +262,7 @@ module _ (p : Parts) (index : Index) (kept : List Bool) (before : List Fact) (ol
                 (contradict_turned (IsKept p kept) f fact (inr one)),
           )
           | inr ne ↦
-              (let takes : Takes (groups_of index fact) kept fact old.groups new.groups place = is.all place ((indexed.groups fact exists place).1 has) in
+              (let takes : NotesForGroup (groups_of index fact) kept fact old.groups new.groups place = is.all place ((indexed.groups fact exists place).1 has) in
               let beside : IsOfGroupBeside p before old.apart place f = record { of = record { among = in_before; has = has_f }; beside = ne } in
               not_before (subst (λ (x : Fact). Contains before x) (no_other (IsOfGroupBeside p before old.apart place) fact (group_note old.groups place) (group_note new.groups place)
               (known.noted.groups place has.exists) takes.now (takes.alone in_family.chosen) f beside) in_before))
@@ -344,7 +344,7 @@ module _ (p : Parts) (index : Index) (kept : List Bool) (before : List Fact) (ol
       ];
     }
 
-  pub known_one_more : (new : Notes) → IsThere fact old new ⊎ IsNew index kept fact old new → AreKnown p kept (before ++ fact ∷ []) new
+  pub known_one_more : (new : Notes) → IsThere fact old new ⊎ NotesFirstFact index kept fact old new → AreKnown p kept (before ++ fact ∷ []) new
   known_one_more new (inl is_there) = known_already new is_there
   known_one_more new (inr is) = known_more new is
 
@@ -416,7 +416,7 @@ module _ (p : Parts) (kept : List Bool) (all : List Fact) (exist : All (FactExis
         (λ none e. no_value_note_tells so_far.seen fact.var (value_note old.values fact.var)
         (so_far.known.noted.values fact.var (variable_below p fact (exists_of fact within))) none fact (so_far.known.noted.one_apart fact e) refl) changes
 
-    pub one_so_far : (new : Notes) → IsThere fact old new ⊎ IsNew index kept fact old new → ChangesAt (groups_of index fact) fact old new
+    pub one_so_far : (new : Notes) → IsThere fact old new ⊎ NotesFirstFact index kept fact old new → ChangesAt (groups_of index fact) fact old new
         → AreSoFar p kept all (came ++ fact ∷ []) new
     one_so_far new how changes = record {
       seen = so_far.seen ++ fact ∷ [];

@@ -24,7 +24,7 @@ use Rattle.sas_mutex.specs.Effects.{IsKept, EffectKeeps}
 use Rattle.sas_groups.specs.Index.{IsIndexOf, HasFact, groups_of}
 use Rattle.sas_groups.specs.Notes.{value_note, group_note, IsOfGroupBeside}
 use Rattle.sas_groups.specs.Noting.{HasOtherValue, HasNotedGroup, ShareKept, SharesApart}
-use Rattle.sas_mutex.specs.ByNotes.{ShareOne, AreKnown, IsMet, Removes, SomeRemoves, AreGone, IsNotedFor, known_at}
+use Rattle.sas_mutex.specs.ByNotes.{ShareOne, AreKnown, IsMet, RemovesByNotes, SomeRemoves, AreGone, IsNotedFor, known_at}
 use Rattle.sas_groups.proofs.Existing.{variable_below}
 use Rattle.sas_groups.proofs.NotesOfFacts.{a_note, apart_or_not, one_or_two, value_note_tells, no_value_note_tells, no_note_tells, some_note_tells, shared_turned}
 use Rattle.sas_mutex.proofs.KnownFacts.{contradict_turned, not_itself, shares_contradicts, contradicts_shares, share_one, share_kept}
@@ -187,7 +187,7 @@ module _ (p : Parts) (index : Index) (kept : List Bool) (notes : Notes) (o : Ope
         let same : effect_at o effect ≡ is.effect = get_or_default o.effects effect (record { conditions = []; var = 0; old = None; new = 0 }) is.effect lt ∙ at in (
           effect,
           lt,
-          subst (λ (e : Effect). Removes notes fact e) (sym same) (record {
+          subst (λ (e : Effect). RemovesByNotes notes fact e) (sym same) (record {
             fires = λ k d below. in_is_met (get_or is.effect.conditions k d)
                 (subst (λ (e : Effect). All (FactExists p.variables) e.conditions) same (conditions_there effect lt) k d below) (is.fires k d below);
             var = is.var;

@@ -11,7 +11,7 @@ use Rattle.sas_mutex.specs.declared.watches.Watch.{Watch}
 use Rattle.sas_mutex.specs.declared.watches.Watches.{Watches}
 use Rattle.sas_groups.specs.Kept.{family_of}
 use Rattle.sas_mutex.specs.Falling.{Falls, newly, IsWithin, IsAtRest, RestsOn}
-use Rattle.sas_mutex.specs.Watching.{watch_at, since_of, IsLastBelow, AreChained, IsWatchOf, HasWatchFrom, RestsBy, IsOver, IsTold, IsToldBehind, AreFallen, AreUnwatched, AreWatched, AreMore, IsWatchedAnew, AreTold, StayTold, AreLooseAtRest}
+use Rattle.sas_mutex.specs.Watching.{watch_at, since_of, IsLastBelow, AreChained, IsWatchOf, HasWatchFrom, RestsBy, IsOver, IsUnwatched, IsUnwatchedBehind, AreFallen, AreUnwatched, AreWatched, AreMore, IsWatchedAnew, FallenAreUnwatched, StayUnwatched, AreLooseAtRest}
 use Rattle.sas_mutex.proofs.FallingGroups.{fallen_exist}
 use Rattle.sas_mutex.proofs.Supporting.{kept_below}
 use Rattle.sas_mutex.proofs.WatchChains.{watch_still}
@@ -151,7 +151,7 @@ module _ (p : Parts) where
     kept_before : (group : ℕ) → family_of c.kept group ≡ true → family_of b.kept group ≡ true
     kept_before group is = (falls.less group (record { exists = let lt = kept_below c.kept group is in omega arith; chosen = is })).chosen
 
-    pub stay_told : StayTold b.kept w after
+    pub stay_told : StayUnwatched b.kept w after
     stay_told group out told place lt is = elim (cases_lt place (length w.made)) [
       | inl before ↦ over_still place before (told place before (sym (ap (λ (x : Watch). x.group) (still place before)) ∙ is))
       | inr past ↦ absurd (out (kept_before group (ap (family_of c.kept) (sym is) ∙ new_kept place past lt)))
@@ -160,7 +160,7 @@ module _ (p : Parts) where
     -- one watch more of a group was told
     pub told_on : (group at : ℕ) (next : Option ℕ) → (family_of b.kept group ≡ true → ⊥) → at < length w.made → (watch_at w.made at).group ≡ group
         → ((place : ℕ) → at < place → place < length w.made → (watch_at w.made place).group ≡ group → IsOver w place)
-        → IsOver after at → IsLastBelow w.made at group next → IsToldBehind after group next
+        → IsOver after at → IsLastBelow w.made at group next → IsUnwatchedBehind after group next
     told_on group at next out lt its behind here link = by next link
       where
         told_from : (place : ℕ) → at ≤ place → place < length after.made → (watch_at after.made place).group ≡ group → IsOver after place
@@ -175,7 +175,7 @@ module _ (p : Parts) where
         grown : length w.made ≤ length after.made
         grown = let len = ap length anew.made.behind ∙ length-append w.made anew.made.more in omega arith
 
-        by : (next : Option ℕ) → IsLastBelow w.made at group next → IsToldBehind after group next
+        by : (next : Option ℕ) → IsLastBelow w.made at group next → IsUnwatchedBehind after group next
         by None none = λ place below is. elim (cases_lt place at) [
           | inl before ↦ absurd (none place before (sym (ap (λ (x : Watch). x.group) (still place (omega arith))) ∙ is))
           | inr from ↦ told_from place from below is
@@ -192,7 +192,7 @@ module _ (p : Parts) where
   -- where no operator is looked at, nothing changes
   pub told_on_alone : (w : Watches) (group at : ℕ) (next : Option ℕ) → at < length w.made
       → ((place : ℕ) → at < place → place < length w.made → (watch_at w.made place).group ≡ group → IsOver w place)
-      → IsOver w at → IsLastBelow w.made at group next → IsToldBehind w group next
+      → IsOver w at → IsLastBelow w.made at group next → IsUnwatchedBehind w group next
   told_on_alone w group at next lt behind here link = by next link
     where
       told_from : (place : ℕ) → at ≤ place → place < length w.made → (watch_at w.made place).group ≡ group → IsOver w place
@@ -201,7 +201,7 @@ module _ (p : Parts) where
         | inr ne ↦ behind place (omega arith) below is
       ]
 
-      by : (next : Option ℕ) → IsLastBelow w.made at group next → IsToldBehind w group next
+      by : (next : Option ℕ) → IsLastBelow w.made at group next → IsUnwatchedBehind w group next
       by None none = λ place below is. elim (cases_lt place at) [
         | inl before ↦ absurd (none place before is)
         | inr from ↦ told_from place from below is
@@ -215,13 +215,13 @@ module _ (p : Parts) where
         ],
       )
 
-  pub told_at_first : (w : Watches) (group : ℕ) (last : Option ℕ) → IsLastBelow w.made (length w.made) group last → IsToldBehind w group last
+  pub told_at_first : (w : Watches) (group : ℕ) (last : Option ℕ) → IsLastBelow w.made (length w.made) group last → IsUnwatchedBehind w group last
   told_at_first w group None none = λ place lt is. absurd (none place lt is)
   told_at_first w group (Some at) (lt, its, none) = (lt, its, λ place behind below is. absurd (none place behind below is))
 
   -- those who watch groups that aren't in the family stay told
   pub told_more : (xs : List ℕ) (count : ℕ) (kept : List Bool) (w after : Watches) → ((place : ℕ) → place < count → family_of kept (get_or xs place 0) ≡ true → ⊥)
-      → StayTold kept w after → AreTold xs count w → AreTold xs count after
+      → StayUnwatched kept w after → FallenAreUnwatched xs count w → FallenAreUnwatched xs count after
   told_more xs count kept w after out stay told place lt = stay (get_or xs place 0) (out place lt) (told place lt)
 
   -- what fell at first isn't in the family
@@ -232,17 +232,17 @@ module _ (p : Parts) where
       (Contains-append_left start.fallen.items (newly start b) (get_or start.fallen.items place 0) (Contains-get_or start.fallen.items place 0 lt)))
 
   pub stay_then : (start b : Family) (first w after : Watches) → Falls p start b → length b.kept ≡ length p.groups
-      → StayTold start.kept first w → StayTold b.kept w after → StayTold start.kept first after
+      → StayUnwatched start.kept first w → StayUnwatched b.kept w after → StayUnwatched start.kept first after
   stay_then start b first w after falls one_each before then group out told =
       then group (λ is. out (falls.less group (record { exists = let lt = kept_below b.kept group is in omega arith; chosen = is })).chosen) (before group out told)
 
-  pub told_in : (xs ys : List ℕ) (more : List ℕ) (count : ℕ) (w : Watches) → ys ≡ xs ++ more → count ≤ length xs → AreTold xs count w → AreTold ys count w
+  pub told_in : (xs ys : List ℕ) (more : List ℕ) (count : ℕ) (w : Watches) → ys ≡ xs ++ more → count ≤ length xs → FallenAreUnwatched xs count w → FallenAreUnwatched ys count w
   told_in xs ys more count w is within told place lt =
-      subst (IsTold w) (sym (ap (λ (zs : List ℕ). get_or zs place 0) is ∙ get_or_append_left xs more 0 place (omega arith))) (told place lt)
+      subst (IsUnwatched w) (sym (ap (λ (zs : List ℕ). get_or zs place 0) is ∙ get_or_append_left xs more 0 place (omega arith))) (told place lt)
 
   -- ---- in the end
 
-  pub rest_in_the_end : (family : Family) (w : Watches) → AreWatched p family w → AreTold family.fallen.items (length family.fallen.items) w
+  pub rest_in_the_end : (family : Family) (w : Watches) → AreWatched p family w → FallenAreUnwatched family.fallen.items (length family.fallen.items) w
       → AreLooseAtRest p family.kept [] w (length p.operators) → (operator : ℕ) → operator < length p.operators → IsAtRest p family.kept [] operator
   rest_in_the_end family w watched told loose operator exists = by (since_of w.since operator) refl
     where
@@ -282,5 +282,5 @@ module _ (p : Parts) where
       no_place : (place : ℕ) → place < length w.made → ⊥
       no_place place lt = let len = ap length are.made in omega arith
 
-  pub none_told : (fallen : List ℕ) (w : Watches) → fallen ≡ [] → AreTold fallen (length fallen) w
+  pub none_told : (fallen : List ℕ) (w : Watches) → fallen ≡ [] → FallenAreUnwatched fallen (length fallen) w
   none_told fallen w none place lt = absurd (let len = ap length none in omega arith)

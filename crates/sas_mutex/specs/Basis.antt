@@ -7,7 +7,7 @@ use Rattle.sas_groups.specs.Clashes.{sets}
 use Rattle.sas_groups.specs.Families.{IsIn}
 use Rattle.sas_mutex.specs.declared.family.Family.{Family}
 use Rattle.sas_groups.specs.Kept.{family_of}
-use Rattle.sas_mutex.specs.Effects.{KeepsWithItself, IsPlain}
+use Rattle.sas_mutex.specs.Effects.{KeepsWithItself, IsUnconditional}
 
 -- if the group is in the family, the effect preserves it, assuming the basis and the group itself
 abbrev pub KeptByBasis : Parts → List Bool → List Bool → ℕ → ℕ → ℕ → Type 0
@@ -24,7 +24,7 @@ EffectKeepsByBasis p basis kept operator effect = (place : ℕ) → IsIn p (fami
 -- the same for the first `effects` effects of the operator, as far as they have no conditions
 abbrev pub PlainKeepByBasis : Parts → List Bool → List Bool → ℕ → ℕ → Type 0
 PlainKeepByBasis p basis kept operator effects = (effect : ℕ) → effect < effects
-    → IsPlain p operator effect → EffectKeepsByBasis p basis kept operator effect
+    → IsUnconditional p operator effect → EffectKeepsByBasis p basis kept operator effect
 
 -- the same for all effects of the operator
 abbrev pub KeepsByBasis : Parts → List Bool → List Bool → ℕ → Type 0
@@ -39,7 +39,8 @@ SetsNone p kept operator effect = (place : ℕ) → IsIn p (family_of kept) plac
 
 -- the same for the first `effects` effects of the operator, as far as they have no conditions
 abbrev pub PlainSetNone : Parts → List Bool → ℕ → ℕ → Type 0
-PlainSetNone p kept operator effects = (effect : ℕ) → effect < effects → IsPlain p operator effect
+PlainSetNone p kept operator effects = (effect : ℕ) → effect < effects
+    → IsUnconditional p operator effect
     → SetsNone p kept operator effect
 
 -- the family without groups, as a list with an entry for each group

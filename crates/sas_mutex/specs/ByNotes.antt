@@ -47,24 +47,24 @@ IsMet notes fact condition =
 
 -- the effect removes the fact: all its conditions are met, and it sets the variable of the fact to
 -- another value
-pub record Removes (notes : Notes) (fact : Fact) (e : Effect) : Type 0 where
+pub record RemovesByNotes (notes : Notes) (fact : Fact) (e : Effect) : Type 0 where
   pub fires : All (IsMet notes fact) e.conditions
   pub var : e.var ≡ fact.var
   pub other : e.new ≢ fact.value
 
 -- the change sets the variable of the fact to another value
-abbrev pub IsOther : Fact → Change → Type 0
-IsOther fact change = (change.var ≡ fact.var) × (change.new ≢ fact.value)
+abbrev pub SetsOtherValue : Fact → Change → Type 0
+SetsOtherValue fact change = (change.var ≡ fact.var) × (change.new ≢ fact.value)
 
 -- one of the changes does so
 abbrev pub SomeOther : List Change → Fact → Type 0
-SomeOther changes fact = (change : Change) × Contains changes change × IsOther fact change
+SomeOther changes fact = (change : Change) × Contains changes change × SetsOtherValue fact change
 
 -- some effect of the operator removes the fact
 abbrev pub SomeRemoves : Operator → Notes → Fact → Type 0
 SomeRemoves o notes fact = (effect : ℕ)
     × (effect < length o.effects)
-    × Removes notes fact (effect_at o effect)
+    × RemovesByNotes notes fact (effect_at o effect)
 
 -- the known facts of the effect: the preconditions of its operator and its own conditions
 abbrev pub known_at : Parts → ℕ → ℕ → List Fact
@@ -82,8 +82,8 @@ abbrev pub IsNotedFor : Parts → List Bool → ℕ → ℕ → Marks → Type 0
 IsNotedFor p kept operator effect marks = AreNoted p kept (known_at p operator effect) marks
 
 -- no effect that may fire together with this one sets another fact of the group on another variable
-abbrev pub IsSingle : (List Fact → Type 0) → Operator → List Fact → Effect → Type 0
-IsSingle Counts o group e = (other : ℕ) → other < length o.effects
+abbrev pub HasNoPartner : (List Fact → Type 0) → Operator → List Fact → Effect → Type 0
+HasNoPartner Counts o group e = (other : ℕ) → other < length o.effects
     → NotBoth Counts o group e (effect_at o other)
 
 -- no other fact of the group remains when the effect fires
@@ -110,11 +110,11 @@ pub record IsNotedAt (f : EffectPlace) (kept : List Bool) (marks : Marks) : Type
 
 -- the effect preserves the group with this index, assuming the family, or the family and the group
 -- itself
-abbrev pub KeepsGroup : EffectPlace → List Bool → ℕ → Type 0
-KeepsGroup f kept place = KeepsAt f.task kept f.operator f.effect place
+abbrev pub EffectKeepsGroup : EffectPlace → List Bool → ℕ → Type 0
+EffectKeepsGroup f kept place = KeepsAt f.task kept f.operator f.effect place
 
-abbrev pub KeepsGroupItself : EffectPlace → List Bool → ℕ → Type 0
-KeepsGroupItself f kept place = KeepsWithItself f.task kept f.operator f.effect place
+abbrev pub EffectKeepsGroupWithItself : EffectPlace → List Bool → ℕ → Type 0
+EffectKeepsGroupWithItself f kept place = KeepsWithItself f.task kept f.operator f.effect place
 
 -- the known facts of both effects clash
 abbrev pub BothClashAt : EffectPlace → List Bool → ℕ → Type 0
@@ -143,7 +143,7 @@ NotBothAt f kept other place = NotBoth (IsKept f.task kept) (operator_of f)
 
 abbrev pub IsSingleAt : EffectPlace → List Bool → ℕ → Type 0
 IsSingleAt f kept place =
-    IsSingle (IsKept f.task kept) (operator_of f) (group_at f.task place) (effect_of f)
+    HasNoPartner (IsKept f.task kept) (operator_of f) (group_at f.task place) (effect_of f)
 
 -- the effect with this index, if it exists, can't set another fact of the group in the same step
 abbrev pub IsApartAt : EffectPlace → List Bool → ℕ → ℕ → Type 0

@@ -32,5 +32,5 @@ KeepsWithItself p kept operator effect place =
     (group_at p place) (effect_at (operator_at p operator) effect)
 
 -- the effect with this index has no conditions
-abbrev pub IsPlain : Parts → ℕ → ℕ → Type 0
-IsPlain p operator effect = (effect_at (operator_at p operator) effect).conditions ≡ []
+abbrev pub IsUnconditional : Parts → ℕ → ℕ → Type 0
+IsUnconditional p operator effect = (effect_at (operator_at p operator) effect).conditions ≡ []

@@ -6,7 +6,7 @@ use Rattle.sas_groups.specs.Clashes.{sets}
 use Rattle.sas_groups.specs.Families.{IsIn, IsKeptJointly, MayBeExclusive}
 use Rattle.sas_mutex.specs.declared.family.Family.{Family}
 use Rattle.sas_groups.specs.Kept.{family_of}
-use Rattle.sas_mutex.specs.Effects.{KeepsAt, IsPlain}
+use Rattle.sas_mutex.specs.Effects.{KeepsAt, IsUnconditional}
 use Rattle.sas_mutex.specs.Basis.{IsBasis}
 
 -- the effect preserves each group of the family that contains the fact that it sets
@@ -33,7 +33,7 @@ IsAtRest p kept fell operator = (effect : ℕ) → effect < length (operator_at 
 -- the first `effects` effects of the operator are at rest, as far as they have no conditions
 abbrev pub ArePlainAtRest : Parts → List Bool → List ℕ → ℕ → ℕ → Type 0
 ArePlainAtRest p kept fell operator effects = (effect : ℕ) → effect < effects
-    → IsPlain p operator effect → IsEffectAtRest p kept fell operator effect
+    → IsUnconditional p operator effect → IsEffectAtRest p kept fell operator effect
 
 -- the number of groups in the family
 abbrev pub count : List Bool → ℕ
@@ -42,7 +42,7 @@ count (kept ∷ rest) = (if kept then 1 else 0) + count rest
 
 -- The lists have an entry for each group. `fallen` has room for all groups that may still be
 -- removed. The removed and the remaining groups are at most all groups.
-pub record HasRoom (p : Parts) (family : Family) : Type 0 where
+pub record FamilyHasRoom (p : Parts) (family : Family) : Type 0 where
   pub one_each : length family.kept ≡ length p.groups
   pub room : count family.kept + length family.fallen.items ≤ vec_capacity family.fallen
   pub few : count family.kept + length family.fallen.items ≤ length p.groups
@@ -50,7 +50,7 @@ pub record HasRoom (p : Parts) (family : Family) : Type 0 where
 
 -- the same, and the basis is empty
 pub record IsReady (p : Parts) (family : Family) : Type 0 where
-  pub room : HasRoom p family
+  pub room : FamilyHasRoom p family
   pub free : family.supports ≡ []
 
 -- the family contains exactly the groups that may be exclusive

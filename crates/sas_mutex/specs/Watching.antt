@@ -61,15 +61,15 @@ IsOver w place = (start : ℕ) → since_of w.since (watch_at w.made place).oper
     → start ≤ place → ⊥
 
 -- no watch of the group is valid any more
-abbrev pub IsTold : Watches → ℕ → Type 0
-IsTold w group = (place : ℕ) → place < length w.made → (watch_at w.made place).group ≡ group
+abbrev pub IsUnwatched : Watches → ℕ → Type 0
+IsUnwatched w group = (place : ℕ) → place < length w.made → (watch_at w.made place).group ≡ group
     → IsOver w place
 
 -- no watch of the group after index `at` is valid any more; for `None`, no watch of the group at
 -- all
-abbrev pub IsToldBehind : Watches → ℕ → Option ℕ → Type 0
-IsToldBehind w group None = IsTold w group
-IsToldBehind w group (Some at) = (at < length w.made)
+abbrev pub IsUnwatchedBehind : Watches → ℕ → Option ℕ → Type 0
+IsUnwatchedBehind w group None = IsUnwatched w group
+IsUnwatchedBehind w group (Some at) = (at < length w.made)
     × ((watch_at w.made at).group ≡ group)
     × ((place : ℕ) → at < place → place < length w.made → (watch_at w.made place).group ≡ group
     → IsOver w place)
@@ -128,14 +128,14 @@ pub record IsWatchedAnew (operator : ℕ) (kept : List Bool) (before after : Wat
       → since_of after.since other ≡ since_of before.since other
 
 -- no watch of the first `count` removed groups is valid any more
-abbrev pub AreTold : List ℕ → ℕ → Watches → Type 0
-AreTold fallen count w =
-    (place : ℕ) → place < count → IsTold w (slice_index_or fallen place 0)
+abbrev pub FallenAreUnwatched : List ℕ → ℕ → Watches → Type 0
+FallenAreUnwatched fallen count w =
+    (place : ℕ) → place < count → IsUnwatched w (slice_index_or fallen place 0)
 
 -- a group outside the family that had no valid watch still has none
-abbrev pub StayTold : List Bool → Watches → Watches → Type 0
-StayTold kept before after = (group : ℕ) → (family_of kept group ≡ true → ⊥)
-    → IsTold before group → IsTold after group
+abbrev pub StayUnwatched : List Bool → Watches → Watches → Type 0
+StayUnwatched kept before after = (group : ℕ) → (family_of kept group ≡ true → ⊥)
+    → IsUnwatched before group → IsUnwatched after group
 
 -- the loose operators among the first `count` are at rest, if no group was removed meanwhile
 abbrev pub AreLooseAtRest : Parts → List Bool → List ℕ → Watches → ℕ → Type 0

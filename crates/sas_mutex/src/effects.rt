@@ -11,11 +11,11 @@ ghost use Rattle.sas_groups.specs.Kept.{family_of};
 ghost use Rattle.sas_mutex.specs.Firing.{operator_of, effect_of};
 ghost use Rattle.sas_groups.specs.Notes.{IsWide, IsGroupNote, value_note};
 ghost use Rattle.sas_groups.specs.Noting.{AreBelow, IsReadable};
-ghost use Rattle.sas_mutex.specs.ByNotes.{IsMet, SomeRemoves, Removes, known_at};
-ghost use Rattle.sas_mutex.specs.ByNotes.{IsNotedAt, KeepsGroup, KeepsGroupItself, BothClashAt, NotBothAt};
+ghost use Rattle.sas_mutex.specs.ByNotes.{IsMet, SomeRemoves, RemovesByNotes, known_at};
+ghost use Rattle.sas_mutex.specs.ByNotes.{IsNotedAt, EffectKeepsGroup, EffectKeepsGroupWithItself, BothClashAt, NotBothAt};
 ghost use Rattle.sas_mutex.specs.ByNotes.{ClashesAt, SomeClashesAt, SharesBesideAt};
 ghost use Rattle.sas_mutex.specs.ByNotes.{IsSingleAt, IsApartAt, IsSingleOn, IsOnVariableBefore};
-ghost use Rattle.sas_mutex.specs.ByNotes.{SetsBeside, SomeOther, IsOther};
+ghost use Rattle.sas_mutex.specs.ByNotes.{SetsBeside, SomeOther, SetsOtherValue};
 ghost use Rattle.sas_mutex.specs.ByNotes.{IsGoneAt, AreGoneAt, IsUnknownAt, IsDecidedByFirst};
 ghost use Rattle.sas_mutex.specs.Basis.{SetsNone};
 
@@ -78,8 +78,8 @@ impl<'a, 'b, T: Grounded> Firing<'a, 'b, T> {
         requires notes { IsNotedAt self.now kept.now marks.old }
         requires group { IsIn self.now.task (family_of kept.now) group }
         ensures notes { IsNotedAt self.now kept.now marks.new }
-        ensures yes { IsTrue result → KeepsGroup self.now kept.now group }
-        ensures no { IsFalse result → KeepsGroup self.now kept.now group → ⊥ }
+        ensures yes { IsTrue result → EffectKeepsGroup self.now kept.now group }
+        ensures no { IsFalse result → EffectKeepsGroup self.now kept.now group → ⊥ }
     {
         self.is_single(kept, group, marks) && self.removes_others(kept, group, marks)
     }
@@ -90,8 +90,8 @@ impl<'a, 'b, T: Grounded> Firing<'a, 'b, T> {
     pub fn keeps_with_itself(&self, group: u32, kept: &mut Items<bool>, marks: &mut Marks) -> bool
         requires notes { IsNotedAt self.now kept.old marks.old }
         requires group { group < length self.now.task.groups }
-        ensures yes { IsTrue result → KeepsGroupItself self.now kept.old group }
-        ensures no { IsFalse result → KeepsGroupItself self.now kept.old group → ⊥ }
+        ensures yes { IsTrue result → EffectKeepsGroupWithItself self.now kept.old group }
+        ensures no { IsFalse result → EffectKeepsGroupWithItself self.now kept.old group → ⊥ }
         ensures kept { kept.new ≡ kept.old }
         ensures notes { IsNotedAt self.now kept.old marks.new }
     {
@@ -546,7 +546,7 @@ fn some_removes<T: Grounded>(task: &Layered<T>, operator: u32, fact: Fact, notes
 #[inline(always)]
 fn one_changes(changes: &[Change], fact: Fact) -> bool
     ensures yes { IsTrue result → SomeOther changes.now fact }
-    ensures no { IsFalse result → All (λ change. IsOther fact change → ⊥) changes.now }
+    ensures no { IsFalse result → All (λ change. SetsOtherValue fact change → ⊥) changes.now }
 {
     for change in changes {
         if change.var == fact.var && change.new != fact.value {
@@ -613,9 +613,9 @@ fn removes<T: Grounded>(
     requires operator { operator < length task.now.operators }
     requires effect { effect < length (operator_at task.now operator).effects }
     ensures yes { IsTrue result
-        → Removes notes.now fact (effect_at (operator_at task.now operator) effect) }
+        → RemovesByNotes notes.now fact (effect_at (operator_at task.now operator) effect) }
     ensures no { IsFalse result
-        → Removes notes.now fact (effect_at (operator_at task.now operator) effect) → ⊥ }
+        → RemovesByNotes notes.now fact (effect_at (operator_at task.now operator) effect) → ⊥ }
 {
     // The contract of `task` ensures that the task is well ranged.
     let _ = task.task();

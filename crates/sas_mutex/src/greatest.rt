@@ -5,7 +5,7 @@ ghost use Rattle.sas_groups.specs.Kept.{family_of};
 ghost use Rattle.sas_mutex.specs.Marks.{IsClean};
 ghost use Rattle.sas_mutex.specs.Falling.{IsReady, AreCandidates, newly, Falls, IsAtRest, RestsOn};
 ghost use Rattle.sas_mutex.specs.Basis.{KeepsByBasis};
-ghost use Rattle.sas_mutex.specs.Watching.{AreUnwatched, AreWatched, AreTold, IsTold, StayTold, IsWatchedAnew, AreLooseAtRest, RestsBy, WatchesMore};
+ghost use Rattle.sas_mutex.specs.Watching.{AreUnwatched, AreWatched, FallenAreUnwatched, IsUnwatched, StayUnwatched, IsWatchedAnew, AreLooseAtRest, RestsBy, WatchesMore};
 
 use crate::family::Family;
 use crate::looking::look_at;
@@ -51,7 +51,7 @@ fn look_at_loose<T: Grounded>(
 )
     requires watched { AreWatched indexed.now family.old watches.old }
     requires told { let fallen = family.old.fallen.items in
-        AreTold fallen (length fallen) watches.old }
+        FallenAreUnwatched fallen (length fallen) watches.old }
     requires ready { IsReady indexed.now family.old }
     requires clean { IsClean indexed.now marks.old }
     ensures falls { Falls indexed.now family.old family.new }
@@ -59,7 +59,7 @@ fn look_at_loose<T: Grounded>(
         (newly family.old family.new) watches.new (length indexed.now.operators) }
     ensures watched { AreWatched indexed.now family.new watches.new }
     ensures told { let fallen = family.old.fallen.items in
-        AreTold fallen (length fallen) watches.new }
+        FallenAreUnwatched fallen (length fallen) watches.new }
     ensures ready { IsReady indexed.now family.new }
     ensures clean { IsClean indexed.now marks.new }
 {
@@ -80,13 +80,13 @@ fn tell_watching<T: Grounded>(
 )
     requires watched { AreWatched indexed.now family.old watches.old }
     requires from { from ≤ length family.old.fallen.items }
-    requires told { AreTold family.old.fallen.items from watches.old }
+    requires told { FallenAreUnwatched family.old.fallen.items from watches.old }
     requires ready { IsReady indexed.now family.old }
     requires clean { IsClean indexed.now marks.old }
     ensures falls { Falls indexed.now family.old family.new }
     ensures watched { AreWatched indexed.now family.new watches.new }
     ensures told { let fallen = family.new.fallen.items in
-        AreTold fallen (length fallen) watches.new }
+        FallenAreUnwatched fallen (length fallen) watches.new }
     ensures ready { IsReady indexed.now family.new }
     ensures clean { IsClean indexed.now marks.new }
 {
@@ -113,8 +113,8 @@ fn tell_of<T: Grounded>(
     requires clean { IsClean indexed.now marks.old }
     ensures falls { Falls indexed.now family.old family.new }
     ensures watched { AreWatched indexed.now family.new watches.new }
-    ensures told { IsTold watches.new group }
-    ensures still { StayTold family.old.kept watches.old watches.new }
+    ensures told { IsUnwatched watches.new group }
+    ensures still { StayUnwatched family.old.kept watches.old watches.new }
     ensures ready { IsReady indexed.now family.new }
     ensures clean { IsClean indexed.now marks.new }
 {

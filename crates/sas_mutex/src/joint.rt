@@ -66,7 +66,7 @@ fn judge_indexed<T: Grounded>(
     let mut family = candidates(alloc, verdicts.as_slice())?;
     let mut marks = Marks::new(alloc, indexed.task, indexed.index)?;
     let mut watches = Watches::new(alloc, indexed.task.groups(), indexed.task.operators())?;
-    judge(indexed, verdicts, &mut watches, &mut family, &mut marks);
+    judge_by_operators(indexed, verdicts, &mut watches, &mut family, &mut marks);
     drop(watches);
     drop(marks);
     drop(family);
@@ -74,7 +74,7 @@ fn judge_indexed<T: Grounded>(
 }
 
 /// Completes the verdicts by checking the operators. Without an allocator it can't allocate memory.
-fn judge<T: Grounded>(
+fn judge_by_operators<T: Grounded>(
     indexed: &IndexedTask<'_, '_, T>,
     verdicts: &mut Items<Verdict>,
     watches: &mut Watches,

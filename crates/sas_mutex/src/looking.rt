@@ -7,11 +7,11 @@ ghost use Rattle.sas_groups.specs.Families.{IsIn};
 ghost use Rattle.sas_groups.specs.Lists.{known, known_on};
 ghost use Rattle.sas_core.specs.Variables.{FactExists};
 ghost use Rattle.sas_groups.specs.Kept.{family_of};
-ghost use Rattle.sas_mutex.specs.Effects.{IsKept, IsPlain};
+ghost use Rattle.sas_mutex.specs.Effects.{IsKept, IsUnconditional};
 ghost use Rattle.sas_mutex.specs.Firing.{effect_of};
 ghost use Rattle.sas_mutex.specs.Marks.{IsClean};
-ghost use Rattle.sas_mutex.specs.ByNotes.{AreNoted, IsNotedAt, KeepsGroup, KeepsGroupItself};
-ghost use Rattle.sas_mutex.specs.Falling.{HasRoom, newly, Falls, IsAtRest, IsEffectAtRest, ArePlainAtRest, RestsAt};
+ghost use Rattle.sas_mutex.specs.ByNotes.{AreNoted, IsNotedAt, EffectKeepsGroup, EffectKeepsGroupWithItself};
+ghost use Rattle.sas_mutex.specs.Falling.{FamilyHasRoom, newly, Falls, IsAtRest, IsEffectAtRest, ArePlainAtRest, RestsAt};
 ghost use Rattle.sas_mutex.specs.Basis.{KeptByBasis, KeepsByBasis, EffectKeepsByBasis, PlainKeepByBasis, PlainSetNone};
 
 use crate::effects::Firing;
@@ -30,13 +30,13 @@ pub fn look_at<T: Grounded>(
     marks: &mut Marks,
 ) -> bool
     requires operator { operator < length indexed.now.operators }
-    requires room { HasRoom indexed.now family.old }
+    requires room { FamilyHasRoom indexed.now family.old }
     requires clean { IsClean indexed.now marks.old }
     ensures falls { Falls indexed.now family.old family.new }
     ensures rest { IsAtRest indexed.now family.new.kept
         (newly family.old family.new) operator }
     ensures alone { IsTrue result → KeepsByBasis indexed.now family.old.basis family.new.kept operator }
-    ensures room { HasRoom indexed.now family.new }
+    ensures room { FamilyHasRoom indexed.now family.new }
     ensures clean { IsClean indexed.now marks.new }
 {
     let mut alone = look_at_plain(indexed, operator, family, marks);
@@ -62,7 +62,7 @@ fn look_at_plain<T: Grounded>(
     marks: &mut Marks,
 ) -> bool
     requires operator { operator < length indexed.now.operators }
-    requires room { HasRoom indexed.now family.old }
+    requires room { FamilyHasRoom indexed.now family.old }
     requires clean { IsClean indexed.now marks.old }
     ensures falls { Falls indexed.now family.old family.new }
     ensures rest { ArePlainAtRest indexed.now family.new.kept
@@ -70,7 +70,7 @@ fn look_at_plain<T: Grounded>(
         (length (operator_at indexed.now operator).effects) }
     ensures alone { IsTrue result → PlainKeepByBasis indexed.now family.old.basis family.new.kept
         operator (length (operator_at indexed.now operator).effects) }
-    ensures room { HasRoom indexed.now family.new }
+    ensures room { FamilyHasRoom indexed.now family.new }
     ensures clean { IsClean indexed.now marks.new }
 {
     let basis_decides = look_where_plain_fire(indexed, operator, family, marks);
@@ -93,7 +93,7 @@ fn look_where_plain_fire<T: Grounded>(
     marks: &mut Marks,
 ) -> bool
     requires operator { operator < length indexed.now.operators }
-    requires room { HasRoom indexed.now family.old }
+    requires room { FamilyHasRoom indexed.now family.old }
     requires clean { IsClean indexed.now marks.old }
     ensures falls { Falls indexed.now family.old family.new }
     ensures rest { ArePlainAtRest indexed.now family.new.kept
@@ -101,7 +101,7 @@ fn look_where_plain_fire<T: Grounded>(
         (length (operator_at indexed.now operator).effects) }
     ensures alone { IsTrue result → PlainKeepByBasis indexed.now family.old.basis family.new.kept
         operator (length (operator_at indexed.now operator).effects) }
-    ensures room { HasRoom indexed.now family.new }
+    ensures room { FamilyHasRoom indexed.now family.new }
     ensures clean { IsClean indexed.now marks.new }
 {
     if !plain_sets_one(indexed, operator, family.kept.as_slice()) {
@@ -157,7 +157,7 @@ fn look_at_each_plain<T: Grounded>(
     marks: &mut Marks,
 ) -> bool
     requires operator { operator < length indexed.now.operators }
-    requires room { HasRoom indexed.now family.old }
+    requires room { FamilyHasRoom indexed.now family.old }
     requires noted { AreNoted indexed.now family.old.kept
         (known (operator_at indexed.now operator) [] []) marks.old }
     ensures falls { Falls indexed.now family.old family.new }
@@ -166,7 +166,7 @@ fn look_at_each_plain<T: Grounded>(
         (length (operator_at indexed.now operator).effects) }
     ensures alone { IsTrue result → PlainKeepByBasis indexed.now family.old.basis family.new.kept
         operator (length (operator_at indexed.now operator).effects) }
-    ensures room { HasRoom indexed.now family.new }
+    ensures room { FamilyHasRoom indexed.now family.new }
     ensures noted { AreNoted indexed.now family.new.kept
         (known (operator_at indexed.now operator) [] []) marks.new }
 {
@@ -220,8 +220,8 @@ fn plain_sets_one<T: Grounded>(
 fn is_plain<T: Grounded>(task: &Layered<T>, operator: u32, effect: u32) -> bool
     requires operator { operator < length task.now.operators }
     requires effect { effect < length (operator_at task.now operator).effects }
-    ensures yes { IsTrue result → IsPlain task.now operator effect }
-    ensures no { IsFalse result → IsPlain task.now operator effect → ⊥ }
+    ensures yes { IsTrue result → IsUnconditional task.now operator effect }
+    ensures no { IsFalse result → IsUnconditional task.now operator effect → ⊥ }
 {
     task.effect_conditions(operator, effect).is_empty()
 }
@@ -234,14 +234,14 @@ fn look_at_setting<T: Grounded>(
     family: &mut Family,
     marks: &mut Marks,
 ) -> bool
-    requires room { HasRoom firing.now.task family.old }
+    requires room { FamilyHasRoom firing.now.task family.old }
     requires clean { IsClean firing.now.task marks.old }
     ensures falls { Falls firing.now.task family.old family.new }
     ensures rest { let f = firing.now in IsEffectAtRest f.task family.new.kept
         (newly family.old family.new) f.operator f.effect }
     ensures alone { let f = firing.now in IsTrue result
         → EffectKeepsByBasis f.task family.old.basis family.new.kept f.operator f.effect }
-    ensures room { HasRoom firing.now.task family.new }
+    ensures room { FamilyHasRoom firing.now.task family.new }
     ensures clean { IsClean firing.now.task marks.new }
 {
     if !firing.sets_one_of(family.kept.as_slice()) {
@@ -256,14 +256,14 @@ fn look_at_effect<T: Grounded>(
     family: &mut Family,
     marks: &mut Marks,
 ) -> bool
-    requires room { HasRoom firing.now.task family.old }
+    requires room { FamilyHasRoom firing.now.task family.old }
     requires clean { IsClean firing.now.task marks.old }
     ensures falls { Falls firing.now.task family.old family.new }
     ensures rest { let f = firing.now in IsEffectAtRest f.task family.new.kept
         (newly family.old family.new) f.operator f.effect }
     ensures alone { let f = firing.now in IsTrue result
         → EffectKeepsByBasis f.task family.old.basis family.new.kept f.operator f.effect }
-    ensures room { HasRoom firing.now.task family.new }
+    ensures room { FamilyHasRoom firing.now.task family.new }
     ensures clean { IsClean firing.now.task marks.new }
 {
     let basis_decides = look_where_it_fires(firing, family, marks);
@@ -285,14 +285,14 @@ fn look_where_it_fires<T: Grounded>(
     family: &mut Family,
     marks: &mut Marks,
 ) -> bool
-    requires room { HasRoom firing.now.task family.old }
+    requires room { FamilyHasRoom firing.now.task family.old }
     requires clean { IsClean firing.now.task marks.old }
     ensures falls { Falls firing.now.task family.old family.new }
     ensures rest { let f = firing.now in IsEffectAtRest f.task family.new.kept
         (newly family.old family.new) f.operator f.effect }
     ensures alone { let f = firing.now in IsTrue result
         → EffectKeepsByBasis f.task family.old.basis family.new.kept f.operator f.effect }
-    ensures room { HasRoom firing.now.task family.new }
+    ensures room { FamilyHasRoom firing.now.task family.new }
     ensures clean { IsClean firing.now.task marks.new }
 {
     let premises = Premises {
@@ -322,14 +322,14 @@ fn look_at_groups<T: Grounded>(
     family: &mut Family,
     marks: &mut Marks,
 ) -> bool
-    requires room { HasRoom firing.now.task family.old }
+    requires room { FamilyHasRoom firing.now.task family.old }
     requires notes { IsNotedAt firing.now family.old.kept marks.old }
     ensures falls { Falls firing.now.task family.old family.new }
     ensures rest { let f = firing.now in IsEffectAtRest f.task family.new.kept
         (newly family.old family.new) f.operator f.effect }
     ensures alone { let f = firing.now in IsTrue result
         → EffectKeepsByBasis f.task family.old.basis family.new.kept f.operator f.effect }
-    ensures room { HasRoom firing.now.task family.new }
+    ensures room { FamilyHasRoom firing.now.task family.new }
     ensures notes { IsNotedAt firing.now family.new.kept marks.new }
 {
     let change = firing.task.effect_change(firing.operator, firing.effect);
@@ -357,14 +357,14 @@ fn look_at_group<T: Grounded>(
 ) -> bool
     requires group { group < length firing.now.task.groups }
     requires has { Contains (group_at firing.now.task group) (sets (effect_of firing.now)) }
-    requires room { HasRoom firing.now.task family.old }
+    requires room { FamilyHasRoom firing.now.task family.old }
     requires notes { IsNotedAt firing.now family.old.kept marks.old }
     ensures falls { Falls firing.now.task family.old family.new }
     ensures rest { let f = firing.now in RestsAt f.task family.new.kept
         (newly family.old family.new) f.operator f.effect group }
     ensures alone { let f = firing.now in IsTrue result
         → KeptByBasis f.task family.old.basis family.new.kept f.operator f.effect group }
-    ensures room { HasRoom firing.now.task family.new }
+    ensures room { FamilyHasRoom firing.now.task family.new }
     ensures notes { IsNotedAt firing.now family.new.kept marks.new }
 {
     // For the proof: accessing a field makes the invariant of the effect available.
@@ -392,11 +392,11 @@ fn keeps_by_basis<T: Grounded>(
     marks: &mut Marks,
 ) -> bool
     requires group { group < length firing.now.task.groups }
-    requires room { HasRoom firing.now.task family.old }
+    requires room { FamilyHasRoom firing.now.task family.old }
     requires notes { IsNotedAt firing.now family.old.kept marks.old }
     ensures kept { IsTrue result → IsIn firing.now.task (family_of family.old.kept) group
-        → KeepsGroup firing.now family.old.kept group }
-    ensures basis { IsTrue result → KeepsGroupItself firing.now family.old.basis group }
+        → EffectKeepsGroup firing.now family.old.kept group }
+    ensures basis { IsTrue result → EffectKeepsGroupWithItself firing.now family.old.basis group }
     ensures same { family.new ≡ family.old }
     ensures notes { IsNotedAt firing.now family.old.kept marks.new }
 {

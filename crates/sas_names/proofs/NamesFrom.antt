@@ -10,7 +10,7 @@ use Rattle.sas_names.specs.Names.{IsNextNamed}
 use Rattle.sas_names.specs.declared.name_table.NameTable.{NameTable}
 use Rattle.sas_names.specs.declared.named.NamedOperator.{NamedOperator}
 use Rattle.sas_names.specs.declared.names.Names.{Names}
-use Rattle.sas_names.specs.NameTable.{AreMappedFrom, AreNamesFrom, Exist, IsEmptyTable, Puts, value_of, operator_names, operator_of}
+use Rattle.sas_names.specs.NameTable.{AreMappedFrom, AreNamesFrom, Exist, IsEmptyTable, PutsName, value_of, operator_names, operator_in_table}
 use Rattle.sas_names.proofs.TablePuts.{Exist-empty, value_of-empty}
 
 -- after the last operator no name has an operator
@@ -94,23 +94,23 @@ operator_in named = named.operator
 module _ (p : Parts) (operator : ℕ) (named : NamedOperator) (old new : NameTable NamedOperator) (had : Option NamedOperator) (nexts : List (Option ℕ))
     (within : operator < length p.operators)
     (is_operator : named.operator ≡ operator) (is_name : named.name.now ≡ (operator_at p operator).name)
-    (are : AreMappedFrom p (operator + 1) (operator_of old) nexts)
+    (are : AreMappedFrom p (operator + 1) (operator_in_table old) nexts)
     (is_had : had ≡ value_of name_of old named.name.now)
-    (puts : Puts name_of named old new) where
-  told : (name : List ℕ) → operator_of new name ≡ (if pointwise nat_eq (operator_at p operator).name name then Some operator else operator_of old name)
+    (puts : PutsName name_of named old new) where
+  told : (name : List ℕ) → operator_in_table new name ≡ (if pointwise nat_eq (operator_at p operator).name name then Some operator else operator_in_table old name)
   told name =
-      subst (λ own. operator_of new name ≡ (if pointwise nat_eq own name then Some operator else operator_of old name)) is_name
+      subst (λ own. operator_in_table new name ≡ (if pointwise nat_eq own name then Some operator else operator_in_table old name)) is_name
       (ap (option_map operator_in) (puts name) ∙ by (pointwise nat_eq named.name.now name))
     where
-      by : (b : Bool) → option_map operator_in (if b then Some named else value_of name_of old name) ≡ (if b then Some operator else operator_of old name)
+      by : (b : Bool) → option_map operator_in (if b then Some named else value_of name_of old name) ≡ (if b then Some operator else operator_in_table old name)
       by true = ap Some is_operator
       by false = refl
 
   -- one operator more
-  pub AreMappedFrom-put : AreMappedFrom p operator (operator_of new) (slice_set nexts operator (option_map operator_in had))
+  pub AreMappedFrom-put : AreMappedFrom p operator (operator_in_table new) (slice_set nexts operator (option_map operator_in had))
   AreMappedFrom-put =
-      AreMappedFrom-step p operator (operator_of old) (operator_of new) nexts (option_map operator_in had) within are
-      (ap (option_map operator_in) is_had ∙ ap (operator_of old) is_name) told
+      AreMappedFrom-step p operator (operator_in_table old) (operator_in_table new) nexts (option_map operator_in had) within are
+      (ap (option_map operator_in) is_had ∙ ap (operator_in_table old) is_name) told
 
 -- ---- a table with the numbers of operators
 
@@ -126,7 +126,7 @@ AreNamesFrom-end p from names all one_each empty = record {
 -- one operator more
 pub AreNamesFrom-step : (p : Parts) (operator : ℕ) (old new : Names) (had : Option ℕ) → operator < length p.operators → AreNamesFrom p (operator + 1) old
     → Exist (λ k. k < length p.operators) new.first → had ≡ value_of (operator_names p) old.first (operator_at p operator).name
-    → Puts (operator_names p) operator old.first new.first → new.next.items ≡ slice_set old.next.items operator had → AreNamesFrom p operator new
+    → PutsName (operator_names p) operator old.first new.first → new.next.items ≡ slice_set old.next.items operator had → AreNamesFrom p operator new
 AreNamesFrom-step p operator old new had within are exist is_had puts next_set = record {
   exist = exist;
   mapped = subst (AreMappedFrom p operator (value_of (operator_names p) new.first)) (sym next_set)

@@ -6,7 +6,7 @@ use Rattle.std.proofs.Math.Seq.{get_or-append_seam}
 use Rattle.std.proofs.lemmas.Bool.{cases_lt}
 use Rattle.std.proofs.lemmas.Option.{none-some, same_Some}
 use Rattle.sas_names.specs.declared.name_table.NameTable.{NameTable}
-use Rattle.sas_names.specs.NameTable.{IsEmptyTable, Exist, Puts, value_of}
+use Rattle.sas_names.specs.NameTable.{IsEmptyTable, Exist, PutsName, value_of}
 use Rattle.sas_names.specs.StepNames.{AreStepsOf, HaveNumbers, Numbers, step_names}
 use Rattle.sas_names.proofs.TablePuts.{Exist-empty, value_of-empty}
 
@@ -28,7 +28,7 @@ Numbers-same steps name number table are is = record { is = is; kept = λ other 
 
 module _ (steps : List (List ℕ)) (m n : NameTable ℕ) (step : ℕ) (within : step < length steps)
     (are : AreStepsOf steps m) (new : value_of (step_names steps) m (step_names steps step) ≡ None)
-    (puts : Puts (step_names steps) step m n) (exist : Exist (λ k. k < length steps) n) where
+    (puts : PutsName (step_names steps) step m n) (exist : Exist (λ k. k < length steps) n) where
   abbrev name : List ℕ
   name = step_names steps step
 

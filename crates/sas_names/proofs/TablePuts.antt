@@ -13,7 +13,7 @@ use Rattle.std.proofs.lemmas.Map.Text.{is_eq-slice_cmp}
 use Rattle.indexmap.specs.IndexMap.{IndexMap, get, UpdatesBy}
 use Rattle.sas_names.specs.declared.name_table.NameTable.{NameTable}
 use Rattle.sas_names.specs.NameDigest.{digest_of}
-use Rattle.sas_names.specs.NameTable.{IsEmptyTable, Exist, Puts, PutsDigest, PutsOther, value_of, other_of, own_else}
+use Rattle.sas_names.specs.NameTable.{IsEmptyTable, Exist, PutsName, PutsDigest, PutsOther, value_of, other_of, own_else}
 
 -- ---- the two maps
 
@@ -110,7 +110,7 @@ module _ {V : Type 0} (names : V → List ℕ) (value : V) (old new : NameTable 
 
   -- into the map of digests
   pub Puts-digest : IsFree (get nat_eq old.first (digest_of own)) → PutsDigest (digest_of own) value old.first new.first
-      → new.others ≡ old.others → Puts names value old new
+      → new.others ≡ old.others → PutsName names value old new
   Puts-digest free puts same other = by (pointwise nat_eq own other) refl
     where
       rest : Option V
@@ -140,7 +140,7 @@ module _ {V : Type 0} (names : V → List ℕ) (value : V) (old new : NameTable 
 
   -- into the ordered map
   pub Puts-other : IsAnothers (get nat_eq old.first (digest_of own)) → PutsOther own value old.others new.others
-      → new.first ≡ old.first → Puts names value old new
+      → new.first ≡ old.first → PutsName names value old new
   Puts-other others puts same other = by (pointwise nat_eq own other) refl
     where
       now : value_of names new other ≡ own_else names other (get nat_eq old.first (digest_of other)) (other_of new.others other)

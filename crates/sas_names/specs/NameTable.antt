@@ -41,8 +41,8 @@ module _ {V : Type 0} where
   Exist exists table = (digest : ℕ) (value : V) → get nat_eq table.first digest ≡ Some value → exists value
 
   -- the name of the value is mapped to the value; all other names are as before
-  abbrev pub Puts : (V → List ℕ) → V → NameTable V → NameTable V → Type 0
-  Puts names value old new = (other : List ℕ) → value_of names new other
+  abbrev pub PutsName : (V → List ℕ) → V → NameTable V → NameTable V → Type 0
+  PutsName names value old new = (other : List ℕ) → value_of names new other
       ≡ (if pointwise nat_eq (names value) other then Some value else value_of names old other)
 
   -- the same for the map of digests: this digest is mapped to the value
@@ -68,8 +68,8 @@ abbrev pub operator_names : Parts → ℕ → List ℕ
 operator_names p operator = (operator_at p operator).name
 
 -- the operator that a table of borrowed names has for the name
-abbrev pub operator_of : NameTable NamedOperator → List ℕ → Option ℕ
-operator_of table name = option_map (λ (named : NamedOperator). named.operator)
+abbrev pub operator_in_table : NameTable NamedOperator → List ℕ → Option ℕ
+operator_in_table table name = option_map (λ (named : NamedOperator). named.operator)
     (value_of (λ (named : NamedOperator). named.name.now) table name)
 
 -- The names of the operators from number `from` on. `tells` maps each name to the lowest of them

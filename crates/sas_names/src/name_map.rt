@@ -1,7 +1,7 @@
 // The operators of a task by their names, for one plan.
 ghost use Rattle.std.specs.Prelude.{◌≡◌, ℕ, IfOk, option_map};
 ghost use Rattle.sas_names.specs.Chains.{IsChain};
-ghost use Rattle.sas_names.specs.NameTable.{IsEmptyTable, AreMappedFrom, operator_of};
+ghost use Rattle.sas_names.specs.NameTable.{IsEmptyTable, AreMappedFrom, operator_in_table};
 
 use crate::looking_up::FirstNamed;
 use crate::name_table::NameTable;
@@ -33,13 +33,14 @@ impl<'a, T: Grounded> Drop for NameMap<'a, T> {
 
 impl<'a, T: Grounded> Model for NameMap<'a, T> {
     ghost use Rattle.sas_core.specs.declared.parts.Parts.{Parts};
-    ghost use Rattle.sas_names.specs.NameTable.{AreMappedFrom, operator_of};
+    ghost use Rattle.sas_names.specs.NameTable.{AreMappedFrom, operator_in_table};
 
     ghost Value = { Parts };
 
     ghost view = { λ m. T.says m.task.now };
 
-    ghost invariant = { λ m. AreMappedFrom (T.says m.task.now) 0 (operator_of m.first) m.next.items };
+    ghost invariant = { λ m. AreMappedFrom (T.says m.task.now) 0
+        (operator_in_table m.first) m.next.items };
 }
 
 impl<'a, T: Grounded> NameMap<'a, T> {
@@ -86,7 +87,8 @@ fn put_all<'a, T: Grounded>(
     first: &mut NameTable<NamedOperator<'a>>,
 ) -> Result<Vec<Option<u32>>, AllocError>
     requires { IsEmptyTable first.old }
-    ensures { IfOk result (λ next. AreMappedFrom (T.says task.now) 0 (operator_of first.new) next.items) }
+    ensures { IfOk result
+        (λ next. AreMappedFrom (T.says task.now) 0 (operator_in_table first.new) next.items) }
 {
     let operators = task.operators();
     let mut next = vec![in alloc; None; operators as usize]?;

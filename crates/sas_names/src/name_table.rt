@@ -1,6 +1,6 @@
 //! A table from names to values.
 ghost use Rattle.std.specs.Prelude.{◌≡◌, IfOk, OnOk};
-ghost use Rattle.sas_names.specs.NameTable.{IsEmptyTable, Exist, Puts, PutsDigest, PutsEither, PutsOther};
+ghost use Rattle.sas_names.specs.NameTable.{IsEmptyTable, Exist, PutsName, PutsDigest, PutsEither, PutsOther};
 ghost use Rattle.sas_names.specs.NameTable.{value_of, other_of};
 
 use crate::digest::digest;
@@ -81,7 +81,7 @@ impl<V: Copy> NameTable<V> {
         requires exist { Exist (V.exists place.now) self.old }
         ensures had { IfOk result (λ had. had
             ≡ value_of (V.names place.now) self.old (V.names place.now value)) }
-        ensures puts { OnOk result (Puts (V.names place.now) value self.old self.new) }
+        ensures puts { OnOk result (PutsName (V.names place.now) value self.old self.new) }
         ensures exist { OnOk result (Exist (V.exists place.now) self.new) }
     {
         let name = value.name(place);

@@ -59,11 +59,7 @@ pub fn write_reasons<W: Write>(
 }
 
 /// Adds the lines, each with its end, to the text.
-pub fn push_lines<W: Write>(
-    sink: &mut Sink<'_, W>,
-    named: &Named<'_>,
-    lines: &[Line],
-)
+pub fn push_lines<W: Write>(sink: &mut Sink<'_, W>, named: &Named<'_>, lines: &[Line])
     ensures { Pushes W.contents sink.old sink.new
         (reasons_text named.now.task.now (steps_of named.now.plan) lines.now) }
 {
@@ -73,11 +69,7 @@ pub fn push_lines<W: Write>(
 }
 
 /// Adds the line and its end to the text.
-fn push_line<W: Write>(
-    sink: &mut Sink<'_, W>,
-    named: &Named<'_>,
-    line: Line,
-)
+fn push_line<W: Write>(sink: &mut Sink<'_, W>, named: &Named<'_>, line: Line)
     ensures { Pushes W.contents sink.old sink.new
         (line_bytes named.now.task.now (steps_of named.now.plan) line ++ 10 ∷ []) }
 {
@@ -86,12 +78,7 @@ fn push_line<W: Write>(
 }
 
 /// Adds the line that begins so, with this rest, and its end.
-fn push_rest<W: Write>(
-    sink: &mut Sink<'_, W>,
-    named: &Named<'_>,
-    start: Start,
-    rest: Rest,
-)
+fn push_rest<W: Write>(sink: &mut Sink<'_, W>, named: &Named<'_>, start: Start, rest: Rest)
     ensures { Pushes W.contents sink.old sink.new
         (line_with start (rest_words named.now.task.now (steps_of named.now.plan) rest) ++ 10 ∷ []) }
 {
@@ -113,11 +100,7 @@ fn push_rest<W: Write>(
 }
 
 /// Adds the line with these words behind its first ones, and its end.
-fn push_words<W: Write>(
-    sink: &mut Sink<'_, W>,
-    start: Start,
-    words: &[Word<'_>],
-)
+fn push_words<W: Write>(sink: &mut Sink<'_, W>, start: Start, words: &[Word<'_>])
     ensures { Pushes W.contents sink.old sink.new
         (line_with start (map word_bytes words.now) ++ 10 ∷ []) }
 {
@@ -130,11 +113,7 @@ fn push_words<W: Write>(
 }
 
 /// Adds the line of a sum, which may be larger than a `u64`, and its end.
-fn push_sum<W: Write>(
-    sink: &mut Sink<'_, W>,
-    start: Start,
-    sum: u128,
-)
+fn push_sum<W: Write>(sink: &mut Sink<'_, W>, start: Start, sum: u128)
     ensures { Pushes W.contents sink.old sink.new
         (line_with start (decimal sum ∷ []) ++ 10 ∷ []) }
 {
@@ -144,11 +123,7 @@ fn push_sum<W: Write>(
 }
 
 /// Adds the line of the task's metric, and its end.
-fn push_metric<W: Write>(
-    sink: &mut Sink<'_, W>,
-    start: Start,
-    task: &FlatTask,
-)
+fn push_metric<W: Write>(sink: &mut Sink<'_, W>, start: Start, task: &FlatTask)
     ensures { Pushes W.contents sink.old sink.new
         (line_with start (decimal (if task.now.metric then 1 else 0) ∷ []) ++ 10 ∷ []) }
 {
@@ -157,12 +132,7 @@ fn push_metric<W: Write>(
 }
 
 /// Adds the line of a number and a name, and its end.
-fn push_named<W: Write>(
-    sink: &mut Sink<'_, W>,
-    start: Start,
-    number: u64,
-    name: &[u8],
-)
+fn push_named<W: Write>(sink: &mut Sink<'_, W>, start: Start, number: u64, name: &[u8])
     ensures { Pushes W.contents sink.old sink.new
         (line_with start (decimal number ∷ name.now ∷ []) ++ 10 ∷ []) }
 {
@@ -171,12 +141,7 @@ fn push_named<W: Write>(
 }
 
 /// Adds the line of a fact, and its end.
-fn push_fact<W: Write>(
-    sink: &mut Sink<'_, W>,
-    task: &FlatTask,
-    start: Start,
-    fact: Fact,
-)
+fn push_fact<W: Write>(sink: &mut Sink<'_, W>, task: &FlatTask, start: Start, fact: Fact)
     ensures { Pushes W.contents sink.old sink.new
         (line_with start (words_of task.now fact) ++ 10 ∷ []) }
 {
@@ -187,12 +152,7 @@ fn push_fact<W: Write>(
 }
 
 /// Adds the line of what a part of the task does with a fact, and its end.
-fn push_part<W: Write>(
-    sink: &mut Sink<'_, W>,
-    task: &FlatTask,
-    start: Start,
-    part: Part,
-)
+fn push_part<W: Write>(sink: &mut Sink<'_, W>, task: &FlatTask, start: Start, part: Part)
     ensures { Pushes W.contents sink.old sink.new
         (line_with start (part_words task.now part) ++ 10 ∷ []) }
 {
@@ -218,12 +178,7 @@ fn deed(task: &FlatTask, part: Part) -> (u64, &'static [u8], Fact)
 }
 
 /// Adds the line of an operator that a step could also be, and its end.
-fn push_could_be<W: Write>(
-    sink: &mut Sink<'_, W>,
-    start: Start,
-    step: usize,
-    operator: u32,
-)
+fn push_could_be<W: Write>(sink: &mut Sink<'_, W>, start: Start, step: usize, operator: u32)
     ensures { Pushes W.contents sink.old sink.new
         (line_with start (could_be_words step operator) ++ 10 ∷ []) }
 {

@@ -10,7 +10,7 @@ use Rattle.sas_reader.specs.System.{IsPlain}
 use Rattle.sas_reader.proofs.Plain.{plain-decimal, plain_bytes, plain-append}
 use Rattle.sas_run.specs.declared.plan_check.PlanFault.{PlanFault}
 use Rattle.sas_run.specs.declared.plan_check.PlanFault.TheVariants as plan_fault
-use Rattle.sas_answers.specs.LayerWords.{layer_words, part_words}
+use Rattle.sas_answers.specs.LayerWords.{layer_words, words_at_part}
 use Rattle.sas_answers.specs.PlanWords.{fault_words, step_words, goal_words, sum_words}
 use Rattle.sas_outputs.specs.Output.{word_of}
 
@@ -44,20 +44,20 @@ file_plain name line w h g =
 
 -- ---- refusals of layers
 
-part_plain : (part : List ℕ) (place : ℕ) (what : List ℕ) → IsPlain part → IsPlain what → IsPlain (part_words part place what)
+part_plain : (part : List ℕ) (place : ℕ) (what : List ℕ) → IsPlain part → IsPlain what → IsPlain (words_at_part part place what)
 part_plain part place what h g =
     plain-append (part ++ codes " " ++ decimal place ++ codes ": ") what
     (plain-append (part ++ codes " " ++ decimal place) (codes ": ")
     (plain-append (part ++ codes " ") (decimal place) (plain-append part (codes " ") h (plain_bytes (codes " ") refl)) (plain-decimal place)) (plain_bytes (codes ": ") refl))
     g
 
-rule_plain : (rule : ℕ) (what w : List ℕ) → IsPlain what → Some (part_words (codes "rule") rule what) ≡ Some w → IsPlain w
-rule_plain rule what w h e = some_words (part_words (codes "rule") rule what) w e (part_plain (codes "rule") rule what (plain_bytes (codes "rule") refl) h)
+rule_plain : (rule : ℕ) (what w : List ℕ) → IsPlain what → Some (words_at_part (codes "rule") rule what) ≡ Some w → IsPlain w
+rule_plain rule what w h e = some_words (words_at_part (codes "rule") rule what) w e (part_plain (codes "rule") rule what (plain_bytes (codes "rule") refl) h)
 
 pub layer_plain : (fault : LayerFault) (w : List ℕ) → layer_words fault ≡ Some w → IsPlain w
 layer_plain (layer_fault.EffectOnDerived operator effect) w e =
     let what = codes "effect on derived variable" in
-    some_words (part_words (codes "operator") operator what) w e (part_plain (codes "operator") operator what (plain_bytes (codes "operator") refl) (plain_bytes what refl))
+    some_words (words_at_part (codes "operator") operator what) w e (part_plain (codes "operator") operator what (plain_bytes (codes "operator") refl) (plain_bytes what refl))
 layer_plain (layer_fault.RuleOnBasic rule) w e = rule_plain rule (codes "not on a derived variable") w (plain_bytes (codes "not on a derived variable") refl) e
 layer_plain (layer_fault.OldValue rule) w e = rule_plain rule (codes "old value") w (plain_bytes (codes "old value") refl) e
 layer_plain (layer_fault.TwoValues rule) w e = rule_plain rule (codes "two values") w (plain_bytes (codes "two values") refl) e

@@ -6,7 +6,7 @@ use Rattle.std.proofs.lemmas.Bool.{and_from, ne_eqb, ltb-true}
 use Rattle.sas_core.specs.Names.{is_plain}
 use Rattle.sas_reader.specs.declared.fault.Kind.{Kind}
 use Rattle.sas_reader.specs.declared.fault.Kind.TheVariants as kinds
-use Rattle.sas_task_format.specs.Marks.{word_bytes}
+use Rattle.sas_task_format.specs.Marks.{fixed_word_bytes}
 use Rattle.sas_task_format.specs.declared.marks.Due.{Due}
 use Rattle.sas_task_format.specs.declared.marks.Due.TheVariants as due
 use Rattle.sas_task_format.specs.declared.marks.FixedWord.{FixedWord}
@@ -79,7 +79,7 @@ location_plain at.Rules = refl
 location_plain (at.Rule n) = number n
 location_plain at.End = refl
 
-word_plain : (w : FixedWord) → IsPlain (word_bytes w)
+word_plain : (w : FixedWord) → IsPlain (fixed_word_bytes w)
 word_plain fixed.BeginVersion = refl
 word_plain fixed.EndVersion = refl
 word_plain fixed.BeginMetric = refl

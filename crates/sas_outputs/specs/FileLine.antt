@@ -3,7 +3,7 @@ use Rattle.std.specs.Prelude.{ℕ, Bool, true, false, List, [], ◌∷◌, ◌++
 use Rattle.sas_reader.specs.declared.fault.Kind.{Kind}
 use Rattle.sas_reader.specs.declared.fault.Kind.TheVariants as kinds
 use Rattle.sas_output.specs.Words.{line}
-use Rattle.sas_task_format.specs.Marks.{word_bytes}
+use Rattle.sas_task_format.specs.Marks.{fixed_word_bytes}
 use Rattle.sas_task_format.specs.declared.marks.Due.{Due}
 use Rattle.sas_task_format.specs.declared.marks.Due.TheVariants as due
 use Rattle.sas_task_format.specs.declared.marks.Location.{Location}
@@ -48,7 +48,7 @@ location_words at.End = codes "the end"
 
 -- the words for what is expected in a task
 abbrev pub due_words : Due → List ℕ
-due_words (due.Word w) = word_bytes w
+due_words (due.Word w) = fixed_word_bytes w
 due_words due.Name = codes "a name"
 due_words (due.Number least most) = codes "number " ++ decimal least ++ codes " to " ++ decimal most
 due_words due.Layer = codes "number -1 to 2147483647"

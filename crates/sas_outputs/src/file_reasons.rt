@@ -1,6 +1,6 @@
 // The reasons why a file is refused.
 ghost use Rattle.std.specs.Prelude.{◌≡◌, ◌++◌, OnOk};
-ghost use Rattle.sas_reader.specs.Found.{bytes_of};
+ghost use Rattle.sas_reader.specs.Found.{kept_bytes};
 ghost use Rattle.sas_outputs.specs.FileReasons.{file_text, plan_reasons, task_reasons};
 
 use crate::dues::{push_due, push_location, push_plan_due, push_wrong_word};
@@ -19,7 +19,7 @@ pub fn push_task_reasons(
     found: &Found,
 ) -> Result<(), AllocError>
     ensures { OnOk result (out.new.items ≡ out.old.items
-        ++ file_text (task_reasons kind mark word (bytes_of found.now) found.now.more)) }
+        ++ file_text (task_reasons kind mark word (kept_bytes found.now) found.now.more)) }
 {
     push_location(out, mark.at)?;
     push_due(out, mark.due)?;
@@ -33,7 +33,7 @@ pub fn push_task_reasons(
 /// memory.
 pub fn push_plan_reasons(out: &mut Vec<u8>, kind: Kind, found: &Found) -> Result<(), AllocError>
     ensures { OnOk result (out.new.items ≡ out.old.items
-        ++ file_text (plan_reasons kind (bytes_of found.now) found.now.more)) }
+        ++ file_text (plan_reasons kind (kept_bytes found.now) found.now.more)) }
 {
     push_plan_due(out, kind)?;
     push_found(out, kind, found)

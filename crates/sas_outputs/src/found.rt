@@ -1,6 +1,6 @@
 // The line with the text at a fault.
 ghost use Rattle.std.specs.Prelude.{◌≡◌, ◌<◌, ◌++◌, [], ◌∷◌, flat_map, OnOk};
-ghost use Rattle.sas_reader.specs.Found.{bytes_of};
+ghost use Rattle.sas_reader.specs.Found.{kept_bytes};
 ghost use Rattle.sas_outputs.specs.FileLine.{ended};
 ghost use Rattle.sas_outputs.specs.FileReasons.{found_line, judged_line, rest_line};
 ghost use Rattle.sas_outputs.specs.ShownBytes.{hex_digit_of, is_shown, shown, shown_byte, shown_whole};
@@ -12,7 +12,7 @@ use std::alloc::AllocError;
 /// Appends the line with the text at a fault of this kind.
 pub(crate) fn push_found(out: &mut Vec<u8>, kind: Kind, found: &Found) -> Result<(), AllocError>
     ensures { OnOk result (out.new.items ≡ out.old.items
-        ++ ended (found_line kind (bytes_of found.now) found.now.more)) }
+        ++ ended (found_line kind (kept_bytes found.now) found.now.more)) }
 {
     match kind {
         Kind::End => push_rest(out, found),
@@ -23,7 +23,7 @@ pub(crate) fn push_found(out: &mut Vec<u8>, kind: Kind, found: &Found) -> Result
 /// Appends the line with the unfinished last line of a file.
 fn push_rest(out: &mut Vec<u8>, found: &Found) -> Result<(), AllocError>
     ensures { OnOk result (out.new.items ≡ out.old.items
-        ++ ended (rest_line (bytes_of found.now) found.now.more)) }
+        ++ ended (rest_line (kept_bytes found.now) found.now.more)) }
 {
     if found.bytes().is_empty() {
         return push_line(out, b"  end of file");
@@ -34,7 +34,7 @@ fn push_rest(out: &mut Vec<u8>, found: &Found) -> Result<(), AllocError>
 /// Appends the line with the wrong line, or with the byte after the end.
 fn push_judged(out: &mut Vec<u8>, found: &Found) -> Result<(), AllocError>
     ensures { OnOk result (out.new.items ≡ out.old.items
-        ++ ended (judged_line (bytes_of found.now) found.now.more)) }
+        ++ ended (judged_line (kept_bytes found.now) found.now.more)) }
 {
     if found.bytes().is_empty() {
         return push_line(out, b"  empty line");
@@ -45,7 +45,7 @@ fn push_judged(out: &mut Vec<u8>, found: &Found) -> Result<(), AllocError>
 /// Appends a line that begins with these bytes and shows the text.
 fn push_text(out: &mut Vec<u8>, front: &[u8], found: &Found) -> Result<(), AllocError>
     ensures { OnOk result (out.new.items ≡ out.old.items
-        ++ (front.now ++ (shown (bytes_of found.now) found.now.more ++ 10 ∷ []))) }
+        ++ (front.now ++ (shown (kept_bytes found.now) found.now.more ++ 10 ∷ []))) }
 {
     out.extend_from_slice(front)?;
     push_shown(out, found)?;
@@ -56,7 +56,7 @@ fn push_text(out: &mut Vec<u8>, front: &[u8], found: &Found) -> Result<(), Alloc
 /// Appends the text as it is shown.
 fn push_shown(out: &mut Vec<u8>, found: &Found) -> Result<(), AllocError>
     ensures { OnOk result (out.new.items
-        ≡ out.old.items ++ shown (bytes_of found.now) found.now.more) }
+        ≡ out.old.items ++ shown (kept_bytes found.now) found.now.more) }
 {
     if found.has_more() {
         push_bytes(out, found.bytes(), b" ..")

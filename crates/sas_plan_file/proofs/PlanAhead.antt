@@ -12,7 +12,7 @@ use Rattle.sas_lines.specs.FirstLines.{LineStandsFirst}
 use Rattle.sas_lines.proofs.Beginnings.{stands_first, one_stands_first}
 use Rattle.sas_reader.specs.Machine.{AcceptsAhead}
 use Rattle.sas_reader.proofs.Plain.{plain, return_stands_first}
-use Rattle.sas_reader.specs.System.{Takes}
+use Rattle.sas_reader.specs.System.{IsAllowed}
 use Rattle.sas_plan_file.specs.PlanFormat.{step, plan_line_bytes, plan_format, PlanLineFits}
 use Rattle.sas_plan_file.specs.PlanMachine.{plan_line_ok}
 use Rattle.sas_plan_file.specs.PlanLine.{EndsLine, StepStandsFirst}
@@ -85,7 +85,7 @@ module _ (bytes name : List ℕ) (taken : ℕ) (h : StepStandsFirst bytes name t
       ∙ take_at (t.0 ++ 10 ∷ []) t.1 taken (omega (arith, t.4, length-append t.0 (10 ∷ [])))
       ∙ ap (λ (x : List ℕ). x ++ 10 ∷ []) (sym front ∙ h.before_end)
 
-  pub step_ahead_taken : Takes plan_format PlanLineFits tt plan_line_ok (step name)
+  pub step_ahead_taken : IsAllowed plan_format PlanLineFits tt plan_line_ok (step name)
   step_ahead_taken = record { slot = refl; fits = tt; good = h.is_name }
 
   -- a machine that adds the step accepts its line

@@ -9,7 +9,7 @@ use Rattle.sas_core.specs.PlanParts.{PlanParts}
 use Rattle.sas_core.specs.Plans.{WellNamed}
 use Rattle.sas_reader.specs.Format.{lines_of}
 use Rattle.sas_plan_file.specs.PlanFormat.{step, cost, plan_line_bytes, plan_format}
-use Rattle.sas_plan_file.specs.PlanLaws.{PlanIsFilled, filling}
+use Rattle.sas_plan_file.specs.PlanLaws.{PlanIsFilled, filling_cost_line}
 
 abbrev step_lines : List (List ℕ) → List (List ℕ)
 step_lines steps = map plan_line_bytes (map step steps)
@@ -37,11 +37,11 @@ front (b ∷ steps) (x ∷ begun) last line more g e =
     let f = front steps begun last line more g.1 others in
     record { names = b ∷ f.names; good = (g.0, f.good); are = ap (λ (l : List (List ℕ)). plan_line_bytes (step b) ∷ l) f.are ∙ ap (λ (y : List ℕ). y ∷ begun) one }
 
-filled_by : (p : PlanParts) (begun more : List (List ℕ)) → WellNamed p → lines_of plan_format p ≡ begun ++ more → (q : PlanParts) × WellNamed q × ((lines_of plan_format q ≡ begun) ⊎ (lines_of plan_format q ≡ begun ++ filling ∷ []))
+filled_by : (p : PlanParts) (begun more : List (List ℕ)) → WellNamed p → lines_of plan_format p ≡ begun ++ more → (q : PlanParts) × WellNamed q × ((lines_of plan_format q ≡ begun) ⊎ (lines_of plan_format q ≡ begun ++ filling_cost_line ∷ []))
 filled_by p begun [] g e = (p, g, inl (e ∙ append-nil begun))
 filled_by p begun (line ∷ more) g e =
     let f = front p.steps begun (plan_line_bytes (cost p.cost p.kind)) line more g.steps (sym (steps_line p.steps p.cost p.kind) ∙ e) in
-    (record { steps = f.names; cost = 0; kind = costs.Unit }, record { steps = f.good; cost = omega arith }, inr (steps_line f.names 0 costs.Unit ∙ ap (λ (l : List (List ℕ)). l ++ filling ∷ []) f.are))
+    (record { steps = f.names; cost = 0; kind = costs.Unit }, record { steps = f.good; cost = omega arith }, inr (steps_line f.names 0 costs.Unit ∙ ap (λ (l : List (List ℕ)). l ++ filling_cost_line ∷ []) f.are))
 
 pub plan_is_filled : PlanIsFilled
 plan_is_filled begun b = filled_by b.0 begun b.1 b.2 b.3

@@ -9,7 +9,7 @@ use Rattle.sas_reader.specs.declared.fault.Kind.TheVariants.{Keyword, Name, Shap
 use Rattle.sas_plan_file.specs.PlanFormat.{PlanLine, step, cost, plan_line_bytes, PlanLineFits, like_step, like_cost, like_none, cost_front, cost_words, BeginsWith, plan_format}
 use Rattle.sas_plan_file.specs.PlanLine.{Names, Costs}
 use Rattle.sas_plan_file.specs.PlanMachine.{plan_line_ok}
-use Rattle.sas_reader.specs.System.{Judged}
+use Rattle.sas_reader.specs.System.{IsRejected}
 
 begins_with : (front rest line : List ℕ) → line ≡ front ++ rest → BeginsWith front line
 begins_with front rest line e = ap (take (length front)) e ∙ take-append_seam front rest
@@ -32,11 +32,11 @@ no_line : (line : List ℕ) → (BeginsWith (codes "(") line → ⊥) → (Begin
 no_line line a b (step name) e = a (begins_with (codes "(") (name ++ codes ")") line (sym e))
 no_line line a b (cost n kind) e = b (begins_with cost_front (decimal n ++ cost_words kind) line (sym e))
 
-pub judged_name : (line rest : List ℕ) → line ≡ codes "(" ++ rest → ((name : List ℕ) → Names rest name → ⊥) → Judged plan_format PlanLineFits tt plan_line_ok line Name
+pub judged_name : (line rest : List ℕ) → line ≡ codes "(" ++ rest → ((name : List ℕ) → Names rest name → ⊥) → IsRejected plan_format PlanLineFits tt plan_line_ok line Name
 judged_name line rest e none = record { none = λ i t b. no_step line rest e none i t.fits t.good b; kind = like_step (begins_with (codes "(") rest line e) }
 
-pub judged_shape : (line rest : List ℕ) → line ≡ cost_front ++ rest → ((n : ℕ) (kind : CostKind) → Costs rest n kind → ⊥) → Judged plan_format PlanLineFits tt plan_line_ok line Shape
+pub judged_shape : (line rest : List ℕ) → line ≡ cost_front ++ rest → ((n : ℕ) (kind : CostKind) → Costs rest n kind → ⊥) → IsRejected plan_format PlanLineFits tt plan_line_ok line Shape
 judged_shape line rest e none = record { none = λ i t b. no_cost line rest e none i t.fits t.good b; kind = like_cost (begins_with cost_front rest line e) }
 
-pub judged_keyword : (line : List ℕ) → (BeginsWith (codes "(") line → ⊥) → (BeginsWith cost_front line → ⊥) → Judged plan_format PlanLineFits tt plan_line_ok line Keyword
+pub judged_keyword : (line : List ℕ) → (BeginsWith (codes "(") line → ⊥) → (BeginsWith cost_front line → ⊥) → IsRejected plan_format PlanLineFits tt plan_line_ok line Keyword
 judged_keyword line a b = record { none = λ i t e. no_line line a b i e; kind = like_none a b }

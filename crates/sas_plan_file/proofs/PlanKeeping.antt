@@ -10,9 +10,9 @@ use Rattle.sas_reader.specs.declared.fault.Kind.{Kind}
 use Rattle.sas_plan_file.specs.declared.plan_text.PlanText.{PlanText}
 use Rattle.sas_reader.specs.Format.{lines_of, Reads}
 use Rattle.sas_plan_file.specs.PlanFormat.{step, cost, plan_line_bytes, plan_format, PlanLineFits}
-use Rattle.sas_plan_file.specs.PlanMachine.{PlanState, going, closed, plan_node, plan_next, plan_start, plan_line_ok, HasCost}
+use Rattle.sas_plan_file.specs.PlanMachine.{PlanState, going, closed, plan_node, plan_next, plan_start, plan_line_ok, HasCostLine}
 use Rattle.sas_plan_file.specs.PlanText.{KeepsLines}
-use Rattle.sas_reader.specs.System.{Takes, Judged, Leads, Rejects}
+use Rattle.sas_reader.specs.System.{IsAllowed, IsRejected, Leads, Rejects}
 use Rattle.sas_reader.proofs.Conversion.{Follows}
 use Rattle.sas_plan_file.proofs.PlanStanding.{closed_value, closed_is}
 use Rattle.sas_plan_file.proofs.PlanSteps.{led_on}
@@ -25,7 +25,7 @@ kept_text ls line old new o n = n ∙ ap (λ (x : List ℕ). x ++ (line ++ 10 �
 
 -- ---- one more line
 
-step_kept : (ls : List (List ℕ)) (p : PlanState) (m n : PlanText) (name line : List ℕ) → Leads plan_format PlanLineFits plan_node plan_start ls p → m.text.items ≡ text ls → (IsTrue m.closed ↔ HasCost p) → (IsTrue m.closed → ⊥) → Takes plan_format PlanLineFits tt plan_line_ok (step name) → plan_line_bytes (step name) ≡ line
+step_kept : (ls : List (List ℕ)) (p : PlanState) (m n : PlanText) (name line : List ℕ) → Leads plan_format PlanLineFits plan_node plan_start ls p → m.text.items ≡ text ls → (IsTrue m.closed ↔ HasCostLine p) → (IsTrue m.closed → ⊥) → IsAllowed plan_format PlanLineFits tt plan_line_ok (step name) → plan_line_bytes (step name) ≡ line
     → n.text.items ≡ m.text.items ++ (line ++ 10 ∷ []) → n.closed ≡ m.closed → KeepsLines (ls ++ line ∷ []) n
 step_kept ls (going steps) m n name line h k c going_on t e same_text same_closed = record {
   state = going (steps ++ name ∷ []);
@@ -35,7 +35,7 @@ step_kept ls (going steps) m n name line h k c going_on t e same_text same_close
 }
 step_kept ls (closed p) m n name line h k c going_on t e same_text same_closed = absurd (going_on (c.1 tt))
 
-cost_kept : (ls : List (List ℕ)) (p : PlanState) (m n : PlanText) (amount : ℕ) (kind : CostKind) (line : List ℕ) → Leads plan_format PlanLineFits plan_node plan_start ls p → m.text.items ≡ text ls → (IsTrue m.closed ↔ HasCost p) → (IsTrue m.closed → ⊥) → Takes plan_format PlanLineFits tt plan_line_ok (cost amount kind) → plan_line_bytes (cost amount kind) ≡ line
+cost_kept : (ls : List (List ℕ)) (p : PlanState) (m n : PlanText) (amount : ℕ) (kind : CostKind) (line : List ℕ) → Leads plan_format PlanLineFits plan_node plan_start ls p → m.text.items ≡ text ls → (IsTrue m.closed ↔ HasCostLine p) → (IsTrue m.closed → ⊥) → IsAllowed plan_format PlanLineFits tt plan_line_ok (cost amount kind) → plan_line_bytes (cost amount kind) ≡ line
     → n.text.items ≡ m.text.items ++ (line ++ 10 ∷ []) → n.closed ≡ true → KeepsLines (ls ++ line ∷ []) n
 cost_kept ls (going steps) m n amount kind line h k c going_on t e same_text now_closed = record {
   state = plan_next steps (cost amount kind);
@@ -45,10 +45,10 @@ cost_kept ls (going steps) m n amount kind line h k c going_on t e same_text now
 }
 cost_kept ls (closed p) m n amount kind line h k c going_on t e same_text now_closed = absurd (going_on (c.1 tt))
 
-pub keeps_step : (ls : List (List ℕ)) (m n : PlanText) (name line : List ℕ) → KeepsLines ls m → (IsTrue m.closed → ⊥) → Takes plan_format PlanLineFits tt plan_line_ok (step name) → plan_line_bytes (step name) ≡ line → n.text.items ≡ m.text.items ++ (line ++ 10 ∷ []) → n.closed ≡ m.closed → KeepsLines (ls ++ line ∷ []) n
+pub keeps_step : (ls : List (List ℕ)) (m n : PlanText) (name line : List ℕ) → KeepsLines ls m → (IsTrue m.closed → ⊥) → IsAllowed plan_format PlanLineFits tt plan_line_ok (step name) → plan_line_bytes (step name) ≡ line → n.text.items ≡ m.text.items ++ (line ++ 10 ∷ []) → n.closed ≡ m.closed → KeepsLines (ls ++ line ∷ []) n
 keeps_step ls m n name line h going_on t e same_text same_closed = step_kept ls h.state m n name line h.leads h.kept h.closed going_on t e same_text same_closed
 
-pub keeps_cost : (ls : List (List ℕ)) (m n : PlanText) (amount : ℕ) (kind : CostKind) (line : List ℕ) → KeepsLines ls m → (IsTrue m.closed → ⊥) → Takes plan_format PlanLineFits tt plan_line_ok (cost amount kind) → plan_line_bytes (cost amount kind) ≡ line → n.text.items ≡ m.text.items ++ (line ++ 10 ∷ []) → n.closed ≡ true → KeepsLines (ls ++ line ∷ []) n
+pub keeps_cost : (ls : List (List ℕ)) (m n : PlanText) (amount : ℕ) (kind : CostKind) (line : List ℕ) → KeepsLines ls m → (IsTrue m.closed → ⊥) → IsAllowed plan_format PlanLineFits tt plan_line_ok (cost amount kind) → plan_line_bytes (cost amount kind) ≡ line → n.text.items ≡ m.text.items ++ (line ++ 10 ∷ []) → n.closed ≡ true → KeepsLines (ls ++ line ∷ []) n
 keeps_cost ls m n amount kind line h going_on t e same_text now_closed = cost_kept ls h.state m n amount kind line h.leads h.kept h.closed going_on t e same_text now_closed
 
 -- ---- it follows the grammar
@@ -57,9 +57,9 @@ abbrev pub text_ended : PlanText → Type 0
 text_ended m = IsTrue m.closed
 
 abbrev pub text_rejects : PlanText → List ℕ → Kind → Type 0
-text_rejects m line k = Judged plan_format PlanLineFits tt plan_line_ok line k
+text_rejects m line k = IsRejected plan_format PlanLineFits tt plan_line_ok line k
 
-refused : (p : PlanState) (line : List ℕ) (k : Kind) → (HasCost p → ⊥) → Judged plan_format PlanLineFits tt plan_line_ok line k → Rejects plan_format PlanLineFits (plan_node p) line k
+refused : (p : PlanState) (line : List ℕ) (k : Kind) → (HasCostLine p → ⊥) → IsRejected plan_format PlanLineFits tt plan_line_ok line k → Rejects plan_format PlanLineFits (plan_node p) line k
 refused (going steps) line k going_on j = j
 refused (closed p) line k going_on j = absurd (going_on tt)
 

@@ -7,11 +7,12 @@ use Rattle.sas_reader.specs.Format.{IsBegun, lines_of}
 use Rattle.sas_plan_file.specs.PlanFormat.{cost, plan_line_bytes, plan_format}
 
 -- the line `; cost = 0 (unit cost)`
-abbrev pub filling : List ℕ
-filling = plan_line_bytes (cost 0 costs.Unit)
+abbrev pub filling_cost_line : List ℕ
+filling_cost_line = plan_line_bytes (cost 0 costs.Unit)
 
 -- lines that begin a plan are all lines of some plan, with or without the filling at the end
 abbrev pub PlanIsFilled : Type 0
 PlanIsFilled = (begun : List (List ℕ)) → IsBegun plan_format begun → (p : PlanParts)
     × WellNamed p
-    × ((lines_of plan_format p ≡ begun) ⊎ (lines_of plan_format p ≡ begun ++ filling ∷ []))
+    × ((lines_of plan_format p ≡ begun)
+    ⊎ (lines_of plan_format p ≡ begun ++ filling_cost_line ∷ []))

@@ -10,7 +10,7 @@ use Rattle.sas_plan_file.specs.declared.plan_line.PlanLine as code
 use Rattle.sas_plan_file.specs.declared.plan_line.PlanLine.TheVariants as variants
 use Rattle.sas_plan_file.specs.PlanFormat.{PlanLine, step, cost, plan_line_bytes, plan_format, cost_words, PlanLineFits}
 use Rattle.sas_plan_file.specs.PlanMachine.{plan_line_ok}
-use Rattle.sas_reader.specs.System.{Takes, Judged}
+use Rattle.sas_reader.specs.System.{IsAllowed, IsRejected}
 
 -- after the opening parenthesis, a step is its name and the closing parenthesis
 abbrev pub Names : List ℕ → List ℕ → Type 0
@@ -28,9 +28,9 @@ line_said (variants.Cost n kind) = cost n kind
 -- the line spells the result; or it may not stand in a plan, and this is the kind of its fault
 abbrev pub JudgesPlanLine : List ℕ → Result code.PlanLine Kind → Type 0
 JudgesPlanLine line (Ok said) =
-    Takes plan_format PlanLineFits tt plan_line_ok (line_said said)
+    IsAllowed plan_format PlanLineFits tt plan_line_ok (line_said said)
     × (plan_line_bytes (line_said said) ≡ line)
-JudgesPlanLine line (Err kind) = Judged plan_format PlanLineFits tt plan_line_ok line kind
+JudgesPlanLine line (Err kind) = IsRejected plan_format PlanLineFits tt plan_line_ok line kind
 
 -- the bytes begin with a line end of `taken` bytes: LF or CR LF
 abbrev pub EndsLine : List ℕ → ℕ → Type 0

@@ -34,9 +34,9 @@ plan_state steps None = going steps
 plan_state steps (Some c) = closed (record { steps = steps; cost = c.0; kind = c.1 })
 
 -- the cost was read
-abbrev pub HasCost : PlanState → Type 0
-HasCost (going steps) = ⊥
-HasCost (closed p) = Unit {0}
+abbrev pub HasCostLine : PlanState → Type 0
+HasCostLine (going steps) = ⊥
+HasCostLine (closed p) = Unit {0}
 
 -- a refused line doesn't change the state
 abbrev pub plan_stays : PlanState → List ℕ → Kind → PlanState → Type 0

@@ -7,7 +7,7 @@ use Rattle.sas_reader.specs.Reading.{View}
 use Rattle.sas_reader.specs.System.{Leads, Rejects}
 use Rattle.sas_plan_file.specs.declared.plan_reader.PlanReader.{PlanReader}
 use Rattle.sas_plan_file.specs.PlanFormat.{PlanLine, PlanLineFits, plan_format}
-use Rattle.sas_plan_file.specs.PlanMachine.{PlanState, plan_node, plan_start, HasCost, plan_stays}
+use Rattle.sas_plan_file.specs.PlanMachine.{PlanState, plan_node, plan_start, HasCostLine, plan_stays}
 
 -- the lines lead from the start to this state
 abbrev pub plan_led : List (List ℕ) → PlanState → Type 0
@@ -23,7 +23,7 @@ plan_rejects p line k = Rejects plan_format PlanLineFits (plan_node p) line k
 abbrev pub plan_view : View PlanParts PlanLine (Unit {0}) PlanReader
 plan_view = record {
   format = plan_format;
-  Stands = λ r bytes. reading.Stands plan_led HasCost plan_rejects plan_stays r.reader bytes;
+  Stands = λ r bytes. reading.Stands plan_led HasCostLine plan_rejects plan_stays r.reader bytes;
   fault = λ r. r.reader.fault;
   limit = λ r. r.reader.limit;
 }

@@ -3,7 +3,7 @@ use Rattle.std.specs.Prelude.{ℕ, List, Option, Result}
 use Rattle.sas_lines.specs.Device.{Device}
 use Rattle.sas_reader.specs.declared.fault.Fault.{Fault}
 use Rattle.sas_reader.specs.declared.found.Found.{Found}
-use Rattle.sas_reader.specs.Refusals.{Explains, ReadsOrExplains}
+use Rattle.sas_reader.specs.Refusals.{ExplainsRefusal, ReadsOrExplains}
 use Rattle.sas_plan_file.specs.declared.plan_refusal.PlanRefusal.{PlanRefusal}
 use Rattle.sas_plan_file.specs.PlanFormat.{plan_format}
 
@@ -25,4 +25,4 @@ ReadsPlan left Gives old new result =
 
 -- the refusal has the text at the fault of these bytes
 abbrev pub ExplainsPlan : List ℕ → PlanRefusal → Type 0
-ExplainsPlan bytes r = Explains plan_format fault_of found_of nothing_else bytes r
+ExplainsPlan bytes r = ExplainsRefusal plan_format fault_of found_of nothing_else bytes r

@@ -3,7 +3,7 @@ use Rattle.std.specs.Prelude.{◌≡◌, ℕ, List, IsTrue, ◌↔◌}
 use Rattle.sas_lines.specs.Lines.{text}
 use Rattle.sas_plan_file.specs.declared.plan_text.PlanText.{PlanText}
 use Rattle.sas_plan_file.specs.PlanFormat.{plan_format, PlanLineFits}
-use Rattle.sas_plan_file.specs.PlanMachine.{PlanState, plan_node, plan_start, HasCost}
+use Rattle.sas_plan_file.specs.PlanMachine.{PlanState, plan_node, plan_start, HasCostLine}
 use Rattle.sas_reader.specs.System.{Leads}
 use Rattle.sas_reader.specs.declared.fault.Kind.{Kind}
 
@@ -13,7 +13,7 @@ pub record KeepsLines (lines : List (List ℕ)) (m : PlanText) : Type 0 where
   pub state : PlanState
   pub leads : Leads plan_format PlanLineFits plan_node plan_start lines state
   pub kept : m.text.items ≡ text lines
-  pub closed : IsTrue m.closed ↔ HasCost state
+  pub closed : IsTrue m.closed ↔ HasCostLine state
 
 -- a refused line doesn't change the text
 abbrev pub text_stays : PlanText → List ℕ → Kind → PlanText → Type 0

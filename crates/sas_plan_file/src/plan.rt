@@ -3,7 +3,7 @@ ghost use Rattle.std.specs.Prelude.{◌≡◌, ◌≢◌, false, Ok, Err, IfOk, 
 ghost use Rattle.sas_reader.specs.Devices.{ReadsAll, ValueOf, TextOf};
 ghost use Rattle.sas_reader.specs.Format.{ReadsAs};
 ghost use Rattle.sas_reader.specs.Limit.{most_bytes};
-ghost use Rattle.sas_reader.specs.About.{IsTold};
+ghost use Rattle.sas_reader.specs.About.{ConcernsText};
 ghost use Rattle.sas_plan_file.specs.PlanFormat.{plan_format};
 ghost use Rattle.sas_plan_file.specs.PlanRefusal.{ReadsPlan, ExplainsPlan};
 
@@ -53,7 +53,7 @@ pub fn flat_plan_of(alloc: Global, bytes: &[u8]) -> Result<FlatPlan, PlanRefusal
     ensures read { IfOk result (λ plan. ReadsAs plan_format most_bytes bytes.now (Ok plan)) }
     ensures fault { IfErr result (λ r. r.fault.kind ≢ Kind.Memory
         → ReadsAs plan_format most_bytes bytes.now (Err r.fault)) }
-    ensures explained { IfErr result (λ r. IsTold r.fault.kind → ExplainsPlan bytes.now r) }
+    ensures explained { IfErr result (λ r. ConcernsText r.fault.kind → ExplainsPlan bytes.now r) }
 {
     let mut reader = Reader::new(alloc, PlanMachine::new_flat(alloc), LIMIT);
     // The reader keeps a fault, and returns it at the end.

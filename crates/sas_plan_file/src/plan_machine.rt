@@ -32,7 +32,7 @@ impl<S: StepNames> Model for PlanMachine<S> {
 
 impl<S: StepNames> PlanMachine<S> {
     ghost use Rattle.sas_core.specs.Names.{IsName};
-    ghost use Rattle.sas_plan_file.specs.PlanMachine.{closed, plan_start, HasCost, StepsOn};
+    ghost use Rattle.sas_plan_file.specs.PlanMachine.{closed, plan_start, HasCostLine, StepsOn};
 
     /// Returns a machine that has accepted no line. `steps` is empty.
     fn of_none(alloc: Global, steps: S) -> Self
@@ -48,7 +48,7 @@ impl<S: StepNames> PlanMachine<S> {
 
     /// Appends a step.
     fn add_step(&mut self, name: &[u8]) -> Result<(), Kind>
-        requires open_still { HasCost self.old → ⊥ }
+        requires open_still { HasCostLine self.old → ⊥ }
         requires name { IsName name.now }
         ensures ok { OnOk result (StepsOn self.old name.now self.new) }
         ensures err { IfErr result (λ k. k ≡ Kind.Memory) }
@@ -59,7 +59,7 @@ impl<S: StepNames> PlanMachine<S> {
 
     /// Returns the steps, the cost and its kind after all lines have been read.
     fn into_parts(self) -> (S, u64, CostKind)
-        requires { HasCost self }
+        requires { HasCostLine self }
         ensures names { AllByRecursion IsName (S.names result.0) }
         ensures parts { self ≡ closed
             (record { steps = S.names result.0; cost = result.1; kind = result.2 }) }
@@ -73,7 +73,7 @@ impl<S: StepNames> PlanMachine<S> {
 }
 
 impl PlanMachine<Items<Items<u8>>> {
-    ghost use Rattle.sas_plan_file.specs.PlanMachine.{closed, plan_start, HasCost};
+    ghost use Rattle.sas_plan_file.specs.PlanMachine.{closed, plan_start, HasCostLine};
 
     /// Returns a machine that has accepted no line.
     pub fn new(alloc: Global) -> Self
@@ -84,7 +84,7 @@ impl PlanMachine<Items<Items<u8>>> {
 
     /// Returns the plan after all its lines have been read.
     pub fn into_plan(self) -> Plan
-        requires { HasCost self }
+        requires { HasCostLine self }
         ensures { self ≡ closed result }
     {
         let (steps, cost, kind) = self.into_parts();
@@ -93,7 +93,7 @@ impl PlanMachine<Items<Items<u8>>> {
 }
 
 impl PlanMachine<Lists<u8>> {
-    ghost use Rattle.sas_plan_file.specs.PlanMachine.{closed, plan_start, HasCost};
+    ghost use Rattle.sas_plan_file.specs.PlanMachine.{closed, plan_start, HasCostLine};
 
     /// Returns a machine that has accepted no line and stores all names in one block of memory.
     pub fn new_flat(alloc: Global) -> Self
@@ -104,7 +104,7 @@ impl PlanMachine<Lists<u8>> {
 
     /// Returns the plan after all its lines have been read.
     pub fn into_flat_plan(self) -> FlatPlan
-        requires { HasCost self }
+        requires { HasCostLine self }
         ensures { self ≡ closed result }
     {
         let (steps, cost, kind) = self.into_parts();
@@ -114,12 +114,12 @@ impl PlanMachine<Lists<u8>> {
 
 impl<S: StepNames> Machine for PlanMachine<S> {
     ghost use Rattle.sas_plan_file.specs.PlanFormat.{plan_format, PlanLineFits};
-    ghost use Rattle.sas_plan_file.specs.PlanMachine.{plan_node, plan_start, HasCost, plan_stays};
+    ghost use Rattle.sas_plan_file.specs.PlanMachine.{plan_node, plan_start, HasCostLine, plan_stays};
     ghost use Rattle.sas_reader.specs.System.{Leads, Rejects};
 
     ghost led_by = { λ lines m. Leads plan_format PlanLineFits plan_node plan_start lines m };
 
-    ghost ended = { HasCost };
+    ghost ended = { HasCostLine };
 
     ghost rejects = { λ m line k. Rejects plan_format PlanLineFits (plan_node m) line k };
 

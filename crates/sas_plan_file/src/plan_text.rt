@@ -51,13 +51,13 @@ impl Machine for PlanText {
     ghost use Rattle.sas_plan_file.specs.PlanFormat.{plan_format, PlanLineFits};
     ghost use Rattle.sas_plan_file.specs.PlanMachine.{plan_line_ok};
     ghost use Rattle.sas_plan_file.specs.PlanText.{KeepsLines, text_stays};
-    ghost use Rattle.sas_reader.specs.System.{Judged};
+    ghost use Rattle.sas_reader.specs.System.{IsRejected};
 
     ghost led_by = { KeepsLines };
 
     ghost ended = { λ m. IsTrue m.closed };
 
-    ghost rejects = { λ m line k. Judged plan_format PlanLineFits tt plan_line_ok line k };
+    ghost rejects = { λ m line k. IsRejected plan_format PlanLineFits tt plan_line_ok line k };
 
     ghost stopped = { text_stays };
 

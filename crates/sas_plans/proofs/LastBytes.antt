@@ -8,7 +8,7 @@ use Rattle.sas_meaning.specs.declared.layered.LayerFault.{LayerFault}
 use Rattle.sas_meaning.specs.declared.layered.LayerFault.TheVariants as layer_fault
 use Rattle.sas_reader.specs.declared.fault.Kind.{Kind}
 use Rattle.sas_reader.specs.declared.fault.Kind.TheVariants as kinds
-use Rattle.sas_answers.specs.LayerWords.{layer_words, part_words}
+use Rattle.sas_answers.specs.LayerWords.{layer_words, words_at_part}
 use Rattle.sas_outputs.specs.Output.{word_of}
 
 -- the last byte, or 0
@@ -84,8 +84,8 @@ kind_letter kinds.TooLong w e = absurd (none-some w e)
 kind_letter kinds.Read w e = absurd (none-some w e)
 kind_letter kinds.Memory w e = absurd (none-some w e)
 
-part_letter : (part : List ℕ) (place : ℕ) (what w : List ℕ) → EndsInLetter what → Some (part_words part place what) ≡ Some w → EndsInLetter w
-part_letter part place what w h e = some_letter (part_words part place what) w e (letter_behind (part ++ codes " " ++ decimal place ++ codes ": ") what h)
+part_letter : (part : List ℕ) (place : ℕ) (what w : List ℕ) → EndsInLetter what → Some (words_at_part part place what) ≡ Some w → EndsInLetter w
+part_letter part place what w h e = some_letter (words_at_part part place what) w e (letter_behind (part ++ codes " " ++ decimal place ++ codes ": ") what h)
 
 pub layer_letter : (fault : LayerFault) (w : List ℕ) → layer_words fault ≡ Some w → EndsInLetter w
 layer_letter (layer_fault.EffectOnDerived operator effect) w e = part_letter (codes "operator") operator (codes "effect on derived variable") w (omega arith) e

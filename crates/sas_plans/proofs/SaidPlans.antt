@@ -27,7 +27,7 @@ use Rattle.sas_plans.specs.declared.tally.Tally.{Tally}
 use Rattle.sas_plans.specs.declared.verdicts.Verdict.{Verdict}
 use Rattle.sas_plans.specs.Inputs.{tool_fault as fault_of}
 use Rattle.sas_plans.specs.Judged.{Judged, IsJudged, IsBest, IsSummary, PlansAnswer, PlansOut, count_words, is_valid, labelled}
-use Rattle.sas_plans.specs.Judging.{AreSaid, AreTold, HasBest, IsFront, IsOneUnsaid, IsPlace, IsOfPlan, IsSaid, IsUnsaid, Judges, JudgesPlans, Tallies, summary_of, unjudged}
+use Rattle.sas_plans.specs.Judging.{AreSaid, AreTold, HasBest, KnownBeginsWith, IsOneUnsaid, IsPlace, IsOfPlan, IsSaid, IsUnsaid, Judges, JudgesPlans, Tallies, summary_of, unjudged}
 use Rattle.sas_plans.proofs.SideBySide.{all_zip, choose, contains_pair}
 use Rattle.sas_plans.proofs.Tallying.{status_yes, status_no}
 
@@ -163,7 +163,7 @@ module _ (p : Parts) (known : ℕ → Option (List ℕ)) (labels : List (List �
   told text tally status all said whole tallies is = record {
     output = λ cs have. answer_for all said text tally status cs whole tallies is have.0 (λ k less. (said.each k less).output (get_or cs k []) (have.1 k less));
     taken = λ decided.
-        let chosen = choose (λ k c. IsFront (known k) c × IsJudged p (get_or labels k [], c) (get_or all k unjudged)) (length labels) (λ k less. let t = (said.each k less).taken in (t.0, (t.1, t.2))) in (
+        let chosen = choose (λ k c. KnownBeginsWith (known k) c × IsJudged p (get_or labels k [], c) (get_or all k unjudged)) (length labels) (λ k less. let t = (said.each k less).taken in (t.0, (t.1, t.2))) in (
           chosen.items,
           (chosen.many, λ k bytes less is. (chosen.each k less).0 bytes is),
           answer_for all said text tally status chosen.items whole tallies is chosen.many (λ k less. (chosen.each k less).1),
@@ -196,7 +196,7 @@ module _ (p : Parts) (known : ℕ → Option (List ℕ)) (labels : List (List �
     long_plan cs many out = (get_or labels h.0 [], get_or cs h.0 [], contains_pair labels cs h.0 many h.1, out)
 
     -- the bytes that were read of the plans: of those behind it none
-    front_at : fault_of why ≡ tool_fault.TooLong → (k : ℕ) → (h.0 ≡ k) ⊎ (h.0 ≢ k) → (c : List ℕ) × (IsFront (known k) c × (h.0 ≡ k → VerdictOut VerdictAnswer p c None))
+    front_at : fault_of why ≡ tool_fault.TooLong → (k : ℕ) → (h.0 ≡ k) ⊎ (h.0 ≢ k) → (c : List ℕ) × (KnownBeginsWith (known k) c × (h.0 ≡ k → VerdictOut VerdictAnswer p c None))
     front_at long k (inl here) = let t = h.2.taken long in (t.0, (rw here at t.1, λ same. t.2))
     front_at long k (inr other) = ([], (λ whole is. (whole, refl), λ same. absurd (other same)))
 
@@ -205,7 +205,7 @@ module _ (p : Parts) (known : ℕ → Option (List ℕ)) (labels : List (List �
       output = λ cs have long. long_plan cs have.0 (h.2.output (get_or cs h.0 []) (have.1 h.0 h.1) long);
       taken = λ decided.
           let long = decided_long (fault_of why) decided h.2.writes in
-          let chosen = choose (λ k c. IsFront (known k) c × (h.0 ≡ k → VerdictOut VerdictAnswer p c None)) (length labels) (λ k less. front_at long k (same_or_not h.0 k)) in
+          let chosen = choose (λ k c. KnownBeginsWith (known k) c × (h.0 ≡ k → VerdictOut VerdictAnswer p c None)) (length labels) (λ k less. front_at long k (same_or_not h.0 k)) in
           (chosen.items, (chosen.many, λ k bytes less is. (chosen.each k less).0 bytes is), λ e. long_plan chosen.items chosen.many ((chosen.each h.0 h.1).1 refl));
       long = rightly_long why h.0 h.2;
       reads = λ e. h.2.reads (let same : why ≡ Tool tool_fault.Read = cc in same);

@@ -28,8 +28,9 @@ use Rattle.sas_plans.specs.Judged.{Judged, HasCost, IsJudged, IsBest, is_valid, 
 -- ---- one plan
 
 -- where the bytes of a plan are known, they begin with these
-abbrev pub IsFront : Option (List ℕ) → List ℕ → Type 0
-IsFront known c = (whole : List ℕ) → known ≡ Some whole → (rest : List ℕ) × (whole ≡ c ++ rest)
+abbrev pub KnownBeginsWith : Option (List ℕ) → List ℕ → Type 0
+KnownBeginsWith known c = (whole : List ℕ) → known ≡ Some whole
+    → (rest : List ℕ) × (whole ≡ c ++ rest)
 
 -- the verdict on a plan with these bytes
 abbrev pub IsVerdict : Parts → List ℕ → Verdict → Type 0
@@ -44,15 +45,15 @@ cost_if Yes cost = Some cost
 cost_if No cost = None
 
 -- the verdict on a plan that was read
-abbrev pub TellsPlan : Parts → PlanParts → Verdict → Type 0
-TellsPlan p plan verdict = (output : Output)
+abbrev pub JudgesPlan : Parts → PlanParts → Verdict → Type 0
+JudgesPlan p plan verdict = (output : Output)
     × VerdictAnswer p plan output
     × (verdict.line.items ≡ output.text)
     × (verdict.cost ≡ cost_if output.status plan.cost)
 
 -- the verdict on a plan file that is refused for this fault
-abbrev pub IsRefused : Fault → Verdict → Type 0
-IsRefused fault verdict = (output : Output)
+abbrev pub RefusesPlan : Fault → Verdict → Type 0
+RefusesPlan fault verdict = (output : Output)
     × (refusal (codes "plan") fault ≡ Some output)
     × (verdict.line.items ≡ output.text)
     × (verdict.cost ≡ None)
@@ -69,14 +70,14 @@ pub record Judges (p : Parts) (known : Option (List ℕ)) (result : Result Verdi
   -- of a plan whose bytes are known, it is the verdict on them
   pub output : (c : List ℕ) → known ≡ Some c → GivesVerdict p c result
   -- and of any plan, the verdict on the bytes that were read of it
-  pub taken : IsDecided result → (c : List ℕ) × IsFront known c × GivesVerdict p c result
+  pub taken : IsDecided result → (c : List ℕ) × KnownBeginsWith known c × GivesVerdict p c result
   pub writes : IfErr result (λ e. IsWrite e → ⊥)
 
 -- what is said of a plan is right for its bytes where they are known, and for those that were read
 pub record IsSaid (p : Parts) (known : Option (List ℕ)) (label : List ℕ) (judged : Judged)
     : Type 0 where
   pub output : (c : List ℕ) → known ≡ Some c → IsJudged p (label, c) judged
-  pub taken : (c : List ℕ) × IsFront known c × IsJudged p (label, c) judged
+  pub taken : (c : List ℕ) × KnownBeginsWith known c × IsJudged p (label, c) judged
 
 -- a fault of a plan is one of the plan with this number
 abbrev pub IsOfPlan : ℕ → JudgeFault → Type 0
@@ -90,7 +91,7 @@ pub record IsUnsaid (p : Parts) (number : ℕ) (known : Option (List ℕ)) (why 
   pub output : (c : List ℕ) → known ≡ Some c → tool_fault why ≡ fault.TooLong
       → VerdictOut VerdictAnswer p c None
   pub taken : tool_fault why ≡ fault.TooLong → (c : List ℕ)
-      × IsFront known c
+      × KnownBeginsWith known c
       × VerdictOut VerdictAnswer p c None
   pub reads : why ≢ judge_fault.Tool fault.Read
   pub writes : IsWrite (tool_fault why) → ⊥
@@ -198,9 +199,9 @@ summary_of labels tally =
 -- ---- all plans
 
 -- an answer is the output, and past the limit there is none
-abbrev pub Tells : (Option Output → Type 0) → Result Output JudgeFault → Type 0
-Tells Out (Ok output) = Out (Some output)
-Tells Out (Err why) = tool_fault why ≡ fault.TooLong → Out None
+abbrev pub IsAnswer : (Option Output → Type 0) → Result Output JudgeFault → Type 0
+IsAnswer Out (Ok output) = Out (Some output)
+IsAnswer Out (Err why) = tool_fault why ≡ fault.TooLong → Out None
 
 -- the answer that is at hand
 abbrev pub answer_told : Result Told JudgeFault → Result Output JudgeFault
@@ -217,10 +218,10 @@ answer_of text (Err why) = Err why
 pub record JudgesPlans (p : Parts) (known : ℕ → Option (List ℕ)) (labels : List (List ℕ))
     (result : Result Output JudgeFault) : Type 0 where
   pub output : (cs : List (List ℕ)) → HaveBytes known (length labels) cs
-      → Tells (PlansOut p (zip labels cs)) result
+      → IsAnswer (PlansOut p (zip labels cs)) result
   pub taken : IsDecided (tool_result result) → (cs : List (List ℕ))
       × WereRead known (length labels) cs
-      × Tells (PlansOut p (zip labels cs)) result
+      × IsAnswer (PlansOut p (zip labels cs)) result
   pub long : IfErr result (IsRightlyLong known)
   pub reads : IsErrOf result (judge_fault.Tool fault.Read) → ⊥
   pub writes : IfErr result (λ e. IsWrite (tool_fault e) → ⊥)
@@ -232,12 +233,12 @@ module _ {D : Type 0} (left : D → Option (List ℕ)) where
       (old new : Device D) (result : Result Output JudgeFault) : Type 0 where
     -- of inputs whose bytes are known, the answer is their output
     pub output : (b : List ℕ) (cs : List (List ℕ)) → left old.device ≡ Some b
-        → HaveBytes known (length labels) cs → Tells (JudgeOut labels b cs) result
+        → HaveBytes known (length labels) cs → IsAnswer (JudgeOut labels b cs) result
     -- and of any inputs, the output for the bytes that were read of them
     pub taken : IsDecided (tool_result result) → (b : List ℕ) × (cs : List (List ℕ))
         × Consumes (left old.device) (left new.device) b
         × WereRead known (length labels) cs
-        × Tells (JudgeOut labels b cs) result
+        × IsAnswer (JudgeOut labels b cs) result
     pub long : IfErr result (IsRightlyLong known)
     pub reads : IsErrOf result (judge_fault.Tool fault.Read) ↔ IsTrue new.failed
     pub writes : IfErr result (λ e. IsWrite (tool_fault e) → ⊥)

@@ -14,7 +14,7 @@ use Rattle.sas_reader.specs.declared.reader.Front.{Front}
 use Rattle.sas_reader.specs.Faults.{IsOfBytes}
 use Rattle.sas_reader.specs.Machine.{IsFront}
 use Rattle.sas_reader.specs.Found.{IsFoundOf}
-use Rattle.sas_reader.specs.Reader.{Reached, Accepted, LineIsDue, FaultBehind, TookFront, Stopped, Advances}
+use Rattle.sas_reader.specs.Reader.{Reached, Accepted, LineIsDue, FaultBehind, TookFront, Stopped, TakesFrontOrStops}
 use Rattle.sas_reader.proofs.Pieces.{takes_bound, front_of, lines_fed, unfinished_fed, reached_part, reached_line, due_first, due_wider, due_behind, fault_full, fault_over, fault_line, fault_wider, fault_behind}
 
 is_false : (b : Bool) → not b ≡ true → b ≡ false
@@ -194,15 +194,15 @@ module _ {M : Type 0} (led_by : List (List ℕ) → M → Type 0) (ended : M →
     memory = λ e bytes a. due_wider led_by ended old.limit bytes piece room (h.memory e bytes a);
   }
 
-  pub advances_wider : (old new : Reader M) (piece front : List ℕ) (room : ℕ) (r : Result ℕ Kind) → front ≡ take room piece → Advances led_by ended rejects halted old front new r → Advances led_by ended rejects halted old piece new r
+  pub advances_wider : (old new : Reader M) (piece front : List ℕ) (room : ℕ) (r : Result ℕ Kind) → front ≡ take room piece → TakesFrontOrStops led_by ended rejects halted old front new r → TakesFrontOrStops led_by ended rejects halted old piece new r
   advances_wider old new piece front room (Ok n) e h =
       record { took = took_wider old new piece room n (subst (λ (x : List ℕ). TookFront led_by ended rejects halted old new x n) e h.took); stopped = tt; fault = h.fault; limit = h.limit }
   advances_wider old new piece front room (Err k) e h =
       record { took = tt; stopped = stopped_wider old new piece room k (subst (λ (x : List ℕ). Stopped led_by ended rejects halted old new x k) e h.stopped); fault = h.fault; limit = h.limit }
 
   -- the error that is passed on when a step stops
-  pub advances_no_more : (old new : Reader M) (piece : List ℕ) (r : Result ℕ Kind) (k : Kind) → r ≡ Err k → Advances led_by ended rejects halted old piece new (Err k) → Advances led_by ended rejects halted old piece new r
-  advances_no_more old new piece r k e h = subst (λ (x : Result ℕ Kind). Advances led_by ended rejects halted old piece new x) (sym e) h
+  pub advances_no_more : (old new : Reader M) (piece : List ℕ) (r : Result ℕ Kind) (k : Kind) → r ≡ Err k → TakesFrontOrStops led_by ended rejects halted old piece new (Err k) → TakesFrontOrStops led_by ended rejects halted old piece new r
+  advances_no_more old new piece r k e h = subst (λ (x : Result ℕ Kind). TakesFrontOrStops led_by ended rejects halted old piece new x) (sym e) h
 
   -- ---- after a prefix of the piece that was taken
 

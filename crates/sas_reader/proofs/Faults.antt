@@ -7,7 +7,7 @@ use Rattle.sas_reader.specs.declared.fault.Fault.{Fault}
 use Rattle.sas_reader.specs.declared.fault.Kind.{Kind}
 use Rattle.sas_reader.specs.declared.fault.Kind.TheVariants.{End, Trailing, TooLong}
 use Rattle.sas_reader.specs.Format.{Format, Live, FaultOf, EndOf}
-use Rattle.sas_reader.specs.System.{Node, ended, before, Takes, OneLine, After, Grammar}
+use Rattle.sas_reader.specs.System.{Node, ended, before, IsAllowed, OneLine, After, Grammar}
 use Rattle.sas_reader.specs.Laws.{FaultlessIsLive, SomeReading}
 use Rattle.sas_reader.proofs.Live.{one_more, live, path_start, path_plain, path_line, fault_long, fault_done, fault_line, fault_stays}
 use Rattle.sas_reader.proofs.Paths.{Path}
@@ -33,13 +33,13 @@ module _ {T V I S : Type 0} (F : Format V I S) (Fits : I → Type 0) (node : T �
   no_fault : (limit : ℕ) (front : List ℕ) (x : ℕ) (rest : List ℕ) (k : Kind) → None limit (front ++ x ∷ rest) → FaultOf F limit (one_more front x) (fault_with front k) → ⊥
   no_fault limit front x rest k h d = h (fault_with front k) (subst (λ (b : List ℕ). FaultOf F limit b (fault_with front k)) (append_assoc front (x ∷ []) rest) (fault_stays F limit (one_more front x) rest (fault_with front k) d))
 
-  taken : (p : T) (s : S) (ok : I → Bool) (next : I → T) (i : I) → node p ≡ before s ok next → Takes F Fits s ok i → After F Fits node p (i ∷ []) (next i)
+  taken : (p : T) (s : S) (ok : I → Bool) (next : I → T) (i : I) → node p ≡ before s ok next → IsAllowed F Fits s ok i → After F Fits node p (i ∷ []) (next i)
   taken p s ok next i e t = subst (λ n. OneLine F Fits n i (λ r. r ≡ next i)) (sym e) (t, refl)
 
   line_goes : (limit : ℕ) (p : T) (s : S) (ok : I → Bool) (next : I → T) (front rest : List ℕ) → node p ≡ before s ok next → Path F Fits node start p front → length front + 1 ≤ limit → None limit (front ++ 10 ∷ rest)
       → ((q : T) → Path F Fits node start q (one_more front 10) → ⊥) → ⊥
   line_goes limit p s ok next front rest e h l none later =
-      let no : (i : I) → Takes F Fits s ok i → F.spelled i ≡ without_return (unfinished front) → ⊥ = λ i t w. later (next i) (path_line F Fits node start p (next i) front i h (taken p s ok next i e t) w) in
+      let no : (i : I) → IsAllowed F Fits s ok i → F.spelled i ≡ without_return (unfinished front) → ⊥ = λ i t w. later (next i) (path_line F Fits node start p (next i) front i h (taken p s ok next i e t) w) in
       g.some_kind s (without_return (unfinished front)) (λ k kind. no_fault limit front 10 rest k none (fault_line F Fits node start g limit p s ok next front (fault_with front k) e h (record { none = no; kind = kind }) l refl))
 
   byte_goes : (limit : ℕ) (p : T) (s : S) (ok : I → Bool) (next : I → T) (front : List ℕ) (x : ℕ) (rest : List ℕ) → node p ≡ before s ok next → Path F Fits node start p front → length front + 1 ≤ limit → None limit (front ++ x ∷ rest)

@@ -12,8 +12,8 @@ use Rattle.sas_reader.specs.declared.fault.Fault.{Fault}
 use Rattle.sas_reader.specs.declared.fault.Kind.{Kind}
 use Rattle.sas_reader.specs.declared.reader.Reader.{Reader}
 use Rattle.sas_reader.specs.declared.found.Found.{Found}
-use Rattle.sas_reader.specs.Found.{bytes_of, IsFoundOf, behind_ends}
-use Rattle.sas_reader.specs.Reader.{Reached, Accepted, LineIsDue, full, over, rejected, FaultBehind, TookFront, Stopped, Advances}
+use Rattle.sas_reader.specs.Found.{kept_bytes, IsFoundOf, behind_ends}
+use Rattle.sas_reader.specs.Reader.{Reached, Accepted, LineIsDue, full, over, rejected, FaultBehind, TookFront, Stopped, TakesFrontOrStops}
 use Rattle.sas_reader.specs.Returns.{without_returns}
 use Rattle.sas_reader.proofs.BehindEnds.{behind_front, no_end-without, no_lf}
 use Rattle.sas_reader.proofs.WithLfAlone.{EachEnds, lines_behind, rest_behind, nothing, return, FrontOf, front_of}
@@ -108,11 +108,11 @@ module _ {M : Type 0} (led_by : List (List ℕ) → M → Type 0) (ended : M →
       }
 
 module _ {M : Type 0} (led_by : List (List ℕ) → M → Type 0) (ended : M → Type 0) (rejects : M → List ℕ → Kind → Type 0) (halted : M → List ℕ → Kind → M → Type 0) where
-  module _ (limit : ℕ) (before bytes : List ℕ) (f : Fault) (now : M) (found told : Found) (n : ℕ) (whole : unfinished before ≡ []) (ends : EachEnds bytes) (room : length before + length bytes ≤ limit) (count : n ≡ f.line - (length (lines before) + 1)) (of_byte : bytes_of found ≡ 10 ∷ [] → IsFoundOf (take 1 (behind_ends n bytes)) told) (of_rest : (bytes_of found ≡ 10 ∷ [] → ⊥) → told ≡ found) where
+  module _ (limit : ℕ) (before bytes : List ℕ) (f : Fault) (now : M) (found told : Found) (n : ℕ) (whole : unfinished before ≡ []) (ends : EachEnds bytes) (room : length before + length bytes ≤ limit) (count : n ≡ f.line - (length (lines before) + 1)) (of_byte : kept_bytes found ≡ 10 ∷ [] → IsFoundOf (take 1 (behind_ends n bytes)) told) (of_rest : (kept_bytes found ≡ 10 ∷ [] → ⊥) → told ≡ found) where
     -- the byte after whole lines
     byte_told : (a : List ℕ) (byte : ℕ) (r : FrontOf bytes a byte) (x : ℕ) (more : List ℕ) → r.between ++ byte ∷ r.after ≡ x ∷ more → (byte ≢ 10 → x ≡ byte) → unfinished (before ++ a) ≡ [] → f.line ≡ length (lines (before ++ a)) + 1 → IsFoundOf (byte ∷ []) found → IsFoundOf (x ∷ []) told
     byte_told a byte r x more next same rest line is =
-        let one : bytes_of found ≡ byte ∷ [] = is.front ∙ take_all 64 (byte ∷ []) (omega arith) in
+        let one : kept_bytes found ≡ byte ∷ [] = is.front ∙ take_all 64 (byte ∷ []) (omega arith) in
         elim (cases_eq byte 10) [
           | inl lf ↦
               let none : unfinished r.front ≡ [] = ap (λ (l : List ℕ). unfinished (l ++ r.front)) (sym whole) ∙ sym (unfinished-append before r.front) ∙ front_rest bytes a byte r before whole ∙ rest in
@@ -121,7 +121,7 @@ module _ {M : Type 0} (led_by : List (List ℕ) → M → Type 0) (ended : M →
               let behind : behind_ends n bytes ≡ x ∷ more = ap (λ (k : ℕ). behind_ends k bytes) many ∙ ap (behind_ends (length (lines r.front))) (r.whole ∙ ap (λ (l : List ℕ). r.front ++ l) next) ∙ behind_front r.front (x ∷ more) none in
               subst (λ (l : List ℕ). IsFoundOf l told) (ap (take 1) behind) (of_byte (one ∙ ap (λ (y : ℕ). y ∷ []) lf))
           | inr ne ↦
-              let other : bytes_of found ≡ 10 ∷ [] → ⊥ = λ e. ne (ap (λ (l : List ℕ). get_or l 0 0) (sym one ∙ e)) in
+              let other : kept_bytes found ≡ 10 ∷ [] → ⊥ = λ e. ne (ap (λ (l : List ℕ). get_or l 0 0) (sym one ∙ e)) in
               subst (λ (y : ℕ). IsFoundOf (y ∷ []) told) (sym (same ne)) (subst (IsFoundOf (byte ∷ [])) (sym (of_rest other)) is)
         ]
 
@@ -153,7 +153,7 @@ module _ {M : Type 0} (led_by : List (List ℕ) → M → Type 0) (ended : M →
               let same = line_same bytes a byte r before whole lf in
               let more_lines : lines (before ++ front) ≡ lines (before ++ a) = same.0 in
               let line_is : without_return (unfinished (before ++ front)) ≡ line = same.1 in
-              let other : bytes_of found ≡ 10 ∷ [] → ⊥ = λ e. no_lf line (no_end-without (unfinished (before ++ a)) (unfinished-plain_all (before ++ a))) (sym is.front ∙ e) in
+              let other : kept_bytes found ≡ 10 ∷ [] → ⊥ = λ e. no_lf line (no_end-without (unfinished (before ++ a)) (unfinished-plain_all (before ++ a))) (sym is.front ∙ e) in
               record {
                 machine = h.machine;
                 front = front;
@@ -168,7 +168,7 @@ module _ {M : Type 0} (led_by : List (List ℕ) → M → Type 0) (ended : M →
 
   module _ (old new : Reader M) (bytes : List ℕ) (none : old.pending.pending ≡ []) (ends : EachEnds bytes) where
     pub stopped_plain : (mid : Reader M) (k : Kind) (n : ℕ) → old.taken + length bytes ≤ old.limit → Stopped led_by ended rejects halted old mid (without_returns bytes) k → new.machine ≡ mid.machine → new.lines ≡ mid.lines → n ≡ mid.lines - old.lines
-        → (bytes_of mid.found ≡ 10 ∷ [] → IsFoundOf (take 1 (behind_ends n bytes)) new.found) → ((bytes_of mid.found ≡ 10 ∷ [] → ⊥) → new.found ≡ mid.found) → Stopped led_by ended rejects halted old new bytes k
+        → (kept_bytes mid.found ≡ 10 ∷ [] → IsFoundOf (take 1 (behind_ends n bytes)) new.found) → ((kept_bytes mid.found ≡ 10 ∷ [] → ⊥) → new.found ≡ mid.found) → Stopped led_by ended rejects halted old new bytes k
     stopped_plain mid k n room h same_machine same_lines count of_byte of_rest = record {
       kind = h.kind;
       fault = λ ne before a.
@@ -239,6 +239,6 @@ module _ {M : Type 0} (led_by : List (List ℕ) → M → Type 0) (ended : M →
       memory = λ e bytes a. subst (λ (l : ℕ). LineIsDue led_by ended l bytes piece) first.limit (h.memory e bytes (accepted_alike old start first bytes a));
     }
 
-    pub advances_alike : (r : Result ℕ Kind) → Advances led_by ended rejects halted start piece mid r → Advances led_by ended rejects halted old piece new r
+    pub advances_alike : (r : Result ℕ Kind) → TakesFrontOrStops led_by ended rejects halted start piece mid r → TakesFrontOrStops led_by ended rejects halted old piece new r
     advances_alike (Ok n) h = record { took = took_alike n h.took; stopped = tt; fault = last.fault ∙ h.fault ∙ first.fault; limit = last.limit ∙ h.limit ∙ first.limit }
     advances_alike (Err k) h = record { took = tt; stopped = stopped_alike k h.stopped; fault = last.fault ∙ h.fault ∙ first.fault; limit = last.limit ∙ h.limit ∙ first.limit }

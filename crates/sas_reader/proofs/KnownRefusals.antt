@@ -8,8 +8,8 @@ use Rattle.sas_reader.specs.declared.found.Found.{Found}
 use Rattle.sas_reader.specs.Devices.{Refuses, unread_at, ended_at, faulty_at}
 use Rattle.sas_reader.specs.Format.{Format}
 use Rattle.sas_reader.specs.Limit.{most_bytes}
-use Rattle.sas_reader.specs.About.{IsTold, IsAbout, AboutLaws}
-use Rattle.sas_reader.specs.Refusals.{Explains, ReadsOrExplains}
+use Rattle.sas_reader.specs.About.{ConcernsText, IsAbout, AboutLaws}
+use Rattle.sas_reader.specs.Refusals.{ExplainsRefusal, ReadsOrExplains}
 use Rattle.sas_reader.proofs.Known.{front_read, all_read}
 
 known_about : {V I S : Type 0} (F : Format V I S) → AboutLaws F → (known new : Option (List ℕ)) (input bytes : List ℕ) (f : Fault) (a : List (List ℕ)) (t : List ℕ) → known ≡ Some input → Consumes known new bytes → Refuses F bytes (IsAtEnd new) f → f.kind ≢ kinds.Read → IsAbout F most_bytes bytes f a t → IsAbout F most_bytes input f a t
@@ -20,7 +20,7 @@ known_about F laws known new input bytes f a t e c (faulty_at h k) ne about =
     subst (λ (b : List ℕ). IsAbout F most_bytes b f a t) r.1 (laws.about_stays most_bytes bytes r.0 f a t h about)
 
 module _ {D V I S A R : Type 0} (left : D → Option (List ℕ)) (F : Format V I S) (fault : R → Fault) (found : R → Found) (Why : List (List ℕ) → List ℕ → R → Type 0) (Gives : List ℕ → A → Type 0) where
-  pub known_explained : (old new : Device D) (r : R) (input : List ℕ) → AboutLaws F → ReadsOrExplains F fault found Why left Gives old new (Err r) → left old.device ≡ Some input → IsTold (fault r).kind → Explains F fault found Why input r
+  pub known_explained : (old new : Device D) (r : R) (input : List ℕ) → AboutLaws F → ReadsOrExplains F fault found Why left Gives old new (Err r) → left old.device ≡ Some input → ConcernsText (fault r).kind → ExplainsRefusal F fault found Why input r
   known_explained old new r input laws h known told =
       let t = h.explained told in
       let e = t.3 in

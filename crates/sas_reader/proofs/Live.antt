@@ -8,7 +8,7 @@ use Rattle.sas_reader.specs.declared.fault.Fault.{Fault}
 use Rattle.sas_reader.specs.declared.fault.Kind.{Kind}
 use Rattle.sas_reader.specs.declared.fault.Kind.TheVariants.{End, Trailing, TooLong}
 use Rattle.sas_reader.specs.Format.{Format, lines_of, Reads, IsBegun, Live, Next, too_long, trailing, wrong, FaultOf, EndOf}
-use Rattle.sas_reader.specs.System.{Node, ended, before, OneLine, After, LeadsToEnd, Judged, Rejects, Leads, Grammar}
+use Rattle.sas_reader.specs.System.{Node, ended, before, OneLine, After, LeadsToEnd, IsRejected, Rejects, Leads, Grammar}
 use Rattle.sas_reader.proofs.Paths.{Path, cut_at, map-append, ended_stops, after_append, after_ends, ends_split, ends_after, same_path}
 
 -- one more byte
@@ -126,10 +126,10 @@ module _ {T V I S : Type 0} (F : Format V I S) (Fits : I → Type 0) (node : T �
       let b = begins p s ok next c.1 c.0 e c.2 in
       record { value = c.1; before = h.items; item = b.0; more = b.1; good = w.0; layout = sym w.1 ∙ ap (λ x. h.items ++ x) b.2; spells = h.spells; slot = b.3 }
 
-  pub line_dead : (limit : ℕ) (p : T) (s : S) (ok : I → Bool) (next : I → T) (bytes : List ℕ) (k : Kind) → node p ≡ before s ok next → Path F Fits node start p bytes → Judged F Fits s ok (without_return (unfinished bytes)) k → Live F limit (one_more bytes 10) → ⊥
+  pub line_dead : (limit : ℕ) (p : T) (s : S) (ok : I → Bool) (next : I → T) (bytes : List ℕ) (k : Kind) → node p ≡ before s ok next → Path F Fits node start p bytes → IsRejected F Fits s ok (without_return (unfinished bytes)) k → Live F limit (one_more bytes 10) → ⊥
   line_dead limit p s ok next bytes k e h j x = no_line p (lines bytes) (without_return (unfinished bytes)) h.leads (λ i is v a q. j.none i ((subst (λ n. OneLine F Fits n i (λ r. LeadsToEnd F Fits node r is v)) e a).0) q) (subst (IsBegun F) (lines-end bytes) x.begun)
 
-  pub fault_line : (limit : ℕ) (p : T) (s : S) (ok : I → Bool) (next : I → T) (bytes : List ℕ) (f : Fault) → node p ≡ before s ok next → Path F Fits node start p bytes → Judged F Fits s ok (without_return (unfinished bytes)) f.kind → length bytes + 1 ≤ limit → f.line ≡ length (lines bytes) + 1 → FaultOf F limit (one_more bytes 10) f
+  pub fault_line : (limit : ℕ) (p : T) (s : S) (ok : I → Bool) (next : I → T) (bytes : List ℕ) (f : Fault) → node p ≡ before s ok next → Path F Fits node start p bytes → IsRejected F Fits s ok (without_return (unfinished bytes)) f.kind → length bytes + 1 ≤ limit → f.line ≡ length (lines bytes) + 1 → FaultOf F limit (one_more bytes 10) f
   fault_line limit p s ok next bytes f e h j l n = record {
     before = bytes;
     byte = 10;
@@ -142,7 +142,7 @@ module _ {T V I S : Type 0} (F : Format V I S) (Fits : I → Type 0) (node : T �
   }
 
   -- a line that the node rejects
-  pub rejected_as : (n : Node T V I S) (line : List ℕ) (k : Kind) → Rejects F Fits n line k → (s : S) × (ok : I → Bool) × (next : I → T) × (n ≡ before s ok next) × Judged F Fits s ok line k
+  pub rejected_as : (n : Node T V I S) (line : List ℕ) (k : Kind) → Rejects F Fits n line k → (s : S) × (ok : I → Bool) × (next : I → T) × (n ≡ before s ok next) × IsRejected F Fits s ok line k
   rejected_as (ended v) line k r = absurd r
   rejected_as (before s ok next) line k r = (s, ok, next, refl, r)
 

@@ -2,7 +2,7 @@
 use Rattle.std.proofs.Common.{◌≡◌, ℕ, Bool, List, [], ◌∷◌, ◌++◌, map, refl, sym, ap, subst, ◌∙◌}
 use Rattle.sas_reader.specs.Format.{Format}
 use Rattle.sas_lines.specs.Lines.{lines, unfinished}
-use Rattle.sas_reader.specs.System.{Node, ended, before, Takes, OneLine, After, LeadsToEnd, Leads, Grammar}
+use Rattle.sas_reader.specs.System.{Node, ended, before, IsAllowed, OneLine, After, LeadsToEnd, Leads, Grammar}
 
 -- ---- the lines of a list, cut after a prefix
 
@@ -86,7 +86,7 @@ module _ {T V I S : Type 0} (F : Format V I S) (Fits : I → Type 0) where
       (t.0, step_to (node p) i s.0 (λ x. After F Fits node x is t.0) s.1 t.1, t.2)
 
 module _ {T V I S : Type 0} (F : Format V I S) (Fits : I → Type 0) (node : T → Node T V I S) (start : T) (g : Grammar F Fits node start) where
-  same_taken : (s : S) (ok : I → Bool) (i j : I) → Takes F Fits s ok i → Takes F Fits s ok j → F.spelled i ≡ F.spelled j → i ≡ j
+  same_taken : (s : S) (ok : I → Bool) (i j : I) → IsAllowed F Fits s ok i → IsAllowed F Fits s ok j → F.spelled i ≡ F.spelled j → i ≡ j
   same_taken s ok i j t u e = g.one_item i j (t.slot ∙ sym u.slot) t.fits u.fits e
 
   step_same : (n : Node T V I S) (i j : I) (K L : T → Type 0) → OneLine F Fits n i K → OneLine F Fits n j L → F.spelled i ≡ F.spelled j → (i ≡ j) × (r : T) × K r × L r

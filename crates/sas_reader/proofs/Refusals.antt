@@ -8,13 +8,13 @@ use Rattle.sas_reader.specs.declared.fault.Fault.{Fault}
 use Rattle.sas_reader.specs.declared.fault.Kind.{Kind}
 use Rattle.sas_reader.specs.declared.found.Found.{Found}
 use Rattle.sas_reader.specs.declared.reader.Refused.{Refused}
-use Rattle.sas_reader.specs.About.{IsTold, IsAbout, of_line, of_byte, of_end}
+use Rattle.sas_reader.specs.About.{ConcernsText, IsAbout, of_line, of_byte, of_end}
 use Rattle.sas_reader.specs.Devices.{Refuses, ReadsAll}
 use Rattle.sas_reader.specs.Format.{Format, Live, trailing, wrong, FaultOf}
 use Rattle.sas_reader.specs.Found.{IsFoundOf}
 use Rattle.sas_reader.specs.Limit.{most_bytes}
 use Rattle.sas_reader.specs.Reader.{Reached, Stops, full, over, rejected, FaultIn, EndsEarly, IsRefused, ReadFails, unread, early, faulty, FeedsMachine}
-use Rattle.sas_reader.specs.Refusals.{Explains, ReadsOrExplains, StandsBehind, behind_line, behind_text, at_end}
+use Rattle.sas_reader.specs.Refusals.{ExplainsRefusal, ReadsOrExplains, StandsBehind, behind_line, behind_text, at_end}
 use Rattle.sas_reader.specs.System.{Node, Grammar}
 use Rattle.sas_reader.proofs.Conversion.{Follows, At, at, path_of, end_of_format, device_refusal}
 use Rattle.sas_reader.proofs.Live.{live, done_dead, line_dead, rejected_as, next_slot, reads_done}
@@ -32,7 +32,7 @@ module _ {T V I S M : Type 0} (F : Format V I S) (Fits : I → Type 0) (node : T
   abbrev go_on : (m : M) (bytes : List ℕ) → Reached led_by Ended m bytes → At F Fits node start Ended rejects (lines bytes) m
   go_on m bytes h = at F Fits node start g led_by Ended rejects follows m bytes h
 
-  fault_told : (limit : ℕ) (bytes : List ℕ) (f : Fault) (now : M) (found : Found) → IsTold f.kind → (h : FaultIn led_by Ended rejects halted limit bytes f now found) → Stops led_by Ended rejects halted limit h.machine h.before h.byte f.kind now found → Told limit bytes f now found
+  fault_told : (limit : ℕ) (bytes : List ℕ) (f : Fault) (now : M) (found : Found) → ConcernsText f.kind → (h : FaultIn led_by Ended rejects halted limit bytes f now found) → Stops led_by Ended rejects halted limit h.machine h.before h.byte f.kind now found → Told limit bytes f now found
   fault_told limit bytes f now found told h (full l k) = absurd (told.1 k)
   fault_told limit bytes f now found told h (over l d k stays is) =
       let a = go_on h.machine h.before h.reached in
@@ -74,11 +74,11 @@ module _ {T V I S M : Type 0} (F : Format V I S) (Fits : I → Type 0) (node : T
     stands = at_end h.reached.led h.open_still h.kind;
   }
 
-  pub told_by : (limit : ℕ) (bytes : List ℕ) (r : Refused M) → IsTold r.fault.kind → IsRefused led_by Ended rejects halted limit bytes r → Told limit bytes r.fault r.machine r.found
+  pub told_by : (limit : ℕ) (bytes : List ℕ) (r : Refused M) → ConcernsText r.fault.kind → IsRefused led_by Ended rejects halted limit bytes r → Told limit bytes r.fault r.machine r.found
   told_by limit bytes r told (inl h) = fault_told limit bytes r.fault r.machine r.found told h h.stops
   told_by limit bytes r told (inr h) = end_told limit bytes r.fault r.machine r.found h
 
-  device_told : (bytes : List ℕ) (End : Type 0) (r : Refused M) → IsTold r.fault.kind → ReadFails led_by Ended rejects halted most_bytes bytes End r → Told most_bytes bytes r.fault r.machine r.found
+  device_told : (bytes : List ℕ) (End : Type 0) (r : Refused M) → ConcernsText r.fault.kind → ReadFails led_by Ended rejects halted most_bytes bytes End r → Told most_bytes bytes r.fault r.machine r.found
   device_told bytes End r told (unread m h l n k) = absurd (told.0 k)
   device_told bytes End r told (early e h) = told_by most_bytes bytes r told (inr h)
   device_told bytes End r told (faulty h ne) = told_by most_bytes bytes r told (inl h)
@@ -87,7 +87,7 @@ module _ {T V I S M : Type 0} (F : Format V I S) (Fits : I → Type 0) (node : T
 
   module _ {X : Type 0} (fault : X → Fault) (found : X → Found) (Why : List (List ℕ) → List ℕ → X → Type 0) (r : Refused M) (x : X) (same : fault x ≡ r.fault) (same_found : found x ≡ r.found)
       (why : (a : List (List ℕ)) (t : List ℕ) → StandsBehind led_by Ended rejects halted a t r.fault.kind r.machine → Why a t x) where
-    pub explains : (bytes : List ℕ) → Told most_bytes bytes r.fault r.machine r.found → Explains F fault found Why bytes x
+    pub explains : (bytes : List ℕ) → Told most_bytes bytes r.fault r.machine r.found → ExplainsRefusal F fault found Why bytes x
     explains bytes w = record {
       accepted = w.accepted;
       text = w.text;
@@ -100,7 +100,7 @@ module _ {T V I S M : Type 0} (F : Format V I S) (Fits : I → Type 0) (node : T
     refuses_explained left Gives old new h = record {
       plain = subst (λ (f : Fault). ReadsAll left F Gives old new (Err f)) (sym same) (refuses_all F Fits node start g led_by Ended rejects halted follows left Gives old new r h);
       explained = λ is_told.
-          let told : IsTold r.fault.kind = subst (λ (f : Fault). IsTold f.kind) same is_told in
+          let told : ConcernsText r.fault.kind = subst (λ (f : Fault). ConcernsText f.kind) same is_told in
           let t = h.refused told.2 in
           let End = IsAtEnd (left new.device) in (
             t.0,

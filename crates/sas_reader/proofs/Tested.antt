@@ -6,7 +6,7 @@ use Rattle.sas_lines.specs.Progress.{Progress}
 use Rattle.sas_reader.specs.declared.fault.Kind.{Kind}
 use Rattle.sas_reader.specs.declared.fault.Kind.TheVariants as kinds
 use Rattle.sas_reader.specs.declared.reader.Reader.{Reader}
-use Rattle.sas_reader.specs.Reader.{Reached, Accepted, TookFront, Advances}
+use Rattle.sas_reader.specs.Reader.{Reached, Accepted, TookFront, TakesFrontOrStops}
 use Rattle.sas_reader.proofs.Advancing.{stopped_memory}
 
 -- a list that was tested for emptiness
@@ -34,7 +34,7 @@ memory_is (Err x) e m is = is ∙ m
 module _ {M : Type 0} (led_by : List (List ℕ) → M → Type 0) (ended : M → Type 0) (rejects : M → List ℕ → Kind → Type 0) (halted : M → List ℕ → Kind → M → Type 0) where
   -- the reader is out of memory while a line is expected
   pub advances_refused : (old new : Reader M) (piece : List ℕ) (r : Result ℕ Kind) → IsErr r → IsErrAnd r (λ k. k ≡ kinds.Memory) → 0 < length piece → (ended old.machine → ⊥) → old.taken < old.limit
-      → new.fault ≡ old.fault → new.limit ≡ old.limit → Advances led_by ended rejects halted old piece new r
+      → new.fault ≡ old.fault → new.limit ≡ old.limit → TakesFrontOrStops led_by ended rejects halted old piece new r
   advances_refused old new piece (Ok n) is k some going room fault limit = absurd (false≢true is)
   advances_refused old new piece (Err e) is k some going room fault limit = record {
     took = tt;

@@ -7,8 +7,8 @@ use Rattle.sas_reader.specs.declared.fault.Kind.TheVariants as kinds
 use Rattle.sas_reader.specs.Format.{Format, Reads, Next, FaultOf, EndOf}
 
 -- faults of this kind have a text; those of the kinds `Read`, `TooLong` and `Memory` have none
-abbrev pub IsTold : Kind → Type 0
-IsTold k = (k ≢ kinds.Read) × (k ≢ kinds.TooLong) × (k ≢ kinds.Memory)
+abbrev pub ConcernsText : Kind → Type 0
+ConcernsText k = (k ≢ kinds.Read) × (k ≢ kinds.TooLong) × (k ≢ kinds.Memory)
 
 module _ {V I S : Type 0} (F : Format V I S) where
   -- what the fault of these bytes is about
@@ -33,7 +33,7 @@ module _ {V I S : Type 0} (F : Format V I S) where
       → IsAbout limit bytes f a t → IsAbout limit bytes f b u → (a ≡ b) × (t ≡ u)
 
   abbrev pub SomeAbout : Type 0
-  SomeAbout = (limit : ℕ) (bytes : List ℕ) (f : Fault) → IsTold f.kind
+  SomeAbout = (limit : ℕ) (bytes : List ℕ) (f : Fault) → ConcernsText f.kind
       → FaultOf F limit bytes f ⊎ EndOf F limit bytes f
       → (a : List (List ℕ)) × (t : List ℕ) × IsAbout limit bytes f a t
 

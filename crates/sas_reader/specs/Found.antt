@@ -3,12 +3,12 @@ use Rattle.std.specs.Prelude.{◌≡◌, ◌<◌, ◌-◌, ◌↔◌, ◌==◌, 
 use Rattle.sas_reader.specs.declared.found.Found.{Found}
 
 -- the bytes that are kept
-abbrev pub bytes_of : Found → List ℕ
-bytes_of found = take found.count found.bytes
+abbrev pub kept_bytes : Found → List ℕ
+kept_bytes found = take found.count found.bytes
 
 -- the text is kept as its first 64 bytes, and whether it has more
 pub record IsFoundOf (text : List ℕ) (found : Found) : Type 0 where
-  pub front : bytes_of found ≡ take 64 text
+  pub front : kept_bytes found ≡ take 64 text
   pub longer : IsTrue found.more ↔ (64 < length text)
 
 -- what follows the first n LFs of the bytes

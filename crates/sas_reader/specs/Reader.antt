@@ -140,7 +140,7 @@ module _ {M : Type 0} (led_by : List (List ℕ) → M → Type 0) (ended : M →
         → LineIsDue led_by ended old.limit bytes piece
 
   -- the promise of a step of a reader: it took this many bytes of the piece, or stopped
-  pub record Advances (old : Reader M) (piece : List ℕ) (new : Reader M)
+  pub record TakesFrontOrStops (old : Reader M) (piece : List ℕ) (new : Reader M)
       (result : Result ℕ Kind) : Type 0 where
     pub took : IfOk result (λ n. TookFront old new piece n)
     pub stopped : IfErr result (λ k. Stopped old new piece k)

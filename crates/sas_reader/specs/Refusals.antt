@@ -8,7 +8,7 @@ use Rattle.sas_reader.specs.declared.fault.Fault.{Fault}
 use Rattle.sas_reader.specs.declared.fault.Kind.{Kind}
 use Rattle.sas_reader.specs.declared.fault.Kind.TheVariants as kinds
 use Rattle.sas_reader.specs.declared.found.Found.{Found}
-use Rattle.sas_reader.specs.About.{IsTold, IsAbout}
+use Rattle.sas_reader.specs.About.{ConcernsText, IsAbout}
 use Rattle.sas_reader.specs.Devices.{Refuses, WasRead, ReadsAll}
 use Rattle.sas_reader.specs.Format.{Format}
 use Rattle.sas_reader.specs.Found.{IsFoundOf}
@@ -24,7 +24,7 @@ by_fault fault (Err r) = Err (fault r)
 module _ {V I S R : Type 0} (F : Format V I S) (fault : R → Fault) (found : R → Found)
     (Why : List (List ℕ) → List ℕ → R → Type 0) where
   -- the refusal has the text at its fault of these bytes, and what follows from it
-  pub record Explains (bytes : List ℕ) (r : R) : Type 0 where
+  pub record ExplainsRefusal (bytes : List ℕ) (r : R) : Type 0 where
     pub accepted : List (List ℕ)
     pub text : List ℕ
     pub about : IsAbout F most_bytes bytes (fault r) accepted text
@@ -36,10 +36,10 @@ module _ {V I S R : Type 0} (F : Format V I S) (fault : R → Fault) (found : R 
     -- bytes, unless a read failed, the bytes are too long, or memory ran out.
     pub record ReadsOrExplains (old new : Device D) (result : Result A R) : Type 0 where
       pub plain : ReadsAll left F Gives old new (by_fault fault result)
-      pub explained : IfErr result (λ r. IsTold (fault r).kind → (bytes : List ℕ)
+      pub explained : IfErr result (λ r. ConcernsText (fault r).kind → (bytes : List ℕ)
           × WasRead left old new bytes
           × Refuses F bytes (IsAtEnd (left new.device)) (fault r)
-          × Explains bytes r)
+          × ExplainsRefusal bytes r)
 
 -- A machine M is led by the lines that it accepts, may have ended, rejects lines, and is in some
 -- state after it refused one.

@@ -18,26 +18,26 @@ IsPlain line = AllByRecursion (λ b. (b ≢ 10) × (b ≢ 13)) line
 -- `Fits` holds for a line whose numbers can all be spelled in the format.
 module _ {V I S : Type 0} (F : Format V I S) (Fits : I → Type 0) where
   -- the line may stand at a slot under a test
-  pub record Takes (s : S) (ok : I → Bool) (i : I) : Type 0 where
+  pub record IsAllowed (s : S) (ok : I → Bool) (i : I) : Type 0 where
     pub slot : F.slot_of i ≡ s
     pub fits : Fits i
     pub good : IsTrue (ok i)
 
   -- no such line may stand here, and this is the kind of its fault
-  pub record Judged (s : S) (ok : I → Bool) (line : List ℕ) (k : Kind) : Type 0 where
-    pub none : (i : I) → Takes s ok i → F.spelled i ≡ line → ⊥
+  pub record IsRejected (s : S) (ok : I → Bool) (line : List ℕ) (k : Kind) : Type 0 where
+    pub none : (i : I) → IsAllowed s ok i → F.spelled i ≡ line → ⊥
     pub kind : F.KindOf s line k
 
 module _ {T V I S : Type 0} (F : Format V I S) (Fits : I → Type 0) where
   -- the node takes the line, and `Then` holds for the next state
   abbrev pub OneLine : Node T V I S → I → (T → Type 0) → Type 0
   OneLine (ended v) i Then = ⊥
-  OneLine (before s ok next) i Then = Takes F Fits s ok i × Then (next i)
+  OneLine (before s ok next) i Then = IsAllowed F Fits s ok i × Then (next i)
 
   -- the node takes no such line, and this is the kind of its fault
   abbrev pub Rejects : Node T V I S → List ℕ → Kind → Type 0
   Rejects (ended v) line k = ⊥
-  Rejects (before s ok next) line k = Judged F Fits s ok line k
+  Rejects (before s ok next) line k = IsRejected F Fits s ok line k
 
   -- these lines lead from p to q
   abbrev pub After : (T → Node T V I S) → T → List I → T → Type 0

@@ -1,6 +1,6 @@
 // The text at a fault: the first bytes of a wrong line, of what follows a whole text, or of an unfinished last line.
 ghost use Rattle.std.specs.Prelude.{◌≡◌, [], ◌∷◌, take};
-ghost use Rattle.sas_reader.specs.Found.{bytes_of, IsFoundOf, behind_ends};
+ghost use Rattle.sas_reader.specs.Found.{kept_bytes, IsFoundOf, behind_ends};
 
 /// How many bytes of the text at a fault are kept, at most.
 pub const FOUND: usize = 64;
@@ -39,7 +39,7 @@ impl Found {
 
     /// Returns the bytes that are kept.
     pub fn bytes(&self) -> &[u8]
-        ensures { result.now ≡ bytes_of self.now }
+        ensures { result.now ≡ kept_bytes self.now }
     {
         &self.bytes[..self.count.min(FOUND)]
     }
@@ -73,9 +73,9 @@ fn byte_behind(bytes: &[u8], ends: u64) -> &[u8]
 #[cold]
 #[inline(never)]
 pub(crate) fn as_it_stood(found: Found, bytes: &[u8], lines: u64) -> Found
-    ensures byte { bytes_of found ≡ 10 ∷ []
+    ensures byte { kept_bytes found ≡ 10 ∷ []
         → IsFoundOf (take 1 (behind_ends lines bytes.now)) result }
-    ensures same { (bytes_of found ≡ 10 ∷ [] → ⊥) → result ≡ found }
+    ensures same { (kept_bytes found ≡ 10 ∷ [] → ⊥) → result ≡ found }
 {
     if found.bytes() == b"\n".as_slice() {
         return Found::of(byte_behind(bytes, lines));

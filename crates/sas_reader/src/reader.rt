@@ -128,7 +128,7 @@ pub struct Reader<M> {
 
 impl<M: Machine> Reader<M> {
     ghost use Rattle.sas_reader.specs.Found.{IsFoundOf};
-    ghost use Rattle.sas_reader.specs.Reader.{Stands, Advances, TakesPiece, ReachesEnd};
+    ghost use Rattle.sas_reader.specs.Reader.{Stands, TakesFrontOrStops, TakesPiece, ReachesEnd};
 
     /// Returns a reader that has read nothing yet and refuses more than `limit` bytes.
     pub fn new(alloc: Global, machine: M, limit: u64) -> Self
@@ -157,7 +157,7 @@ impl<M: Machine> Reader<M> {
         requires some { 0 < length piece.now }
         requires room { self.old.taken + length piece.now ≤ self.old.limit }
         requires going { M.ended self.old.machine → ⊥ }
-        ensures advances { Advances M.led_by M.ended M.rejects M.stopped
+        ensures advances { TakesFrontOrStops M.led_by M.ended M.rejects M.stopped
             self.old piece.now self.new result }
         ensures some { IfOk result (λ n. 0 < n) }
     {
@@ -190,7 +190,7 @@ impl<M: Machine> Reader<M> {
     /// Takes the bytes up to and including the first LF, or all bytes if there is no LF, within the limit. Returns how many bytes it took.
     fn take_line(&mut self, piece: &[u8]) -> Result<usize, Kind>
         requires some { 0 < length piece.now }
-        ensures advances { Advances M.led_by M.ended M.rejects M.stopped
+        ensures advances { TakesFrontOrStops M.led_by M.ended M.rejects M.stopped
             self.old piece.now self.new result }
         ensures some { IfOk result (λ n. 0 < n) }
     {
@@ -227,7 +227,7 @@ impl<M: Machine> Reader<M> {
         requires some { 0 < length piece.now }
         requires room { self.old.taken + length piece.now ≤ self.old.limit }
         requires whole { self.old.pending.pending ≡ [] }
-        ensures advances { Advances M.led_by M.ended M.rejects M.stopped
+        ensures advances { TakesFrontOrStops M.led_by M.ended M.rejects M.stopped
             self.old piece.now self.new result }
         ensures pending { self.new.pending ≡ self.old.pending }
     {
@@ -245,7 +245,7 @@ impl<M: Machine> Reader<M> {
 
     /// Takes lines ahead, as many as the machine and the limit allow. Returns how many bytes it took.
     fn go_ahead(&mut self, piece: &[u8]) -> Result<usize, Kind>
-        ensures { Advances M.led_by M.ended M.rejects M.stopped
+        ensures { TakesFrontOrStops M.led_by M.ended M.rejects M.stopped
             self.old piece.now self.new result }
     {
         if !self.pending.pending().is_empty() {
@@ -266,7 +266,7 @@ impl<M: Machine> Reader<M> {
     /// Takes the lines that can be taken ahead, and then the bytes up to and including the next LF. Returns how many bytes it took.
     fn advance(&mut self, piece: &[u8]) -> Result<usize, Kind>
         requires some { 0 < length piece.now }
-        ensures advances { Advances M.led_by M.ended M.rejects M.stopped
+        ensures advances { TakesFrontOrStops M.led_by M.ended M.rejects M.stopped
             self.old piece.now self.new result }
         ensures some { IfOk result (λ n. 0 < n) }
     {
@@ -280,7 +280,7 @@ impl<M: Machine> Reader<M> {
     /// Takes all of the bytes.
     #[inline(always)]
     fn run(&mut self, bytes: &[u8]) -> Result<usize, Kind>
-        ensures advances { Advances M.led_by M.ended M.rejects M.stopped
+        ensures advances { TakesFrontOrStops M.led_by M.ended M.rejects M.stopped
             self.old bytes.now self.new result }
         ensures all { IfOk result (λ n. n ≡ length bytes.now) }
     {
@@ -294,7 +294,7 @@ impl<M: Machine> Reader<M> {
     /// If a line has begun, takes the bytes up to and including the first LF, or all bytes if there is no LF. Returns how many bytes it
     /// took.
     fn end_line(&mut self, piece: &[u8]) -> Result<usize, Kind>
-        ensures { Advances M.led_by M.ended M.rejects M.stopped
+        ensures { TakesFrontOrStops M.led_by M.ended M.rejects M.stopped
             self.old piece.now self.new result }
     {
         if piece.is_empty() || self.pending.pending().is_empty() {
@@ -307,7 +307,7 @@ impl<M: Machine> Reader<M> {
     /// copy. Leaves a CR at the end of the piece, since LF may come next. Returns how many bytes of the piece it took, which is 0 for any
     /// other piece.
     fn run_copy(&mut self, piece: &[u8], plain: &mut Vec<u8>) -> Result<usize, Kind>
-        ensures { Advances M.led_by M.ended M.rejects M.stopped
+        ensures { TakesFrontOrStops M.led_by M.ended M.rejects M.stopped
             self.old piece.now self.new result }
     {
         if !self.pending.pending().is_empty()
@@ -336,7 +336,7 @@ impl<M: Machine> Reader<M> {
     /// Calls `run_copy` with the reader's memory for the copy. It isn't inlined, so that the code for lines with LF stays small.
     #[inline(never)]
     fn run_with_lf_alone(&mut self, piece: &[u8]) -> Result<usize, Kind>
-        ensures { Advances M.led_by M.ended M.rejects M.stopped
+        ensures { TakesFrontOrStops M.led_by M.ended M.rejects M.stopped
             self.old piece.now self.new result }
     {
         let mut plain = mem::replace(&mut self.plain, Vec::new(self.alloc));
@@ -347,7 +347,7 @@ impl<M: Machine> Reader<M> {
 
     /// Takes all of the piece.
     fn take_piece(&mut self, piece: &[u8]) -> Result<usize, Kind>
-        ensures advances { Advances M.led_by M.ended M.rejects M.stopped
+        ensures advances { TakesFrontOrStops M.led_by M.ended M.rejects M.stopped
             self.old piece.now self.new result }
         ensures all { IfOk result (λ n. n ≡ length piece.now) }
     {

@@ -16,7 +16,7 @@ use Rattle.sas_meaning.proofs.Rules.{new_value_is}
 use Rattle.sas_meaning.proofs.Unique.{differs_tells}
 use Rattle.sas_meaning.proofs.Forced.{differs_true}
 use Rattle.sas_reasons.specs.Lowest.{IsLowest}
-use Rattle.sas_reasons.specs.Derivation.{fires_with, reached, IsRank, Stands, FiresNext, IsGivenBy, RestsOn, Itself, Below, IsLess, ComesBefore}
+use Rattle.sas_reasons.specs.Derivation.{fires_with, reached, IsRank, HasLayerAndRank, FiresNext, IsGivenBy, DependsOn, Itself, Below, IsLess, ComesBefore}
 use Rattle.sas_reasons.specs.Laws.{RankIfDiffers, OneRank, SomeGiver, OneGiver, GiverFires, AsksLower, AsksEarlier, GiverLooksDown, ItselfIsLast, NoCircle, AllDiffer}
 use Rattle.sas_reasons.proofs.Lowest.{lowest_is_one, lowest_below, lowest_from}
 use Rattle.sas_reasons.proofs.Rounds.{Fires, fires_decides, ReachedBy, reached_by, more_hold, reached_differs, differs_reached}
@@ -50,7 +50,7 @@ pub one_rank : OneRank
 one_rank p s layer var a b x y = lowest_is_one (λ k. reached p layer s k var ≡ true) a b x y
 
 -- its layer and its rank are one
-pub stands_one : (p : Parts) (s : List ℕ) (var layer rank layer' rank' : ℕ) → Stands p s var layer rank → Stands p s var layer' rank'
+pub stands_one : (p : Parts) (s : List ℕ) (var layer rank layer' rank' : ℕ) → HasLayerAndRank p s var layer rank → HasLayerAndRank p s var layer' rank'
     → (layer ≡ layer') × (rank ≡ rank')
 stands_one p s var layer rank layer' rank' x y =
     let e = one_layer p var layer layer' x.on y.on in
@@ -68,7 +68,7 @@ fires_next_or_not p s var layer rounds rule = elim (cases_lt rule (length p.rule
 ]
 
 -- a variable with a rank isn't reached in 0 rounds, and a rule gives it its value
-pub giver_at : (p : Parts) (s : List ℕ) (var layer rank : ℕ) → Stands p s var layer rank → (rule : ℕ) × IsGivenBy p s var rule
+pub giver_at : (p : Parts) (s : List ℕ) (var layer rank : ℕ) → HasLayerAndRank p s var layer rank → (rule : ℕ) × IsGivenBy p s var rule
 giver_at p s var layer zero stands = absurd (false≢true stands.ranked.has)
 giver_at p s var layer (suc before) stands = from (reached_by p layer s before var stands.ranked.has)
   where
@@ -89,7 +89,7 @@ giver_at p s var layer (suc before) stands = from (reached_by p layer s before v
           record {
             layer = layer;
             before = before;
-            stands = subst (λ k. Stands p s var layer k) (let e : suc before ≡ before + 1 = omega arith in e) stands;
+            stands = subst (λ k. HasLayerAndRank p s var layer k) (let e : suc before ≡ before + 1 = omega arith in e) stands;
             lowest = w.1;
           },
         )
@@ -203,7 +203,7 @@ module _ (p : Parts) (s : List ℕ) (layered : IsLayered p) (settled : IsSettled
 
     -- the variables on which the rule rests come before the variable, and differ from their
     -- defaults
-    pub rests_on_earlier : (other : ℕ) → RestsOn p rule other → ComesBefore p s other var
+    pub rests_on_earlier : (other : ℕ) → DependsOn p rule other → ComesBefore p s other var
     rests_on_earlier other rests =
         at (All-contains (λ (c : Fact). IsBasic p c.var ⊎ (AsksLower p var c ⊎ AsksEarlier p s var c)) (rule_at p rule).conditions rests.condition looks_down rests.among)
       where

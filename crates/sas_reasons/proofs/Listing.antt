@@ -12,7 +12,7 @@ use Rattle.sas_core.specs.Variables.{layer_of, IsDerived}
 use Rattle.sas_meaning.specs.Layers.{default_of, IsLayered}
 use Rattle.sas_meaning.specs.Settled.{IsSettled}
 use Rattle.sas_meaning.proofs.Members.{contains_head, contains_tail, contains_cases, contains_none}
-use Rattle.sas_reasons.specs.Derivation.{Stands, IsGivenBy, RestsOn, InDerivation, Itself, Below, IsLess, ComesBefore, IsRuleOf, IsDerivation}
+use Rattle.sas_reasons.specs.Derivation.{HasLayerAndRank, IsGivenBy, DependsOn, InDerivation, Itself, Below, IsLess, ComesBefore, IsRuleOf, IsDerivation}
 use Rattle.sas_reasons.specs.Laws.{SomeDerivation}
 use Rattle.sas_reasons.proofs.Derivation.{stands_one, giver_at, giver_on, one_giver, rests_on_earlier, rank_if_differs}
 use Rattle.sas_reasons.proofs.Sorting.{Sorted, sorted}
@@ -20,11 +20,11 @@ use Rattle.sas_reasons.proofs.Sorting.{Sorted, sorted}
 -- ---- the order allows induction
 
 module _ (p : Parts) (s : List ℕ) (Good : ℕ → Type 0)
-    (step : (var layer rank : ℕ) → Stands p s var layer rank → ((other : ℕ) → ComesBefore p s other var → Good other) → Good var) where
+    (step : (var layer rank : ℕ) → HasLayerAndRank p s var layer rank → ((other : ℕ) → ComesBefore p s other var → Good other) → Good var) where
   -- the variables of this layer and rank, if those of lower ranks and layers are good
   numbers : (layer rank : ℕ)
-      → ((other layer' rank' : ℕ) → (layer' < layer) ⊎ ((layer' ≡ layer) × (rank' < rank)) → Stands p s other layer' rank' → Good other)
-      → (k var : ℕ) → var < k → Stands p s var layer rank → Good var
+      → ((other layer' rank' : ℕ) → (layer' < layer) ⊎ ((layer' ≡ layer) × (rank' < rank)) → HasLayerAndRank p s other layer' rank' → Good other)
+      → (k var : ℕ) → var < k → HasLayerAndRank p s var layer rank → Good var
   numbers layer rank below zero var lt stands = absurd (omega arith)
   numbers layer rank below (suc k) var lt stands = step var layer rank stands (λ other before.
       let e = stands_one p s var before.layer' before.rank' layer rank before.stands' stands in
@@ -33,29 +33,29 @@ module _ (p : Parts) (s : List ℕ) (Good : ℕ → Type 0)
       (subst (λ l. IsLess before.layer before.rank other l before.rank' var) e.0 before.less))
       (λ lt' stands'. numbers layer rank below k other (omega arith) stands'))
     where
-      at : (other layer' rank' : ℕ) → Stands p s other layer' rank' → IsLess layer' rank' other layer rank var
-          → (other < var → Stands p s other layer rank → Good other) → Good other
+      at : (other layer' rank' : ℕ) → HasLayerAndRank p s other layer' rank' → IsLess layer' rank' other layer rank var
+          → (other < var → HasLayerAndRank p s other layer rank → Good other) → Good other
       at other layer' rank' stands' (inl lt') rest = below other layer' rank' (inl lt') stands'
       at other layer' rank' stands' (inr w) rest = elim w.1 [
         | inl lt' ↦ below other layer' rank' (inr (w.0, lt')) stands'
-        | inr v ↦ rest v.1 (subst (λ r. Stands p s other layer r) v.0 (subst (λ l. Stands p s other l rank') w.0 stands'))
+        | inr v ↦ rest v.1 (subst (λ r. HasLayerAndRank p s other layer r) v.0 (subst (λ l. HasLayerAndRank p s other l rank') w.0 stands'))
       ]
 
   -- the variables of this layer, if those of lower layers are good
-  ranks : (layer : ℕ) → ((other layer' rank' : ℕ) → layer' < layer → Stands p s other layer' rank' → Good other)
-      → (m var rank : ℕ) → rank < m → Stands p s var layer rank → Good var
+  ranks : (layer : ℕ) → ((other layer' rank' : ℕ) → layer' < layer → HasLayerAndRank p s other layer' rank' → Good other)
+      → (m var rank : ℕ) → rank < m → HasLayerAndRank p s var layer rank → Good var
   ranks layer below zero var rank lt stands = absurd (omega arith)
   ranks layer below (suc m) var rank lt stands = numbers layer rank (λ other layer' rank' less stands'. elim less [
     | inl lt' ↦ below other layer' rank' lt' stands'
-    | inr w ↦ ranks layer below m other rank' (let lt' : rank' < rank = w.1 in omega arith) (subst (λ l. Stands p s other l rank') w.0 stands')
+    | inr w ↦ ranks layer below m other rank' (let lt' : rank' < rank = w.1 in omega arith) (subst (λ l. HasLayerAndRank p s other l rank') w.0 stands')
   ]) (suc var) var (omega arith) stands
 
-  layers : (n var layer rank : ℕ) → layer < n → Stands p s var layer rank → Good var
+  layers : (n var layer rank : ℕ) → layer < n → HasLayerAndRank p s var layer rank → Good var
   layers zero var layer rank lt stands = absurd (omega arith)
   layers (suc n) var layer rank lt stands = ranks layer (λ other layer' rank' lt' stands'. layers n other layer' rank' (omega arith) stands') (suc rank) var rank (omega arith) stands
 
   -- so all variables with a rank are good
-  pub all_good : (var layer rank : ℕ) → Stands p s var layer rank → Good var
+  pub all_good : (var layer rank : ℕ) → HasLayerAndRank p s var layer rank → Good var
   all_good var layer rank stands = layers (suc layer) var layer rank (omega arith) stands
 
 -- ---- the rules of a derivation, in any order
@@ -84,15 +84,15 @@ module _ (p : Parts) (s : List ℕ) where
   -- a variable in a derivation is the derived one, or is in the derivation of a variable on which
   -- its rule rests
   inverted : (var rule : ℕ) → IsGivenBy p s var rule → (u : ℕ) → InDerivation p s var u
-      → (u ≡ var) ⊎ ((w : ℕ) × RestsOn p rule w × InDerivation p s w u)
+      → (u ≡ var) ⊎ ((w : ℕ) × DependsOn p rule w × InDerivation p s w u)
   inverted var rule given u Itself = inl refl
   inverted var rule given u (Below {u = v} {w = u'} rule' inside given' rests') = elim (inverted var rule given v inside) [
-    | inl e ↦ inr (u', subst (λ r. RestsOn p r u') (one_giver p s var rule' rule (subst (λ x. IsGivenBy p s x rule') e given') given) rests', Itself)
+    | inl e ↦ inr (u', subst (λ r. DependsOn p r u') (one_giver p s var rule' rule (subst (λ x. IsGivenBy p s x rule') e given') given) rests', Itself)
     | inr w ↦ inr (w.0, w.1, Below rule' w.2 given' rests')
   ]
 
   -- the derivation contains those derivations
-  extended : (var rule w : ℕ) → IsGivenBy p s var rule → RestsOn p rule w → (u : ℕ) → InDerivation p s w u → InDerivation p s var u
+  extended : (var rule w : ℕ) → IsGivenBy p s var rule → DependsOn p rule w → (u : ℕ) → InDerivation p s w u → InDerivation p s var u
   extended var rule w given rests u Itself = Below rule Itself given rests
   extended var rule w given rests u (Below {u = v} {w = u'} rule' inside given' rests') = Below rule' (extended var rule w given rests v inside) given' rests'
 
@@ -154,7 +154,7 @@ module _ (p : Parts) (s : List ℕ) where
           each = λ k h. elim (contains_cases rule rest.rules k h) [
             | inl e ↦ subst (IsRuleOf p s var) e itself
             | inr behind ↦ (let w = rest.each k behind in
-                let rests : RestsOn p rule w.0.var = record { condition = w.0; among = w.1; on = refl; derived = w.2.derived; other = w.2.other } in
+                let rests : DependsOn p rule w.0.var = record { condition = w.0; among = w.1; on = refl; derived = w.2.derived; other = w.2.other } in
                 (extended var rule w.0.var given rests (rule_at p k).var w.3.0, w.3.1))
           ];
           whole = λ k h. elim (inverted var rule given (rule_at p k).var h.0) [
@@ -164,7 +164,7 @@ module _ (p : Parts) (s : List ℕ) where
           ];
         }
           where
-            of : (w k : ℕ) → RestsOn p rule w → InDerivation p s w (rule_at p k).var → IsGivenBy p s (rule_at p k).var k → RuleOfOne (rule_at p rule).conditions k
+            of : (w k : ℕ) → DependsOn p rule w → InDerivation p s w (rule_at p k).var → IsGivenBy p s (rule_at p k).var k → RuleOfOne (rule_at p rule).conditions k
             of w k rests inside its = (
               rests.condition,
               rests.among,
@@ -175,7 +175,7 @@ module _ (p : Parts) (s : List ℕ) where
               (subst (λ v. InDerivation p s v (rule_at p k).var) (sym rests.on) inside, its),
             )
 
-    pub listing : (var layer rank : ℕ) → Stands p s var layer rank → Listing (IsRuleOf p s var)
+    pub listing : (var layer rank : ℕ) → HasLayerAndRank p s var layer rank → Listing (IsRuleOf p s var)
     listing = all_good p s (λ var. Listing (IsRuleOf p s var)) (λ var layer rank stands lists.
         let g = giver_at p s var layer rank stands in
         listed var g.0 g.1 lists)

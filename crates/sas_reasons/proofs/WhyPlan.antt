@@ -16,10 +16,10 @@ use Rattle.sas_run.specs.Plans.{GoThrough, LeadsTo}
 use Rattle.sas_run.specs.Verdicts.{ComesTo, IsFaultOf}
 use Rattle.sas_output.specs.declared.line.Line.{Line}
 use Rattle.sas_output.specs.declared.line.Line.TheVariants as line
-use Rattle.sas_reasons.specs.Lines.{with_lines, TellsBehind, TellsEach}
-use Rattle.sas_run.specs.Runs.{Run, last_state, GoesThrough, steps_before}
+use Rattle.sas_reasons.specs.Lines.{with_lines, LineThen, LinesOfEach}
+use Rattle.sas_run.specs.Runs.{Run, last_state, StepsSucceed, steps_before}
 use Rattle.sas_reasons.specs.Cause.{fails, IsCause}
-use Rattle.sas_reasons.specs.WhyPlan.{TellsLike, failing, operators_of, TellsInapplicable, TellsConflict, goal_fact_at, TellsGoalFact, cost_lines, TellsOther, TellsFault, IsWhy}
+use Rattle.sas_reasons.specs.WhyPlan.{AreSimilarNameLines, failing, operators_of, AreInapplicableLines, AreConflictLines, goal_fact_at, AreGoalFactLines, cost_lines, AreOtherLines, AreFaultLines, IsWhy}
 use Rattle.sas_reasons.specs.Laws.{SomeWhy, OneWhy}
 use Rattle.sas_run.proofs.Runs.{some_run, one_run}
 use Rattle.sas_reasons.proofs.Likeness.{some_like, one_like}
@@ -30,14 +30,14 @@ use Rattle.sas_reasons.proofs.Conflicts.{some_conflict, one_conflict}
 -- ---- the lines of each item
 
 each_one : {A : Type 0} (Tells : A → List Line → Type 0) → ((item : A) (a b : List Line) → Tells item a → Tells item b → a ≡ b)
-    → (items : List A) (a b : List Line) → TellsEach Tells items a → TellsEach Tells items b → a ≡ b
+    → (items : List A) (a b : List Line) → LinesOfEach Tells items a → LinesOfEach Tells items b → a ≡ b
 each_one Tells one [] a b x y = x ∙ sym y
 each_one Tells one (item ∷ items) a b x y = x.4
     ∙ (ap (λ (its : List Line). its ++ x.1) (one item x.0 y.0 x.2 y.2)
     ∙ (ap (λ (others : List Line). y.0 ++ others) (each_one Tells one items x.1 y.1 x.3 y.3) ∙ sym y.4))
 
 some_each : {A : Type 0} (Tells : A → List Line → Type 0) → ((item : A) → (lines : List Line) × Tells item lines)
-    → (items : List A) → (lines : List Line) × TellsEach Tells items lines
+    → (items : List A) → (lines : List Line) × LinesOfEach Tells items lines
 some_each Tells some [] = ([], refl)
 some_each Tells some (item ∷ items) =
     let its = some item in
@@ -47,17 +47,17 @@ some_each Tells some (item ∷ items) =
 -- ---- at most one list
 
 behind_one : (first : Line) (Tells : List Line → Type 0) → ((a b : List Line) → Tells a → Tells b → a ≡ b) → (a b : List Line)
-    → TellsBehind first Tells a → TellsBehind first Tells b → a ≡ b
+    → LineThen first Tells a → LineThen first Tells b → a ≡ b
 behind_one first Tells one a b x y = x.2 ∙ (ap (λ (behind : List Line). first ∷ behind) (one x.0 y.0 x.1 y.1) ∙ sym y.2)
 
 module _ (p : Parts) (run : Run) where
-  inapplicable_one : (operator : ℕ) (a b : List Line) → TellsInapplicable p run operator a → TellsInapplicable p run operator b → a ≡ b
+  inapplicable_one : (operator : ℕ) (a b : List Line) → AreInapplicableLines p run operator a → AreInapplicableLines p run operator b → a ≡ b
   inapplicable_one operator = behind_one (line.Operator operator) _ (each_one (IsCause p run) (one_cause p run) (failing (last_state run) (operator_at p operator)))
 
-  goal_fact_one : (index : ℕ) (a b : List Line) → TellsGoalFact p run index a → TellsGoalFact p run index b → a ≡ b
+  goal_fact_one : (index : ℕ) (a b : List Line) → AreGoalFactLines p run index a → AreGoalFactLines p run index b → a ≡ b
   goal_fact_one index = behind_one (line.GoalFact index) _ (one_cause p run (goal_fact_at p index))
 
-  other_one : (a b : List Line) → TellsOther p run a → TellsOther p run b → a ≡ b
+  other_one : (a b : List Line) → AreOtherLines p run a → AreOtherLines p run b → a ≡ b
   other_one a b (inl x) (inl y) =
       let same = one_may_mean p run x.0 x.1 y.0 y.1 x.2 y.2 in
       x.3 ∙ (ap (λ (step : ℕ). line.CouldBe step x.1 ∷ []) same.0
@@ -66,24 +66,24 @@ module _ (p : Parts) (run : Run) where
   other_one a b (inr x) (inl y) = absurd (let w = y.2 in x.0 w.before w.first.has)
   other_one a b (inr x) (inr y) = x.1 ∙ sym y.1
 
-like_one : (p : Parts) (name : List ℕ) (a b : List Line) → TellsLike p name a → TellsLike p name b → a ≡ b
+like_one : (p : Parts) (name : List ℕ) (a b : List Line) → AreSimilarNameLines p name a → AreSimilarNameLines p name b → a ≡ b
 like_one p name a b x y = x.2
     ∙ (ap (λ (like : Option ℕ). option_map_or (λ operator. line.SimilarOperator operator ∷ []) like [])
     (one_like p name x.0 y.0 x.1 y.1) ∙ sym y.2)
 
-conflict_one : (p : Parts) (s : List ℕ) (operator : ℕ) (a b : List Line) → TellsConflict p s operator a → TellsConflict p s operator b → a ≡ b
+conflict_one : (p : Parts) (s : List ℕ) (operator : ℕ) (a b : List Line) → AreConflictLines p s operator a → AreConflictLines p s operator b → a ≡ b
 conflict_one p s operator a b x y =
     let same = one_conflict s (operator_at p operator) x.0 x.1 y.0 y.1 x.2 y.2 in
     x.3 ∙ (ap (λ d. line.Operator operator ∷ line.ConflictingEffect operator d ∷ line.ConflictingEffect operator x.1 ∷ []) same.0
     ∙ (ap (λ e. line.Operator operator ∷ line.ConflictingEffect operator y.0 ∷ line.ConflictingEffect operator e ∷ []) same.1 ∙ sym y.3))
 
 fault_told_one : (p : Parts) (plan : PlanParts) (run : Run) (fault : PlanFault) (a b : List Line)
-    → TellsFault p plan run fault a → TellsFault p plan run fault b → a ≡ b
+    → AreFaultLines p plan run fault a → AreFaultLines p plan run fault b → a ≡ b
 fault_told_one p plan run (NoOperator step) a b x y = behind_one (line.Step step) _ (like_one p (step_at plan (step - 1))) a b x y
 fault_told_one p plan run (NotApplicable step) a b x y =
-    behind_one (line.Step step) _ (each_one (TellsInapplicable p run) (inapplicable_one p run) (operators_of p (step_at plan (step - 1)))) a b x y
+    behind_one (line.Step step) _ (each_one (AreInapplicableLines p run) (inapplicable_one p run) (operators_of p (step_at plan (step - 1)))) a b x y
 fault_told_one p plan run (Conflict step operator) a b x y = behind_one (line.Step step) _ (conflict_one p (last_state run) operator) a b x y
-fault_told_one p plan run (GoalMissed index) a b x y = each_one (TellsGoalFact p run) (goal_fact_one p run) (places (fails (last_state run)) p.goal) a b x y
+fault_told_one p plan run (GoalMissed index) a b x y = each_one (AreGoalFactLines p run) (goal_fact_one p run) (places (fails (last_state run)) p.goal) a b x y
 fault_told_one p plan run (CostDiffers sum) a b x y = x ∙ sym y
 fault_told_one p plan run Memory a b x y = absurd x
 
@@ -95,11 +95,11 @@ one_why p plan fault a b layered x y = x.whole
     same : x.run ≡ y.run
     same = one_run p x.run y.run layered x.through y.through (x.went ∙ sym y.went)
 
-    told : TellsFault p plan y.run fault x.reasons
-    told = subst (λ run. TellsFault p plan run fault x.reasons) same x.told
+    told : AreFaultLines p plan y.run fault x.reasons
+    told = subst (λ run. AreFaultLines p plan run fault x.reasons) same x.told
 
-    may : TellsOther p y.run x.others
-    may = subst (λ run. TellsOther p run x.others) same x.may
+    may : AreOtherLines p y.run x.others
+    may = subst (λ run. AreOtherLines p run x.others) same x.may
 
 -- ---- at least one list
 
@@ -110,7 +110,7 @@ goes_settled p s [] (o ∷ os) last settled g = absurd g
 goes_settled p s (n ∷ ns) [] last settled g = absurd g
 goes_settled p s (n ∷ ns) (o ∷ os) last settled g = let step = g.2 in goes_settled p g.0 ns os last step.settled g.3
 
-some_other : (p : Parts) (run : Run) → (lines : List Line) × TellsOther p run lines
+some_other : (p : Parts) (run : Run) → (lines : List Line) × AreOtherLines p run lines
 some_other p run = elim (some_may_mean p run) [
   | inl w ↦ (line.CouldBe w.0 w.1 ∷ [], inl (w.0, w.1, w.2, refl))
   | inr none ↦ ([], inr (none, refl))
@@ -118,8 +118,8 @@ some_other p run = elim (some_may_mean p run) [
 
 module _ (p : Parts) (plan : PlanParts) (layered : IsLayered p) where
   -- the reasons after a run that leads to the fault
-  from_run : (fault : PlanFault) (run : Run) → run.steps ≡ steps_before plan fault → GoesThrough p run
-      → ((lines : List Line) × TellsFault p plan run fault lines) → (lines : List Line) × IsWhy p plan fault lines
+  from_run : (fault : PlanFault) (run : Run) → run.steps ≡ steps_before plan fault → StepsSucceed p run
+      → ((lines : List Line) × AreFaultLines p plan run fault lines) → (lines : List Line) × IsWhy p plan fault lines
   from_run fault run went through told =
       let other = some_other p run in (
         with_lines [] told.0 ++ other.0,
@@ -130,7 +130,7 @@ module _ (p : Parts) (plan : PlanParts) (layered : IsLayered p) where
   record Led (steps : List (List ℕ)) (last : List ℕ) : Type 0 where
     run : Run
     went : run.steps ≡ steps
-    through : GoesThrough p run
+    through : StepsSucceed p run
     ends : last_state run ≡ last
     settled : IsSettled p (last_state run)
     some : 0 < length run.states
@@ -155,12 +155,12 @@ module _ (p : Parts) (plan : PlanParts) (layered : IsLayered p) where
       is = ap (λ n. take n plan.steps) (let place = comes.place in let e : step - 1 ≡ length comes.before = omega arith in e)
           ∙ (ap (λ (steps : List (List ℕ)). take (length comes.before) steps) comes.whole ∙ take-append_seam comes.before (name ∷ comes.behind))
 
-  some_inapplicable : (run : Run) → IsSettled p (last_state run) → 0 < length run.states → (operator : ℕ) → (lines : List Line) × TellsInapplicable p run operator lines
+  some_inapplicable : (run : Run) → IsSettled p (last_state run) → 0 < length run.states → (operator : ℕ) → (lines : List Line) × AreInapplicableLines p run operator lines
   some_inapplicable run settled some operator =
       let causes = some_each (IsCause p run) (λ fact. some_cause p run fact layered settled some) (failing (last_state run) (operator_at p operator)) in
       (line.Operator operator ∷ causes.0, (causes.0, causes.1, refl))
 
-  some_goal_fact : (run : Run) → IsSettled p (last_state run) → 0 < length run.states → (index : ℕ) → (lines : List Line) × TellsGoalFact p run index lines
+  some_goal_fact : (run : Run) → IsSettled p (last_state run) → 0 < length run.states → (index : ℕ) → (lines : List Line) × AreGoalFactLines p run index lines
   some_goal_fact run settled some index =
       let cause = some_cause p run (goal_fact_at p index) layered settled some in
       (line.GoalFact index ∷ cause.0, (cause.0, cause.1, refl))
@@ -173,7 +173,7 @@ module _ (p : Parts) (plan : PlanParts) (layered : IsLayered p) where
       from_run (NoOperator step) l.run l.went l.through (_, (_, (like.0, like.1, refl), refl))
   why_told (NotApplicable step) f =
       let l = led_to_step step f.0 f.1 f.2 in
-      let w = some_each (TellsInapplicable p l.run) (some_inapplicable l.run l.settled l.some) (operators_of p (step_at plan (step - 1))) in
+      let w = some_each (AreInapplicableLines p l.run) (some_inapplicable l.run l.settled l.some) (operators_of p (step_at plan (step - 1))) in
       from_run (NotApplicable step) l.run l.went l.through (line.Step step ∷ w.0, (w.0, w.1, refl))
   why_told (Conflict step operator) f =
       let l = led_to_step step f.0 f.1 f.2 in
@@ -182,7 +182,7 @@ module _ (p : Parts) (plan : PlanParts) (layered : IsLayered p) where
   why_told (GoalMissed index) f =
       let l = led plan.steps f.0 f.1 f.2 in
       from_run (GoalMissed index) l.run l.went l.through
-      (some_each (TellsGoalFact p l.run) (some_goal_fact l.run l.settled l.some) (places (fails (last_state l.run)) p.goal))
+      (some_each (AreGoalFactLines p l.run) (some_goal_fact l.run l.settled l.some) (places (fails (last_state l.run)) p.goal))
   why_told (CostDiffers sum) f =
       let l = led plan.steps f.0 f.1 f.2 in
       from_run (CostDiffers sum) l.run l.went l.through (cost_lines p l.run, refl)

@@ -41,9 +41,9 @@ abbrev pub is_given : Parts → List ℕ → ℕ → Bool
 is_given p s var = is_derived p var && differs p s var
 
 -- in this case, a line for each rule of the variable's derivation
-abbrev pub TellsGivers : Bool → Parts → List ℕ → ℕ → List Line → Type 0
-TellsGivers false p s var lines = lines ≡ []
-TellsGivers true p s var lines =
+abbrev pub AreGiverLines : Bool → Parts → List ℕ → ℕ → List Line → Type 0
+AreGiverLines false p s var lines = lines ≡ []
+AreGiverLines true p s var lines =
     (rules : List ℕ) × IsDerivation p s var rules × (lines ≡ map line.RuleDerives rules)
 
 -- ---- the rules that don't derive the required value
@@ -77,7 +77,8 @@ pub record IsCause (p : Parts) (run : Run) (fact : Fact) (lines : List Line) : T
   pub since : ℕ
   pub last_change : IsSince run fact.var since
   pub givers : List Line
-  pub given : TellsGivers (is_given p (last_state run) fact.var) p (last_state run) fact.var givers
+  pub given : AreGiverLines (is_given p (last_state run) fact.var) p
+      (last_state run) fact.var givers
   pub whole : lines
       ≡ line.Requires fact
       ∷ line.Actual (actual_fact (last_state run) fact.var)

@@ -6,7 +6,7 @@ use Rattle.sas_meaning.specs.Steps.{Fires}
 use Rattle.sas_reasons.specs.Lowest.{IsLowest}
 
 -- both effects fire in the state and set one variable to different values; d is before e
-pub record Contradicts (s : List ℕ) (o : Operator) (d e : ℕ) : Type 0 where
+pub record ConflictsWith (s : List ℕ) (o : Operator) (d e : ℕ) : Type 0 where
   pub before : d < e
   pub exists : e < length o.effects
   pub fires : Fires s (effect_at o d)
@@ -15,10 +15,10 @@ pub record Contradicts (s : List ℕ) (o : Operator) (d e : ℕ) : Type 0 where
   pub other : (effect_at o d).new ≢ (effect_at o e).new
 
 -- an earlier effect contradicts this one
-abbrev pub IsContradicted : List ℕ → Operator → ℕ → Type 0
-IsContradicted s o e = (d : ℕ) × Contradicts s o d e
+abbrev pub ConflictsWithEarlier : List ℕ → Operator → ℕ → Type 0
+ConflictsWithEarlier s o e = (d : ℕ) × ConflictsWith s o d e
 
 -- e is the first effect that an earlier one contradicts, and d is the first that contradicts e
 pub record IsConflict (s : List ℕ) (o : Operator) (d e : ℕ) : Type 0 where
-  pub first : IsLowest (IsContradicted s o) e
-  pub lowest : IsLowest (λ k. Contradicts s o k e) d
+  pub first : IsLowest (ConflictsWithEarlier s o) e
+  pub lowest : IsLowest (λ k. ConflictsWith s o k e) d

@@ -37,7 +37,7 @@ abbrev pub IsRank : Parts → ℕ → List ℕ → ℕ → ℕ → Type 0
 IsRank p layer s var rank = IsLowest (λ rounds. IsTrue (reached p layer s rounds var)) rank
 
 -- the variable's layer and its rank
-pub record Stands (p : Parts) (s : List ℕ) (var layer rank : ℕ) : Type 0 where
+pub record HasLayerAndRank (p : Parts) (s : List ℕ) (var layer rank : ℕ) : Type 0 where
   pub on : IsOnLayer p layer var
   pub ranked : IsRank p layer s var rank
 
@@ -51,11 +51,11 @@ pub record FiresNext (p : Parts) (s : List ℕ) (var layer rounds rule : ℕ) : 
 pub record IsGivenBy (p : Parts) (s : List ℕ) (var rule : ℕ) : Type 0 where
   pub layer : ℕ
   pub before : ℕ
-  pub stands : Stands p s var layer (before + 1)
+  pub stands : HasLayerAndRank p s var layer (before + 1)
   pub lowest : IsLowest (FiresNext p s var layer before) rule
 
 -- a condition of the rule requires a value of this derived variable that isn't its default
-pub record RestsOn (p : Parts) (rule var : ℕ) : Type 0 where
+pub record DependsOn (p : Parts) (rule var : ℕ) : Type 0 where
   pub condition : Fact
   pub among : Contains (rule_at p rule).conditions condition
   pub on : condition.var ≡ var
@@ -66,7 +66,7 @@ pub record RestsOn (p : Parts) (rule var : ℕ) : Type 0 where
 -- which the rule rests that gives this variable its value.
 pub data InDerivation (p : Parts) (s : List ℕ) (var : ℕ) : ℕ → Type 0 where
   Itself : InDerivation p s var var
-  Below : {u w : ℕ} (rule : ℕ) → InDerivation p s var u → IsGivenBy p s u rule → RestsOn p rule w
+  Below : {u w : ℕ} (rule : ℕ) → InDerivation p s var u → IsGivenBy p s u rule → DependsOn p rule w
       → InDerivation p s var w
 
 -- the order: by layer, then by rank, then by number
@@ -78,10 +78,10 @@ IsLess layer rank var layer' rank' var' = (layer < layer')
 pub record ComesBefore (p : Parts) (s : List ℕ) (var var' : ℕ) : Type 0 where
   pub layer : ℕ
   pub rank : ℕ
-  pub stands : Stands p s var layer rank
+  pub stands : HasLayerAndRank p s var layer rank
   pub layer' : ℕ
   pub rank' : ℕ
-  pub stands' : Stands p s var' layer' rank'
+  pub stands' : HasLayerAndRank p s var' layer' rank'
   pub less : IsLess layer rank var layer' rank' var'
 
 -- the rule gives a variable of the derivation its value

@@ -14,14 +14,14 @@ abbrev pub with_lines : List Line → List Line → List Line
 with_lines lines [] = lines
 with_lines lines (next ∷ more) = with_lines (with_line lines next) more
 
--- this line, followed by lines for which `Tells` holds
-abbrev pub TellsBehind : Line → (List Line → Type 0) → List Line → Type 0
-TellsBehind first Tells lines = (behind : List Line) × Tells behind × (lines ≡ first ∷ behind)
+-- this line, followed by lines for which `AreLines` holds
+abbrev pub LineThen : Line → (List Line → Type 0) → List Line → Type 0
+LineThen first AreLines lines = (behind : List Line) × AreLines behind × (lines ≡ first ∷ behind)
 
 -- the lines of all items, one after another
-abbrev pub TellsEach : {A : Type 0} → (A → List Line → Type 0) → List A → List Line → Type 0
-TellsEach Tells [] lines = lines ≡ []
-TellsEach Tells (item ∷ items) lines = (its others : List Line)
-    × Tells item its
-    × TellsEach Tells items others
+abbrev pub LinesOfEach : {A : Type 0} → (A → List Line → Type 0) → List A → List Line → Type 0
+LinesOfEach AreLines [] lines = lines ≡ []
+LinesOfEach AreLines (item ∷ items) lines = (its others : List Line)
+    × AreLines item its
+    × LinesOfEach AreLines items others
     × (lines ≡ its ++ others)

@@ -15,8 +15,8 @@ use Rattle.sas_run.specs.declared.plan_check.PlanFault.TheVariants.{Memory, NoOp
 use Rattle.sas_run.specs.declared.plan_check.PlanFault.TheVariants.{Conflict, GoalMissed, CostDiffers}
 use Rattle.sas_output.specs.declared.line.Line.{Line}
 use Rattle.sas_output.specs.declared.line.Line.TheVariants as line
-use Rattle.sas_reasons.specs.Lines.{with_lines, TellsBehind, TellsEach}
-use Rattle.sas_run.specs.Runs.{Run, last_state, GoesThrough, steps_before}
+use Rattle.sas_reasons.specs.Lines.{with_lines, LineThen, LinesOfEach}
+use Rattle.sas_run.specs.Runs.{Run, last_state, StepsSucceed, steps_before}
 use Rattle.sas_reasons.specs.Likeness.{IsLike}
 use Rattle.sas_reasons.specs.MayMean.{HasOther, MayMean}
 use Rattle.sas_reasons.specs.Cause.{fails, IsCause}
@@ -25,8 +25,8 @@ use Rattle.sas_reasons.specs.Conflicts.{IsConflict}
 -- ---- no operator of that name
 
 -- a line for the lowest operator with a similar name, if any
-abbrev pub TellsLike : Parts → List ℕ → List Line → Type 0
-TellsLike p name lines = (like : Option ℕ)
+abbrev pub AreSimilarNameLines : Parts → List ℕ → List Line → Type 0
+AreSimilarNameLines p name lines = (like : Option ℕ)
     × IsLike p name like
     × (lines ≡ option_map_or (λ operator. line.SimilarOperator operator ∷ []) like [])
 
@@ -37,23 +37,24 @@ abbrev pub failing : List ℕ → Operator → List Fact
 failing s o = filter (fails s) (preconditions o)
 
 -- the operator, and the cause of each of its preconditions that doesn't hold
-abbrev pub TellsInapplicable : Parts → Run → ℕ → List Line → Type 0
-TellsInapplicable p run operator lines = TellsBehind (line.Operator operator)
-    (TellsEach (IsCause p run) (failing (last_state run) (operator_at p operator))) lines
+abbrev pub AreInapplicableLines : Parts → Run → ℕ → List Line → Type 0
+AreInapplicableLines p run operator lines = LineThen (line.Operator operator)
+    (LinesOfEach (IsCause p run) (failing (last_state run) (operator_at p operator))) lines
 
 -- the operators of a name, ascending
 abbrev pub operators_of : Parts → List ℕ → List ℕ
 operators_of p name = places (λ (o : Operator). bytes_eq o.name name) p.operators
 
 -- these lines for each operator of the name
-abbrev pub TellsOperators : Parts → Run → List ℕ → List Line → Type 0
-TellsOperators p run name lines = TellsEach (TellsInapplicable p run) (operators_of p name) lines
+abbrev pub AreOperatorLines : Parts → Run → List ℕ → List Line → Type 0
+AreOperatorLines p run name lines = LinesOfEach
+    (AreInapplicableLines p run) (operators_of p name) lines
 
 -- ---- conflicting effects
 
 -- the operator, and two of its effects that conflict
-abbrev pub TellsConflict : Parts → List ℕ → ℕ → List Line → Type 0
-TellsConflict p s operator lines = (d e : ℕ)
+abbrev pub AreConflictLines : Parts → List ℕ → ℕ → List Line → Type 0
+AreConflictLines p s operator lines = (d e : ℕ)
     × IsConflict s (operator_at p operator) d e
     × (lines ≡ line.Operator operator
     ∷ line.ConflictingEffect operator d
@@ -67,14 +68,14 @@ abbrev pub goal_fact_at : Parts → ℕ → Fact
 goal_fact_at p index = slice_index_or p.goal index (record { var = 0; value = 0 })
 
 -- the goal fact with this index, and its cause
-abbrev pub TellsGoalFact : Parts → Run → ℕ → List Line → Type 0
-TellsGoalFact p run index lines =
-    TellsBehind (line.GoalFact index) (IsCause p run (goal_fact_at p index)) lines
+abbrev pub AreGoalFactLines : Parts → Run → ℕ → List Line → Type 0
+AreGoalFactLines p run index lines =
+    LineThen (line.GoalFact index) (IsCause p run (goal_fact_at p index)) lines
 
 -- these lines for each goal fact that doesn't hold
-abbrev pub TellsGoal : Parts → Run → List Line → Type 0
-TellsGoal p run lines =
-    TellsEach (TellsGoalFact p run) (places (fails (last_state run)) p.goal) lines
+abbrev pub AreGoalLines : Parts → Run → List Line → Type 0
+AreGoalLines p run lines =
+    LinesOfEach (AreGoalFactLines p run) (places (fails (last_state run)) p.goal) lines
 
 -- ---- cost differs
 
@@ -90,33 +91,33 @@ cost_lines p run =
 -- ---- after each of these
 
 -- a line for the first step that could also mean another operator, if any
-abbrev pub TellsOther : Parts → Run → List Line → Type 0
-TellsOther p run lines =
+abbrev pub AreOtherLines : Parts → Run → List Line → Type 0
+AreOtherLines p run lines =
     ((step operator : ℕ) × MayMean p run step operator × (lines ≡ line.CouldBe step operator ∷ []))
     ⊎ (((k : ℕ) → HasOther p run k → ⊥) × (lines ≡ []))
 
 -- ---- why
 
 -- the lines for this fault, after a run of the steps before it (`Memory` is no fault of a plan)
-abbrev pub TellsFault : Parts → PlanParts → Run → PlanFault → List Line → Type 0
-TellsFault p plan run (NoOperator step) lines =
-    TellsBehind (line.Step step) (TellsLike p (step_at plan (step - 1))) lines
-TellsFault p plan run (NotApplicable step) lines =
-    TellsBehind (line.Step step) (TellsOperators p run (step_at plan (step - 1))) lines
-TellsFault p plan run (Conflict step operator) lines =
-    TellsBehind (line.Step step) (TellsConflict p (last_state run) operator) lines
-TellsFault p plan run (GoalMissed index) lines = TellsGoal p run lines
-TellsFault p plan run (CostDiffers sum) lines = lines ≡ cost_lines p run
-TellsFault p plan run Memory lines = ⊥
+abbrev pub AreFaultLines : Parts → PlanParts → Run → PlanFault → List Line → Type 0
+AreFaultLines p plan run (NoOperator step) lines =
+    LineThen (line.Step step) (AreSimilarNameLines p (step_at plan (step - 1))) lines
+AreFaultLines p plan run (NotApplicable step) lines =
+    LineThen (line.Step step) (AreOperatorLines p run (step_at plan (step - 1))) lines
+AreFaultLines p plan run (Conflict step operator) lines =
+    LineThen (line.Step step) (AreConflictLines p (last_state run) operator) lines
+AreFaultLines p plan run (GoalMissed index) lines = AreGoalLines p run lines
+AreFaultLines p plan run (CostDiffers sum) lines = lines ≡ cost_lines p run
+AreFaultLines p plan run Memory lines = ⊥
 
 -- the lines of reasons after the verdict on a plan with this fault
 pub record IsWhy (p : Parts) (plan : PlanParts) (fault : PlanFault) (lines : List Line)
     : Type 0 where
   pub run : Run
   pub went : run.steps ≡ steps_before plan fault
-  pub through : GoesThrough p run
+  pub through : StepsSucceed p run
   pub reasons : List Line
-  pub told : TellsFault p plan run fault reasons
+  pub told : AreFaultLines p plan run fault reasons
   pub others : List Line
-  pub may : TellsOther p run others
+  pub may : AreOtherLines p run others
   pub whole : lines ≡ with_lines [] reasons ++ others

@@ -17,8 +17,8 @@ use Rattle.sas_reader.specs.Devices.{ReadsAll, ValueOf}
 use Rattle.sas_reader.specs.Format.{Format, ReadsAs}
 use Rattle.sas_reader.specs.Found.{IsFoundOf}
 use Rattle.sas_reader.specs.Limit.{most_bytes}
-use Rattle.sas_reader.specs.About.{IsTold, AboutLaws}
-use Rattle.sas_reader.specs.Refusals.{Explains, ReadsOrExplains}
+use Rattle.sas_reader.specs.About.{ConcernsText, AboutLaws}
+use Rattle.sas_reader.specs.Refusals.{ExplainsRefusal, ReadsOrExplains}
 use Rattle.sas_reader.proofs.Known.{known_answer, known_fault}
 use Rattle.sas_reader.proofs.KnownRefusals.{known_explained}
 use Rattle.sas_plan_file.specs.declared.plan_refusal.PlanRefusal.{PlanRefusal}
@@ -44,7 +44,7 @@ use Rattle.sas_outputs.proofs.PlanOutputs.{told_fault}
 use Rattle.sas_requests.specs.declared.detail.Detail.{Detail}
 use Rattle.sas_requests.specs.declared.detail.Detail.TheVariants.{Plain, Reasons}
 use Rattle.sas_requests.specs.Answering.{FileBy, TaskBy, PlanBy, UnlayeredBy, layers_by, refusal_by, task_refusal_lines, plan_refusal_lines, EndsFile}
-use Rattle.sas_requests.specs.FileReasons.{FaultReasons, told, past_limit, TellsTask, TellsPlan}
+use Rattle.sas_requests.specs.FileReasons.{FaultReasons, told, past_limit, ExplainsTask, ExplainsPlan}
 use Rattle.sas_requests.proofs.RefusalLaws.{task_telling, plan_telling}
 use Rattle.sas_requests.proofs.RefusalReasons.{no_reasons, some_of}
 
@@ -94,11 +94,11 @@ module _ {V I S : Type 0} (F : Format V I S) (Tells : Kind → List (List ℕ) �
       record { of_read = out.of_read; reasons = out.reasons; is_out = (r, reads, more_read A B to r out.of_read is); are_reasons = out.are_reasons; whole = out.whole }
 
   module _ (f : Fault) (reasons : List FileLine) where
-    plain_kind : (o : Output) → refusal name f ≡ Some o → IsTold f.kind
+    plain_kind : (o : Output) → refusal name f ≡ Some o → ConcernsText f.kind
     plain_kind o refused = (refused_kind f.kind Read _ o refl refused, refused_kind f.kind TooLong _ o refl refused, refused_kind f.kind Memory _ o refl refused)
 
     -- the kind of a fault that is refused
-    told_kind : (detail : Detail) (o : Output) → Some o ≡ refusal_by detail name f reasons → IsTold f.kind
+    told_kind : (detail : Detail) (o : Output) → Some o ≡ refusal_by detail name f reasons → ConcernsText f.kind
     told_kind Plain o is = plain_kind o (sym is)
     told_kind Reasons o is = let (plain, refused, same) = some_of (file_text reasons) (refusal name f) o is in plain_kind plain refused
 
@@ -163,7 +163,7 @@ module _ {D V I S A : Type 0} (left : D → Option (List ℕ)) (F : Format V I S
     plain : ReadsAll left F Gives old new (Err (fault r))
     plain = h.plain
 
-    reasons_of : (b : List ℕ) → Explains F fault found Told b r → FaultReasons F Tells b (fault r) reasons
+    reasons_of : (b : List ℕ) → ExplainsRefusal F fault found Told b r → FaultReasons F Tells b (fault r) reasons
     reasons_of b e = told e.accepted e.text e.about (tells e.accepted e.text e.kept e.why)
 
     known_out : (b : List ℕ) → left old.device ≡ Some b → (o : Output) → Some o ≡ refusal_by detail name (fault r) reasons → FileOutput b (Some o)
@@ -229,7 +229,7 @@ more_is true n h = sym (less 64 n (h.0 refl))
 more_is false n h = not_true (nat_lt 64 n) (λ t. h.1 (is_less 64 n t))
 
 -- what a refusal tells of a task, and of a plan
-task_refusal_tells : (r : TaskRefusal) (accepted : List (List ℕ)) (text : List ℕ) → IsFoundOf text r.found → IsTaskReason (r.fault).kind accepted text r.mark r.word → TellsTask (r.fault).kind accepted text (task_refusal_lines r)
+task_refusal_tells : (r : TaskRefusal) (accepted : List (List ℕ)) (text : List ℕ) → IsFoundOf text r.found → IsTaskReason (r.fault).kind accepted text r.mark r.word → ExplainsTask (r.fault).kind accepted text (task_refusal_lines r)
 task_refusal_tells r accepted text is reason = record {
   mark = r.mark;
   word = r.word;
@@ -239,7 +239,7 @@ task_refusal_tells r accepted text is reason = record {
       ∙ ap (λ (more : Bool). task_reasons (r.fault).kind r.mark r.word (take 64 text) more) (more_is (r.found).more (length text) is.longer);
 }
 
-plan_refusal_tells : (r : PlanRefusal) (accepted : List (List ℕ)) (text : List ℕ) → IsFoundOf text r.found → TellsPlan (r.fault).kind accepted text (plan_refusal_lines r)
+plan_refusal_tells : (r : PlanRefusal) (accepted : List (List ℕ)) (text : List ℕ) → IsFoundOf text r.found → ExplainsPlan (r.fault).kind accepted text (plan_refusal_lines r)
 plan_refusal_tells r accepted text is =
     ap (λ (bytes : List ℕ). plan_reasons (r.fault).kind bytes (r.found).more) is.front
     ∙ ap (λ (more : Bool). plan_reasons (r.fault).kind (take 64 text) more) (more_is (r.found).more (length text) is.longer)
@@ -252,14 +252,14 @@ module _ {D A : Type 0} (left : D → Option (List ℕ)) (Gives : List ℕ → A
       → Ends (λ o. o ≡ refusal_by detail (codes "task") r.fault (task_refusal_lines r)) Sent result → IsErrOf result tool_fault.TooLong ↔ ((r.fault).kind ≡ TooLong) → IsErrOf result tool_fault.Read ↔ ((r.fault).kind ≡ Read)
       → EndsFile left (TaskBy detail IsAnswer) Sent old new result
   task_refused IsAnswer r result h ends long reads =
-      ends_refused left task_format TellsTask Gives (codes "task") Sent detail IsAnswer old new task_telling fault_in found_in HasReason r (task_refusal_lines r) (task_refusal_tells r) h result ends long.0 reads
+      ends_refused left task_format ExplainsTask Gives (codes "task") Sent detail IsAnswer old new task_telling fault_in found_in HasReason r (task_refusal_lines r) (task_refusal_tells r) h result ends long.0 reads
 
   -- and a plan file
   pub plan_refused : (IsAnswer : PlanParts → Output → Type 0) (r : PlanRefusal) (result : Result Status ToolFault) → ReadsPlan left Gives old new (Err r)
       → Ends (λ o. o ≡ refusal_by detail (codes "plan") r.fault (plan_refusal_lines r)) Sent result → IsErrOf result tool_fault.TooLong ↔ ((r.fault).kind ≡ TooLong) → IsErrOf result tool_fault.Read ↔ ((r.fault).kind ≡ Read)
       → EndsFile left (PlanBy detail IsAnswer) Sent old new result
   plan_refused IsAnswer r result h ends long reads =
-      ends_refused left plan_format TellsPlan Gives (codes "plan") Sent detail IsAnswer old new plan_telling fault_of found_of nothing_else r (plan_refusal_lines r) (λ accepted text is other. plan_refusal_tells r accepted text is) h result ends long.0 reads
+      ends_refused left plan_format ExplainsPlan Gives (codes "plan") Sent detail IsAnswer old new plan_telling fault_of found_of nothing_else r (plan_refusal_lines r) (λ accepted text is other. plan_refusal_tells r accepted text is) h result ends long.0 reads
 
 -- a task that isn't layered is refused for its first fault
 not_memory_by : (detail : Detail) (p : Parts) (fault : LayerFault) (o : Output) → layers_by detail p fault ≡ Some o → fault ≢ layer_fault.Memory
@@ -270,5 +270,5 @@ module _ {D : Type 0} (left : D → Option (List ℕ)) (Sent : List ℕ → Type
   pub task_unlayered : (fault : LayerFault) (r : Result Status ToolFault) (Q : Type 0) → ReadsAll left task_format (ValueOf task_format) old new (Ok p) → (fault ≢ layer_fault.Memory → first_fault (layer_checks p) ≡ Some fault)
       → EndsCounting (λ output. IsSomeAnd output (λ o. layers_by detail p fault ≡ Some o)) Sent r → IfErr r (λ e. IsWrite e ⊎ ((e ≡ tool_fault.Memory) × Q)) → EndsFile left (TaskBy detail (UnlayeredBy detail)) Sent old new r
   task_unlayered fault r Q read first ends starved =
-      ends_value left task_format TellsTask (ValueOf task_format) (codes "task") Sent detail (UnlayeredBy detail) old new p (λ o. layers_by detail p fault ≡ Some o)
+      ends_value left task_format ExplainsTask (ValueOf task_format) (codes "task") Sent detail (UnlayeredBy detail) old new p (λ o. layers_by detail p fault ≡ Some o)
       (λ b value o is. (p, value, (fault, first (not_memory_by detail p fault o is), is))) r read ends (unread Q r starved)

@@ -14,7 +14,7 @@ use Rattle.sas_task_reasons.specs.declared.reason.Reason.{Reason}
 use Rattle.sas_task_reasons.specs.GroupReasons.{IsReasonIfAny, reason_at}
 use Rattle.sas_output.specs.declared.ending.Status.TheVariants.{Yes}
 use Rattle.sas_answers.specs.GroupWords.{group_line, verdict_lines_from, verdict_lines, groups_status}
-use Rattle.sas_task_reasons.specs.WhyGroups.{reason_lines, why_group, group_lines, why_lines_from, why_lines}
+use Rattle.sas_task_reasons.specs.WhyGroups.{reason_lines, why_group, explained_group_lines, why_lines_from, why_lines}
 use Rattle.sas_task_reasons.proofs.GroupAnswers.{no_reason}
 use Rattle.sas_requests.specs.Why.{is_reason, without_reasons}
 use Rattle.sas_requests.proofs.ReasonLines.{IsReason, AreReasons, lines_tell}
@@ -87,7 +87,7 @@ module _ (p : Parts) (reasons : List (Option Reason)) where
       let its : IsReasonIfAny p group Exclusive (reason_at reasons group) = subst (λ (m : ℕ). IsReasonIfAny p m Exclusive (reason_at reasons m)) (omega arith) (are 0 (omega arith)) in
       let others : AreReasonsFrom p reasons (group + 1) verdicts = λ k lt.
       subst (λ (m : ℕ). IsReasonIfAny p m (get_or verdicts k Exclusive) (reason_at reasons m)) (omega arith) (are (suc k) (omega (arith, lt))) in
-      ap (λ (found : Option Reason). group_lines p group Exclusive found ++ later) (none_if_exclusive p group (reason_at reasons group) its)
+      ap (λ (found : Option Reason). explained_group_lines p group Exclusive found ++ later) (none_if_exclusive p group (reason_at reasons group) its)
       ∙ ap (λ (l : List (List ℕ)). group_line group Exclusive ∷ l) (all_exclusive (group + 1) verdicts others says)
   all_exclusive group (Derived ∷ verdicts) are says = absurd cc
   all_exclusive group (Initial ∷ verdicts) are says = absurd cc

@@ -26,7 +26,7 @@ use Rattle.sas_flat.specs.Outlines.{outline_of}
 use Rattle.sas_output.specs.declared.ending.Status.TheVariants.{Yes, No}
 use Rattle.sas_output.specs.Ending.{Output}
 use Rattle.sas_answers.specs.Answers.{layers_refusal, layers_verdict, CheckAnswer, LayeredGroupsAnswer, MutexAnswer, valid_answer, VerdictAnswer}
-use Rattle.sas_answers.specs.LayerWords.{part_words, layer_words, layers_line}
+use Rattle.sas_answers.specs.LayerWords.{words_at_part, layer_words, layers_line}
 use Rattle.sas_answers.specs.PlanWords.{step_words, goal_words, sum_words, fault_words, invalid_line}
 use Rattle.sas_answers.specs.GroupWords.{verdict_words, group_line, verdict_lines_from}
 use Rattle.sas_outputs.specs.declared.Request.TheVariants.{Show, Print, Steps, Check, Plan, Mutex}
@@ -99,8 +99,8 @@ refusal_short name named fault =
 
 -- ---- the refusal of a task
 
-part_short : (part : List ℕ) (place : ℕ) (what : List ℕ) → length part + length what ≤ 100 → AreShort (Some (part_words part place what))
-part_short part place what short = some_short (part_words part place what) (omega (
+part_short : (part : List ℕ) (place : ℕ) (what : List ℕ) → length part + length what ≤ 100 → AreShort (Some (words_at_part part place what))
+part_short part place what short = some_short (words_at_part part place what) (omega (
   arith,
   short,
   length-append (part ++ codes " " ++ decimal place ++ codes ": ") what,

@@ -11,7 +11,7 @@ use Rattle.sas_lines.specs.Device.{Device}
 use Rattle.sas_reader.specs.declared.fault.Fault.{Fault}
 use Rattle.sas_reader.specs.declared.fault.Kind.{Kind}
 use Rattle.sas_reader.specs.Format.{Format}
-use Rattle.sas_reader.specs.Found.{bytes_of}
+use Rattle.sas_reader.specs.Found.{kept_bytes}
 use Rattle.sas_plan_file.specs.declared.plan_refusal.PlanRefusal.{PlanRefusal}
 use Rattle.sas_plan_file.specs.PlanFormat.{plan_format}
 use Rattle.sas_task_format.specs.TaskFormat.{task_format}
@@ -31,7 +31,7 @@ use Rattle.sas_outputs.specs.Output.{Out, FileOut, refusal, plain_refusal}
 use Rattle.sas_outputs.specs.Output.{AreInputs, IsLayeredText, reads_plan, reads_task}
 use Rattle.sas_requests.specs.declared.detail.Detail.{Detail}
 use Rattle.sas_requests.specs.declared.detail.Detail.TheVariants.{Plain, Reasons}
-use Rattle.sas_requests.specs.FileReasons.{FileReasons, TellsTask, TellsPlan}
+use Rattle.sas_requests.specs.FileReasons.{FileReasons, ExplainsTask, ExplainsPlan}
 use Rattle.sas_requests.specs.Why.{OutWhy, WithReasons}
 
 -- ---- answers, by how much is reported
@@ -70,10 +70,10 @@ refusal_by Reasons name fault reasons =
 -- the reasons why a task is refused, and a plan
 abbrev pub task_refusal_lines : TaskRefusal → List FileLine
 task_refusal_lines r =
-    task_reasons (r.fault).kind r.mark r.word (bytes_of r.found) (r.found).more
+    task_reasons (r.fault).kind r.mark r.word (kept_bytes r.found) (r.found).more
 
 abbrev pub plan_refusal_lines : PlanRefusal → List FileLine
-plan_refusal_lines r = plan_reasons (r.fault).kind (bytes_of r.found) (r.found).more
+plan_refusal_lines r = plan_reasons (r.fault).kind (kept_bytes r.found) (r.found).more
 
 -- ---- outputs, by how much is reported
 
@@ -86,10 +86,10 @@ module _ {V I S : Type 0} (F : Format V I S)
       WithReasons (FileOut F name IsAnswer bytes) (FileReasons F Tells bytes) output
 
 abbrev pub TaskBy : Detail → (Parts → Output → Type 0) → List ℕ → Option Output → Type 0
-TaskBy = FileBy task_format TellsTask (codes "task")
+TaskBy = FileBy task_format ExplainsTask (codes "task")
 
 abbrev pub PlanBy : Detail → (PlanParts → Output → Type 0) → List ℕ → Option Output → Type 0
-PlanBy = FileBy plan_format TellsPlan (codes "plan")
+PlanBy = FileBy plan_format ExplainsPlan (codes "plan")
 
 -- of a request
 abbrev pub OutBy : Detail → Request → List ℕ → List ℕ → Option Output → Type 0

@@ -45,7 +45,7 @@ module _ {V I S : Type 0} (F : Format V I S)
 
 -- a task: where the line stands, what is expected there, its first number that may not stand there,
 -- and the first 64 bytes of what was found
-pub record TellsTask (kind : Kind) (begun : List (List ℕ)) (found : List ℕ)
+pub record ExplainsTask (kind : Kind) (begun : List (List ℕ)) (found : List ℕ)
     (reasons : List FileLine) : Type 0 where
   pub mark : Mark
   pub word : Option WrongWord
@@ -54,15 +54,15 @@ pub record TellsTask (kind : Kind) (begun : List (List ℕ)) (found : List ℕ)
       ≡ task_reasons kind mark word (take 64 found) (nat_lt 64 (length found))
 
 -- a plan: what is expected, by the kind of the fault, and the first 64 bytes of what was found
-abbrev pub TellsPlan : Kind → List (List ℕ) → List ℕ → List FileLine → Type 0
-TellsPlan kind begun found reasons =
+abbrev pub ExplainsPlan : Kind → List (List ℕ) → List ℕ → List FileLine → Type 0
+ExplainsPlan kind begun found reasons =
     reasons ≡ plan_reasons kind (take 64 found) (nat_lt 64 (length found))
 
 abbrev pub TaskFileReasons : List ℕ → List FileLine → Type 0
-TaskFileReasons = FileReasons task_format TellsTask
+TaskFileReasons = FileReasons task_format ExplainsTask
 
 abbrev pub PlanFileReasons : List ℕ → List FileLine → Type 0
-PlanFileReasons = FileReasons plan_format TellsPlan
+PlanFileReasons = FileReasons plan_format ExplainsPlan
 
 -- ---- the files of a request
 
@@ -73,7 +73,7 @@ LayersFileReasons (Some fault) c reasons = reasons ≡ []
 LayersFileReasons None c reasons = PlanFileReasons c reasons
 
 abbrev pub JudgedFileReasons : List ℕ → Result Parts Fault → List ℕ → List FileLine → Type 0
-JudgedFileReasons b (Err fault) c reasons = FaultReasons task_format TellsTask b fault reasons
+JudgedFileReasons b (Err fault) c reasons = FaultReasons task_format ExplainsTask b fault reasons
 JudgedFileReasons b (Ok p) c reasons = LayersFileReasons (first_fault (layer_checks p)) c reasons
 
 abbrev pub FilesReasons : List ℕ → List ℕ → List FileLine → Type 0

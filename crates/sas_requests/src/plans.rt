@@ -41,7 +41,7 @@ pub fn judge_files<T: Read, P: Read, W: Write>(
 {
     match read_layered(alloc, detail, task, out) {
         Ok(layered) => {
-            let ended = judge(alloc, detail, &layered, plan, out);
+            let ended = judge_plan_file(alloc, detail, &layered, plan, out);
             drop(layered);
             ended
         }
@@ -65,13 +65,13 @@ pub fn explain_bytes<W: Write>(
     ensures writes { IsErrAnd result IsWrite ↔ IsTrue out.new.failed }
 {
     let mut device = Watched::new(plan);
-    judge(alloc, Detail::Reasons, layered, &mut device, out)
+    judge_plan_file(alloc, Detail::Reasons, layered, &mut device, out)
 }
 
 /// Answers whether the plan solves a layered task that was read. The frame of this call is large, and isn't to stand below the reader of
 /// the task.
 #[inline(never)]
-fn judge<P: Read, W: Write>(
+fn judge_plan_file<P: Read, W: Write>(
     alloc: Global,
     detail: Detail,
     layered: &Layered<FlatTask>,

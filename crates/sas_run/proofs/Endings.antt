@@ -6,8 +6,8 @@ use Rattle.sas_core.specs.PlanParts.{PlanParts}
 use Rattle.sas_run.specs.declared.plan_check.PlanFault.{PlanFault}
 use Rattle.sas_run.specs.declared.plan_check.PlanFault.TheVariants.{Memory, NoOperator, NotApplicable, Conflict, GoalMissed, CostDiffers}
 use Rattle.sas_run.specs.Plans.{LeadsTo, IsValid}
-use Rattle.sas_run.specs.Running.{StopsAt, IsJudged}
-use Rattle.sas_run.specs.Runs.{Run, IsRunOf, steps_before, EndsBy, IsEnding}
+use Rattle.sas_run.specs.Running.{StepFails, IsFinalVerdict}
+use Rattle.sas_run.specs.Runs.{Run, IsRunOf, steps_before, RunEndsWith, IsEnding}
 use Rattle.sas_run.specs.Verdicts.{ComesTo, IsFaultOf}
 use Rattle.sas_run.proofs.Going.{around, length_of_take}
 use Rattle.sas_run.proofs.Runs.{some_run}
@@ -27,7 +27,7 @@ module _ (p : Parts) (plan : PlanParts) (k : ℕ) (lt : k < length plan.steps) (
     leads = leads;
   }
 
-  is_fault : (fault : PlanFault) → StopsAt p s name (k + 1) fault → IsFaultOf p plan fault
+  is_fault : (fault : PlanFault) → StepFails p s name (k + 1) fault → IsFaultOf p plan fault
   is_fault (NoOperator step) stops = (s, name, comes step stops.0, stops.1)
   is_fault (NotApplicable step) stops = (s, name, comes step stops.0, stops.1, stops.2)
   is_fault (Conflict step operator) stops = (s, name, comes step stops.0, stops.1, stops.2)
@@ -38,7 +38,7 @@ module _ (p : Parts) (plan : PlanParts) (k : ℕ) (lt : k < length plan.steps) (
   at_step : (step : ℕ) → step ≡ k + 1 → take k plan.steps ≡ take (step - 1) plan.steps
   at_step step is = ap (λ n. take n plan.steps) (let e : k ≡ step - 1 = omega arith in e)
 
-  before : (fault : PlanFault) → StopsAt p s name (k + 1) fault → take k plan.steps ≡ steps_before plan fault
+  before : (fault : PlanFault) → StepFails p s name (k + 1) fault → take k plan.steps ≡ steps_before plan fault
   before (NoOperator step) stops = at_step step stops.0
   before (NotApplicable step) stops = at_step step stops.0
   before (Conflict step operator) stops = at_step step stops.0
@@ -46,7 +46,7 @@ module _ (p : Parts) (plan : PlanParts) (k : ℕ) (lt : k < length plan.steps) (
   before (CostDiffers sum) stops = absurd stops
   before Memory stops = absurd stops
 
-  pub stops_there : (fault : PlanFault) → StopsAt p s name (k + 1) fault → IsEnding p plan operators (Some fault)
+  pub stops_there : (fault : PlanFault) → StepFails p s name (k + 1) fault → IsEnding p plan operators (Some fault)
   stops_there fault stops =
       let w = some_run p (take k plan.steps) operators s leads in
       let made : length w.0.steps ≡ k = ap length w.2 ∙ length_of_take plan.steps k lt in
@@ -54,7 +54,7 @@ module _ (p : Parts) (plan : PlanParts) (k : ℕ) (lt : k < length plan.steps) (
 
 -- after the last step the goal and the cost are tested
 module _ (p : Parts) (plan : PlanParts) (operators s : List ℕ) (leads : LeadsTo p plan.steps operators s) where
-  ends : (run : Run) → run.steps ≡ plan.steps → run.operators ≡ operators → (fault : Option PlanFault) → IsJudged p operators s plan.cost fault → EndsBy p plan run fault
+  ends : (run : Run) → run.steps ≡ plan.steps → run.operators ≡ operators → (fault : Option PlanFault) → IsFinalVerdict p operators s plan.cost fault → RunEndsWith p plan run fault
   ends run whole by None is = (subst (λ os. IsValid p plan os) (sym by) (record { last = s; leads = leads; goal = is.0; cost = is.1 }), whole)
   ends run whole by (Some (GoalMissed index)) is = ((operators, s, leads, is), whole)
   ends run whole by (Some (CostDiffers sum)) is = ((operators, s, leads, is.0, is.1, is.2), whole)
@@ -63,7 +63,7 @@ module _ (p : Parts) (plan : PlanParts) (operators s : List ℕ) (leads : LeadsT
   ends run whole by (Some (Conflict step operator)) is = absurd is
   ends run whole by (Some Memory) is = absurd is
 
-  pub judged_there : (fault : Option PlanFault) → IsJudged p operators s plan.cost fault → IsEnding p plan operators fault
+  pub judged_there : (fault : Option PlanFault) → IsFinalVerdict p operators s plan.cost fault → IsEnding p plan operators fault
   judged_there fault is =
       let w = some_run p plan.steps operators s leads in
       let front = w.2 ∙ sym (take_all (length w.0.steps) plan.steps (omega (arith, ap length w.2))) in

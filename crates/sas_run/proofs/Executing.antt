@@ -20,7 +20,7 @@ use Rattle.sas_run.specs.declared.progress.Progress.{Progress}
 use Rattle.sas_run.specs.declared.stepper.Stepper.{Stepper}
 use Rattle.sas_run.specs.declared.steps.StepFault.{StepFault}
 use Rattle.sas_run.specs.Executions.{Executed, next_name, next_operator, Executes, IsFound, Advances, executed_of, IsExecuting}
-use Rattle.sas_run.specs.Running.{GoesOn, Steps}
+use Rattle.sas_run.specs.Running.{MakesStep, Steps}
 use Rattle.sas_run.specs.Stepping.{IsPrepared, ListsChanges}
 use Rattle.sas_run.proofs.NextStates.{fault_is_conflict}
 use Rattle.sas_run.specs.Runs.{Run, state_at, IsRunOf, IsEnding}
@@ -63,12 +63,12 @@ module _ (run : Run) (e : Executed) (executes : Executes run e) where
 
     module _ (layered : IsLayered e.task) where
       -- the next step leads, by its operator, to the next state of the run
-      pub next_goes : GoesOn e.task e.state (next_name e) (next_operator e) (state_at run (e.made + 1))
+      pub next_goes : MakesStep e.task e.state (next_name e) (next_operator e) (state_at run (e.made + 1))
       next_goes =
           let next = state_at run (e.made + 1) in
-          subst (λ s. GoesOn e.task s (next_name e) (next_operator e) next) (sym executes.state)
-          (subst (λ name. GoesOn e.task (state_at run e.made) name (next_operator e) next) name_is
-          (subst (λ o. GoesOn e.task (state_at run e.made) (get_or run.steps e.made []) o next) (ap (λ (os : List ℕ). get_or os e.made 0) executes.operators)
+          subst (λ s. MakesStep e.task s (next_name e) (next_operator e) next) (sym executes.state)
+          (subst (λ name. MakesStep e.task (state_at run e.made) name (next_operator e) next) name_is
+          (subst (λ o. MakesStep e.task (state_at run e.made) (get_or run.steps e.made []) o next) (ap (λ (os : List ℕ). get_or os e.made 0) executes.operators)
           (run_goes e.task run executes.of_plan.through layered e.made within)))
 
       -- and so the execution advances
@@ -147,8 +147,8 @@ module _ {E : Type 0} {Ready : E → Parts → Type 0} {Follows : E → Parts �
     is_next : operator ≡ next_operator e
     is_next = stands ∙ get_or_default progress.operators.items made operator 0 left
 
-    pub step_goes : GoesOn p progress.state (next_name e) operator (state_at executing.run (made + 1))
-    step_goes = subst (λ o. GoesOn p progress.state (next_name e) o (state_at executing.run (made + 1))) (sym is_next)
+    pub step_goes : MakesStep p progress.state (next_name e) operator (state_at executing.run (made + 1))
+    step_goes = subst (λ o. MakesStep p progress.state (next_name e) o (state_at executing.run (made + 1))) (sym is_next)
         (next_goes executing.run e executing.executes left layered)
 
     pub step_chain : IsChain p operator nexts

@@ -11,7 +11,7 @@ use Rattle.sas_core.specs.Variables.{HasValue, IsState}
 use Rattle.sas_core.specs.WellRanged.{EffectFits}
 use Rattle.sas_meaning.specs.States.{AllHold}
 use Rattle.sas_meaning.specs.Steps.{preconditions, Fires}
-use Rattle.sas_run.specs.Given.{given_to, value_after, IsClean, IsGiven, IsGivenTo, GivesValue}
+use Rattle.sas_run.specs.Given.{given_to, value_after, NothingGiven, IsGiven, IsGivenTo, GivesValue}
 use Rattle.sas_run.specs.Running.{IsApplied}
 use Rattle.sas_run.proofs.Ranges.{no_effect}
 
@@ -22,7 +22,7 @@ pub not_both : (a : ℕ) (given : Option ℕ) → given ≡ None → given ≡ S
 not_both a given none some = let e : None ≡ Some a = sym none ∙ some in absurd cc
 
 -- without effects no value is given
-pub gives_none : (p : Parts) (s : List ℕ) (o : Operator) (given : List (Option ℕ)) → IsClean p given → IsGiven p s o 0 given
+pub gives_none : (p : Parts) (s : List ℕ) (o : Operator) (given : List (Option ℕ)) → NothingGiven p given → IsGiven p s o 0 given
 gives_none p s o given clean = record {
   one_each = clean.one_each;
   gives = λ k lt. absurd (omega arith);
@@ -149,7 +149,7 @@ none_left (Some value) none = none value refl
 
 -- no value is given after the values of all effects' variables are removed
 pub all_taken : (p : Parts) (o : Operator) (n : ℕ) (given : List (Option ℕ)) → IsGivenTo p o given → length o.effects ≤ n
-    → ((k : ℕ) → k < n → given_to given (effect_at o k).var ≡ None) → IsClean p given
+    → ((k : ℕ) → k < n → given_to given (effect_at o k).var ≡ None) → NothingGiven p given
 all_taken p o n given on within taken = record {
   one_each = on.one_each;
   none = λ var. none_left (given_to given var)

@@ -8,10 +8,10 @@ use Rattle.sas_meaning.specs.Steps.{Step, Agree}
 use Rattle.sas_run.specs.Plans.{IsChosen, GoThrough, LeadsTo}
 use Rattle.sas_run.specs.declared.plan_check.PlanFault.{PlanFault}
 use Rattle.sas_run.specs.declared.plan_check.PlanFault.TheVariants.{Conflict}
-use Rattle.sas_run.specs.Running.{GoesOn, StopsAt}
+use Rattle.sas_run.specs.Running.{MakesStep, StepFails}
 
 pub goes_one_more : (p : Parts) (s : List ℕ) (names : List (List ℕ)) (operators mid : List ℕ) (name : List ℕ) (operator : ℕ) (next : List ℕ)
-    → GoThrough p s names operators mid → GoesOn p mid name operator next → GoThrough p s (names ++ name ∷ []) (operators ++ operator ∷ []) next
+    → GoThrough p s names operators mid → MakesStep p mid name operator next → GoThrough p s (names ++ name ∷ []) (operators ++ operator ∷ []) next
 goes_one_more p s [] [] mid name operator next goes on = (
   next,
   subst (λ (x : List ℕ). IsChosen p x name operator) goes on.chosen,
@@ -25,7 +25,7 @@ goes_one_more p s (n ∷ names) (o ∷ operators) mid name operator next (there,
 
 -- so there is one more executable step
 pub leads_one_more : (p : Parts) (names : List (List ℕ)) (operators s name : List ℕ) (operator : ℕ) (next : List ℕ)
-    → LeadsTo p names operators s → GoesOn p s name operator next → LeadsTo p (names ++ name ∷ []) (operators ++ operator ∷ []) next
+    → LeadsTo p names operators s → MakesStep p s name operator next → LeadsTo p (names ++ name ∷ []) (operators ++ operator ∷ []) next
 leads_one_more p names operators s name operator next leads on = record {
   initial = leads.initial;
   starts = leads.starts;
@@ -41,8 +41,8 @@ length_of_take xs i lt = grind (arith, common_steps)
 
 -- a step whose effects conflict fails
 pub conflict_stops : (p : Parts) (s name : List ℕ) (operator step : ℕ) (fault : PlanFault) → IsChosen p s name operator
-    → fault ≡ Conflict step operator → (Agree s (operator_at p operator).effects → ⊥) → StopsAt p s name step fault
-conflict_stops p s name operator step fault chosen is none = subst (StopsAt p s name step) (sym is) (refl, chosen, none)
+    → fault ≡ Conflict step operator → (Agree s (operator_at p operator).effects → ⊥) → StepFails p s name step fault
+conflict_stops p s name operator step fault chosen is none = subst (StepFails p s name step) (sym is) (refl, chosen, none)
 
 -- `?` passes on the fault
 pub passed_on : {A E : Type 0} (result : Result A E) (fault : E) → (f : E) × (result ≡ Err f) × (f ≡ fault) → result ≡ Err fault

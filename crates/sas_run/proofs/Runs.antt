@@ -10,13 +10,13 @@ use Rattle.sas_meaning.specs.Layers.{IsLayered}
 use Rattle.sas_meaning.specs.Reachable.{IsInitial}
 use Rattle.sas_meaning.specs.Settled.{IsSettled}
 use Rattle.sas_run.specs.Plans.{GoThrough, LeadsTo}
-use Rattle.sas_run.specs.Running.{GoesOn}
+use Rattle.sas_run.specs.Running.{MakesStep}
 use Rattle.sas_run.proofs.Determined.{leads_on, leads_one_way, initial_is_one}
 use Rattle.sas_run.proofs.Going.{leads_one_more, length_of_take}
 use Rattle.sas_run.proofs.PlanStates.{leads_to_rest, leads_by}
 use Rattle.sas_run.specs.declared.plan_check.PlanFault.{PlanFault}
 use Rattle.sas_run.specs.declared.plan_check.PlanFault.TheVariants.{Memory, NoOperator, NotApplicable, Conflict, GoalMissed, CostDiffers}
-use Rattle.sas_run.specs.Runs.{Run, state_at, last_state, GoesThrough, steps_before}
+use Rattle.sas_run.specs.Runs.{Run, state_at, last_state, StepsSucceed, steps_before}
 use Rattle.sas_run.specs.Verdicts.{ComesTo, IsFaultOf}
 use Rattle.sas_run.specs.Laws.{SomeRun, OneRun}
 
@@ -101,14 +101,14 @@ one_run p a b layered x y same = ap (λ names. made names a.operators a.states) 
 abbrev pub still : List ℕ → Run
 still s = record { steps = []; operators = []; states = s ∷ [] }
 
-pub still_goes : (p : Parts) (s : List ℕ) → IsInitial p s → GoesThrough p (still s)
+pub still_goes : (p : Parts) (s : List ℕ) → IsInitial p s → StepsSucceed p (still s)
 still_goes p s starts = record { operators = refl; states = refl; leads = at }
   where
     at : (k : ℕ) → k ≤ 0 → LeadsTo p (take k []) (take k []) (state_at (still s) k)
     at zero le = record { initial = s; starts = starts; goes = refl }
     at (suc k) le = absurd (omega arith)
 
-module _ (p : Parts) (run : Run) (through : GoesThrough p run) where
+module _ (p : Parts) (run : Run) (through : StepsSucceed p run) where
   -- each state is one of the task
   pub state_fits : (k : ℕ) → k ≤ length run.steps → IsState p.variables (state_at run k)
   state_fits k le = (leads_to_rest p (take k run.steps) (take k run.operators) (state_at run k) (through.leads k le)).0
@@ -134,7 +134,7 @@ module _ (p : Parts) (run : Run) (through : GoesThrough p run) where
 
 -- ---- its steps
 
-module _ (p : Parts) (run : Run) (through : GoesThrough p run) (layered : IsLayered p) (k : ℕ) (lt : k < length run.steps) where
+module _ (p : Parts) (run : Run) (through : StepsSucceed p run) (layered : IsLayered p) (k : ℕ) (lt : k < length run.steps) where
   abbrev name : List ℕ
   name = get_or run.steps k []
 
@@ -145,7 +145,7 @@ module _ (p : Parts) (run : Run) (through : GoesThrough p run) (layered : IsLaye
   leads_there = subst (λ names. LeadsTo p names (take (k + 1) run.operators) (state_at run (k + 1))) (take_more run.steps k [] lt) (through.leads (k + 1) (omega arith))
 
   -- a step from a state of the run leads to the next state of the run
-  module _ (operator : ℕ) (next : List ℕ) (on : GoesOn p (state_at run k) name operator next) where
+  module _ (operator : ℕ) (next : List ℕ) (on : MakesStep p (state_at run k) name operator next) where
     same : (take (k + 1) run.operators ≡ take k run.operators ++ operator ∷ []) × (state_at run (k + 1) ≡ next)
     same = leads_one_way p layered (take k run.steps ++ name ∷ []) (take (k + 1) run.operators) (take k run.operators ++ operator ∷ []) (state_at run (k + 1)) next leads_there
         (leads_one_more p (take k run.steps) (take k run.operators) (state_at run k) name operator next leads_here on)
@@ -158,18 +158,18 @@ module _ (p : Parts) (run : Run) (through : GoesThrough p run) (layered : IsLaye
         ∙ (ap (λ (os : List ℕ). get_or os k 0) (sym same.0) ∙ get_or-take (k + 1) run.operators k 0 (omega arith))
 
   -- each step leads, by its operator, to the next state
-  pub run_goes : GoesOn p (state_at run k) name (get_or run.operators k 0) (state_at run (k + 1))
+  pub run_goes : MakesStep p (state_at run k) name (get_or run.operators k 0) (state_at run (k + 1))
   run_goes =
       let on = leads_on p layered (take k run.steps) name [] (take (k + 1) run.operators) (state_at run (k + 1)) (take k run.operators) (state_at run k) leads_there leads_here in
-      let goes : GoesOn p (state_at run k) name on.operator on.next = record { chosen = on.chosen; step = on.step } in
-      subst (λ o. GoesOn p (state_at run k) name o (state_at run (k + 1))) (same_operator on.operator on.next goes)
-      (subst (λ s. GoesOn p (state_at run k) name on.operator s) (sym (same on.operator on.next goes).1) goes)
+      let goes : MakesStep p (state_at run k) name on.operator on.next = record { chosen = on.chosen; step = on.step } in
+      subst (λ o. MakesStep p (state_at run k) name o (state_at run (k + 1))) (same_operator on.operator on.next goes)
+      (subst (λ s. MakesStep p (state_at run k) name on.operator s) (sym (same on.operator on.next goes).1) goes)
 
 -- ---- up to a fault
 
 module _ (p : Parts) (plan : PlanParts) where
   -- the run up to the step that is reached
-  to_step : (step : ℕ) (s name : List ℕ) → ComesTo p plan.steps step s name → (run : Run) × GoesThrough p run × (run.steps ≡ take (step - 1) plan.steps)
+  to_step : (step : ℕ) (s name : List ℕ) → ComesTo p plan.steps step s name → (run : Run) × StepsSucceed p run × (run.steps ≡ take (step - 1) plan.steps)
   to_step step s name comes =
       let w = some_run p comes.before comes.operators s comes.leads in
       let place : length comes.before ≡ step - 1 = (let e = comes.place in omega arith) in (
@@ -180,7 +180,7 @@ module _ (p : Parts) (plan : PlanParts) where
       )
 
   -- the run of the steps before a fault
-  pub to_fault : (fault : PlanFault) → IsFaultOf p plan fault → (run : Run) × GoesThrough p run × (run.steps ≡ steps_before plan fault)
+  pub to_fault : (fault : PlanFault) → IsFaultOf p plan fault → (run : Run) × StepsSucceed p run × (run.steps ≡ steps_before plan fault)
   to_fault (NoOperator step) f = to_step step f.0 f.1 f.2
   to_fault (NotApplicable step) f = to_step step f.0 f.1 f.2
   to_fault (Conflict step operator) f = to_step step f.0 f.1 f.2

@@ -12,7 +12,7 @@ use Rattle.sas_run.specs.declared.plan_check.PlanFault.{PlanFault}
 use Rattle.sas_run.specs.declared.progress.Progress.{Progress}
 use Rattle.sas_run.specs.declared.stepper.Stepper.{Stepper}
 use Rattle.sas_run.specs.Plans.{IsChosen}
-use Rattle.sas_run.specs.Runs.{Run, state_at, IsRunOf, EndsBy}
+use Rattle.sas_run.specs.Runs.{Run, state_at, IsRunOf, RunEndsWith}
 use Rattle.sas_run.specs.Stepping.{IsPrepared, ListsChanges}
 
 -- The task, the plan, the operators of the steps that are known to succeed, how many of these steps
@@ -57,7 +57,7 @@ pub record IsFound (p : Parts) (plan : PlanParts) (fault : Option PlanFault) (e 
   pub made : e.made ≡ 0
   pub run : Run
   pub executes : Executes run e
-  pub ends : EndsBy p plan run fault
+  pub ends : RunEndsWith p plan run fault
 
 -- the next step was made by its operator, and the lists have what it changed
 pub record Advances (old : Executed) (operator : ℕ) (new : Executed) : Type 0 where

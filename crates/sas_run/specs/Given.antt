@@ -10,7 +10,7 @@ use Rattle.sas_core.specs.Variables.{HasValue}
 use Rattle.sas_meaning.specs.Steps.{Fires}
 
 -- the list has an entry for each variable, and no value is given
-pub record IsClean (p : Parts) (given : List (Option ℕ)) : Type 0 where
+pub record NothingGiven (p : Parts) (given : List (Option ℕ)) : Type 0 where
   pub one_each : length given ≡ length p.variables
   pub none : (var : ℕ) → slice_index_or given var None ≡ None
 

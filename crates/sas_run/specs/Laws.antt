@@ -8,7 +8,7 @@ use Rattle.sas_meaning.specs.Layers.{IsLayered}
 use Rattle.sas_meaning.specs.Reachable.{Reachable}
 use Rattle.sas_run.specs.declared.plan_check.PlanFault.{PlanFault}
 use Rattle.sas_run.specs.Plans.{LeadsTo, IsValid}
-use Rattle.sas_run.specs.Runs.{Run, last_state, GoesThrough}
+use Rattle.sas_run.specs.Runs.{Run, last_state, StepsSucceed}
 use Rattle.sas_run.specs.Verdicts.{IsFaultOf}
 
 -- a plan is valid or has a fault
@@ -46,10 +46,10 @@ LastIsReachable = (p : Parts) (plan : PlanParts) (operators : List ℕ)
 abbrev pub SomeRun : Type 0
 SomeRun = (p : Parts) (steps : List (List ℕ)) (operators last : List ℕ)
     → LeadsTo p steps operators last
-    → (run : Run) × GoesThrough p run × (run.steps ≡ steps) × (run.operators ≡ operators)
+    → (run : Run) × StepsSucceed p run × (run.steps ≡ steps) × (run.operators ≡ operators)
     × (last_state run ≡ last)
 
 -- in a layered task there is only one such run
 abbrev pub OneRun : Type 0
-OneRun = (p : Parts) (a b : Run) → IsLayered p → GoesThrough p a → GoesThrough p b
+OneRun = (p : Parts) (a b : Run) → IsLayered p → StepsSucceed p a → StepsSucceed p b
     → a.steps ≡ b.steps → a ≡ b

@@ -104,34 +104,35 @@ IsGoalAnswer s goal None = AllHold (slice_index s) goal
 IsGoalAnswer s goal (Some index) = IsFirstMissed (slice_index s) goal index
 
 -- the step of this name is made by its chosen operator
-pub record GoesOn (p : Parts) (s name : List ℕ) (operator : ℕ) (s' : List ℕ) : Type 0 where
+pub record MakesStep (p : Parts) (s name : List ℕ) (operator : ℕ) (s' : List ℕ) : Type 0 where
   pub chosen : IsChosen p s name operator
   pub step : Step p s (operator_at p operator) s'
 
 -- why the step of this name fails; steps are counted from 1
-abbrev pub StopsAt : Parts → List ℕ → List ℕ → ℕ → PlanFault → Type 0
-StopsAt p s name step (plan_fault.NoOperator at) = (at ≡ step)
+abbrev pub StepFails : Parts → List ℕ → List ℕ → ℕ → PlanFault → Type 0
+StepFails p s name step (plan_fault.NoOperator at) = (at ≡ step)
     × ((operator : ℕ) → IsNamed p name operator → ⊥)
-StopsAt p s name step (plan_fault.NotApplicable at) = (at ≡ step)
+StepFails p s name step (plan_fault.NotApplicable at) = (at ≡ step)
     × ((operator : ℕ) × IsNamed p name operator)
     × NoneApplicable p s name
-StopsAt p s name step (plan_fault.Conflict at operator) = (at ≡ step)
+StepFails p s name step (plan_fault.Conflict at operator) = (at ≡ step)
     × IsChosen p s name operator
     × (Agree s (operator_at p operator).effects → ⊥)
-StopsAt p s name step (plan_fault.GoalMissed index) = ⊥
-StopsAt p s name step (plan_fault.CostDiffers sum) = ⊥
-StopsAt p s name step plan_fault.Memory = ⊥
+StepFails p s name step (plan_fault.GoalMissed index) = ⊥
+StepFails p s name step (plan_fault.CostDiffers sum) = ⊥
+StepFails p s name step plan_fault.Memory = ⊥
 
 -- in the last state the goal holds and the operators' costs add up to `cost`; or what fails
-abbrev pub IsJudged : Parts → List ℕ → List ℕ → ℕ → Option PlanFault → Type 0
-IsJudged p operators s cost None = AllHold (slice_index s) p.goal
+abbrev pub IsFinalVerdict : Parts → List ℕ → List ℕ → ℕ → Option PlanFault → Type 0
+IsFinalVerdict p operators s cost None = AllHold (slice_index s) p.goal
     × (cost_of_all p operators ≡ cost)
-IsJudged p operators s cost (Some (plan_fault.GoalMissed index)) =
+IsFinalVerdict p operators s cost (Some (plan_fault.GoalMissed index)) =
     IsFirstMissed (slice_index s) p.goal index
-IsJudged p operators s cost (Some (plan_fault.CostDiffers sum)) = AllHold (slice_index s) p.goal
+IsFinalVerdict p operators s cost
+    (Some (plan_fault.CostDiffers sum)) = AllHold (slice_index s) p.goal
     × (sum ≡ cost_of_all p operators)
     × (sum ≢ cost)
-IsJudged p operators s cost (Some (plan_fault.NoOperator step)) = ⊥
-IsJudged p operators s cost (Some (plan_fault.NotApplicable step)) = ⊥
-IsJudged p operators s cost (Some (plan_fault.Conflict step operator)) = ⊥
-IsJudged p operators s cost (Some plan_fault.Memory) = ⊥
+IsFinalVerdict p operators s cost (Some (plan_fault.NoOperator step)) = ⊥
+IsFinalVerdict p operators s cost (Some (plan_fault.NotApplicable step)) = ⊥
+IsFinalVerdict p operators s cost (Some (plan_fault.Conflict step operator)) = ⊥
+IsFinalVerdict p operators s cost (Some plan_fault.Memory) = ⊥

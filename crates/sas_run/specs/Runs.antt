@@ -24,7 +24,7 @@ abbrev pub last_state : Run → List ℕ
 last_state run = state_at run (length run.steps)
 
 -- the run is executable: for each k its first k steps lead from the initial state to state k
-pub record GoesThrough (p : Parts) (run : Run) : Type 0 where
+pub record StepsSucceed (p : Parts) (run : Run) : Type 0 where
   pub operators : length run.operators ≡ length run.steps
   pub states : length run.states ≡ length run.steps + 1
   pub leads : (k : ℕ) → k ≤ length run.steps
@@ -32,7 +32,7 @@ pub record GoesThrough (p : Parts) (run : Run) : Type 0 where
 
 -- the run is executable, and its steps are the first steps of the plan
 pub record IsRunOf (p : Parts) (plan : PlanParts) (run : Run) : Type 0 where
-  pub through : GoesThrough p run
+  pub through : StepsSucceed p run
   pub front : run.steps ≡ take (length run.steps) plan.steps
 
 -- the steps that succeed before this fault of the plan
@@ -45,11 +45,11 @@ steps_before plan (CostDiffers sum) = plan.steps
 steps_before plan Memory = plan.steps
 
 -- the plan has this fault after the steps of the run; or it is valid, and these are all its steps
-abbrev pub EndsBy : Parts → PlanParts → Run → Option PlanFault → Type 0
-EndsBy p plan run (Some fault) = IsFaultOf p plan fault × (run.steps ≡ steps_before plan fault)
-EndsBy p plan run None = IsValid p plan run.operators × (run.steps ≡ plan.steps)
+abbrev pub RunEndsWith : Parts → PlanParts → Run → Option PlanFault → Type 0
+RunEndsWith p plan run (Some fault) = IsFaultOf p plan fault × (run.steps ≡ steps_before plan fault)
+RunEndsWith p plan run None = IsValid p plan run.operators × (run.steps ≡ plan.steps)
 
 -- the plan ends with this fault, or is valid, after a run of these operators
 abbrev pub IsEnding : Parts → PlanParts → List ℕ → Option PlanFault → Type 0
-IsEnding p plan operators fault = (run : Run) × IsRunOf p plan run × EndsBy p plan run fault
+IsEnding p plan operators fault = (run : Run) × IsRunOf p plan run × RunEndsWith p plan run fault
     × (run.operators ≡ operators)

@@ -11,20 +11,20 @@ use Rattle.sas_meaning.specs.Layers.{IsBasic}
 use Rattle.sas_meaning.specs.States.{AllHold}
 use Rattle.sas_meaning.specs.Touched.{MayHaveChanged}
 use Rattle.sas_run.specs.declared.stepper.Stepper.{Stepper}
-use Rattle.sas_run.specs.Given.{IsClean}
+use Rattle.sas_run.specs.Given.{NothingGiven}
 
 -- the evaluator is ready, no value is given, and each operator's effects may all delete a fact
 -- without allocation
 pub record IsPrepared {E : Type 0} (Ready : E → Parts → Type 0) (p : Parts) (w : Stepper E)
     : Type 0 where
   pub ready : Ready w.evaluator p
-  pub clean : IsClean p w.given
+  pub clean : NothingGiven p w.given
   pub room : (operator : ℕ) → operator < length p.operators
       → length (operator_at p operator).effects ≤ vec_capacity w.deleted
 
 -- how many derived variables the task has
-abbrev pub derived_count : Parts → ℕ
-derived_count p = count_by (λ (v : Variable). is_some v.layer) p.variables
+abbrev pub derived_variable_count : Parts → ℕ
+derived_variable_count p = count_by (λ (v : Variable). is_some v.layer) p.variables
 
 -- one of the facts is on the variable
 abbrev pub HasFactOn : List Fact → ℕ → Type 0

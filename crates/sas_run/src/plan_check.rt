@@ -8,7 +8,7 @@ ghost use Rattle.sas_names.specs.Chains.{IsChain, HaveChains};
 ghost use Rattle.sas_names.specs.Names.{AreFirsts, IsFirst};
 ghost use Rattle.sas_run.specs.Plans.{LeadsTo, IsValid};
 ghost use Rattle.sas_run.specs.Verdicts.{IsFaultOf};
-ghost use Rattle.sas_run.specs.Running.{GoesOn, StopsAt};
+ghost use Rattle.sas_run.specs.Running.{MakesStep, StepFails};
 ghost use Rattle.sas_run.specs.Runs.{IsEnding};
 ghost use Rattle.sas_run.specs.Stepping.{IsPrepared};
 
@@ -226,9 +226,9 @@ fn go_on<E: Settle<T> + Drop, T: Grounded>(
     requires state { IsState layered.now.variables state.old }
     ensures prepared { IsPrepared E.ready layered.now stepper.new }
     ensures follows { IfOk result (λ _. E.follows stepper.new.evaluator layered.now state.new) }
-    ensures ok { IfOk result (λ operator. GoesOn layered.now state.old
+    ensures ok { IfOk result (λ operator. MakesStep layered.now state.old
         (operator_at layered.now next.first).name operator state.new) }
-    ensures err { IfErr result (λ fault. StopsAt layered.now state.old
+    ensures err { IfErr result (λ fault. StepFails layered.now state.old
         (operator_at layered.now next.first).name next.number fault) }
     ensures state { IsState layered.now.variables state.new }
 {

@@ -6,7 +6,7 @@ ghost use Rattle.sas_meaning.specs.Reachable.{IsInitial};
 ghost use Rattle.sas_names.specs.Chains.{IsChain};
 ghost use Rattle.sas_names.specs.Names.{IsFirst};
 ghost use Rattle.sas_run.specs.Plans.{IsChosen, cost_of_all};
-ghost use Rattle.sas_run.specs.Running.{StopsAt, IsJudged};
+ghost use Rattle.sas_run.specs.Running.{StepFails, IsFinalVerdict};
 ghost use Rattle.sas_run.specs.Stepping.{IsPrepared};
 
 use crate::holding::first_missed;
@@ -65,7 +65,7 @@ pub fn choose<T: Grounded>(
     requires state { IsState layered.now.variables state.now }
     ensures ok { IfOk result (IsChosen layered.now state.now
         (operator_at layered.now next.first).name) }
-    ensures err { IfErr result (StopsAt layered.now state.now
+    ensures err { IfErr result (StepFails layered.now state.now
         (operator_at layered.now next.first).name next.number) }
 {
     match first_applicable(layered, nexts, state, next.first) {
@@ -83,7 +83,8 @@ pub fn judge_last<T: Grounded>(
 ) -> Option<PlanFault>
     requires state { IsState layered.now.variables progress.now.state }
     requires exist { All (λ (o : ℕ). o < length layered.now.operators) progress.now.operators.items }
-    ensures { IsJudged layered.now progress.now.operators.items progress.now.state cost result }
+    ensures { IsFinalVerdict layered.now progress.now.operators.items
+        progress.now.state cost result }
 {
     if let Some(index) = first_missed(&progress.state, layered.task().goal()) {
         let index = index as u32;

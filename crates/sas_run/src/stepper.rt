@@ -3,10 +3,10 @@ ghost use Rattle.std.specs.Prelude.{◌≡◌, ◌<◌, ◌≤◌, ℕ, length, 
 ghost use Rattle.sas_core.specs.Grounded.{operator_at};
 ghost use Rattle.sas_core.specs.Variables.{IsState};
 ghost use Rattle.sas_meaning.specs.Reachable.{IsInitial};
-ghost use Rattle.sas_run.specs.Given.{IsClean};
+ghost use Rattle.sas_run.specs.Given.{NothingGiven};
 ghost use Rattle.sas_run.specs.Plans.{IsApplicable};
 ghost use Rattle.sas_run.specs.Running.{Steps};
-ghost use Rattle.sas_run.specs.Stepping.{IsPrepared, ListsChanges, derived_count};
+ghost use Rattle.sas_run.specs.Stepping.{IsPrepared, ListsChanges, derived_variable_count};
 
 use crate::steps::{StepFault, apply};
 use sas_core::{Fact, Grounded, Items};
@@ -62,7 +62,8 @@ pub fn stepper_listing<E: Settle<T> + Drop, T: Grounded>(
 ) -> Result<Stepper<E>, (E, AllocError)>
     requires { E.ready evaluator layered.now }
     ensures prepared { IfOk result (λ s. IsPrepared E.ready layered.now s) }
-    ensures room { IfOk result (λ s. vec_capacity s.touched.vars ≡ derived_count layered.now) }
+    ensures room { IfOk result (λ s. vec_capacity s.touched.vars
+        ≡ derived_variable_count layered.now) }
     ensures handed_back { IfErr result (λ e. e.0 ≡ evaluator) }
 {
     match Touched::with_room(alloc, count_derived(layered)) {
@@ -215,7 +216,7 @@ fn nothing_given<T: Grounded>(
     alloc: Global,
     task: &Layered<T>,
 ) -> Result<Items<Option<u32>>, AllocError>
-    ensures { IfOk result (λ given. IsClean task.now given) }
+    ensures { IfOk result (λ given. NothingGiven task.now given) }
 {
     Ok(Items::from_vec(vec![in alloc; None; task.variables() as usize]?))
 }
@@ -234,7 +235,7 @@ fn most_effects<T: Grounded>(task: &Layered<T>) -> usize
 
 /// Returns how many derived variables the task has.
 fn count_derived<T: Grounded>(task: &Layered<T>) -> usize
-    ensures { result ≡ derived_count task.now }
+    ensures { result ≡ derived_variable_count task.now }
 {
     let mut count = 0;
     for var in 0..task.variables() {

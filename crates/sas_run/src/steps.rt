@@ -6,7 +6,7 @@ ghost use Rattle.sas_core.specs.Variables.{IsState};
 ghost use Rattle.sas_meaning.specs.Following.{HaveGone};
 ghost use Rattle.sas_run.specs.Plans.{IsApplicable};
 ghost use Rattle.sas_run.specs.Running.{IsFirstConflict, IsStepFault, Applies};
-ghost use Rattle.sas_run.specs.Given.{IsClean, IsGiven, IsGivenTo, value_after, GivesValue, GivesOther};
+ghost use Rattle.sas_run.specs.Given.{NothingGiven, IsGiven, IsGivenTo, value_after, GivesValue, GivesOther};
 
 use crate::plain_steps::{make_changes, plain_step, replace};
 use sas_core::{Fact, Grounded, Items};
@@ -57,12 +57,12 @@ pub fn apply<T: Grounded>(
     requires operator { operator < length task.now.operators }
     requires state { IsState task.now.variables state.old }
     requires applicable { IsApplicable state.old (operator_at task.now operator) }
-    requires clean { IsClean task.now given.old }
+    requires clean { NothingGiven task.now given.old }
     requires room { length (operator_at task.now operator).effects ≤ vec_capacity deleted.old }
     ensures applies { Applies task.now state.old operator state.new result }
     ensures deleted { OnOk result (HaveGone task.now deleted.new.items state.old state.new) }
     ensures same { OnErr result (deleted.new ≡ deleted.old) }
-    ensures clean { IsClean task.now given.new }
+    ensures clean { NothingGiven task.now given.new }
     ensures room { vec_capacity deleted.old ≤ vec_capacity deleted.new }
 {
     match plain_step(task, operator) {
@@ -86,12 +86,12 @@ fn apply_given<T: Grounded>(
     requires operator { operator < length task.now.operators }
     requires state { IsState task.now.variables state.old }
     requires applicable { IsApplicable state.old (operator_at task.now operator) }
-    requires clean { IsClean task.now given.old }
+    requires clean { NothingGiven task.now given.old }
     requires room { length (operator_at task.now operator).effects ≤ vec_capacity deleted.old }
     ensures applies { Applies task.now state.old operator state.new result }
     ensures deleted { OnOk result (HaveGone task.now deleted.new.items state.old state.new) }
     ensures same { OnErr result (deleted.new ≡ deleted.old) }
-    ensures clean { IsClean task.now given.new }
+    ensures clean { NothingGiven task.now given.new }
     ensures room { vec_capacity deleted.old ≤ vec_capacity deleted.new }
 {
     if let Some(effect) = give_effects(task, operator, state, given) {
@@ -113,7 +113,7 @@ fn give_effects<T: Grounded>(
 ) -> Option<u32>
     requires operator { operator < length task.now.operators }
     requires state { IsState task.now.variables state.now }
-    requires clean { IsClean task.now given.old }
+    requires clean { NothingGiven task.now given.old }
     ensures some { IfSome result (λ effect.
         IsFirstConflict state.now (operator_at task.now operator) effect) }
     ensures none { IfNone result (IsGiven task.now state.now (operator_at task.now operator)
@@ -152,7 +152,7 @@ fn give(given: &mut Items<Option<u32>>, var: u32, value: u32) -> bool
 fn take_back<T: Grounded>(task: &Layered<T>, operator: u32, given: &mut Items<Option<u32>>)
     requires operator { operator < length task.now.operators }
     requires given_to { IsGivenTo task.now (operator_at task.now operator) given.old }
-    ensures { IsClean task.now given.new }
+    ensures { NothingGiven task.now given.new }
 {
     // By its contract the task is well ranged and layered.
     let _ = task.task();
@@ -179,7 +179,7 @@ fn write_given<T: Grounded>(
     ensures state { IsState task.now.variables state.new }
     ensures written { (var : ℕ) → slice_index state.new var ≡ value_after given.old state.old var }
     ensures deleted { HaveGone task.now deleted.new.items state.old state.new }
-    ensures clean { IsClean task.now given.new }
+    ensures clean { NothingGiven task.now given.new }
     ensures room { vec_capacity deleted.old ≤ vec_capacity deleted.new }
 {
     // By its contract the task is well ranged and layered.

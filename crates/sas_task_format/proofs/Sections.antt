@@ -6,7 +6,7 @@ use Rattle.std.specs.List.{flat_map, AllByRecursion}
 use Rattle.std.proofs.lemmas.List.{append-nil}
 use Rattle.std.proofs.lemmas.List.Concat.{flat_map-cons}
 use Rattle.sas_reader.specs.Format.{Format}
-use Rattle.sas_reader.specs.System.{Takes, After, LeadsToEnd}
+use Rattle.sas_reader.specs.System.{IsAllowed, After, LeadsToEnd}
 use Rattle.sas_task_format.specs.Process.{Process, done, read, process_node, Part, Paired, a_line, repeat, each, a_list}
 use Rattle.sas_reader.proofs.Paths.{one_ended}
 
@@ -22,7 +22,7 @@ module _ {V I S : Type 0} (F : Format V I S) (Fits : I → Type 0) where
   -- any lines can be completed
   abbrev pub Fillable : Process V I S → Type 0
   Fillable (done v) = Unit {0}
-  Fillable (read s ok next) = (i : I) × Takes F Fits s ok i × ((j : I) → Takes F Fits s ok j → Fillable (next j))
+  Fillable (read s ok next) = (i : I) × IsAllowed F Fits s ok i × ((j : I) → IsAllowed F Fits s ok j → Fillable (next j))
 
   -- the lines are those of a good value, followed by lines of the rest
   pub record Found {A : Type 0} (items : A → List I) (Good : A → Type 0) (k : A → Process V I S) (is : List I) (v : V) : Type 0 where
@@ -62,10 +62,10 @@ module _ {V I S : Type 0} {F : Format V I S} {Fits : I → Type 0} where
   -- ---- one line
 
   module _ {A : Type 0} {s : S} {ok : A → Bool} {back : I → A} {into : A → I} {Good : A → Type 0} (says : LineFor F Fits s back into) (l : Leaf F Fits ok into Good) where
-    leaf_takes : (a : A) → Good a → Takes F Fits s (λ i. ok (back i)) (into a)
+    leaf_takes : (a : A) → Good a → IsAllowed F Fits s (λ i. ok (back i)) (into a)
     leaf_takes a g = record { slot = says.slot a; fits = l.fits a g; good = subst (λ x. IsTrue (ok x)) (sym (says.backs a)) (l.passes a g) }
 
-    leaf_good : (i : I) → Takes F Fits s (λ j. ok (back j)) i → Good (back i)
+    leaf_good : (i : I) → IsAllowed F Fits s (λ j. ok (back j)) i → Good (back i)
     leaf_good i t = l.good (back i) (subst Fits (sym (says.only i t.slot)) t.fits) t.good
 
     leaf_sound : (k : A → Process V I S) (is : List I) (v : V) → Runs F Fits (a_line s ok back k) is v → Found F Fits (λ a. into a ∷ []) Good k is v

@@ -8,7 +8,7 @@ use Rattle.sas_core.specs.declared.parts.Parts.{Parts}
 use Rattle.sas_core.specs.Numbers.{IsNumber}
 use Rattle.sas_core.specs.Variables.{range_of}
 use Rattle.sas_lines.specs.Spelling.{signed_decimal, joined}
-use Rattle.sas_reader.specs.System.{Takes, After, LeadsToEnd}
+use Rattle.sas_reader.specs.System.{IsAllowed, After, LeadsToEnd}
 use Rattle.sas_task_format.specs.Process.{done, read, process_node, repeat, each, a_list}
 use Rattle.sas_task_format.specs.TaskFormat.{TaskLine, number, TaskSlot, word_slot, name_slot, number_slot, signed_slot, fact_slot, effect_slot, head_slot, task_slot, task_line_bytes, task_layout, task_format, TaskLineFits}
 use Rattle.sas_task_format.specs.TaskProcess.{TaskProcess, TaskPart, number_in, any, positive, a_word, a_name, a_number, a_signed, a_fact, an_effect, a_head, a_value, a_version, a_metric, a_variable, a_group, a_state, a_goal, an_operator, a_rule, a_task, task_start}
@@ -23,7 +23,7 @@ use Rattle.sas_task_format.proofs.TaskGrammar.{task_grammar}
 -- after any lines, each slot can have its filling
 abbrev Fills : Option TaskSlot → TaskProcess → Type 0
 Fills before (done v) = Unit {0}
-Fills before (read s ok next) = Takes task_format TaskLineFits s ok (filling before s) × ((j : TaskLine) → Takes task_format TaskLineFits s ok j → Fills (Some s) (next j))
+Fills before (read s ok next) = IsAllowed task_format TaskLineFits s ok (filling before s) × ((j : TaskLine) → IsAllowed task_format TaskLineFits s ok j → Fills (Some s) (next j))
 
 -- a part that can be filled if a number is filled by the first number; after it a number is filled
 -- by the last one
@@ -44,7 +44,7 @@ signed_filled = record { fills = λ k h b f. (record { slot = refl; fits = tt; g
 number_filled : (ok : ℕ → Bool) (n : ℕ) → IsNumber n → IsTrue (ok n) → Filled n (λ x. IsTrue (ok x)) 0 (a_number ok)
 number_filled ok n l t = record {
   fills = λ k h b f.
-      (subst (λ x. Takes task_format TaskLineFits number_slot (λ i. ok (number_in i)) (number x)) (sym f) (record { slot = refl; fits = l; good = t }), λ j u. h _ u.good (Some number_slot) refl);
+      (subst (λ x. IsAllowed task_format TaskLineFits number_slot (λ i. ok (number_in i)) (number x)) (sym f) (record { slot = refl; fits = l; good = t }), λ j u. h _ u.good (Some number_slot) refl);
 }
 
 -- the first variable has a value

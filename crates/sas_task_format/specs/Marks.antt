@@ -17,23 +17,23 @@ use Rattle.sas_task_format.specs.declared.marks.Mark.{Mark}
 use Rattle.sas_task_format.specs.TaskFormat.{TaskSlot, word_slot, name_slot, number_slot, signed_slot, fact_slot, effect_slot, head_slot, task_format}
 
 -- the bytes of the words
-abbrev pub word_bytes : FixedWord → List ℕ
-word_bytes fixed.BeginVersion = codes "begin_version"
-word_bytes fixed.EndVersion = codes "end_version"
-word_bytes fixed.BeginMetric = codes "begin_metric"
-word_bytes fixed.EndMetric = codes "end_metric"
-word_bytes fixed.BeginVariable = codes "begin_variable"
-word_bytes fixed.EndVariable = codes "end_variable"
-word_bytes fixed.BeginMutexGroup = codes "begin_mutex_group"
-word_bytes fixed.EndMutexGroup = codes "end_mutex_group"
-word_bytes fixed.BeginState = codes "begin_state"
-word_bytes fixed.EndState = codes "end_state"
-word_bytes fixed.BeginGoal = codes "begin_goal"
-word_bytes fixed.EndGoal = codes "end_goal"
-word_bytes fixed.BeginOperator = codes "begin_operator"
-word_bytes fixed.EndOperator = codes "end_operator"
-word_bytes fixed.BeginRule = codes "begin_rule"
-word_bytes fixed.EndRule = codes "end_rule"
+abbrev pub fixed_word_bytes : FixedWord → List ℕ
+fixed_word_bytes fixed.BeginVersion = codes "begin_version"
+fixed_word_bytes fixed.EndVersion = codes "end_version"
+fixed_word_bytes fixed.BeginMetric = codes "begin_metric"
+fixed_word_bytes fixed.EndMetric = codes "end_metric"
+fixed_word_bytes fixed.BeginVariable = codes "begin_variable"
+fixed_word_bytes fixed.EndVariable = codes "end_variable"
+fixed_word_bytes fixed.BeginMutexGroup = codes "begin_mutex_group"
+fixed_word_bytes fixed.EndMutexGroup = codes "end_mutex_group"
+fixed_word_bytes fixed.BeginState = codes "begin_state"
+fixed_word_bytes fixed.EndState = codes "end_state"
+fixed_word_bytes fixed.BeginGoal = codes "begin_goal"
+fixed_word_bytes fixed.EndGoal = codes "end_goal"
+fixed_word_bytes fixed.BeginOperator = codes "begin_operator"
+fixed_word_bytes fixed.EndOperator = codes "end_operator"
+fixed_word_bytes fixed.BeginRule = codes "begin_rule"
+fixed_word_bytes fixed.EndRule = codes "end_rule"
 
 -- ---- what is expected on the lines of each section
 
@@ -131,7 +131,7 @@ pub record IsDue (begun : List (List ℕ)) (mark : Mark) : Type 0 where
 
 -- the slot of an expected line
 abbrev pub slot_of_due : Due → TaskSlot
-slot_of_due (due.Word w) = word_slot (word_bytes w)
+slot_of_due (due.Word w) = word_slot (fixed_word_bytes w)
 slot_of_due due.Name = name_slot
 slot_of_due (due.Number least most) = number_slot
 slot_of_due due.Layer = signed_slot

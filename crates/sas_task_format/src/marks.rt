@@ -1,6 +1,6 @@
 // The lines of a task file: where they are, what is expected there, and which numbers are allowed.
 ghost use Rattle.std.specs.Prelude.{◌≡◌};
-ghost use Rattle.sas_task_format.specs.Marks.{word_bytes};
+ghost use Rattle.sas_task_format.specs.Marks.{fixed_word_bytes};
 
 /// The location of a line in a task file: its section, and its variable, group, operator or rule, counted from 0. The plurals are the lines
 /// with the counts.
@@ -46,7 +46,7 @@ pub enum FixedWord {
 impl FixedWord {
     /// Returns the bytes of the word in a file.
     pub fn bytes(self) -> &'static [u8]
-        ensures { result.now ≡ word_bytes self }
+        ensures { result.now ≡ fixed_word_bytes self }
     {
         match self {
             FixedWord::BeginVersion => b"begin_version",

@@ -31,7 +31,7 @@ use Rattle.sas_task_judge.specs.declared.task_judge.TaskJudge.{TaskJudge}
 use Rattle.sas_task_judge.specs.declared.task_machine.TaskMachine.{TaskMachine}
 use Rattle.sas_task_judge.specs.Marks.{mark_of, due_slot, WrongWordIn}
 use Rattle.sas_task_judge.specs.TaskJudge.{state_of, tracker_at, tracker_of, ranges_in, HasEnded}
-use Rattle.sas_task_judge.specs.TaskMachine.{LedBy, Stopped}
+use Rattle.sas_task_judge.specs.TaskMachine.{LedBy, MachineStopped}
 use Rattle.sas_task_judge.proofs.Marking.{speaks_of_facts}
 use Rattle.sas_task_judge.proofs.TaskEnds.{done_is, ended_if_done}
 
@@ -199,17 +199,17 @@ module _ {K : Type 0} (keeps : List (List ℕ) → SoFar → K → Type 0) (line
   as_before said word h = record { so_far = h.so_far; leads = h.leads; known = record { ranges = h.known.ranges; valued = h.known.valued; range = h.known.range }; tracked = h.tracked; kept = h.kept }
 
   -- it is led by the same lines
-  pub led_still : Stopped m line kind n → LedBy keeps lines m → LedBy keeps lines n
+  pub led_still : MachineStopped m line kind n → LedBy keeps lines m → LedBy keeps lines n
   led_still s h =
       subst (λ (k : K). LedBy keeps lines (record { judge = n.judge; kept = k; wrong = n.wrong })) (sym s.kept)
       (subst (λ (j : TaskJudge). LedBy keeps lines (record { judge = j; kept = m.kept; wrong = n.wrong })) (sym s.judge) (as_before n.judge.said n.wrong h))
 
   -- it has ended exactly if it had before
-  pub ended_still : Stopped m line kind n → HasEnded n.judge → HasEnded m.judge
+  pub ended_still : MachineStopped m line kind n → HasEnded n.judge → HasEnded m.judge
   ended_still s e = let before : HasEnded (record m.judge { said = n.judge.said }) = subst HasEnded s.judge e in (before.0, before.1)
 
   -- it knows which word is wrong
-  pub wrong_still : Stopped m line kind n → WrongWordIn n.judge line kind n.wrong
+  pub wrong_still : MachineStopped m line kind n → WrongWordIn n.judge line kind n.wrong
   wrong_still s =
       let there : WrongWordIn (record m.judge { said = n.judge.said }) line kind n.wrong = record { of_value = s.wrong.of_value; of_another = s.wrong.of_another } in
       subst (λ (j : TaskJudge). WrongWordIn j line kind n.wrong) (sym s.judge) there

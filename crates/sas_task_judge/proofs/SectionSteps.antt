@@ -21,7 +21,7 @@ use Rattle.sas_task_judge.specs.declared.task_judge.sections.Section.TheVariants
 use Rattle.sas_task_judge.specs.declared.task_machine.TaskMachine.{TaskMachine}
 use Rattle.sas_task_judge.specs.Sections.{behind_variable, behind_group, behind_operator, behind_rule}
 use Rattle.sas_task_format.specs.Tracker.{Tracker, tracker_start, track}
-use Rattle.sas_task_judge.specs.TaskJudge.{state_at, state_of, tracker_of, KnownTo, SectionDue}
+use Rattle.sas_task_judge.specs.TaskJudge.{process_at, state_of, tracker_of, KnownTo, SectionDue}
 use Rattle.sas_task_judge.specs.TaskMachine.{LedBy}
 use Rattle.sas_task_judge.proofs.TaskMoves.{next_of}
 use Rattle.sas_task_judge.proofs.Stepping.{track_append}
@@ -32,8 +32,8 @@ use Rattle.sas_task_judge.proofs.SectionLines.{GoesOn, AllFit, variable_on, grou
 -- ---- the judge
 
 -- the state before the expected section
-before_section : (j : TaskJudge) (s : SoFar) (place : Place) → j.place ≡ place → 0 < j.left → state_of j s ≡ state_at place (suc (j.left - 1)) j.more s
-before_section j s place here left = ap (λ (p : Place). state_at p j.left j.more s) here ∙ ap (λ (n : ℕ). state_at place n j.more s) (next_of j.left left)
+before_section : (j : TaskJudge) (s : SoFar) (place : Place) → j.place ≡ place → 0 < j.left → state_of j s ≡ process_at place (suc (j.left - 1)) j.more s
+before_section j s place here left = ap (λ (p : Place). process_at p j.left j.more s) here ∙ ap (λ (n : ℕ). process_at place n j.more s) (next_of j.left left)
 
 -- All lines of one more section lead to the content with this section, of which the judge knows
 -- what it needs.
@@ -53,11 +53,11 @@ known_behind j s t variables init apart f = record {
 -- lines that lead past a section at a place also do so for a judge at that place with a section
 -- left
 at_place : (j : TaskJudge) (s t : SoFar) (place : Place) (items is : List TaskLine) → j.place ≡ place → 0 < j.left → is ≡ items
-    → GoesOn (state_at place (suc (j.left - 1)) j.more s) items (state_at place (j.left - 1) j.more t) → GoesOn (state_of j s) is (state_of (behind_section j) t)
+    → GoesOn (process_at place (suc (j.left - 1)) j.more s) items (process_at place (j.left - 1) j.more t) → GoesOn (state_of j s) is (state_of (behind_section j) t)
 at_place j s t place items is here left same on =
     subst (λ (p : TaskProcess). GoesOn p is (state_of (behind_section j) t)) (sym (before_section j s place here left))
-    (subst (λ (l : List TaskLine). GoesOn (state_at place (suc (j.left - 1)) j.more s) l (state_of (behind_section j) t)) (sym same)
-    (subst (λ (p : Place). GoesOn (state_at place (suc (j.left - 1)) j.more s) items (state_at p (j.left - 1) j.more t)) (sym here) on))
+    (subst (λ (l : List TaskLine). GoesOn (process_at place (suc (j.left - 1)) j.more s) l (state_of (behind_section j) t)) (sym same)
+    (subst (λ (p : Place). GoesOn (process_at place (suc (j.left - 1)) j.more s) items (process_at p (j.left - 1) j.more t)) (sym here) on))
 
 pub variable_leads : (j : TaskJudge) (s : SoFar) (v : Variable) (range : ℕ) → SectionDue j section.Variable → KnownTo s j → HasNames v → range ≡ length v.values → AllFit (variable_lines v) → SectionLeads j (behind_values j range) s (variable_lines v) (behind_variable s v)
 variable_leads j s v range due f good many fits = record {
@@ -67,7 +67,7 @@ variable_leads j s v range due f good many fits = record {
     range = λ h. absurd (let other = sym due.0 ∙ h in cc);
   };
   on = at_place j s (behind_variable s v) at.Variables (variable_lines v) (variable_lines v) due.0 due.1 refl
-      (variable_on (λ a. state_at at.Variables (j.left - 1) j.more (behind_variable s a)) v good fits);
+      (variable_on (λ a. process_at at.Variables (j.left - 1) j.more (behind_variable s a)) v good fits);
   tracked = variable_tracked j v range due.0 due.1 many;
 }
 
@@ -75,7 +75,7 @@ pub group_leads : (j : TaskJudge) (s : SoFar) (facts : List Fact) → SectionDue
 group_leads j s facts due f good fits = record {
   known = known_behind j s (behind_group s facts) refl refl (λ h. let other = sym due.0 ∙ h in cc) f;
   on = at_place j s (behind_group s facts) at.Groups (group_lines facts) (group_lines facts) due.0 due.1 refl
-      (group_on s.parts.variables (λ a. state_at at.Groups (j.left - 1) j.more (behind_group s a)) facts (subst (λ (rs : List ℕ). IsTrue (list_all (fact_in_ranges rs) facts)) f.ranges good) fits);
+      (group_on s.parts.variables (λ a. process_at at.Groups (j.left - 1) j.more (behind_group s a)) facts (subst (λ (rs : List ℕ). IsTrue (list_all (fact_in_ranges rs) facts)) f.ranges good) fits);
   tracked = group_tracked j facts due.0 due.1;
 }
 
@@ -83,7 +83,7 @@ pub operator_leads : (j : TaskJudge) (s : SoFar) (o : Operator) → SectionDue j
 operator_leads j s o due f good fits = record {
   known = known_behind j s (behind_operator s o) refl refl (λ h. let other = sym due.0 ∙ h in cc) f;
   on = at_place j s (behind_operator s o) at.Operators (operator_items o) (operator_lines o) due.0 due.1 (operator_lines_are o)
-      (operator_on s.parts.variables (λ a. state_at at.Operators (j.left - 1) j.more (behind_operator s a)) o (subst (λ (rs : List ℕ). OperatorInRanges rs o) f.ranges good) (subst AllFit (operator_lines_are o) fits));
+      (operator_on s.parts.variables (λ a. process_at at.Operators (j.left - 1) j.more (behind_operator s a)) o (subst (λ (rs : List ℕ). OperatorInRanges rs o) f.ranges good) (subst AllFit (operator_lines_are o) fits));
   tracked = ap (λ (l : List TaskLine). track (tracker_of j) l) (operator_lines_are o) ∙ operator_tracked j o due.0 due.1;
 }
 
@@ -91,7 +91,7 @@ pub rule_leads : (j : TaskJudge) (s : SoFar) (r : Rule) → SectionDue j section
 rule_leads j s r due f good fits = record {
   known = known_behind j s (behind_rule s r) refl refl (λ h. let other = sym due.0 ∙ h in cc) f;
   on = at_place j s (behind_rule s r) at.Rules (rule_items r) (rule_lines r) due.0 due.1 (rule_lines_are r)
-      (rule_on s.parts.variables (λ a. state_at at.Rules (j.left - 1) j.more (behind_rule s a)) r (subst (λ (rs : List ℕ). RuleInRanges rs r) f.ranges good) (subst AllFit (rule_lines_are r) fits));
+      (rule_on s.parts.variables (λ a. process_at at.Rules (j.left - 1) j.more (behind_rule s a)) r (subst (λ (rs : List ℕ). RuleInRanges rs r) f.ranges good) (subst AllFit (rule_lines_are r) fits));
   tracked = ap (λ (l : List TaskLine). track (tracker_of j) l) (rule_lines_are r) ∙ rule_tracked j r due.0 due.1;
 }
 

@@ -5,7 +5,7 @@ use Rattle.std.specs.Prelude.{if◌then◌else◌}
 use Rattle.sas_task_format.specs.declared.places.Place.{Place}
 use Rattle.sas_task_format.specs.declared.places.Place.TheVariants as at
 use Rattle.sas_task_format.specs.TaskFormat.{TaskLine}
-use Rattle.sas_task_format.specs.Tracker.{Tracker, tracker_start, step, step_at, track, goes_to}
+use Rattle.sas_task_format.specs.Tracker.{Tracker, tracker_start, step, step_from, track, goes_to}
 use Rattle.sas_task_judge.specs.declared.task_judge.TaskJudge.{TaskJudge}
 use Rattle.sas_task_judge.specs.TaskJudge.{more_in, tracker_at, tracker_of}
 use Rattle.sas_task_judge.proofs.TaskMoves.{next_of}
@@ -26,7 +26,7 @@ module _ (j : TaskJudge) (i : TaskLine) (t : Tracker) (place : Place) (here : j.
 
 -- a place at which a line of a list is counted down
 abbrev pub CountsDown : Place → Type 0
-CountsDown place = (t : Tracker) (n : ℕ) (i : TaskLine) → step_at place (record t { place = place; more = suc n }) i ≡ record t { place = place; more = n }
+CountsDown place = (t : Tracker) (n : ℕ) (i : TaskLine) → step_from place (record t { place = place; more = suc n }) i ≡ record t { place = place; more = n }
 
 one_less_is : (place : Place) (t : Tracker) (n : ℕ) → (let m : ℕ = suc n - 1 in record t { place = place; more = m }) ≡ record t { place = place; more = n }
 one_less_is place t n = let e : suc n - 1 ≡ n = omega arith in ap (λ (m : ℕ). record t { place = place; more = m }) e

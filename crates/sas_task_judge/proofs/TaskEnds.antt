@@ -12,7 +12,7 @@ use Rattle.sas_task_judge.specs.declared.task_judge.TaskJudge.{TaskJudge}
 use Rattle.sas_task_format.specs.Process.{done, read, process_node}
 use Rattle.sas_task_format.specs.TaskProcess.{TaskProcess}
 use Rattle.sas_reader.specs.System.{ended}
-use Rattle.sas_task_judge.specs.TaskJudge.{state_at, state_of, HasEnded}
+use Rattle.sas_task_judge.specs.TaskJudge.{process_at, state_of, HasEnded}
 use Rattle.sas_task_judge.specs.TaskPlaces.{variable_begin, variable_values, group_begin, group_facts, state_values_of, goal_facts, operator_begin, operator_prevail, operator_effects, rule_begin, rule_conditions}
 
 -- the last line has been read
@@ -73,7 +73,7 @@ rules (suc left) p h = absurd h
 
 -- ---- the judge
 
-ends_at : (place : Place) (left more : ℕ) (s : SoFar) → IsDone (state_at place left more s) → (place ≡ at.Rules) × (left ≡ 0)
+ends_at : (place : Place) (left more : ℕ) (s : SoFar) → IsDone (process_at place left more s) → (place ≡ at.Rules) × (left ≡ 0)
 ends_at at.VersionBegin left more s h = absurd h
 ends_at at.VersionNumber left more s h = absurd h
 ends_at at.VersionEnd left more s h = absurd h
@@ -110,4 +110,4 @@ ended_if_done j s h = ends_at j.place j.left j.more s h
 
 -- if it has ended, it is at the end with its parts
 pub ends_with : (j : TaskJudge) (s : SoFar) → HasEnded j → process_node (state_of j s) ≡ ended s.parts
-ends_with j s h = ap (λ (place : Place). process_node (state_at place j.left j.more s)) h.0 ∙ ap (λ (left : ℕ). process_node (rule_begin left s.parts)) h.1
+ends_with j s h = ap (λ (place : Place). process_node (process_at place j.left j.more s)) h.0 ∙ ap (λ (left : ℕ). process_node (rule_begin left s.parts)) h.1

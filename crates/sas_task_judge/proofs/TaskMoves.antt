@@ -6,7 +6,7 @@ use Rattle.std.proofs.lemmas.Option.{none-some}
 use Rattle.sas_reader.specs.declared.fault.Kind.{Kind}
 use Rattle.sas_reader.specs.declared.fault.Kind.TheVariants as kinds
 use Rattle.sas_reader.specs.Faults.{IsOfBytes}
-use Rattle.sas_reader.specs.System.{Takes, OneLine, Judged, Rejects}
+use Rattle.sas_reader.specs.System.{IsAllowed, OneLine, IsRejected, Rejects}
 use Rattle.sas_task_format.specs.Process.{read, process_node}
 use Rattle.sas_task_format.specs.TaskFormat.{TaskLine, effect, TaskSlot, number_slot, task_line_bytes, task_format, TaskLineFits}
 use Rattle.sas_core.specs.declared.parts.Parts.{Parts}
@@ -20,13 +20,13 @@ use Rattle.sas_task_format.specs.declared.places.Place.TheVariants as at
 use Rattle.sas_task_judge.specs.declared.task_judge.TaskJudge.{TaskJudge}
 use Rattle.sas_task_judge.specs.TaskPlaces.{state_values, state_values_of, goal_begin}
 use Rattle.sas_task_format.specs.Tracker.{step}
-use Rattle.sas_task_judge.specs.TaskJudge.{state_at, state_of, tracker_of, KnownTo, LeadsOn, RejectsLine, StandsAsBefore, TakesMemory, Moves, MovesBy, MovesAhead}
+use Rattle.sas_task_judge.specs.TaskJudge.{process_at, state_of, tracker_of, KnownTo, LeadsOn, RejectsLine, StandsAsBefore, TakesMemory, JudgesLine, MovesBy, MovesAhead}
 use Rattle.sas_core.specs.declared.parts.Effect.{Effect}
 use Rattle.sas_lines.specs.FirstLines.{LineStandsFirst}
 use Rattle.sas_core.specs.declared.grounded.Change.{Change}
 use Rattle.sas_core.specs.Changes.{plain_effect}
 use Rattle.sas_task_line.specs.Ahead.{SpellsAhead}
-use Rattle.sas_task_line.specs.TaskRanges.{change_in, effect_in_ranges}
+use Rattle.sas_task_line.specs.TaskRanges.{change_in_ranges, effect_in_ranges}
 use Rattle.sas_task_line.specs.TaskLine.{IsOfLine}
 use Rattle.sas_task_judge.proofs.TaskRanges.{many_same}
 use Rattle.sas_task_judge.proofs.VariablesBehind.{behind}
@@ -34,7 +34,7 @@ use Rattle.sas_task_format.specs.TaskProcess.{TaskProcess, a_word, a_number, num
 
 -- a line that may stand leads to a next state
 pub on : (j k : TaskJudge) (s t : SoFar) (slot : TaskSlot) (test : TaskLine → Bool) (next : TaskLine → TaskProcess) (i : TaskLine) (line : List ℕ)
-    → state_of j s ≡ read slot test next → Takes task_format TaskLineFits slot test i × (task_line_bytes i ≡ line) → next i ≡ state_of k t → step (tracker_of j) i ≡ tracker_of k → LeadsOn j s line k t
+    → state_of j s ≡ read slot test next → IsAllowed task_format TaskLineFits slot test i × (task_line_bytes i ≡ line) → next i ≡ state_of k t → step (tracker_of j) i ≡ tracker_of k → LeadsOn j s line k t
 on j k s t slot test next i line at says n steps = record {
   item = i;
   leads = subst (λ (p : TaskProcess). OneLine task_format TaskLineFits (process_node p) i (λ r. r ≡ state_of k t)) (sym at) (says.0, n);
@@ -44,7 +44,7 @@ on j k s t slot test next i line at says n steps = record {
 
 -- a line that may not stand is rejected
 pub off : (p : TaskProcess) (slot : TaskSlot) (test : TaskLine → Bool) (next : TaskLine → TaskProcess) (line : List ℕ) (kind : Kind)
-    → p ≡ read slot test next → Judged task_format TaskLineFits slot test line kind → Rejects task_format TaskLineFits (process_node p) line kind
+    → p ≡ read slot test next → IsRejected task_format TaskLineFits slot test line kind → Rejects task_format TaskLineFits (process_node p) line kind
 off p slot test next line kind at j = subst (λ (t : TaskProcess). Rejects task_format TaskLineFits (process_node t) line kind) (sym at) j
 
 -- one of n items, and then n - 1 items
@@ -78,13 +78,13 @@ over (suc n) (v ∷ vs) h = over n vs (omega arith)
 
 pub state_is_over : (j : TaskJudge) (s : SoFar) → j.place ≡ at.StateValues → length j.ranges ≤ j.valued → KnownTo s j → state_of j s ≡ a_word (codes "end_state") (λ _. goal_begin s.parts)
 state_is_over j s here l f =
-    ap (λ (place : Place). state_at place j.left j.more s) here
+    ap (λ (place : Place). process_at place j.left j.more s) here
     ∙ ap (λ (vs : List Variable). state_values_of vs s.parts) (over (length s.parts.init) s.parts.variables (omega (arith, l, many_same s j f, f.valued)))
 
 -- otherwise the value of the next variable is expected
 pub state_goes_on : (j : TaskJudge) (s : SoFar) → j.place ≡ at.StateValues → j.valued < length j.ranges → KnownTo s j
     → state_of j s ≡ a_number (λ n. nat_lt n (range_of s.parts.variables (length s.parts.init))) (λ n. state_values (record s.parts { init = s.parts.init ++ n ∷ [] }))
-state_goes_on j s here l f = ap (λ (place : Place). state_at place j.left j.more s) here ∙ value_due s.parts (omega (arith, l, many_same s j f, f.valued))
+state_goes_on j s here l f = ap (λ (place : Place). process_at place j.left j.more s) here ∙ value_due s.parts (omega (arith, l, many_same s j f, f.valued))
 
 -- the kind of the fault, if any
 abbrev pub some_or : Kind → Option Kind → Kind
@@ -92,17 +92,17 @@ some_or other None = other
 some_or other (Some kind) = kind
 
 -- a line that the judge refuses
-pub refused : (j k : TaskJudge) (line : List ℕ) (r : Result Event Kind) (kind : Kind) → result_err r ≡ Some kind → IsOfBytes kind × (kind ≡ kinds.Memory → TakesMemory j) × (kind ≢ kinds.Memory → RejectsLine j line kind) × (kind ≢ kinds.Memory → StandsAsBefore j k) → Moves j line k r
+pub refused : (j k : TaskJudge) (line : List ℕ) (r : Result Event Kind) (kind : Kind) → result_err r ≡ Some kind → IsOfBytes kind × (kind ≡ kinds.Memory → TakesMemory j) × (kind ≢ kinds.Memory → RejectsLine j line kind) × (kind ≢ kinds.Memory → StandsAsBefore j k) → JudgesLine j line k r
 refused j k line (Ok event) kind e h = absurd (none-some kind e)
 refused j k line (Err other) kind e h = subst (λ (x : Kind). IsOfBytes x × (x ≡ kinds.Memory → TakesMemory j) × (x ≢ kinds.Memory → RejectsLine j line x) × (x ≢ kinds.Memory → StandsAsBefore j k)) (sym (ap (some_or other) e)) h
 
 -- a line that may not stand, if the judge needs no memory
-pub refused_line : (j k : TaskJudge) (line : List ℕ) (r : Result Event Kind) (kind : Kind) → result_err r ≡ Some kind → IsOfLine kind → RejectsLine j line kind → StandsAsBefore j k → Moves j line k r
+pub refused_line : (j k : TaskJudge) (line : List ℕ) (r : Result Event Kind) (kind : Kind) → result_err r ≡ Some kind → IsOfLine kind → RejectsLine j line kind → StandsAsBefore j k → JudgesLine j line k r
 refused_line j k line r kind e of_line rejects before = refused j k line r kind e (of_line.0, λ m. absurd (of_line.1 m), λ n. rejects, λ n. before)
 
 -- ---- the old `said` doesn't matter
 
-pub said_apart : (j k : TaskJudge) (said : Said) (line : List ℕ) (event : Event) → Moves (record j { said = said }) line k (Ok event) → Moves j line k (Ok event)
+pub said_apart : (j k : TaskJudge) (said : Said) (line : List ℕ) (event : Event) → JudgesLine (record j { said = said }) line k (Ok event) → JudgesLine j line k (Ok event)
 said_apart j k said line event moves = λ s f.
     let moved = moves s (record { ranges = f.ranges; valued = f.valued; range = f.range }) in
     (moved.0, record { item = moved.1.item; leads = moved.1.leads; spells = moved.1.spells; steps = moved.1.steps })
@@ -120,15 +120,15 @@ module _ (j k : TaskJudge) (bytes : List ℕ) (event : Event) (n : ℕ) where
   }
 
   -- the line is the bytes before the last byte that was taken
-  pub taken_line : MovesAhead j bytes k event n → LineStandsFirst bytes (take (n - 1) bytes) n × Moves j (take (n - 1) bytes) k (Ok event)
-  taken_line h = (subst (λ (l : List ℕ). LineStandsFirst bytes l n) h.before_end h.first, subst (λ (l : List ℕ). Moves j l k (Ok event)) h.before_end h.moves)
+  pub taken_line : MovesAhead j bytes k event n → LineStandsFirst bytes (take (n - 1) bytes) n × JudgesLine j (take (n - 1) bytes) k (Ok event)
+  taken_line h = (subst (λ (l : List ℕ). LineStandsFirst bytes l n) h.before_end h.first, subst (λ (l : List ℕ). JudgesLine j l k (Ok event)) h.before_end h.moves)
 
   -- at least LF was taken
   pub some_taken : MovesAhead j bytes k event n → 0 < n
   some_taken h = omega (arith, h.first.taken.4)
 
   -- its effect was stored before the judge moved
-  pub effect_moves_ahead : (said : Said) (change : Change) → said.effect ≡ plain_effect change → SpellsAhead (effect (plain_effect change)) bytes n → IsTrue (change_in j.ranges change.var change.old change.new)
+  pub effect_moves_ahead : (said : Said) (change : Change) → said.effect ≡ plain_effect change → SpellsAhead (effect (plain_effect change)) bytes n → IsTrue (change_in_ranges j.ranges change.var change.old change.new)
       → MovesBy (record j { said = said }) (λ i. effect_in_ranges j.ranges (effect_in i)) (effect said.effect) k event → MovesAhead j bytes k event n
   effect_moves_ahead said change e spells good by =
       let test : TaskLine → Bool = λ i. effect_in_ranges j.ranges (effect_in i) in

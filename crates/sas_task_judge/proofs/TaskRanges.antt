@@ -9,11 +9,11 @@ use Rattle.sas_core.specs.Variables.{range_of, has_value, fact_exists}
 use Rattle.sas_reader.specs.declared.fault.Kind.{Kind}
 use Rattle.sas_task_line.specs.declared.so_far.SoFar.{SoFar}
 use Rattle.sas_task_judge.specs.declared.task_judge.TaskJudge.{TaskJudge}
-use Rattle.sas_reader.specs.System.{Takes, Judged}
+use Rattle.sas_reader.specs.System.{IsAllowed, IsRejected}
 use Rattle.sas_task_format.specs.TaskFormat.{TaskLine, TaskSlot, task_format, TaskLineFits}
 use Rattle.sas_task_judge.specs.TaskJudge.{KnownTo}
 use Rattle.sas_task_format.specs.TaskProcess.{may_change, effect_may_stand, head_may_stand, fact_in, effect_in, head_in}
-use Rattle.sas_task_line.specs.TaskRanges.{ranges_of, range_in, value_in, fact_in_ranges, change_in, effect_in_ranges}
+use Rattle.sas_task_line.specs.TaskRanges.{ranges_of, range_in, value_in, fact_in_ranges, change_in_ranges, effect_in_ranges}
 use Rattle.sas_task_line.proofs.WrongWords.{range_is, ranges_many}
 
 pub ranges_push : (vs : List Variable) (v : Variable) → ranges_of (vs ++ v ∷ []) ≡ ranges_of vs ++ length v.values ∷ []
@@ -30,12 +30,12 @@ pub facts_are : (vs : List Variable) (fs : List Fact) → list_all (fact_in_rang
 facts_are vs [] = refl
 facts_are vs (f ∷ fs) = ap (λ (b : Bool). b && list_all (fact_in_ranges (ranges_of vs)) fs) (fact_is vs f) ∙ ap (λ (b : Bool). fact_exists vs f && b) (facts_are vs fs)
 
-pub change_is : (vs : List Variable) (var : ℕ) (old : Option ℕ) (new : ℕ) → change_in (ranges_of vs) var old new ≡ may_change vs var old new
+pub change_is : (vs : List Variable) (var : ℕ) (old : Option ℕ) (new : ℕ) → change_in_ranges (ranges_of vs) var old new ≡ may_change vs var old new
 change_is vs var None new = value_is vs var new
 change_is vs var (Some old) new = ap (λ (b : Bool). b && value_in (ranges_of vs) var new) (value_is vs var old) ∙ ap (λ (b : Bool). has_value vs var old && b) (value_is vs var new)
 
 pub effect_is : (vs : List Variable) (e : Effect) → effect_in_ranges (ranges_of vs) e ≡ effect_may_stand vs e
-effect_is vs e = ap (λ (b : Bool). b && change_in (ranges_of vs) e.var e.old e.new) (facts_are vs e.conditions) ∙ ap (λ (b : Bool). list_all (fact_exists vs) e.conditions && b) (change_is vs e.var e.old e.new)
+effect_is vs e = ap (λ (b : Bool). b && change_in_ranges (ranges_of vs) e.var e.old e.new) (facts_are vs e.conditions) ∙ ap (λ (b : Bool). list_all (fact_exists vs) e.conditions && b) (change_is vs e.var e.old e.new)
 
 pub effects_are : (vs : List Variable) (es : List Effect) → list_all (effect_in_ranges (ranges_of vs)) es ≡ list_all (effect_may_stand vs) es
 effects_are vs [] = refl
@@ -43,14 +43,14 @@ effects_are vs (e ∷ es) = ap (λ (b : Bool). b && list_all (effect_in_ranges (
 
 module _ (slot : TaskSlot) (test same : TaskLine → Bool) (is : (i : TaskLine) → test i ≡ same i) where
   -- what may stand under a test may stand under an equivalent test
-  pub takes_as : (i : TaskLine) → Takes task_format TaskLineFits slot test i → Takes task_format TaskLineFits slot same i
+  pub takes_as : (i : TaskLine) → IsAllowed task_format TaskLineFits slot test i → IsAllowed task_format TaskLineFits slot same i
   takes_as i t = record { slot = t.slot; fits = t.fits; good = subst IsTrue (is i) t.good }
 
-  takes_back : (i : TaskLine) → Takes task_format TaskLineFits slot same i → Takes task_format TaskLineFits slot test i
+  takes_back : (i : TaskLine) → IsAllowed task_format TaskLineFits slot same i → IsAllowed task_format TaskLineFits slot test i
   takes_back i t = record { slot = t.slot; fits = t.fits; good = subst IsTrue (sym (is i)) t.good }
 
   -- what may not stand under a test may not stand under an equivalent test
-  pub judged_as : (line : List ℕ) (kind : Kind) → Judged task_format TaskLineFits slot test line kind → Judged task_format TaskLineFits slot same line kind
+  pub judged_as : (line : List ℕ) (kind : Kind) → IsRejected task_format TaskLineFits slot test line kind → IsRejected task_format TaskLineFits slot same line kind
   judged_as line kind j = record { none = λ i t e. j.none i (takes_back i t) e; kind = j.kind }
 
 -- what the judge looks up in its ranges holds for the variables read so far
@@ -61,8 +61,8 @@ module _ (s : SoFar) (j : TaskJudge) (fits : KnownTo s j) where
   pub effect_same : (i : TaskLine) → effect_in_ranges j.ranges (effect_in i) ≡ effect_may_stand s.parts.variables (effect_in i)
   effect_same i = ap (λ (rs : List ℕ). effect_in_ranges rs (effect_in i)) fits.ranges ∙ effect_is s.parts.variables (effect_in i)
 
-  pub head_same : (i : TaskLine) → change_in j.ranges (head_in i).var (head_in i).old (head_in i).new ≡ head_may_stand s.parts.variables (head_in i)
-  head_same i = ap (λ (rs : List ℕ). change_in rs (head_in i).var (head_in i).old (head_in i).new) fits.ranges ∙ change_is s.parts.variables (head_in i).var (head_in i).old (head_in i).new
+  pub head_same : (i : TaskLine) → change_in_ranges j.ranges (head_in i).var (head_in i).old (head_in i).new ≡ head_may_stand s.parts.variables (head_in i)
+  head_same i = ap (λ (rs : List ℕ). change_in_ranges rs (head_in i).var (head_in i).old (head_in i).new) fits.ranges ∙ change_is s.parts.variables (head_in i).var (head_in i).old (head_in i).new
 
   pub range_same : range_in j.ranges j.valued ≡ range_of s.parts.variables (length s.parts.init)
   range_same = ap (λ (rs : List ℕ). range_in rs j.valued) fits.ranges ∙ range_is s.parts.variables j.valued ∙ ap (range_of s.parts.variables) fits.valued

@@ -10,7 +10,7 @@ use Rattle.sas_task_line.specs.declared.task_events.Event.{Event}
 use Rattle.sas_task_line.specs.declared.task_events.Said.{Said}
 use Rattle.sas_task_judge.specs.declared.task_judge.TaskJudge.{TaskJudge}
 use Rattle.sas_task_line.specs.TaskEvents.{after}
-use Rattle.sas_task_judge.specs.TaskJudge.{state_of, tracker_of, LeadsOn, Moves}
+use Rattle.sas_task_judge.specs.TaskJudge.{state_of, tracker_of, LeadsOn, JudgesLine}
 use Rattle.sas_task_judge.specs.declared.task_machine.TaskMachine.{TaskMachine}
 use Rattle.sas_task_judge.specs.TaskMachine.{LedBy}
 use Rattle.sas_reader.proofs.Paths.{map-append, after_append}
@@ -37,7 +37,7 @@ line_led before j k s t line h on tracked = record {
 }
 
 -- a machine that a line moves is led by this line as well, whatever `said` becomes
-pub led_on : {K : Type 0} (keeps : List (List ℕ) → SoFar → K → Type 0) (before : List (List ℕ)) (m : TaskMachine K) (j : TaskJudge) (said : Said) (kept : K) (event : Event) (line : List ℕ) → LedBy keeps before m → Moves m.judge line j (Ok event)
+pub led_on : {K : Type 0} (keeps : List (List ℕ) → SoFar → K → Type 0) (before : List (List ℕ)) (m : TaskMachine K) (j : TaskJudge) (said : Said) (kept : K) (event : Event) (line : List ℕ) → LedBy keeps before m → JudgesLine m.judge line j (Ok event)
     → ((lines : List (List ℕ)) (s : SoFar) → keeps lines s m.kept → keeps (lines ++ line ∷ []) (after s event j.said line) kept) → LedBy keeps (before ++ line ∷ []) (record m { judge = record j { said = said }; kept = kept })
 led_on keeps before m j said kept event line h moves keeps_on =
     let moved = moves h.so_far h.known in

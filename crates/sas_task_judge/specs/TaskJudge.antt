@@ -13,7 +13,7 @@ use Rattle.sas_task_judge.specs.declared.task_judge.sections.Section.TheVariants
 use Rattle.sas_task_judge.specs.declared.task_judge.TaskJudge.{TaskJudge}
 use Rattle.sas_reader.specs.Faults.{IsOfBytes}
 use Rattle.sas_task_format.specs.Process.{process_node, ◌>>◌}
-use Rattle.sas_reader.specs.System.{OneLine, Rejects, Takes}
+use Rattle.sas_reader.specs.System.{OneLine, Rejects, IsAllowed}
 use Rattle.sas_task_format.specs.Tracker.{Tracker, step}
 use Rattle.sas_task_line.specs.TaskEvents.{after}
 use Rattle.sas_task_format.specs.TaskFormat.{TaskLine, task_slot, task_line_bytes, task_format, TaskLineFits}
@@ -25,41 +25,41 @@ use Rattle.sas_task_judge.specs.TaskPlaces.{version_begin, version_number, versi
 
 -- the state at a place, after the content s; `left` variables, groups, operators or rules are left,
 -- and `more` values, facts or effects
-abbrev pub state_at : Place → ℕ → ℕ → SoFar → TaskProcess
-state_at at.VersionBegin left more s = version_begin s.parts
-state_at at.VersionNumber left more s = version_number s.parts
-state_at at.VersionEnd left more s = version_end s.parts
-state_at at.MetricBegin left more s = metric_begin s.parts
-state_at at.MetricNumber left more s = metric_number s.parts
-state_at at.MetricEnd left more s = metric_end s.parts
-state_at at.VariableCount left more s = variable_count s.parts
-state_at at.Variables left more s = variable_begin left s.parts
-state_at at.VariableName left more s = variable_name left s.parts
-state_at at.VariableLayer left more s = variable_layer left s.parts s.name
-state_at at.VariableRange left more s = variable_range left s.parts s.name s.layer
-state_at at.VariableValues left more s = variable_values left s.parts s.name s.layer more s.values
-state_at at.Groups left more s = group_begin left s.parts
-state_at at.GroupSize left more s = group_size left s.parts
-state_at at.GroupFacts left more s = group_facts left s.parts more s.facts
-state_at at.StateValues left more s = state_values s.parts
-state_at at.GoalBegin left more s = goal_begin s.parts
-state_at at.GoalSize left more s = goal_size s.parts
-state_at at.GoalFacts left more s = goal_facts more s.parts
-state_at at.OperatorCount left more s = operator_count s.parts
-state_at at.Operators left more s = operator_begin left s.parts
-state_at at.OperatorName left more s = operator_name left s.parts
-state_at at.PrevailCount left more s = operator_prevail_count left s.parts s.name
-state_at at.Prevail left more s = operator_prevail left s.parts s.name more s.facts
-state_at at.Effects left more s = operator_effects left s.parts s.name s.facts more s.effects
+abbrev pub process_at : Place → ℕ → ℕ → SoFar → TaskProcess
+process_at at.VersionBegin left more s = version_begin s.parts
+process_at at.VersionNumber left more s = version_number s.parts
+process_at at.VersionEnd left more s = version_end s.parts
+process_at at.MetricBegin left more s = metric_begin s.parts
+process_at at.MetricNumber left more s = metric_number s.parts
+process_at at.MetricEnd left more s = metric_end s.parts
+process_at at.VariableCount left more s = variable_count s.parts
+process_at at.Variables left more s = variable_begin left s.parts
+process_at at.VariableName left more s = variable_name left s.parts
+process_at at.VariableLayer left more s = variable_layer left s.parts s.name
+process_at at.VariableRange left more s = variable_range left s.parts s.name s.layer
+process_at at.VariableValues left more s = variable_values left s.parts s.name s.layer more s.values
+process_at at.Groups left more s = group_begin left s.parts
+process_at at.GroupSize left more s = group_size left s.parts
+process_at at.GroupFacts left more s = group_facts left s.parts more s.facts
+process_at at.StateValues left more s = state_values s.parts
+process_at at.GoalBegin left more s = goal_begin s.parts
+process_at at.GoalSize left more s = goal_size s.parts
+process_at at.GoalFacts left more s = goal_facts more s.parts
+process_at at.OperatorCount left more s = operator_count s.parts
+process_at at.Operators left more s = operator_begin left s.parts
+process_at at.OperatorName left more s = operator_name left s.parts
+process_at at.PrevailCount left more s = operator_prevail_count left s.parts s.name
+process_at at.Prevail left more s = operator_prevail left s.parts s.name more s.facts
+process_at at.Effects left more s = operator_effects left s.parts s.name s.facts more s.effects
 -- the operator and the rule of the last line are already among the parts
-state_at at.OperatorEnd left more s = a_word (codes "end_operator") >> operator_begin left s.parts
-state_at at.Rules left more s = rule_begin left s.parts
-state_at at.RuleSize left more s = rule_size left s.parts
-state_at at.RuleConditions left more s = rule_conditions left s.parts more s.facts
-state_at at.RuleEnd left more s = a_word (codes "end_rule") >> rule_begin left s.parts
+process_at at.OperatorEnd left more s = a_word (codes "end_operator") >> operator_begin left s.parts
+process_at at.Rules left more s = rule_begin left s.parts
+process_at at.RuleSize left more s = rule_size left s.parts
+process_at at.RuleConditions left more s = rule_conditions left s.parts more s.facts
+process_at at.RuleEnd left more s = a_word (codes "end_rule") >> rule_begin left s.parts
 
 abbrev pub state_of : TaskJudge → SoFar → TaskProcess
-state_of j s = state_at j.place j.left j.more s
+state_of j s = process_at j.place j.left j.more s
 
 -- ---- what is expected
 
@@ -168,11 +168,11 @@ StandsAsBefore j k = k ≡ record j { said = k.said }
 
 -- The line leads to the content with what it adds. Or it may not follow, and this is the kind of
 -- its fault. Or the judge needs memory and there is none.
-abbrev pub Moves : TaskJudge → List ℕ → TaskJudge → Result Event Kind → Type 0
-Moves j line k (Ok event) = (s : SoFar) → KnownTo s j
+abbrev pub JudgesLine : TaskJudge → List ℕ → TaskJudge → Result Event Kind → Type 0
+JudgesLine j line k (Ok event) = (s : SoFar) → KnownTo s j
     → KnownTo (after s event k.said line) k
     × LeadsOn j s line k (after s event k.said line)
-Moves j line k (Err kind) =
+JudgesLine j line k (Err kind) =
     IsOfBytes kind
     × (kind ≡ kinds.Memory → TakesMemory j)
     × (kind ≢ kinds.Memory → RejectsLine j line kind)
@@ -181,8 +181,8 @@ Moves j line k (Err kind) =
 -- a line with this content moves the judge, if it may stand under the test
 abbrev pub MovesBy : TaskJudge → (TaskLine → Bool) → TaskLine → TaskJudge → Event → Type 0
 MovesBy j test i k event = (line : List ℕ)
-    → Takes task_format TaskLineFits (task_slot i) test i × (task_line_bytes i ≡ line)
-    → Moves j line k (Ok event)
+    → IsAllowed task_format TaskLineFits (task_slot i) test i × (task_line_bytes i ≡ line)
+    → JudgesLine j line k (Ok event)
 
 -- The first line of the bytes has n bytes with its end, which is LF, and leads to the content with
 -- what it adds.
@@ -191,4 +191,4 @@ pub record MovesAhead (j : TaskJudge) (bytes : List ℕ) (k : TaskJudge) (event 
   pub line : List ℕ
   pub first : LineStandsFirst bytes line n
   pub before_end : line ≡ take (n - 1) bytes
-  pub moves : Moves j line k (Ok event)
+  pub moves : JudgesLine j line k (Ok event)

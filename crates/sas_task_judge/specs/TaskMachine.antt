@@ -40,7 +40,7 @@ abbrev pub RejectsAt : TaskMachine SoFar → List ℕ → Kind → Type 0
 RejectsAt m line kind = RejectsLine m.judge line kind
 
 -- after refusing a line, the machine is unchanged and knows the wrong word of the line
-pub record Stopped {K : Type 0} (m : TaskMachine K) (line : List ℕ) (kind : Kind)
+pub record MachineStopped {K : Type 0} (m : TaskMachine K) (line : List ℕ) (kind : Kind)
     (n : TaskMachine K) : Type 0 where
   pub judge : StandsAsBefore m.judge n.judge
   pub kept : n.kept ≡ m.kept

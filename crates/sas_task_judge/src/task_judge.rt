@@ -4,7 +4,7 @@ ghost use Rattle.sas_task_line.specs.declared.so_far.SoFar.{SoFar};
 ghost use Rattle.sas_task_format.specs.TaskFormat as format;
 ghost use Rattle.sas_task_format.specs.TaskProcess.{a_word, a_number, a_fact, any, number_in, fact_in, effect_in, head_in};
 ghost use Rattle.sas_task_line.specs.TaskRanges.{range_in, fact_in_ranges, effect_in_ranges, head_in_ranges};
-ghost use Rattle.sas_task_judge.specs.TaskJudge.{Due, Moves, MovesBy, HasEnded, IsBehindGroups};
+ghost use Rattle.sas_task_judge.specs.TaskJudge.{Due, JudgesLine, MovesBy, HasEnded, IsBehindGroups};
 
 mod ahead;
 mod marks;
@@ -73,7 +73,7 @@ impl TaskJudge {
         requires apart { next ≢ Place.VariableValues }
         requires due { Due self.old (λ _. a_word word.now) (λ _. format.word word.now)
             (λ _. record self.old { place = next }) (λ _ s. s) }
-        ensures { Moves self.old line.now self.new result }
+        ensures { JudgesLine self.old line.now self.new result }
     {
         word_at(line, word)?;
         self.place = next;
@@ -86,7 +86,7 @@ impl TaskJudge {
         requires left { 0 < self.old.left }
         requires due { Due self.old (λ _. a_word word.now) (λ _. format.word word.now)
             (λ _. record self.old { left = self.old.left - 1; place = next }) (λ _ s. s) }
-        ensures { Moves self.old line.now self.new result }
+        ensures { JudgesLine self.old line.now self.new result }
     {
         word_at(line, word)?;
         self.left -= 1;
@@ -99,7 +99,7 @@ impl TaskJudge {
         requires apart { next ≢ Place.VariableValues }
         requires due { Due self.old (λ _. a_number any) format.number
             (λ n. record self.old { total = n; left = n; place = next }) (λ _ s. s) }
-        ensures { Moves self.old line.now self.new result }
+        ensures { JudgesLine self.old line.now self.new result }
     {
         let count = number_at(line)?;
         self.total = count;
@@ -110,7 +110,7 @@ impl TaskJudge {
 
     fn version(&mut self, line: &[u8]) -> Result<Event, Kind>
         requires place { self.old.place ≡ Place.VersionNumber }
-        ensures { Moves self.old line.now self.new result }
+        ensures { JudgesLine self.old line.now self.new result }
     {
         let _version = version_at(line)?;
         self.place = Place::VersionEnd;
@@ -119,7 +119,7 @@ impl TaskJudge {
 
     fn metric(&mut self, line: &[u8]) -> Result<Event, Kind>
         requires place { self.old.place ≡ Place.MetricNumber }
-        ensures { Moves self.old line.now self.new result }
+        ensures { JudgesLine self.old line.now self.new result }
     {
         self.said.number = number_below(line, 2)?;
         self.place = Place::MetricEnd;
@@ -129,7 +129,7 @@ impl TaskJudge {
     /// Accepts the number of variables.
     fn variable_count(&mut self, line: &[u8]) -> Result<Event, Kind>
         requires place { self.old.place ≡ Place.VariableCount }
-        ensures { Moves self.old line.now self.new result }
+        ensures { JudgesLine self.old line.now self.new result }
     {
         let count = positive_at(line)?;
         self.total = count;
@@ -140,7 +140,7 @@ impl TaskJudge {
 
     fn variable_name(&mut self, line: &[u8]) -> Result<Event, Kind>
         requires place { self.old.place ≡ Place.VariableName }
-        ensures { Moves self.old line.now self.new result }
+        ensures { JudgesLine self.old line.now self.new result }
     {
         name_at(line)?;
         self.place = Place::VariableLayer;
@@ -149,7 +149,7 @@ impl TaskJudge {
 
     fn variable_layer(&mut self, line: &[u8]) -> Result<Event, Kind>
         requires place { self.old.place ≡ Place.VariableLayer }
-        ensures { Moves self.old line.now self.new result }
+        ensures { JudgesLine self.old line.now self.new result }
     {
         self.said.layer = signed_at(line)?;
         self.place = Place::VariableRange;
@@ -159,7 +159,7 @@ impl TaskJudge {
     /// Accepts the number of a variable's values.
     fn variable_range(&mut self, line: &[u8]) -> Result<Event, Kind>
         requires place { self.old.place ≡ Place.VariableRange }
-        ensures { Moves self.old line.now self.new result }
+        ensures { JudgesLine self.old line.now self.new result }
     {
         let range = positive_at(line)?;
         self.range = range;
@@ -172,7 +172,7 @@ impl TaskJudge {
     fn variable_value(&mut self, line: &[u8]) -> Result<Event, Kind>
         requires place { self.old.place ≡ Place.VariableValues }
         requires more { 0 < self.old.more }
-        ensures { Moves self.old line.now self.new result }
+        ensures { JudgesLine self.old line.now self.new result }
     {
         name_at(line)?;
         self.more -= 1;
@@ -183,7 +183,7 @@ impl TaskJudge {
     fn variable_end(&mut self, line: &[u8]) -> Result<Event, Kind>
         requires place { self.old.place ≡ Place.VariableValues }
         requires all { self.old.more ≡ 0 }
-        ensures { Moves self.old line.now self.new result }
+        ensures { JudgesLine self.old line.now self.new result }
     {
         word_at(line, b"end_variable")?;
         self.ranges.push(self.range)?;
@@ -208,7 +208,7 @@ impl TaskJudge {
         requires apart { next ≢ Place.VariableValues }
         requires due { Due self.old (λ _. a_number any) format.number
             (λ n. record self.old { more = n; place = next }) (λ _ s. record s { facts = [] }) }
-        ensures { Moves self.old line.now self.new result }
+        ensures { JudgesLine self.old line.now self.new result }
     {
         let count = number_at(line)?;
         Ok(self.took_fact_count(count, next))
@@ -237,7 +237,7 @@ impl TaskJudge {
         requires due { Due self.old a_fact format.fact
             (λ _. record self.old { more = self.old.more - 1 })
             (λ f s. record s { facts = s.facts ++ f ∷ [] }) }
-        ensures { Moves self.old line.now self.new result }
+        ensures { JudgesLine self.old line.now self.new result }
     {
         let fact = fact_at(&self.ranges, line)?;
         Ok(self.took_fact(fact))
@@ -247,7 +247,7 @@ impl TaskJudge {
     fn group_end(&mut self, line: &[u8]) -> Result<Event, Kind>
         requires place { self.old.place ≡ Place.GroupFacts }
         requires all { self.old.more ≡ 0 }
-        ensures { Moves self.old line.now self.new result }
+        ensures { JudgesLine self.old line.now self.new result }
     {
         word_at(line, b"end_mutex_group")?;
         self.place = Place::Groups;
@@ -283,7 +283,7 @@ impl TaskJudge {
         requires place { self.old.place ≡ Place.StateValues }
         requires more { self.old.valued < length self.old.ranges }
         requires few { length self.old.ranges < 2 ^ 64 }
-        ensures { Moves self.old line.now self.new result }
+        ensures { JudgesLine self.old line.now self.new result }
     {
         let value = number_below(line, self.next_range())?;
         Ok(self.took_state_value(value))
@@ -293,7 +293,7 @@ impl TaskJudge {
     fn state_end(&mut self, line: &[u8]) -> Result<Event, Kind>
         requires place { self.old.place ≡ Place.StateValues }
         requires all { length self.old.ranges ≤ self.old.valued }
-        ensures { Moves self.old line.now self.new result }
+        ensures { JudgesLine self.old line.now self.new result }
     {
         word_at(line, b"end_state")?;
         self.place = Place::GoalBegin;
@@ -303,7 +303,7 @@ impl TaskJudge {
     /// Accepts the number of goal facts.
     fn goal_size(&mut self, line: &[u8]) -> Result<Event, Kind>
         requires place { self.old.place ≡ Place.GoalSize }
-        ensures { Moves self.old line.now self.new result }
+        ensures { JudgesLine self.old line.now self.new result }
     {
         self.more = number_at(line)?;
         self.place = Place::GoalFacts;
@@ -313,7 +313,7 @@ impl TaskJudge {
     fn goal_fact(&mut self, line: &[u8]) -> Result<Event, Kind>
         requires place { self.old.place ≡ Place.GoalFacts }
         requires more { 0 < self.old.more }
-        ensures { Moves self.old line.now self.new result }
+        ensures { JudgesLine self.old line.now self.new result }
     {
         self.said.fact = fact_at(&self.ranges, line)?;
         self.more -= 1;
@@ -324,7 +324,7 @@ impl TaskJudge {
     fn goal_end(&mut self, line: &[u8]) -> Result<Event, Kind>
         requires place { self.old.place ≡ Place.GoalFacts }
         requires all { self.old.more ≡ 0 }
-        ensures { Moves self.old line.now self.new result }
+        ensures { JudgesLine self.old line.now self.new result }
     {
         word_at(line, b"end_goal")?;
         self.place = Place::OperatorCount;
@@ -333,7 +333,7 @@ impl TaskJudge {
 
     fn operator_name(&mut self, line: &[u8]) -> Result<Event, Kind>
         requires place { self.old.place ≡ Place.OperatorName }
-        ensures { Moves self.old line.now self.new result }
+        ensures { JudgesLine self.old line.now self.new result }
     {
         name_at(line)?;
         self.place = Place::PrevailCount;
@@ -355,7 +355,7 @@ impl TaskJudge {
     fn effect_count(&mut self, line: &[u8]) -> Result<Event, Kind>
         requires place { self.old.place ≡ Place.Prevail }
         requires all { self.old.more ≡ 0 }
-        ensures { Moves self.old line.now self.new result }
+        ensures { JudgesLine self.old line.now self.new result }
     {
         let count = number_at(line)?;
         Ok(self.took_effect_count(count))
@@ -375,7 +375,7 @@ impl TaskJudge {
     fn effect(&mut self, line: &[u8]) -> Result<Event, Kind>
         requires place { self.old.place ≡ Place.Effects }
         requires more { 0 < self.old.more }
-        ensures { Moves self.old line.now self.new result }
+        ensures { JudgesLine self.old line.now self.new result }
     {
         effect_at(&mut self.said.effect, &self.ranges, line)?;
         Ok(self.took_effect())
@@ -396,7 +396,7 @@ impl TaskJudge {
     fn operator_cost(&mut self, line: &[u8]) -> Result<Event, Kind>
         requires place { self.old.place ≡ Place.Effects }
         requires all { self.old.more ≡ 0 }
-        ensures { Moves self.old line.now self.new result }
+        ensures { JudgesLine self.old line.now self.new result }
     {
         let cost = number_at(line)?;
         Ok(self.took_cost(cost))
@@ -418,7 +418,7 @@ impl TaskJudge {
     fn rule_head(&mut self, line: &[u8]) -> Result<Event, Kind>
         requires place { self.old.place ≡ Place.RuleConditions }
         requires all { self.old.more ≡ 0 }
-        ensures { Moves self.old line.now self.new result }
+        ensures { JudgesLine self.old line.now self.new result }
     {
         let head = head_at(&self.ranges, line)?;
         Ok(self.took_head(head))
@@ -427,7 +427,7 @@ impl TaskJudge {
     /// Judges the next line. Returns what it adds, or the kind of its fault.
     pub fn take(&mut self, line: &[u8]) -> Result<Event, Kind>
         requires { HasEnded self.old → ⊥ }
-        ensures { Moves self.old line.now self.new result }
+        ensures { JudgesLine self.old line.now self.new result }
     {
         match self.place {
             Place::VersionBegin => self.word(line, b"begin_version", Place::VersionNumber),
@@ -457,7 +457,7 @@ impl TaskJudge {
     fn take_behind_groups(&mut self, line: &[u8]) -> Result<Event, Kind>
         requires behind { IsBehindGroups self.old.place }
         requires going_on { HasEnded self.old → ⊥ }
-        ensures { Moves self.old line.now self.new result }
+        ensures { JudgesLine self.old line.now self.new result }
     {
         match self.place {
             Place::StateValues if self.has_state() => self.state_end(line),

@@ -20,7 +20,7 @@ impl<K: Keeper> TaskMachine<K> {
     ghost use Rattle.std.specs.Prelude.{[]};
     ghost use Rattle.sas_reader.specs.Machine.{AcceptsAhead};
     ghost use Rattle.sas_task_judge.specs.TaskJudge.{HasEnded, SectionDue};
-    ghost use Rattle.sas_task_judge.specs.TaskMachine.{LedBy, IsFresh, Stopped};
+    ghost use Rattle.sas_task_judge.specs.TaskMachine.{LedBy, IsFresh, MachineStopped};
 
     /// Returns a machine that has accepted no line, with this keeper.
     pub fn new(alloc: Global, kept: K) -> Self
@@ -45,7 +45,8 @@ impl<K: Keeper> TaskMachine<K> {
     /// Stores the wrong word of a line that was refused for a number. Returns the kind of its fault, or `Memory` if out of memory.
     fn find_wrong_word(&mut self, line: &[u8]) -> Kind
         ensures kind { result ≢ Kind.Memory → result ≡ Kind.Value }
-        ensures stopped { result ≢ Kind.Memory → Stopped self.old line.now Kind.Value self.new }
+        ensures stopped { result ≢ Kind.Memory
+            → MachineStopped self.old line.now Kind.Value self.new }
     {
         match self.judge.wrong_word(line) {
             Ok(word) => {
@@ -60,7 +61,7 @@ impl<K: Keeper> TaskMachine<K> {
     #[cold]
     fn refuse(&mut self, line: &[u8], kind: Kind) -> Kind
         ensures kind { result ≢ Kind.Memory → result ≡ kind }
-        ensures stopped { result ≢ Kind.Memory → Stopped self.old line.now kind self.new }
+        ensures stopped { result ≢ Kind.Memory → MachineStopped self.old line.now kind self.new }
         ensures some { kind ≡ Kind.Memory → result ≡ Kind.Memory }
     {
         self.wrong = None;
@@ -151,7 +152,7 @@ impl<K: Keeper> TaskMachine<K> {
 
 impl<K: Keeper> Machine for TaskMachine<K> {
     ghost use Rattle.sas_task_judge.specs.TaskJudge.{HasEnded, RejectsLine};
-    ghost use Rattle.sas_task_judge.specs.TaskMachine.{LedBy, Stopped};
+    ghost use Rattle.sas_task_judge.specs.TaskMachine.{LedBy, MachineStopped};
 
     ghost led_by = { LedBy K.keeps };
 
@@ -159,7 +160,7 @@ impl<K: Keeper> Machine for TaskMachine<K> {
 
     ghost rejects = { λ m line k. RejectsLine m.judge line k };
 
-    ghost stopped = { Stopped };
+    ghost stopped = { MachineStopped };
 
     fn has_ended(&self) -> bool {
         self.judge.has_ended()

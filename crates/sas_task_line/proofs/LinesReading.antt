@@ -21,7 +21,7 @@ use Rattle.sas_task_line.specs.Ahead.{LineAhead, NumberAhead}
 use Rattle.sas_core.specs.Changes.{plain_effect}
 use Rattle.sas_task_line.specs.LinesBefore.{LinesBefore, CountedBefore, NamesBefore, FactsBefore, ChangesBefore}
 use Rattle.sas_task_line.specs.Sections.{spelled, LinesAhead, VariableAhead, GroupAhead, OperatorAhead, RuleAhead, gathered_variable, gathered_operator, gathered_rule}
-use Rattle.sas_task_line.specs.TaskRanges.{effect_in_ranges, change_in}
+use Rattle.sas_task_line.specs.TaskRanges.{effect_in_ranges, change_in_ranges}
 use Rattle.sas_task_line.proofs.AheadReading.{number_is_ahead}
 
 -- ---- some lines, then more
@@ -70,7 +70,7 @@ module _ {A : Type 0} (says : A → TaskLine) (may_stand : A → Bool) where
         stand = list_all-append may_stand xs (x ∷ []) ∙ both_true (list_all may_stand xs) (list_all may_stand (x ∷ [])) h.stand (both_true (may_stand x) _ may refl);
       }
 
-pub one_change_more : (ranges : List ℕ) {count : ℕ} (changes : List Change) (c : Change) {bytes more rest : List ℕ} → ChangesBefore ranges count changes bytes more → LineAhead (effect (plain_effect c)) more rest → IsTrue (change_in ranges c.var c.old c.new) → ChangesBefore ranges count (changes ++ c ∷ []) bytes rest
+pub one_change_more : (ranges : List ℕ) {count : ℕ} (changes : List Change) (c : Change) {bytes more rest : List ℕ} → ChangesBefore ranges count changes bytes more → LineAhead (effect (plain_effect c)) more rest → IsTrue (change_in_ranges ranges c.var c.old c.new) → ChangesBefore ranges count (changes ++ c ∷ []) bytes rest
 one_change_more ranges changes c h g exist = rw (map-append plain_effect changes (c ∷ [])) (one_more effect (effect_in_ranges ranges) (map plain_effect changes) (plain_effect c) h g exist)
 
 -- ---- from the first byte on
@@ -147,7 +147,7 @@ operator_is_ahead ranges label cost g front {bytes = bytes} {changes_on = change
 abbrev last_lines : Change → List TaskLine
 last_lines c = head c.var c.old c.new ∷ word (codes "end_rule") ∷ []
 
-pub rule_is_ahead : (ranges : List ℕ) (c : Change) (g : Gathered) (front : Front) {bytes facts_on head_on rest : List ℕ} → LineAhead (word (codes "begin_rule")) bytes facts_on → FactsBefore ranges (length g.facts) g.facts facts_on head_on → IsTrue (change_in ranges c.var c.old c.new) × LinesBefore (last_lines c) head_on rest → front.bytes ≡ length bytes - length rest → front.lines ≡ 4 + length g.facts → RuleAhead ranges bytes (gathered_rule c g) front
+pub rule_is_ahead : (ranges : List ℕ) (c : Change) (g : Gathered) (front : Front) {bytes facts_on head_on rest : List ℕ} → LineAhead (word (codes "begin_rule")) bytes facts_on → FactsBefore ranges (length g.facts) g.facts facts_on head_on → IsTrue (change_in_ranges ranges c.var c.old c.new) × LinesBefore (last_lines c) head_on rest → front.bytes ≡ length bytes - length rest → front.lines ≡ 4 + length g.facts → RuleAhead ranges bytes (gathered_rule c g) front
 rule_is_ahead ranges c g front {bytes = bytes} {rest = rest} begins facts ends taken many =
     let fact_lines : List TaskLine = number (length g.facts) ∷ flat_map (line fact) g.facts in
     let items = rule_lines (gathered_rule c g) in

@@ -12,12 +12,12 @@ use Rattle.sas_task_format.specs.TaskFormat.{TaskLine, number, signed, fact, eff
 use Rattle.sas_task_format.specs.TaskProcess.{number_in, signed_in, fact_in, effect_in, head_in}
 use Rattle.sas_task_line.specs.TaskLine.{IsOfLine}
 use Rattle.sas_task_line.specs.TaskWords.{Spells}
-use Rattle.sas_reader.specs.System.{Judged}
+use Rattle.sas_reader.specs.System.{IsRejected}
 use Rattle.sas_task_format.proofs.TaskSections.{number_is, signed_is, fact_is, effect_is, head_is}
 use Rattle.sas_task_format.proofs.TaskLines.{one_task_line}
 
 abbrev pub Refused : TaskSlot → (TaskLine → Bool) → List ℕ → Kind → Type 0
-Refused slot ok line kind = IsOfLine kind × Judged task_format TaskLineFits slot ok line kind
+Refused slot ok line kind = IsOfLine kind × IsRejected task_format TaskLineFits slot ok line kind
 
 shape_of_line : IsOfLine Shape
 shape_of_line = ((λ e. cc, λ e. cc), λ e. cc)
@@ -86,5 +86,5 @@ pub refused_head_value : (ok : TaskLine → Bool) (line : List ℕ) (var : ℕ) 
 refused_head_value ok line var old new s fails = refused_value (head var old new) ok line (λ k. k) s.0 s.1 fails
 
 -- the same for calls that may be out of memory
-pub or_wants : {slot : TaskSlot} {ok : TaskLine → Bool} {line : List ℕ} {kind : Kind} → Refused slot ok line kind → IsOfBytes kind × (kind ≢ Memory → Judged task_format TaskLineFits slot ok line kind)
+pub or_wants : {slot : TaskSlot} {ok : TaskLine → Bool} {line : List ℕ} {kind : Kind} → Refused slot ok line kind → IsOfBytes kind × (kind ≢ Memory → IsRejected task_format TaskLineFits slot ok line kind)
 or_wants h = (h.0.0, λ m. h.1)

@@ -27,8 +27,8 @@ module _ (ranges : List ℕ) where
   abbrev pub variable_in : ℕ → Bounded
   variable_in var = record { value = Some var; may_be_none = false; bound = length ranges }
 
-  abbrev pub value_of : ℕ → ℕ → Bounded
-  value_of var value =
+  abbrev pub bounded_value : ℕ → ℕ → Bounded
+  bounded_value var value =
       record { value = Some value; may_be_none = false; bound = range_in ranges var }
 
   abbrev pub old_of : ℕ → Option ℕ → Bounded
@@ -36,10 +36,10 @@ module _ (ranges : List ℕ) where
 
   -- the words of a fact, of a change, of an effect
   abbrev pub fact_words_in : Fact → List Bounded
-  fact_words_in f = variable_in f.var ∷ value_of f.var f.value ∷ []
+  fact_words_in f = variable_in f.var ∷ bounded_value f.var f.value ∷ []
 
   abbrev pub change_words_in : ℕ → Option ℕ → ℕ → List Bounded
-  change_words_in var old new = variable_in var ∷ old_of var old ∷ value_of var new ∷ []
+  change_words_in var old new = variable_in var ∷ old_of var old ∷ bounded_value var new ∷ []
 
   abbrev pub effect_words_in : Effect → List Bounded
   effect_words_in e = free (length e.conditions)

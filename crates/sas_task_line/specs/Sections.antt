@@ -13,7 +13,7 @@ use Rattle.sas_reader.specs.Machine.{IsFront}
 use Rattle.sas_task_format.specs.TaskFormat.{TaskLine, task_line_bytes, TaskLineFits, variable_lines, group_lines, operator_lines, rule_lines}
 use Rattle.sas_task_line.specs.declared.sections.Gathered.{Gathered}
 use Rattle.sas_core.specs.Changes.{plain_effect}
-use Rattle.sas_task_line.specs.TaskRanges.{fact_in_ranges, effect_in_ranges, change_in}
+use Rattle.sas_task_line.specs.TaskRanges.{fact_in_ranges, effect_in_ranges, change_in_ranges}
 
 -- the bytes of each line
 abbrev pub spelled : List TaskLine → List (List ℕ)
@@ -41,7 +41,7 @@ pub record OperatorInRanges (ranges : List ℕ) (o : Operator) : Type 0 where
 -- each fact of the rule exists
 pub record RuleInRanges (ranges : List ℕ) (r : Rule) : Type 0 where
   pub conditions : IsTrue (list_all (fact_in_ranges ranges) r.conditions)
-  pub change : IsTrue (change_in ranges r.var r.old r.new)
+  pub change : IsTrue (change_in_ranges ranges r.var r.old r.new)
 
 -- the bytes begin with the variable
 abbrev pub VariableAhead : List ℕ → Variable → Front → Type 0

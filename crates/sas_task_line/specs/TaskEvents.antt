@@ -36,15 +36,15 @@ nothing_yet alloc = record {
 }
 
 -- the variable, the operator or the rule that the current line completes
-abbrev pub variable_of : SoFar → Variable
-variable_of s = record { name = s.name; layer = s.layer; values = s.values }
+abbrev pub finished_variable : SoFar → Variable
+finished_variable s = record { name = s.name; layer = s.layer; values = s.values }
 
-abbrev pub operator_of : SoFar → Said → Operator
-operator_of s said =
+abbrev pub finished_operator : SoFar → Said → Operator
+finished_operator s said =
     record { name = s.name; prevail = s.facts; effects = s.effects; cost = said.number }
 
-abbrev pub rule_of : SoFar → Said → Rule
-rule_of s said =
+abbrev pub finished_rule : SoFar → Said → Rule
+finished_rule s said =
     record { conditions = s.facts; var = said.head.var; old = said.head.old; new = said.head.new }
 
 -- parts with one more variable, group, operator or rule
@@ -69,7 +69,7 @@ after s event.Layer said line = record s { layer = said.layer }
 after s event.Values said line = record s { values = [] }
 after s event.Value said line = record s { values = s.values ++ line ∷ [] }
 after s event.Variable said line =
-    record s { parts = with_variable s.parts (variable_of s); name = []; values = [] }
+    record s { parts = with_variable s.parts (finished_variable s); name = []; values = [] }
 after s event.Facts said line = record s { facts = [] }
 after s event.Fact said line = record s { facts = s.facts ++ said.fact ∷ [] }
 after s event.Group said line = record s { parts = with_group s.parts s.facts; facts = [] }
@@ -80,6 +80,10 @@ after s event.Goal said line =
 after s event.Effects said line = record s { effects = [] }
 after s event.Effect said line = record s { effects = s.effects ++ said.effect ∷ [] }
 after s event.Operator said line =
-    let o = operator_of s said in
+    let o = finished_operator s said in
     record s { parts = with_operator s.parts o; name = []; facts = []; effects = [] }
-after s event.Rule said line = record s { parts = with_rule s.parts (rule_of s said); facts = [] }
+after s event.Rule said line = record s {
+  parts = with_rule s.parts
+      (finished_rule s said);
+  facts = [];
+}

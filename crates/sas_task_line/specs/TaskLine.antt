@@ -3,7 +3,7 @@ use Rattle.std.specs.Prelude.{◌≡◌, ◌≢◌, Bool, List, ℕ, Result, Ok,
 use Rattle.sas_reader.specs.declared.fault.Kind.{Kind}
 use Rattle.sas_reader.specs.declared.fault.Kind.TheVariants as kinds
 use Rattle.sas_reader.specs.Faults.{IsOfBytes}
-use Rattle.sas_reader.specs.System.{Takes, Judged}
+use Rattle.sas_reader.specs.System.{IsAllowed, IsRejected}
 use Rattle.sas_task_format.specs.TaskFormat.{TaskLine, TaskSlot, task_line_bytes, task_format, TaskLineFits}
 
 -- a fault of a line itself: not an early end, a failed read or out of memory
@@ -12,17 +12,18 @@ IsOfLine kind = IsOfBytes kind × (kind ≢ kinds.Memory)
 
 -- The result is the content of the line, which may stand at the slot under the test. Or no such
 -- line may stand there, and the result is the kind of its fault.
-abbrev pub Says : {A : Type 0} → TaskSlot → (TaskLine → Bool) → (A → TaskLine) → List ℕ
+abbrev pub ParsesLine : {A : Type 0} → TaskSlot → (TaskLine → Bool) → (A → TaskLine) → List ℕ
     → Result A Kind → Type 0
-Says slot test said line (Ok a) =
-    Takes task_format TaskLineFits slot test (said a) × (task_line_bytes (said a) ≡ line)
-Says slot test said line (Err kind) = IsOfLine kind
-    × Judged task_format TaskLineFits slot test line kind
+ParsesLine slot test said line (Ok a) =
+    IsAllowed task_format TaskLineFits slot test (said a) × (task_line_bytes (said a) ≡ line)
+ParsesLine slot test said line (Err kind) = IsOfLine kind
+    × IsRejected task_format TaskLineFits slot test line kind
 
--- like `Says`, but may also be out of memory
-abbrev pub SaysOrWants : {A : Type 0} → TaskSlot → (TaskLine → Bool) → (A → TaskLine) → List ℕ
+-- like `ParsesLine`, but may also be out of memory
+abbrev pub ParsesLineInMemory : {A : Type 0} → TaskSlot
+    → (TaskLine → Bool) → (A → TaskLine) → List ℕ
     → Result A Kind → Type 0
-SaysOrWants slot test said line (Ok a) =
-    Takes task_format TaskLineFits slot test (said a) × (task_line_bytes (said a) ≡ line)
-SaysOrWants slot test said line (Err kind) =
-    IsOfBytes kind × (kind ≢ kinds.Memory → Judged task_format TaskLineFits slot test line kind)
+ParsesLineInMemory slot test said line (Ok a) =
+    IsAllowed task_format TaskLineFits slot test (said a) × (task_line_bytes (said a) ≡ line)
+ParsesLineInMemory slot test said line (Err kind) =
+    IsOfBytes kind × (kind ≢ kinds.Memory → IsRejected task_format TaskLineFits slot test line kind)

@@ -24,15 +24,15 @@ abbrev pub fact_in_ranges : List ℕ → Fact → Bool
 fact_in_ranges ranges f = value_in ranges f.var f.value
 
 -- the variable exists, and its new value and its old value, if any, are in its range
-abbrev pub change_in : List ℕ → ℕ → Option ℕ → ℕ → Bool
-change_in ranges var None new = value_in ranges var new
-change_in ranges var (Some old) new = value_in ranges var old && value_in ranges var new
+abbrev pub change_in_ranges : List ℕ → ℕ → Option ℕ → ℕ → Bool
+change_in_ranges ranges var None new = value_in ranges var new
+change_in_ranges ranges var (Some old) new = value_in ranges var old && value_in ranges var new
 
 -- the variable and values of a head exist
 abbrev pub head_in_ranges : List ℕ → Head → Bool
-head_in_ranges ranges h = change_in ranges h.var h.old h.new
+head_in_ranges ranges h = change_in_ranges ranges h.var h.old h.new
 
 -- the conditions of an effect exist, and so do its variable and values
 abbrev pub effect_in_ranges : List ℕ → Effect → Bool
 effect_in_ranges ranges e = list_all (fact_in_ranges ranges) e.conditions
-    && change_in ranges e.var e.old e.new
+    && change_in_ranges ranges e.var e.old e.new

@@ -4,7 +4,7 @@ ghost use Rattle.std.specs.Prelude.{◌≡◌, [], ◌∷◌, length, codes, IsT
 ghost use Rattle.sas_core.specs.Names.{IsName};
 ghost use Rattle.sas_task_format.specs.TaskFormat as format;
 ghost use Rattle.sas_task_line.specs.LinesBefore.{LinesBefore, FactsBefore, ChangesBefore};
-ghost use Rattle.sas_task_line.specs.TaskRanges.{change_in};
+ghost use Rattle.sas_task_line.specs.TaskRanges.{change_in_ranges};
 ghost use Rattle.sas_task_line.specs.Sections.{OperatorAhead, RuleAhead, gathered_operator, gathered_rule};
 
 use crate::ahead::{
@@ -175,7 +175,7 @@ pub fn operator_found<'a>(
 #[inline(always)]
 fn head_before<'a>(ranges: &Items<u32>, bytes: &'a [u8]) -> Option<(Change, &'a [u8])>
     ensures { IfSome result (λ found.
-        IsTrue (change_in ranges.now found.0.var found.0.old found.0.new)
+        IsTrue (change_in_ranges ranges.now found.0.var found.0.old found.0.new)
         × LinesBefore (format.head found.0.var found.0.old found.0.new
         ∷ format.word (codes "end_rule") ∷ []) bytes.now found.1.now) }
 {

@@ -4,8 +4,8 @@ ghost use Rattle.std.specs.List.{list_all};
 ghost use Rattle.sas_core.specs.Names.{is_name};
 ghost use Rattle.sas_task_format.specs.TaskFormat as format;
 ghost use Rattle.sas_task_format.specs.TaskProcess.{any, positive, name_in, number_in, fact_in, effect_in, head_in};
-ghost use Rattle.sas_task_line.specs.TaskRanges.{value_in, change_in, fact_in_ranges, effect_in_ranges, head_in_ranges};
-ghost use Rattle.sas_task_line.specs.TaskLine.{Says, SaysOrWants};
+ghost use Rattle.sas_task_line.specs.TaskRanges.{value_in, change_in_ranges, fact_in_ranges, effect_in_ranges, head_in_ranges};
+ghost use Rattle.sas_task_line.specs.TaskLine.{ParsesLine, ParsesLineInMemory};
 ghost use Rattle.sas_task_line.specs.TaskWords.{Spells, TakesNumber, TakesSigned, TakesFact, TakesFacts, TakesHead};
 
 use sas_core::{Change, Effect, Fact, Items, is_name};
@@ -18,7 +18,7 @@ const VERSION: u32 = 3;
 
 /// Checks that the line is the fixed word. Returns the kind of its fault if it isn't.
 pub fn word_at(line: &[u8], word: &[u8]) -> Result<(), Kind>
-    ensures { Says (format.word_slot word.now) (λ _. true) (λ _. format.word word.now)
+    ensures { ParsesLine (format.word_slot word.now) (λ _. true) (λ _. format.word word.now)
         line.now result }
 {
     if line == word {
@@ -30,7 +30,7 @@ pub fn word_at(line: &[u8], word: &[u8]) -> Result<(), Kind>
 
 /// Checks that the line is a name. Returns the kind of its fault if it isn't.
 pub fn name_at(line: &[u8]) -> Result<(), Kind>
-    ensures { Says format.name_slot (λ i. is_name (name_in i)) (λ _. format.name line.now)
+    ensures { ParsesLine format.name_slot (λ i. is_name (name_in i)) (λ _. format.name line.now)
         line.now result }
 {
     if is_name(line) {
@@ -42,7 +42,7 @@ pub fn name_at(line: &[u8]) -> Result<(), Kind>
 
 /// Returns the number on the line, or the kind of its fault.
 pub fn number_at(line: &[u8]) -> Result<u32, Kind>
-    ensures { Says format.number_slot (λ i. any (number_in i)) format.number line.now result }
+    ensures { ParsesLine format.number_slot (λ i. any (number_in i)) format.number line.now result }
 {
     match number(line) {
         Some(found) => Ok(found),
@@ -52,7 +52,8 @@ pub fn number_at(line: &[u8]) -> Result<u32, Kind>
 
 /// Returns the positive number on the line, or the kind of its fault.
 pub fn positive_at(line: &[u8]) -> Result<u32, Kind>
-    ensures { Says format.number_slot (λ i. positive (number_in i)) format.number line.now result }
+    ensures { ParsesLine format.number_slot
+        (λ i. positive (number_in i)) format.number line.now result }
 {
     match number(line) {
         None => Err(Kind::Shape),
@@ -63,7 +64,7 @@ pub fn positive_at(line: &[u8]) -> Result<u32, Kind>
 
 /// Returns the number below `bound` on the line, or the kind of its fault.
 pub fn number_below(line: &[u8], bound: usize) -> Result<u32, Kind>
-    ensures { Says format.number_slot (λ i. nat_lt (number_in i) bound) format.number
+    ensures { ParsesLine format.number_slot (λ i. nat_lt (number_in i) bound) format.number
         line.now result }
 {
     match number(line) {
@@ -75,7 +76,7 @@ pub fn number_below(line: &[u8], bound: usize) -> Result<u32, Kind>
 
 /// Returns the version on the line, or the kind of its fault.
 pub fn version_at(line: &[u8]) -> Result<u32, Kind>
-    ensures { Says format.number_slot (λ i. number_in i == 3) format.number line.now result }
+    ensures { ParsesLine format.number_slot (λ i. number_in i == 3) format.number line.now result }
 {
     match number(line) {
         None => Err(Kind::Shape),
@@ -86,7 +87,7 @@ pub fn version_at(line: &[u8]) -> Result<u32, Kind>
 
 /// Returns the number on the line (`None` for `-1`), or the kind of its fault.
 pub fn signed_at(line: &[u8]) -> Result<Option<u32>, Kind>
-    ensures { Says format.signed_slot (λ _. true) format.signed line.now result }
+    ensures { ParsesLine format.signed_slot (λ _. true) format.signed line.now result }
 {
     match signed(line) {
         Some(n) => Ok(n),
@@ -250,7 +251,7 @@ pub fn value_in(ranges: &Items<u32>, var: u32, value: u32) -> bool
 
 /// Returns whether the variable exists and has the new value, and the old value, if any.
 pub fn change_in(ranges: &Items<u32>, var: u32, old: Option<u32>, new: u32) -> bool
-    ensures { result ≡ change_in ranges.now var old new }
+    ensures { result ≡ change_in_ranges ranges.now var old new }
 {
     match old {
         Some(old) => value_in(ranges, var, old) && value_in(ranges, var, new),
@@ -278,7 +279,7 @@ fn effect_in_ranges(ranges: &Items<u32>, effect: &Effect) -> bool
 
 /// Returns the fact on the line, or the kind of its fault: `Shape`, or `Value` if the fact doesn't exist.
 pub fn fact_at(ranges: &Items<u32>, line: &[u8]) -> Result<Fact, Kind>
-    ensures { Says format.fact_slot (λ i. fact_in_ranges ranges.now (fact_in i)) format.fact
+    ensures { ParsesLine format.fact_slot (λ i. fact_in_ranges ranges.now (fact_in i)) format.fact
         line.now result }
 {
     match fact_of(line) {
@@ -291,7 +292,7 @@ pub fn fact_at(ranges: &Items<u32>, line: &[u8]) -> Result<Fact, Kind>
 /// Reads the effect on the line into `effect`, and reuses its memory. Returns the kind of fault: `Shape`, `Value` if a fact doesn't exist,
 /// or `Memory` if out of memory.
 pub fn effect_at(effect: &mut Effect, ranges: &Items<u32>, line: &[u8]) -> Result<(), Kind>
-    ensures { SaysOrWants format.effect_slot (λ i. effect_in_ranges ranges.now (effect_in i))
+    ensures { ParsesLineInMemory format.effect_slot (λ i. effect_in_ranges ranges.now (effect_in i))
         (λ _. format.effect effect.exit.now) line.now result }
 {
     // The whole line is read before any fact is checked, since a wrong shape takes precedence over a fact that doesn't exist.
@@ -307,7 +308,7 @@ pub fn effect_at(effect: &mut Effect, ranges: &Items<u32>, line: &[u8]) -> Resul
 
 /// Returns the head of a rule on the line, or the kind of its fault: `Shape`, or `Value` if a fact of it doesn't exist.
 pub fn head_at(ranges: &Items<u32>, line: &[u8]) -> Result<Change, Kind>
-    ensures { Says format.head_slot (λ i. head_in_ranges ranges.now (head_in i))
+    ensures { ParsesLine format.head_slot (λ i. head_in_ranges ranges.now (head_in i))
         (λ (c : Change). format.head c.var c.old c.new) line.now result }
 {
     match change_of(line) {

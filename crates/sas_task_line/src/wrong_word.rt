@@ -1,7 +1,7 @@
 // Finds the first word of a line that isn't an allowed number. It is needed only if the line is refused.
 ghost use Rattle.std.specs.Prelude.{◌≡◌, ◌<◌, ◌^◌, ◌-◌, length, [], ◌∷◌, true, false, Option, Some, IfOk};
 ghost use Rattle.sas_task_format.specs.TaskFormat.{fact_slot, effect_slot, head_slot};
-ghost use Rattle.sas_task_line.specs.FirstWrong.{first_wrong, value_of, old_of, variable_in, fact_words_in, change_words_in, effect_words_in, FirstWrong};
+ghost use Rattle.sas_task_line.specs.FirstWrong.{first_wrong, bounded_value, old_of, variable_in, fact_words_in, change_words_in, effect_words_in, FirstWrong};
 ghost use Rattle.sas_task_line.specs.TaskRanges.{range_in};
 
 use crate::task_line::{change_of, effect_of, fact_of};
@@ -36,7 +36,7 @@ fn variable_wrong(ranges: &Items<u32>, var: u32, word: u64) -> Option<WrongWord>
 
 /// Checks the value of a variable.
 fn value_wrong(ranges: &Items<u32>, var: u32, value: u32, word: u64) -> Option<WrongWord>
-    ensures { result ≡ first_wrong word (value_of ranges.now var value ∷ []) }
+    ensures { result ≡ first_wrong word (bounded_value ranges.now var value ∷ []) }
 {
     let range = range_of(ranges, var);
     if value < range {
@@ -82,7 +82,8 @@ fn fact_wrong_from(ranges: &Items<u32>, fact: Fact, word: u64) -> Option<WrongWo
 fn values_wrong_from(ranges: &Items<u32>, change: Change, word: u64) -> Option<WrongWord>
     requires { word < 2 ^ 63 }
     ensures { result ≡ first_wrong word
-        (old_of ranges.now change.var change.old ∷ value_of ranges.now change.var change.new ∷ []) }
+        (old_of ranges.now change.var change.old
+        ∷ bounded_value ranges.now change.var change.new ∷ []) }
 {
     match old_wrong(ranges, change.var, change.old, word) {
         Some(wrong) => Some(wrong),

@@ -10,7 +10,7 @@ use Rattle.sas_task_format.specs.TaskReasons.{IsTaskReason}
 use Rattle.sas_task_line.specs.declared.so_far.SoFar.{SoFar}
 use Rattle.sas_task_judge.specs.declared.task_machine.TaskMachine.{TaskMachine}
 use Rattle.sas_task_judge.specs.TaskJudge.{HasEnded, RejectsLine}
-use Rattle.sas_task_judge.specs.TaskMachine.{LedBy, Stopped}
+use Rattle.sas_task_judge.specs.TaskMachine.{LedBy, MachineStopped}
 use Rattle.sas_task_reader.specs.declared.task_refusal.TaskRefusal.{TaskRefusal}
 
 -- the fault, and the text found there
@@ -35,4 +35,4 @@ abbrev pub StandsRefused : {K : Type 0} → (List (List ℕ) → SoFar → K →
     → List (List ℕ) → List ℕ → Kind → TaskMachine K → Type 0
 StandsRefused {K} keeps =
     StandsBehind (LedBy keeps) (λ (m : TaskMachine K). HasEnded m.judge)
-    (λ (m : TaskMachine K) line kind. RejectsLine m.judge line kind) Stopped
+    (λ (m : TaskMachine K) line kind. RejectsLine m.judge line kind) MachineStopped

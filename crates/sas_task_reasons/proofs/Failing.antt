@@ -16,7 +16,7 @@ use Rattle.sas_mutex.specs.Effects.{EffectKeeps}
 use Rattle.sas_mutex.proofs.Keeping.{keeps_from_effects, effect_of_keeps}
 use Rattle.sas_task_reasons.specs.declared.reason.Failure.{Failure}
 use Rattle.sas_task_reasons.specs.declared.reason.Failure.TheVariants.{SetsTwo, MayStay}
-use Rattle.sas_task_reasons.specs.Failures.{effect_of, FailsSo, Fails, IsEarlier, ComesBefore, IsFirstFailure}
+use Rattle.sas_task_reasons.specs.Failures.{effect_of_failure, FailsSo, Fails, IsEarlier, IsEarlierFailure, IsFirstFailure}
 use Rattle.sas_task_reasons.specs.Lowest.{IsFirstOfEffect}
 use Rattle.sas_task_reasons.proofs.Least.{all_below, IsLeast, none_at_all, has_or_not, item_at}
 
@@ -24,7 +24,7 @@ module _ (Counts : List Fact → Type 0) (o : Operator) (group : List Fact) wher
   -- ---- what is kept doesn't fail
 
   -- an effect that keeps the group has no failure
-  kept_so : (failure : Failure) → EffectKeeps Counts o group (effect_at o (effect_of failure)) → FailsSo Counts o group failure → ⊥
+  kept_so : (failure : Failure) → EffectKeeps Counts o group (effect_at o (effect_of_failure failure)) → FailsSo Counts o group failure → ⊥
   kept_so (SetsTwo effect other) keeps (within, two) = two.no_clash (keeps.single other within two.sets_other two.differ)
   kept_so (MayStay effect place) keeps (fact, here, lets) = elim (keeps.others fact (item_at group place fact here) lets.differ) [
     | inl clash ↦ lets.no_clash clash
@@ -32,16 +32,16 @@ module _ (Counts : List Fact → Type 0) (o : Operator) (group : List Fact) wher
   ]
 
   -- the effect of a failure sets a fact of the group
-  pub sets_one : (failure : Failure) → FailsSo Counts o group failure → Contains group (sets (effect_at o (effect_of failure)))
+  pub sets_one : (failure : Failure) → FailsSo Counts o group failure → Contains group (sets (effect_at o (effect_of_failure failure)))
   sets_one (SetsTwo effect other) (within, two) = two.sets_one
   sets_one (MayStay effect place) (fact, here, lets) = lets.sets_one
 
-  pub kept_never_fails : (failure : Failure) → EffectKeeps Counts o group (effect_at o (effect_of failure)) → Fails Counts o group failure → ⊥
+  pub kept_never_fails : (failure : Failure) → EffectKeeps Counts o group (effect_at o (effect_of_failure failure)) → Fails Counts o group failure → ⊥
   kept_never_fails failure keeps fails = kept_so failure keeps fails.so
 
   pub fails_not_kept : (failure : Failure) → Fails Counts o group failure → Keeps Counts o group → ⊥
   fails_not_kept failure fails keeps = kept_never_fails failure
-      (effect_of_keeps Counts o group keeps (effect_of failure) fails.exists (sets_one failure fails.so)) fails
+      (effect_of_keeps Counts o group keeps (effect_of_failure failure) fails.exists (sets_one failure fails.so)) fails
 
   -- ---- what isn't kept fails
 
@@ -98,7 +98,7 @@ module _ (Counts : List Fact → Type 0) (o : Operator) (group : List Fact) wher
 
   -- failures of one effect are those with another effect and those with a fact
   abbrev Of : ℕ → Type 0
-  Of effect = (failure : Failure) × (effect_of failure ≡ effect) × Fails Counts o group failure
+  Of effect = (failure : Failure) × (effect_of_failure failure ≡ effect) × Fails Counts o group failure
 
   module _ (no_first : (failure : Failure) → IsFirstFailure Counts o group failure → ⊥) where
     module _ (effect : ℕ) (none_below : (lower : ℕ) → lower < effect → Of lower → ⊥) where
@@ -106,9 +106,9 @@ module _ (Counts : List Fact → Type 0) (o : Operator) (group : List Fact) wher
       no_two = none_at_all (λ other. Fails Counts o group (SetsTwo effect other)) (λ other least.
           no_first (SetsTwo effect other) (record { fails = least.has; first = λ x before fails. earlier other least x before fails }))
         where
-          earlier : (other : ℕ) → IsLeast (λ n. Fails Counts o group (SetsTwo effect n)) other → (x : Failure) → ComesBefore x (SetsTwo effect other)
+          earlier : (other : ℕ) → IsLeast (λ n. Fails Counts o group (SetsTwo effect n)) other → (x : Failure) → IsEarlierFailure x (SetsTwo effect other)
               → Fails Counts o group x → ⊥
-          earlier other least x (inl lower) fails = none_below (effect_of x) lower (x, refl, fails)
+          earlier other least x (inl lower) fails = none_below (effect_of_failure x) lower (x, refl, fails)
           earlier other least (SetsTwo effect' other') (inr (same, lt)) fails =
               least.none_below other' lt (subst (λ n. Fails Counts o group (SetsTwo n other')) same fails)
           earlier other least (MayStay effect' place) (inr (same, never)) fails = never
@@ -117,28 +117,28 @@ module _ (Counts : List Fact → Type 0) (o : Operator) (group : List Fact) wher
       no_stay = none_at_all (λ place. Fails Counts o group (MayStay effect place)) (λ place least.
           no_first (MayStay effect place) (record { fails = least.has; first = λ x before fails. earlier place least x before fails }))
         where
-          earlier : (place : ℕ) → IsLeast (λ n. Fails Counts o group (MayStay effect n)) place → (x : Failure) → ComesBefore x (MayStay effect place)
+          earlier : (place : ℕ) → IsLeast (λ n. Fails Counts o group (MayStay effect n)) place → (x : Failure) → IsEarlierFailure x (MayStay effect place)
               → Fails Counts o group x → ⊥
-          earlier place least x (inl lower) fails = none_below (effect_of x) lower (x, refl, fails)
+          earlier place least x (inl lower) fails = none_below (effect_of_failure x) lower (x, refl, fails)
           earlier place least (SetsTwo effect' other) (inr (same, first)) fails = no_two other (subst (λ n. Fails Counts o group (SetsTwo n other)) same fails)
           earlier place least (MayStay effect' place') (inr (same, lt)) fails =
               least.none_below place' lt (subst (λ n. Fails Counts o group (MayStay n place')) same fails)
 
-      none_of : (failure : Failure) → effect_of failure ≡ effect → Fails Counts o group failure → ⊥
+      none_of : (failure : Failure) → effect_of_failure failure ≡ effect → Fails Counts o group failure → ⊥
       none_of (SetsTwo effect' other) same fails = no_two other (subst (λ n. Fails Counts o group (SetsTwo n other)) same fails)
       none_of (MayStay effect' place) same fails = no_stay place (subst (λ n. Fails Counts o group (MayStay n place)) same fails)
 
     none_fails : (failure : Failure) → Fails Counts o group failure → ⊥
     none_fails failure fails = none_at_all Of (λ effect least. none_of effect least.none_below least.has.0 least.has.1 least.has.2)
-        (effect_of failure) (failure, refl, fails)
+        (effect_of_failure failure) (failure, refl, fails)
 
   -- the first one of its effect is the first one of all where the effects below have none
   pub first_of_all : (effect : ℕ) (failure : Failure) → IsFirstOfEffect Counts o group effect failure
-      → ((other : Failure) → effect_of other < effect → Fails Counts o group other → ⊥) → IsFirstFailure Counts o group failure
+      → ((other : Failure) → effect_of_failure other < effect → Fails Counts o group other → ⊥) → IsFirstFailure Counts o group failure
   first_of_all effect failure first none = record {
     fails = first.fails;
     first = λ other before fails. elim before [
-      | inl lower ↦ none other (subst (λ n. effect_of other < n) first.of lower) fails
+      | inl lower ↦ none other (subst (λ n. effect_of_failure other < n) first.of lower) fails
       | inr (same, earlier) ↦ first.first other (same ∙ first.of) earlier fails
     ];
   }
@@ -153,7 +153,7 @@ module _ (Counts : List Fact → Type 0) (o : Operator) (group : List Fact) wher
 -- ---- one comes before the other
 
 -- of one effect
-compare_of : (a b : Failure) → effect_of a ≡ effect_of b → (a ≡ b) ⊎ (IsEarlier a b ⊎ IsEarlier b a)
+compare_of : (a b : Failure) → effect_of_failure a ≡ effect_of_failure b → (a ≡ b) ⊎ (IsEarlier a b ⊎ IsEarlier b a)
 compare_of (SetsTwo effect other) (SetsTwo effect' other') same = elim (cases_order other other') [
   | inl is ↦ inl (ap (λ (n : ℕ). SetsTwo n other) same ∙ ap (λ (n : ℕ). SetsTwo effect' n) is)
   | inr differ ↦ inr differ
@@ -165,8 +165,8 @@ compare_of (MayStay effect place) (MayStay effect' place') same = elim (cases_or
   | inr differ ↦ inr differ
 ]
 
-compare : (a b : Failure) → (a ≡ b) ⊎ (ComesBefore a b ⊎ ComesBefore b a)
-compare a b = elim (cases_order (effect_of a) (effect_of b)) [
+compare : (a b : Failure) → (a ≡ b) ⊎ (IsEarlierFailure a b ⊎ IsEarlierFailure b a)
+compare a b = elim (cases_order (effect_of_failure a) (effect_of_failure b)) [
   | inl same ↦ elim (compare_of a b same) [
     | inl is ↦ inl is
     | inr differ ↦ elim differ [

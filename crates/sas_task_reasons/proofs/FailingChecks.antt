@@ -5,7 +5,7 @@ use Rattle.std.specs.List.{enumerate_from}
 use Rattle.std.proofs.lemmas.Option.{none-some}
 use Rattle.sas_core.specs.FirstFault.{Check, first_fault, check}
 use Rattle.sas_meaning.specs.declared.layered.LayerFault.{LayerFault}
-use Rattle.sas_meaning.specs.LayerChecks.{numbered}
+use Rattle.sas_meaning.specs.LayerChecks.{numbered_checks}
 
 -- the fault is the first of these checks
 abbrev pub IsFirst : List (Check LayerFault) → LayerFault → Type 0
@@ -64,7 +64,7 @@ pub record FailsAt {A : Type 0} (checks_of : ℕ → A → List (Check LayerFaul
   pub within : place < length items
   pub fails : IsFirst (checks_of place (get_or items place d)) e
 
-pub numbered_fails : {A : Type 0} (checks_of : ℕ → A → List (Check LayerFault)) (d : A) (items : List A) (e : LayerFault) → IsFirst (numbered checks_of items) e → FailsAt checks_of d items e
+pub numbered_fails : {A : Type 0} (checks_of : ℕ → A → List (Check LayerFault)) (d : A) (items : List A) (e : LayerFault) → IsFirst (numbered_checks checks_of items) e → FailsAt checks_of d items e
 numbered_fails checks_of d items e is =
     let f = first_from checks_of d 0 items e is in
     let same : 0 + f.index ≡ f.index = omega arith in

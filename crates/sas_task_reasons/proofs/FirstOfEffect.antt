@@ -9,11 +9,11 @@ use Rattle.sas_core.specs.Grounded.{effect_at, group_at}
 use Rattle.sas_groups.specs.Clashes.{sets}
 use Rattle.sas_mutex.specs.Effects.{IsKept}
 use Rattle.sas_mutex.specs.Firing.{EffectPlace, operator_of}
-use Rattle.sas_mutex.specs.ByNotes.{NotBothAt, IsGoneAt, KeepsGroup}
+use Rattle.sas_mutex.specs.ByNotes.{NotBothAt, IsGoneAt, EffectKeepsGroup}
 use Rattle.sas_task_reasons.specs.declared.reason.Failure.{Failure}
 use Rattle.sas_task_reasons.specs.declared.reason.Failure.TheVariants.{SetsTwo, MayStay}
-use Rattle.sas_task_reasons.specs.Failures.{effect_of, Fails, IsEarlier}
-use Rattle.sas_task_reasons.specs.Lowest.{IsLowest, IsAny, IsFirstStaying, IsFirstOfEffect}
+use Rattle.sas_task_reasons.specs.Failures.{effect_of_failure, Fails, IsEarlier}
+use Rattle.sas_task_reasons.specs.Lowest.{IsLowestPartner, IsAny, IsFirstStaying, IsFirstOfEffect}
 use Rattle.sas_task_reasons.proofs.Least.{item_at, stands_at}
 use Rattle.sas_task_reasons.proofs.Failing.{two_fails, stay_fails}
 
@@ -42,12 +42,12 @@ module _ (f : EffectPlace) (kept : List Bool) (facts group : List Fact) (same : 
 
 module _ (f : EffectPlace) (kept : List Bool) (place : ℕ) where
   -- where none is lower than the number of all, none may
-  pub no_other : (n : ℕ) → IsLowest f kept place IsAny n → length (operator_of f).effects ≤ n
+  pub no_other : (n : ℕ) → IsLowestPartner f kept place IsAny n → length (operator_of f).effects ≤ n
       → (other : ℕ) → other < length (operator_of f).effects → NotBothAt f kept other place
   no_other n lowest all other lt = lowest.below other (omega arith) tt
 
   module _ (exists : f.effect < length (operator_of f).effects) (has : Contains (group_at f.task place) (sets (effect_at (operator_of f) f.effect))) where
-    pub two_first : (other : ℕ) → IsLowest f kept place IsAny other → other < length (operator_of f).effects
+    pub two_first : (other : ℕ) → IsLowestPartner f kept place IsAny other → other < length (operator_of f).effects
         → IsFirstOfEffect (IsKept f.task kept) (operator_of f) (group_at f.task place) f.effect (SetsTwo f.effect other)
     two_first other lowest lt = record {
       of = refl;
@@ -55,7 +55,7 @@ module _ (f : EffectPlace) (kept : List Bool) (place : ℕ) where
       first = earlier;
     }
       where
-        earlier : (x : Failure) → effect_of x ≡ f.effect → IsEarlier x (SetsTwo f.effect other) → Fails (IsKept f.task kept) (operator_of f) (group_at f.task place) x → ⊥
+        earlier : (x : Failure) → effect_of_failure x ≡ f.effect → IsEarlier x (SetsTwo f.effect other) → Fails (IsKept f.task kept) (operator_of f) (group_at f.task place) x → ⊥
         earlier (SetsTwo effect other') same lower fails =
             let it = subst (λ n. Fails (IsKept f.task kept) (operator_of f) (group_at f.task place) (SetsTwo n other')) same fails in
             it.so.1.no_clash (lowest.below other' lower tt it.so.1.sets_other it.so.1.differ)
@@ -76,7 +76,7 @@ module _ (f : EffectPlace) (kept : List Bool) (place : ℕ) where
         here : slice_get (group_at f.task place) n ≡ Some (get_or (group_at f.task place) n d)
         here = slice_get-get_or (group_at f.task place) n d lt
 
-        earlier : (x : Failure) → effect_of x ≡ f.effect → IsEarlier x (MayStay f.effect n) → Fails (IsKept f.task kept) (operator_of f) (group_at f.task place) x → ⊥
+        earlier : (x : Failure) → effect_of_failure x ≡ f.effect → IsEarlier x (MayStay f.effect n) → Fails (IsKept f.task kept) (operator_of f) (group_at f.task place) x → ⊥
         earlier (SetsTwo effect other') same before fails =
             let it = subst (λ m. Fails (IsKept f.task kept) (operator_of f) (group_at f.task place) (SetsTwo m other')) same fails in
             it.so.1.no_clash (single other' it.so.0 it.so.1.sets_other it.so.1.differ)
@@ -88,7 +88,7 @@ module _ (f : EffectPlace) (kept : List Bool) (place : ℕ) where
             ]
 
   pub keeps_group : (n : ℕ) → ((other : ℕ) → other < length (operator_of f).effects → NotBothAt f kept other place)
-      → IsFirstStaying f kept (group_at f.task place) n → length (group_at f.task place) ≤ n → KeepsGroup f kept place
+      → IsFirstStaying f kept (group_at f.task place) n → length (group_at f.task place) ≤ n → EffectKeepsGroup f kept place
   keeps_group n single first all = record {
     single = single;
     others = λ x among. first.below among.0 x (let lt = among.1 in omega arith) (stands_at (group_at f.task place) x among);

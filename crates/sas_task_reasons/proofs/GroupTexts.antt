@@ -8,7 +8,7 @@ use Rattle.sas_task_reasons.specs.declared.reason.Reason.{Reason}
 use Rattle.sas_task_reasons.specs.GroupReasons.{reason_at}
 use Rattle.sas_output.specs.Words.{line}
 use Rattle.sas_output.proofs.Texts.{text_of_both}
-use Rattle.sas_task_reasons.specs.WhyGroups.{group_lines, why_lines_from, why_lines}
+use Rattle.sas_task_reasons.specs.WhyGroups.{explained_group_lines, why_lines_from, why_lines}
 
 -- ---- the line of a verdict, as words
 
@@ -21,7 +21,7 @@ words_are place words =
 module _ (p : Parts) (reasons : List (Option Reason)) where
   -- the lines of the group at this place
   abbrev pub told : ℕ → Verdict → List (List ℕ)
-  told place verdict = group_lines p place verdict (reason_at reasons place)
+  told place verdict = explained_group_lines p place verdict (reason_at reasons place)
 
   -- those of some verdicts, and of others behind them
   lines_both : (n : ℕ) (a b : List Verdict) → why_lines_from p reasons n (a ++ b) ≡ why_lines_from p reasons n a ++ why_lines_from p reasons (n + length a) b

@@ -9,14 +9,14 @@ use Rattle.sas_core.specs.Grounded.{effect_at, group_at}
 use Rattle.sas_groups.specs.Clashes.{sets}
 use Rattle.sas_mutex.specs.Firing.{EffectPlace, operator_of}
 use Rattle.sas_mutex.specs.ByNotes.{NotBothAt}
-use Rattle.sas_task_reasons.specs.Lowest.{IsLowest, IsAny, SetsVariable, IsOneOfFirst, SetsOneOfFirst, FollowsOnVariable}
+use Rattle.sas_task_reasons.specs.Lowest.{IsLowestPartner, IsAny, SetsVariable, IsOneOfFirst, SetsOneOfFirst, FollowsOnVariable}
 use Rattle.sas_task_reasons.proofs.Least.{stands_at}
 
 module _ (f : EffectPlace) (kept : List Bool) (place : ℕ) where
   -- more effects are looked at, and those of them below the new lowest one may set none
-  pub lowest_more : (Before After : ℕ → Type 0) (lowest new : ℕ) → IsLowest f kept place Before lowest → new ≤ lowest
+  pub lowest_more : (Before After : ℕ → Type 0) (lowest new : ℕ) → IsLowestPartner f kept place Before lowest → new ≤ lowest
       → (new < length (operator_of f).effects → NotBothAt f kept new place → ⊥)
-      → ((other : ℕ) → other < new → After other → Before other ⊎ NotBothAt f kept other place) → IsLowest f kept place After new
+      → ((other : ℕ) → other < new → After other → Before other ⊎ NotBothAt f kept other place) → IsLowestPartner f kept place After new
   lowest_more Before After lowest new before lower may each = record {
     within = let within = before.within in omega arith;
     may = may;
@@ -27,8 +27,8 @@ module _ (f : EffectPlace) (kept : List Bool) (place : ℕ) where
   }
 
   -- the lower one of two
-  pub lowest_of_two : (A B C : ℕ → Type 0) (a b c : ℕ) → IsLowest f kept place A a → IsLowest f kept place B b → c ≡ min a b
-      → ((other : ℕ) → C other → A other ⊎ B other) → IsLowest f kept place C c
+  pub lowest_of_two : (A B C : ℕ → Type 0) (a b c : ℕ) → IsLowestPartner f kept place A a → IsLowestPartner f kept place B b → c ≡ min a b
+      → ((other : ℕ) → C other → A other ⊎ B other) → IsLowestPartner f kept place C c
   lowest_of_two A B C a b c la lb is either = record {
     within = let w = la.within in omega (arith, is);
     may = λ lt not_both. elim (one_of a b c is) [
@@ -48,7 +48,7 @@ module _ (f : EffectPlace) (kept : List Bool) (place : ℕ) where
       ]
 
   -- no effect is looked at
-  pub lowest_of_none : (None : ℕ → Type 0) (n : ℕ) → n ≡ length (operator_of f).effects → ((other : ℕ) → None other → ⊥) → IsLowest f kept place None n
+  pub lowest_of_none : (None : ℕ → Type 0) (n : ℕ) → n ≡ length (operator_of f).effects → ((other : ℕ) → None other → ⊥) → IsLowestPartner f kept place None n
   lowest_of_none None n is none = record {
     within = omega (arith, is);
     may = λ lt. absurd (omega (arith, is));
@@ -64,8 +64,8 @@ module _ (f : EffectPlace) (kept : List Bool) (place : ℕ) where
     ]
 
     -- the next effect is lower, and may set one
-    pub lower_found : (n lowest : ℕ) → IsLowest f kept place (IsOneOfFirst effects n) lowest → get_or effects n 0 < lowest
-        → (NotBothAt f kept (get_or effects n 0) place → ⊥) → IsLowest f kept place (IsOneOfFirst effects (n + 1)) (get_or effects n 0)
+    pub lower_found : (n lowest : ℕ) → IsLowestPartner f kept place (IsOneOfFirst effects n) lowest → get_or effects n 0 < lowest
+        → (NotBothAt f kept (get_or effects n 0) place → ⊥) → IsLowestPartner f kept place (IsOneOfFirst effects (n + 1)) (get_or effects n 0)
     lower_found n lowest before lower may = lowest_more (IsOneOfFirst effects n) (IsOneOfFirst effects (n + 1)) lowest (get_or effects n 0) before (omega arith)
         (λ lt. may) (λ other lt one. elim (first_or_next n other one) [
           | inl was ↦ inl was
@@ -73,23 +73,23 @@ module _ (f : EffectPlace) (kept : List Bool) (place : ℕ) where
         ])
 
     -- the next effect isn't lower, or may set none
-    pub none_lower : (n lowest : ℕ) → IsLowest f kept place (IsOneOfFirst effects n) lowest
-        → (get_or effects n 0 < lowest → NotBothAt f kept (get_or effects n 0) place) → IsLowest f kept place (IsOneOfFirst effects (n + 1)) lowest
+    pub none_lower : (n lowest : ℕ) → IsLowestPartner f kept place (IsOneOfFirst effects n) lowest
+        → (get_or effects n 0 < lowest → NotBothAt f kept (get_or effects n 0) place) → IsLowestPartner f kept place (IsOneOfFirst effects (n + 1)) lowest
     none_lower n lowest before not = lowest_more (IsOneOfFirst effects n) (IsOneOfFirst effects (n + 1)) lowest lowest before (omega arith)
         before.may (λ other lt one. elim (first_or_next n other one) [
           | inl was ↦ inl was
           | inr is ↦ inr (subst (λ k. NotBothAt f kept k place) is (not (omega (arith, is))))
         ])
 
-    pub all_looked_at : (n lowest : ℕ) → length effects ≤ n → IsLowest f kept place (IsOneOfFirst effects n) lowest → IsLowest f kept place (Contains effects) lowest
+    pub all_looked_at : (n lowest : ℕ) → length effects ≤ n → IsLowestPartner f kept place (IsOneOfFirst effects n) lowest → IsLowestPartner f kept place (Contains effects) lowest
     all_looked_at n lowest all before = lowest_more (IsOneOfFirst effects n) (Contains effects) lowest lowest before (omega arith) before.may
         (λ other lt among. inl (let within = among.1 in record { place = among.0; early = omega arith; here = stands_at effects other among }))
 
   module _ (facts : List Fact) where
     -- one fact more, by the effects on its variable
-    pub one_more_fact : (n : ℕ) (d : Fact) (lowest here new : ℕ) → n < length facts → IsLowest f kept place (SetsOneOfFirst f facts n) lowest
-        → IsLowest f kept place (SetsVariable f (get_or facts n d).var) here → new ≡ min lowest here
-        → IsLowest f kept place (SetsOneOfFirst f facts (n + 1)) new
+    pub one_more_fact : (n : ℕ) (d : Fact) (lowest here new : ℕ) → n < length facts → IsLowestPartner f kept place (SetsOneOfFirst f facts n) lowest
+        → IsLowestPartner f kept place (SetsVariable f (get_or facts n d).var) here → new ≡ min lowest here
+        → IsLowestPartner f kept place (SetsOneOfFirst f facts (n + 1)) new
     one_more_fact n d lowest here new within before on is = lowest_of_two (SetsOneOfFirst f facts n) (SetsVariable f (get_or facts n d).var)
         (SetsOneOfFirst f facts (n + 1)) lowest here new before on is (λ other sets_one. elim (cases_eq sets_one.place n) [
           | inl e ↦ inr (sets_one.on ∙ ap (λ (x : Fact). x.var)
@@ -104,8 +104,8 @@ module _ (f : EffectPlace) (kept : List Bool) (place : ℕ) where
         ])
 
     -- one fact more, on the variable of an earlier one
-    pub one_fact_more : (n lowest : ℕ) → n < length facts → FollowsOnVariable facts n → IsLowest f kept place (SetsOneOfFirst f facts n) lowest
-        → IsLowest f kept place (SetsOneOfFirst f facts (n + 1)) lowest
+    pub one_fact_more : (n lowest : ℕ) → n < length facts → FollowsOnVariable facts n → IsLowestPartner f kept place (SetsOneOfFirst f facts n) lowest
+        → IsLowestPartner f kept place (SetsOneOfFirst f facts (n + 1)) lowest
     one_fact_more n lowest within follows before = lowest_more (SetsOneOfFirst f facts n) (SetsOneOfFirst f facts (n + 1)) lowest lowest before (omega arith)
         before.may (λ other lt sets_one. inl (was other sets_one))
       where
@@ -131,7 +131,7 @@ module _ (f : EffectPlace) (kept : List Bool) (place : ℕ) where
 
     -- an effect that sets a fact of the group sets the variable of one of them
     pub all_facts_looked_at : (n lowest : ℕ) → length facts ≤ n → ((fact : Fact) → Contains (group_at f.task place) fact → Contains facts fact)
-        → IsLowest f kept place (SetsOneOfFirst f facts n) lowest → IsLowest f kept place IsAny lowest
+        → IsLowestPartner f kept place (SetsOneOfFirst f facts n) lowest → IsLowestPartner f kept place IsAny lowest
     all_facts_looked_at n lowest all same before = record {
       within = before.within;
       may = before.may;

@@ -19,10 +19,10 @@ use Rattle.sas_mutex.proofs.Keeping.{keeps_from_effects}
 use Rattle.sas_task_reasons.specs.declared.reason.Failure.{Failure}
 use Rattle.sas_task_reasons.specs.declared.reason.Reason.{Reason}
 use Rattle.sas_task_reasons.specs.declared.reason.Reason.TheVariants.{Breaks}
-use Rattle.sas_task_reasons.specs.Failures.{effect_of}
+use Rattle.sas_task_reasons.specs.Failures.{effect_of_failure}
 use Rattle.sas_task_reasons.specs.Lowest.{IsFirstOfEffect}
 use Rattle.sas_task_reasons.specs.GroupReasons.{IsReason, IsReasonIfAny, reason_at, AreReasons}
-use Rattle.sas_task_reasons.specs.Telling.{KeptBelow, IsPending, IsReasonSoFar, AreReasonsSoFar, IsAsked, IsBroken}
+use Rattle.sas_task_reasons.specs.Telling.{KeptBelow, IsPending, IsReasonSoFar, AreReasonsSoFar, LacksReason, IsBroken}
 use Rattle.sas_task_reasons.proofs.Least.{has_or_not}
 use Rattle.sas_task_reasons.proofs.Failing.{sets_one, kept_never_fails, first_of_all}
 use Rattle.sas_task_reasons.proofs.GreatestOfVerdicts.{breaks_under}
@@ -110,7 +110,7 @@ module _ (p : Parts) (kept : List Bool) where
   }
 
   -- where no reason is asked for, the operator leaves pending what was
-  pub not_asked : (operator effect place : ℕ) (verdicts : List Verdict) (reasons : List (Option Reason)) → (IsAsked operator verdicts reasons place → ⊥)
+  pub not_asked : (operator effect place : ℕ) (verdicts : List Verdict) (reasons : List (Option Reason)) → (LacksReason operator verdicts reasons place → ⊥)
       → IsReasonSoFar p kept operator effect place (verdict_at verdicts place) (reason_at reasons place)
       → IsReasonSoFar p kept operator (effect + 1) place (verdict_at verdicts place) (reason_at reasons place)
   not_asked operator effect place verdicts reasons not = so_far_by operator effect operator (effect + 1) place (verdict_at verdicts place) (reason_at reasons place)
@@ -131,7 +131,7 @@ module _ (p : Parts) (kept : List Bool) where
   }
 
   -- what is asked for is pending
-  pub asked_pending : (operator effect place : ℕ) (verdicts : List Verdict) (reasons : List (Option Reason)) → IsAsked operator verdicts reasons place
+  pub asked_pending : (operator effect place : ℕ) (verdicts : List Verdict) (reasons : List (Option Reason)) → LacksReason operator verdicts reasons place
       → IsReasonSoFar p kept operator effect place (verdict_at verdicts place) (reason_at reasons place) → KeptBelow p kept operator effect place
   asked_pending operator effect place verdicts reasons asked is =
       let pending : IsPending p kept operator effect place (Broken operator) = subst (IsPending p kept operator effect place) asked.breaks
@@ -150,7 +150,7 @@ module _ (p : Parts) (kept : List Bool) where
       greatest,
       first_of_all (IsGroupOfOr p (family_of kept) (group_at p place)) (operator_at p operator) (group_at p place) effect failure first
           (λ other lower fails. kept_never_fails (IsGroupOfOr p (family_of kept) (group_at p place)) (operator_at p operator) (group_at p place) other
-          (below.keeps (effect_of other) lower (sets_one (IsGroupOfOr p (family_of kept) (group_at p place)) (operator_at p operator) (group_at p place) other fails.so)) fails),
+          (below.keeps (effect_of_failure other) lower (sets_one (IsGroupOfOr p (family_of kept) (group_at p place)) (operator_at p operator) (group_at p place) other fails.so)) fails),
     );
   }
 

@@ -13,7 +13,7 @@ use Rattle.sas_core.specs.Variables.{layer_of}
 use Rattle.sas_meaning.specs.declared.layered.LayerFault.{LayerFault}
 use Rattle.sas_meaning.specs.declared.layered.LayerFault.TheVariants.{EffectOnDerived, RuleOnBasic, OldValue, TwoValues, LayerOrder}
 use Rattle.sas_meaning.specs.Layers.{default_of, can_fire}
-use Rattle.sas_meaning.specs.LayerChecks.{numbered, effect_layer_checks, operator_layer_checks, agrees_with, looks_down, firing_checks, rule_layer_checks, layer_checks}
+use Rattle.sas_meaning.specs.LayerChecks.{numbered_checks, effect_layer_checks, operator_layer_checks, agrees_with, looks_down, firing_checks, rule_layer_checks, layer_checks}
 use Rattle.sas_task_reasons.specs.LayerLaws.{IsToldOld, IsWhole, LayerReasonsAreWhole}
 use Rattle.sas_task_reasons.proofs.FailingChecks.{IsFirst, check_fails, asked_fails, either_fails, numbered_fails}
 use Rattle.sas_task_reasons.proofs.OtherGivers.{other_told}
@@ -89,7 +89,7 @@ module _ (p : Parts) where
         let fails = check_fails (agrees_with p (take place p.rules) rule) (TwoValues place) e is in
         subst (IsWhole p) fails.1 (within, other_told p place within fails.0)
 
-    order_whole : IsFirst (numbered order_check rule.conditions) e → IsWhole p e
+    order_whole : IsFirst (numbered_checks order_check rule.conditions) e → IsWhole p e
     order_whole is =
         let at = numbered_fails order_check no_fact rule.conditions e is in
         let c = get_or rule.conditions at.place no_fact in
@@ -98,7 +98,7 @@ module _ (p : Parts) where
         subst (IsWhole p) fails.1 (within, at.within, layers.0, layers.1)
 
     firing_whole : IsFirst (firing_checks p place rule) e → IsWhole p e
-    firing_whole is = elim (either_fails (old_checks ++ value_checks) (numbered order_check rule.conditions) e is) [
+    firing_whole is = elim (either_fails (old_checks ++ value_checks) (numbered_checks order_check rule.conditions) e is) [
       | inl first ↦ elim (either_fails old_checks value_checks e first) [
         | inl old ↦ old_whole old
         | inr value ↦ value_whole value.1
@@ -116,7 +116,7 @@ module _ (p : Parts) where
         ]
 
   whole : (e : LayerFault) → IsFirst (layer_checks p) e → IsWhole p e
-  whole e is = elim (either_fails (numbered (operator_layer_checks p) p.operators) (numbered (rule_layer_checks p) p.rules) e is) [
+  whole e is = elim (either_fails (numbered_checks (operator_layer_checks p) p.operators) (numbered_checks (rule_layer_checks p) p.rules) e is) [
     | inl first ↦ (let at = numbered_fails (operator_layer_checks p) no_operator p.operators e first in operator_whole at.place e at.within at.fails)
     | inr behind ↦ (let at = numbered_fails (rule_layer_checks p) no_rule p.rules e behind.1 in rule_whole at.place at.within e at.fails)
   ]

@@ -29,9 +29,9 @@ pub record LetsStay (Counts : List Fact → Type 0) (o : Operator) (group : List
   pub stays : IsRemoved o (preconditions o ++ e.conditions ++ other ∷ []) other → ⊥
 
 -- the effect of a failure
-abbrev pub effect_of : Failure → ℕ
-effect_of (SetsTwo effect other) = effect
-effect_of (MayStay effect place) = effect
+abbrev pub effect_of_failure : Failure → ℕ
+effect_of_failure (SetsTwo effect other) = effect
+effect_of_failure (MayStay effect place) = effect
 
 -- the condition of a failure, except that its effect exists
 abbrev pub FailsSo : (List Fact → Type 0) → Operator → List Fact → Failure → Type 0
@@ -44,7 +44,7 @@ FailsSo Counts o group (MayStay effect place) = (fact : Fact)
 -- the operator fails to preserve the group in this way
 pub record Fails (Counts : List Fact → Type 0) (o : Operator) (group : List Fact)
     (failure : Failure) : Type 0 where
-  pub exists : effect_of failure < length o.effects
+  pub exists : effect_of_failure failure < length o.effects
   pub so : FailsSo Counts o group failure
 
 -- the order of the failures of one effect: those with another effect come first, by its index; then
@@ -56,11 +56,12 @@ IsEarlier (MayStay effect place) (SetsTwo effect' other) = ⊥
 IsEarlier (MayStay effect place) (MayStay effect' place') = place < place'
 
 -- the order of all failures: by their effects, then by the order above
-abbrev pub ComesBefore : Failure → Failure → Type 0
-ComesBefore a b = (effect_of a < effect_of b) ⊎ ((effect_of a ≡ effect_of b) × IsEarlier a b)
+abbrev pub IsEarlierFailure : Failure → Failure → Type 0
+IsEarlierFailure a b = (effect_of_failure a < effect_of_failure b)
+    ⊎ ((effect_of_failure a ≡ effect_of_failure b) × IsEarlier a b)
 
 -- the first failure of the operator
 pub record IsFirstFailure (Counts : List Fact → Type 0) (o : Operator) (group : List Fact)
     (failure : Failure) : Type 0 where
   pub fails : Fails Counts o group failure
-  pub first : (other : Failure) → ComesBefore other failure → Fails Counts o group other → ⊥
+  pub first : (other : Failure) → IsEarlierFailure other failure → Fails Counts o group other → ⊥

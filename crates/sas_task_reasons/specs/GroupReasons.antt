@@ -52,11 +52,11 @@ verdict_of (Breaks operator failure) = Broken operator
 
 -- What a reason states about the group. The failure of an operator is its first one, assuming the
 -- groups of the greatest family and the group itself.
-abbrev pub Says : Parts → ℕ → Reason → Type 0
-Says p place (OnDerived fact) =
+abbrev pub IsReasonFor : Parts → ℕ → Reason → Type 0
+IsReasonFor p place (OnDerived fact) =
     IsFirstSuch (λ (f : Fact). IsBasic p f.var → ⊥) (group_at p place) fact
-Says p place (HoldsTwo first second) = AreFirstHolding p.init (group_at p place) first second
-Says p place (Breaks operator failure) = (family : ℕ → Bool)
+IsReasonFor p place (HoldsTwo first second) = AreFirstHolding p.init (group_at p place) first second
+IsReasonFor p place (Breaks operator failure) = (family : ℕ → Bool)
     × IsGreatest p family
     × IsFirstFailure (IsGroupOfOr p family (group_at p place)) (operator_at p operator)
     (group_at p place) failure
@@ -64,7 +64,7 @@ Says p place (Breaks operator failure) = (family : ℕ → Bool)
 -- the reason for this verdict on the group with this index
 pub record IsReason (p : Parts) (place : ℕ) (verdict : Verdict) (reason : Reason) : Type 0 where
   pub told : verdict ≡ verdict_of reason
-  pub says : Says p place reason
+  pub says : IsReasonFor p place reason
 
 -- the same, if there is a reason; a group without a reason is exclusive
 abbrev pub IsReasonIfAny : Parts → ℕ → Verdict → Option Reason → Type 0

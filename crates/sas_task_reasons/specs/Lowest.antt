@@ -7,11 +7,12 @@ use Rattle.sas_mutex.specs.Firing.{EffectPlace, operator_of}
 use Rattle.sas_mutex.specs.ByNotes.{NotBothAt, IsGoneAt}
 use Rattle.sas_groups.specs.ByVariable.{variable_of}
 use Rattle.sas_task_reasons.specs.declared.reason.Failure.{Failure}
-use Rattle.sas_task_reasons.specs.Failures.{Fails, effect_of, IsEarlier}
+use Rattle.sas_task_reasons.specs.Failures.{Fails, effect_of_failure, IsEarlier}
 
 -- The lowest effect, among those that were checked, that may set a fact of the group on another
 -- variable in the same step; the number of all effects if there is none.
-pub record IsLowest (f : EffectPlace) (kept : List Bool) (place : ℕ) (IsLookedAt : ℕ → Type 0)
+pub record IsLowestPartner (f : EffectPlace) (kept : List Bool)
+    (place : ℕ) (IsLookedAt : ℕ → Type 0)
     (lowest : ℕ) : Type 0 where
   pub within : lowest ≤ length (operator_of f).effects
   pub may : lowest < length (operator_of f).effects → NotBothAt f kept lowest place → ⊥
@@ -58,7 +59,7 @@ pub record IsFirstStaying (f : EffectPlace) (kept : List Bool) (group : List Fac
 -- the first failure of this effect
 pub record IsFirstOfEffect (Counts : List Fact → Type 0) (o : Operator) (group : List Fact)
     (effect : ℕ) (failure : Failure) : Type 0 where
-  pub of : effect_of failure ≡ effect
+  pub of : effect_of_failure failure ≡ effect
   pub fails : Fails Counts o group failure
-  pub first : (other : Failure) → effect_of other ≡ effect → IsEarlier other failure
+  pub first : (other : Failure) → effect_of_failure other ≡ effect → IsEarlier other failure
       → Fails Counts o group other → ⊥

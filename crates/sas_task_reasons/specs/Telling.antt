@@ -48,7 +48,7 @@ pub record AreReasonsSoFar (p : Parts) (kept : List Bool) (operator effect : ℕ
       (verdict_at verdicts place) (reason_at reasons place)
 
 -- the reason is still missing: the operator breaks the group, and no reason was found yet
-pub record IsAsked (operator : ℕ) (verdicts : List Verdict) (reasons : List (Option Reason))
+pub record LacksReason (operator : ℕ) (verdicts : List Verdict) (reasons : List (Option Reason))
     (place : ℕ) : Type 0 where
   pub breaks : verdict_at verdicts place ≡ Broken operator
   pub untold : reason_at reasons place ≡ None

@@ -46,14 +46,14 @@ abbrev pub why_group : Parts → ℕ → Option Reason → List (List ℕ)
 why_group p group reason = map (line_bytes p []) (option_map_or (reason_lines p group) reason [])
 
 -- the verdict on the group at this place, and behind it the reason, if there is one
-abbrev pub group_lines : Parts → ℕ → Verdict → Option Reason → List (List ℕ)
-group_lines p group verdict reason = group_line group verdict ∷ why_group p group reason
+abbrev pub explained_group_lines : Parts → ℕ → Verdict → Option Reason → List (List ℕ)
+explained_group_lines p group verdict reason = group_line group verdict ∷ why_group p group reason
 
 -- the lines of each group, the first of which has this place
 abbrev pub why_lines_from : Parts → List (Option Reason) → ℕ → List Verdict → List (List ℕ)
 why_lines_from p reasons group [] = []
 why_lines_from p reasons group (verdict ∷ verdicts) =
-    group_lines p group verdict (reason_at reasons group)
+    explained_group_lines p group verdict (reason_at reasons group)
     ++ why_lines_from p reasons (group + 1) verdicts
 
 -- the lines of each group of a task

@@ -10,7 +10,7 @@ ghost use Rattle.sas_mutex.specs.Marks.{IsClean};
 ghost use Rattle.sas_groups.specs.Noting.{AreBelow};
 ghost use Rattle.sas_mutex.specs.ByNotes.{IsNotedAt};
 ghost use Rattle.sas_task_reasons.specs.GroupReasons.{reason_at, AreReasons};
-ghost use Rattle.sas_task_reasons.specs.Telling.{IsReasonSoFar, AreReasonsSoFar, IsAsked, AreMarked};
+ghost use Rattle.sas_task_reasons.specs.Telling.{IsReasonSoFar, AreReasonsSoFar, LacksReason, AreMarked};
 
 use crate::failures::first_failure;
 use crate::reason::Reason;
@@ -132,7 +132,7 @@ fn some_asked(
     requires verdicts { AreBelow (length verdicts.now) groups.now }
     requires reasons { AreBelow (length reasons.now) groups.now }
     ensures { IsFalse result
-        → All (λ (place : ℕ). IsAsked operator verdicts.now reasons.now place → ⊥) groups.now }
+        → All (λ (place : ℕ). LacksReason operator verdicts.now reasons.now place → ⊥) groups.now }
 {
     for group in groups {
         if is_asked(*group, operator, verdicts, reasons) {
@@ -146,8 +146,8 @@ fn some_asked(
 fn is_asked(group: u32, operator: u32, verdicts: &[Verdict], reasons: &[Option<Reason>]) -> bool
     requires verdicts { group < length verdicts.now }
     requires reasons { group < length reasons.now }
-    ensures yes { IsTrue result → IsAsked operator verdicts.now reasons.now group }
-    ensures no { IsFalse result → IsAsked operator verdicts.now reasons.now group → ⊥ }
+    ensures yes { IsTrue result → LacksReason operator verdicts.now reasons.now group }
+    ensures no { IsFalse result → LacksReason operator verdicts.now reasons.now group → ⊥ }
 {
     verdicts[group as usize] == Verdict::Broken { operator } && reasons[group as usize].is_none()
 }

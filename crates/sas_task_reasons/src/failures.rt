@@ -6,7 +6,7 @@ ghost use Rattle.sas_groups.specs.Families.{IsIn, IsGroupOfOr};
 ghost use Rattle.sas_groups.specs.Kept.{family_of};
 ghost use Rattle.sas_mutex.specs.Effects.{IsKept};
 ghost use Rattle.sas_mutex.specs.Firing.{operator_of, effect_of};
-ghost use Rattle.sas_mutex.specs.ByNotes.{IsNotedAt, KeepsGroup, KeepsGroupItself};
+ghost use Rattle.sas_mutex.specs.ByNotes.{IsNotedAt, EffectKeepsGroup, EffectKeepsGroupWithItself};
 ghost use Rattle.sas_task_reasons.specs.Lowest.{IsFirstStaying, IsFirstOfEffect};
 
 use crate::lowest::lowest_together;
@@ -28,7 +28,7 @@ pub fn first_failure<T: Grounded>(
     ensures some { let f = firing.now in let facts = group_at f.task group in IfSome result
         (IsFirstOfEffect (IsGroupOfOr f.task (family_of kept.old) facts) (operator_of f) facts
         f.effect) }
-    ensures none { IfNone result (KeepsGroupItself firing.now kept.old group) }
+    ensures none { IfNone result (EffectKeepsGroupWithItself firing.now kept.old group) }
     ensures kept { kept.new ≡ kept.old }
     ensures notes { IsNotedAt firing.now kept.old marks.new }
 {
@@ -57,7 +57,7 @@ fn failure_by_notes<T: Grounded>(
     ensures some { let f = firing.now in IfSome result
         (IsFirstOfEffect (IsKept f.task kept.now) (operator_of f) (group_at f.task group)
         f.effect) }
-    ensures none { IfNone result (KeepsGroup firing.now kept.now group) }
+    ensures none { IfNone result (EffectKeepsGroup firing.now kept.now group) }
     ensures notes { IsNotedAt firing.now kept.now marks.new }
 {
     let effect = firing.effect;

@@ -94,13 +94,9 @@ fn reason_of(reasons: &[Option<Reason>], place: usize) -> Option<Reason>
 }
 
 /// Adds the lines of the group, each with its end, to the text.
-fn push_group<W: Write>(
-    sink: &mut Sink<'_, W>,
-    task: &FlatTask,
-    group: Group,
-)
+fn push_group<W: Write>(sink: &mut Sink<'_, W>, task: &FlatTask, group: Group)
     ensures { Pushes W.contents sink.old sink.new
-        (text (spec.group_lines task.now group.place group.verdict group.reason)) }
+        (text (spec.explained_group_lines task.now group.place group.verdict group.reason)) }
 {
     push_verdict(sink, group.place, group.verdict);
     if let Some(reason) = group.reason {
@@ -109,11 +105,7 @@ fn push_group<W: Write>(
 }
 
 /// Adds the line of the verdict on the group at this place, and its end.
-fn push_verdict<W: Write>(
-    sink: &mut Sink<'_, W>,
-    place: usize,
-    verdict: Verdict,
-)
+fn push_verdict<W: Write>(sink: &mut Sink<'_, W>, place: usize, verdict: Verdict)
     ensures { Pushes W.contents sink.old sink.new
         (group_line place verdict ++ 10 ∷ []) }
 {
@@ -131,10 +123,7 @@ fn push_verdict<W: Write>(
 }
 
 /// Adds the line of the word for a group and these words, and its end.
-fn push_words<W: Write>(
-    sink: &mut Sink<'_, W>,
-    words: &[Word<'_>],
-)
+fn push_words<W: Write>(sink: &mut Sink<'_, W>, words: &[Word<'_>])
     ensures { Pushes W.contents sink.old sink.new
         (line 0 (codes "group" ∷ map word_bytes words.now) ++ 10 ∷ []) }
 {
@@ -147,12 +136,7 @@ fn push_words<W: Write>(
 }
 
 /// Adds the lines of the reason why the group at this place isn't exclusive, each with its end.
-fn push_why<W: Write>(
-    sink: &mut Sink<'_, W>,
-    task: &FlatTask,
-    group: usize,
-    reason: Reason,
-)
+fn push_why<W: Write>(sink: &mut Sink<'_, W>, task: &FlatTask, group: usize, reason: Reason)
     ensures { Pushes W.contents sink.old sink.new
         (reasons_text task.now [] (spec.reason_lines task.now group reason)) }
 {

@@ -3,7 +3,7 @@ ghost use Rattle.std.specs.Prelude.{◌<◌, length, Contains, IsFalse};
 ghost use Rattle.sas_groups.specs.Families.{IsIn};
 ghost use Rattle.sas_groups.specs.Kept.{family_of};
 ghost use Rattle.sas_mutex.specs.ByNotes.{IsNotedAt};
-ghost use Rattle.sas_task_reasons.specs.Lowest.{IsLowest, IsAny, SetsVariable, FollowsOnVariable};
+ghost use Rattle.sas_task_reasons.specs.Lowest.{IsLowestPartner, IsAny, SetsVariable, FollowsOnVariable};
 
 use sas_core::{Fact, Grounded};
 use sas_mutex::{Firing, Marks};
@@ -20,7 +20,7 @@ pub fn lowest_together<T: Grounded>(
     requires notes { IsNotedAt firing.now kept.now marks.old }
     requires group { IsIn firing.now.task (family_of kept.now) group }
     ensures notes { IsNotedAt firing.now kept.now marks.new }
-    ensures lowest { IsLowest firing.now kept.now group IsAny result }
+    ensures lowest { IsLowestPartner firing.now kept.now group IsAny result }
 {
     let facts = firing.index.facts_of(firing.task, group);
     // The index only contains the effects of large operators.
@@ -45,7 +45,7 @@ fn lowest_of_all<T: Grounded>(
     requires notes { IsNotedAt firing.now kept.now marks.old }
     requires group { IsIn firing.now.task (family_of kept.now) group }
     ensures notes { IsNotedAt firing.now kept.now marks.new }
-    ensures lowest { IsLowest firing.now kept.now group IsAny result }
+    ensures lowest { IsLowestPartner firing.now kept.now group IsAny result }
 {
     let effects = firing.task.effects(firing.operator);
     for other in 0..effects {
@@ -67,7 +67,7 @@ fn lowest_by_facts<T: Grounded>(
     requires notes { IsNotedAt firing.now kept.now marks.old }
     requires group { IsIn firing.now.task (family_of kept.now) group }
     ensures notes { IsNotedAt firing.now kept.now marks.new }
-    ensures lowest { IsLowest firing.now kept.now group IsAny result }
+    ensures lowest { IsLowestPartner firing.now kept.now group IsAny result }
 {
     let facts = firing.index.facts_of(firing.task, group);
     let mut lowest = firing.task.effects(firing.operator);
@@ -98,7 +98,8 @@ fn lowest_on<T: Grounded>(
     requires notes { IsNotedAt firing.now kept.now marks.old }
     requires group { IsIn firing.now.task (family_of kept.now) group }
     ensures notes { IsNotedAt firing.now kept.now marks.new }
-    ensures lowest { IsLowest firing.now kept.now group (SetsVariable firing.now var) result }
+    ensures lowest { IsLowestPartner firing.now kept.now group
+        (SetsVariable firing.now var) result }
 {
     let effects = firing.index.effects_on(firing.task, firing.operator, var);
     match effects {
@@ -118,7 +119,7 @@ fn lowest_among<T: Grounded>(
     requires notes { IsNotedAt firing.now kept.now marks.old }
     requires group { IsIn firing.now.task (family_of kept.now) group }
     ensures notes { IsNotedAt firing.now kept.now marks.new }
-    ensures lowest { IsLowest firing.now kept.now group (Contains effects.now) result }
+    ensures lowest { IsLowestPartner firing.now kept.now group (Contains effects.now) result }
 {
     let mut lowest = firing.task.effects(firing.operator);
     for other in effects {

@@ -6,8 +6,8 @@ use Rattle.sas_lines.specs.declared.inputs.Opened.{Opened}
 use Rattle.sas_lines.specs.declared.inputs.Opened.TheVariants.{File, Standard, Nothing}
 
 -- the bytes of the words
-abbrev pub labels_of : {Z : Type 0} → List (String Z) → List (List ℕ)
-labels_of words = map string_bytes words
+abbrev pub bytes_of_labels : {Z : Type 0} → List (String Z) → List (List ℕ)
+bytes_of_labels words = map string_bytes words
 
 -- the word `-` names standard input, and any other one a file, if it can be opened
 abbrev pub OpensAs : {F I : Type 0} → List ℕ → Option (Opened F I) → Type 0

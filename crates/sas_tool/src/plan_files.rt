@@ -21,18 +21,18 @@ pub struct PlanFiles<'p, R> {
 
 impl<'p, R: Files + Input> PlanInputs for PlanFiles<'p, R> {
     ghost use Rattle.std.specs.Prelude.{◌≡◌, [], None, slice_index_or};
-    ghost use Rattle.sas_tool.specs.Labels.{OpensAs, labels_of};
+    ghost use Rattle.sas_tool.specs.Labels.{OpensAs, bytes_of_labels};
 
     type Input = Opened<R::File, R::Reader>;
 
-    ghost labels = { λ plans. labels_of plans.labels.now };
+    ghost labels = { λ plans. bytes_of_labels plans.labels.now };
 
     // What a file holds isn't known before it is read.
     ghost bytes = { λ plans number. None };
 
     // The arguments stay as they were. Which files can be opened isn't known before, but that standard input can.
     ghost open_gives = { λ before number given after. (after ≡ before)
-        × OpensAs (slice_index_or (labels_of before.labels.now) number []) given };
+        × OpensAs (slice_index_or (bytes_of_labels before.labels.now) number []) given };
 
     fn count(&self) -> usize {
         self.labels.len()

@@ -16,7 +16,7 @@ use Rattle.sas_output.specs.declared.ending.Status.TheVariants.{Yes, No}
 use Rattle.sas_output.specs.Ending.{Output}
 use Rattle.sas_answers.specs.Answers.{valid_answer, invalid_answer}
 use Rattle.sas_answers.specs.PlanWords.{fault_words, invalid_line}
-use Rattle.sas_run.specs.Runs.{Run, GoesThrough, steps_before}
+use Rattle.sas_run.specs.Runs.{Run, StepsSucceed, steps_before}
 use Rattle.sas_run.proofs.Runs.{some_run, one_run, to_fault}
 use Rattle.sas_trace.specs.Trace.{run_lines}
 use Rattle.sas_trace.specs.Traced.{EndsWith, TraceVerdict}
@@ -46,7 +46,7 @@ costs_add_up p plan output trace accepted = elim trace.ends [
 
 -- ---- some trace
 
-traced : (p : Parts) (plan : PlanParts) (run : Run) (verdict : Output) → GoesThrough p run → EndsWith p plan run verdict → (output : Output) × TraceVerdict p plan output
+traced : (p : Parts) (plan : PlanParts) (run : Run) (verdict : Output) → StepsSucceed p run → EndsWith p plan run verdict → (output : Output) × TraceVerdict p plan output
 traced p plan run verdict through ends = (
   record { text = text (run_lines p run) ++ verdict.text; status = verdict.status },
   record { run = run; through = through; verdict = verdict; ends = ends; whole = refl; status = refl },

@@ -12,7 +12,7 @@ use Rattle.std.proofs.lemmas.List.{get_or_default}
 use Rattle.sas_lines.specs.Lines.{text}
 use Rattle.sas_output.specs.Words.{line}
 use Rattle.sas_trace.specs.Trace.{variables_of, is_changed, change_line, change_lines}
-use Rattle.sas_trace.specs.Changes.{change_text, CoverChanges}
+use Rattle.sas_trace.specs.Changes.{change_text, ListCoversChanges}
 use Rattle.sas_trace.proofs.Numbers.{said, said_more, said_quiet}
 
 -- ---- the same value, or another one
@@ -135,7 +135,7 @@ module _ (p : Parts) (s s' : List ℕ) where
     pub before : (j : ℕ) → j < i → get_or listed j 0 < b
     pub behind : (j : ℕ) → i ≤ j → j < length listed → b ≤ get_or listed j 0 + 1
 
-  module _ (listed : List ℕ) (up : IsNonDecreasing listed) (cover : CoverChanges s s' listed) (fits : length s ≡ length s') (i b : ℕ) (at : ListedUpTo listed i b) where
+  module _ (listed : List ℕ) (up : IsNonDecreasing listed) (cover : ListCoversChanges s s' listed) (fits : length s ≡ length s') (i b : ℕ) (at : ListedUpTo listed i b) where
     module _ (lt : i < length listed) where
       pub listed_next : IsNext b (get_or listed i 0)
       listed_next = record {

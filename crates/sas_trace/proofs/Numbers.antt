@@ -18,11 +18,11 @@ module _ (says : ℕ → List ℕ) where
   said_more n =
       let first = map itself (range_with_len 0 n) in
       sym (
-        sym (flat_map-map says itself (range_with_len 0 (n + 1)))
-        ∙ ap (flat_map says) (map-range_with_len_more itself 0 n n (omega arith))
-        ∙ flat_map-append says first (n ∷ [])
-        ∙ ap (λ (l : List ℕ). l ++ flat_map says (n ∷ [])) (flat_map-map says itself (range_with_len 0 n))
-        ∙ ap (λ (l : List ℕ). said n ++ l) (append-nil (says n))
+      sym (flat_map-map says itself (range_with_len 0 (n + 1)))
+      ∙ ap (flat_map says) (map-range_with_len_more itself 0 n n (omega arith))
+      ∙ flat_map-append says first (n ∷ [])
+      ∙ ap (λ (l : List ℕ). l ++ flat_map says (n ∷ [])) (flat_map-map says itself (range_with_len 0 n))
+      ∙ ap (λ (l : List ℕ). said n ++ l) (append-nil (says n))
       )
 
   -- some that say nothing

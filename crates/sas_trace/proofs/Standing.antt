@@ -6,13 +6,13 @@ use Rattle.sas_lines.specs.Lines.{text}
 use Rattle.sas_output.specs.declared.told.Told.{Told}
 use Rattle.sas_output.specs.Ending.{Output, output_told}
 use Rattle.sas_run.specs.Executions.{Executed, Executes, Advances, next_operator}
-use Rattle.sas_run.specs.Runs.{Run, state_at, GoesThrough}
+use Rattle.sas_run.specs.Runs.{Run, state_at, StepsSucceed}
 use Rattle.sas_run.proofs.Executing.{executed_fits}
 use Rattle.sas_trace.specs.Trace.{step_line, change_lines, step_lines, run_lines}
 use Rattle.sas_trace.specs.Traced.{TraceVerdict}
-use Rattle.sas_trace.specs.Tracing.{StandsAt, HasVerdict}
+use Rattle.sas_trace.specs.Tracing.{HasTraced, HasVerdict}
 
-module _ (p : Parts) (run : Run) (e : Executed) (printed : List ℕ) (at : StandsAt p run e printed) where
+module _ (p : Parts) (run : Run) (e : Executed) (printed : List ℕ) (at : HasTraced p run e printed) where
   -- its state has a value for each variable
   pub stands_fits : length e.state ≡ length p.variables
   stands_fits = (executed_fits run e at.executes).one_each ∙ ap (λ (q : Parts). length q.variables) at.task
@@ -23,7 +23,7 @@ module _ (p : Parts) (run : Run) (e : Executed) (printed : List ℕ) (at : Stand
 
   -- the next step is that of the run
   module _ (k : ℕ) (made : e.made ≡ k) (new : Executed) (operator : ℕ) (advances : Advances e operator new) (along : Executes run new) where
-    pub stands_next : (printed' : List ℕ) → printed' ≡ new.state → StandsAt p run new printed'
+    pub stands_next : (printed' : List ℕ) → printed' ≡ new.state → HasTraced p run new printed'
     stands_next printed' is = record { task = advances.task ∙ at.task; executes = along; values = is }
 
     pub step_is : text (step_line p (k + 1) (next_operator e) ∷ change_lines p e.state new.state) ≡ text (step_lines p run k)
@@ -33,7 +33,7 @@ module _ (p : Parts) (run : Run) (e : Executed) (printed : List ℕ) (at : Stand
         ∙ ap (λ (s : List ℕ). text (step_line p (k + 1) (get_or run.operators k 0) ∷ change_lines p (state_at run k) s)) (along.state ∙ ap (state_at run) (advances.made ∙ ap (λ n. n + 1) made)))
 
 -- where the answer was found, a trace stands before the first step
-pub stands_first : (p : Parts) (plan : PlanParts) (run : Run) (verdict : Told) (e : Executed) (printed : List ℕ) → HasVerdict p plan run verdict e → printed ≡ e.state → StandsAt p run e printed
+pub stands_first : (p : Parts) (plan : PlanParts) (run : Run) (verdict : Told) (e : Executed) (printed : List ℕ) → HasVerdict p plan run verdict e → printed ≡ e.state → HasTraced p run e printed
 stands_first p plan run verdict e printed has is = record { task = has.task; executes = has.executes; values = is }
 
 -- what was written, as an output
@@ -43,7 +43,7 @@ written p verdict run = record { text = text (run_lines p run) ++ verdict.text.i
 pub is_traced : (p : Parts) (plan : PlanParts) (verdict : Told) (run : Run) (e : Executed) → HasVerdict p plan run verdict e → TraceVerdict p plan (written p verdict run)
 is_traced p plan verdict run e has = record {
   run = run;
-  through = subst (λ q. GoesThrough q run) has.task has.executes.of_plan.through;
+  through = subst (λ q. StepsSucceed q run) has.task has.executes.of_plan.through;
   verdict = output_told verdict;
   ends = has.ends;
   whole = refl;

@@ -8,8 +8,8 @@ abbrev pub change_text : Parts → List ℕ → List ℕ → ℕ → List ℕ
 change_text p s s' var = if is_changed s s' var then change_line p s s' var ++ 10 ∷ [] else []
 
 -- the variable has the same value in both, or is on the list
-abbrev pub IsNoted : List ℕ → List ℕ → List ℕ → ℕ → Type 0
-IsNoted s s' listed var = (slice_index s' var ≡ slice_index s var) ⊎ Contains listed var
+abbrev pub IsListedIfChanged : List ℕ → List ℕ → List ℕ → ℕ → Type 0
+IsListedIfChanged s s' listed var = (slice_index s' var ≡ slice_index s var) ⊎ Contains listed var
 
 -- the list grew, by variables of a task with this many
 pub record Grows (variables : ℕ) (old new : List ℕ) : Type 0 where
@@ -17,6 +17,6 @@ pub record Grows (variables : ℕ) (old new : List ℕ) : Type 0 where
   pub exist : All (λ var. var < variables) old → All (λ var. var < variables) new
 
 -- the variables on the list exist, and each whose value in s' isn't that in s is on it
-pub record CoverChanges (s s' listed : List ℕ) : Type 0 where
+pub record ListCoversChanges (s s' listed : List ℕ) : Type 0 where
   pub exist : All (λ var. var < length s) listed
-  pub each : (var : ℕ) → IsNoted s s' listed var
+  pub each : (var : ℕ) → IsListedIfChanged s s' listed var

@@ -10,7 +10,7 @@ use Rattle.sas_meaning.specs.Layers.{IsLayered}
 use Rattle.sas_output.specs.declared.ending.Status.TheVariants.{Yes}
 use Rattle.sas_output.specs.Ending.{Output}
 use Rattle.sas_answers.specs.Answers.{VerdictAnswer}
-use Rattle.sas_run.specs.Runs.{Run, state_at, GoesThrough}
+use Rattle.sas_run.specs.Runs.{Run, state_at, StepsSucceed}
 use Rattle.sas_trace.specs.Trace.{variables_of, changed}
 use Rattle.sas_trace.specs.Traced.{TraceVerdict}
 
@@ -28,7 +28,7 @@ replayed p run (suc k) =
 
 -- these are the state behind the first k steps
 abbrev pub Replays : Type 0
-Replays = (p : Parts) (run : Run) (k : ℕ) → WellRanged p → GoesThrough p run → k ≤ length run.steps
+Replays = (p : Parts) (run : Run) (k : ℕ) → WellRanged p → StepsSucceed p run → k ≤ length run.steps
     → replayed p run k ≡ state_at run k
 
 -- the answer that there is without it follows the trace, and its status is that of both

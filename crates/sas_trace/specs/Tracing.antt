@@ -9,7 +9,7 @@ use Rattle.sas_run.specs.Runs.{Run}
 use Rattle.sas_trace.specs.Traced.{EndsWith}
 
 -- the first steps of the run were made, and these are the values that were printed
-pub record StandsAt (p : Parts) (run : Run) (e : Executed) (printed : List ℕ) : Type 0 where
+pub record HasTraced (p : Parts) (run : Run) (e : Executed) (printed : List ℕ) : Type 0 where
   pub task : e.task ≡ p
   pub executes : Executes run e
   pub values : printed ≡ e.state

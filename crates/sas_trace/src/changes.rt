@@ -2,7 +2,7 @@
 ghost use Rattle.std.specs.Prelude.{◌≡◌, ◌<◌, length, All, IsTrue};
 ghost use Rattle.sas_core.specs.declared.parts.Fact.{Fact};
 ghost use Rattle.sas_run.specs.Stepping.{ListsChanges};
-ghost use Rattle.sas_trace.specs.Changes.{IsNoted, Grows, CoverChanges};
+ghost use Rattle.sas_trace.specs.Changes.{IsListedIfChanged, Grows, ListCoversChanges};
 
 use sas_core::{Fact, Grounded, Stepwise};
 use sas_meaning::{Settle, State};
@@ -19,7 +19,7 @@ pub fn list_changes<E: Settle<T> + Drop, T: Grounded, P: Stepwise>(
     requires fits { length printed.now ≡ length execution.now.task.variables }
     requires step { ListsChanges execution.now.task printed.now execution.now.state
         execution.now.deleted execution.now.touched }
-    ensures { IsTrue result → CoverChanges printed.now execution.now.state listed.new.items }
+    ensures { IsTrue result → ListCoversChanges printed.now execution.now.state listed.new.items }
 {
     listed.clear();
     match execution.touched().vars() {
@@ -38,7 +38,8 @@ fn list_deleted(listed: &mut Vec<u32>, printed: &[u32], state: &State, deleted: 
     requires exist { All (λ (f : Fact). f.var < length state.now) deleted.now }
     ensures grows { Grows (length state.now) listed.old.items listed.new.items }
     ensures noted { IsTrue result
-        → All (λ (f : Fact). IsNoted printed.now state.now listed.new.items f.var) deleted.now }
+        → All (λ (f : Fact). IsListedIfChanged printed.now state.now
+        listed.new.items f.var) deleted.now }
 {
     for fact in deleted {
         if !list_variable(listed, printed, state, fact.var) {
@@ -54,7 +55,7 @@ fn list_touched(listed: &mut Vec<u32>, printed: &[u32], state: &State, touched: 
     requires exist { All (λ var. var < length state.now) touched.now }
     ensures grows { Grows (length state.now) listed.old.items listed.new.items }
     ensures noted { IsTrue result
-        → All (IsNoted printed.now state.now listed.new.items) touched.now }
+        → All (IsListedIfChanged printed.now state.now listed.new.items) touched.now }
 {
     for var in touched {
         if !list_variable(listed, printed, state, *var) {
@@ -69,7 +70,7 @@ fn list_variable(listed: &mut Vec<u32>, printed: &[u32], state: &State, var: u32
     requires fits { length printed.now ≡ length state.now }
     requires exists { var < length state.now }
     ensures grows { Grows (length state.now) listed.old.items listed.new.items }
-    ensures noted { IsTrue result → IsNoted printed.now state.now listed.new.items var }
+    ensures noted { IsTrue result → IsListedIfChanged printed.now state.now listed.new.items var }
 {
     if printed[var as usize] == state.value(var) {
         return true;

@@ -59,7 +59,7 @@ fn write_execution<W: Write, E: Settle<FlatTask> + Drop>(
     ensures writes { IsErrAnd result IsWrite ↔ IsTrue out.new.failed }
 {
     // What takes memory comes first.
-    let verdict = judge(alloc, plan, execution)?;
+    let verdict = plan_verdict(alloc, plan, execution)?;
     let mut tracer = Tracer::new(alloc, execution.state())?;
     let pieces = Pieces::new(alloc)?;
     let mut sink = Sink::new(pieces, out);
@@ -78,7 +78,7 @@ fn write_execution<W: Write, E: Settle<FlatTask> + Drop>(
 }
 
 /// Returns the answer about the plan. Its execution then knows which steps go through, and is at its start.
-fn judge<E: Settle<T> + Drop, T: Grounded>(
+fn plan_verdict<E: Settle<T> + Drop, T: Grounded>(
     alloc: Global,
     plan: &FlatPlan,
     execution: &mut Execution<'_, '_, E, T, FlatPlan>,

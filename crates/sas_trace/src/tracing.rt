@@ -7,8 +7,8 @@ ghost use Rattle.sas_output.specs.Sink.{Pushes};
 ghost use Rattle.sas_run.specs.Executions.{Executes, Advances, next_operator};
 ghost use Rattle.sas_run.specs.Stepping.{ListsChanges};
 ghost use Rattle.sas_run.specs.Runs.{Run};
-ghost use Rattle.sas_trace.specs.Changes.{CoverChanges, change_text};
-ghost use Rattle.sas_trace.specs.Tracing.{StandsAt};
+ghost use Rattle.sas_trace.specs.Changes.{ListCoversChanges, change_text};
+ghost use Rattle.sas_trace.specs.Tracing.{HasTraced};
 ghost use Rattle.sas_trace.specs.Trace.{initial_lines, step_line, change_lines, step_lines, run_lines};
 
 use crate::changes::list_changes;
@@ -49,8 +49,8 @@ impl Tracer {
     )
         requires start { execution.old.made ≡ 0 }
         requires stands { (run : Run)
-            × StandsAt task.now run execution.old self.old.printed.items }
-        ensures { (run : Run) → StandsAt task.now run execution.old self.old.printed.items
+            × HasTraced task.now run execution.old self.old.printed.items }
+        ensures { (run : Run) → HasTraced task.now run execution.old self.old.printed.items
             → Pushes W.contents sink.old sink.new (text (run_lines task.now run)) }
     {
         push_initial_lines(sink, task, execution.state());
@@ -66,8 +66,8 @@ impl Tracer {
     )
         requires start { execution.old.made ≡ 0 }
         requires stands { (run : Run)
-            × StandsAt task.now run execution.old self.old.printed.items }
-        ensures { (run : Run) → StandsAt task.now run execution.old self.old.printed.items
+            × HasTraced task.now run execution.old self.old.printed.items }
+        ensures { (run : Run) → HasTraced task.now run execution.old self.old.printed.items
             → Pushes W.contents sink.old sink.new
             (text (flat_map (step_lines task.now run) (range_with_len 0 (length run.steps)))) }
     {
@@ -133,7 +133,7 @@ impl Tracer {
     )
         requires fits { length self.old.printed.items ≡ length task.now.variables }
         requires state { length state.now ≡ length task.now.variables }
-        requires cover { CoverChanges self.old.printed.items state.now self.old.listed.items }
+        requires cover { ListCoversChanges self.old.printed.items state.now self.old.listed.items }
         requires ascending { IsNonDecreasing self.old.listed.items }
         ensures pushes { Pushes W.contents sink.old sink.new
             (text (change_lines task.now self.old.printed.items state.now)) }
@@ -190,11 +190,7 @@ impl Tracer {
 }
 
 /// Adds the lines of the initial state to the text.
-fn push_initial_lines<W: Write>(
-    sink: &mut Sink<'_, W>,
-    task: &Layered<FlatTask>,
-    state: &State,
-)
+fn push_initial_lines<W: Write>(sink: &mut Sink<'_, W>, task: &Layered<FlatTask>, state: &State)
     requires { length state.now ≡ length task.now.variables }
     ensures { Pushes W.contents sink.old sink.new (text (initial_lines task.now state.now)) }
 {

@@ -14,13 +14,13 @@ use Rattle.sas_flat.specs.ByKey.{items_of, by_key}
 use Rattle.sas_flat.proofs.Tables.{length-table}
 use Rattle.sas_flat.proofs.ByKey.{under_key, all_items, holds}
 use Rattle.sas_meaning.proofs.Forced.{condition_within}
-use Rattle.sas_why.specs.Asking.{asked_entry, AsksFor, IsAsked, AddsAsked, asking_at, IsAskingIndex}
+use Rattle.sas_why.specs.Asking.{asked_entry, AsksFor, IsEntryOfTask, AddsAsked, asking_at, IsAskingIndex}
 
 -- ---- the conditions of one rule
 
 -- the entries of the first conditions are added
 pub record AddsUpTo (p : Parts) (rule count : ℕ) (before after : List (Entry ℕ)) : Type 0 where
-  pub only : All (IsAsked p) before → All (IsAsked p) after
+  pub only : All (IsEntryOfTask p) before → All (IsEntryOfTask p) after
   pub kept : (entry : Entry ℕ) → Contains before entry → Contains after entry
   pub each : (place : ℕ) (d : Fact) → place < count → place < length (rule_at p rule).conditions
       → IsDerived p.variables (get_or (rule_at p rule).conditions place d).var
@@ -45,7 +45,7 @@ module _ (p : Parts) (rule count : ℕ) (d : Fact) (before after : List (Entry �
   pub adds_more : WellRanged p → rule < length p.rules
       → AddsUpTo p rule (count + 1) before (after ++ asked_entry (get_or (rule_at p rule).conditions count d).var rule ∷ [])
   adds_more ranged lt = record {
-    only = λ all. All-push (IsAsked p) after (asked_entry (get_or (rule_at p rule).conditions count d).var rule) (so_far.only all)
+    only = λ all. All-push (IsEntryOfTask p) after (asked_entry (get_or (rule_at p rule).conditions count d).var rule) (so_far.only all)
         (record { rule = lt; var = condition_within p rule count d ranged lt below });
     kept = λ e h. Contains-append_left after (asked_entry (get_or (rule_at p rule).conditions count d).var rule ∷ []) e (so_far.kept e h);
     each = λ place e lt' within derived. elim (cases_eq place count) [
@@ -74,11 +74,11 @@ adds_all p rule count before after done so_far = record {
 -- ---- all rules
 
 pub record AskedUpTo (p : Parts) (count : ℕ) (entries : List (Entry ℕ)) : Type 0 where
-  pub only : All (IsAsked p) entries
+  pub only : All (IsEntryOfTask p) entries
   pub each : (rule var : ℕ) → rule < count → AsksFor p rule var → Contains entries (asked_entry var rule)
 
 pub asked_none : (p : Parts) → AskedUpTo p 0 []
-asked_none p = record { only = All-nil (IsAsked p); each = λ rule var lt asks. absurd (omega arith) }
+asked_none p = record { only = All-nil (IsEntryOfTask p); each = λ rule var lt asks. absurd (omega arith) }
 
 pub asked_more : (p : Parts) (count : ℕ) (before after : List (Entry ℕ)) → AddsAsked p count before after → AskedUpTo p count before → AskedUpTo p (count + 1) after
 asked_more p count before after adds up = record {
@@ -90,7 +90,7 @@ asked_more p count before after adds up = record {
 }
 
 pub asked_exist : (p : Parts) (count : ℕ) (entries : List (Entry ℕ)) → AskedUpTo p count entries → All (λ (e : Entry ℕ). e.key < length p.variables) entries
-asked_exist p count entries up = All-weaker (IsAsked p) (λ (e : Entry ℕ). e.key < length p.variables) (λ e h. h.var) entries up.only
+asked_exist p count entries up = All-weaker (IsEntryOfTask p) (λ (e : Entry ℕ). e.key < length p.variables) (λ e h. h.var) entries up.only
 
 pub asked_index : (p : Parts) (count : ℕ) (entries : List (Entry ℕ)) → count ≡ length p.rules → AskedUpTo p count entries
     → IsAskingIndex p (by_key entries (length p.variables))
@@ -108,7 +108,7 @@ asked_index p count entries all up = record {
 
     only : (var : ℕ) → All (λ rule. rule < length p.rules) (asking_at lists var)
     only var = subst (All (λ rule. rule < length p.rules)) (sym (under var))
-        (all_items (λ v rule. rule < length p.rules) entries var (All-weaker (IsAsked p) (λ (e : Entry ℕ). e.item < length p.rules) (λ e h. h.rule) entries up.only))
+        (all_items (λ v rule. rule < length p.rules) entries var (All-weaker (IsEntryOfTask p) (λ (e : Entry ℕ). e.item < length p.rules) (λ e h. h.rule) entries up.only))
 
     there : (rule var : ℕ) → Contains entries (asked_entry var rule) → Contains (asking_at lists var) rule
     there rule var h = subst (λ xs. Contains xs rule) (sym (under var)) (holds entries var rule h)

@@ -16,9 +16,9 @@ use Rattle.sas_run.specs.Verdicts.{ComesTo, IsFaultOf}
 use Rattle.sas_run.proofs.Determined.{leads_one_way}
 use Rattle.sas_output.specs.declared.line.Line.{Line}
 use Rattle.sas_output.specs.declared.line.Line.TheVariants as line
-use Rattle.sas_run.specs.Runs.{Run, last_state, GoesThrough, steps_before, EndsBy}
+use Rattle.sas_run.specs.Runs.{Run, last_state, StepsSucceed, steps_before, RunEndsWith}
 use Rattle.sas_run.proofs.Runs.{leads_to_last, last_rests}
-use Rattle.sas_reasons.specs.WhyPlan.{TellsOther, TellsFault, IsWhy}
+use Rattle.sas_reasons.specs.WhyPlan.{AreOtherLines, AreFaultLines, IsWhy}
 use Rattle.sas_why.specs.declared.retraced.Other.{Other}
 use Rattle.sas_why.specs.declared.retraced.Retraced.{Retraced}
 use Rattle.sas_why.specs.Retracing.{IsOtherIfAny, Retraces}
@@ -26,7 +26,7 @@ use Rattle.sas_why.specs.Report.{IsBehind, TellsOnce}
 
 module _ (p : Parts) (plan : PlanParts) (noted : Retraced) (run : Run) (fault : PlanFault) (r : Retraces p plan noted run) (is : noted.fault ≡ Some fault) where
   pub ends : IsFaultOf p plan fault × (run.steps ≡ steps_before plan fault)
-  ends = subst (EndsBy p plan run) is r.ends
+  ends = subst (RunEndsWith p plan run) is r.ends
 
   pub behind : IsBehind p noted run
   behind =
@@ -41,13 +41,13 @@ module _ (p : Parts) (plan : PlanParts) (noted : Retraced) (run : Run) (fault : 
 
   -- ---- why
 
-  pub is_why : (lines : List Line) → TellsOnce lines (TellsFault p plan run fault) → (new : List Line)
+  pub is_why : (lines : List Line) → TellsOnce lines (AreFaultLines p plan run fault) → (new : List Line)
       → ((other : Other) → noted.other ≡ Some other → new ≡ lines ++ line.CouldBe other.step other.operator ∷ [])
       → (noted.other ≡ None → new ≡ lines)
       → IsWhy p plan fault new
   is_why lines told new some none = at noted.other refl
     where
-      why : (others : List Line) → TellsOther p run others → new ≡ lines ++ others → IsWhy p plan fault new
+      why : (others : List Line) → AreOtherLines p run others → new ≡ lines ++ others → IsWhy p plan fault new
       why others may is = record {
         run = run;
         went = ends.1;
@@ -67,7 +67,7 @@ module _ (p : Parts) (plan : PlanParts) (noted : Retraced) (run : Run) (fault : 
 -- ---- the state before a step
 
 -- the steps before the one to which the plan comes lead to the last state of the run
-pub comes_to_last : (p : Parts) (plan : PlanParts) (run : Run) (step : ℕ) (s name : List ℕ) → IsLayered p → GoesThrough p run
+pub comes_to_last : (p : Parts) (plan : PlanParts) (run : Run) (step : ℕ) (s name : List ℕ) → IsLayered p → StepsSucceed p run
     → run.steps ≡ take (step - 1) plan.steps → ComesTo p plan.steps step s name → s ≡ last_state run
 comes_to_last p plan run step s name layered through is comes =
     (leads_one_way p layered comes.before comes.operators run.operators s (last_state run) comes.leads
@@ -77,7 +77,7 @@ comes_to_last p plan run step s name layered through is comes =
     same = is ∙ (ap (λ n. take n plan.steps) (let place = comes.place in let e : step - 1 ≡ length comes.before = omega arith in e)
         ∙ (ap (λ (steps : List (List ℕ)). take (length comes.before) steps) comes.whole ∙ take-append_seam comes.before (name ∷ comes.behind)))
 
-pub conflict_clashes : (p : Parts) (plan : PlanParts) (run : Run) (step operator : ℕ) → IsLayered p → GoesThrough p run
+pub conflict_clashes : (p : Parts) (plan : PlanParts) (run : Run) (step operator : ℕ) → IsLayered p → StepsSucceed p run
     → run.steps ≡ take (step - 1) plan.steps → IsFaultOf p plan (Conflict step operator) → Agree (last_state run) (operator_at p operator).effects → ⊥
 conflict_clashes p plan run step operator layered through is f agree =
     f.4 (subst (λ s. Agree s (operator_at p operator).effects) (sym (comes_to_last p plan run step f.0 f.1 layered through is f.2)) agree)

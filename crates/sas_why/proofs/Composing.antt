@@ -11,10 +11,10 @@ use Rattle.sas_meaning.specs.Layers.{default_of}
 use Rattle.sas_meaning.specs.Places.{places, can_give}
 use Rattle.sas_output.specs.declared.line.Line.{Line}
 use Rattle.sas_output.specs.declared.line.Line.TheVariants as line
-use Rattle.sas_reasons.specs.Lines.{with_lines, TellsBehind, TellsEach}
+use Rattle.sas_reasons.specs.Lines.{with_lines, LineThen, LinesOfEach}
 use Rattle.sas_run.specs.Runs.{Run, last_state}
 use Rattle.sas_reasons.specs.Derivation.{IsDerivation}
-use Rattle.sas_reasons.specs.Cause.{is_derived, is_given, actual_fact, since_line, TellsGivers, can_be_given, keeping_lines, missing_lines, IsCause}
+use Rattle.sas_reasons.specs.Cause.{is_derived, is_given, actual_fact, since_line, AreGiverLines, can_be_given, keeping_lines, missing_lines, IsCause}
 use Rattle.sas_why.specs.declared.origins.Origins.{Origins}
 use Rattle.sas_why.specs.declared.retraced.Retraced.{Retraced}
 use Rattle.sas_why.specs.declared.report.Report.{Report}
@@ -39,7 +39,7 @@ module _ (p : Parts) (noted : Retraced) where
   more_can_tell Tells old new adds can = let w = adds can.0 can.1 can.2 in (can.0, can.1, w.3)
 
   pub line_and_more : (report after : Report) (new : List Line) (l : Line) (Tells : Run → List Line → Type 0) → IsPlain l → new ≡ report.lines ++ l ∷ []
-      → Adds p noted (record report { lines = new }) after Tells → Adds p noted report after (λ run. TellsBehind l (Tells run))
+      → Adds p noted (record report { lines = new }) after Tells → Adds p noted report after (λ run. LineThen l (Tells run))
   line_and_more report after new l Tells plain add adds run behind is =
       let w = adds run behind (plain_added p noted.last report new (l ∷ []) (plain, tt) add is) in
       (l ∷ w.0, (w.0, w.1, refl), w.2 ∙ plain_then report new (l ∷ []) w.0 (plain, tt) add, w.3)
@@ -59,7 +59,7 @@ module _ (p : Parts) (noted : Retraced) where
 
   pub cause_added : (report : Report) (new : List Line) (between after : Report) (fact : Fact) → fact.var < length p.variables
       → new ≡ report.lines ++ first_lines fact
-      → Adds p noted (record report { lines = new }) between (λ run. TellsGivers (is_given p (last_state run) fact.var) p (last_state run) fact.var)
+      → Adds p noted (record report { lines = new }) between (λ run. AreGiverLines (is_given p (last_state run) fact.var) p (last_state run) fact.var)
       → Adds p noted between after (λ run lines. lines ≡ missing_lines p (last_state run) fact)
       → Adds p noted report after (λ run. IsCause p run fact)
   cause_added report new between after fact lt add givers missing run behind is =
@@ -84,19 +84,19 @@ module _ (p : Parts) (noted : Retraced) where
   -- ---- rules that derive values
 
   pub no_givers : (report : Report) (var : ℕ) → is_given p noted.last var ≡ false
-      → Adds p noted report report (λ run. TellsGivers (is_given p (last_state run) var) p (last_state run) var)
+      → Adds p noted report report (λ run. AreGiverLines (is_given p (last_state run) var) p (last_state run) var)
   no_givers report var not_so run behind is =
-      ([], subst (λ b. TellsGivers b p (last_state run) var []) (sym (ap (λ s. is_given p s var) (sym behind.last) ∙ not_so)) refl, refl, is)
+      ([], subst (λ b. AreGiverLines b p (last_state run) var []) (sym (ap (λ s. is_given p s var) (sym behind.last) ∙ not_so)) refl, refl, is)
 
   pub some_givers : (report : Report) (new : List Line) (origins : Origins) (next : Vec ℕ Global) (var : ℕ) → is_given p noted.last var ≡ true
       → ((s : List ℕ) → AreOrigins p s report.origins → TellsDerivation p s var report.origins origins [] next.items)
       → new ≡ report.lines ++ map line.RuleDerives next.items
       → Adds p noted report (record report { lines = new; origins = origins; next = next })
-      (λ run. TellsGivers (is_given p (last_state run) var) p (last_state run) var)
+      (λ run. AreGiverLines (is_given p (last_state run) var) p (last_state run) var)
   some_givers report new origins next var so tells add run behind is =
       let t = tells noted.last is.origins in (
         map line.RuleDerives t.derivation,
-        subst (λ b. TellsGivers b p (last_state run) var (map line.RuleDerives t.derivation)) (sym (ap (λ s. is_given p s var) (sym behind.last) ∙ so))
+        subst (λ b. AreGiverLines b p (last_state run) var (map line.RuleDerives t.derivation)) (sym (ap (λ s. is_given p s var) (sym behind.last) ∙ so))
             (t.derivation, subst (λ s. IsDerivation p s var t.derivation) behind.last t.is, refl),
         derivation_once p noted.last report new origins next var t add is,
         derivation_added p noted.last report new origins next var t add is,
@@ -151,7 +151,7 @@ module _ (p : Parts) (noted : Retraced) where
 -- ---- each of some items
 
 each_more : {A : Type 0} (Tells : A → List Line → Type 0) (items : List A) (item : A) (lines its : List Line)
-    → TellsEach Tells items lines → Tells item its → TellsEach Tells (items ++ item ∷ []) (lines ++ its)
+    → LinesOfEach Tells items lines → Tells item its → LinesOfEach Tells (items ++ item ∷ []) (lines ++ its)
 each_more Tells [] item lines its none tells = (its, [], tells, refl, ap (λ (l : List Line). l ++ its) none ∙ sym (append-nil its))
 each_more Tells (first ∷ items) item lines its each tells = (
   each.0,
@@ -162,11 +162,11 @@ each_more Tells (first ∷ items) item lines its each tells = (
 )
 
 module _ (p : Parts) (noted : Retraced) {A : Type 0} (Tells : Run → A → List Line → Type 0) where
-  pub none_yet : (report : Report) → Adds p noted report report (λ run. TellsEach (Tells run) [])
+  pub none_yet : (report : Report) → Adds p noted report report (λ run. LinesOfEach (Tells run) [])
   none_yet report run behind is = ([], refl, refl, is)
 
-  pub one_more : (first old new : Report) (items : List A) (item : A) → Adds p noted first old (λ run. TellsEach (Tells run) items)
-      → Adds p noted old new (λ run. Tells run item) → Adds p noted first new (λ run. TellsEach (Tells run) (items ++ item ∷ []))
+  pub one_more : (first old new : Report) (items : List A) (item : A) → Adds p noted first old (λ run. LinesOfEach (Tells run) items)
+      → Adds p noted old new (λ run. Tells run item) → Adds p noted first new (λ run. LinesOfEach (Tells run) (items ++ item ∷ []))
   one_more first old new items item before adds run behind is =
       let b = before run behind is in
       let a = adds run behind b.3 in

@@ -10,11 +10,11 @@ use Rattle.sas_core.specs.declared.parts.Parts.{Parts}
 use Rattle.sas_meaning.proofs.Places.{places_to, places_one_more}
 use Rattle.sas_output.specs.declared.line.Line.{Line}
 use Rattle.sas_output.specs.declared.line.Line.TheVariants as line
-use Rattle.sas_reasons.specs.Lines.{with_lines, TellsBehind, TellsEach}
+use Rattle.sas_reasons.specs.Lines.{with_lines, LineThen, LinesOfEach}
 use Rattle.sas_run.specs.Runs.{Run, last_state}
 use Rattle.sas_reasons.specs.Cause.{fails}
 use Rattle.sas_reasons.specs.Likeness.{IsLike}
-use Rattle.sas_reasons.specs.WhyPlan.{TellsLike}
+use Rattle.sas_reasons.specs.WhyPlan.{AreSimilarNameLines}
 use Rattle.sas_why.specs.declared.retraced.Retraced.{Retraced}
 use Rattle.sas_why.specs.declared.report.Report.{Report}
 use Rattle.sas_why.specs.Report.{IsBehind, IsReport, Adds, TellsOnce}
@@ -23,7 +23,7 @@ use Rattle.sas_why.specs.Report.{IsBehind, IsReport, Adds, TellsOnce}
 
 pub unknown_told : (p : Parts) (step : ℕ) (name : List ℕ) (like : Option ℕ) (lines : List Line) → IsLike p name like
     → lines ≡ line.Step step ∷ option_map_or (λ operator. line.SimilarOperator operator ∷ []) like []
-    → TellsOnce lines (TellsBehind (line.Step step) (TellsLike p name))
+    → TellsOnce lines (LineThen (line.Step step) (AreSimilarNameLines p name))
 unknown_told p step name None lines is are = (line.Step step ∷ [], ([], (None, is, refl), refl), are)
 unknown_told p step name (Some operator) lines is are =
     (line.Step step ∷ line.SimilarOperator operator ∷ [], (line.SimilarOperator operator ∷ [], (Some operator, is, refl), refl), are)
@@ -62,14 +62,14 @@ place_holds s k facts d lt e = place_not (fails s) k facts d lt (holds_when s (g
 
 module _ (p : Parts) (noted : Retraced) where
   pub same_items : {A : Type 0} (Tells : Run → A → List Line → Type 0) (a b : List A) (old new : Report) → a ≡ b
-      → Adds p noted old new (λ run. TellsEach (Tells run) a) → Adds p noted old new (λ run. TellsEach (Tells run) b)
-  same_items Tells a b old new same adds = subst (λ items. Adds p noted old new (λ run. TellsEach (Tells run) items)) same adds
+      → Adds p noted old new (λ run. LinesOfEach (Tells run) a) → Adds p noted old new (λ run. LinesOfEach (Tells run) b)
+  same_items Tells a b old new same adds = subst (λ items. Adds p noted old new (λ run. LinesOfEach (Tells run) items)) same adds
 
   pub at_last : {A : Type 0} (Tells : Run → A → List Line → Type 0) (items_of : List ℕ → List A) (old new : Report)
-      → Adds p noted old new (λ run. TellsEach (Tells run) (items_of noted.last)) → Adds p noted old new (λ run. TellsEach (Tells run) (items_of (last_state run)))
+      → Adds p noted old new (λ run. LinesOfEach (Tells run) (items_of noted.last)) → Adds p noted old new (λ run. LinesOfEach (Tells run) (items_of (last_state run)))
   at_last Tells items_of old new adds run behind is =
       let w = adds run behind is in
-      (w.0, subst (λ s. TellsEach (Tells run) (items_of s) w.0) behind.last w.1, w.2, w.3)
+      (w.0, subst (λ s. LinesOfEach (Tells run) (items_of s) w.0) behind.last w.1, w.2, w.3)
 
   -- from a report without a line
   pub all_told : (Tells : Run → List Line → Type 0) (first last : Report) → IsReport p noted.last first → first.lines ≡ [] → Adds p noted first last Tells

@@ -8,21 +8,21 @@ use Rattle.sas_core.specs.Grounded.{effect_at}
 use Rattle.sas_meaning.specs.Steps.{Fires, Agree}
 use Rattle.sas_run.proofs.Giving.{same_inside, not_both}
 use Rattle.sas_reasons.specs.Lowest.{IsLowest}
-use Rattle.sas_reasons.specs.Conflicts.{Contradicts, IsContradicted, IsConflict}
+use Rattle.sas_reasons.specs.Conflicts.{ConflictsWith, ConflictsWithEarlier, IsConflict}
 use Rattle.sas_reasons.proofs.Conflicts.{some_conflict}
-use Rattle.sas_why.specs.Conflicts.{first_on, IsNoted, AreFirsts}
+use Rattle.sas_why.specs.Conflicts.{first_on, AgreesWithFirst, AreFirstEffects}
 
 module _ (p : Parts) (s : List ℕ) (o : Operator) where
-  pub no_firsts : (firsts : List (Option ℕ)) → length firsts ≡ length p.variables → ((var : ℕ) → first_on firsts var ≡ None) → AreFirsts p s o 0 firsts
+  pub no_firsts : (firsts : List (Option ℕ)) → length firsts ≡ length p.variables → ((var : ℕ) → first_on firsts var ≡ None) → AreFirstEffects p s o 0 firsts
   no_firsts firsts one_each none = record {
     one_each = one_each;
     each = λ effect lt fires. absurd (omega arith);
     only = λ var first is. absurd (not_both first (first_on firsts var) (none var) is);
   }
 
-  module _ (n : ℕ) (firsts : List (Option ℕ)) (are : AreFirsts p s o n firsts) where
+  module _ (n : ℕ) (firsts : List (Option ℕ)) (are : AreFirstEffects p s o n firsts) where
     -- one more effect that doesn't fire
-    pub quiet : (Fires s (effect_at o n) → ⊥) → AreFirsts p s o (n + 1) firsts
+    pub quiet : (Fires s (effect_at o n) → ⊥) → AreFirstEffects p s o (n + 1) firsts
     quiet silent = record {
       one_each = are.one_each;
       each = λ effect lt fires. elim (cases_eq effect n) [
@@ -33,13 +33,13 @@ module _ (p : Parts) (s : List ℕ) (o : Operator) where
     }
 
     -- one more that fires and agrees
-    pub again : (first : ℕ) → first_on firsts (effect_at o n).var ≡ Some first → (effect_at o first).new ≡ (effect_at o n).new → AreFirsts p s o (n + 1) firsts
+    pub again : (first : ℕ) → first_on firsts (effect_at o n).var ≡ Some first → (effect_at o first).new ≡ (effect_at o n).new → AreFirstEffects p s o (n + 1) firsts
     again first is same = record {
       one_each = are.one_each;
       each = λ effect lt fires. elim (cases_eq effect n) [
         | inl e ↦ (
           first,
-          subst (λ k. IsNoted firsts o k first) (sym e)
+          subst (λ k. AgreesWithFirst firsts o k first) (sym e)
               (record { is = is; no_later = omega (arith, (are.only (effect_at o n).var first is).0); same = same }),
         )
         | inr ne ↦ are.each effect (omega arith) fires
@@ -49,7 +49,7 @@ module _ (p : Parts) (s : List ℕ) (o : Operator) where
 
     -- one more that is the first on its variable
     pub first_here : (effect_at o n).var < length p.variables → Fires s (effect_at o n) → first_on firsts (effect_at o n).var ≡ None
-        → AreFirsts p s o (n + 1) (set firsts (effect_at o n).var (Some n))
+        → AreFirstEffects p s o (n + 1) (set firsts (effect_at o n).var (Some n))
     first_here within fires none = record {
       one_each = length-set firsts (effect_at o n).var (Some n) ∙ are.one_each;
       each = each;
@@ -65,9 +65,9 @@ module _ (p : Parts) (s : List ℕ) (o : Operator) where
         elsewhere : (var : ℕ) → var ≢ (effect_at o n).var → first_on now var ≡ first_on firsts var
         elsewhere var ne = get_or-set_other firsts (effect_at o n).var var (Some n) None ne
 
-        each : (effect : ℕ) → effect < n + 1 → Fires s (effect_at o effect) → (first : ℕ) × IsNoted now o effect first
+        each : (effect : ℕ) → effect < n + 1 → Fires s (effect_at o effect) → (first : ℕ) × AgreesWithFirst now o effect first
         each effect lt fires' = elim (cases_eq effect n) [
-          | inl e ↦ (n, subst (λ k. IsNoted now o k n) (sym e) (record { is = at_n; no_later = omega arith; same = refl }))
+          | inl e ↦ (n, subst (λ k. AgreesWithFirst now o k n) (sym e) (record { is = at_n; no_later = omega arith; same = refl }))
           | inr ne ↦ (let w = are.each effect (omega arith) fires' in (
             w.0,
             record {
@@ -87,7 +87,7 @@ module _ (p : Parts) (s : List ℕ) (o : Operator) where
 
     -- one more that fires and doesn't agree is contradicted
     pub contradicted : n < length o.effects → Fires s (effect_at o n) → (first : ℕ) → first_on firsts (effect_at o n).var ≡ Some first
-        → (effect_at o first).new ≢ (effect_at o n).new → IsLowest (λ k. Contradicts s o k n) first
+        → (effect_at o first).new ≢ (effect_at o n).new → IsLowest (λ k. ConflictsWith s o k n) first
     contradicted exists fires first is other =
         let w = are.only (effect_at o n).var first is in
         record {
@@ -98,14 +98,14 @@ module _ (p : Parts) (s : List ℕ) (o : Operator) where
         }
 
     -- none before it is
-    pub none_before : (e : ℕ) → e < n → IsContradicted s o e → ⊥
+    pub none_before : (e : ℕ) → e < n → ConflictsWithEarlier s o e → ⊥
     none_before e lt (d, c) =
         let v = are.each d (let b = c.before in omega arith) c.fires in
         let w = are.each e lt c.fires' in
         let same : v.0 ≡ w.0 = same_inside v.0 w.0 (sym v.1.is ∙ (ap (first_on firsts) c.var ∙ w.1.is)) in
         c.other (sym v.1.same ∙ (ap (λ k. (effect_at o k).new) same ∙ w.1.same))
 
-    pub is_conflict : (d : ℕ) → IsLowest (λ k. Contradicts s o k n) d → IsConflict s o d n
+    pub is_conflict : (d : ℕ) → IsLowest (λ k. ConflictsWith s o k n) d → IsConflict s o d n
     is_conflict d lowest = record { first = record { has = (d, lowest.has); first = none_before }; lowest = lowest }
 
     -- if there is no more effect, they agree

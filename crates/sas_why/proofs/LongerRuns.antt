@@ -9,7 +9,7 @@ use Rattle.sas_core.specs.Grounded.{operator_at}
 use Rattle.sas_names.specs.Named.{IsNamed}
 use Rattle.sas_run.specs.Plans.{LeadsTo, IsApplicable}
 use Rattle.sas_run.specs.Running.{IsLater}
-use Rattle.sas_run.specs.Runs.{Run, state_at, last_state, GoesThrough}
+use Rattle.sas_run.specs.Runs.{Run, state_at, last_state, StepsSucceed}
 use Rattle.sas_reasons.specs.Since.{value_at, IsSince}
 use Rattle.sas_reasons.specs.MayMean.{IsOther, HasOther, MayMean}
 use Rattle.sas_why.specs.Retracing.{first_steps}
@@ -23,12 +23,12 @@ one_more run name operator next = run_of (run.steps ++ name ∷ []) (run.operato
 
 -- ---- the first steps
 
-module _ (p : Parts) (run : Run) (through : GoesThrough p run) where
+module _ (p : Parts) (run : Run) (through : StepsSucceed p run) where
   module _ (k : ℕ) (le : k ≤ length run.steps) where
     pub first_many : length (take k run.steps) ≡ k
     first_many = length-take-le k run.steps le
 
-    pub first_goes : GoesThrough p (first_steps run k)
+    pub first_goes : StepsSucceed p (first_steps run k)
     first_goes = record {
       operators = length-take-le k run.operators (omega (arith, through.operators)) ∙ sym first_many;
       states = length-take-le (k + 1) run.states (omega (arith, through.states)) ∙ ap (λ n. n + 1) (sym first_many);
@@ -71,7 +71,7 @@ none_since run var one = record {
 
 -- ---- one step more
 
-module _ (p : Parts) (run : Run) (through : GoesThrough p run) (name : List ℕ) (operator : ℕ) (next : List ℕ) where
+module _ (p : Parts) (run : Run) (through : StepsSucceed p run) (name : List ℕ) (operator : ℕ) (next : List ℕ) where
   abbrev longer : Run
   longer = one_more run name operator next
 

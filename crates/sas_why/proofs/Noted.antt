@@ -8,7 +8,7 @@ use Rattle.sas_core.specs.PlanParts.{PlanParts}
 use Rattle.sas_run.specs.declared.plan_check.PlanFault.{PlanFault}
 use Rattle.sas_run.specs.Executions.{Executed, next_name, next_operator, Executes, IsFound}
 use Rattle.sas_run.specs.Running.{IsLaterIfAny}
-use Rattle.sas_run.specs.Runs.{Run, state_at, last_state, GoesThrough, EndsBy}
+use Rattle.sas_run.specs.Runs.{Run, state_at, last_state, StepsSucceed, RunEndsWith}
 use Rattle.sas_run.proofs.Executing.{as_many, executed_fits, name_is}
 use Rattle.sas_reasons.specs.Since.{IsSince}
 use Rattle.sas_reasons.specs.MayMean.{MayMean}
@@ -36,7 +36,7 @@ notes_start run e changes executes made first = record {
     within : e.made ≤ length run.steps
     within = omega (arith, made)
 
-    goes : GoesThrough e.task (first_steps run e.made)
+    goes : StepsSucceed e.task (first_steps run e.made)
     goes = first_goes e.task run executes.of_plan.through e.made within
 
     many : length (first_steps run e.made).steps ≡ e.made
@@ -58,7 +58,7 @@ values_are step s old new notes = same_lists new.values.items s notes.places.val
     ∙ ((notes.each k (omega (arith, notes.places.values))).value
     ∙ get_or_default s k 0 d (omega (arith, notes.places.values))))
 
-module _ (p : Parts) (run : Run) (through : GoesThrough p run) (name : List ℕ) (operator : ℕ) (next : List ℕ) where
+module _ (p : Parts) (run : Run) (through : StepsSucceed p run) (name : List ℕ) (operator : ℕ) (next : List ℕ) where
   -- since when each variable has its value there
   since_longer : (old new : Changes) → old.values.items ≡ last_state run → length next ≡ length p.variables
       → NotesChanges (length run.steps + 1) next old new → HaveSince p run old.since.items → HaveSince p (one_more run name operator next) new.since.items
@@ -79,7 +79,7 @@ module _ (p : Parts) (run : Run) (through : GoesThrough p run) (name : List ℕ)
   }
 
 -- which other operator the steps may mean with the next one
-module _ (e : Executed) (run : Run) (through : GoesThrough e.task run) (next : List ℕ) (named : (operator_at e.task (next_operator e)).name ≡ next_name e)
+module _ (e : Executed) (run : Run) (through : StepsSucceed e.task run) (next : List ℕ) (named : (operator_at e.task (next_operator e)).name ≡ next_name e)
     (state : e.state ≡ last_state run) (made : e.made ≡ length run.steps) where
   abbrev longer : Run
   longer = one_more run (next_name e) (next_operator e) next
@@ -97,7 +97,7 @@ module _ (e : Executed) (run : Run) (through : GoesThrough e.task run) (next : L
 
 module _ (run : Run) (e : Executed) (notes : Notes) (are : AreNotes run e notes) (left : e.made < length e.operators)
     (e' : Executed) (notes' : Notes) (step : NotesStep e notes e' notes') (along : Executes run e') where
-  through : GoesThrough e.task run
+  through : StepsSucceed e.task run
   through = are.executes.of_plan.through
 
   within : e.made < length run.steps
@@ -109,7 +109,7 @@ module _ (run : Run) (e : Executed) (notes : Notes) (are : AreNotes run e notes)
   many : e.made ≡ length sofar.steps
   many = sym (first_many e.task run through e.made (omega (arith, within)))
 
-  goes : GoesThrough e.task sofar
+  goes : StepsSucceed e.task sofar
   goes = first_goes e.task run through e.made (omega (arith, within))
 
   last : e.state ≡ last_state sofar
@@ -143,7 +143,7 @@ module _ (run : Run) (e : Executed) (notes : Notes) (are : AreNotes run e notes)
 
 -- what was noted of all steps, up to the fault
 pub retraced : (p : Parts) (plan : PlanParts) (run : Run) (e : Executed) (notes : Notes) (noted : Retraced) → e.task ≡ p → e.made ≡ length e.operators → AreNotes run e notes
-    → EndsBy p plan run noted.fault → noted.operators.items ≡ e.operators → noted.last ≡ e.state → noted.since.items ≡ notes.changes.since.items → noted.other ≡ notes.other
+    → RunEndsWith p plan run noted.fault → noted.operators.items ≡ e.operators → noted.last ≡ e.state → noted.since.items ≡ notes.changes.since.items → noted.other ≡ notes.other
     → Retraces p plan noted run
 retraced p plan run e notes noted task all are ends operators last since other = record {
   through = through';
@@ -156,8 +156,8 @@ retraced p plan run e notes noted task all are ends operators last since other =
       (subst (λ r. IsOtherIfAny e.task r notes.other) whole are.other));
 }
   where
-    through' : GoesThrough p run
-    through' = subst (λ q. GoesThrough q run) task are.executes.of_plan.through
+    through' : StepsSucceed p run
+    through' = subst (λ q. StepsSucceed q run) task are.executes.of_plan.through
 
     made : e.made ≡ length run.steps
     made = all ∙ as_many run e are.executes

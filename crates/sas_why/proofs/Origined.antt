@@ -2,7 +2,7 @@
 use Rattle.std.proofs.Common.{◌≡◌, ℕ, zero, suc, ◌+◌, ◌<◌, ◌≤◌, ◌⊎◌, List, [], ◌∷◌, length, set, Option, None, Some, refl, subst, inl, inr, arith}
 use Rattle.std.proofs.lemmas.Bool.Decides.{eqb_tells, leb_tells}
 use Rattle.sas_why.specs.declared.rounds.Origin.{Origin}
-use Rattle.sas_why.specs.Rounds.{origin_at, origin_now, with_rule, unreached}
+use Rattle.sas_why.specs.Rounds.{origin_at, origin_now, origin_with_rule, unreached}
 
 -- no origin of an earlier round, nor of this round by this rule or a lower one
 pub record NotEarlier (over rule : ℕ) (old : Option Origin) : Type 0 where
@@ -12,14 +12,14 @@ pub record NotEarlier (over rule : ℕ) (old : Option Origin) : Type 0 where
 pub record Stays (over rule : ℕ) (old : Option Origin) : Type 0 where
   pub origin : Origin
   pub at : old ≡ Some origin
-  pub still : with_rule over rule old ≡ Some origin
+  pub still : origin_with_rule over rule old ≡ Some origin
   pub lower : origin.rank ≡ over + 1 → origin.rule ≤ rule
 
 pub some_same : (o o' : Origin) → Some o ≡ Some o' → o ≡ o'
 some_same o o' e = cc
 
 pub with_rule_cases : (over rule : ℕ) (old : Option Origin)
-    → ((with_rule over rule old ≡ Some (origin_now over rule)) × NotEarlier over rule old) ⊎ Stays over rule old
+    → ((origin_with_rule over rule old ≡ Some (origin_now over rule)) × NotEarlier over rule old) ⊎ Stays over rule old
 with_rule_cases over rule None = inl (refl, record { now = λ o e. absurd cc })
 with_rule_cases over rule (Some o) = elim (eqb_tells o.rank (over + 1)) [
   | inr n ↦ inr (record { origin = o; at = refl; still = rw n.0 refl; lower = λ e. absurd (n.1 e) })

@@ -12,7 +12,7 @@ use Rattle.sas_meaning.specs.Settled.{new_value_of, IsSettled}
 use Rattle.sas_meaning.proofs.Layers.{layer_tells, given_on, given_off, one_layer}
 use Rattle.sas_reasons.specs.Derivation.{reached}
 use Rattle.sas_reasons.proofs.Rounds.{reached_more, reached_differs}
-use Rattle.sas_why.specs.Rounds.{IsReached, AreKnown, value_in_round}
+use Rattle.sas_why.specs.Rounds.{IsReached, OriginsUpToRound, value_in_round}
 
 module _ (p : Parts) (s : List ℕ) (layered : IsLayered p) where
   -- what is reached stays reached
@@ -23,7 +23,7 @@ module _ (p : Parts) (s : List ℕ) (layered : IsLayered p) where
     | inr ne ↦ reached_more p layer s layered b var (reached_up layer var a b (omega arith) is)
   ]
 
-  pub reached_in : (over : ℕ) (origins : List _) → AreKnown p s over origins → (layer var : ℕ) → IsOnLayer p layer var → IsReached origins over var
+  pub reached_in : (over : ℕ) (origins : List _) → OriginsUpToRound p s over origins → (layer var : ℕ) → IsOnLayer p layer var → IsReached origins over var
       → reached p layer s over var ≡ true
   reached_in over origins known layer var on at =
       let its = known.each var at.origin at.at at.earlier in
@@ -44,7 +44,7 @@ module _ (p : Parts) (s : List ℕ) (layered : IsLayered p) where
     value_not layer var on is = given_on p layer s (reached p layer s over) var on
         ∙ ap (λ b. cond b (new_value_of p var) (default_of p var)) is
 
-    module _ (origins : List _) (known : AreKnown p s over origins) where
+    module _ (origins : List _) (known : OriginsUpToRound p s over origins) where
       pub value_when_reached : (layer var : ℕ) → IsReached origins over var → value_in_round p layer s over var ≡ get_or s var 0
       value_when_reached layer var at = elim (layer_tells p layer var) [
         | inl w ↦ value_reached layer var w.0 (reached_in over origins known layer var w.0 at)

@@ -11,13 +11,13 @@ use Rattle.sas_meaning.specs.Layers.{IsOnLayer, IsLayered}
 use Rattle.sas_meaning.specs.Settled.{IsSettled, IsClosed, differs}
 use Rattle.sas_meaning.proofs.Layers.{layer_cases}
 use Rattle.sas_meaning.proofs.Members.{contains_none}
-use Rattle.sas_reasons.specs.Derivation.{reached, Stands, FiresNext}
+use Rattle.sas_reasons.specs.Derivation.{reached, HasLayerAndRank, FiresNext}
 use Rattle.sas_reasons.specs.Cause.{is_derived, is_given}
 use Rattle.sas_reasons.proofs.Rounds.{Fires, ReachedBy, reached_by}
 use Rattle.sas_why.specs.declared.rounds.Origin.{Origin}
 use Rattle.sas_why.specs.declared.rounds.Rounds.{Rounds}
 use Rattle.sas_why.specs.Asking.{asking_at}
-use Rattle.sas_why.specs.Rounds.{origin_at, IsOrigin, HasOrigin, HaveOrigins, IsReached, AreKnown, HavePassed, ReachesNow, InRound, unreached, GoesOn, AreDue, AreAllRules, AreBefore}
+use Rattle.sas_why.specs.Rounds.{origin_at, IsOrigin, HasOrigin, HaveOrigins, IsReached, OriginsUpToRound, HavePassed, ReachesNow, InRound, unreached, ContinuesRound, AreDue, AreAllRules, AreBefore}
 use Rattle.sas_why.proofs.Reaching.{reached_up, reached_in, holds_on, Begins, all_or_begins}
 use Rattle.sas_why.proofs.Origined.{unreached_none}
 use Rattle.sas_why.proofs.RoundSteps.{fires_now, fires_next, reached_next, same_at}
@@ -31,15 +31,15 @@ module _ (p : Parts) (s : List ℕ) (layered : IsLayered p) (settled : IsSettled
     reached_now : (v : ℕ) (o : Origin) → origin_at r.origins.items v ≡ Some o → ReachesNow p s r.over v o → IsOrigin p s v o
     reached_now v o at now = record {
       layer = now.layer;
-      stands = subst (λ k. Stands p s v now.layer k) (sym now.rank) its_stand;
+      stands = subst (λ k. HasLayerAndRank p s v now.layer k) (sym now.rank) its_stand;
       given = record { layer = now.layer; before = r.over; stands = its_stand; lowest = record { has = now.fires; first = first } };
     }
       where
         not_before : (lower : ℕ) → lower < suc r.over → reached p now.layer s lower v ≡ true → ⊥
         not_before lower lt h = false≢true (sym now.not_yet ∙ reached_up p s layered now.layer v lower r.over (omega arith) h)
 
-        its_stand : Stands p s v now.layer (r.over + 1)
-        its_stand = subst (λ k. Stands p s v now.layer k) (one_more r.over)
+        its_stand : HasLayerAndRank p s v now.layer (r.over + 1)
+        its_stand = subst (λ k. HasLayerAndRank p s v now.layer k) (one_more r.over)
             (record { on = now.on; ranked = record { has = reached_next p s v now.layer r.over o.rule now.on now.fires; first = not_before } })
 
         first : (lower : ℕ) → lower < o.rule → FiresNext p s v now.layer r.over lower → ⊥
@@ -50,7 +50,7 @@ module _ (p : Parts) (s : List ℕ) (layered : IsLayered p) (settled : IsSettled
             let same = ap (λ (x : Origin). x.rule) e in
             omega arith
 
-    known_next : AreKnown p s (suc r.over) r.origins.items
+    known_next : OriginsUpToRound p s (suc r.over) r.origins.items
     known_next = record {
       one_each = inside.at.known.one_each;
       each = λ v o at le. elim (inside.each v o at) [
@@ -229,7 +229,7 @@ nil_of (x ∷ xs) e = absurd (omega arith)
 -- ---- one round after another
 
 module _ (p : Parts) (s : List ℕ) (layered : IsLayered p) (settled : IsSettled p s) (r r' : Rounds) (rules next : List ℕ)
-    (inside : InRound p s r' rules) (due : AreDue p s r.over rules) (goes : GoesOn r r') (none : r.next.items ≡ []) (some : 0 < length rules) (is : next ≡ r'.next.items)
+    (inside : InRound p s r' rules) (due : AreDue p s r.over rules) (goes : ContinuesRound r r') (none : r.next.items ≡ []) (some : 0 < length rules) (is : next ≡ r'.next.items)
     (more : 0 < length rules → r.over + unreached r.origins.items ≤ length p.variables) where
   due_now : AreDue p s r'.over rules
   due_now = subst (λ k. AreDue p s k rules) (sym goes.over) due

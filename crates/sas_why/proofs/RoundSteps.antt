@@ -16,7 +16,7 @@ use Rattle.sas_reasons.proofs.Rounds.{Fires, fires_decides, reach}
 use Rattle.sas_why.specs.declared.rounds.Origin.{Origin}
 use Rattle.sas_why.specs.declared.rounds.Rounds.{Rounds}
 use Rattle.sas_why.specs.Asking.{asking_at}
-use Rattle.sas_why.specs.Rounds.{origin_at, IsOrigin, IsReached, AreKnown, IsFirstOpen, HavePassed, ReachesNow, HasLower, AreAwaited, InRound, unreached, GoesOn, origin_now, with_rule, added, Reaches, value_in_round}
+use Rattle.sas_why.specs.Rounds.{origin_at, IsOrigin, IsReached, OriginsUpToRound, IsFirstOpen, HavePassed, ReachesNow, HasLower, AreAwaited, InRound, unreached, ContinuesRound, origin_now, origin_with_rule, added, Reaches, value_in_round}
 use Rattle.sas_why.proofs.Origined.{some_same, NotEarlier, with_rule_cases, unreached_fewer, unreached_same}
 
 -- what it says that a rule fires in a round
@@ -107,36 +107,36 @@ module _ (p : Parts) (s : List ℕ) (over var rule layer : ℕ) (origins : List 
   its = origin_at origins var
 
   abbrev after : List (Option Origin)
-  after = set origins var (with_rule over rule its)
+  after = set origins var (origin_with_rule over rule its)
 
-  at_var : origin_at after var ≡ with_rule over rule its
-  at_var = get_or-set_same origins var (with_rule over rule its) None lt
+  at_var : origin_at after var ≡ origin_with_rule over rule its
+  at_var = get_or-set_same origins var (origin_with_rule over rule its) None lt
 
   -- what is there is what was there, but for the variable
   set_cases : (v : ℕ) (o : Origin) → origin_at after v ≡ Some o
-      → ((v ≡ var) × (with_rule over rule its ≡ Some o)) ⊎ ((v ≢ var) × (origin_at origins v ≡ Some o))
+      → ((v ≡ var) × (origin_with_rule over rule its ≡ Some o)) ⊎ ((v ≢ var) × (origin_at origins v ≡ Some o))
   set_cases v o at = elim (cases_eq v var) [
     | inl e ↦ inl (e, sym at_var ∙ (ap (λ n. origin_at after n) (sym e) ∙ at))
-    | inr ne ↦ inr (ne, sym (get_or-set_other origins var v (with_rule over rule its) None ne) ∙ at)
+    | inr ne ↦ inr (ne, sym (get_or-set_other origins var v (origin_with_rule over rule its) None ne) ∙ at)
   ]
 
-  module _ (known : AreKnown p s over origins) where
-    set_known : AreKnown p s over after
-    set_known = record { one_each = length-set origins var (with_rule over rule its) ∙ known.one_each; each = each; whole = whole }
+  module _ (known : OriginsUpToRound p s over origins) where
+    set_known : OriginsUpToRound p s over after
+    set_known = record { one_each = length-set origins var (origin_with_rule over rule its) ∙ known.one_each; each = each; whole = whole }
       where
         each : (v : ℕ) (o : Origin) → origin_at after v ≡ Some o → o.rank ≤ over → IsOrigin p s v o
         each v o at le = elim (set_cases v o at) [
           | inr w ↦ known.each v o w.1 le
           | inl w ↦ elim (with_rule_cases over rule its) [
-            | inl n ↦ absurd (let e = ap (λ (x : Origin). x.rank) (same_at (with_rule over rule its) o (origin_now over rule) w.1 n.0) in omega arith)
+            | inl n ↦ absurd (let e = ap (λ (x : Origin). x.rank) (same_at (origin_with_rule over rule its) o (origin_now over rule) w.1 n.0) in omega arith)
             | inr st ↦ subst (λ x. IsOrigin p s x o) (sym w.0)
-                (known.each var o (st.at ∙ sym (ap Some (same_at (with_rule over rule its) o st.origin w.1 st.still))) le)
+                (known.each var o (st.at ∙ sym (ap Some (same_at (origin_with_rule over rule its) o st.origin w.1 st.still))) le)
           ]
         ]
 
         whole : (m v : ℕ) → IsOnLayer p m v → reached p m s over v ≡ true → IsReached after over v
         whole m v on' is = let w = known.whole m v on' is in elim (cases_eq v var) [
-          | inr ne ↦ record { origin = w.origin; at = get_or-set_other origins var v (with_rule over rule its) None ne ∙ w.at; earlier = w.earlier }
+          | inr ne ↦ record { origin = w.origin; at = get_or-set_other origins var v (origin_with_rule over rule its) None ne ∙ w.at; earlier = w.earlier }
           | inl e ↦ (let its_at : its ≡ Some w.origin = ap (λ n. origin_at origins n) (sym e) ∙ w.at in
               let le = w.earlier in
               elim (with_rule_cases over rule its) [
@@ -160,15 +160,15 @@ module _ (p : Parts) (s : List ℕ) (over var rule layer : ℕ) (origins : List 
     set_each each v o at = elim (set_cases v o at) [
       | inr w ↦ each v o w.1
       | inl w ↦ subst (λ x. (o.rank ≤ over) ⊎ ReachesNow p s over x o) (sym w.0) (elim (with_rule_cases over rule its) [
-        | inr st ↦ each var o (st.at ∙ sym (ap Some (same_at (with_rule over rule its) o st.origin w.1 st.still)))
-        | inl n ↦ inr (subst (λ x. ReachesNow p s over var x) (same_at (with_rule over rule its) (origin_now over rule) o n.0 w.1)
+        | inr st ↦ each var o (st.at ∙ sym (ap Some (same_at (origin_with_rule over rule its) o st.origin w.1 st.still)))
+        | inl n ↦ inr (subst (λ x. ReachesNow p s over var x) (same_at (origin_with_rule over rule its) (origin_now over rule) o n.0 w.1)
             (record { layer = layer; on = on; rank = refl; not_yet = not_yet n.1; fires = fires }))
       ])
     ]
 
   set_lower : (v k : ℕ) → HasLower over origins v k → HasLower over after v k
   set_lower v k h = elim (cases_eq v var) [
-    | inr ne ↦ record { origin = h.origin; at = get_or-set_other origins var v (with_rule over rule its) None ne ∙ h.at; lower = h.lower }
+    | inr ne ↦ record { origin = h.origin; at = get_or-set_other origins var v (origin_with_rule over rule its) None ne ∙ h.at; lower = h.lower }
     | inl e ↦ (let its_at : its ≡ Some h.origin = ap (λ n. origin_at origins n) (sym e) ∙ h.at in
         elim (with_rule_cases over rule its) [
           | inl n ↦ record {
@@ -201,7 +201,7 @@ module _ (p : Parts) (s : List ℕ) (over var rule layer : ℕ) (origins : List 
     set_awaited awaited v o at rank = elim (set_cases v o at) [
       | inr w ↦ more (asking_at asking v) (awaited v o w.1 rank)
       | inl w ↦ subst (λ x. All (Contains next_after) (asking_at asking x)) (sym w.0) (elim (with_rule_cases over rule its) [
-        | inr st ↦ more (asking_at asking var) (awaited var o (st.at ∙ sym (ap Some (same_at (with_rule over rule its) o st.origin w.1 st.still))) rank)
+        | inr st ↦ more (asking_at asking var) (awaited var o (st.at ∙ sym (ap Some (same_at (origin_with_rule over rule its) o st.origin w.1 st.still))) rank)
         | inl n ↦ now its refl n.1
       ])
     ]
@@ -236,21 +236,21 @@ reach_round p s r r' rules layer var rule lt on fires now inside = record {
 }
   where
     looked : (m v k : ℕ) → Contains (rules ++ rule ∷ []) k → IsOnLayer p m v → FiresNext p s v m r.over k
-        → HasLower r.over (set r.origins.items var (with_rule r.over rule (origin_at r.origins.items var))) v k
+        → HasLower r.over (set r.origins.items var (origin_with_rule r.over rule (origin_at r.origins.items var))) v k
     looked m v k has on' f = elim (Contains-push_cases rules rule k has) [
       | inl still ↦ set_lower p s r.over var rule layer r.origins.items lt on fires v k (inside.looked m v k still on' f)
       | inr e ↦ (let f' : FiresNext p s v m r.over rule = subst (λ x. FiresNext p s v m r.over x) (sym e) f in
           let same : var ≡ v = sym (fires_now p s var layer r.over rule fires).on ∙ (fires_now p s v m r.over rule f').on in
-          subst (λ x. HasLower r.over (set r.origins.items var (with_rule r.over rule (origin_at r.origins.items var))) v x) e
-          (subst (λ x. HasLower r.over (set r.origins.items var (with_rule r.over rule (origin_at r.origins.items var))) x rule) same
+          subst (λ x. HasLower r.over (set r.origins.items var (origin_with_rule r.over rule (origin_at r.origins.items var))) v x) e
+          (subst (λ x. HasLower r.over (set r.origins.items var (origin_with_rule r.over rule (origin_at r.origins.items var))) x rule) same
           (set_itself p s r.over var rule layer r.origins.items lt on fires)))
     ]
 
 -- and there is something to look at next only where it was reached for the first time
-pub reach_goes_on : (var rule : ℕ) (r r' : Rounds) → var < length r.origins.items → Reaches var rule r r' → GoesOn r r'
+pub reach_goes_on : (var rule : ℕ) (r r' : Rounds) → var < length r.origins.items → Reaches var rule r r' → ContinuesRound r r'
 reach_goes_on var rule r r' lt now = at (origin_at r.origins.items var) refl
   where
-    at : (old : Option Origin) → origin_at r.origins.items var ≡ old → GoesOn r r'
+    at : (old : Option Origin) → origin_at r.origins.items var ≡ old → ContinuesRound r r'
     at None e = record {
       over = now.over;
       fewer = rw (now.origins, e) (let w = unreached_fewer r.origins.items var (origin_now r.over rule) lt e in omega arith);
@@ -263,24 +263,24 @@ reach_goes_on var rule r r' lt now = at (origin_at r.origins.items var) refl
     }
       where
         some_kept : (old : Origin) → origin_at r.origins.items var ≡ Some old
-            → unreached (set r.origins.items var (with_rule r.over rule (Some old))) ≡ unreached r.origins.items
+            → unreached (set r.origins.items var (origin_with_rule r.over rule (Some old))) ≡ unreached r.origins.items
         some_kept old e = elim (with_rule_cases r.over rule (Some old)) [
           | inl n ↦ rw n.0 (unreached_same r.origins.items var (origin_now r.over rule) old lt e)
           | inr st ↦ rw st.still (unreached_same r.origins.items var st.origin old lt e)
         ]
 
 -- the conditions that are known to hold count for nothing there
-pub goes_as : (a b c : Rounds) → b.over ≡ a.over → b.origins.items ≡ a.origins.items → b.next.items ≡ a.next.items → GoesOn b c → GoesOn a c
+pub goes_as : (a b c : Rounds) → b.over ≡ a.over → b.origins.items ≡ a.origins.items → b.next.items ≡ a.next.items → ContinuesRound b c → ContinuesRound a c
 goes_as a b c over origins next goes = record {
   over = goes.over ∙ over;
   fewer = (let e = ap unreached origins in let f = goes.fewer in omega arith);
   some = λ more. (let e = ap unreached origins in let n = ap length next in let f = goes.some (omega arith) in omega arith);
 }
 
-pub goes_on_still : (r : Rounds) → GoesOn r r
+pub goes_on_still : (r : Rounds) → ContinuesRound r r
 goes_on_still r = record { over = refl; fewer = omega arith; some = λ lt. omega arith }
 
-pub goes_on_more : (a b c : Rounds) → GoesOn a b → GoesOn b c → GoesOn a c
+pub goes_on_more : (a b c : Rounds) → ContinuesRound a b → ContinuesRound b c → ContinuesRound a c
 goes_on_more a b c x y = record {
   over = y.over ∙ x.over;
   fewer = (let f = x.fewer in let g = y.fewer in omega arith);

@@ -18,13 +18,13 @@ pub record AsksFor (p : Parts) (rule var : ℕ) : Type 0 where
   pub derived : IsDerived p.variables var
 
 -- a rule and a variable of the task
-pub record IsAsked (p : Parts) (entry : Entry ℕ) : Type 0 where
+pub record IsEntryOfTask (p : Parts) (entry : Entry ℕ) : Type 0 where
   pub rule : entry.item < length p.rules
   pub var : entry.key < length p.variables
 
 -- the entries of one more rule
 pub record AddsAsked (p : Parts) (rule : ℕ) (before after : List (Entry ℕ)) : Type 0 where
-  pub only : All (IsAsked p) before → All (IsAsked p) after
+  pub only : All (IsEntryOfTask p) before → All (IsEntryOfTask p) after
   pub kept : (entry : Entry ℕ) → Contains before entry → Contains after entry
   pub each : (var : ℕ) → AsksFor p rule var → Contains after (asked_entry var rule)
 

@@ -11,7 +11,7 @@ use Rattle.sas_output.specs.declared.line.Line.{Line}
 use Rattle.sas_output.specs.declared.line.Line.TheVariants.{RuleDerives, RuleRequires}
 use Rattle.sas_axioms.specs.LayerRules.{AreRulesOf}
 use Rattle.sas_reasons.specs.Lines.{with_lines}
-use Rattle.sas_run.specs.Runs.{Run, last_state, GoesThrough}
+use Rattle.sas_run.specs.Runs.{Run, last_state, StepsSucceed}
 use Rattle.sas_reasons.specs.Cause.{failing_lines}
 use Rattle.sas_why.specs.declared.retraced.Retraced.{Retraced}
 use Rattle.sas_why.specs.declared.report.Report.{Report}
@@ -20,7 +20,7 @@ use Rattle.sas_why.specs.Retracing.{HaveSince}
 
 -- the run's last state is noted, and since when its values hold
 pub record IsBehind (p : Parts) (noted : Retraced) (run : Run) : Type 0 where
-  pub through : GoesThrough p run
+  pub through : StepsSucceed p run
   pub last : noted.last ≡ last_state run
   pub state : IsState p.variables noted.last
   pub settled : IsSettled p noted.last

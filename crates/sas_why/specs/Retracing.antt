@@ -3,7 +3,7 @@ use Rattle.std.specs.Prelude.{◌≡◌, ℕ, ◌+◌, ◌<◌, List, length, ta
 use Rattle.sas_core.specs.declared.parts.Parts.{Parts}
 use Rattle.sas_core.specs.PlanParts.{PlanParts}
 use Rattle.sas_run.specs.Executions.{Executed, Executes}
-use Rattle.sas_run.specs.Runs.{Run, last_state, GoesThrough, EndsBy}
+use Rattle.sas_run.specs.Runs.{Run, last_state, StepsSucceed, RunEndsWith}
 use Rattle.sas_reasons.specs.Since.{IsSince}
 use Rattle.sas_reasons.specs.MayMean.{HasOther, MayMean}
 use Rattle.sas_why.specs.declared.second_pass.Notes.{Notes}
@@ -23,8 +23,8 @@ pub record HaveSince (p : Parts) (run : Run) (since : List ℕ) : Type 0 where
 
 -- this is noted of the run of a plan, up to its fault
 pub record Retraces (p : Parts) (plan : PlanParts) (noted : Retraced) (run : Run) : Type 0 where
-  pub through : GoesThrough p run
-  pub ends : EndsBy p plan run noted.fault
+  pub through : StepsSucceed p run
+  pub ends : RunEndsWith p plan run noted.fault
   pub operators : noted.operators.items ≡ run.operators
   pub last : noted.last ≡ last_state run
   pub since : HaveSince p run noted.since.items

@@ -4,8 +4,8 @@ ghost use Rattle.sas_core.specs.Grounded.{operator_at};
 ghost use Rattle.sas_core.specs.Variables.{IsState};
 ghost use Rattle.sas_meaning.specs.Steps.{Agree};
 ghost use Rattle.sas_reasons.specs.Lowest.{IsLowest};
-ghost use Rattle.sas_reasons.specs.Conflicts.{Contradicts, IsConflict};
-ghost use Rattle.sas_why.specs.Conflicts.{AreFirsts};
+ghost use Rattle.sas_reasons.specs.Conflicts.{ConflictsWith, IsConflict};
+ghost use Rattle.sas_why.specs.Conflicts.{AreFirstEffects};
 
 use sas_core::{Grounded, Items};
 use sas_meaning::{Layered, State};
@@ -53,12 +53,13 @@ fn contradicting<T: Grounded>(
     requires operator { operator < length task.now.operators }
     requires effect { effect < length (operator_at task.now operator).effects }
     requires state { IsState task.now.variables state.now }
-    requires firsts { AreFirsts task.now state.now (operator_at task.now operator)
+    requires firsts { AreFirstEffects task.now state.now (operator_at task.now operator)
         effect firsts.old }
     ensures some { IfSome result
-        (IsLowest (λ k. Contradicts state.now (operator_at task.now operator) k effect)) }
+        (IsLowest (λ k. ConflictsWith state.now (operator_at task.now operator) k effect)) }
     ensures none { IfNone result
-        (AreFirsts task.now state.now (operator_at task.now operator) (effect + 1) firsts.new) }
+        (AreFirstEffects task.now state.now
+        (operator_at task.now operator) (effect + 1) firsts.new) }
 {
     // By its contract the task is well ranged and layered.
     let _ = task.task();

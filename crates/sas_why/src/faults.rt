@@ -3,10 +3,10 @@ ghost use Rattle.std.specs.Prelude.{◌≡◌, ◌<◌, ◌-◌, ℕ, [], length
 ghost use Rattle.sas_core.specs.Grounded.{operator_at};
 ghost use Rattle.sas_core.specs.Variables.{IsState};
 ghost use Rattle.sas_meaning.specs.Steps.{Agree};
-ghost use Rattle.sas_reasons.specs.Lines.{TellsBehind};
+ghost use Rattle.sas_reasons.specs.Lines.{LineThen};
 ghost use Rattle.sas_run.specs.Runs.{Run};
-ghost use Rattle.sas_reasons.specs.WhyPlan.{TellsLike, TellsInapplicable, TellsOperators, TellsConflict};
-ghost use Rattle.sas_reasons.specs.WhyPlan.{TellsGoal, TellsFault, IsWhy, cost_lines, cost_lines_sum};
+ghost use Rattle.sas_reasons.specs.WhyPlan.{AreSimilarNameLines, AreInapplicableLines, AreOperatorLines, AreConflictLines};
+ghost use Rattle.sas_reasons.specs.WhyPlan.{AreGoalLines, AreFaultLines, IsWhy, cost_lines, cost_lines_sum};
 ghost use Rattle.sas_why.specs.Retracing.{Retraces};
 ghost use Rattle.sas_why.specs.Report.{IsBehind, CanTell, Adds, TellsOnce};
 
@@ -55,7 +55,7 @@ fn lines_of_fault<T: Grounded, P: Stepwise>(
     requires fault { noted.now.fault ≡ Some fault }
     ensures { IfOk result (λ lines. (run : Run)
         → Retraces layered.now (P.says plan.now) noted.now run
-        → TellsOnce lines (TellsFault layered.now (P.says plan.now) run fault)) }
+        → TellsOnce lines (AreFaultLines layered.now (P.says plan.now) run fault)) }
 {
     // By its contract the task is well ranged and layered.
     let _ = layered.task();
@@ -81,7 +81,7 @@ fn unknown<T: Grounded>(
     step: usize,
 ) -> Result<Items<Line>, AllocError>
     ensures { IfOk result (λ lines.
-        TellsOnce lines (TellsBehind (Line.Step step) (TellsLike task.now name.now))) }
+        TellsOnce lines (LineThen (Line.Step step) (AreSimilarNameLines task.now name.now))) }
 {
     let mut lines = Items::new(alloc);
     lines.push(Line::Step { step })?;
@@ -101,7 +101,7 @@ fn blocked<T: Grounded>(
 ) -> Result<Items<Line>, AllocError>
     requires { (run : Run) × IsBehind task.now noted.now run }
     ensures { IfOk result (λ lines. (run : Run) → IsBehind task.now noted.now run
-        → TellsOnce lines (TellsBehind (Line.Step step) (TellsOperators task.now run name.now))) }
+        → TellsOnce lines (LineThen (Line.Step step) (AreOperatorLines task.now run name.now))) }
 {
     let mut report = Report::new(alloc, task, &noted.last)?;
     match report_blocked(task, noted, name, step, &mut report) {
@@ -123,7 +123,7 @@ fn report_blocked<T: Grounded>(
 ) -> Result<(), AllocError>
     requires { CanTell task.now noted.now report.old }
     ensures { OnOk result (Adds task.now noted.now report.old report.new
-        (λ run. TellsBehind (Line.Step step) (TellsOperators task.now run name.now))) }
+        (λ run. LineThen (Line.Step step) (AreOperatorLines task.now run name.now))) }
 {
     report.lines.push(Line::Step { step })?;
     for operator in 0..task.operators() {
@@ -144,7 +144,7 @@ fn report_inapplicable<T: Grounded>(
     requires operator { operator < length task.now.operators }
     requires report { CanTell task.now noted.now report.old }
     ensures { OnOk result (Adds task.now noted.now report.old report.new
-        (λ run. TellsInapplicable task.now run operator)) }
+        (λ run. AreInapplicableLines task.now run operator)) }
 {
     // By its contract the task is well ranged and layered.
     let _ = task.task();
@@ -169,7 +169,8 @@ fn conflicting<T: Grounded>(
     requires state { IsState task.now.variables state.now }
     requires disagree { Agree state.now (operator_at task.now operator).effects → ⊥ }
     ensures { IfOk result (λ lines.
-        TellsOnce lines (TellsBehind (Line.Step step) (TellsConflict task.now state.now operator))) }
+        TellsOnce lines (LineThen (Line.Step step)
+        (AreConflictLines task.now state.now operator))) }
 {
     let clash = conflict(alloc, task, operator, state)?;
     let mut lines = Items::new(alloc);
@@ -194,7 +195,7 @@ fn missed<T: Grounded>(
 ) -> Result<Items<Line>, AllocError>
     requires { (run : Run) × IsBehind task.now noted.now run }
     ensures { IfOk result (λ lines. (run : Run) → IsBehind task.now noted.now run
-        → TellsOnce lines (TellsGoal task.now run)) }
+        → TellsOnce lines (AreGoalLines task.now run)) }
 {
     let mut report = Report::new(alloc, task, &noted.last)?;
     match report_missed(task, noted, &mut report) {
@@ -213,7 +214,7 @@ fn report_missed<T: Grounded>(
     report: &mut Report,
 ) -> Result<(), AllocError>
     requires { CanTell task.now noted.now report.old }
-    ensures { OnOk result (Adds task.now noted.now report.old report.new (TellsGoal task.now)) }
+    ensures { OnOk result (Adds task.now noted.now report.old report.new (AreGoalLines task.now)) }
 {
     // By its contract the task is well ranged and layered.
     let _ = task.task();

@@ -3,7 +3,7 @@ ghost use Rattle.std.specs.Prelude.{◌≡◌, ℕ, ◌+◌, ◌^◌, ◌<◌, �
 ghost use Rattle.sas_core.specs.Grounded.{rule_at};
 ghost use Rattle.sas_core.specs.Variables.{IsState};
 ghost use Rattle.sas_meaning.specs.Settled.{IsSettled};
-ghost use Rattle.sas_why.specs.Rounds.{HaveOrigins, value_in_round, IsReached, AreKnown, IsFirstOpen, AtRound, InRound, GoesOn, Reaches, AreAllRules, AreBefore};
+ghost use Rattle.sas_why.specs.Rounds.{HaveOrigins, value_in_round, IsReached, OriginsUpToRound, IsFirstOpen, AtRound, InRound, ContinuesRound, Reaches, AreAllRules, AreBefore};
 
 use crate::asking::asking_rules;
 use sas_core::Grounded;
@@ -98,7 +98,7 @@ impl Rounds {
         requires rules { All (λ rule. rule < length task.now.rules) rules.now }
         requires begins { InRound task.now state.now self.old [] }
         ensures looked { OnOk result (InRound task.now state.now self.new rules.now) }
-        ensures goes_on { OnOk result (GoesOn self.old self.new) }
+        ensures goes_on { OnOk result (ContinuesRound self.old self.new) }
     {
         for rule in rules {
             self.look_at(task, state, *rule)?;
@@ -119,7 +119,7 @@ impl Rounds {
         requires round { (looked : List ℕ) × InRound task.now state.now self.old looked }
         ensures looked { OnOk result ((looked : List ℕ) → InRound task.now state.now self.old looked
             → InRound task.now state.now self.new (looked ++ rule ∷ [])) }
-        ensures goes_on { OnOk result (GoesOn self.old self.new) }
+        ensures goes_on { OnOk result (ContinuesRound self.old self.new) }
     {
         // By its contract the task is well ranged and layered.
         let _ = task.task();
@@ -172,7 +172,7 @@ impl Rounds {
         requires state { IsState task.now.variables state.now }
         requires settled { IsSettled task.now state.now }
         requires var { var < length task.now.variables }
-        requires known { AreKnown task.now state.now self.now.over self.now.origins.items }
+        requires known { OriginsUpToRound task.now state.now self.now.over self.now.origins.items }
         ensures { result ≡ value_in_round task.now layer state.now self.now.over var }
     {
         // By its contract the task is well ranged and layered.

@@ -7,13 +7,13 @@ use Rattle.sas_core.specs.Grounded.{rule_at}
 use Rattle.sas_flat.specs.declared.by_key.Entry.{Entry}
 use Rattle.sas_axioms.specs.declared.waiting.Waiting.{Waiting}
 use Rattle.sas_axioms.specs.Conditions.{entries}
-use Rattle.sas_axioms.specs.Waiting.{entry_of}
+use Rattle.sas_axioms.specs.Waiting.{waiting_entry}
 use Rattle.sas_axioms.proofs.conditions.push_conditions.Goals as goal
 
 -- the entry of the next condition stands before the others that are left
 one_more : (rule : ℕ) (cs : List Fact) (i : ℕ) (d : Fact) → i < length cs → (es : List (Entry Waiting))
-    → (es ++ entry_of (get_or cs i d) rule ∷ []) ++ entries rule (drop (i + 1) cs) ≡ es ++ entries rule (drop i cs)
-one_more rule cs i d lt es = append_snoc es (entry_of (get_or cs i d) rule) (entries rule (drop (i + 1) cs)) ∙ ap (λ (fs : List Fact). es ++ entries rule fs) (sym (drop_more cs i d lt))
+    → (es ++ waiting_entry (get_or cs i d) rule ∷ []) ++ entries rule (drop (i + 1) cs) ≡ es ++ entries rule (drop i cs)
+one_more rule cs i d lt es = append_snoc es (waiting_entry (get_or cs i d) rule) (entries rule (drop (i + 1) cs)) ∙ ap (λ (fs : List Fact). es ++ entries rule fs) (sym (drop_more cs i d lt))
 
 pub loop-condition-init : goal.loop-condition-init
 loop-condition-init g c = refl
@@ -24,8 +24,8 @@ loop-condition-preserved g c =
     let i = c.loop-condition.condition-index in
     let none : Fact = record { var = 0; value = 0 } in
     let lt : i < length cs = omega (arith, ap length c.rule_conditions-condition-items.ensures) in
-    let entry : c.entry_of.result ≡ entry_of (get_or cs i none) c.args.rule =
-    c.entry_of.ensures ∙ ap (λ (fs : List Fact). entry_of (get_or fs i none) c.args.rule) c.rule_conditions-condition-items.ensures in
+    let entry : c.entry_of.result ≡ waiting_entry (get_or cs i none) c.args.rule =
+    c.entry_of.ensures ∙ ap (λ (fs : List Fact). waiting_entry (get_or fs i none) c.args.rule) c.rule_conditions-condition-items.ensures in
     rw (c.in_ok-push.ensures.items, entry) (one_more c.args.rule cs i none lt c.loop-condition.waiting.items ∙ c.loop-condition.invariant)
 
 pub returns : goal.returns

@@ -7,7 +7,7 @@ use Rattle.sas_meaning.proofs.Layers.{on_layer_within}
 use Rattle.sas_axioms.specs.declared.waiting.Waiting.{Waiting}
 use Rattle.sas_axioms.specs.LayerRules.{IsRuleOn}
 use Rattle.sas_axioms.specs.Waiting.{released, occurrences, asking}
-use Rattle.sas_axioms.specs.Worklist.{IsRunning, AreCounted}
+use Rattle.sas_axioms.specs.Worklist.{IsRunning, AreCountedWithStack}
 use Rattle.sas_axioms.proofs.Counters.{popped_running, popped_counts, top_is, settled_when_empty}
 use Rattle.sas_axioms.proofs.firing.empty_stack.Goals as goal
 use Rattle.sas_axioms.proofs.firing.empty_stack.Given.{Over}
@@ -16,7 +16,7 @@ use Rattle.sas_axioms.proofs.firing.empty_stack.Goals.{In-Some}
 was_running : (g : Over) (c : In-Some g) → IsRunning c.args.task.now c.loop-var.work.layer c.loop-var.state (c.pop.new.self.items ++ c.in-Some.var ∷ [])
 was_running g c = rw c.in-Some.ensures.items at c.loop-var.invariant.at_work.running
 
-was_counted : (g : Over) (c : In-Some g) → AreCounted c.args.task.now c.loop-var.work.layer c.loop-var.state (c.pop.new.self.items ++ c.in-Some.var ∷ []) c.loop-var.work.counters []
+was_counted : (g : Over) (c : In-Some g) → AreCountedWithStack c.args.task.now c.loop-var.work.layer c.loop-var.state (c.pop.new.self.items ++ c.in-Some.var ∷ []) c.loop-var.work.counters []
 was_counted g c = rw c.in-Some.ensures.items at c.loop-var.invariant.at_work.counts
 
 on : (g : Over) (c : In-Some g) → IsOnLayer c.args.task.now c.loop-var.work.layer c.in-Some.var

@@ -2,7 +2,7 @@
 use Rattle.std.proofs.Common.{◌≡◌, ℕ, ◌<◌, [], get_or}
 use Rattle.sas_core.specs.Grounded.{rule_at}
 use Rattle.sas_axioms.specs.declared.layer_rules.LayerRule.{LayerRule}
-use Rattle.sas_axioms.specs.Worklist.{IsRunning, AreCounted, HasRoom, WorkGoesOn}
+use Rattle.sas_axioms.specs.Worklist.{IsRunning, AreCountedWithStack, HasRoom, WorkGoesOn}
 use Rattle.sas_axioms.specs.Sources.{AreGiven}
 use Rattle.sas_axioms.proofs.firing.fire_ready.Given as goal
 
@@ -13,7 +13,7 @@ invariant-loop-entry g l = record {
   given : AreGiven l.task l.fn.work.layer l.state l.work.sources;
   room : HasRoom l.task l.work;
   running : IsRunning l.task l.fn.work.layer l.state l.work.stack.items;
-  counts : AreCounted l.task l.fn.work.layer l.state l.work.stack.items l.fn.work.counters [];
+  counts : AreCountedWithStack l.task l.fn.work.layer l.state l.work.stack.items l.fn.work.counters [];
   fired : (j : ℕ) (d : LayerRule) → j < l.entry-index → get_or l.fn.work.counters (get_or l.rules j d).rule 0 ≡ 0
       → get_or l.state (rule_at l.task (get_or l.rules j d).rule).var 0 ≡ (rule_at l.task (get_or l.rules j d).rule).new;
 }

@@ -12,7 +12,7 @@ use Rattle.sas_meaning.proofs.Layers.{on_layer_within}
 use Rattle.sas_meaning.proofs.Forced.{state_set, differs_not}
 use Rattle.sas_axioms.specs.declared.agenda.Agenda.{Agenda}
 use Rattle.sas_axioms.specs.declared.firing.Work.{Work}
-use Rattle.sas_axioms.specs.Agenda.{IsNoted, work_left}
+use Rattle.sas_axioms.specs.Agenda.{IsOnAgenda, work_left}
 use Rattle.sas_axioms.specs.Following.{IsFalling}
 use Rattle.sas_axioms.specs.LayerRules.{IsRuleOn}
 use Rattle.sas_axioms.specs.Sources.{IsHolding}
@@ -234,7 +234,7 @@ pub returns-clause-left : goal.returns-clause-left
 returns-clause-left g c =
     let inv = c.loop-rule.invariant in
     let same = c.in_default.ensures.same in
-    let noted = subst (λ n. IsNoted c.args.work.now.agenda n c.requires.noted.0) (sym inv.same.layer) c.requires.noted.1 in
+    let noted = subst (λ n. IsOnAgenda c.args.work.now.agenda n c.requires.noted.0) (sym inv.same.layer) c.requires.noted.1 in
     less_in_the_end c.loop-rule.work.layer c.requires.noted.0 c.args.work.now.agenda c.take.new.self noted c.in_default.ensures.none (rw same inv.left)
 
 pub loop-rule-smaller-in-Continue-branch-2 : goal.loop-rule-smaller-in-Continue-branch-2

@@ -1,14 +1,14 @@
 -- The rule is noted with its layer.
 use Rattle.std.proofs.Common.{subst}
 use Rattle.std.proofs.lemmas.Result.{on_ok_weaker}
-use Rattle.sas_axioms.specs.Agenda.{IsNoted, Notes}
+use Rattle.sas_axioms.specs.Agenda.{IsOnAgenda, AddsToAgenda}
 use Rattle.sas_axioms.proofs.AgendaOrder.{noted_there, notes_more, notes_left}
 use Rattle.sas_axioms.proofs.OneLayer.{one_layer}
 use Rattle.sas_axioms.proofs.following.note.Goals as goal
 
 pub returns-in-Some-clause-noted : goal.returns-in-Some-clause-noted
-returns-in-Some-clause-noted g c = on_ok_weaker c.note.result (λ (notes : Notes c.in-Some.layer c.args.rule c.args.agenda.now c.note.new.self) layer is.
-    subst (λ l. IsNoted c.note.new.self l c.args.rule) (one_layer c.args.task.now c.in-Some.layer layer c.args.rule c.in-Some.ensures.some is)
+returns-in-Some-clause-noted g c = on_ok_weaker c.note.result (λ (notes : AddsToAgenda c.in-Some.layer c.args.rule c.args.agenda.now c.note.new.self) layer is.
+    subst (λ l. IsOnAgenda c.note.new.self l c.args.rule) (one_layer c.args.task.now c.in-Some.layer layer c.args.rule c.in-Some.ensures.some is)
     (noted_there c.in-Some.layer c.args.rule c.args.agenda.now c.note.new.self notes)) c.note.ensures
 
 pub returns-in-Some-clause-notes : goal.returns-in-Some-clause-notes

@@ -2,7 +2,7 @@
 use Rattle.std.proofs.Common.{◌≡◌, List, ℕ, set, slice_index, sym, ◌∙◌, arith}
 use Rattle.std.proofs.lemmas.Result.{on_ok_weaker}
 use Rattle.sas_axioms.specs.Conditions.{AreCounted}
-use Rattle.sas_axioms.specs.Following.{Moves}
+use Rattle.sas_axioms.specs.Following.{CountsChange}
 use Rattle.sas_meaning.proofs.DerivedVariables.{derived_within}
 use Rattle.sas_axioms.proofs.following.set_to.Goals as goal
 
@@ -27,5 +27,5 @@ returns-clause-moves g c =
     let var = c.args.fact.var in
     let w = c.args.work.now in
     let w' = c.recount.new.work in
-    on_ok_weaker c.recount.result (λ (moves : (s : List ℕ) → AreCounted p s w.counters → slice_index s var ≡ c.value.result → Moves p var s w (set s var c.args.fact.value) w').
+    on_ok_weaker c.recount.result (λ (moves : (s : List ℕ) → AreCounted p s w.counters → slice_index s var ≡ c.value.result → CountsChange p var s w (set s var c.args.fact.value) w').
     rw c.set.ensures (moves c.args.state.now c.requires.counts (sym c.value.ensures))) c.recount.ensures.moves

@@ -9,7 +9,7 @@ use Rattle.sas_flat.specs.declared.by_key.Entry.{Entry}
 use Rattle.sas_meaning.specs.Layers.{IsOnLayer}
 use Rattle.sas_meaning.proofs.Forced.{condition_within}
 use Rattle.sas_axioms.specs.declared.waiting.Waiting.{Waiting}
-use Rattle.sas_axioms.specs.Waiting.{entry_of}
+use Rattle.sas_axioms.specs.Waiting.{waiting_entry}
 use Rattle.sas_axioms.proofs.Entries.{AddsUpTo, adds_none, adds_more, adds_skip, adds_all, same_option}
 use Rattle.sas_axioms.proofs.waiting.push_waiting.Goals as goal
 use Rattle.sas_axioms.proofs.waiting.push_waiting.Goals.{then-eq+in_ok-push, else-eq}
@@ -47,9 +47,9 @@ loop-condition-preserved g c =
             | inl a ↦ a.0
             | inr a ↦ (let f : true ≡ false = sym w.if-eq.true ∙ (tested ∙ a.1) in absurd cc)
           ] in
-          let entered : w.entry_of.result ≡ entry_of condition c.args.rule =
-          w.entry_of.ensures ∙ ap (λ (cs : List Fact). entry_of (get_or cs place (record { var = 0; value = 0 })) c.args.rule) same in
-          let pushed : w.push.new.self.items ≡ waiting ++ entry_of condition c.args.rule ∷ [] =
+          let entered : w.entry_of.result ≡ waiting_entry condition c.args.rule =
+          w.entry_of.ensures ∙ ap (λ (cs : List Fact). waiting_entry (get_or cs place (record { var = 0; value = 0 })) c.args.rule) same in
+          let pushed : w.push.new.self.items ≡ waiting ++ waiting_entry condition c.args.rule ∷ [] =
           w.in_ok-push.ensures.items ∙ ap (λ (e : Entry Waiting). waiting ++ e ∷ []) entered in
           rw (w.waiting-is, pushed) (adds_more p c.args.layer c.args.rule conditions left condition before waiting c.requires.rule on so_far))
       | else-eq w ↦

@@ -4,7 +4,7 @@ use Rattle.std.specs.List.{All}
 use Rattle.std.proofs.lemmas.List.Elements.{All-nil, All-cons, All-append}
 use Rattle.sas_core.specs.declared.grounded.Change.{Change}
 use Rattle.sas_flat.specs.declared.by_key.Entry.{Entry}
-use Rattle.sas_groups.specs.ByVariable.{place_of, variable_of, entry_of}
+use Rattle.sas_groups.specs.ByVariable.{place_of, variable_of, effect_entry}
 use Rattle.sas_groups.proofs.ByVariable.{effect_entered}
 use Rattle.sas_groups.proofs.by_variable.enter_effects.Goals as goal
 
@@ -16,7 +16,7 @@ loop-effect-preserved g c =
     let now = c.loop-effect.entries.items in
     let more : c.push.new.self.items ≡ now ++ entry ∷ [] = c.in_ok-push.ensures.items in
     let var : c.effect_change.result.var ≡ variable_of p c.args.operator c.loop-effect.effect = ap (λ (change : Change). change.var) c.effect_change.ensures in
-    let is : entry ≡ entry_of p c.args.places c.args.operator c.loop-effect.effect =
+    let is : entry ≡ effect_entry p c.args.places c.args.operator c.loop-effect.effect =
     ap (λ (key : ℕ). let e : Entry ℕ = record { key = key; item = c.loop-effect.effect } in e)
     (c.place_of-key.ensures.is ∙ ap (λ (v : ℕ). place_of c.args.operator v c.args.places) var) in
     record {

@@ -4,7 +4,7 @@ use Rattle.std.specs.List.{Contains}
 use Rattle.std.proofs.lemmas.Bool.{true≢false, cases_eq, eqb-false}
 use Rattle.std.proofs.lemmas.List.{length-set, get_or-set_other}
 use Rattle.sas_groups.specs.Notes.{value_note}
-use Rattle.sas_groups.specs.Noting.{IsRefused, TakenBySome, TakenByAll}
+use Rattle.sas_groups.specs.Noting.{IsExcluded, TakenBySome, TakenByAll}
 use Rattle.sas_groups.proofs.notes.note.Goals as goal
 
 pub returns-then-shares_apart-clause-yes : goal.returns-then-shares_apart-clause-yes
@@ -61,7 +61,7 @@ returns-else-shares_apart-clause-yes c =
 
 pub returns-else-shares_apart-clause-no : goal.returns-else-shares_apart-clause-no
 returns-else-shares_apart-clause-no c =
-    λ f. inr (inl (subst (λ (groups : List ℕ). IsRefused groups c.args.kept.now c.args.fact c.args.notes.now.groups) c.groups_of-groups.ensures (c.note_in_groups.ensures.no f)))
+    λ f. inr (inl (subst (λ (groups : List ℕ). IsExcluded groups c.args.kept.now c.args.fact c.args.notes.now.groups) c.groups_of-groups.ensures (c.note_in_groups.ensures.no f)))
 
 pub returns-else-shares_apart-clause-changes : goal.returns-else-shares_apart-clause-changes
 returns-else-shares_apart-clause-changes c =

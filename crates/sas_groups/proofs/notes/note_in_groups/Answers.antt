@@ -7,7 +7,7 @@ use Rattle.sas_groups.specs.declared.notes.Noted.{Noted}
 use Rattle.sas_groups.specs.declared.notes.Noted.TheVariants.{Several}
 use Rattle.sas_groups.specs.Kept.{family_of}
 use Rattle.sas_groups.specs.Notes.{group_note}
-use Rattle.sas_groups.specs.Noting.{IsNotedToo, Takes}
+use Rattle.sas_groups.specs.Noting.{IsNotedToo, NotesForGroup}
 use Rattle.sas_groups.proofs.NotesOfFacts.{since_before, takes_still, takes_here, taken_more}
 use Rattle.sas_groups.proofs.notes.note_in_groups.Goals as goal
 use Rattle.sas_groups.proofs.notes.note_in_groups.Goals.{else-is_several-via-then-is_several+else-is_kept, else-is_several-via-else-is_several}
@@ -50,7 +50,7 @@ loop-group-preserved c =
     ] in
     rw c.set.ensures record {
       some = taken_more groups kept fact c.args.noted.now now inv.some place after too below among alone;
-      all = each_more (Takes groups kept fact c.args.noted.now _) groups n 0 c.loop-group-test.true
+      all = each_more (NotesForGroup groups kept fact c.args.noted.now _) groups n 0 c.loop-group-test.true
           (λ k d lt. takes_still groups kept fact c.args.noted.now now inv.some place after too below among alone (get_or groups k d) (inv.all k d lt))
           (takes_here groups kept fact c.args.noted.now now inv.some place after too below among alone);
     }

@@ -2,16 +2,16 @@
 use Rattle.std.proofs.Common.{rules, ◌≡◌, ◌∙◌, Some}
 use Rattle.std.specs.Result.{result_err}
 use Rattle.sas_core.proofs.FirstFaults.{fails_before, decides_after}
-use Rattle.sas_meaning.specs.LayerChecks.{numbered, operator_layer_checks, rule_layer_checks}
+use Rattle.sas_meaning.specs.LayerChecks.{numbered_checks, operator_layer_checks, rule_layer_checks}
 use Rattle.sas_meaning.proofs.layer_checks.check_layers.Goals as goal
 
 pub returns-in_err-check_operators-clause-first : goal.returns-in_err-check_operators-clause-first
 returns-in_err-check_operators-clause-first g c =
     let p = g.T.Grounded.says c.args.task.now in
     let same : result_err c.from_residual.result ≡ Some c.in_err-check_operators.field-0.0 = search rules in
-    λ _. same ∙ fails_before (numbered (operator_layer_checks p) p.operators) (numbered (rule_layer_checks p) p.rules) _ c.in_err-check_operators.ensures
+    λ _. same ∙ fails_before (numbered_checks (operator_layer_checks p) p.operators) (numbered_checks (rule_layer_checks p) p.rules) _ c.in_err-check_operators.ensures
 
 pub returns-clause-first : goal.returns-clause-first
 returns-clause-first g c =
     let p = g.T.Grounded.says c.args.task.now in
-    λ _. decides_after (numbered (operator_layer_checks p) p.operators) (numbered (rule_layer_checks p) p.rules) _ c.in_ok-check_operators.ensures c.check_rules.ensures
+    λ _. decides_after (numbered_checks (operator_layer_checks p) p.operators) (numbered_checks (rule_layer_checks p) p.rules) _ c.in_ok-check_operators.ensures c.check_rules.ensures

@@ -1,8 +1,8 @@
 -- None of the changes so far removes the fact.
 use Rattle.std.proofs.Common.{ℕ, ◌<◌, get_or}
 use Rattle.sas_core.specs.declared.grounded.Change.{Change}
-use Rattle.sas_mutex.specs.ByNotes.{IsOther}
+use Rattle.sas_mutex.specs.ByNotes.{SetsOtherValue}
 use Rattle.sas_mutex.proofs.effects.one_changes.Given as goal
 
 abbrev pub invariant-loop-change : goal.invariant-loop-change
-invariant-loop-change l = (k : ℕ) (d : Change) → k < l.change-index → IsOther l.fact (get_or l.changes k d) → ⊥
+invariant-loop-change l = (k : ℕ) (d : Change) → k < l.change-index → SetsOtherValue l.fact (get_or l.changes k d) → ⊥

@@ -2,7 +2,7 @@
 use Rattle.std.proofs.Common.{ℕ, ◌<◌, length, sym, subst, ◌∙◌, arith}
 use Rattle.std.proofs.lemmas.List.{get_or_default}
 use Rattle.sas_core.specs.Grounded.{operator_at, effect_at}
-use Rattle.sas_mutex.specs.ByNotes.{Removes}
+use Rattle.sas_mutex.specs.ByNotes.{RemovesByNotes}
 use Rattle.sas_mutex.proofs.effects.one_removes.Goals as goal
 
 pub returns-clause-no : goal.returns-clause-no
@@ -12,4 +12,4 @@ returns-clause-no g c =
     λ f (effect, lt, removes). (let there = c.requires.all effect lt removes.var in
     let at = get_or_default effects there.0 0 effect there.1 ∙ there.2 in
     c.loop-effect.invariant there.0 (let within = there.1 in omega arith) (subst (λ (n : ℕ). n < length o.effects) (sym at) lt)
-    (subst (λ (n : ℕ). Removes c.args.notes.now c.args.fact (effect_at o n)) (sym at) removes))
+    (subst (λ (n : ℕ). RemovesByNotes c.args.notes.now c.args.fact (effect_at o n)) (sym at) removes))

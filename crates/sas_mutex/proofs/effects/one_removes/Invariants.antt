@@ -1,9 +1,9 @@
 -- None of the effects so far removes the fact.
 use Rattle.std.proofs.Common.{ℕ, ◌<◌, length, get_or}
 use Rattle.sas_core.specs.Grounded.{operator_at, effect_at}
-use Rattle.sas_mutex.specs.ByNotes.{Removes}
+use Rattle.sas_mutex.specs.ByNotes.{RemovesByNotes}
 use Rattle.sas_mutex.proofs.effects.one_removes.Given as goal
 
 abbrev pub invariant-loop-effect : goal.invariant-loop-effect
 invariant-loop-effect g l = (k : ℕ) → k < l.effect-index → get_or l.effects k 0 < length (operator_at l.task l.operator).effects
-    → Removes l.notes l.fact (effect_at (operator_at l.task l.operator) (get_or l.effects k 0)) → ⊥
+    → RemovesByNotes l.notes l.fact (effect_at (operator_at l.task l.operator) (get_or l.effects k 0)) → ⊥

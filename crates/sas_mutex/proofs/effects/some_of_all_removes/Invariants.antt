@@ -1,8 +1,8 @@
 -- No effect so far removes the fact.
 use Rattle.std.proofs.Common.{ℕ, ◌<◌}
 use Rattle.sas_core.specs.Grounded.{operator_at, effect_at}
-use Rattle.sas_mutex.specs.ByNotes.{Removes}
+use Rattle.sas_mutex.specs.ByNotes.{RemovesByNotes}
 use Rattle.sas_mutex.proofs.effects.some_of_all_removes.Given as goal
 
 abbrev pub invariant-loop-effect : goal.invariant-loop-effect
-invariant-loop-effect g l = (k : ℕ) → k < l.effect → Removes l.notes l.fact (effect_at (operator_at l.task l.operator) k) → ⊥
+invariant-loop-effect g l = (k : ℕ) → k < l.effect → RemovesByNotes l.notes l.fact (effect_at (operator_at l.task l.operator) k) → ⊥

@@ -2,7 +2,7 @@
 use Rattle.std.proofs.Common.{◌≡◌, ℕ, ◌<◌, List, length, get_or, sym, ap, subst, ◌∙◌, arith}
 use Rattle.std.proofs.lemmas.List.{get_or_append_left}
 use Rattle.sas_mutex.specs.Falling.{newly}
-use Rattle.sas_mutex.specs.Watching.{IsTold, AreTold, AreLooseAtRest}
+use Rattle.sas_mutex.specs.Watching.{IsUnwatched, FallenAreUnwatched, AreLooseAtRest}
 use Rattle.sas_mutex.proofs.FallingGroups.{none_fell, fallen_grow, falls_then, greatest_in_the_end, none_newly, as_before}
 use Rattle.sas_mutex.proofs.Watched.{none_watched, rest_in_the_end}
 use Rattle.sas_mutex.proofs.greatest.find_greatest.Goals as goal
@@ -19,7 +19,7 @@ returns-then-len-before-clause-greatest g c =
     let now = c.len.ensures in let was = c.len-before.ensures in let test = c.if-len-before.true in omega arith in
     greatest_in_the_end p start after c.requires.candidates (falls_then p start before after c.loop-before.invariant.falls turn.falls)
     (rest_in_the_end p after w turn.watched
-    (subst (λ (xs : List ℕ). AreTold xs (length xs) w) (sym (as_before p before after turn.falls same)) turn.told)
+    (subst (λ (xs : List ℕ). FallenAreUnwatched xs (length xs) w) (sym (as_before p before after turn.falls same)) turn.told)
     (subst (λ (xs : List ℕ). AreLooseAtRest p after.kept xs w (length p.operators)) (none_newly p before after turn.falls same) turn.rest))
 
 pub loop-before-preserved : goal.loop-before-preserved
@@ -82,7 +82,7 @@ tell_watching-requires-clause-told g c =
     let w = c.look_at_loose.new.watches in
     λ place lt.
     (let early : place < length before.fallen.items = omega (arith, lt, c.len-before.ensures) in
-    subst (λ n. IsTold w n)
+    subst (λ n. IsUnwatched w n)
     (sym (ap (λ (xs : List ℕ). get_or xs place 0) c.look_at_loose.ensures.falls.behind ∙ get_or_append_left before.fallen.items (newly before now) 0 place early))
     (c.look_at_loose.ensures.told place early))
 

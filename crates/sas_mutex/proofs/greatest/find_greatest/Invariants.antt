@@ -1,7 +1,7 @@
 -- All operators that watched a removed group were checked again.
 use Rattle.std.proofs.Common.{◌-◌, length}
 use Rattle.sas_mutex.specs.Falling.{IsReady, Falls}
-use Rattle.sas_mutex.specs.Watching.{AreWatched, AreTold}
+use Rattle.sas_mutex.specs.Watching.{AreWatched, FallenAreUnwatched}
 use Rattle.sas_mutex.specs.Marks.{IsClean}
 use Rattle.sas_mutex.proofs.greatest.find_greatest.Given as goal
 
@@ -9,7 +9,7 @@ abbrev pub invariant-loop-before : goal.invariant-loop-before
 invariant-loop-before g l = record {
   falls : Falls l.indexed l.fn.family l.family;
   watched : AreWatched l.indexed l.family l.watches;
-  told : AreTold l.family.fallen.items (length l.family.fallen.items) l.watches;
+  told : FallenAreUnwatched l.family.fallen.items (length l.family.fallen.items) l.watches;
   ready : IsReady l.indexed l.family;
   clean : IsClean l.indexed l.marks;
 }

@@ -1,7 +1,7 @@
 -- The operators so far are at rest, if they are loose.
 use Rattle.std.proofs.Common.{length}
 use Rattle.sas_mutex.specs.Falling.{IsReady, Falls, newly}
-use Rattle.sas_mutex.specs.Watching.{AreWatched, AreTold, AreLooseAtRest}
+use Rattle.sas_mutex.specs.Watching.{AreWatched, FallenAreUnwatched, AreLooseAtRest}
 use Rattle.sas_mutex.specs.Marks.{IsClean}
 use Rattle.sas_mutex.proofs.greatest.look_at_loose.Given as goal
 
@@ -10,7 +10,7 @@ invariant-loop-operator g l = record {
   falls : Falls l.indexed l.fn.family l.family;
   rest : AreLooseAtRest l.indexed l.family.kept (newly l.fn.family l.family) l.watches l.operator;
   watched : AreWatched l.indexed l.family l.watches;
-  told : AreTold l.fn.family.fallen.items (length l.fn.family.fallen.items) l.watches;
+  told : FallenAreUnwatched l.fn.family.fallen.items (length l.fn.family.fallen.items) l.watches;
   ready : IsReady l.indexed l.family;
   clean : IsClean l.indexed l.marks;
 }

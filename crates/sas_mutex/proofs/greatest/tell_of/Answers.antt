@@ -1,7 +1,7 @@
 -- The operator of one more watch was checked again, or the watch wasn't valid any more.
 use Rattle.std.proofs.Common.{ℕ, List, sym, ◌∙◌, ap, subst}
 use Rattle.sas_mutex.specs.declared.watches.Watch.{Watch}
-use Rattle.sas_mutex.specs.Watching.{watch_at, since_of, IsLastBelow, IsToldBehind}
+use Rattle.sas_mutex.specs.Watching.{watch_at, since_of, IsLastBelow, IsUnwatchedBehind}
 use Rattle.sas_mutex.proofs.FallingGroups.{falls_then}
 use Rattle.sas_mutex.proofs.Watched.{told_on, told_on_alone, over_now, stay_told, stay_then}
 use Rattle.sas_mutex.proofs.greatest.tell_of.Goals as goal
@@ -21,7 +21,7 @@ loop-next-preserved-then-counts g c =
     let made = c.as_slice-in-Some.result.now in
     let same = c.as_slice-in-Some.ensures in
     let operator = (watch_at made at).operator in
-    let told = subst (IsToldBehind w group) c.in-Some.is inv.told in
+    let told = subst (IsUnwatchedBehind w group) c.in-Some.is inv.told in
     let one_each = turn.ready.room.one_each in
     record {
       falls = falls_then p start before after inv.falls turn.falls;
@@ -45,7 +45,7 @@ loop-next-preserved g c =
     let inv = c.loop-next.invariant in
     let made = c.as_slice-in-Some.result.now in
     let same = c.as_slice-in-Some.ensures in
-    let told = subst (IsToldBehind w group) c.in-Some.is inv.told in
+    let told = subst (IsUnwatchedBehind w group) c.in-Some.is inv.told in
     record {
       falls = inv.falls;
       watched = inv.watched;

@@ -1,7 +1,7 @@
 -- After the next watch of the group, no watch of the group is valid any more.
 use Rattle.std.proofs.Common.{ℕ, ◌+◌, Option, Some, None}
 use Rattle.sas_mutex.specs.Falling.{IsReady, Falls}
-use Rattle.sas_mutex.specs.Watching.{AreWatched, IsToldBehind, StayTold}
+use Rattle.sas_mutex.specs.Watching.{AreWatched, IsUnwatchedBehind, StayUnwatched}
 use Rattle.sas_mutex.specs.Marks.{IsClean}
 use Rattle.sas_mutex.proofs.greatest.tell_of.Given as goal
 
@@ -9,8 +9,8 @@ abbrev pub invariant-loop-next : goal.invariant-loop-next
 invariant-loop-next g l = record {
   falls : Falls l.indexed l.fn.family l.family;
   watched : AreWatched l.indexed l.family l.watches;
-  told : IsToldBehind l.watches l.group l.next;
-  still : StayTold l.fn.family.kept l.fn.watches l.watches;
+  told : IsUnwatchedBehind l.watches l.group l.next;
+  still : StayUnwatched l.fn.family.kept l.fn.watches l.watches;
   ready : IsReady l.indexed l.family;
   clean : IsClean l.indexed l.marks;
 }

@@ -4,7 +4,7 @@ use Rattle.std.proofs.lemmas.Bool.{cases_eq}
 use Rattle.std.proofs.lemmas.List.{get_or_default}
 use Rattle.std.proofs.lemmas.List.Elements.{Contains-get_or}
 use Rattle.sas_mutex.specs.Falling.{newly}
-use Rattle.sas_mutex.specs.Watching.{IsTold, AreTold}
+use Rattle.sas_mutex.specs.Watching.{IsUnwatched, FallenAreUnwatched}
 use Rattle.sas_mutex.proofs.FallingGroups.{falls_then, fallen_grow}
 use Rattle.sas_mutex.proofs.Watched.{told_more, told_in}
 use Rattle.sas_mutex.proofs.greatest.tell_watching.Goals as goal
@@ -23,9 +23,9 @@ loop-next-preserved g c =
     let turn = c.tell_of.ensures in
     let lt : next < length fallen = let len = c.len.ensures in let test = c.loop-next-test.true in omega (arith, before.fallen.ok.0) in
     let grown = fallen_grow p before after turn.falls in
-    let first : AreTold fallen next now = told_more p fallen next before.kept w now
+    let first : FallenAreUnwatched fallen next now = told_more p fallen next before.kept w now
     (λ place below. inv.watched.fell.out (get_or fallen place 0) (Contains-get_or fallen place 0 (omega arith))) turn.still inv.told in
-    let here : IsTold now (get_or fallen next 0) = subst (IsTold now)
+    let here : IsUnwatched now (get_or fallen next 0) = subst (IsUnwatched now)
     (c.index-group.ensures ∙ sym (get_or_default fallen next 0 c.index-group.result.now lt)) turn.told in
     record {
       within = omega arith;
@@ -33,7 +33,7 @@ loop-next-preserved g c =
       watched = turn.watched;
       told = told_in p fallen after.fallen.items (newly before after) (next + 1) now turn.falls.behind (omega arith)
           (λ place below. elim (cases_eq place next) [
-            | inl e ↦ subst (λ (n : ℕ). IsTold now (get_or fallen n 0)) (sym e) here
+            | inl e ↦ subst (λ (n : ℕ). IsUnwatched now (get_or fallen n 0)) (sym e) here
             | inr ne ↦ first place (omega arith)
           ]);
       ready = turn.ready;

@@ -13,11 +13,11 @@ use Rattle.sas_mutex.proofs.Counting.{count_within}
 use Rattle.sas_mutex.proofs.Telling.{candidates_from}
 use Rattle.sas_mutex.proofs.joint.judge_indexed.Goals as goal
 
-pub judge-requires-clause-first : goal.judge-requires-clause-first
-judge-requires-clause-first g c = c.requires
+pub judge_by_operators-requires-clause-first : goal.judge_by_operators-requires-clause-first
+judge_by_operators-requires-clause-first g c = c.requires
 
-pub judge-requires-clause-ready : goal.judge-requires-clause-ready
-judge-requires-clause-ready g c =
+pub judge_by_operators-requires-clause-ready : goal.judge_by_operators-requires-clause-ready
+judge_by_operators-requires-clause-ready g c =
     let family = c.in_ok-family in
     let same = family.ensures.one_each ∙ (ap length c.as_slice.ensures ∙ c.requires.one_each) in
     let fewer = count_within family.family.kept in
@@ -36,13 +36,13 @@ judge-requires-clause-ready g c =
       free = family.ensures.free;
     }
 
-pub judge-requires-clause-candidates : goal.judge-requires-clause-candidates
-judge-requires-clause-candidates g c =
+pub judge_by_operators-requires-clause-candidates : goal.judge_by_operators-requires-clause-candidates
+judge_by_operators-requires-clause-candidates g c =
     let family = c.in_ok-family in
     let kept = family.family.kept in
     candidates_from _ c.args.verdicts.now kept c.requires
     (subst (λ (xs : List Verdict). (place : ℕ) → place < length xs → IsTrue (family_of kept place) ↔ (verdict_at xs place ≡ Exclusive))
     c.as_slice.ensures family.ensures.exclusive)
 
-pub judge-requires-clause-none : goal.judge-requires-clause-none
-judge-requires-clause-none g c = c.in_ok-family.ensures.none
+pub judge_by_operators-requires-clause-none : goal.judge_by_operators-requires-clause-none
+judge_by_operators-requires-clause-none g c = c.in_ok-family.ensures.none

@@ -4,8 +4,8 @@ use Rattle.std.proofs.Common.{◌≡◌, ℕ, ◌<◌, Bool, List, length, sym, 
 use Rattle.sas_core.specs.declared.parts.Parts.{Parts}
 use Rattle.sas_core.specs.Grounded.{operator_at}
 use Rattle.sas_mutex.specs.Basis.{EffectKeepsByBasis}
-use Rattle.sas_mutex.specs.Effects.{IsPlain}
-use Rattle.sas_mutex.specs.Falling.{HasRoom, Falls, newly, IsEffectAtRest}
+use Rattle.sas_mutex.specs.Effects.{IsUnconditional}
+use Rattle.sas_mutex.specs.Falling.{FamilyHasRoom, Falls, newly, IsEffectAtRest}
 use Rattle.sas_mutex.specs.Marks.{IsClean}
 use Rattle.std.proofs.lemmas.Bool.{and_parts}
 use Rattle.sas_mutex.proofs.FallingGroups.{falls_then, effect_since, effect_now, effect_alone_still}
@@ -31,7 +31,7 @@ loop-effect-preserved g c =
           let both = and_parts c.loop-effect.alone w.look_at_setting-alone.result in
           rw (w.family-is, w.marks-is, w.alone-is) record {
             falls = falls_then p start before after inv.falls falls;
-            room = subst (λ (q : Parts). HasRoom q after) is turn.room;
+            room = subst (λ (q : Parts). FamilyHasRoom q after) is turn.room;
             clean = subst (λ (q : Parts). IsClean q w.look_at_setting-alone.new.marks) is turn.clean;
             plain = λ k lt without. effect_since p start before after c.args.operator k inv.falls falls (inv.plain k lt without);
             rest = below_more _ _
@@ -49,9 +49,9 @@ loop-effect-preserved g c =
         room = inv.room;
         clean = inv.clean;
         plain = inv.plain;
-        rest = below_more _ _ inv.rest (inv.plain effect (omega (arith, count)) (subst (λ (q : Parts). IsPlain q operator effect) is (c.is_plain.ensures.yes w.if-not-is_plain.false)));
+        rest = below_more _ _ inv.rest (inv.plain effect (omega (arith, count)) (subst (λ (q : Parts). IsUnconditional q operator effect) is (c.is_plain.ensures.yes w.if-not-is_plain.false)));
         plain_alone = inv.plain_alone;
-        alone = λ t. below_more _ _ (inv.alone t) (inv.plain_alone t effect (omega (arith, count)) (subst (λ (q : Parts). IsPlain q operator effect) is (c.is_plain.ensures.yes w.if-not-is_plain.false)));
+        alone = λ t. below_more _ _ (inv.alone t) (inv.plain_alone t effect (omega (arith, count)) (subst (λ (q : Parts). IsUnconditional q operator effect) is (c.is_plain.ensures.yes w.if-not-is_plain.false)));
       }
     ]
 
@@ -95,7 +95,7 @@ invariant_of-firing g c = (
 )
 
 pub look_at_setting-alone-requires-clause-room : goal.look_at_setting-alone-requires-clause-room
-look_at_setting-alone-requires-clause-room g c = subst (λ (p : Parts). HasRoom p c.loop-effect.family) (sym c.indexed.view_is) c.loop-effect.invariant.room
+look_at_setting-alone-requires-clause-room g c = subst (λ (p : Parts). FamilyHasRoom p c.loop-effect.family) (sym c.indexed.view_is) c.loop-effect.invariant.room
 
 pub look_at_setting-alone-requires-clause-clean : goal.look_at_setting-alone-requires-clause-clean
 look_at_setting-alone-requires-clause-clean g c = subst (λ (p : Parts). IsClean p c.loop-effect.marks) (sym c.indexed.view_is) c.loop-effect.invariant.clean

@@ -1,7 +1,7 @@
 -- The effects so far are at rest, and so are all effects without conditions.
 use Rattle.std.proofs.Common.{◌≡◌, ℕ, ◌<◌, true, length}
 use Rattle.sas_core.specs.Grounded.{operator_at}
-use Rattle.sas_mutex.specs.Falling.{HasRoom, Falls, newly, IsEffectAtRest, ArePlainAtRest}
+use Rattle.sas_mutex.specs.Falling.{FamilyHasRoom, Falls, newly, IsEffectAtRest, ArePlainAtRest}
 use Rattle.sas_mutex.specs.Basis.{EffectKeepsByBasis, PlainKeepByBasis}
 use Rattle.sas_mutex.specs.Marks.{IsClean}
 use Rattle.sas_mutex.proofs.looking.look_at.Given as goal
@@ -9,7 +9,7 @@ use Rattle.sas_mutex.proofs.looking.look_at.Given as goal
 abbrev pub invariant-loop-effect : goal.invariant-loop-effect
 invariant-loop-effect g l = record {
   falls : Falls l.indexed l.fn.family l.family;
-  room : HasRoom l.indexed l.family;
+  room : FamilyHasRoom l.indexed l.family;
   clean : IsClean l.indexed l.marks;
   plain : ArePlainAtRest l.indexed l.family.kept (newly l.fn.family l.family) l.operator
       (length (operator_at l.indexed l.operator).effects);

@@ -6,8 +6,8 @@ use Rattle.sas_core.specs.declared.parts.Fact.{Fact}
 use Rattle.sas_core.specs.Grounded.{operator_at}
 use Rattle.sas_groups.specs.Lists.{known}
 use Rattle.sas_mutex.specs.Basis.{EffectKeepsByBasis}
-use Rattle.sas_mutex.specs.Effects.{IsPlain}
-use Rattle.sas_mutex.specs.Falling.{HasRoom, Falls, newly, IsEffectAtRest}
+use Rattle.sas_mutex.specs.Effects.{IsUnconditional}
+use Rattle.sas_mutex.specs.Falling.{FamilyHasRoom, Falls, newly, IsEffectAtRest}
 use Rattle.sas_mutex.specs.ByNotes.{AreNoted, IsNotedFor}
 use Rattle.sas_mutex.proofs.FallingGroups.{none_fell, falls_then, effect_since, effect_now, effect_alone_still}
 use Rattle.sas_mutex.proofs.looking.look_at_each_plain.Goals as goal
@@ -31,11 +31,11 @@ loop-effect-preserved g c =
           let turn = w.look_at_groups-alone.ensures in
           let falls = subst (λ (q : Parts). Falls q before after) is turn.falls in
           let both = and_parts c.loop-effect.alone w.look_at_groups-alone.result in
-          let plain = subst (λ (q : Parts). IsPlain q operator effect) is (c.is_plain.ensures.yes w.if-is_plain.true) in
+          let plain = subst (λ (q : Parts). IsUnconditional q operator effect) is (c.is_plain.ensures.yes w.if-is_plain.true) in
           let noted = subst (λ (q : Parts). IsNotedFor q after.kept operator effect w.look_at_groups-alone.new.marks) is turn.notes.noted in
           rw (w.family-is, w.marks-is, w.alone-is) record {
             falls = falls_then p start before after inv.falls falls;
-            room = subst (λ (q : Parts). HasRoom q after) is turn.room;
+            room = subst (λ (q : Parts). FamilyHasRoom q after) is turn.room;
             noted = subst (λ (conditions : List Fact). AreNoted p after.kept (known o conditions []) w.look_at_groups-alone.new.marks) plain noted;
             rest = below_more _ _
                 (λ k lt without. effect_since p start before after c.args.operator k inv.falls falls (inv.rest k lt without))
@@ -50,8 +50,8 @@ loop-effect-preserved g c =
         falls = inv.falls;
         room = inv.room;
         noted = inv.noted;
-        rest = below_more _ _ inv.rest (λ without. absurd (subst (λ (q : Parts). IsPlain q operator effect → ⊥) is (c.is_plain.ensures.no w.if-is_plain.false) without));
-        alone = λ t. below_more _ _ (inv.alone t) (λ without. absurd (subst (λ (q : Parts). IsPlain q operator effect → ⊥) is (c.is_plain.ensures.no w.if-is_plain.false) without));
+        rest = below_more _ _ inv.rest (λ without. absurd (subst (λ (q : Parts). IsUnconditional q operator effect → ⊥) is (c.is_plain.ensures.no w.if-is_plain.false) without));
+        alone = λ t. below_more _ _ (inv.alone t) (λ without. absurd (subst (λ (q : Parts). IsUnconditional q operator effect → ⊥) is (c.is_plain.ensures.no w.if-is_plain.false) without));
       }
     ]
 
@@ -82,7 +82,7 @@ invariant_of-firing g c = (
 )
 
 pub look_at_groups-alone-requires-clause-room : goal.look_at_groups-alone-requires-clause-room
-look_at_groups-alone-requires-clause-room g c = subst (λ (p : Parts). HasRoom p c.loop-effect.family) (sym c.indexed.view_is) c.loop-effect.invariant.room
+look_at_groups-alone-requires-clause-room g c = subst (λ (p : Parts). FamilyHasRoom p c.loop-effect.family) (sym c.indexed.view_is) c.loop-effect.invariant.room
 
 pub look_at_groups-alone-requires-clause-notes : goal.look_at_groups-alone-requires-clause-notes
 look_at_groups-alone-requires-clause-notes g c =

@@ -12,8 +12,8 @@ use Rattle.sas_mutex.specs.Effects.{IsKept, EffectKeeps}
 use Rattle.sas_mutex.specs.Firing.{EffectPlace, operator_of}
 use Rattle.sas_mutex.proofs.Counting.{count_fell}
 use Rattle.sas_mutex.proofs.FallingGroups.{none_fell, one_fell, never_jointly}
-use Rattle.sas_mutex.specs.Falling.{count, Falls, HasRoom, RestsAt, newly}
-use Rattle.sas_mutex.specs.ByNotes.{IsNotedFor, IsNotedAt, KeepsGroup}
+use Rattle.sas_mutex.specs.Falling.{count, Falls, FamilyHasRoom, RestsAt, newly}
+use Rattle.sas_mutex.specs.ByNotes.{IsNotedFor, IsNotedAt, EffectKeepsGroup}
 use Rattle.sas_mutex.proofs.ToldByNotes.{noted_fewer}
 use Rattle.sas_mutex.proofs.looking.look_at_group.Goals as goal
 use Rattle.sas_mutex.proofs.looking.look_at_group.Given.{Over}
@@ -35,7 +35,7 @@ pub returns-then-keeps_by_basis-clause-alone : goal.returns-then-keeps_by_basis-
 returns-then-keeps_by_basis-clause-alone g c t w = c.keeps_by_basis.ensures.basis c.if-keeps_by_basis.true
 
 pub returns-then-keeps_by_basis-clause-room : goal.returns-then-keeps_by_basis-clause-room
-returns-then-keeps_by_basis-clause-room g c = subst (HasRoom c.args.firing.now.task) (sym c.keeps_by_basis.ensures.same) c.requires.room
+returns-then-keeps_by_basis-clause-room g c = subst (FamilyHasRoom c.args.firing.now.task) (sym c.keeps_by_basis.ensures.same) c.requires.room
 
 pub returns-then-keeps_by_basis-clause-notes : goal.returns-then-keeps_by_basis-clause-notes
 returns-then-keeps_by_basis-clause-notes g c =
@@ -71,7 +71,7 @@ returns-clause-room g c =
     let before = c.keeps_by_basis.new.family in
     let after = c.take_away.new.self in
     let same = c.keeps_by_basis.ensures.same in
-    let was : HasRoom p before = subst (HasRoom p) (sym same) c.requires.room in
+    let was : FamilyHasRoom p before = subst (FamilyHasRoom p) (sym same) c.requires.room in
     let fell = ap count c.take_away.ensures.kept in
     let kept : family_of before.kept c.args.group ≡ true = subst (λ (family : Family). family_of family.kept c.args.group ≡ true) (sym c.keeps_by_basis.ensures.same) (search rules) in
     let less = count_fell before.kept c.args.group kept in
@@ -159,10 +159,10 @@ returns-then-keeps_by_notes-clause-falls g c =
 pub returns-then-keeps_by_notes-clause-rest : goal.returns-then-keeps_by_notes-clause-rest
 returns-then-keeps_by_notes-clause-rest g c =
     let f = c.args.firing.now in
-    record { keeps = λ none w. subst (λ (kept : List Bool). KeepsGroup f kept c.args.group) c.as_slice-2.ensures (c.keeps_by_notes.ensures.yes c.if-keeps_by_notes.true) }
+    record { keeps = λ none w. subst (λ (kept : List Bool). EffectKeepsGroup f kept c.args.group) c.as_slice-2.ensures (c.keeps_by_notes.ensures.yes c.if-keeps_by_notes.true) }
 
 pub returns-then-keeps_by_notes-clause-room : goal.returns-then-keeps_by_notes-clause-room
-returns-then-keeps_by_notes-clause-room g c = subst (HasRoom c.args.firing.now.task) (sym c.keeps_by_basis.ensures.same) c.requires.room
+returns-then-keeps_by_notes-clause-room g c = subst (FamilyHasRoom c.args.firing.now.task) (sym c.keeps_by_basis.ensures.same) c.requires.room
 
 pub returns-then-keeps_by_notes-clause-notes : goal.returns-then-keeps_by_notes-clause-notes
 returns-then-keeps_by_notes-clause-notes g c =
@@ -177,7 +177,7 @@ take_away-requires-clause-kept g c =
 
 pub take_away-requires-clause-room : goal.take_away-requires-clause-room
 take_away-requires-clause-room g c =
-    (subst (HasRoom c.args.firing.now.task) (sym c.keeps_by_basis.ensures.same) c.requires.room).room
+    (subst (FamilyHasRoom c.args.firing.now.task) (sym c.keeps_by_basis.ensures.same) c.requires.room).room
 
 -- the group isn't in the family any more
 fallen : (g : Over) (c : After-take_away g) → IsIn c.args.firing.now.task (family_of c.take_away.new.self.kept) c.args.group → ⊥

@@ -1,6 +1,6 @@
 -- The effect is at rest for the groups so far.
 use Rattle.std.proofs.Common.{◌≡◌, ℕ, ◌<◌, true, get_or}
-use Rattle.sas_mutex.specs.Falling.{HasRoom, Falls, newly, RestsAt}
+use Rattle.sas_mutex.specs.Falling.{FamilyHasRoom, Falls, newly, RestsAt}
 use Rattle.sas_mutex.specs.Basis.{KeptByBasis}
 use Rattle.sas_mutex.specs.ByNotes.{IsNotedAt}
 use Rattle.sas_mutex.proofs.looking.look_at_groups.Given as goal
@@ -8,7 +8,7 @@ use Rattle.sas_mutex.proofs.looking.look_at_groups.Given as goal
 abbrev pub invariant-loop-group : goal.invariant-loop-group
 invariant-loop-group g l = record {
   falls : Falls l.firing.task l.fn.family l.family;
-  room : HasRoom l.firing.task l.family;
+  room : FamilyHasRoom l.firing.task l.family;
   notes : IsNotedAt l.firing l.family.kept l.marks;
   rest : (k : ℕ) → k < l.group-index
       → RestsAt l.firing.task l.family.kept (newly l.fn.family l.family) l.firing.operator l.firing.effect (get_or l.groups k 0);

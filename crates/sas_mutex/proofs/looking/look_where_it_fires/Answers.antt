@@ -15,7 +15,7 @@ use Rattle.sas_mutex.specs.declared.marks.Marks.{Marks}
 use Rattle.sas_mutex.specs.Marks.{IsClean, IsNoted, IsNotedFrom}
 use Rattle.sas_mutex.specs.ByNotes.{known_at}
 use Rattle.sas_mutex.specs.Basis.{EffectKeepsByBasis}
-use Rattle.sas_mutex.specs.Falling.{HasRoom, Falls, IsEffectAtRest, newly}
+use Rattle.sas_mutex.specs.Falling.{FamilyHasRoom, Falls, IsEffectAtRest, newly}
 use Rattle.sas_mutex.proofs.FallingGroups.{none_fell}
 use Rattle.sas_mutex.proofs.ToldByNotes.{clash_keeps}
 use Rattle.sas_mutex.proofs.TaskFacts.{conditions_exist}
@@ -122,8 +122,8 @@ pub returns-clause-room : goal.returns-clause-room
 returns-clause-room g c =
     let p = c.args.firing.now.task in
     elim c.if-not-note_known.branch [
-      | then-not-note_known w ↦ subst (HasRoom p) (sym w.family-is) w.look_at_groups-alone.ensures.room
-      | else-not-note_known w ↦ subst (HasRoom p) (sym w.family-is) c.requires.room
+      | then-not-note_known w ↦ subst (FamilyHasRoom p) (sym w.family-is) w.look_at_groups-alone.ensures.room
+      | else-not-note_known w ↦ subst (FamilyHasRoom p) (sym w.family-is) c.requires.room
     ]
 
 pub returns-clause-clean : goal.returns-clause-clean

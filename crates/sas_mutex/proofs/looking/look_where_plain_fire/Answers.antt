@@ -12,7 +12,7 @@ use Rattle.sas_mutex.specs.declared.family.Family.{Family}
 use Rattle.sas_mutex.specs.declared.marks.Marks.{Marks}
 use Rattle.sas_mutex.specs.Marks.{IsClean, IsNotedFrom}
 use Rattle.sas_mutex.specs.ByNotes.{AreNoted}
-use Rattle.sas_mutex.specs.Falling.{HasRoom}
+use Rattle.sas_mutex.specs.Falling.{FamilyHasRoom}
 use Rattle.sas_mutex.specs.Basis.{PlainKeepByBasis, PlainSetNone}
 use Rattle.sas_mutex.proofs.FallingGroups.{none_fell}
 use Rattle.sas_mutex.proofs.ToldByNotes.{clash_keeps}
@@ -126,8 +126,8 @@ returns-clause-alone g c =
 pub returns-clause-room : goal.returns-clause-room
 returns-clause-room g c =
     elim c.if-not-note_known.branch [
-      | then-not-note_known w ↦ subst (HasRoom c.args.indexed.now) (sym w.family-is) w.look_at_each_plain-alone.ensures.room
-      | else-not-note_known w ↦ subst (HasRoom c.args.indexed.now) (sym w.family-is) c.requires.room
+      | then-not-note_known w ↦ subst (FamilyHasRoom c.args.indexed.now) (sym w.family-is) w.look_at_each_plain-alone.ensures.room
+      | else-not-note_known w ↦ subst (FamilyHasRoom c.args.indexed.now) (sym w.family-is) c.requires.room
     ]
 
 pub returns-clause-clean : goal.returns-clause-clean

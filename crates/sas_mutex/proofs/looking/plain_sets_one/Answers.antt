@@ -4,7 +4,7 @@ use Rattle.std.proofs.lemmas.Bool.{true≢false}
 use Rattle.sas_core.specs.declared.parts.Parts.{Parts}
 use Rattle.sas_core.specs.Grounded.{operator_at}
 use Rattle.sas_mutex.specs.Basis.{SetsNone}
-use Rattle.sas_mutex.specs.Effects.{IsPlain}
+use Rattle.sas_mutex.specs.Effects.{IsUnconditional}
 use Rattle.sas_mutex.proofs.looking.plain_sets_one.Goals as goal
 use Rattle.sas_mutex.proofs.looking.plain_sets_one.Goals.{then-is_plain+else-sets_one_of, else-is_plain}
 
@@ -39,9 +39,9 @@ loop-effect-preserved g c =
     let kept = c.args.kept.now in
     let operator = c.args.operator in
     let effect = c.loop-effect.effect in
-    let here : IsPlain c.args.indexed.now operator effect → SetsNone c.args.indexed.now kept operator effect = elim c.if-is_plain.branch [
+    let here : IsUnconditional c.args.indexed.now operator effect → SetsNone c.args.indexed.now kept operator effect = elim c.if-is_plain.branch [
       | then-is_plain+else-sets_one_of w ↦ λ plain. subst (λ (q : Parts). SetsNone q kept operator effect) c.indexed.view_is (w.sets_one_of.ensures w.if-sets_one_of.false)
-      | else-is_plain w ↦ λ plain. absurd (subst (λ (q : Parts). IsPlain q operator effect → ⊥) c.indexed.view_is (c.is_plain.ensures.no w.if-is_plain.false) plain)
+      | else-is_plain w ↦ λ plain. absurd (subst (λ (q : Parts). IsUnconditional q operator effect → ⊥) c.indexed.view_is (c.is_plain.ensures.no w.if-is_plain.false) plain)
     ] in
     record { none = below_more _ _ c.loop-effect.invariant.none here }
 

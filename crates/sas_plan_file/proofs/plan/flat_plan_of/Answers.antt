@@ -1,14 +1,14 @@
 -- All bytes were fed to the reader.
 use Rattle.std.proofs.Common.{[], Ok, Err, sym, ap, subst, ◌∙◌}
 use Rattle.sas_reader.specs.declared.fault.Fault.{Fault}
-use Rattle.sas_reader.specs.About.{IsTold}
+use Rattle.sas_reader.specs.About.{ConcernsText}
 use Rattle.sas_reader.specs.Format.{ReadsAs}
 use Rattle.sas_reader.specs.Limit.{most_bytes}
 use Rattle.sas_reader.specs.Reader.{IsRefused}
 use Rattle.sas_reader.proofs.Reading.{end_fault}
 use Rattle.sas_reader.proofs.Refusals.{told_by, explains}
 use Rattle.sas_plan_file.specs.PlanFormat.{plan_format, PlanLineFits}
-use Rattle.sas_plan_file.specs.PlanMachine.{plan_node, plan_start, HasCost, plan_stays}
+use Rattle.sas_plan_file.specs.PlanMachine.{plan_node, plan_start, HasCostLine, plan_stays}
 use Rattle.sas_plan_file.specs.PlanReader.{plan_led, plan_rejects}
 use Rattle.sas_plan_file.specs.PlanRefusal.{fault_of, found_of, nothing_else}
 use Rattle.sas_plan_file.proofs.PlanGrammar.{plan_grammar}
@@ -32,7 +32,7 @@ returns-in-Err-clause-fault c =
     let same = c.of.ensures.fault in
     λ ne. subst (λ (f : Fault). ReadsAs plan_format most_bytes bytes (Err f)) (sym same)
     (subst (λ n. ReadsAs plan_format n bytes (Err r.fault)) limit
-    (end_fault plan_format PlanLineFits plan_node plan_start plan_grammar plan_led HasCost plan_rejects plan_stays plan_follows c.feed.new.self r c.in-Err.ensures.refused (λ e. ne (ap (λ (f : Fault). f.kind) same ∙ e)) bytes stands))
+    (end_fault plan_format PlanLineFits plan_node plan_start plan_grammar plan_led HasCostLine plan_rejects plan_stays plan_follows c.feed.new.self r c.in-Err.ensures.refused (λ e. ne (ap (λ (f : Fault). f.kind) same ∙ e)) bytes stands))
 
 pub returns-in-Err-clause-explained : goal.returns-in-Err-clause-explained
 returns-in-Err-clause-explained c =
@@ -42,7 +42,7 @@ returns-in-Err-clause-explained c =
     let r = c.in-Err.refused in
     let same = c.of.ensures.fault in
     λ is_told.
-    let told = subst (λ (f : Fault). IsTold f.kind) same is_told in
-    explains plan_format PlanLineFits plan_node plan_start plan_grammar plan_led HasCost plan_rejects plan_stays plan_follows fault_of found_of nothing_else r _ same c.of.ensures.found (λ a t s. tt) bytes
-    (told_by plan_format PlanLineFits plan_node plan_start plan_grammar plan_led HasCost plan_rejects plan_stays plan_follows most_bytes bytes r told
-    (subst (λ n. IsRefused plan_led HasCost plan_rejects plan_stays n bytes r) limit (c.in-Err.ensures.refused.fault told.2 bytes stands)))
+    let told = subst (λ (f : Fault). ConcernsText f.kind) same is_told in
+    explains plan_format PlanLineFits plan_node plan_start plan_grammar plan_led HasCostLine plan_rejects plan_stays plan_follows fault_of found_of nothing_else r _ same c.of.ensures.found (λ a t s. tt) bytes
+    (told_by plan_format PlanLineFits plan_node plan_start plan_grammar plan_led HasCostLine plan_rejects plan_stays plan_follows most_bytes bytes r told
+    (subst (λ n. IsRefused plan_led HasCostLine plan_rejects plan_stays n bytes r) limit (c.in-Err.ensures.refused.fault told.2 bytes stands)))

@@ -1,6 +1,6 @@
 use Rattle.sas_reader.proofs.Refusals.{reads_explained, refuses_explained}
 use Rattle.sas_plan_file.specs.PlanFormat.{plan_format, PlanLineFits}
-use Rattle.sas_plan_file.specs.PlanMachine.{plan_node, plan_start, HasCost, plan_stays}
+use Rattle.sas_plan_file.specs.PlanMachine.{plan_node, plan_start, HasCostLine, plan_stays}
 use Rattle.sas_plan_file.specs.PlanReader.{plan_led, plan_rejects}
 use Rattle.sas_plan_file.specs.PlanRefusal.{fault_of, found_of, nothing_else}
 use Rattle.sas_plan_file.proofs.PlanGrammar.{plan_grammar}
@@ -9,8 +9,8 @@ use Rattle.sas_plan_file.proofs.plan.read_flat_plan.Goals as goal
 
 pub returns-in-Ok : goal.returns-in-Ok
 returns-in-Ok g c =
-    reads_explained plan_format PlanLineFits plan_node plan_start plan_grammar plan_led HasCost plan_rejects plan_stays plan_follows fault_of found_of nothing_else g.R.Read.remaining _ _ _ _ _ c.in-Ok.ensures (λ b reached short. read_plan_parts _ c.in-Ok.machine c.into_flat_plan.result b c.into_flat_plan.ensures (reached, short))
+    reads_explained plan_format PlanLineFits plan_node plan_start plan_grammar plan_led HasCostLine plan_rejects plan_stays plan_follows fault_of found_of nothing_else g.R.Read.remaining _ _ _ _ _ c.in-Ok.ensures (λ b reached short. read_plan_parts _ c.in-Ok.machine c.into_flat_plan.result b c.into_flat_plan.ensures (reached, short))
 
 pub returns-in-Err : goal.returns-in-Err
 returns-in-Err g c =
-    refuses_explained plan_format PlanLineFits plan_node plan_start plan_grammar plan_led HasCost plan_rejects plan_stays plan_follows fault_of found_of nothing_else c.in-Err.refused _ c.of.ensures.fault c.of.ensures.found (λ a t s. tt) g.R.Read.remaining _ _ _ c.in-Err.ensures
+    refuses_explained plan_format PlanLineFits plan_node plan_start plan_grammar plan_led HasCostLine plan_rejects plan_stays plan_follows fault_of found_of nothing_else c.in-Err.refused _ c.of.ensures.fault c.of.ensures.found (λ a t s. tt) g.R.Read.remaining _ _ _ c.in-Err.ensures

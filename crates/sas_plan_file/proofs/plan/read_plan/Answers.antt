@@ -3,7 +3,7 @@ use Rattle.sas_reader.specs.Devices.{ReadsAll, ValueOf}
 use Rattle.sas_reader.specs.declared.fault.Fault.{Fault}
 use Rattle.sas_reader.proofs.Reading.{reads_all, refuses_all}
 use Rattle.sas_plan_file.specs.PlanFormat.{plan_format, PlanLineFits}
-use Rattle.sas_plan_file.specs.PlanMachine.{plan_node, plan_start, HasCost, plan_stays}
+use Rattle.sas_plan_file.specs.PlanMachine.{plan_node, plan_start, HasCostLine, plan_stays}
 use Rattle.sas_plan_file.specs.PlanReader.{plan_led, plan_rejects}
 use Rattle.sas_plan_file.proofs.PlanGrammar.{plan_grammar}
 use Rattle.sas_plan_file.proofs.PlanStanding.{plan_follows, read_plan_parts}
@@ -11,9 +11,9 @@ use Rattle.sas_plan_file.proofs.plan.read_plan.Goals as goal
 
 pub returns-in-Ok : goal.returns-in-Ok
 returns-in-Ok g c =
-    reads_all plan_format PlanLineFits plan_node plan_start plan_grammar plan_led HasCost plan_rejects plan_stays plan_follows g.R.Read.remaining _ _ _ _ _ c.in-Ok.ensures (λ b reached short. read_plan_parts _ c.in-Ok.machine c.into_plan.result b c.into_plan.ensures (reached, short))
+    reads_all plan_format PlanLineFits plan_node plan_start plan_grammar plan_led HasCostLine plan_rejects plan_stays plan_follows g.R.Read.remaining _ _ _ _ _ c.in-Ok.ensures (λ b reached short. read_plan_parts _ c.in-Ok.machine c.into_plan.result b c.into_plan.ensures (reached, short))
 
 pub returns-in-Err : goal.returns-in-Err
 returns-in-Err g c =
     subst (λ (f : Fault). ReadsAll g.R.Read.remaining plan_format (ValueOf plan_format) c.args.reader.now c.read_all.new.device (Err f)) (sym c.into_fault.ensures)
-    (refuses_all plan_format PlanLineFits plan_node plan_start plan_grammar plan_led HasCost plan_rejects plan_stays plan_follows g.R.Read.remaining _ _ _ c.in-Err.refused c.in-Err.ensures)
+    (refuses_all plan_format PlanLineFits plan_node plan_start plan_grammar plan_led HasCostLine plan_rejects plan_stays plan_follows g.R.Read.remaining _ _ _ c.in-Err.refused c.in-Err.ensures)

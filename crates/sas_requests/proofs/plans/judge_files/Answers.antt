@@ -5,7 +5,7 @@ use Rattle.sas_requests.proofs.plans.judge_files.Goals as goal
 
 pub returns-in-Ok-clause-ends : goal.returns-in-Ok-clause-ends
 returns-in-Ok-clause-ends g c =
-    rw c.in-Ok.ensures.silent at (of_both g.T.Read.remaining g.P.Read.remaining _ c.args.detail c.in-Ok.layered _ _ c.in-Ok.ensures.read c.in-Ok.ensures.layered _ _ c.judge-ended.result c.judge-ended.ensures.ends)
+    rw c.in-Ok.ensures.silent at (of_both g.T.Read.remaining g.P.Read.remaining _ c.args.detail c.in-Ok.layered _ _ c.in-Ok.ensures.read c.in-Ok.ensures.layered _ _ c.judge_plan_file-ended.result c.judge_plan_file-ended.ensures.ends)
 
 pub returns-in-Err-clause-ends : goal.returns-in-Err-clause-ends
 returns-in-Err-clause-ends g c =

@@ -8,7 +8,7 @@ use Rattle.sas_core.specs.Grounded.{operator_at}
 use Rattle.sas_names.specs.Names.{IsLowestNamed}
 use Rattle.sas_run.specs.declared.plan_check.PlanFault.TheVariants.{NoOperator}
 use Rattle.sas_run.specs.Plans.{LeadsTo}
-use Rattle.sas_run.specs.Running.{GoesOn, StopsAt}
+use Rattle.sas_run.specs.Running.{MakesStep, StepFails}
 use Rattle.sas_run.specs.Runs.{IsEnding}
 use Rattle.sas_run.proofs.Endings.{stops_there}
 use Rattle.sas_run.proofs.Going.{leads_one_more, passed_on}
@@ -27,7 +27,7 @@ returns-in_err-operator-clause-ends g c =
     let told : c.from_residual.result ≡ Err fault = passed_on c.from_residual.result fault (err_from_is_err_and c.from_residual.result c.from_residual.ensures.1) in
     subst (λ r. IfErr r (λ f. IsEnding p plan progress.operators.items (Rattle.std.specs.Prelude.Some f))) (sym told)
     (stops_there p plan n below progress.operators.items progress.state c.loop-before.invariant.leads fault
-    (subst (λ name. StopsAt p progress.state name (n + 1) fault) named c.in_err-operator.ensures.err))
+    (subst (λ name. StepFails p progress.state name (n + 1) fault) named c.in_err-operator.ensures.err))
 
 pub loop-before-preserved : goal.loop-before-preserved
 loop-before-preserved g c =
@@ -41,7 +41,7 @@ loop-before-preserved g c =
     let below : n < length steps = omega (arith, c.loop-before-test.true, c.requires.firsts.within) in
     let named : (operator_at p (get_or c.args.found.firsts.now n 0)).name ≡ get_or steps n [] = (c.requires.firsts.each n c.loop-before-test.true).of_name.named in
     let items = rw c.unwrap.ensures at c.push.ensures.items in
-    let on : GoesOn p progress.state (get_or steps n []) operator next = subst (λ name. GoesOn p progress.state name operator next) named c.in_ok-operator.ensures.ok in
+    let on : MakesStep p progress.state (get_or steps n []) operator next = subst (λ name. MakesStep p progress.state name operator next) named c.in_ok-operator.ensures.ok in
     record {
       prepared = c.go_on.ensures.prepared;
       follows = c.in_ok-operator.ensures.follows;

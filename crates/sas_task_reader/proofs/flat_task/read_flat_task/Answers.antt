@@ -3,7 +3,7 @@ use Rattle.sas_core.specs.declared.parts.Parts.{Parts}
 use Rattle.sas_core.specs.WellRanged.{WellRanged}
 use Rattle.sas_reader.specs.Devices.{ValueOf}
 use Rattle.sas_task_line.specs.declared.so_far.SoFar.{SoFar}
-use Rattle.sas_task_judge.specs.TaskMachine.{LedTo, EndedAt, RejectsAt, Stopped}
+use Rattle.sas_task_judge.specs.TaskMachine.{LedTo, EndedAt, RejectsAt, MachineStopped}
 use Rattle.sas_task_reader.proofs.TaskStanding.{reader_follows, read_task_parts, well_ranged}
 use Rattle.sas_reader.proofs.Refusals.{reads_explained, refuses_explained}
 use Rattle.sas_task_format.specs.Process.{process_node}
@@ -20,10 +20,10 @@ into_task-requires g c =
 
 pub returns-in-Ok : goal.returns-in-Ok
 returns-in-Ok g c =
-    reads_explained task_format TaskLineFits process_node task_start task_grammar LedTo EndedAt RejectsAt Stopped reader_follows fault_in found_in HasReason g.R.Read.remaining _ _ _ c.in-Ok.machine _ c.in-Ok.ensures (λ b reached short.
+    reads_explained task_format TaskLineFits process_node task_start task_grammar LedTo EndedAt RejectsAt MachineStopped reader_follows fault_in found_in HasReason g.R.Read.remaining _ _ _ c.in-Ok.machine _ c.in-Ok.ensures (λ b reached short.
     subst (λ (p : Parts). ValueOf task_format b p) (sym (c.into_task.ensures ∙ ap (λ (s : SoFar). s.parts) c.into_kept.ensures)) (read_task_parts _ c.in-Ok.machine b c.in-Ok.ensures.at_end (reached, short)))
 
 pub returns-in-Err : goal.returns-in-Err
 returns-in-Err g c =
-    refuses_explained task_format TaskLineFits process_node task_start task_grammar LedTo EndedAt RejectsAt Stopped reader_follows fault_in found_in HasReason
+    refuses_explained task_format TaskLineFits process_node task_start task_grammar LedTo EndedAt RejectsAt MachineStopped reader_follows fault_in found_in HasReason
     c.in-Err.refused _ c.of.ensures.fault c.of.ensures.found c.of.ensures.reason g.R.Read.remaining _ _ _ c.in-Err.ensures

@@ -5,7 +5,7 @@ use Rattle.sas_reader.specs.declared.fault.Kind.{Kind}
 use Rattle.sas_task_line.specs.declared.so_far.SoFar.{SoFar}
 use Rattle.sas_task_judge.specs.declared.task_machine.TaskMachine.{TaskMachine}
 use Rattle.sas_task_judge.specs.TaskJudge.{HasEnded, RejectsLine}
-use Rattle.sas_task_judge.specs.TaskMachine.{LedBy, Stopped}
+use Rattle.sas_task_judge.specs.TaskMachine.{LedBy, MachineStopped}
 use Rattle.sas_task_reader.proofs.Outlines.{outline_is}
 use Rattle.sas_task_reader.proofs.TaskStanding.{machine_follows, reads_so_far}
 use Rattle.sas_task_format.specs.Process.{process_node}
@@ -31,11 +31,11 @@ new-start-requires g c = (c.args.alloc, c.new.ensures)
 
 pub returns-in-Ok : goal.returns-in-Ok
 returns-in-Ok g c =
-    reads_explained task_format TaskLineFits process_node task_start task_grammar (LedBy Keeps) Ended Refused Stopped (machine_follows Keeps) fault_in found_in HasReason g.R.Read.remaining _ _ _ c.in-Ok.machine _ c.in-Ok.ensures (λ b reached short.
+    reads_explained task_format TaskLineFits process_node task_start task_grammar (LedBy Keeps) Ended Refused MachineStopped (machine_follows Keeps) fault_in found_in HasReason g.R.Read.remaining _ _ _ c.in-Ok.machine _ c.in-Ok.ensures (λ b reached short.
     let reads = reads_so_far Keeps c.in-Ok.machine b reached c.in-Ok.ensures.at_end in
     (reached.led.so_far.parts, (reads, short), c.into_outline.ensures ∙ ap outline_in (c.into_kept.ensures ∙ reached.led.kept) ∙ outline_is reached.led.so_far reads.good))
 
 pub returns-in-Err : goal.returns-in-Err
 returns-in-Err g c =
-    refuses_explained task_format TaskLineFits process_node task_start task_grammar (LedBy Keeps) Ended Refused Stopped (machine_follows Keeps) fault_in found_in HasReason
+    refuses_explained task_format TaskLineFits process_node task_start task_grammar (LedBy Keeps) Ended Refused MachineStopped (machine_follows Keeps) fault_in found_in HasReason
     c.in-Err.refused _ c.of.ensures.fault c.of.ensures.found c.of.ensures.reason g.R.Read.remaining _ _ _ c.in-Err.ensures

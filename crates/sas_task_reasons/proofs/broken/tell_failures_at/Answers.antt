@@ -21,7 +21,7 @@ use Rattle.sas_mutex.proofs.Telling.{clash_never_fires}
 use Rattle.sas_task_reasons.specs.declared.broken.Greatest.{Greatest}
 use Rattle.sas_task_reasons.specs.declared.reason.Reason.{Reason}
 use Rattle.sas_task_reasons.specs.GroupReasons.{reason_at}
-use Rattle.sas_task_reasons.specs.Telling.{IsReasonSoFar, IsAsked}
+use Rattle.sas_task_reasons.specs.Telling.{IsReasonSoFar, LacksReason}
 use Rattle.sas_task_reasons.proofs.ReasonsSoFar.{next_effect, not_asked, pending_more}
 use Rattle.sas_task_reasons.proofs.broken.tell_failures_at.Goals as goal
 use Rattle.sas_task_reasons.proofs.broken.tell_failures_at.Given.{Over}
@@ -60,10 +60,10 @@ returns-then-not-some_asked-clause-so_far g c =
     let same = ap (λ (s : EffectPlace). s.operator) c.firing.view_is in
     next_effect p kept f.operator f.effect verdicts reasons
     (λ place has. not_asked p kept f.operator f.effect place verdicts reasons
-    (λ asked. All-contains (λ (n : ℕ). IsAsked c.firing.inside.operator verdicts c.as_slice.result.now n → ⊥) c.groups_of-groups.result.now place
+    (λ asked. All-contains (λ (n : ℕ). LacksReason c.firing.inside.operator verdicts c.as_slice.result.now n → ⊥) c.groups_of-groups.result.now place
     (c.some_asked.ensures c.if-not-some_asked.true) ((setting g a place).1 has)
-    (subst (λ (xs : List (Option Reason)). IsAsked c.firing.inside.operator verdicts xs place) (sym c.as_slice.ensures)
-    (subst (λ (n : ℕ). IsAsked n verdicts reasons place) (sym same) asked)))
+    (subst (λ (xs : List (Option Reason)). LacksReason c.firing.inside.operator verdicts xs place) (sym c.as_slice.ensures)
+    (subst (λ (n : ℕ). LacksReason n verdicts reasons place) (sym same) asked)))
     (c.requires.so_far.are place has.exists)) c.requires.so_far
 
 pub tell_groups-requires-clause-have : goal.tell_groups-requires-clause-have

@@ -6,7 +6,7 @@ use Rattle.sas_groups.specs.Joint.{verdict_at}
 use Rattle.sas_task_reasons.specs.declared.reason.Reason.{Reason}
 use Rattle.sas_task_reasons.specs.declared.reason.Reason.TheVariants.{Breaks}
 use Rattle.sas_task_reasons.specs.GroupReasons.{IsReason, reason_at}
-use Rattle.sas_task_reasons.specs.Telling.{IsReasonSoFar, AreReasonsSoFar, IsAsked}
+use Rattle.sas_task_reasons.specs.Telling.{IsReasonSoFar, AreReasonsSoFar, LacksReason}
 use Rattle.sas_task_reasons.proofs.ReasonsSoFar.{pending_more, one_told, asked_pending, failure_is_reason}
 use Rattle.sas_task_reasons.proofs.broken.tell_group.Goals as goal
 use Rattle.sas_task_reasons.proofs.broken.tell_group.Given.{Over}
@@ -21,8 +21,8 @@ reason g c =
     let place = c.args.group in
     let verdict = verdict_at c.args.verdicts.now place in
     let same = ap (λ (s : EffectPlace). s.operator) c.firing.view_is in
-    let asked : IsAsked f.operator c.args.verdicts.now c.args.reasons.now place = subst (λ (n : ℕ). IsAsked n c.args.verdicts.now c.args.reasons.now place) same
-    (subst (λ (xs : List (Option Reason)). IsAsked c.firing.inside.operator c.args.verdicts.now xs place) c.as_slice.ensures (c.is_asked.ensures.yes c.if-not-is_asked.false)) in
+    let asked : LacksReason f.operator c.args.verdicts.now c.args.reasons.now place = subst (λ (n : ℕ). LacksReason n c.args.verdicts.now c.args.reasons.now place) same
+    (subst (λ (xs : List (Option Reason)). LacksReason c.firing.inside.operator c.args.verdicts.now xs place) c.as_slice.ensures (c.is_asked.ensures.yes c.if-not-is_asked.false)) in
     subst (λ (n : ℕ). IsReason p place verdict (Breaks n c.in-Some.failure)) (sym same)
     (failure_is_reason p kept f.operator f.effect place verdict c.in-Some.failure c.requires.greatest asked.breaks
     (asked_pending p kept f.operator f.effect place c.args.verdicts.now c.args.reasons.now asked (c.requires.so_far.are place c.requires.has.exists)) c.in-Some.ensures.some)

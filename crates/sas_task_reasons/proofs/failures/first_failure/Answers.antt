@@ -9,7 +9,7 @@ use Rattle.sas_groups.specs.Kept.{family_of}
 use Rattle.sas_mutex.specs.Effects.{IsKept, EffectKeeps}
 use Rattle.sas_mutex.specs.Firing.{operator_of}
 use Rattle.sas_groups.specs.Notes.{IsGroupNote}
-use Rattle.sas_mutex.specs.ByNotes.{IsNotedFor, KeepsGroup, KeepsGroupItself, known_at}
+use Rattle.sas_mutex.specs.ByNotes.{IsNotedFor, EffectKeepsGroup, EffectKeepsGroupWithItself, known_at}
 use Rattle.sas_mutex.proofs.Telling.{keeps_itself, put_back, several_never_fire, noted_with, with_place, or_itself, is_more}
 use Rattle.sas_mutex.proofs.ToldByNotes.{noted_fewer}
 use Rattle.sas_task_reasons.specs.Lowest.{IsFirstOfEffect}
@@ -57,7 +57,7 @@ returns-clause-none g c =
     let p = f.task in
     let o = operator_at p f.operator in
     let kept = c.args.kept.now in
-    if_none_so c.failure_by_notes-failure.result (KeepsGroup f c.as_slice-2.result.now c.args.group) (KeepsGroupItself f kept c.args.group)
+    if_none_so c.failure_by_notes-failure.result (EffectKeepsGroup f c.as_slice-2.result.now c.args.group) (EffectKeepsGroupWithItself f kept c.args.group)
     (λ keeps. keeps_itself p kept c.args.group c.requires.group c.requires.notes.one_each f.operator f.effect
     (subst (λ (xs : List Bool). EffectKeeps (IsKept p xs) o (group_at p c.args.group) (effect_at o f.effect)) (c.as_slice-2.ensures ∙ c.set.ensures) keeps))
     c.failure_by_notes-failure.ensures.none

@@ -23,7 +23,7 @@ returns-clause-ends g c =
     let made : Status → Output = λ status. record { text = text (why_lines p told reasons); status = status } in
     let name = c.finish-ended.ensures.same ∙ (c.push_groups.ensures.same ∙ c.new-sink.ensures.same) in
     let ends = finish_ends g.W.Write.contents c.finish-ended.new.self (g.W.Write.contents c.args.out.now.device) c.groups_status.result c.finish-ended.result c.out-1.given.0 _ _ is
-        (c.finish-ended.ensures.ends _ _ (c.push_groups.ensures.text _ _ c.new-sink.ensures.text)) (search rules) in
+    (c.finish-ended.ensures.ends _ _ (c.push_groups.ensures.text _ _ c.new-sink.ensures.text)) (search rules) in
     ends_counting_as (made c.groups_status.result) (Appends (g.W.Write.contents c.args.out.now.device) (g.W.Write.contents c.out-1.given.0.device))
     (λ (output : Option Output). IsSomeAnd output (WhyGroupsAnswer p)) c.finish-ended.result (told, reasons, joint, c.in_ok-reasons.ensures, ap made c.groups_status.ensures) ends
 

@@ -1,11 +1,11 @@
 -- The facts so far are noted.
 use Rattle.std.proofs.Common.{ℕ, ◌<◌, length, get_or}
 use Rattle.sas_core.specs.declared.parts.Fact.{Fact}
-use Rattle.sas_trace.specs.Changes.{IsNoted, Grows}
+use Rattle.sas_trace.specs.Changes.{IsListedIfChanged, Grows}
 use Rattle.sas_trace.proofs.changes.list_deleted.Given as goal
 
 abbrev pub invariant-loop-fact : goal.invariant-loop-fact
 invariant-loop-fact l = record {
   grows : Grows (length l.state) l.fn.listed.items l.listed.items;
-  noted : (j : ℕ) (d : Fact) → j < l.fact-index → IsNoted l.printed l.state l.listed.items (get_or l.deleted j d).var;
+  noted : (j : ℕ) (d : Fact) → j < l.fact-index → IsListedIfChanged l.printed l.state l.listed.items (get_or l.deleted j d).var;
 }

@@ -1,10 +1,10 @@
 -- The variables so far are noted.
 use Rattle.std.proofs.Common.{ℕ, ◌<◌, length, get_or}
-use Rattle.sas_trace.specs.Changes.{IsNoted, Grows}
+use Rattle.sas_trace.specs.Changes.{IsListedIfChanged, Grows}
 use Rattle.sas_trace.proofs.changes.list_touched.Given as goal
 
 abbrev pub invariant-loop-var : goal.invariant-loop-var
 invariant-loop-var l = record {
   grows : Grows (length l.state) l.fn.listed.items l.listed.items;
-  noted : (j : ℕ) (d : ℕ) → j < l.var-index → IsNoted l.printed l.state l.listed.items (get_or l.touched j d);
+  noted : (j : ℕ) (d : ℕ) → j < l.var-index → IsListedIfChanged l.printed l.state l.listed.items (get_or l.touched j d);
 }

@@ -1,8 +1,8 @@
 -- The effects so far agree.
 use Rattle.sas_core.specs.Grounded.{operator_at}
-use Rattle.sas_why.specs.Conflicts.{AreFirsts}
+use Rattle.sas_why.specs.Conflicts.{AreFirstEffects}
 use Rattle.sas_why.proofs.conflicts.conflict.Given as goal
 
 abbrev pub invariant-loop-later : goal.invariant-loop-later
 invariant-loop-later g l =
-    AreFirsts l.task l.state (operator_at l.task l.operator) l.later l.firsts
+    AreFirstEffects l.task l.state (operator_at l.task l.operator) l.later l.firsts

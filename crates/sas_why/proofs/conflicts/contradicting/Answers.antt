@@ -5,7 +5,7 @@ use Rattle.sas_core.specs.declared.grounded.Change.{Change}
 use Rattle.sas_core.specs.Grounded.{operator_at, effect_at}
 use Rattle.sas_meaning.specs.States.{AllHold}
 use Rattle.sas_run.proofs.Ranges.{effect_within}
-use Rattle.sas_why.specs.Conflicts.{first_on, AreFirsts}
+use Rattle.sas_why.specs.Conflicts.{first_on, AreFirstEffects}
 use Rattle.sas_why.proofs.Firsts.{quiet, again, first_here, contradicted}
 use Rattle.sas_why.proofs.conflicts.contradicting.Goals as goal
 
@@ -43,7 +43,7 @@ returns-in-None-clause-none g c =
     let n = c.args.effect in
     let firsts = c.args.firsts.now in
     let var = ap (λ (x : Change). x.var) c.effect_change-change.ensures in
-    subst (AreFirsts p s o (n + 1)) (sym (c.set.ensures ∙ ap (λ (v : ℕ). set firsts v (Some n)) var))
+    subst (AreFirstEffects p s o (n + 1)) (sym (c.set.ensures ∙ ap (λ (v : ℕ). set firsts v (Some n)) var))
     (first_here p s o n firsts c.requires.firsts (effect_within p c.task.ensures.well_ranged c.args.operator c.requires.operator n c.requires.effect)
     (subst (AllHold (slice_index s)) c.effect_conditions.ensures (c.holds_all.ensures.0 c.if-not-holds_all.false))
     (ap (first_on firsts) (sym var) ∙ (ap (λ (l : List (Option ℕ)). first_on l c.effect_change-change.result.var) (sym c.as_slice.ensures) ∙ c.in-None.is)))

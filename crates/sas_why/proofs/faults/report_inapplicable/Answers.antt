@@ -7,7 +7,7 @@ use Rattle.std.proofs.lemmas.List.Elements.{All-head, All-rest}
 use Rattle.sas_core.specs.declared.parts.Fact.{Fact}
 use Rattle.sas_core.specs.Grounded.{operator_at}
 use Rattle.sas_meaning.specs.Steps.{preconditions}
-use Rattle.sas_reasons.specs.Lines.{TellsEach}
+use Rattle.sas_reasons.specs.Lines.{LinesOfEach}
 use Rattle.sas_run.specs.Runs.{last_state}
 use Rattle.sas_reasons.specs.Cause.{fails, IsCause}
 use Rattle.sas_reasons.specs.WhyPlan.{failing}
@@ -44,7 +44,7 @@ pub report_cause-requires-clause-report : goal.report_cause-requires-clause-repo
 report_cause-requires-clause-report g c =
     let p = c.args.task.now in
     let s = c.args.noted.now.last in
-    more_can_tell p c.args.noted.now (λ run. TellsEach (IsCause p run) (filter (fails s) c.loop-fact.yielded)) _ c.loop-fact.report c.loop-fact.invariant.reported
+    more_can_tell p c.args.noted.now (λ run. LinesOfEach (IsCause p run) (filter (fails s) c.loop-fact.yielded)) _ c.loop-fact.report c.loop-fact.invariant.reported
     (plain_can_tell p c.args.noted.now c.args.report.now c.push.new.self (Operator c.args.operator ∷ []) (refl, tt) c.in_ok-push.ensures.ok c.requires.report)
 
 pub loop-fact-preserved-in-Continue-branch-2 : goal.loop-fact-preserved-in-Continue-branch-2
@@ -86,6 +86,6 @@ returns g c =
     let all : c.loop-fact.yielded ≡ preconditions o =
     sym (c.loop-fact.invariant.left ∙ (ap (λ (fs : List Fact). c.loop-fact.yielded ++ fs) c.in-None.ensures.steps.0 ∙ append-nil c.loop-fact.yielded)) in
     line_and_more p c.args.noted.now c.args.report.now c.loop-fact.report c.push.new.self (Operator c.args.operator)
-    (λ run. TellsEach (IsCause p run) (failing (last_state run) o)) refl c.in_ok-push.ensures.ok
+    (λ run. LinesOfEach (IsCause p run) (failing (last_state run) o)) refl c.in_ok-push.ensures.ok
     (at_last p c.args.noted.now (λ run. IsCause p run) (λ t. failing t o) _ c.loop-fact.report
     (same_items p c.args.noted.now (λ run. IsCause p run) (filter (fails s) c.loop-fact.yielded) (failing s o) _ c.loop-fact.report (ap (filter (fails s)) all) c.loop-fact.invariant.reported))

@@ -5,9 +5,9 @@ use Rattle.std.specs.List.{All}
 use Rattle.sas_core.specs.declared.parts.Fact.{Fact}
 use Rattle.sas_meaning.specs.Places.{places}
 use Rattle.sas_meaning.proofs.Places.{places_to, places_all}
-use Rattle.sas_reasons.specs.Lines.{TellsEach}
+use Rattle.sas_reasons.specs.Lines.{LinesOfEach}
 use Rattle.sas_reasons.specs.Cause.{fails, IsCause}
-use Rattle.sas_reasons.specs.WhyPlan.{goal_fact_at, TellsGoalFact}
+use Rattle.sas_reasons.specs.WhyPlan.{goal_fact_at, AreGoalFactLines}
 use Rattle.sas_output.specs.declared.line.Line.TheVariants.{GoalFact}
 use Rattle.sas_why.specs.declared.report.Report.{Report}
 use Rattle.sas_why.specs.Report.{Adds}
@@ -35,7 +35,7 @@ report_cause-requires-clause-report g c =
     let p = c.args.task.now in
     let s = c.args.noted.now.last in
     plain_can_tell p c.args.noted.now c.loop-index.report c.push.new.self (GoalFact c.loop-index.index ∷ []) (refl, tt) c.in_ok-push.ensures.ok
-    (more_can_tell p c.args.noted.now (λ run. TellsEach (TellsGoalFact p run) (places_to (fails s) c.loop-index.index p.goal)) c.args.report.now c.loop-index.report
+    (more_can_tell p c.args.noted.now (λ run. LinesOfEach (AreGoalFactLines p run) (places_to (fails s) c.loop-index.index p.goal)) c.args.report.now c.loop-index.report
     c.loop-index.invariant c.requires)
 
 pub loop-index-preserved : goal.loop-index-preserved
@@ -47,18 +47,18 @@ loop-index-preserved g c =
     let lt : k < length p.goal = subst (λ (l : List Fact). k < length l) c.goal-fact-items.ensures c.loop-index-test.true in
     elim c.if-value-fact.branch [
       | then-value-fact+in_ok-push+in_ok-report_cause w ↦
-          subst (λ (t : Report). Adds p c.args.noted.now first t (λ run. TellsEach (TellsGoalFact p run) (places_to (fails s) (k + 1) p.goal))) (sym w.report-is)
-          (same_items p c.args.noted.now (λ run. TellsGoalFact p run) (places_to (fails s) k p.goal ++ k ∷ []) _ first w.report_cause.new.report
+          subst (λ (t : Report). Adds p c.args.noted.now first t (λ run. LinesOfEach (AreGoalFactLines p run) (places_to (fails s) (k + 1) p.goal))) (sym w.report-is)
+          (same_items p c.args.noted.now (λ run. AreGoalFactLines p run) (places_to (fails s) k p.goal ++ k ∷ []) _ first w.report_cause.new.report
           (sym (place_fails s k p.goal _ lt (subst (λ (l : List Fact). slice_index s (get_or l k (record { var = 0; value = 0 })).var ≡ (get_or l k (record { var = 0; value = 0 })).value → ⊥) c.goal-fact-items.ensures
           (λ e. w.if-value-fact.true (c.value.ensures ∙ e)))))
-          (one_more p c.args.noted.now (λ run. TellsGoalFact p run) first c.loop-index.report w.report_cause.new.report (places_to (fails s) k p.goal) k c.loop-index.invariant
+          (one_more p c.args.noted.now (λ run. AreGoalFactLines p run) first c.loop-index.report w.report_cause.new.report (places_to (fails s) k p.goal) k c.loop-index.invariant
           (line_and_more p c.args.noted.now c.loop-index.report w.report_cause.new.report w.push.new.self (GoalFact k) (λ run. IsCause p run (goal_fact_at p k))
           refl w.in_ok-push.ensures.ok
           (subst (λ (l : List Fact). Adds p c.args.noted.now (record c.loop-index.report { lines = w.push.new.self }) w.report_cause.new.report
           (λ run. IsCause p run (get_or l k (record { var = 0; value = 0 })))) c.goal-fact-items.ensures w.in_ok-report_cause.ensures))))
       | else-value-fact w ↦
-          subst (λ (t : Report). Adds p c.args.noted.now first t (λ run. TellsEach (TellsGoalFact p run) (places_to (fails s) (k + 1) p.goal))) (sym w.report-is)
-          (same_items p c.args.noted.now (λ run. TellsGoalFact p run) (places_to (fails s) k p.goal) _ first c.loop-index.report
+          subst (λ (t : Report). Adds p c.args.noted.now first t (λ run. LinesOfEach (AreGoalFactLines p run) (places_to (fails s) (k + 1) p.goal))) (sym w.report-is)
+          (same_items p c.args.noted.now (λ run. AreGoalFactLines p run) (places_to (fails s) k p.goal) _ first c.loop-index.report
           (sym (place_holds s k p.goal _ lt (subst (λ (l : List Fact). slice_index s (get_or l k (record { var = 0; value = 0 })).var ≡ (get_or l k (record { var = 0; value = 0 })).value) c.goal-fact-items.ensures
           (sym c.value.ensures ∙ w.if-value-fact.false))))
           c.loop-index.invariant)
@@ -69,6 +69,6 @@ returns g c =
     let p = c.args.task.now in
     let s = c.args.noted.now.last in
     let all : length p.goal ≤ c.loop-index.index = subst (λ (l : List Fact). length l ≤ c.loop-index.index) c.goal-fact-items.ensures c.loop-index-test.false in
-    at_last p c.args.noted.now (λ r. TellsGoalFact p r) (λ t. places (fails t) p.goal) c.args.report.now c.loop-index.report
-    (same_items p c.args.noted.now (λ r. TellsGoalFact p r) (places_to (fails s) c.loop-index.index p.goal) (places (fails s) p.goal) c.args.report.now c.loop-index.report
+    at_last p c.args.noted.now (λ r. AreGoalFactLines p r) (λ t. places (fails t) p.goal) c.args.report.now c.loop-index.report
+    (same_items p c.args.noted.now (λ r. AreGoalFactLines p r) (places_to (fails s) c.loop-index.index p.goal) (places (fails s) p.goal) c.args.report.now c.loop-index.report
     (places_all (fails s) c.loop-index.index p.goal all) c.loop-index.invariant)

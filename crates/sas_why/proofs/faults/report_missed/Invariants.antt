@@ -1,11 +1,11 @@
 -- The causes of the goal facts so far are told.
-use Rattle.sas_reasons.specs.Lines.{TellsEach}
+use Rattle.sas_reasons.specs.Lines.{LinesOfEach}
 use Rattle.sas_reasons.specs.Cause.{fails}
-use Rattle.sas_reasons.specs.WhyPlan.{TellsGoalFact}
+use Rattle.sas_reasons.specs.WhyPlan.{AreGoalFactLines}
 use Rattle.sas_meaning.proofs.Places.{places_to}
 use Rattle.sas_why.specs.Report.{Adds}
 use Rattle.sas_why.proofs.faults.report_missed.Given as goal
 
 abbrev pub invariant-loop-index : goal.invariant-loop-index
 invariant-loop-index g l = Adds l.task l.noted l.initial.report l.report
-    (λ run. TellsEach (TellsGoalFact l.task run) (places_to (fails l.noted.last) l.index l.task.goal))
+    (λ run. LinesOfEach (AreGoalFactLines l.task run) (places_to (fails l.noted.last) l.index l.task.goal))

@@ -1,6 +1,6 @@
 use Rattle.std.proofs.Common.{◌<◌, length, sym, ap, ◌∙◌, arith}
 use Rattle.sas_core.specs.Changes.{effect_change}
-use Rattle.sas_flat.specs.Effects.{change_in}
+use Rattle.sas_flat.specs.Effects.{change_in_list}
 use Rattle.sas_flat.proofs.EffectRows.{effect_count, effect_at_place}
 use Rattle.sas_flat.proofs.effects.Effects.change.Goals as goal
 
@@ -14,5 +14,5 @@ offset_bounds-as_slice-index c =
 
 pub returns : goal.returns
 returns c =
-    ap (λ l. change_in l c.args.index) c.as_slice.ensures.value
+    ap (λ l. change_in_list l c.args.index) c.as_slice.ensures.value
     ∙ sym (ap effect_change (effect_at_place c.self.inside.changes.items c.self.inside.conditions c.args.self.now c.self.view_is c.args.index c.requires))

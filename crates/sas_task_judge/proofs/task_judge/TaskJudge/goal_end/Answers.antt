@@ -1,9 +1,9 @@
 use Rattle.std.proofs.Common.{refl, ap, ◌∙◌}
-use Rattle.sas_task_judge.specs.TaskJudge.{state_at}
+use Rattle.sas_task_judge.specs.TaskJudge.{process_at}
 use Rattle.sas_task_judge.specs.TaskPlaces.{goal_facts}
 use Rattle.sas_task_judge.proofs.TaskMoves.{on}
 use Rattle.sas_task_judge.proofs.Stepping.{steps_with_more}
 use Rattle.sas_task_judge.proofs.task_judge.TaskJudge.goal_end.Goals as goal
 
 pub returns : goal.returns
-returns c = λ s f. (record { ranges = f.ranges; valued = f.valued; range = λ h. absurd cc }, on _ _ _ _ _ _ _ _ _ ((ap (λ place. state_at place c.args.self.now.left c.args.self.now.more s) c.requires.place) ∙ ap (λ more. goal_facts more s.parts) c.requires.all) c.in_ok-word_at.ensures refl (steps_with_more c.args.self.now _ _ _ c.requires.place _ c.requires.all refl))
+returns c = λ s f. (record { ranges = f.ranges; valued = f.valued; range = λ h. absurd cc }, on _ _ _ _ _ _ _ _ _ ((ap (λ place. process_at place c.args.self.now.left c.args.self.now.more s) c.requires.place) ∙ ap (λ more. goal_facts more s.parts) c.requires.all) c.in_ok-word_at.ensures refl (steps_with_more c.args.self.now _ _ _ c.requires.place _ c.requires.all refl))

@@ -1,9 +1,9 @@
 use Rattle.std.proofs.Common.{refl, ap, ◌∙◌}
-use Rattle.sas_task_judge.specs.TaskJudge.{state_at}
+use Rattle.sas_task_judge.specs.TaskJudge.{process_at}
 use Rattle.sas_task_judge.specs.TaskPlaces.{group_facts}
 use Rattle.sas_task_judge.proofs.TaskMoves.{on}
 use Rattle.sas_task_judge.proofs.Stepping.{group_end_steps}
 use Rattle.sas_task_judge.proofs.task_judge.TaskJudge.group_end.Goals as goal
 
 pub returns : goal.returns
-returns c = λ s f. (record { ranges = f.ranges; valued = f.valued; range = λ h. absurd cc }, on _ _ _ _ _ _ _ _ _ ((ap (λ place. state_at place c.args.self.now.left c.args.self.now.more s) c.requires.place) ∙ ap (λ more. group_facts c.args.self.now.left s.parts more s.facts) c.requires.all) c.in_ok-word_at.ensures refl (group_end_steps c.args.self.now _ c.requires.place c.requires.all))
+returns c = λ s f. (record { ranges = f.ranges; valued = f.valued; range = λ h. absurd cc }, on _ _ _ _ _ _ _ _ _ ((ap (λ place. process_at place c.args.self.now.left c.args.self.now.more s) c.requires.place) ∙ ap (λ more. group_facts c.args.self.now.left s.parts more s.facts) c.requires.all) c.in_ok-word_at.ensures refl (group_end_steps c.args.self.now _ c.requires.place c.requires.all))

@@ -1,7 +1,7 @@
 use Rattle.std.proofs.Common.{refl, true, ap, ◌∙◌, codes}
 use Rattle.sas_task_judge.proofs.TaskMoves.{on, moves_ahead}
 use Rattle.sas_task_format.specs.TaskFormat.{word}
-use Rattle.sas_task_judge.specs.TaskJudge.{state_at}
+use Rattle.sas_task_judge.specs.TaskJudge.{process_at}
 use Rattle.sas_task_judge.specs.TaskPlaces.{group_facts}
 use Rattle.sas_task_judge.proofs.Stepping.{group_end_steps}
 use Rattle.sas_task_judge.proofs.task_judge.TaskJudge.group_end_ahead.Goals as goal
@@ -9,5 +9,5 @@ use Rattle.sas_task_judge.proofs.task_judge.TaskJudge.group_end_ahead.Goals as g
 pub returns-clause-some : goal.returns-clause-some
 returns-clause-some c = moves_ahead _ _ _ _ _ (λ _. true) (word (codes "end_mutex_group")) c.in_ok-taken.ensures refl (λ line says s f. (
   record { ranges = f.ranges; valued = f.valued; range = λ h. absurd cc },
-  on _ _ _ _ _ _ _ _ _ ((ap (λ place. state_at place c.args.self.now.left c.args.self.now.more s) c.requires.place) ∙ ap (λ more. group_facts c.args.self.now.left s.parts more s.facts) c.requires.all) says refl (group_end_steps c.args.self.now _ c.requires.place c.requires.all),
+  on _ _ _ _ _ _ _ _ _ ((ap (λ place. process_at place c.args.self.now.left c.args.self.now.more s) c.requires.place) ∙ ap (λ more. group_facts c.args.self.now.left s.parts more s.facts) c.requires.all) says refl (group_end_steps c.args.self.now _ c.requires.place c.requires.all),
 ))

@@ -1,7 +1,7 @@
 use Rattle.std.proofs.Common.{rules, ◌≡◌, refl, ap, ◌∙◌}
 use Rattle.std.specs.Prelude.{Some}
 use Rattle.std.specs.Result.{result_err}
-use Rattle.sas_task_judge.specs.TaskJudge.{state_at}
+use Rattle.sas_task_judge.specs.TaskJudge.{process_at}
 use Rattle.sas_task_judge.specs.TaskPlaces.{rule_conditions}
 use Rattle.sas_task_judge.proofs.TaskMoves.{off, refused_line}
 use Rattle.sas_task_judge.proofs.TaskRanges.{judged_as, head_same}
@@ -11,7 +11,7 @@ pub returns-in_err-head : goal.returns-in_err-head
 returns-in_err-head c =
     let same : result_err c.from_residual.result ≡ Some c.in_err-head.field-0.0 = search rules in
     refused_line c.args.self.now _ c.args.line.now _ _ same c.in_err-head.ensures.0
-    (λ s f. off _ _ _ _ _ _ ((ap (λ place. state_at place c.args.self.now.left c.args.self.now.more s) c.requires.place) ∙ ap (λ more. rule_conditions c.args.self.now.left s.parts more s.facts) c.requires.all)
+    (λ s f. off _ _ _ _ _ _ ((ap (λ place. process_at place c.args.self.now.left c.args.self.now.more s) c.requires.place) ∙ ap (λ more. rule_conditions c.args.self.now.left s.parts more s.facts) c.requires.all)
     (judged_as _ _ _ (head_same s c.args.self.now f) _ _ c.in_err-head.ensures.1)) refl
 
 pub returns : goal.returns

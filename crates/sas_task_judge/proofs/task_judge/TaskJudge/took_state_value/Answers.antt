@@ -1,5 +1,5 @@
 use Rattle.std.proofs.Common.{sym, ap, ◌∙◌, ◌∷◌, [], ◌++◌, nat_lt, arith, length-append}
-use Rattle.sas_task_judge.specs.TaskJudge.{state_at}
+use Rattle.sas_task_judge.specs.TaskJudge.{process_at}
 use Rattle.sas_task_format.specs.TaskProcess.{number_in}
 use Rattle.sas_task_judge.proofs.TaskMoves.{on, state_goes_on}
 use Rattle.sas_task_judge.proofs.TaskRanges.{takes_as, range_same}
@@ -9,5 +9,5 @@ use Rattle.sas_task_judge.proofs.task_judge.TaskJudge.took_state_value.Goals as 
 pub returns : goal.returns
 returns c = λ line says s f. (
   record { ranges = f.ranges; valued = omega (arith, f.valued, length-append s.parts.init (c.args.value ∷ [])); range = λ h. absurd (let other = sym c.requires.place ∙ h in cc) },
-  on _ _ _ _ _ _ _ _ _ (state_goes_on c.args.self.now s c.requires.place c.requires.more f) (takes_as _ _ _ (λ i. ap (nat_lt (number_in i)) (range_same s c.args.self.now f)) _ says.0, says.1) (ap (λ place. state_at place c.args.self.now.left c.args.self.now.more (record s { parts = record s.parts { init = s.parts.init ++ c.args.value ∷ [] } })) (sym c.requires.place)) (value_steps c.args.self.now _ c.requires.place c.requires.more),
+  on _ _ _ _ _ _ _ _ _ (state_goes_on c.args.self.now s c.requires.place c.requires.more f) (takes_as _ _ _ (λ i. ap (nat_lt (number_in i)) (range_same s c.args.self.now f)) _ says.0, says.1) (ap (λ place. process_at place c.args.self.now.left c.args.self.now.more (record s { parts = record s.parts { init = s.parts.init ++ c.args.value ∷ [] } })) (sym c.requires.place)) (value_steps c.args.self.now _ c.requires.place c.requires.more),
 )

@@ -1,5 +1,5 @@
 use Rattle.std.proofs.Common.{refl, sym, ap, ◌∙◌, ◌∷◌, [], ◌++◌, arith}
-use Rattle.sas_task_judge.specs.TaskJudge.{state_at}
+use Rattle.sas_task_judge.specs.TaskJudge.{process_at}
 use Rattle.sas_task_line.specs.TaskRanges.{ranges_of}
 use Rattle.sas_task_judge.specs.TaskPlaces.{variable_values}
 use Rattle.sas_task_judge.proofs.TaskMoves.{on}
@@ -14,5 +14,5 @@ returns c = λ s f. (
     valued = f.valued;
     range = λ h. absurd cc;
   },
-  on _ _ _ _ _ _ _ _ _ ((ap (λ place. state_at place c.args.self.now.left c.args.self.now.more s) c.requires.place) ∙ ap (λ more. variable_values c.args.self.now.left s.parts s.name s.layer more s.values) c.requires.all) c.in_ok-word_at.ensures refl (variable_end_steps c.args.self.now _ _ c.requires.place c.requires.all c.in_ok-push.ensures.ok),
+  on _ _ _ _ _ _ _ _ _ ((ap (λ place. process_at place c.args.self.now.left c.args.self.now.more s) c.requires.place) ∙ ap (λ more. variable_values c.args.self.now.left s.parts s.name s.layer more s.values) c.requires.all) c.in_ok-word_at.ensures refl (variable_end_steps c.args.self.now _ _ c.requires.place c.requires.all c.in_ok-push.ensures.ok),
 )

@@ -1,5 +1,5 @@
 use Rattle.std.proofs.Common.{refl, sym, ap, ◌∙◌, ◌∷◌, [], ◌++◌, ◌-◌, arith, length-append}
-use Rattle.sas_task_judge.specs.TaskJudge.{state_at}
+use Rattle.sas_task_judge.specs.TaskJudge.{process_at}
 use Rattle.sas_task_judge.specs.TaskPlaces.{variable_values}
 use Rattle.sas_task_judge.proofs.TaskMoves.{on, next_of}
 use Rattle.sas_task_format.specs.TaskFormat.{name}
@@ -16,6 +16,6 @@ returns-clause-some c =
       before_end = spells.before_end;
       moves = λ s f. (
         record { ranges = f.ranges; valued = f.valued; range = λ h. omega (arith, f.range c.requires.place, c.requires.more, length-append s.values (line ∷ [])) },
-        on _ _ _ _ _ _ _ (name line) _ ((ap (λ place. state_at place c.args.self.now.left c.args.self.now.more s) c.requires.place) ∙ ap (λ more. variable_values c.args.self.now.left s.parts s.name s.layer more s.values) (next_of _ c.requires.more)) (record { slot = refl; fits = tt; good = c.in_ok-name.ensures.0 }, refl) (ap (λ place. state_at place c.args.self.now.left (c.args.self.now.more - 1) (record s { values = s.values ++ line ∷ [] })) (sym c.requires.place)) (list_steps _ values_count (λ n. refl) c.args.self.now _ c.requires.place c.requires.more),
+        on _ _ _ _ _ _ _ (name line) _ ((ap (λ place. process_at place c.args.self.now.left c.args.self.now.more s) c.requires.place) ∙ ap (λ more. variable_values c.args.self.now.left s.parts s.name s.layer more s.values) (next_of _ c.requires.more)) (record { slot = refl; fits = tt; good = c.in_ok-name.ensures.0 }, refl) (ap (λ place. process_at place c.args.self.now.left (c.args.self.now.more - 1) (record s { values = s.values ++ line ∷ [] })) (sym c.requires.place)) (list_steps _ values_count (λ n. refl) c.args.self.now _ c.requires.place c.requires.more),
       );
     }

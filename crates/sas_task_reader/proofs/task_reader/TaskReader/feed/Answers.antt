@@ -4,14 +4,14 @@ use Rattle.sas_task_format.specs.Process.{process_node}
 use Rattle.sas_task_format.specs.TaskFormat.{task_format, TaskLineFits}
 use Rattle.sas_task_format.specs.TaskProcess.{task_start}
 use Rattle.sas_task_format.proofs.TaskGrammar.{task_grammar}
-use Rattle.sas_task_judge.specs.TaskMachine.{LedTo, EndedAt, RejectsAt, Stopped}
+use Rattle.sas_task_judge.specs.TaskMachine.{LedTo, EndedAt, RejectsAt, MachineStopped}
 use Rattle.sas_reader.proofs.Reading.{feeds}
 use Rattle.sas_task_reader.proofs.TaskStanding.{reader_follows}
 use Rattle.sas_task_reader.proofs.task_reader.TaskReader.feed.Goals as goal
 
 pub returns : goal.returns
 returns c =
-    let f = feeds task_format TaskLineFits process_node task_start task_grammar LedTo EndedAt RejectsAt Stopped reader_follows _ _ _ _ c.feed.ensures in
+    let f = feeds task_format TaskLineFits process_node task_start task_grammar LedTo EndedAt RejectsAt MachineStopped reader_follows _ _ _ _ c.feed.ensures in
     record { stands = f.stands; live = f.live; fault = f.fault; answer = f.answer; kept = f.kept; kind = f.kind; memory = f.memory; limit = f.limit }
 
 pub invariant_of-self : goal.invariant_of-self

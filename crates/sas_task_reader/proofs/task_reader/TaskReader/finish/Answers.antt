@@ -9,7 +9,7 @@ use Rattle.sas_task_format.specs.TaskFormat.{task_format, TaskLineFits}
 use Rattle.sas_task_format.specs.TaskProcess.{task_start}
 use Rattle.sas_task_format.proofs.TaskGrammar.{task_grammar}
 use Rattle.sas_task_line.specs.declared.so_far.SoFar.{SoFar}
-use Rattle.sas_task_judge.specs.TaskMachine.{LedTo, EndedAt, RejectsAt, Stopped}
+use Rattle.sas_task_judge.specs.TaskMachine.{LedTo, EndedAt, RejectsAt, MachineStopped}
 use Rattle.sas_reader.specs.Reading.{Finishes}
 use Rattle.sas_task_reader.specs.TaskReader.{task_view}
 use Rattle.sas_reader.proofs.Reading.{end_fault}
@@ -37,7 +37,7 @@ returns-in-Err c =
     let end = c.in-Err.ensures in
     subst (λ (f : Fault). Finishes task_view c.args.self (Err f)) (sym c.into_fault.ensures) (record {
       read = tt;
-      fault = end_fault task_format TaskLineFits process_node task_start task_grammar LedTo EndedAt RejectsAt Stopped reader_follows c.args.self.reader c.in-Err.refused end.refused;
+      fault = end_fault task_format TaskLineFits process_node task_start task_grammar LedTo EndedAt RejectsAt MachineStopped reader_follows c.args.self.reader c.in-Err.refused end.refused;
       memory = end.refused.memory;
       kept = λ f e. ap (λ (x : Fault). Err x) (end.kept f e);
     })

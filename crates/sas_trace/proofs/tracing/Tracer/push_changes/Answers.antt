@@ -1,14 +1,14 @@
 -- The variables that were listed, in order.
 use Rattle.std.proofs.Common.{ℕ, List, refl, subst}
 use Rattle.std.proofs.lemmas.List.Sorted.{IsNonDecreasingBy-from_sort}
-use Rattle.sas_trace.specs.Changes.{CoverChanges}
+use Rattle.sas_trace.specs.Changes.{ListCoversChanges}
 use Rattle.sas_trace.proofs.Listing.{covers_permuted}
 use Rattle.sas_trace.proofs.tracing.Tracer.push_changes.Goals as goal
 
 pub push_listed-requires-clause-cover : goal.push_listed-requires-clause-cover
 push_listed-requires-clause-cover g c =
     let listed = c.list_changes.new.listed.items in
-    let covers = subst (λ (s : List ℕ). CoverChanges s c.args.execution.now.state listed) c.as_slice.ensures.value (c.if-list_changes.ensures refl) in
+    let covers = subst (λ (s : List ℕ). ListCoversChanges s c.args.execution.now.state listed) c.as_slice.ensures.value (c.if-list_changes.ensures refl) in
     rw c.state.ensures.now (covers_permuted c.args.self.now.printed.items c.args.execution.now.state listed c.sort_unstable.new.self.items c.sort_unstable.ensures.permutation covers)
 
 pub push_listed-requires-clause-ascending : goal.push_listed-requires-clause-ascending

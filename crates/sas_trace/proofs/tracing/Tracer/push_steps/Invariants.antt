@@ -2,7 +2,7 @@
 use Rattle.std.proofs.Common.{◌≡◌}
 use Rattle.sas_output.specs.Sink.{Pushes}
 use Rattle.sas_run.specs.Runs.{Run}
-use Rattle.sas_trace.specs.Tracing.{StandsAt}
+use Rattle.sas_trace.specs.Tracing.{HasTraced}
 use Rattle.sas_trace.proofs.Numbers.{said}
 use Rattle.sas_trace.proofs.RunTexts.{step_text}
 use Rattle.sas_trace.proofs.tracing.Tracer.push_steps.Given as goal
@@ -11,7 +11,7 @@ abbrev pub invariant-loop-before : goal.invariant-loop-before
 invariant-loop-before g l = record {
   made : l.execution.made ≡ l.before;
   operators : l.execution.operators ≡ l.fn.execution.operators;
-  so_far : (run : Run) → StandsAt l.task run l.fn.execution l.fn.self.printed.items
-      → StandsAt l.task run l.execution l.self.printed.items
+  so_far : (run : Run) → HasTraced l.task run l.fn.execution l.fn.self.printed.items
+      → HasTraced l.task run l.execution l.self.printed.items
       × Pushes g.W.Write.contents l.fn.sink l.sink (said (step_text l.task run) l.before);
 }

@@ -1,10 +1,10 @@
 -- The rules so far were looked at.
 use Rattle.std.proofs.Common.{take}
-use Rattle.sas_why.specs.Rounds.{InRound, GoesOn}
+use Rattle.sas_why.specs.Rounds.{InRound, ContinuesRound}
 use Rattle.sas_why.proofs.rounds.Rounds.look_at_all.Given as goal
 
 abbrev pub invariant-loop-rule : goal.invariant-loop-rule
 invariant-loop-rule g l = record {
   looked : InRound l.task l.state l.self (take l.rule-index l.rules);
-  goes_on : GoesOn l.fn.self l.self;
+  goes_on : ContinuesRound l.fn.self l.self;
 }
