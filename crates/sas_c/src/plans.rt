@@ -28,7 +28,7 @@ pub extern "C" fn sas_task_plan(
     room: &mut [u8],
     size: &mut usize,
 ) -> u32
-    ensures tells { IfSome task.old.pointer.task (λ prepared.
+    ensures answers { IfSome task.old.pointer.task (λ prepared.
         Returns (VerdictOut VerdictAnswer prepared.held plan.now)
         room.old room.new size.new result) }
     ensures bytes { (b : List ℕ) → HoldsTask b task.old.pointer.task
@@ -57,7 +57,7 @@ pub extern "C" fn sas_task_plan_why(
     room: &mut [u8],
     size: &mut usize,
 ) -> u32
-    ensures tells { IfSome task.old.pointer.task (λ prepared. Returns
+    ensures answers { IfSome task.old.pointer.task (λ prepared. Returns
         (WithReasons (VerdictOut WhyVerdict prepared.held plan.now) (PlanFileReasons plan.now))
         room.old room.new size.new result) }
     ensures bytes { (b : List ℕ) → HoldsTask b task.old.pointer.task
@@ -86,7 +86,7 @@ pub extern "C" fn sas_task_trace(
     room: &mut [u8],
     size: &mut usize,
 ) -> u32
-    ensures tells { IfSome task.old.pointer.task (λ prepared.
+    ensures answers { IfSome task.old.pointer.task (λ prepared.
         Returns (VerdictOut TraceVerdict prepared.held plan.now)
         room.old room.new size.new result) }
     ensures bytes { (b : List ℕ) → HoldsTask b task.old.pointer.task
@@ -114,7 +114,7 @@ fn judge(
     room: &mut [u8],
     size: &mut usize,
 ) -> u32
-    ensures tells { Returns (VerdictOut VerdictAnswer prepared.old.held plan.now)
+    ensures answers { Returns (VerdictOut VerdictAnswer prepared.old.held plan.now)
         room.old room.new size.new result }
     ensures same { prepared.new ≡ prepared.old }
 {

@@ -19,7 +19,7 @@ pub extern "C" fn sas_plan(
     room: &mut [u8],
     size: &mut usize,
 ) -> u32
-    ensures tells { Returns (PlanOut task.now plan.now) room.old room.new size.new result }
+    ensures answers { Returns (PlanOut task.now plan.now) room.old room.new size.new result }
     ensures headline { ReturnsHeadline task.now plan.now room.new size.new result }
 {
     answer(alloc, Asked::new(Request::Plan, task, plan), room, size)
@@ -28,7 +28,7 @@ pub extern "C" fn sas_plan(
 /// Answers whether the task is layered.
 #[unsafe(no_mangle)]
 pub extern "C" fn sas_check(alloc: Global, task: &[u8], room: &mut [u8], size: &mut usize) -> u32
-    ensures tells { Returns (CheckOut task.now) room.old room.new size.new result }
+    ensures answers { Returns (CheckOut task.now) room.old room.new size.new result }
 {
     answer(alloc, Asked::new(Request::Check, task, b""), room, size)
 }
@@ -36,7 +36,7 @@ pub extern "C" fn sas_check(alloc: Global, task: &[u8], room: &mut [u8], size: &
 /// Answers which mutex groups of the task are exclusive.
 #[unsafe(no_mangle)]
 pub extern "C" fn sas_mutex(alloc: Global, task: &[u8], room: &mut [u8], size: &mut usize) -> u32
-    ensures tells { Returns (MutexOut task.now) room.old room.new size.new result }
+    ensures answers { Returns (MutexOut task.now) room.old room.new size.new result }
     ensures invariants { ReturnsInvariants task.now room.new size.new result }
 {
     answer(alloc, Asked::new(Request::Mutex, task, b""), room, size)
@@ -45,7 +45,7 @@ pub extern "C" fn sas_mutex(alloc: Global, task: &[u8], room: &mut [u8], size: &
 /// Answers with the summary of the task.
 #[unsafe(no_mangle)]
 pub extern "C" fn sas_show(alloc: Global, task: &[u8], room: &mut [u8], size: &mut usize) -> u32
-    ensures tells { Returns (ShowOut task.now) room.old room.new size.new result }
+    ensures answers { Returns (ShowOut task.now) room.old room.new size.new result }
 {
     answer(alloc, Asked::new(Request::Show, task, b""), room, size)
 }
@@ -53,7 +53,7 @@ pub extern "C" fn sas_show(alloc: Global, task: &[u8], room: &mut [u8], size: &m
 /// Answers with the task, printed again.
 #[unsafe(no_mangle)]
 pub extern "C" fn sas_print(alloc: Global, task: &[u8], room: &mut [u8], size: &mut usize) -> u32
-    ensures tells { Returns (PrintOut task.now) room.old room.new size.new result }
+    ensures answers { Returns (PrintOut task.now) room.old room.new size.new result }
 {
     answer(alloc, Asked::new(Request::Print, task, b""), room, size)
 }
@@ -61,7 +61,7 @@ pub extern "C" fn sas_print(alloc: Global, task: &[u8], room: &mut [u8], size: &
 /// Answers with the steps of the plan and its cost, printed again.
 #[unsafe(no_mangle)]
 pub extern "C" fn sas_steps(alloc: Global, plan: &[u8], room: &mut [u8], size: &mut usize) -> u32
-    ensures tells { Returns (StepsOut plan.now) room.old room.new size.new result }
+    ensures answers { Returns (StepsOut plan.now) room.old room.new size.new result }
 {
     answer(alloc, Asked::new(Request::Steps, b"", plan), room, size)
 }
@@ -75,7 +75,7 @@ pub extern "C" fn sas_plan_why(
     room: &mut [u8],
     size: &mut usize,
 ) -> u32
-    ensures tells { Returns (OutWhy Request.Plan task.now plan.now)
+    ensures answers { Returns (OutWhy Request.Plan task.now plan.now)
         room.old room.new size.new result }
     ensures headline { ReturnsHeadline task.now plan.now room.new size.new result }
 {
@@ -90,7 +90,7 @@ pub extern "C" fn sas_check_why(
     room: &mut [u8],
     size: &mut usize,
 ) -> u32
-    ensures tells { Returns (OutWhy Request.Check task.now []) room.old room.new size.new result }
+    ensures answers { Returns (OutWhy Request.Check task.now []) room.old room.new size.new result }
 {
     answer_why(alloc, Asked::new(Request::Check, task, b""), room, size)
 }
@@ -103,7 +103,7 @@ pub extern "C" fn sas_mutex_why(
     room: &mut [u8],
     size: &mut usize,
 ) -> u32
-    ensures tells { Returns (OutWhy Request.Mutex task.now []) room.old room.new size.new result }
+    ensures answers { Returns (OutWhy Request.Mutex task.now []) room.old room.new size.new result }
     ensures invariants { ReturnsInvariants task.now room.new size.new result }
 {
     answer_why(alloc, Asked::new(Request::Mutex, task, b""), room, size)
@@ -118,7 +118,7 @@ pub extern "C" fn sas_trace(
     room: &mut [u8],
     size: &mut usize,
 ) -> u32
-    ensures tells { Returns (TraceOut task.now plan.now) room.old room.new size.new result }
+    ensures answers { Returns (TraceOut task.now plan.now) room.old room.new size.new result }
     ensures headline { ReturnsLastLine task.now plan.now room.new size.new result }
 {
     answer_trace(alloc, task, plan, room, size)

@@ -26,7 +26,7 @@ pub extern "C" fn sas_task_read(
     room: &mut [u8],
     size: &mut usize,
 ) -> u32
-    ensures tells { Returns (CheckOut bytes.now) room.old room.new size.new result }
+    ensures answers { Returns (CheckOut bytes.now) room.old room.new size.new result }
     ensures held { result ≡ 0 → HoldsTask bytes.now task.new.pointer.task }
     ensures none { (result ≡ 0 → ⊥) → task.new.pointer.task ≡ None }
 {
@@ -56,7 +56,7 @@ fn hold(
     size: &mut usize,
 ) -> u32
     requires { task.old.pointer.task ≡ None }
-    ensures tells { Returns (λ output. output ≡ layers_verdict None)
+    ensures answers { Returns (λ output. output ≡ layers_verdict None)
         room.old room.new size.new result }
     ensures held { result ≡ 0 → task.new.pointer.task ≡ Some (record { held = held }) }
     ensures none { (result ≡ 0 → ⊥) → task.new.pointer.task ≡ None }
@@ -70,7 +70,7 @@ fn hold(
 /// Writes that the task is layered, and holds it if there is room for that.
 fn tell_held(task: &mut SasTask, prepared: Box<Prepared>, room: &mut [u8], size: &mut usize) -> u32
     requires { task.old.pointer.task ≡ None }
-    ensures tells { Returns (λ output. output ≡ layers_verdict None)
+    ensures answers { Returns (λ output. output ≡ layers_verdict None)
         room.old room.new size.new result }
     ensures held { result ≡ 0 → task.new.pointer.task ≡ Some prepared.value }
     ensures none { (result ≡ 0 → ⊥) → task.new.pointer.task ≡ None }

@@ -50,7 +50,7 @@ impl Pieces {
 
     /// Adds the bytes to the text. If there is no room for them behind what is held, this is written first. If they are
     /// longer than a piece, they are then written themselves, without a copy. Not to be called after a failure.
-    pub fn push<W: Write>(&mut self, out: &mut Watched<W>, bytes: &[u8]) -> Result<(), Short>
+    pub(crate) fn push<W: Write>(&mut self, out: &mut Watched<W>, bytes: &[u8]) -> Result<(), Short>
         requires { out.old.failed ≡ false }
         ensures puts { PutsOrBreaks (W.contents out.old.device) (W.contents out.new.device)
             self.old self.new
@@ -68,7 +68,7 @@ impl Pieces {
     }
 
     /// Adds the bytes of these parts to the text, one after another. Not to be called after a failure.
-    pub fn push_all<W: Write>(&mut self, out: &mut Watched<W>, parts: &[&[u8]]) -> Result<(), Short>
+    pub(crate) fn push_all<W: Write>(&mut self, out: &mut Watched<W>, parts: &[&[u8]]) -> Result<(), Short>
         requires { out.old.failed ≡ false }
         ensures puts { PutsOrBreaks (W.contents out.old.device) (W.contents out.new.device)
             self.old self.new
@@ -82,7 +82,7 @@ impl Pieces {
     }
 
     /// Writes what is held. Not to be called after a failure.
-    pub fn flush<W: Write>(&mut self, out: &mut Watched<W>) -> Result<(), Short>
+    pub(crate) fn flush<W: Write>(&mut self, out: &mut Watched<W>) -> Result<(), Short>
         requires { out.old.failed ≡ false }
         ensures puts { PutsOrBreaks (W.contents out.old.device) (W.contents out.new.device)
             self.old self.new

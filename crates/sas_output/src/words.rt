@@ -61,7 +61,7 @@ impl Pieces {
     /// Adds the line and its end, LF, to the text. Not to be called after a failure. Where many lines are of this form it is faster
     /// than `push_line`: there is no list of words to be gone through.
     #[inline(always)]
-    pub fn push_numbered<W: Write>(
+    pub(crate) fn push_numbered<W: Write>(
         &mut self,
         out: &mut Watched<W>,
         line: Numbered<'_>,
@@ -102,7 +102,7 @@ impl Pieces {
 
     /// Adds the line and its end, LF, to the text. Not to be called after a failure.
     #[inline(always)]
-    pub fn push_line<W: Write>(
+    pub(crate) fn push_line<W: Write>(
         &mut self,
         out: &mut Watched<W>,
         line: Words<'_>,

@@ -5,13 +5,13 @@ use Rattle.sas_outputs.specs.Output.{CheckOut}
 use Rattle.sas_c.proofs.Tellings.{tells_by, tells_output, layered_out, never_yes, opens_ready, opens_refused}
 use Rattle.sas_c.proofs.tasks.sas_task_read.Goals as goal
 
-pub returns-in-Ok-Ready-clause-tells : goal.returns-in-Ok-Ready-clause-tells
-returns-in-Ok-Ready-clause-tells c =
+pub returns-in-Ok-Ready-clause-answers : goal.returns-in-Ok-Ready-clause-answers
+returns-in-Ok-Ready-clause-answers c =
     let opened = opens_ready c.args.bytes.now c.in-Ok-Ready.field-0 c.in-Ok-Ready.held c.in-Ok-Ready.field-0-is c.in-Ok-Ready.ensures.opens in
-    tells_by (λ o. o ≡ layers_verdict None) (CheckOut c.args.bytes.now) (layered_out c.in-Ok-Ready.held c.args.bytes.now opened.0 opened.1) _ _ _ _ c.hold.ensures.tells
+    tells_by (λ o. o ≡ layers_verdict None) (CheckOut c.args.bytes.now) (layered_out c.in-Ok-Ready.held c.args.bytes.now opened.0 opened.1) _ _ _ _ c.hold.ensures.answers
 
-pub returns-in-Ok-Refused-clause-tells : goal.returns-in-Ok-Refused-clause-tells
-returns-in-Ok-Refused-clause-tells c =
+pub returns-in-Ok-Refused-clause-answers : goal.returns-in-Ok-Refused-clause-answers
+returns-in-Ok-Refused-clause-answers c =
     let opened = opens_refused c.args.bytes.now c.in-Ok-Refused.field-0 c.in-Ok-Refused.told c.in-Ok-Refused.field-0-is c.in-Ok-Refused.ensures.opens in
     tells_output (CheckOut c.args.bytes.now) (output_told c.in-Ok-Refused.told) opened.0 _ _ _ _ c.tell_told.ensures
 
