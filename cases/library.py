@@ -381,7 +381,8 @@ def mixed_tests(_, library, __):
 
 def version_tests(program, library, _):
     """Yields the version of the library. They could show one that isn't that of the program."""
-    due = ended(program, "--version").stdout.split()[-1].decode()
+    ran = ended(program, "--version")
+    due = (ran.stdout + ran.stderr).split()[-1].decode()
     for name, version in (("the library", library.sas.version()), ("sas.py", library.sas.__version__)):
         yield f"version of {name}", [] if version == due else [f"{version}, not {due}"]
 

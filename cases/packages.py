@@ -40,7 +40,13 @@ plan invalid: step 2: not applicable
 plan invalid: goal fact 0 not reached
 plan invalid: goal fact 0 not reached
 plan valid: 4 steps, cost 4
-step 4 7 1 put f2 feed
+step 4 6 1 put f2 feed
+change 0 1 0 Atom lit(yard)
+change 1 1 0 Atom lit(hall)
+change 3 0 1 NegatedAtom free(feed)
+change 5 0 1 Atom in(f2, feed)
+change 6 1 0 Atom handempty()
+change 7 0 1 NegatedAtom outage()
 plan valid: 4 steps, cost 4
 """
 SHARED = "libsas.so.1"
