@@ -259,11 +259,12 @@ def output_device(case, folder):
 
 
 def command_of(program, case, folder):
-    """Returns the program with its words, and what sets its limits and closes its streams before it, where there is any of
+    """Returns the program with its words, and what closes its streams and sets its limits before it, where there is any of
     that."""
     words = [program, *(as_bytes(word.replace("FOLDER", folder)) for word in case["words"])]
-    before = [line.format(case[name] // size) for name, size, line in LIMITS if name in case]
-    before += [CLOSING[name] for name in case.get("closed", ())]
+    # the shell needs some files itself to close a stream
+    before = [CLOSING[name] for name in case.get("closed", ())]
+    before += [line.format(case[name] // size) for name, size, line in LIMITS if name in case]
     return ["sh", "-c", "; ".join([*before, 'exec "$@"']), "", *words] if before else words
 
 
