@@ -1,12 +1,6 @@
 -- What holds of answers about a value.
-use Rattle.std.proofs.Common.{◌≡◌, Result, Ok, Err}
-use Rattle.std.specs.Prelude.{IfOk}
+use Rattle.std.proofs.Common.{◌≡◌}
 use Rattle.sas_output.specs.Ending.{Output}
-
--- what is so of the value is so in other words
-pub so_if_ok : {A E : Type 0} {P Q : A → Type 0} (r : Result A E) → IfOk r P → ((a : A) → P a → Q a) → IfOk r Q
-so_if_ok (Ok a) h so = so a h
-so_if_ok (Err e) h so = tt
 
 -- a value has one answer
 abbrev pub OneAnswer : {V : Type 0} → (V → Output → Type 0) → Type 0

@@ -1,30 +1,13 @@
 // Whether a task is layered, as an answer.
 ghost use Rattle.std.specs.Prelude.{◌≡◌, Some, None, IfOk, option_map};
-ghost use Rattle.sas_answers.specs.Answers.{CheckAnswer, layers_refusal, layers_verdict};
+ghost use Rattle.sas_answers.specs.Answers.{layers_refusal, layers_verdict};
 ghost use Rattle.sas_output.specs.Ending.{output_told};
 ghost use Rattle.sas_answers.specs.LayerWords.{layer_words, layers_line, words_at_part};
 
-use sas_flat::FlatTask;
 use sas_lines::{push_line, push_number};
-use sas_meaning::{LayerFault, Layered};
+use sas_meaning::LayerFault;
 use sas_output::{Status, Told};
 use std::alloc::{AllocError, Global};
-
-/// Returns the answer about the layers of a task.
-pub fn layers_answer(alloc: Global, task: FlatTask) -> Result<Told, AllocError>
-    ensures { IfOk result (λ a. CheckAnswer task (output_told a)) }
-{
-    match Layered::new(alloc, task) {
-        Ok(layered) => {
-            drop(layered);
-            accept_layers(alloc)
-        }
-        Err((task, fault)) => {
-            drop(task);
-            refuse_layers(alloc, fault)
-        }
-    }
-}
 
 /// Returns the answer about a task that is layered.
 pub fn accept_layers(alloc: Global) -> Result<Told, AllocError>
