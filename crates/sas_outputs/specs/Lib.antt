@@ -5,4 +5,5 @@ pub mod FileLine
 pub mod FileReasons
 pub mod Laws
 pub mod Output
+pub mod EndsFile
 pub mod Headline

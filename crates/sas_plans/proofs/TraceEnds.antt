@@ -31,7 +31,7 @@ use Rattle.sas_outputs.proofs.Outputs.{refused_kind, reading_of_refusal, takes_n
 use Rattle.sas_outputs.proofs.PlanOutputs.{NoAnswer, RefusedOut, told_fault, first_alone, second_alone, refused_out, judged_out, unlayered_out}
 use Rattle.sas_trace.specs.Traced.{TraceVerdict, IsTraced}
 use Rattle.sas_plans.specs.TraceOut.{TraceOut}
-use Rattle.sas_plans.specs.TraceSteps.{EndsFile}
+use Rattle.sas_outputs.specs.EndsFile.{EndsFile}
 
 -- ---- outputs that went out
 

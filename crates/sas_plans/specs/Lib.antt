@@ -12,4 +12,3 @@ pub mod TraceOut
 pub mod Laws
 pub mod Opened
 pub mod Judging
-pub mod TraceSteps

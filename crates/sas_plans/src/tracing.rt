@@ -7,7 +7,7 @@ ghost use Rattle.sas_answers.specs.Answers.{layers_refusal};
 ghost use Rattle.sas_outputs.specs.Output.{IsLayeredText, VerdictOut, refusal};
 ghost use Rattle.sas_trace.specs.Traced.{TraceVerdict};
 ghost use Rattle.sas_plans.specs.TraceOut.{TraceOut};
-ghost use Rattle.sas_plans.specs.TraceSteps.{EndsFile};
+ghost use Rattle.sas_outputs.specs.EndsFile.{EndsFile};
 
 use sas_answers::refuse_layers;
 use sas_flat::FlatTask;

@@ -43,7 +43,8 @@ use Rattle.sas_outputs.proofs.Outputs.{refused_kind, too_long_else, reading_of_r
 use Rattle.sas_outputs.proofs.PlanOutputs.{told_fault}
 use Rattle.sas_requests.specs.declared.detail.Detail.{Detail}
 use Rattle.sas_requests.specs.declared.detail.Detail.TheVariants.{Plain, Reasons}
-use Rattle.sas_requests.specs.Answering.{FileBy, TaskBy, PlanBy, UnlayeredBy, layers_by, refusal_by, task_refusal_lines, plan_refusal_lines, EndsFile}
+use Rattle.sas_outputs.specs.EndsFile.{EndsFile}
+use Rattle.sas_requests.specs.Answering.{FileBy, TaskBy, PlanBy, UnlayeredBy, layers_by, refusal_by, task_refusal_lines, plan_refusal_lines}
 use Rattle.sas_requests.specs.FileReasons.{FaultReasons, told, past_limit, ExplainsTask, ExplainsPlan}
 use Rattle.sas_requests.proofs.RefusalLaws.{task_telling, plan_telling}
 use Rattle.sas_requests.proofs.RefusalReasons.{no_reasons, some_of}

@@ -36,7 +36,8 @@ use Rattle.sas_outputs.proofs.Outputs.{takes_nothing}
 use Rattle.sas_outputs.proofs.PlanOutputs.{plain_refuses, first_alone, second_alone, judged_out, unlayered_out}
 use Rattle.sas_requests.specs.declared.detail.Detail.{Detail}
 use Rattle.sas_requests.specs.declared.detail.Detail.TheVariants.{Plain, Reasons}
-use Rattle.sas_requests.specs.Answering.{CheckBy, MutexBy, VerdictBy, UnlayeredBy, layers_by, TaskBy, PlanBy, OutBy, EndsFile, EndsRequest}
+use Rattle.sas_outputs.specs.EndsFile.{EndsFile}
+use Rattle.sas_requests.specs.Answering.{CheckBy, MutexBy, VerdictBy, UnlayeredBy, layers_by, TaskBy, PlanBy, OutBy, EndsRequest}
 use Rattle.sas_requests.specs.FileReasons.{ReadReasons, ExplainsTask, LayersFileReasons, JudgedFileReasons}
 use Rattle.sas_requests.proofs.FileEnds.{ends_by}
 use Rattle.sas_requests.proofs.InvariantGroups.{plain_groups, invariants_of}

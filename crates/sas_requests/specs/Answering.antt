@@ -98,21 +98,8 @@ OutBy Reasons request b c output = OutWhy request b c output
 
 -- ---- how an output went out
 
--- About one file. `left` maps a device to the bytes that it has left, where these are known.
--- `FileOutput` is the output about the bytes of a file. `Sent` holds of the bytes that were written.
-module _ {D : Type 0} (left : D → Option (List ℕ))
-    (FileOutput : List ℕ → Option Output → Type 0) (Sent : List ℕ → Type 0) where
-  pub record EndsFile (old new : Device D) (result : Result Status ToolFault) : Type 0 where
-    -- of a file whose bytes are known, its output went out
-    pub output : (bytes : List ℕ) → left old.device ≡ Some bytes
-        → EndsCounting (FileOutput bytes) Sent result
-    -- and of any file, the output for the bytes that were read of it
-    pub taken : IsDecided result → (bytes : List ℕ)
-        × Consumes (left old.device) (left new.device) bytes
-        × EndsCounting (FileOutput bytes) Sent result
-    pub reads : IsErrOf result fault.Read ↔ IsTrue new.failed
-
--- Of a request. `left_task` and `left_plan` map the devices to the bytes that they have left.
+-- Of a request. `left_task` and `left_plan` map the devices to the bytes that they have left. `Sent`
+-- holds of the bytes that were written.
 module _ {T P : Type 0} (left_task : T → Option (List ℕ)) (left_plan : P → Option (List ℕ))
     (Sent : List ℕ → Type 0) where
   pub record EndsRequest (detail : Detail) (request : Request) (old_task new_task : Device T)

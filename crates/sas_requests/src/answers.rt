@@ -8,7 +8,8 @@ ghost use Rattle.sas_output.specs.Ending.{Ends, EndsCounting, IsWrite};
 ghost use Rattle.sas_outputs.specs.Output.{PrintAnswer, ShowAnswer};
 ghost use Rattle.sas_plan_file.specs.PlanFormat.{plan_format};
 ghost use Rattle.sas_task_format.specs.TaskFormat.{task_format};
-ghost use Rattle.sas_requests.specs.Answering.{CheckBy, EndsFile, EndsRequest, MutexBy, PlanBy, TaskBy};
+ghost use Rattle.sas_outputs.specs.EndsFile.{EndsFile};
+ghost use Rattle.sas_requests.specs.Answering.{CheckBy, EndsRequest, MutexBy, PlanBy, TaskBy};
 
 use crate::detail::{Asked, Detail};
 use crate::plans::judge_files;

@@ -5,7 +5,8 @@ ghost use Rattle.std.specs.Io.KnownBytes.{Appends};
 ghost use Rattle.sas_why.specs.Verdict.{WhyVerdict};
 ghost use Rattle.sas_output.specs.Ending.{EndsCounting, IsWrite};
 ghost use Rattle.sas_outputs.specs.Output.{VerdictOut};
-ghost use Rattle.sas_requests.specs.Answering.{EndsFile, EndsRequest, PlanBy, VerdictBy};
+ghost use Rattle.sas_outputs.specs.EndsFile.{EndsFile};
+ghost use Rattle.sas_requests.specs.Answering.{EndsRequest, PlanBy, VerdictBy};
 ghost use Rattle.sas_requests.specs.FileReasons.{PlanFileReasons};
 ghost use Rattle.sas_requests.specs.Why.{WithReasons};
 

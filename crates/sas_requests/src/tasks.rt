@@ -6,7 +6,8 @@ ghost use Rattle.sas_meaning.specs.Layers.{IsLayered};
 ghost use Rattle.sas_output.specs.Ending.{EndsCounting, IsWrite};
 ghost use Rattle.sas_reader.specs.Devices.{ReadsAll, ValueOf};
 ghost use Rattle.sas_task_format.specs.TaskFormat.{task_format};
-ghost use Rattle.sas_requests.specs.Answering.{EndsFile, TaskBy, UnlayeredBy, layers_by};
+ghost use Rattle.sas_outputs.specs.EndsFile.{EndsFile};
+ghost use Rattle.sas_requests.specs.Answering.{TaskBy, UnlayeredBy, layers_by};
 
 use crate::detail::Detail;
 use crate::refusals::refuse_task;

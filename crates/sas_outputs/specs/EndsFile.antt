@@ -1,4 +1,4 @@
--- What the private step of a trace promises that reads a plan.
+-- How an answer about one file is written.
 use Rattle.std.specs.Prelude.{◌≡◌, ◌↔◌, ℕ, List, Option, Some, Result, IsErrOf, IsTrue}
 use Rattle.std.specs.Io.KnownBytes.{Consumes}
 use Rattle.sas_lines.specs.Device.{Device}
