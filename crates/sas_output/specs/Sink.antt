@@ -13,7 +13,8 @@ empty_piece = record { held = []; written = 0 }
 -- the first `short` bytes were written, and not all.
 abbrev pub PushedBy : Option (List ℕ) → Option (List ℕ) → Piece → ℕ → List ℕ → Bool → Type 0
 PushedBy start now piece short text false = Puts start now empty_piece piece text
-PushedBy start now piece short text true = Breaks start now empty_piece text (record { written = short })
+PushedBy start now piece short text true =
+    Breaks start now empty_piece text (record { written = short })
 
 module _ {W : Type 0} (contents : W → Option (List ℕ)) where
   -- the text was added since the device had this start

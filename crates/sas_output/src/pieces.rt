@@ -68,7 +68,11 @@ impl Pieces {
     }
 
     /// Adds the bytes of these parts to the text, one after another. Not to be called after a failure.
-    pub(crate) fn push_all<W: Write>(&mut self, out: &mut Watched<W>, parts: &[&[u8]]) -> Result<(), Short>
+    pub(crate) fn push_all<W: Write>(
+        &mut self,
+        out: &mut Watched<W>,
+        parts: &[&[u8]],
+    ) -> Result<(), Short>
         requires { out.old.failed ≡ false }
         ensures puts { PutsOrBreaks (W.contents out.old.device) (W.contents out.new.device)
             self.old self.new

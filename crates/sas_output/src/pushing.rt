@@ -80,7 +80,8 @@ fn push_line<W: Write>(sink: &mut Sink<'_, W>, named: &Named<'_>, line: Line)
 /// Adds the line that begins so, with this rest, and its end.
 fn push_rest<W: Write>(sink: &mut Sink<'_, W>, named: &Named<'_>, start: Start, rest: Rest)
     ensures { Pushes W.contents sink.old sink.new
-        (line_with start (rest_words named.now.task.now (steps_of named.now.plan) rest) ++ 10 ∷ []) }
+        (line_with start (rest_words named.now.task.now (steps_of named.now.plan) rest)
+        ++ 10 ∷ []) }
 {
     let task = named.task;
     match rest {

@@ -77,7 +77,8 @@ impl<'w, W: Write> Sink<'w, W> {
     /// Writes what is held back, and returns the status, or that a write failed.
     pub fn finish(&mut self, status: Status) -> Result<Status, ToolFault>
         ensures same { self.new.out.ghost_name ≡ self.old.out.ghost_name }
-        ensures ends { (start : Option (List ℕ)) (text : List ℕ) → Pushed W.contents start self.old text
+        ensures ends { (start : Option (List ℕ)) (text : List ℕ)
+            → Pushed W.contents start self.old text
             → EndsCounting (λ output. output ≡ Some (record { text = text; status = status }))
             (Appends start (W.contents self.new.out.now.device)) result }
         ensures write { IfErr result IsWrite }

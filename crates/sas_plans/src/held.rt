@@ -65,7 +65,8 @@ pub fn judge_bytes(
 ) -> Result<Told, ToolFault>
     ensures verdict { IfOk result (λ told.
         VerdictOut VerdictAnswer held.old plan.now (Some (output_told told))) }
-    ensures long { IsErrOf result ToolFault.TooLong → VerdictOut VerdictAnswer held.old plan.now None }
+    ensures long { IsErrOf result ToolFault.TooLong
+        → VerdictOut VerdictAnswer held.old plan.now None }
     ensures same { held.new ≡ held.old }
 {
     match flat_plan_of(alloc, plan) {

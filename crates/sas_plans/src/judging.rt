@@ -128,7 +128,8 @@ fn answer_about<T: Read, S: PlanInputs>(
 /// Returns the refusal of a task file for its fault, or why the run ends at it.
 fn refuse_task(alloc: Global, fault: Fault) -> Result<Told, JudgeFault>
     ensures ok { IfOk result (λ told. refusal (codes "task") fault ≡ Some (output_told told)) }
-    ensures long { IfErr result (λ e. tool_fault e ≡ ToolFault.TooLong → fault.kind ≡ Kind.TooLong) }
+    ensures long { IfErr result
+        (λ e. tool_fault e ≡ ToolFault.TooLong → fault.kind ≡ Kind.TooLong) }
     ensures read { IsErrOf result (JudgeFault.Tool ToolFault.Read) ↔ (fault.kind ≡ Kind.Read) }
     ensures writes { IfErr result (λ e. IsWrite (tool_fault e) → ⊥) }
     ensures task { IfErr result IsOfTask }
@@ -145,7 +146,8 @@ fn judge_plans<S: PlanInputs>(
     layered: Layered<FlatTask>,
     plans: &mut S,
 ) -> Result<Told, JudgeFault>
-    ensures judges { JudgesPlans layered (S.bytes plans.old) (S.labels plans.old) (answer_told result) }
+    ensures judges { JudgesPlans layered (S.bytes plans.old) (S.labels plans.old)
+        (answer_told result) }
     ensures opened { IfOk result
         (λ _. OpensFirst S.open_gives (length (S.labels plans.old)) plans.old plans.new) }
     ensures fault { IfErr result

@@ -54,7 +54,8 @@ fn tell_each<S: PlanInputs>(
     requires { text.old.items ≡ [] }
     ensures ok { IfOk result (AreTold held.old (S.bytes plans.old) (S.labels plans.old)
         (length (S.labels plans.old)) text.new.items) }
-    ensures err { IfErr result (IsOneUnsaid held.old (S.bytes plans.old) (length (S.labels plans.old))) }
+    ensures err { IfErr result
+        (IsOneUnsaid held.old (S.bytes plans.old) (length (S.labels plans.old))) }
     ensures opened { IfOk result
         (λ _. OpensFirst S.open_gives (length (S.labels plans.old)) plans.old plans.new) }
     ensures fault { IfErr result
@@ -105,7 +106,8 @@ fn tell_plan<S: PlanInputs>(
 
 /// Adds the label, and the line behind it.
 fn push_labelled(text: &mut Vec<u8>, label: &[u8], line: &[u8]) -> Result<(), AllocError>
-    ensures { OnOk result (text.new.items ≡ text.old.items ++ (label.now ++ codes ": " ++ line.now)) }
+    ensures { OnOk result (text.new.items
+        ≡ text.old.items ++ (label.now ++ codes ": " ++ line.now)) }
 {
     text.extend_from_slice(label)?;
     text.extend_from_slice(b": ")?;

@@ -14,9 +14,9 @@ use Rattle.sas_outputs.specs.declared.Request.TheVariants.{Show, Print, Steps, C
 use Rattle.sas_requests.specs.FileReasons.{RefusalReasons}
 use Rattle.sas_outputs.specs.Output.{Out, ShowOut, PrintOut, StepsOut, FileOut, PlanOutBy, IsLong}
 
--- The output for the bytes b of the task and c of the plan with the reasons of what was read: why a plan
--- isn't valid, a task isn't layered, or a mutex group isn't exclusive; or none if the file that decides
--- it is too long.
+-- The output for the bytes b of the task and c of the plan, with the reasons of what was read: why a
+-- plan isn't valid, a task isn't layered, or a mutex group isn't exclusive. There is none if the file
+-- that decides it is too long.
 abbrev pub OutOfRead : Request → List ℕ → List ℕ → Option Output → Type 0
 OutOfRead Show b c output = ShowOut b output
 OutOfRead Print b c output = PrintOut b output
