@@ -58,7 +58,7 @@ module _ (p : Parts) (s s' : List ℕ) where
       else []) e
 
   -- where it is that of s'
-  pub no_text : (printed : List ℕ) (var : ℕ) → get_or printed var 0 ≡ get_or s' var 0 → change_text p printed s' var ≡ []
+  no_text : (printed : List ℕ) (var : ℕ) → get_or printed var 0 ≡ get_or s' var 0 → change_text p printed s' var ≡ []
   no_text printed var e = ap (λ (b : Bool). if b then change_line p printed s' var ++ 10 ∷ [] else []) (is_same (get_or printed var 0) (get_or s' var 0) e)
 
   -- ---- up to a variable

@@ -16,14 +16,14 @@ module _ (says : ℕ → List ℕ) where
   -- and the next one
   pub said_more : (n : ℕ) → said n ++ says n ≡ said (n + 1)
   said_more n =
-      let first = map itself (range_with_len 0 n) in
-      sym (
+      let row = range_with_len 0 n in
+      let parts : said (n + 1) ≡ said n ++ says n =
       sym (flat_map-map says itself (range_with_len 0 (n + 1)))
       ∙ ap (flat_map says) (map-range_with_len_more itself 0 n n (omega arith))
-      ∙ flat_map-append says first (n ∷ [])
-      ∙ ap (λ (l : List ℕ). l ++ flat_map says (n ∷ [])) (flat_map-map says itself (range_with_len 0 n))
-      ∙ ap (λ (l : List ℕ). said n ++ l) (append-nil (says n))
-      )
+      ∙ flat_map-append says (map itself row) (n ∷ [])
+      ∙ ap (λ (l : List ℕ). l ++ flat_map says (n ∷ [])) (flat_map-map says itself row)
+      ∙ ap (λ (l : List ℕ). said n ++ l) (append-nil (says n)) in
+      sym parts
 
   -- some that say nothing
   pub said_quiet : (m n : ℕ) → ((j : ℕ) → m ≤ j → j < m + n → says j ≡ []) → said (m + n) ≡ said m

@@ -1,5 +1,5 @@
 -- One step more is made, and its lines pushed, as in the run.
-use Rattle.std.proofs.Common.{◌≡◌, ◌+◌, ◌<◌, length, ap, subst, ◌∙◌, arith}
+use Rattle.std.proofs.Common.{◌≡◌, ◌+◌, length, ap, subst, ◌∙◌, arith}
 use Rattle.sas_output.specs.Sink.{Pushes}
 use Rattle.sas_output.proofs.Pushing.{pushes_then}
 use Rattle.sas_run.specs.Executions.{next_operator}
