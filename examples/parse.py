@@ -2,6 +2,7 @@
 
     import parse
     parse.verdict("plan invalid: step 2: not applicable")  # ('invalid', {'reason': 'step 2: not applicable'})
+    parse.verdict(parse.run(["sas", "plan", "output.sas", "sas_plan"]))
 
 Fields are strings. A cost has at most 64 bits, and may be larger than 2^53.
 
@@ -12,6 +13,7 @@ Fields are strings. A cost has at most 64 bits, and may be larger than 2^53.
   of a run is its summary; in several runs, `verdicts` treats a line as a summary if it matches the lines before it.
 """
 import re
+import subprocess
 
 # a line of `plan`, `check` or `trace`, or a line of `plans` after its label
 VALID = r"^plan valid: (?P<steps>\d+) steps, cost (?P<cost>\d+)$"
@@ -28,6 +30,14 @@ LAYERS = r"^(?P<part>operator|rule) (?P<number>\d+): (?P<why>[a-z ]+)$"
 LABELLED = r"^(?P<label>.+): (?P<answer>plan (?:valid|invalid|refused): .+)$"
 SUMMARY = r"^(?P<plans>\d+) plans, (?P<valid>\d+) valid(?:, best cost (?P<cost>\d+): (?P<best>.+))?$"
 GROUP = r"^group (?P<group>\d+) (?P<verdict>exclusive|derived|not shown)(?:: (?P<why>initial state|operator \d+))?$"
+
+
+def run(command):
+    """Runs `sas` and returns what it prints. Raises subprocess.CalledProcessError if the exit status isn't that of an answer, 0 or 1."""
+    ran = subprocess.run(command, stdout=subprocess.PIPE, check=False)
+    if ran.returncode not in (0, 1):
+        raise subprocess.CalledProcessError(ran.returncode, command)
+    return ran.stdout.decode(errors="replace")
 
 
 def verdict(answer):
