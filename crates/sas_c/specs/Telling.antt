@@ -1,4 +1,4 @@
--- What a call of the library says: a number, and an answer in the caller's memory.
+-- What a call of the library returns: a number, and an answer in the caller's memory.
 use Rattle.std.specs.Prelude.{◌≡◌, ℕ, ◌<◌, ◌≤◌, List, ◌++◌, length, take, drop, Option, Some, None}
 use Rattle.sas_lines.specs.Lines.{text}
 use Rattle.sas_output.specs.declared.ending.Status.{Status}
@@ -35,10 +35,10 @@ pub record Returns (Out : Option Output → Type 0) (before room : List ℕ) (si
       × Out (Some output)
       × (size ≡ length output.text)
       × (length room < size)
-  -- 4: there is none, as an input is too long; and 3, that memory was refused, says nothing
+  -- 4: there is none, as an input is too long; 3, refused memory, says nothing of the output
   pub none : number ≡ 4 → Out None
   pub known : number < 5
-  -- behind a text the room is as it was, where there is none all of it is, and always as long
+  -- the room behind a text is as it was; from 2 on all of it is; its length never changes
   pub behind : number < 2 → drop size room ≡ drop size before
   pub same : 2 ≤ number → room ≡ before
   pub as_long : length room ≡ length before

@@ -23,7 +23,7 @@ use Rattle.sas_outputs.proofs.Outputs.{refused_kind, too_long_else, reading_of_r
 use Rattle.sas_outputs.proofs.WordedLines.{worded}
 use Rattle.sas_plans.specs.declared.verdicts.Verdict.{Verdict}
 use Rattle.sas_plans.specs.Judged.{HasCost}
-use Rattle.sas_plans.specs.Judging.{KnownBeginsWith, RefusesPlan, IsVerdict, JudgesPlan, cost_if, Judges}
+use Rattle.sas_plans.specs.Judging.{KnownBeginsWith, IsVerdictOnRefusal, IsVerdict, IsVerdictOnPlan, cost_if, Judges}
 
 -- ---- what was read of known bytes
 
@@ -38,7 +38,7 @@ cost_of : (c : List ℕ) (plan : PlanParts) (s : Status) (cost : Option ℕ) →
 cost_of c plan Yes cost reads e = (plan, reads.0, e)
 cost_of c plan No cost reads e = e
 
-read_verdict : (p : Parts) (c : List ℕ) (plan : PlanParts) (v : Verdict) → ReadsAs plan_format most_bytes c (Ok plan) → JudgesPlan p plan v → IsVerdict p c v
+read_verdict : (p : Parts) (c : List ℕ) (plan : PlanParts) (v : Verdict) → ReadsAs plan_format most_bytes c (Ok plan) → IsVerdictOnPlan p plan v → IsVerdict p c v
 read_verdict p c plan v reads (output, answer, line, cost) =
     (output, (Ok plan, reads, (output, answer, refl)), line, cost_of c plan output.status v.cost reads cost)
 
@@ -51,14 +51,14 @@ no_cost : (c : List ℕ) (s : Status) (cost : Option ℕ) → s ≡ No → cost 
 no_cost c Yes cost e none = absurd cc
 no_cost c No cost e none = none
 
-refused_verdict : (p : Parts) (c : List ℕ) (f : Fault) (v : Verdict) → RefusesPlan f v → (f.kind ≢ kinds.Memory → f.kind ≢ kinds.Read → ReadsAs plan_format most_bytes c (Err f)) → IsVerdict p c v
+refused_verdict : (p : Parts) (c : List ℕ) (f : Fault) (v : Verdict) → IsVerdictOnRefusal f v → (f.kind ≢ kinds.Memory → f.kind ≢ kinds.Read → ReadsAs plan_format most_bytes c (Err f)) → IsVerdict p c v
 refused_verdict p c f v (o, is, line, cost) fault =
     (o, file_refused plan_format (codes "plan") (VerdictAnswer p) c f o is fault, line, no_cost c o.status v.cost (refused_status (codes "plan") f o is) cost)
 
 -- ---- as it is read from a device
 
 module _ {D : Type 0} (left : D → Option (List ℕ)) (p : Parts) (old new : Device D) where
-  pub judges_read : (plan : PlanParts) (v : Verdict) → ReadsAll left plan_format (ValueOf plan_format) old new (Ok plan) → JudgesPlan p plan v → Judges p (left old.device) (Ok v)
+  pub judges_read : (plan : PlanParts) (v : Verdict) → ReadsAll left plan_format (ValueOf plan_format) old new (Ok plan) → IsVerdictOnPlan p plan v → Judges p (left old.device) (Ok v)
   judges_read plan v h tells = record {
     output = λ c known. read_verdict p c plan v (known_answer left plan_format (ValueOf plan_format) old new plan c h known) tells;
     taken = λ decided.
@@ -68,7 +68,7 @@ module _ {D : Type 0} (left : D → Option (List ℕ)) (p : Parts) (old new : De
   }
 
   module _ (f : Fault) (h : ReadsAll left plan_format (ValueOf plan_format) old new (Err f)) where
-    judges_refused : (v : Verdict) → RefusesPlan f v → Judges p (left old.device) (Ok v)
+    judges_refused : (v : Verdict) → IsVerdictOnRefusal f v → Judges p (left old.device) (Ok v)
     judges_refused v is = record {
       output = λ c known. refused_verdict p c f v is (known_fault left plan_format (ValueOf plan_format) old new f c h known);
       taken = λ decided.
@@ -99,7 +99,7 @@ module _ {D : Type 0} (left : D → Option (List ℕ)) (p : Parts) (old new : De
     judges_none tool_fault.Read long writes = record { output = λ c known e. absurd cc; taken = λ decided. absurd decided; writes = writes }
     judges_none (tool_fault.Write n) long writes = absurd (writes tt)
 
-    pub judges_fault : (r : Result Verdict ToolFault) → IfOk r (RefusesPlan f) → (IsErrOf r tool_fault.TooLong → f.kind ≡ kinds.TooLong) → IfErr r (λ e. IsWrite e → ⊥) → Judges p (left old.device) r
+    pub judges_fault : (r : Result Verdict ToolFault) → IfOk r (IsVerdictOnRefusal f) → (IsErrOf r tool_fault.TooLong → f.kind ≡ kinds.TooLong) → IfErr r (λ e. IsWrite e → ⊥) → Judges p (left old.device) r
     judges_fault (Ok v) ok long writes = judges_refused v ok
     judges_fault (Err why) ok long writes = judges_none why long writes
 

@@ -29,12 +29,12 @@ use Rattle.sas_plans.specs.declared.inputs.JudgeFault.TheVariants.{Tool, Plan}
 use Rattle.sas_plans.specs.Inputs.{WereRead, tool_result, tool_fault as fault_of}
 use Rattle.sas_plans.specs.InTurn.{IsRightlyLong}
 use Rattle.sas_plans.specs.Judged.{JudgedLayers, JudgeOut, PlansOut}
-use Rattle.sas_plans.specs.Judging.{AnswersPlans, IsOfTask, JudgesPlans, IsAnswer, answer_told}
+use Rattle.sas_plans.specs.Judging.{AnswersPlans, IsOfTask, JudgesPlans, IsOutputFor, answer_told}
 use Rattle.sas_plans.proofs.SideBySide.{choose}
 use Rattle.sas_plans.proofs.SaidPlans.{decided_long}
 
 -- an answer of one output is one of another that follows from it
-tells_by : (A B : Option Output → Type 0) → ((o : Option Output) → A o → B o) → (r : Result Output JudgeFault) → IsAnswer A r → IsAnswer B r
+tells_by : (A B : Option Output → Type 0) → ((o : Option Output) → A o → B o) → (r : Result Output JudgeFault) → IsOutputFor A r → IsOutputFor B r
 tells_by A B to (Ok output) is = to (Some output) is
 tells_by A B to (Err why) is = λ long. to None (is long)
 
@@ -69,7 +69,7 @@ layered_judging labels p layered b cs reads o out =
 module _ {D : Type 0} (left : D → Option (List ℕ)) (known : ℕ → Option (List ℕ)) (labels : List (List ℕ)) (old new : Device D) where
   module _ (f : Fault) (h : ReadsAll left task_format (ValueOf task_format) old new (Err f)) where
     refused_told : (b : List ℕ) (r : Result Told JudgeFault) → IfOk r (λ told. refusal (codes "task") f ≡ Some (output_told told)) → IfErr r (λ e. fault_of e ≡ tool_fault.TooLong → f.kind ≡ kinds.TooLong)
-        → (f.kind ≢ kinds.Memory → f.kind ≢ kinds.Read → ReadsAs task_format most_bytes b (Err f)) → IsAnswer (RefusedOut b) (answer_told r)
+        → (f.kind ≢ kinds.Memory → f.kind ≢ kinds.Read → ReadsAs task_format most_bytes b (Err f)) → IsOutputFor (RefusedOut b) (answer_told r)
     refused_told b (Ok told) ok long fault = file_refused task_format (codes "task") NoAnswer b f (output_told told) ok fault
     refused_told b (Err e) ok long fault = λ is. file_too_long task_format (codes "task") NoAnswer b f (long is) fault
 

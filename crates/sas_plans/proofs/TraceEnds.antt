@@ -63,31 +63,31 @@ module _ (Sent : List ℕ → Type 0) where
 
   -- ---- one file
 
-  module _ {D V I S A : Type 0} (left : D → Option (List ℕ)) (F : Format V I S) (Gives : List ℕ → A → Type 0) (name : List ℕ) (IsAnswer : V → Output → Type 0) (old new : Device D) where
+  module _ {D V I S A : Type 0} (left : D → Option (List ℕ)) (F : Format V I S) (Gives : List ℕ → A → Type 0) (name : List ℕ) (IsOutputFor : V → Output → Type 0) (old new : Device D) where
     -- a fault is refused, or the run ends at it
     pub ends_refused : (f : Fault) (r : Result Status ToolFault) → ReadsAll left F Gives old new (Err f) → TellsFault name f r
         → (IsErrOf r tool_fault.TooLong → f.kind ≡ kinds.TooLong) → IsErrOf r tool_fault.Read ↔ (f.kind ≡ kinds.Read)
-        → EndsFile left (FileOut F name IsAnswer) Sent old new r
+        → EndsFile left (FileOut F name IsOutputFor) Sent old new r
     ends_refused f r read told long reads =
         let kind = decided_kind name f r told long in
         record {
-          output = λ b known. ends_counting_by Sent (λ o. o ≡ refusal name f) (FileOut F name IsAnswer b) r
+          output = λ b known. ends_counting_by Sent (λ o. o ≡ refusal name f) (FileOut F name IsOutputFor b) r
               (λ decided o is. (Err f, known_fault left F Gives old new f b read known (kind decided).0 (kind decided).1, is)) (counting_ends (λ o. o ≡ refusal name f) Sent r told);
           taken = λ decided.
               let (b, consumed, why) = read.fault (kind decided).0 in (
                 b,
                 consumed,
-                ends_counting_by Sent (λ o. o ≡ refusal name f) (FileOut F name IsAnswer b) r
+                ends_counting_by Sent (λ o. o ≡ refusal name f) (FileOut F name IsOutputFor b) r
                     (λ _ o is. (Err f, reading_of_refusal F b _ f why (kind decided).1, is)) (counting_ends (λ o. o ≡ refusal name f) Sent r told),
               );
           reads = (λ e. read.note.0 (reads.0 e), λ t. reads.1 (read.note.1 t));
         }
 
   -- so it is of bytes that are at hand
-  pub refused_bytes : {V I S : Type 0} (F : Format V I S) (name : List ℕ) (IsAnswer : V → Output → Type 0) (b : List ℕ) (f : Fault) (r : Result Status ToolFault) → (f.kind ≢ kinds.Memory → ReadsAs F most_bytes b (Err f))
-      → TellsFault name f r → (IsErrOf r tool_fault.TooLong → f.kind ≡ kinds.TooLong) → EndsCounting (FileOut F name IsAnswer b) Sent r
-  refused_bytes F name IsAnswer b f r fault told long =
-      ends_counting_by Sent (λ o. o ≡ refusal name f) (FileOut F name IsAnswer b) r (λ decided o is. (Err f, fault (decided_kind name f r told long decided).0, is)) (counting_ends (λ o. o ≡ refusal name f) Sent r told)
+  pub refused_bytes : {V I S : Type 0} (F : Format V I S) (name : List ℕ) (IsOutputFor : V → Output → Type 0) (b : List ℕ) (f : Fault) (r : Result Status ToolFault) → (f.kind ≢ kinds.Memory → ReadsAs F most_bytes b (Err f))
+      → TellsFault name f r → (IsErrOf r tool_fault.TooLong → f.kind ≡ kinds.TooLong) → EndsCounting (FileOut F name IsOutputFor b) Sent r
+  refused_bytes F name IsOutputFor b f r fault told long =
+      ends_counting_by Sent (λ o. o ≡ refusal name f) (FileOut F name IsOutputFor b) r (λ decided o is. (Err f, fault (decided_kind name f r told long decided).0, is)) (counting_ends (λ o. o ≡ refusal name f) Sent r told)
 
   -- a plan that was read is traced
   module _ (p : Parts) (plan : PlanParts) where

@@ -44,16 +44,16 @@ abbrev pub cost_if : Status → ℕ → Option ℕ
 cost_if Yes cost = Some cost
 cost_if No cost = None
 
--- the verdict on a plan that was read
-abbrev pub JudgesPlan : Parts → PlanParts → Verdict → Type 0
-JudgesPlan p plan verdict = (output : Output)
+-- this is the verdict on a plan that was read
+abbrev pub IsVerdictOnPlan : Parts → PlanParts → Verdict → Type 0
+IsVerdictOnPlan p plan verdict = (output : Output)
     × VerdictAnswer p plan output
     × (verdict.line.items ≡ output.text)
     × (verdict.cost ≡ cost_if output.status plan.cost)
 
--- the verdict on a plan file that is refused for this fault
-abbrev pub RefusesPlan : Fault → Verdict → Type 0
-RefusesPlan fault verdict = (output : Output)
+-- this is the verdict on a plan file that is refused for this fault
+abbrev pub IsVerdictOnRefusal : Fault → Verdict → Type 0
+IsVerdictOnRefusal fault verdict = (output : Output)
     × (refusal (codes "plan") fault ≡ Some output)
     × (verdict.line.items ≡ output.text)
     × (verdict.cost ≡ None)
@@ -198,10 +198,10 @@ summary_of labels tally =
 
 -- ---- all plans
 
--- an answer is the output, and past the limit there is none
-abbrev pub IsAnswer : (Option Output → Type 0) → Result Output JudgeFault → Type 0
-IsAnswer Out (Ok output) = Out (Some output)
-IsAnswer Out (Err why) = tool_fault why ≡ fault.TooLong → Out None
+-- the result is the output; for too long an input there is none; other failures say nothing
+abbrev pub IsOutputFor : (Option Output → Type 0) → Result Output JudgeFault → Type 0
+IsOutputFor Out (Ok output) = Out (Some output)
+IsOutputFor Out (Err why) = tool_fault why ≡ fault.TooLong → Out None
 
 -- the answer that is at hand
 abbrev pub answer_told : Result Told JudgeFault → Result Output JudgeFault
@@ -218,10 +218,10 @@ answer_of text (Err why) = Err why
 pub record JudgesPlans (p : Parts) (known : ℕ → Option (List ℕ)) (labels : List (List ℕ))
     (result : Result Output JudgeFault) : Type 0 where
   pub output : (cs : List (List ℕ)) → HaveBytes known (length labels) cs
-      → IsAnswer (PlansOut p (zip labels cs)) result
+      → IsOutputFor (PlansOut p (zip labels cs)) result
   pub taken : IsDecided (tool_result result) → (cs : List (List ℕ))
       × WereRead known (length labels) cs
-      × IsAnswer (PlansOut p (zip labels cs)) result
+      × IsOutputFor (PlansOut p (zip labels cs)) result
   pub long : IfErr result (IsRightlyLong known)
   pub reads : IsErrOf result (judge_fault.Tool fault.Read) → ⊥
   pub writes : IfErr result (λ e. IsWrite (tool_fault e) → ⊥)
@@ -233,12 +233,12 @@ module _ {D : Type 0} (left : D → Option (List ℕ)) where
       (old new : Device D) (result : Result Output JudgeFault) : Type 0 where
     -- of inputs whose bytes are known, the answer is their output
     pub output : (b : List ℕ) (cs : List (List ℕ)) → left old.device ≡ Some b
-        → HaveBytes known (length labels) cs → IsAnswer (JudgeOut labels b cs) result
+        → HaveBytes known (length labels) cs → IsOutputFor (JudgeOut labels b cs) result
     -- and of any inputs, the output for the bytes that were read of them
     pub taken : IsDecided (tool_result result) → (b : List ℕ) × (cs : List (List ℕ))
         × Consumes (left old.device) (left new.device) b
         × WereRead known (length labels) cs
-        × IsAnswer (JudgeOut labels b cs) result
+        × IsOutputFor (JudgeOut labels b cs) result
     pub long : IfErr result (IsRightlyLong known)
     pub reads : IsErrOf result (judge_fault.Tool fault.Read) ↔ IsTrue new.failed
     pub writes : IfErr result (λ e. IsWrite (tool_fault e) → ⊥)

@@ -1,4 +1,4 @@
--- What a planner relies on who has many plans judged.
+-- The main promise of a run that judges many plans.
 use Rattle.std.specs.Prelude.{◌≡◌, ◌↔◌, ℕ, ◌<◌, List, [], ◌++◌, length, codes, slice_index_or}
 use Rattle.sas_lines.specs.Lines.{lines}
 use Rattle.sas_output.specs.declared.ending.Status.{Status}
@@ -19,7 +19,7 @@ labelled_valid label steps cost = label ++ codes ": " ++ valid_line steps cost
 -- with this status. `Sent` holds of the written bytes.
 pub record PlansHeadline (labels : List (List ℕ)) (b : List ℕ) (cs : List (List ℕ))
     (Sent : List ℕ → Type 0) (status : Status) : Type 0 where
-  -- line K is `LABEL: plan valid: S steps, cost C` exactly if the task and plan K say so
+  -- line K is `LABEL: plan valid: S steps, cost C` exactly if plan K solves it with S and C
   pub line : (number steps cost : ℕ) (out : List ℕ) → number < length labels → Sent out
       → (line_of out number ≡ labelled_valid (slice_index_or labels number []) steps cost)
       ↔ Solves b (slice_index_or cs number []) (valid_line steps cost)

@@ -1,4 +1,4 @@
--- What `trace` prints: the output of `plan`, with the trace of the plan in front where it is judged.
+-- What `trace` prints: the output of `plan`, with the trace of the plan before it if it is judged.
 use Rattle.std.specs.Prelude.{◌≡◌, ℕ, List, ◌++◌, Option, Some, None}
 use Rattle.sas_output.specs.Ending.{Output}
 use Rattle.sas_outputs.specs.declared.Request.TheVariants.{Plan}
@@ -22,7 +22,7 @@ EndsAsPlan = (b c : List ℕ) (traced : Output) → TraceOut b c (Some traced)
 abbrev pub OneTraceOutput : Type 0
 OneTraceOutput = (b c : List ℕ) (o p : Option Output) → TraceOut b c o → TraceOut b c p → o ≡ p
 
--- and it can't have nothing
+-- and it can't be that there is none
 abbrev pub SomeTraceOutput : Type 0
 SomeTraceOutput = (b c : List ℕ) → ((o : Option Output) → TraceOut b c o → ⊥) → ⊥
 

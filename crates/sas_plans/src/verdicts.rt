@@ -4,7 +4,7 @@ ghost use Rattle.std.specs.Prelude.{IfOk, IfErr, IsErrOf, IsTrue};
 ghost use Rattle.sas_output.specs.Ending.{IsWrite};
 ghost use Rattle.sas_plans.specs.Inputs.{tool_fault, tool_result};
 ghost use Rattle.sas_plans.specs.Judging.{EndsAt, IsBehindOpening, IsOpened};
-ghost use Rattle.sas_plans.specs.Judging.{RefusesPlan, Judges, JudgesPlan};
+ghost use Rattle.sas_plans.specs.Judging.{IsVerdictOnRefusal, Judges, IsVerdictOnPlan};
 
 use crate::inputs::{InputFault, JudgeFault, PlanInputs};
 use sas_answers::answer_by;
@@ -108,7 +108,7 @@ fn judge_device<P: Read>(
 
 /// Returns the verdict that refuses a plan file for its fault, or why the run ends at it.
 fn refuse_plan(alloc: Global, fault: Fault) -> Result<Verdict, ToolFault>
-    ensures ok { IfOk result (RefusesPlan fault) }
+    ensures ok { IfOk result (IsVerdictOnRefusal fault) }
     ensures long { IsErrOf result ToolFault.TooLong ↔ (fault.kind ≡ Kind.TooLong) }
     ensures read { IsErrOf result ToolFault.Read ↔ (fault.kind ≡ Kind.Read) }
     ensures writes { IfErr result (λ e. IsWrite e → ⊥) }
@@ -128,7 +128,7 @@ fn verdict_by(
     held: &mut Held<Worklist, FlatTask>,
     plan: &FlatPlan,
 ) -> Result<Verdict, AllocError>
-    ensures verdict { IfOk result (λ v. JudgesPlan held.old plan.now v) }
+    ensures verdict { IfOk result (λ v. IsVerdictOnPlan held.old plan.now v) }
     ensures same { held.new ≡ held.old }
 {
     let told = answer_by(alloc, held, plan)?;

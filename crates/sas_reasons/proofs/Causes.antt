@@ -22,7 +22,7 @@ use Rattle.sas_meaning.specs.Places.{can_give}
 use Rattle.sas_output.specs.declared.line.Line.{Line}
 use Rattle.sas_output.specs.declared.line.Line.TheVariants as line
 use Rattle.sas_run.specs.Runs.{Run, last_state}
-use Rattle.sas_reasons.specs.Cause.{fails, is_derived, is_given, AreGiverLines, actual_fact, since_line, missing_lines, IsCause}
+use Rattle.sas_reasons.specs.Cause.{fails, is_derived, is_given, AreDerivationLines, actual_fact, since_line, missing_lines, IsCause}
 use Rattle.sas_reasons.specs.Laws.{DefaultIfNotGiven, EachRuleFails}
 use Rattle.sas_reasons.proofs.Derivation.{value_is}
 use Rattle.sas_reasons.proofs.Listing.{some_derivation}
@@ -82,7 +82,7 @@ each_rule_fails p s rule layered settled exists can default = elim (hold_or_not 
 
 -- ---- one cause
 
-givers_one : (b : Bool) (p : Parts) (s : List ℕ) (var : ℕ) (x y : List Line) → AreGiverLines b p s var x → AreGiverLines b p s var y → x ≡ y
+givers_one : (b : Bool) (p : Parts) (s : List ℕ) (var : ℕ) (x y : List Line) → AreDerivationLines b p s var x → AreDerivationLines b p s var y → x ≡ y
 givers_one false p s var x y f g = f ∙ sym g
 givers_one true p s var x y f g = f.2 ∙ (ap (λ (rules : List ℕ). map line.RuleDerives rules) (one_derivation p s var f.0 g.0 f.1 g.1) ∙ sym g.2)
 
@@ -98,7 +98,7 @@ one_cause p run fact a b x y = x.whole
     (givers_one (is_given p (last_state run) fact.var) p (last_state run) fact.var x.givers y.givers x.given y.given) ∙ sym y.whole))
 
 some_givers : (b : Bool) (p : Parts) (s : List ℕ) (var : ℕ) → IsLayered p → IsSettled p s → (b ≡ true → is_given p s var ≡ true)
-    → (lines : List Line) × AreGiverLines b p s var lines
+    → (lines : List Line) × AreDerivationLines b p s var lines
 some_givers false p s var layered settled is = ([], refl)
 some_givers true p s var layered settled is =
     let both = and_parts (is_derived p var) (differs p s var) (is refl) in

@@ -19,7 +19,7 @@ use Rattle.sas_output.specs.declared.line.Line.TheVariants as line
 use Rattle.sas_reasons.specs.Lines.{with_lines, LineThen, LinesOfEach}
 use Rattle.sas_run.specs.Runs.{Run, last_state, StepsSucceed, steps_before}
 use Rattle.sas_reasons.specs.Cause.{fails, IsCause}
-use Rattle.sas_reasons.specs.WhyPlan.{AreSimilarNameLines, failing, operators_of, AreInapplicableLines, AreConflictLines, goal_fact_at, AreGoalFactLines, cost_lines, AreOtherLines, AreFaultLines, IsWhy}
+use Rattle.sas_reasons.specs.WhyPlan.{AreSimilarNameLines, failing, operators_of, AreFailedPreconditionLines, AreConflictLines, goal_fact_at, AreGoalFactLines, cost_lines, AreCouldBeLines, AreFaultLines, IsWhy}
 use Rattle.sas_reasons.specs.Laws.{SomeWhy, OneWhy}
 use Rattle.sas_run.proofs.Runs.{some_run, one_run}
 use Rattle.sas_reasons.proofs.Likeness.{some_like, one_like}
@@ -51,13 +51,13 @@ behind_one : (first : Line) (Tells : List Line → Type 0) → ((a b : List Line
 behind_one first Tells one a b x y = x.2 ∙ (ap (λ (behind : List Line). first ∷ behind) (one x.0 y.0 x.1 y.1) ∙ sym y.2)
 
 module _ (p : Parts) (run : Run) where
-  inapplicable_one : (operator : ℕ) (a b : List Line) → AreInapplicableLines p run operator a → AreInapplicableLines p run operator b → a ≡ b
+  inapplicable_one : (operator : ℕ) (a b : List Line) → AreFailedPreconditionLines p run operator a → AreFailedPreconditionLines p run operator b → a ≡ b
   inapplicable_one operator = behind_one (line.Operator operator) _ (each_one (IsCause p run) (one_cause p run) (failing (last_state run) (operator_at p operator)))
 
   goal_fact_one : (index : ℕ) (a b : List Line) → AreGoalFactLines p run index a → AreGoalFactLines p run index b → a ≡ b
   goal_fact_one index = behind_one (line.GoalFact index) _ (one_cause p run (goal_fact_at p index))
 
-  other_one : (a b : List Line) → AreOtherLines p run a → AreOtherLines p run b → a ≡ b
+  other_one : (a b : List Line) → AreCouldBeLines p run a → AreCouldBeLines p run b → a ≡ b
   other_one a b (inl x) (inl y) =
       let same = one_may_mean p run x.0 x.1 y.0 y.1 x.2 y.2 in
       x.3 ∙ (ap (λ (step : ℕ). line.CouldBe step x.1 ∷ []) same.0
@@ -81,7 +81,7 @@ fault_told_one : (p : Parts) (plan : PlanParts) (run : Run) (fault : PlanFault) 
     → AreFaultLines p plan run fault a → AreFaultLines p plan run fault b → a ≡ b
 fault_told_one p plan run (NoOperator step) a b x y = behind_one (line.Step step) _ (like_one p (step_at plan (step - 1))) a b x y
 fault_told_one p plan run (NotApplicable step) a b x y =
-    behind_one (line.Step step) _ (each_one (AreInapplicableLines p run) (inapplicable_one p run) (operators_of p (step_at plan (step - 1)))) a b x y
+    behind_one (line.Step step) _ (each_one (AreFailedPreconditionLines p run) (inapplicable_one p run) (operators_of p (step_at plan (step - 1)))) a b x y
 fault_told_one p plan run (Conflict step operator) a b x y = behind_one (line.Step step) _ (conflict_one p (last_state run) operator) a b x y
 fault_told_one p plan run (GoalMissed index) a b x y = each_one (AreGoalFactLines p run) (goal_fact_one p run) (places (fails (last_state run)) p.goal) a b x y
 fault_told_one p plan run (CostDiffers sum) a b x y = x ∙ sym y
@@ -98,8 +98,8 @@ one_why p plan fault a b layered x y = x.whole
     told : AreFaultLines p plan y.run fault x.reasons
     told = subst (λ run. AreFaultLines p plan run fault x.reasons) same x.told
 
-    may : AreOtherLines p y.run x.others
-    may = subst (λ run. AreOtherLines p run x.others) same x.may
+    may : AreCouldBeLines p y.run x.others
+    may = subst (λ run. AreCouldBeLines p run x.others) same x.may
 
 -- ---- at least one list
 
@@ -110,7 +110,7 @@ goes_settled p s [] (o ∷ os) last settled g = absurd g
 goes_settled p s (n ∷ ns) [] last settled g = absurd g
 goes_settled p s (n ∷ ns) (o ∷ os) last settled g = let step = g.2 in goes_settled p g.0 ns os last step.settled g.3
 
-some_other : (p : Parts) (run : Run) → (lines : List Line) × AreOtherLines p run lines
+some_other : (p : Parts) (run : Run) → (lines : List Line) × AreCouldBeLines p run lines
 some_other p run = elim (some_may_mean p run) [
   | inl w ↦ (line.CouldBe w.0 w.1 ∷ [], inl (w.0, w.1, w.2, refl))
   | inr none ↦ ([], inr (none, refl))
@@ -155,7 +155,7 @@ module _ (p : Parts) (plan : PlanParts) (layered : IsLayered p) where
       is = ap (λ n. take n plan.steps) (let place = comes.place in let e : step - 1 ≡ length comes.before = omega arith in e)
           ∙ (ap (λ (steps : List (List ℕ)). take (length comes.before) steps) comes.whole ∙ take-append_seam comes.before (name ∷ comes.behind))
 
-  some_inapplicable : (run : Run) → IsSettled p (last_state run) → 0 < length run.states → (operator : ℕ) → (lines : List Line) × AreInapplicableLines p run operator lines
+  some_inapplicable : (run : Run) → IsSettled p (last_state run) → 0 < length run.states → (operator : ℕ) → (lines : List Line) × AreFailedPreconditionLines p run operator lines
   some_inapplicable run settled some operator =
       let causes = some_each (IsCause p run) (λ fact. some_cause p run fact layered settled some) (failing (last_state run) (operator_at p operator)) in
       (line.Operator operator ∷ causes.0, (causes.0, causes.1, refl))
@@ -173,7 +173,7 @@ module _ (p : Parts) (plan : PlanParts) (layered : IsLayered p) where
       from_run (NoOperator step) l.run l.went l.through (_, (_, (like.0, like.1, refl), refl))
   why_told (NotApplicable step) f =
       let l = led_to_step step f.0 f.1 f.2 in
-      let w = some_each (AreInapplicableLines p l.run) (some_inapplicable l.run l.settled l.some) (operators_of p (step_at plan (step - 1))) in
+      let w = some_each (AreFailedPreconditionLines p l.run) (some_inapplicable l.run l.settled l.some) (operators_of p (step_at plan (step - 1))) in
       from_run (NotApplicable step) l.run l.went l.through (line.Step step ∷ w.0, (w.0, w.1, refl))
   why_told (Conflict step operator) f =
       let l = led_to_step step f.0 f.1 f.2 in

@@ -40,10 +40,10 @@ since_line (suc before) = line.SinceStep (suc before)
 abbrev pub is_given : Parts → List ℕ → ℕ → Bool
 is_given p s var = is_derived p var && differs p s var
 
--- in this case, a line for each rule of the variable's derivation
-abbrev pub AreGiverLines : Bool → Parts → List ℕ → ℕ → List Line → Type 0
-AreGiverLines false p s var lines = lines ≡ []
-AreGiverLines true p s var lines =
+-- if this is so, a line for each rule of the variable's derivation; otherwise no lines
+abbrev pub AreDerivationLines : Bool → Parts → List ℕ → ℕ → List Line → Type 0
+AreDerivationLines false p s var lines = lines ≡ []
+AreDerivationLines true p s var lines =
     (rules : List ℕ) × IsDerivation p s var rules × (lines ≡ map line.RuleDerives rules)
 
 -- ---- the rules that don't derive the required value
@@ -58,7 +58,7 @@ abbrev pub can_be_given : Parts → Fact → Bool
 can_be_given p fact =
     list_any (λ (rule : Rule). can_give p fact.var rule && (rule.new == fact.value)) p.rules
 
--- a line for each rule of the variable that can fire, or the line that no rule derives the value
+-- for each rule of the variable that can fire its first failing condition; or `no rule derives it`
 abbrev pub keeping_lines : Parts → List ℕ → Fact → List Line
 keeping_lines p s fact = if can_be_given p fact
     then flat_map (failing_lines p s) (places (can_give p fact.var) p.rules)
@@ -77,7 +77,7 @@ pub record IsCause (p : Parts) (run : Run) (fact : Fact) (lines : List Line) : T
   pub since : ℕ
   pub last_change : IsSince run fact.var since
   pub givers : List Line
-  pub given : AreGiverLines (is_given p (last_state run) fact.var) p
+  pub given : AreDerivationLines (is_given p (last_state run) fact.var) p
       (last_state run) fact.var givers
   pub whole : lines
       ≡ line.Requires fact

@@ -14,11 +14,11 @@ pub record ConflictsWith (s : List ℕ) (o : Operator) (d e : ℕ) : Type 0 wher
   pub var : (effect_at o d).var ≡ (effect_at o e).var
   pub other : (effect_at o d).new ≢ (effect_at o e).new
 
--- an earlier effect contradicts this one
+-- an earlier effect conflicts with this one
 abbrev pub ConflictsWithEarlier : List ℕ → Operator → ℕ → Type 0
 ConflictsWithEarlier s o e = (d : ℕ) × ConflictsWith s o d e
 
--- e is the first effect that an earlier one contradicts, and d is the first that contradicts e
+-- e is the first effect that conflicts with an earlier one; d is the first with which it conflicts
 pub record IsConflict (s : List ℕ) (o : Operator) (d e : ℕ) : Type 0 where
   pub first : IsLowest (ConflictsWithEarlier s o) e
   pub lowest : IsLowest (λ k. ConflictsWith s o k e) d

@@ -63,7 +63,7 @@ pub record DependsOn (p : Parts) (rule var : ℕ) : Type 0 where
   pub other : condition.value ≢ default_of p var
 
 -- The derivation of a variable contains the variable itself, and with each variable also those on
--- which the rule rests that gives this variable its value.
+-- which the rule depends that gives this variable its value.
 pub data InDerivation (p : Parts) (s : List ℕ) (var : ℕ) : ℕ → Type 0 where
   Itself : InDerivation p s var var
   Below : {u w : ℕ} (rule : ℕ) → InDerivation p s var u → IsGivenBy p s u rule → DependsOn p rule w

@@ -36,9 +36,9 @@ AreSimilarNameLines p name lines = (like : Option ℕ)
 abbrev pub failing : List ℕ → Operator → List Fact
 failing s o = filter (fails s) (preconditions o)
 
--- the operator, and the cause of each of its preconditions that doesn't hold
-abbrev pub AreInapplicableLines : Parts → Run → ℕ → List Line → Type 0
-AreInapplicableLines p run operator lines = LineThen (line.Operator operator)
+-- the lines of an operator that isn't applicable: it, and the cause of each failing precondition
+abbrev pub AreFailedPreconditionLines : Parts → Run → ℕ → List Line → Type 0
+AreFailedPreconditionLines p run operator lines = LineThen (line.Operator operator)
     (LinesOfEach (IsCause p run) (failing (last_state run) (operator_at p operator))) lines
 
 -- the operators of a name, ascending
@@ -48,7 +48,7 @@ operators_of p name = places (λ (o : Operator). bytes_eq o.name name) p.operato
 -- these lines for each operator of the name
 abbrev pub AreOperatorLines : Parts → Run → List ℕ → List Line → Type 0
 AreOperatorLines p run name lines = LinesOfEach
-    (AreInapplicableLines p run) (operators_of p name) lines
+    (AreFailedPreconditionLines p run) (operators_of p name) lines
 
 -- ---- conflicting effects
 
@@ -91,8 +91,8 @@ cost_lines p run =
 -- ---- after each of these
 
 -- a line for the first step that could also mean another operator, if any
-abbrev pub AreOtherLines : Parts → Run → List Line → Type 0
-AreOtherLines p run lines =
+abbrev pub AreCouldBeLines : Parts → Run → List Line → Type 0
+AreCouldBeLines p run lines =
     ((step operator : ℕ) × MayMean p run step operator × (lines ≡ line.CouldBe step operator ∷ []))
     ⊎ (((k : ℕ) → HasOther p run k → ⊥) × (lines ≡ []))
 
@@ -119,5 +119,5 @@ pub record IsWhy (p : Parts) (plan : PlanParts) (fault : PlanFault) (lines : Lis
   pub reasons : List Line
   pub told : AreFaultLines p plan run fault reasons
   pub others : List Line
-  pub may : AreOtherLines p run others
+  pub may : AreCouldBeLines p run others
   pub whole : lines ≡ with_lines [] reasons ++ others

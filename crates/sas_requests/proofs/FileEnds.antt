@@ -45,7 +45,7 @@ use Rattle.sas_requests.specs.declared.detail.Detail.{Detail}
 use Rattle.sas_requests.specs.declared.detail.Detail.TheVariants.{Plain, Reasons}
 use Rattle.sas_outputs.specs.EndsFile.{EndsFile}
 use Rattle.sas_requests.specs.Answering.{FileBy, TaskBy, PlanBy, UnlayeredBy, layers_by, refusal_by, task_refusal_lines, plan_refusal_lines}
-use Rattle.sas_requests.specs.FileReasons.{FaultReasons, told, past_limit, ExplainsTask, ExplainsPlan}
+use Rattle.sas_requests.specs.FileReasons.{FaultReasons, told, past_limit, AreTaskReasons, ArePlanReasons}
 use Rattle.sas_requests.proofs.RefusalLaws.{task_telling, plan_telling}
 use Rattle.sas_requests.proofs.RefusalReasons.{no_reasons, some_of}
 
@@ -230,7 +230,7 @@ more_is true n h = sym (less 64 n (h.0 refl))
 more_is false n h = not_true (nat_lt 64 n) (λ t. h.1 (is_less 64 n t))
 
 -- what a refusal tells of a task, and of a plan
-task_refusal_tells : (r : TaskRefusal) (accepted : List (List ℕ)) (text : List ℕ) → IsFoundOf text r.found → IsTaskReason (r.fault).kind accepted text r.mark r.word → ExplainsTask (r.fault).kind accepted text (task_refusal_lines r)
+task_refusal_tells : (r : TaskRefusal) (accepted : List (List ℕ)) (text : List ℕ) → IsFoundOf text r.found → IsTaskReason (r.fault).kind accepted text r.mark r.word → AreTaskReasons (r.fault).kind accepted text (task_refusal_lines r)
 task_refusal_tells r accepted text is reason = record {
   mark = r.mark;
   word = r.word;
@@ -240,7 +240,7 @@ task_refusal_tells r accepted text is reason = record {
       ∙ ap (λ (more : Bool). task_reasons (r.fault).kind r.mark r.word (take 64 text) more) (more_is (r.found).more (length text) is.longer);
 }
 
-plan_refusal_tells : (r : PlanRefusal) (accepted : List (List ℕ)) (text : List ℕ) → IsFoundOf text r.found → ExplainsPlan (r.fault).kind accepted text (plan_refusal_lines r)
+plan_refusal_tells : (r : PlanRefusal) (accepted : List (List ℕ)) (text : List ℕ) → IsFoundOf text r.found → ArePlanReasons (r.fault).kind accepted text (plan_refusal_lines r)
 plan_refusal_tells r accepted text is =
     ap (λ (bytes : List ℕ). plan_reasons (r.fault).kind bytes (r.found).more) is.front
     ∙ ap (λ (more : Bool). plan_reasons (r.fault).kind (take 64 text) more) (more_is (r.found).more (length text) is.longer)
@@ -253,14 +253,14 @@ module _ {D A : Type 0} (left : D → Option (List ℕ)) (Gives : List ℕ → A
       → Ends (λ o. o ≡ refusal_by detail (codes "task") r.fault (task_refusal_lines r)) Sent result → IsErrOf result tool_fault.TooLong ↔ ((r.fault).kind ≡ TooLong) → IsErrOf result tool_fault.Read ↔ ((r.fault).kind ≡ Read)
       → EndsFile left (TaskBy detail IsAnswer) Sent old new result
   task_refused IsAnswer r result h ends long reads =
-      ends_refused left task_format ExplainsTask Gives (codes "task") Sent detail IsAnswer old new task_telling fault_in found_in HasReason r (task_refusal_lines r) (task_refusal_tells r) h result ends long.0 reads
+      ends_refused left task_format AreTaskReasons Gives (codes "task") Sent detail IsAnswer old new task_telling fault_in found_in HasReason r (task_refusal_lines r) (task_refusal_tells r) h result ends long.0 reads
 
   -- and a plan file
   pub plan_refused : (IsAnswer : PlanParts → Output → Type 0) (r : PlanRefusal) (result : Result Status ToolFault) → ReadsPlan left Gives old new (Err r)
       → Ends (λ o. o ≡ refusal_by detail (codes "plan") r.fault (plan_refusal_lines r)) Sent result → IsErrOf result tool_fault.TooLong ↔ ((r.fault).kind ≡ TooLong) → IsErrOf result tool_fault.Read ↔ ((r.fault).kind ≡ Read)
       → EndsFile left (PlanBy detail IsAnswer) Sent old new result
   plan_refused IsAnswer r result h ends long reads =
-      ends_refused left plan_format ExplainsPlan Gives (codes "plan") Sent detail IsAnswer old new plan_telling fault_of found_of nothing_else r (plan_refusal_lines r) (λ accepted text is other. plan_refusal_tells r accepted text is) h result ends long.0 reads
+      ends_refused left plan_format ArePlanReasons Gives (codes "plan") Sent detail IsAnswer old new plan_telling fault_of found_of nothing_else r (plan_refusal_lines r) (λ accepted text is other. plan_refusal_tells r accepted text is) h result ends long.0 reads
 
 -- a task that isn't layered is refused for its first fault
 not_memory_by : (detail : Detail) (p : Parts) (fault : LayerFault) (o : Output) → layers_by detail p fault ≡ Some o → fault ≢ layer_fault.Memory
@@ -271,5 +271,5 @@ module _ {D : Type 0} (left : D → Option (List ℕ)) (Sent : List ℕ → Type
   pub task_unlayered : (fault : LayerFault) (r : Result Status ToolFault) (Q : Type 0) → ReadsAll left task_format (ValueOf task_format) old new (Ok p) → (fault ≢ layer_fault.Memory → first_fault (layer_checks p) ≡ Some fault)
       → EndsCounting (λ output. IsSomeAnd output (λ o. layers_by detail p fault ≡ Some o)) Sent r → IfErr r (λ e. IsWrite e ⊎ ((e ≡ tool_fault.Memory) × Q)) → EndsFile left (TaskBy detail (UnlayeredBy detail)) Sent old new r
   task_unlayered fault r Q read first ends starved =
-      ends_value left task_format ExplainsTask (ValueOf task_format) (codes "task") Sent detail (UnlayeredBy detail) old new p (λ o. layers_by detail p fault ≡ Some o)
+      ends_value left task_format AreTaskReasons (ValueOf task_format) (codes "task") Sent detail (UnlayeredBy detail) old new p (λ o. layers_by detail p fault ≡ Some o)
       (λ b value o is. (p, value, (fault, first (not_memory_by detail p fault o is), is))) r read ends (unread Q r starved)

@@ -31,7 +31,7 @@ use Rattle.sas_outputs.specs.FileLine.{FileLine}
 use Rattle.sas_outputs.specs.FileReasons.{task_reasons}
 use Rattle.sas_outputs.specs.declared.Request.{Request}
 use Rattle.sas_outputs.specs.declared.Request.TheVariants.{Show, Print, Steps, Check, Plan, Mutex}
-use Rattle.sas_requests.specs.FileReasons.{FaultReasons, told, past_limit, ReadReasons, FileReasons, ExplainsTask, ExplainsPlan, LayersFileReasons, JudgedFileReasons, FilesReasons, RefusalReasons}
+use Rattle.sas_requests.specs.FileReasons.{FaultReasons, told, past_limit, ReadReasons, FileReasons, AreTaskReasons, ArePlanReasons, LayersFileReasons, JudgedFileReasons, FilesReasons, RefusalReasons}
 use Rattle.sas_outputs.proofs.Outputs.{Worded, plan_worded, task_worded}
 
 pub task_telling : AboutLaws task_format
@@ -97,13 +97,13 @@ module _ {V I S : Type 0} (F : Format V I S) (Tells : Kind → List (List ℕ) �
 
 -- ---- what is told of a task, and of a plan
 
-one_task_telling : (kind : Kind) (begun : List (List ℕ)) (found : List ℕ) (r s : List FileLine) → ExplainsTask kind begun found r → ExplainsTask kind begun found s → r ≡ s
+one_task_telling : (kind : Kind) (begun : List (List ℕ)) (found : List ℕ) (r s : List FileLine) → AreTaskReasons kind begun found r → AreTaskReasons kind begun found s → r ≡ s
 one_task_telling kind begun found r s x y =
     let same = one_task_reason kind begun found x.mark y.mark x.word y.word x.reason y.reason in
     let lines_of = λ (m : Mark) (w : Option WrongWord). task_reasons kind m w (take 64 found) (nat_lt 64 (length found)) in
     x.lines ∙ (ap (λ (m : Mark). lines_of m x.word) same.0 ∙ (ap (lines_of y.mark) same.1 ∙ sym y.lines))
 
-some_task_telling : (bytes : List ℕ) (f : Fault) (begun : List (List ℕ)) (found : List ℕ) → IsAbout task_format most_bytes bytes f begun found → (r : List FileLine) × ExplainsTask f.kind begun found r
+some_task_telling : (bytes : List ℕ) (f : Fault) (begun : List (List ℕ)) (found : List ℕ) → IsAbout task_format most_bytes bytes f begun found → (r : List FileLine) × AreTaskReasons f.kind begun found r
 some_task_telling bytes f begun found h =
     let (m, w, reason) = some_task_reason bytes f begun found h in
     (_, record { mark = m; word = w; reason = reason; lines = refl })
@@ -113,18 +113,18 @@ some_task_telling bytes f begun found h =
 worded_plan : Worded plan_format
 worded_plan s line k = plan_worded line k
 
-one_task : (b : List ℕ) (r s : List FileLine) → FileReasons task_format ExplainsTask b r → FileReasons task_format ExplainsTask b s → r ≡ s
-one_task = one_file task_format ExplainsTask task_laws_hold task_telling task_worded one_task_telling
+one_task : (b : List ℕ) (r s : List FileLine) → FileReasons task_format AreTaskReasons b r → FileReasons task_format AreTaskReasons b s → r ≡ s
+one_task = one_file task_format AreTaskReasons task_laws_hold task_telling task_worded one_task_telling
 
-one_plan : (c : List ℕ) (r s : List FileLine) → FileReasons plan_format ExplainsPlan c r → FileReasons plan_format ExplainsPlan c s → r ≡ s
-one_plan = one_file plan_format ExplainsPlan plan_laws_hold plan_telling worded_plan (λ kind begun found r s x y. x ∙ sym y)
+one_plan : (c : List ℕ) (r s : List FileLine) → FileReasons plan_format ArePlanReasons c r → FileReasons plan_format ArePlanReasons c s → r ≡ s
+one_plan = one_file plan_format ArePlanReasons plan_laws_hold plan_telling worded_plan (λ kind begun found r s x y. x ∙ sym y)
 
 one_layers : (first : Option LayerFault) (c : List ℕ) (r s : List FileLine) → LayersFileReasons first c r → LayersFileReasons first c s → r ≡ s
 one_layers (Some fault) c r s x y = x ∙ sym y
 one_layers None c r s x y = one_plan c r s x y
 
 one_judged : (b : List ℕ) (read : Result Parts Fault) (c : List ℕ) (r s : List FileLine) → JudgedFileReasons b read c r → JudgedFileReasons b read c s → r ≡ s
-one_judged b (Err f) c r s x y = one_fault task_format ExplainsTask task_laws_hold task_telling task_worded one_task_telling b f r s x y
+one_judged b (Err f) c r s x y = one_fault task_format AreTaskReasons task_laws_hold task_telling task_worded one_task_telling b f r s x y
 one_judged b (Ok p) c r s x y = one_layers (first_fault (layer_checks p)) c r s x y
 
 one_files : (b c : List ℕ) (r s : List FileLine) → FilesReasons b c r → FilesReasons b c s → r ≡ s
@@ -140,18 +140,18 @@ one_reasons Check b c = one_task b
 one_reasons Plan b c = one_files b c
 one_reasons Mutex b c = one_task b
 
-some_task : (b : List ℕ) → ((r : List FileLine) → FileReasons task_format ExplainsTask b r → ⊥) → ⊥
-some_task = some_file task_format ExplainsTask task_laws_hold task_telling task_worded some_task_telling
+some_task : (b : List ℕ) → ((r : List FileLine) → FileReasons task_format AreTaskReasons b r → ⊥) → ⊥
+some_task = some_file task_format AreTaskReasons task_laws_hold task_telling task_worded some_task_telling
 
-some_plan : (c : List ℕ) → ((r : List FileLine) → FileReasons plan_format ExplainsPlan c r → ⊥) → ⊥
-some_plan = some_file plan_format ExplainsPlan plan_laws_hold plan_telling worded_plan (λ bytes f begun found h. (_, refl))
+some_plan : (c : List ℕ) → ((r : List FileLine) → FileReasons plan_format ArePlanReasons c r → ⊥) → ⊥
+some_plan = some_file plan_format ArePlanReasons plan_laws_hold plan_telling worded_plan (λ bytes f begun found h. (_, refl))
 
 some_layers : (first : Option LayerFault) (c : List ℕ) → ((r : List FileLine) → LayersFileReasons first c r → ⊥) → ⊥
 some_layers (Some fault) c none = none [] refl
 some_layers None c none = some_plan c none
 
 some_judged : (b : List ℕ) (read : Result Parts Fault) (c : List ℕ) → ReadsAs task_format most_bytes b read → ((r : List FileLine) → JudgedFileReasons b read c r → ⊥) → ⊥
-some_judged b (Err f) c reads none = let r = some_fault task_format ExplainsTask task_laws_hold task_telling task_worded some_task_telling b f reads in none r.0 r.1
+some_judged b (Err f) c reads none = let r = some_fault task_format AreTaskReasons task_laws_hold task_telling task_worded some_task_telling b f reads in none r.0 r.1
 some_judged b (Ok p) c reads none = some_layers (first_fault (layer_checks p)) c none
 
 some_files : (b c : List ℕ) → ((r : List FileLine) → FilesReasons b c r → ⊥) → ⊥

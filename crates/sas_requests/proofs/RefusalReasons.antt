@@ -21,7 +21,7 @@ use Rattle.sas_task_reasons.specs.WhyLayers.{with_reasons, why_refusal, WhyCheck
 use Rattle.sas_why.specs.Verdict.{WhyVerdict}
 use Rattle.sas_outputs.specs.declared.Request.{Request}
 use Rattle.sas_outputs.specs.declared.Request.TheVariants.{Show, Print, Steps, Check, Plan, Mutex}
-use Rattle.sas_requests.specs.FileReasons.{ReadReasons, FileReasons, ExplainsTask, ExplainsPlan, LayersFileReasons, JudgedFileReasons, RefusalReasons}
+use Rattle.sas_requests.specs.FileReasons.{ReadReasons, FileReasons, AreTaskReasons, ArePlanReasons, LayersFileReasons, JudgedFileReasons, RefusalReasons}
 use Rattle.sas_outputs.specs.Output.{refusal, IsAnswerOrRefusal, FileOut, LayersOut, JudgedOut, ShowAnswer, PrintAnswer}
 use Rattle.sas_requests.specs.Why.{OutOfRead}
 
@@ -66,18 +66,18 @@ of_plan fault o is = (fault, inr is)
 
 layers_behind : (p : Parts) (first : Option LayerFault) (c : List ℕ) (o : Option Output) (reasons : List FileLine) → LayersOut WhyVerdict why_refusal p first c o → LayersFileReasons first c reasons → StandBehind reasons o
 layers_behind p (Some fault) c o reasons out why = inl why
-layers_behind p None c o reasons out why = file_behind plan_format ExplainsPlan plan_laws_hold (codes "plan") (WhyVerdict p) of_plan c o reasons out why
+layers_behind p None c o reasons out why = file_behind plan_format ArePlanReasons plan_laws_hold (codes "plan") (WhyVerdict p) of_plan c o reasons out why
 
 judged_behind : (b c : List ℕ) (r : Result Parts Fault) (o : Option Output) (reasons : List FileLine) → JudgedOut WhyVerdict why_refusal r c o → JudgedFileReasons b r c reasons → StandBehind reasons o
 judged_behind b c (Err fault) o reasons out why = inr (of_task fault o out)
 judged_behind b c (Ok p) o reasons out why = layers_behind p (first_fault (layer_checks p)) c o reasons out why
 
 pub stand_behind : (request : Request) (b c : List ℕ) (o : Option Output) (reasons : List FileLine) → OutOfRead request b c o → RefusalReasons request b c reasons → StandBehind reasons o
-stand_behind Show b c o reasons out why = file_behind task_format ExplainsTask task_laws_hold (codes "task") ShowAnswer of_task b o reasons out why
-stand_behind Print b c o reasons out why = file_behind task_format ExplainsTask task_laws_hold (codes "task") (PrintAnswer task_format) of_task b o reasons out why
-stand_behind Steps b c o reasons out why = file_behind plan_format ExplainsPlan plan_laws_hold (codes "plan") (PrintAnswer plan_format) of_plan c o reasons out why
-stand_behind Check b c o reasons out why = file_behind task_format ExplainsTask task_laws_hold (codes "task") WhyCheckAnswer of_task b o reasons out why
+stand_behind Show b c o reasons out why = file_behind task_format AreTaskReasons task_laws_hold (codes "task") ShowAnswer of_task b o reasons out why
+stand_behind Print b c o reasons out why = file_behind task_format AreTaskReasons task_laws_hold (codes "task") (PrintAnswer task_format) of_task b o reasons out why
+stand_behind Steps b c o reasons out why = file_behind plan_format ArePlanReasons plan_laws_hold (codes "plan") (PrintAnswer plan_format) of_plan c o reasons out why
+stand_behind Check b c o reasons out why = file_behind task_format AreTaskReasons task_laws_hold (codes "task") WhyCheckAnswer of_task b o reasons out why
 stand_behind Plan b c o reasons out why =
     let same = task_laws_hold.one_reading most_bytes b why.0 out.0 why.1 out.1 in
     judged_behind b c out.0 o reasons out.2 (subst (λ (r : Result Parts Fault). JudgedFileReasons b r c reasons) same why.2)
-stand_behind Mutex b c o reasons out why = file_behind task_format ExplainsTask task_laws_hold (codes "task") WhyMutexAnswer of_task b o reasons out why
+stand_behind Mutex b c o reasons out why = file_behind task_format AreTaskReasons task_laws_hold (codes "task") WhyMutexAnswer of_task b o reasons out why

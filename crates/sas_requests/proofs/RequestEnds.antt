@@ -38,7 +38,7 @@ use Rattle.sas_requests.specs.declared.detail.Detail.{Detail}
 use Rattle.sas_requests.specs.declared.detail.Detail.TheVariants.{Plain, Reasons}
 use Rattle.sas_outputs.specs.EndsFile.{EndsFile}
 use Rattle.sas_requests.specs.Answering.{CheckBy, MutexBy, VerdictBy, UnlayeredBy, layers_by, TaskBy, PlanBy, OutBy, EndsRequest}
-use Rattle.sas_requests.specs.FileReasons.{ReadReasons, ExplainsTask, LayersFileReasons, JudgedFileReasons}
+use Rattle.sas_requests.specs.FileReasons.{ReadReasons, AreTaskReasons, LayersFileReasons, JudgedFileReasons}
 use Rattle.sas_requests.proofs.FileEnds.{ends_by}
 use Rattle.sas_requests.proofs.InvariantGroups.{plain_groups, invariants_of}
 use Rattle.sas_requests.proofs.ReasonedOutputs.{headline_why, invariants_why}
@@ -92,7 +92,7 @@ unlayered_read detail Verdict b c (Ok p) o reads (answer, (fault, first, told), 
 unlayered_read detail Verdict b c (Err fault) o reads is = (Err fault, reads, is)
 
 -- the same reasons stand behind it
-unlayered_reasons : (detail : Detail) (b c : List ℕ) (r : Result Parts Fault) (o : Option Output) (reasons : List FileLine) → IsAnswerOrRefusal (codes "task") (UnlayeredBy detail) r o → ReadReasons task_format ExplainsTask b r reasons → JudgedFileReasons b r c reasons
+unlayered_reasons : (detail : Detail) (b c : List ℕ) (r : Result Parts Fault) (o : Option Output) (reasons : List FileLine) → IsAnswerOrRefusal (codes "task") (UnlayeredBy detail) r o → ReadReasons task_format AreTaskReasons b r reasons → JudgedFileReasons b r c reasons
 unlayered_reasons detail b c (Ok p) o reasons (answer, (fault, first, told), is) why = subst (λ (f : Option LayerFault). LayersFileReasons f c reasons) (sym first) why
 unlayered_reasons detail b c (Err fault) o reasons is why = why
 
@@ -106,7 +106,7 @@ unlayered_by Reasons b c o out =
       of_read = out.of_read;
       reasons = out.reasons;
       is_out = unlayered_read Reasons WhyVerdict b c r out.of_read reads is;
-      are_reasons = (r, reads, unlayered_reasons Reasons b c r out.of_read out.reasons is (subst (λ (q : Result Parts Fault). ReadReasons task_format ExplainsTask b q out.reasons) same why));
+      are_reasons = (r, reads, unlayered_reasons Reasons b c r out.of_read out.reasons is (subst (λ (q : Result Parts Fault). ReadReasons task_format AreTaskReasons b q out.reasons) same why));
       whole = out.whole;
     }
 

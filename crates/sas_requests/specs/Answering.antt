@@ -31,7 +31,7 @@ use Rattle.sas_outputs.specs.Output.{Out, FileOut, refusal, plain_refusal}
 use Rattle.sas_outputs.specs.Output.{AreInputs, IsLayeredText, reads_plan, reads_task}
 use Rattle.sas_requests.specs.declared.detail.Detail.{Detail}
 use Rattle.sas_requests.specs.declared.detail.Detail.TheVariants.{Plain, Reasons}
-use Rattle.sas_requests.specs.FileReasons.{FileReasons, ExplainsTask, ExplainsPlan}
+use Rattle.sas_requests.specs.FileReasons.{FileReasons, AreTaskReasons, ArePlanReasons}
 use Rattle.sas_requests.specs.Why.{OutWhy, WithReasons}
 
 -- ---- answers, by how much is reported
@@ -79,17 +79,17 @@ plan_refusal_lines r = plan_reasons (r.fault).kind (kept_bytes r.found) (r.found
 
 -- about the bytes of one file. `IsAnswer` holds of the outputs that are answers about a value
 module _ {V I S : Type 0} (F : Format V I S)
-    (Tells : Kind → List (List ℕ) → List ℕ → List FileLine → Type 0) (name : List ℕ) where
+    (Explains : Kind → List (List ℕ) → List ℕ → List FileLine → Type 0) (name : List ℕ) where
   abbrev pub FileBy : Detail → (V → Output → Type 0) → List ℕ → Option Output → Type 0
   FileBy Plain IsAnswer bytes output = FileOut F name IsAnswer bytes output
   FileBy Reasons IsAnswer bytes output =
-      WithReasons (FileOut F name IsAnswer bytes) (FileReasons F Tells bytes) output
+      WithReasons (FileOut F name IsAnswer bytes) (FileReasons F Explains bytes) output
 
 abbrev pub TaskBy : Detail → (Parts → Output → Type 0) → List ℕ → Option Output → Type 0
-TaskBy = FileBy task_format ExplainsTask (codes "task")
+TaskBy = FileBy task_format AreTaskReasons (codes "task")
 
 abbrev pub PlanBy : Detail → (PlanParts → Output → Type 0) → List ℕ → Option Output → Type 0
-PlanBy = FileBy plan_format ExplainsPlan (codes "plan")
+PlanBy = FileBy plan_format ArePlanReasons (codes "plan")
 
 -- of a request
 abbrev pub OutBy : Detail → Request → List ℕ → List ℕ → Option Output → Type 0

@@ -22,15 +22,15 @@ use Rattle.sas_outputs.specs.declared.Request.TheVariants.{Show, Print, Steps, C
 
 -- ---- one file
 
--- `Tells` relates the kind of a fault, the lines that were accepted before it, and the text that
+-- `Explains` relates the kind of a fault, the lines that were accepted before it, and the text that
 -- stood there, to the reasons why it may not stand there.
 module _ {V I S : Type 0} (F : Format V I S)
-    (Tells : Kind → List (List ℕ) → List ℕ → List FileLine → Type 0) where
-  -- the reasons why the bytes are refused for their fault: those of what it is about; a file that is
+    (Explains : Kind → List (List ℕ) → List ℕ → List FileLine → Type 0) where
+  -- the reasons why the bytes are refused for their fault, by what it is about; a file that is
   -- too long is refused without a line
   pub data FaultReasons (bytes : List ℕ) (fault : Fault) (reasons : List FileLine) : Type 0 where
     told : (begun : List (List ℕ)) → (found : List ℕ) → IsAbout F most_bytes bytes fault begun found
-        → Tells fault.kind begun found reasons → FaultReasons bytes fault reasons
+        → Explains fault.kind begun found reasons → FaultReasons bytes fault reasons
     past_limit : fault.kind ≡ TooLong → reasons ≡ [] → FaultReasons bytes fault reasons
 
   -- by what the bytes are read as: where they are a text there are none
@@ -45,7 +45,7 @@ module _ {V I S : Type 0} (F : Format V I S)
 
 -- a task: where the line stands, what is expected there, its first number that may not stand there,
 -- and the first 64 bytes of what was found
-pub record ExplainsTask (kind : Kind) (begun : List (List ℕ)) (found : List ℕ)
+pub record AreTaskReasons (kind : Kind) (begun : List (List ℕ)) (found : List ℕ)
     (reasons : List FileLine) : Type 0 where
   pub mark : Mark
   pub word : Option WrongWord
@@ -54,15 +54,15 @@ pub record ExplainsTask (kind : Kind) (begun : List (List ℕ)) (found : List �
       ≡ task_reasons kind mark word (take 64 found) (nat_lt 64 (length found))
 
 -- a plan: what is expected, by the kind of the fault, and the first 64 bytes of what was found
-abbrev pub ExplainsPlan : Kind → List (List ℕ) → List ℕ → List FileLine → Type 0
-ExplainsPlan kind begun found reasons =
+abbrev pub ArePlanReasons : Kind → List (List ℕ) → List ℕ → List FileLine → Type 0
+ArePlanReasons kind begun found reasons =
     reasons ≡ plan_reasons kind (take 64 found) (nat_lt 64 (length found))
 
 abbrev pub TaskFileReasons : List ℕ → List FileLine → Type 0
-TaskFileReasons = FileReasons task_format ExplainsTask
+TaskFileReasons = FileReasons task_format AreTaskReasons
 
 abbrev pub PlanFileReasons : List ℕ → List FileLine → Type 0
-PlanFileReasons = FileReasons plan_format ExplainsPlan
+PlanFileReasons = FileReasons plan_format ArePlanReasons
 
 -- ---- the files of a request
 
@@ -73,7 +73,7 @@ LayersFileReasons (Some fault) c reasons = reasons ≡ []
 LayersFileReasons None c reasons = PlanFileReasons c reasons
 
 abbrev pub JudgedFileReasons : List ℕ → Result Parts Fault → List ℕ → List FileLine → Type 0
-JudgedFileReasons b (Err fault) c reasons = FaultReasons task_format ExplainsTask b fault reasons
+JudgedFileReasons b (Err fault) c reasons = FaultReasons task_format AreTaskReasons b fault reasons
 JudgedFileReasons b (Ok p) c reasons = LayersFileReasons (first_fault (layer_checks p)) c reasons
 
 abbrev pub FilesReasons : List ℕ → List ℕ → List FileLine → Type 0

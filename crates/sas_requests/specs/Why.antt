@@ -72,7 +72,7 @@ abbrev pub OneWhyOutput : Type 0
 OneWhyOutput = (request : Request) (b c : List ℕ) (o p : Option Output) → OutWhy request b c o
     → OutWhy request b c p → o ≡ p
 
--- and it can't have nothing
+-- and it can't be that there is none
 abbrev pub SomeWhyOutput : Type 0
 SomeWhyOutput = (request : Request) (b c : List ℕ)
     → ((o : Option Output) → OutWhy request b c o → ⊥) → ⊥

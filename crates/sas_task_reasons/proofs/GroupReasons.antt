@@ -22,7 +22,7 @@ use Rattle.sas_task_reasons.specs.declared.reason.Reason.{Reason}
 use Rattle.sas_task_reasons.specs.declared.reason.Reason.TheVariants.{OnDerived, HoldsTwo, Breaks}
 use Rattle.sas_task_reasons.specs.declared.reason.Failure.TheVariants.{SetsTwo, MayStay}
 use Rattle.sas_task_reasons.specs.Failures.{effect_of_failure, IsFirstFailure}
-use Rattle.sas_task_reasons.specs.GroupReasons.{IsFirstSuch, HoldTwo, AreFirstHolding, verdict_of, IsReasonFor, IsReason}
+use Rattle.sas_task_reasons.specs.GroupReasons.{IsFirstSuch, HoldTwo, AreFirstHolding, verdict_of, TrueOfGroup, IsReason}
 use Rattle.sas_task_reasons.specs.Telling.{HoldsBeside}
 use Rattle.sas_task_reasons.specs.GroupLaws.{NotKeptIfFails, FailsIfNotKept, SomeFirstFailure, OneFirstFailure, SomeReason, OneReason}
 use Rattle.sas_task_reasons.proofs.Least.{all_below, IsLeast, none_at_all, least_is_one, facts_same, stands_at}
@@ -203,7 +203,7 @@ same_breaks operator operator' failure failure' is is' = ap (λ (n : ℕ). Break
 same_holds : (f f' g g' : Fact) → f ≡ f' → g ≡ g' → HoldsTwo f g ≡ HoldsTwo f' g'
 same_holds f f' g g' is is' = ap (λ (x : Fact). HoldsTwo x g) is ∙ ap (λ (x : Fact). HoldsTwo f' x) is'
 
-one_says : (p : Parts) (place : ℕ) (a b : Reason) → verdict_of a ≡ verdict_of b → IsReasonFor p place a → IsReasonFor p place b → a ≡ b
+one_says : (p : Parts) (place : ℕ) (a b : Reason) → verdict_of a ≡ verdict_of b → TrueOfGroup p place a → TrueOfGroup p place b → a ≡ b
 one_says p place (OnDerived f) (OnDerived g) same says says' =
     ap (λ (x : Fact). OnDerived x) (one_first_such (λ (x : Fact). IsBasic p x.var → ⊥) (group_at p place) f g says says')
 one_says p place (OnDerived f) (HoldsTwo g h) same says says' = absurd cc

@@ -1,4 +1,4 @@
--- The reason why a group isn't exclusive.
+-- The reason why a group isn't shown to be exclusive.
 use Rattle.std.specs.Prelude.{◌≡◌, ◌≢◌, ℕ, ◌<◌, Bool, List, length, Option, None, Some, slice_get, slice_index, slice_index_or}
 use Rattle.sas_core.specs.declared.parts.Fact.{Fact}
 use Rattle.sas_core.specs.declared.parts.Parts.{Parts}
@@ -50,13 +50,13 @@ verdict_of (OnDerived fact) = Derived
 verdict_of (HoldsTwo first second) = Initial
 verdict_of (Breaks operator failure) = Broken operator
 
--- What a reason states about the group. The failure of an operator is its first one, assuming the
+-- What the reason states holds of the group. The failure of an operator is its first, assuming the
 -- groups of the greatest family and the group itself.
-abbrev pub IsReasonFor : Parts → ℕ → Reason → Type 0
-IsReasonFor p place (OnDerived fact) =
+abbrev pub TrueOfGroup : Parts → ℕ → Reason → Type 0
+TrueOfGroup p place (OnDerived fact) =
     IsFirstSuch (λ (f : Fact). IsBasic p f.var → ⊥) (group_at p place) fact
-IsReasonFor p place (HoldsTwo first second) = AreFirstHolding p.init (group_at p place) first second
-IsReasonFor p place (Breaks operator failure) = (family : ℕ → Bool)
+TrueOfGroup p place (HoldsTwo first second) = AreFirstHolding p.init (group_at p place) first second
+TrueOfGroup p place (Breaks operator failure) = (family : ℕ → Bool)
     × IsGreatest p family
     × IsFirstFailure (IsGroupOfOr p family (group_at p place)) (operator_at p operator)
     (group_at p place) failure
@@ -64,9 +64,9 @@ IsReasonFor p place (Breaks operator failure) = (family : ℕ → Bool)
 -- the reason for this verdict on the group with this index
 pub record IsReason (p : Parts) (place : ℕ) (verdict : Verdict) (reason : Reason) : Type 0 where
   pub told : verdict ≡ verdict_of reason
-  pub says : IsReasonFor p place reason
+  pub says : TrueOfGroup p place reason
 
--- the same, if there is a reason; a group without a reason is exclusive
+-- the same, if there is a reason; a group without a reason has the verdict `Exclusive`
 abbrev pub IsReasonIfAny : Parts → ℕ → Verdict → Option Reason → Type 0
 IsReasonIfAny p place verdict None = verdict ≡ Exclusive
 IsReasonIfAny p place verdict (Some reason) = IsReason p place verdict reason

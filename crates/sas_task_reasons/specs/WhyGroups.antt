@@ -35,7 +35,7 @@ failure_lines p group operator (MayStay effect place) =
     ∷ line.MayRemain (member_at p group place)
     ∷ []
 
--- the lines of the reason why the group at this place isn't exclusive
+-- the lines of the reason why the group at this place isn't shown to be exclusive
 abbrev pub reason_lines : Parts → ℕ → Reason → List Line
 reason_lines p group (OnDerived fact) = line.Derived fact ∷ []
 reason_lines p group (HoldsTwo first second) = line.Holds first ∷ line.Holds second ∷ []
@@ -66,7 +66,7 @@ groups_output p verdicts reasons =
     record { text = text (why_lines p verdicts reasons); status = groups_status verdicts }
 
 -- the answer about the mutex groups of a layered task: the joint verdict on each, and the reason
--- behind it where the group isn't exclusive
+-- behind it where the group isn't shown to be exclusive
 abbrev pub WhyGroupsAnswer : Parts → Output → Type 0
 WhyGroupsAnswer p output = (verdicts : List Verdict)
     × (reasons : List (Option Reason))

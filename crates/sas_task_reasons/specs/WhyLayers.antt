@@ -1,4 +1,4 @@
--- The answers about a task, with the reasons why it isn't layered, or a group of it isn't exclusive.
+-- The answers about a task, with the reasons why it isn't layered or a group isn't shown exclusive.
 use Rattle.std.specs.Prelude.{◌≡◌, ℕ, List, [], ◌++◌, Option, Some, None, option_map}
 use Rattle.sas_core.specs.declared.parts.Parts.{Parts}
 use Rattle.sas_core.specs.FirstFault.{first_fault}
@@ -19,7 +19,7 @@ abbrev pub why_refusal : Parts → LayerFault → Option Output
 why_refusal p fault =
     option_map (with_reasons (reasons_text p [] (layer_reasons p fault))) (layers_refusal fault)
 
--- the answer about a task's layers, by their first fault if they have one
+-- the answer about a task's layers with reasons, by their first fault if they have one
 abbrev pub why_verdict : Parts → Option LayerFault → Option Output
 why_verdict p None = layers_verdict None
 why_verdict p (Some fault) = why_refusal p fault

@@ -5,7 +5,7 @@ use Rattle.std.specs.String.{string_bytes}
 use Rattle.sas_lines.specs.declared.inputs.Opened.{Opened}
 use Rattle.sas_lines.specs.declared.inputs.Opened.TheVariants.{File, Standard, Nothing}
 
--- the bytes of the words
+-- the bytes of the labels
 abbrev pub bytes_of_labels : {Z : Type 0} → List (String Z) → List (List ℕ)
 bytes_of_labels words = map string_bytes words
 

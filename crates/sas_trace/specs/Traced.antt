@@ -15,7 +15,7 @@ EndsWith p plan run verdict = (RunEndsWith p plan run None × (verdict ≡ valid
     ⊎ ((fault : PlanFault) × RunEndsWith p plan run (Some fault)
     × (invalid_answer plan.cost fault ≡ Some verdict))
 
--- the answer about a plan with its trace: the lines of the run of its steps that go through, and
+-- the answer about a plan with its trace: the lines of the run of its steps that succeed, and
 -- behind them the answer about it
 pub record TraceVerdict (p : Parts) (plan : PlanParts) (output : Output) : Type 0 where
   pub run : Run

@@ -14,7 +14,7 @@ pub record HasTraced (p : Parts) (run : Run) (e : Executed) (printed : List ℕ)
   pub executes : Executes run e
   pub values : printed ≡ e.state
 
--- this is the answer about the plan, and none of the steps that go through was made since
+-- this is the answer about the plan, and none of the steps that succeed was made since
 pub record HasVerdict (p : Parts) (plan : PlanParts) (run : Run) (verdict : Told) (e : Executed)
     : Type 0 where
   pub task : e.task ≡ p

@@ -18,7 +18,7 @@ use Rattle.sas_output.specs.declared.line.Line.{Line}
 use Rattle.sas_output.specs.declared.line.Line.TheVariants as line
 use Rattle.sas_run.specs.Runs.{Run, last_state, StepsSucceed, steps_before, RunEndsWith}
 use Rattle.sas_run.proofs.Runs.{leads_to_last, last_rests}
-use Rattle.sas_reasons.specs.WhyPlan.{AreOtherLines, AreFaultLines, IsWhy}
+use Rattle.sas_reasons.specs.WhyPlan.{AreCouldBeLines, AreFaultLines, IsWhy}
 use Rattle.sas_why.specs.declared.retraced.Other.{Other}
 use Rattle.sas_why.specs.declared.retraced.Retraced.{Retraced}
 use Rattle.sas_why.specs.Retracing.{IsOtherIfAny, Retraces}
@@ -47,7 +47,7 @@ module _ (p : Parts) (plan : PlanParts) (noted : Retraced) (run : Run) (fault : 
       → IsWhy p plan fault new
   is_why lines told new some none = at noted.other refl
     where
-      why : (others : List Line) → AreOtherLines p run others → new ≡ lines ++ others → IsWhy p plan fault new
+      why : (others : List Line) → AreCouldBeLines p run others → new ≡ lines ++ others → IsWhy p plan fault new
       why others may is = record {
         run = run;
         went = ends.1;

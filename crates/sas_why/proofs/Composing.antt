@@ -14,7 +14,7 @@ use Rattle.sas_output.specs.declared.line.Line.TheVariants as line
 use Rattle.sas_reasons.specs.Lines.{with_lines, LineThen, LinesOfEach}
 use Rattle.sas_run.specs.Runs.{Run, last_state}
 use Rattle.sas_reasons.specs.Derivation.{IsDerivation}
-use Rattle.sas_reasons.specs.Cause.{is_derived, is_given, actual_fact, since_line, AreGiverLines, can_be_given, keeping_lines, missing_lines, IsCause}
+use Rattle.sas_reasons.specs.Cause.{is_derived, is_given, actual_fact, since_line, AreDerivationLines, can_be_given, keeping_lines, missing_lines, IsCause}
 use Rattle.sas_why.specs.declared.origins.Origins.{Origins}
 use Rattle.sas_why.specs.declared.retraced.Retraced.{Retraced}
 use Rattle.sas_why.specs.declared.report.Report.{Report}
@@ -59,7 +59,7 @@ module _ (p : Parts) (noted : Retraced) where
 
   pub cause_added : (report : Report) (new : List Line) (between after : Report) (fact : Fact) → fact.var < length p.variables
       → new ≡ report.lines ++ first_lines fact
-      → Adds p noted (record report { lines = new }) between (λ run. AreGiverLines (is_given p (last_state run) fact.var) p (last_state run) fact.var)
+      → Adds p noted (record report { lines = new }) between (λ run. AreDerivationLines (is_given p (last_state run) fact.var) p (last_state run) fact.var)
       → Adds p noted between after (λ run lines. lines ≡ missing_lines p (last_state run) fact)
       → Adds p noted report after (λ run. IsCause p run fact)
   cause_added report new between after fact lt add givers missing run behind is =
@@ -84,19 +84,19 @@ module _ (p : Parts) (noted : Retraced) where
   -- ---- rules that derive values
 
   pub no_givers : (report : Report) (var : ℕ) → is_given p noted.last var ≡ false
-      → Adds p noted report report (λ run. AreGiverLines (is_given p (last_state run) var) p (last_state run) var)
+      → Adds p noted report report (λ run. AreDerivationLines (is_given p (last_state run) var) p (last_state run) var)
   no_givers report var not_so run behind is =
-      ([], subst (λ b. AreGiverLines b p (last_state run) var []) (sym (ap (λ s. is_given p s var) (sym behind.last) ∙ not_so)) refl, refl, is)
+      ([], subst (λ b. AreDerivationLines b p (last_state run) var []) (sym (ap (λ s. is_given p s var) (sym behind.last) ∙ not_so)) refl, refl, is)
 
   pub some_givers : (report : Report) (new : List Line) (origins : Origins) (next : Vec ℕ Global) (var : ℕ) → is_given p noted.last var ≡ true
       → ((s : List ℕ) → AreOrigins p s report.origins → TellsDerivation p s var report.origins origins [] next.items)
       → new ≡ report.lines ++ map line.RuleDerives next.items
       → Adds p noted report (record report { lines = new; origins = origins; next = next })
-      (λ run. AreGiverLines (is_given p (last_state run) var) p (last_state run) var)
+      (λ run. AreDerivationLines (is_given p (last_state run) var) p (last_state run) var)
   some_givers report new origins next var so tells add run behind is =
       let t = tells noted.last is.origins in (
         map line.RuleDerives t.derivation,
-        subst (λ b. AreGiverLines b p (last_state run) var (map line.RuleDerives t.derivation)) (sym (ap (λ s. is_given p s var) (sym behind.last) ∙ so))
+        subst (λ b. AreDerivationLines b p (last_state run) var (map line.RuleDerives t.derivation)) (sym (ap (λ s. is_given p s var) (sym behind.last) ∙ so))
             (t.derivation, subst (λ s. IsDerivation p s var t.derivation) behind.last t.is, refl),
         derivation_once p noted.last report new origins next var t add is,
         derivation_added p noted.last report new origins next var t add is,

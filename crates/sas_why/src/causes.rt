@@ -6,7 +6,7 @@ ghost use Rattle.sas_meaning.specs.Layers.{default_of};
 ghost use Rattle.sas_meaning.specs.Places.{places, can_give};
 ghost use Rattle.sas_run.specs.Runs.{last_state};
 ghost use Rattle.sas_reasons.specs.Cause.{fails, is_derived, is_given, actual_fact, since_line, failing_lines};
-ghost use Rattle.sas_reasons.specs.Cause.{AreGiverLines, can_be_given, keeping_lines, missing_lines, IsCause};
+ghost use Rattle.sas_reasons.specs.Cause.{AreDerivationLines, can_be_given, keeping_lines, missing_lines, IsCause};
 ghost use Rattle.sas_why.specs.Report.{CanTell, Adds};
 
 use crate::report::Report;
@@ -65,7 +65,7 @@ fn report_givers<T: Grounded>(
     requires var { var < length task.now.variables }
     requires report { CanTell task.now noted.now report.old }
     ensures { OnOk result (Adds task.now noted.now report.old report.new
-        (λ run. AreGiverLines
+        (λ run. AreDerivationLines
         (is_given task.now (last_state run) var) task.now (last_state run) var)) }
 {
     // By its contract the task is well ranged and layered.

@@ -5,7 +5,7 @@ ghost use Rattle.sas_core.specs.Variables.{IsState};
 ghost use Rattle.sas_meaning.specs.Steps.{Agree};
 ghost use Rattle.sas_reasons.specs.Lines.{LineThen};
 ghost use Rattle.sas_run.specs.Runs.{Run};
-ghost use Rattle.sas_reasons.specs.WhyPlan.{AreSimilarNameLines, AreInapplicableLines, AreOperatorLines, AreConflictLines};
+ghost use Rattle.sas_reasons.specs.WhyPlan.{AreSimilarNameLines, AreFailedPreconditionLines, AreOperatorLines, AreConflictLines};
 ghost use Rattle.sas_reasons.specs.WhyPlan.{AreGoalLines, AreFaultLines, IsWhy, cost_lines, cost_lines_sum};
 ghost use Rattle.sas_why.specs.Retracing.{Retraces};
 ghost use Rattle.sas_why.specs.Report.{IsBehind, CanTell, Adds, TellsOnce};
@@ -144,7 +144,7 @@ fn report_inapplicable<T: Grounded>(
     requires operator { operator < length task.now.operators }
     requires report { CanTell task.now noted.now report.old }
     ensures { OnOk result (Adds task.now noted.now report.old report.new
-        (λ run. AreInapplicableLines task.now run operator)) }
+        (λ run. AreFailedPreconditionLines task.now run operator)) }
 {
     // By its contract the task is well ranged and layered.
     let _ = task.task();

@@ -7,14 +7,14 @@ use Rattle.sas_output.specs.declared.ending.Status.TheVariants.{Yes}
 use Rattle.sas_output.specs.Ending.{Output}
 use Rattle.sas_outputs.specs.Summary.{summary_lines}
 use Rattle.sas_outputs.specs.Output.{ShowAnswer}
-use Rattle.sas_requests.specs.FileReasons.{ExplainsTask}
+use Rattle.sas_requests.specs.FileReasons.{AreTaskReasons}
 use Rattle.sas_requests.proofs.FileEnds.{ends_text, task_refused, unread}
 use Rattle.sas_requests.proofs.answers.show.Goals as goal
 
 pub returns-in-Ok-clause-ends : goal.returns-in-Ok-clause-ends
 returns-in-Ok-clause-ends g c =
     let told = λ (o : Outline). let x : Output = record { text = text (summary_lines o); status = Yes } in x in
-    ends_text g.R.Read.remaining task_format ExplainsTask OutlineOf (codes "task") _ c.args.detail ShowAnswer _ _ c.in-Ok.outline (told c.new-summary.result) c.write-ended.result c.in-Ok.ensures.plain
+    ends_text g.R.Read.remaining task_format AreTaskReasons OutlineOf (codes "task") _ c.args.detail ShowAnswer _ _ c.in-Ok.outline (told c.new-summary.result) c.write-ended.result c.in-Ok.ensures.plain
     (λ b outlined. (outlined.0, outlined.1, ap told (c.new-summary.ensures ∙ outlined.2))) c.write-ended.ensures.ends (unread _ c.write-ended.result c.write-ended.ensures.nothing)
 
 pub returns-in-Err-clause-ends : goal.returns-in-Err-clause-ends

@@ -2,7 +2,7 @@ use Rattle.std.proofs.Common.{codes}
 use Rattle.sas_reader.specs.Devices.{ValueOf}
 use Rattle.sas_plan_file.specs.PlanFormat.{plan_format}
 use Rattle.sas_requests.specs.Answering.{VerdictBy}
-use Rattle.sas_requests.specs.FileReasons.{ExplainsPlan}
+use Rattle.sas_requests.specs.FileReasons.{ArePlanReasons}
 use Rattle.sas_requests.proofs.FileEnds.{ends_value, plan_refused, unread}
 use Rattle.sas_requests.proofs.plans.judge_plan_file.Goals as goal
 
@@ -11,7 +11,7 @@ returns-in-Ok-clause-ends g c =
     let detail = c.args.detail in
     let p = c.args.layered.now in
     let plan = c.in-Ok.read in
-    ends_value g.P.Read.remaining plan_format ExplainsPlan (ValueOf plan_format) (codes "plan") _ detail (VerdictBy detail p) _ _ plan (VerdictBy detail p plan) (λ b value o is. (plan, value, is)) c.answer_plan-ended.result c.in-Ok.ensures.plain
+    ends_value g.P.Read.remaining plan_format ArePlanReasons (ValueOf plan_format) (codes "plan") _ detail (VerdictBy detail p) _ _ plan (VerdictBy detail p plan) (λ b value o is. (plan, value, is)) c.answer_plan-ended.result c.in-Ok.ensures.plain
     c.answer_plan-ended.ensures.ends (unread _ c.answer_plan-ended.result c.answer_plan-ended.ensures.nothing)
 
 pub returns-in-Err-clause-ends : goal.returns-in-Err-clause-ends

@@ -3,7 +3,7 @@ use Rattle.std.proofs.Common.{◌≡◌, ◌<◌, ℕ, ◌+◌, List, [], ◌∷
 use Rattle.sas_core.specs.Grounded.{operator_at}
 use Rattle.sas_meaning.proofs.Places.{places_to, places_all}
 use Rattle.sas_reasons.specs.Lines.{LinesOfEach}
-use Rattle.sas_reasons.specs.WhyPlan.{operators_of, AreInapplicableLines, AreOperatorLines}
+use Rattle.sas_reasons.specs.WhyPlan.{operators_of, AreFailedPreconditionLines, AreOperatorLines}
 use Rattle.sas_output.specs.declared.line.Line.TheVariants.{Step}
 use Rattle.sas_why.specs.declared.report.Report.{Report}
 use Rattle.sas_why.specs.Report.{Adds}
@@ -15,7 +15,7 @@ use Rattle.sas_why.proofs.faults.report_blocked.Goals.{then-eq+in_ok-report_inap
 pub report_inapplicable-requires-clause-report : goal.report_inapplicable-requires-clause-report
 report_inapplicable-requires-clause-report g c =
     let p = c.args.task.now in
-    more_can_tell p c.args.noted.now (λ run. LinesOfEach (AreInapplicableLines p run) (places_to (λ o. bytes_eq o.name c.args.name.now) c.loop-operator.operator p.operators))
+    more_can_tell p c.args.noted.now (λ run. LinesOfEach (AreFailedPreconditionLines p run) (places_to (λ o. bytes_eq o.name c.args.name.now) c.loop-operator.operator p.operators))
     _ c.loop-operator.report c.loop-operator.invariant
     (plain_can_tell p c.args.noted.now c.args.report.now c.push.new.self (Step c.args.step ∷ []) (refl, tt) c.in_ok-push.ensures.ok
     c.requires)
@@ -31,15 +31,15 @@ loop-operator-preserved g c =
     elim c.if-eq.branch [
       | then-eq+in_ok-report_inapplicable w ↦
           subst (λ (t : Report). Adds p c.args.noted.now (record first { lines = c.push.new.self }) t
-          (λ run. LinesOfEach (AreInapplicableLines p run) (places_to (λ o. bytes_eq o.name name) (k + 1) p.operators))) (sym w.report-is)
-          (same_items p c.args.noted.now (λ run. AreInapplicableLines p run) (places_to (λ o. bytes_eq o.name name) k p.operators ++ k ∷ []) _ _ w.report_inapplicable.new.report
+          (λ run. LinesOfEach (AreFailedPreconditionLines p run) (places_to (λ o. bytes_eq o.name name) (k + 1) p.operators))) (sym w.report-is)
+          (same_items p c.args.noted.now (λ run. AreFailedPreconditionLines p run) (places_to (λ o. bytes_eq o.name name) k p.operators ++ k ∷ []) _ _ w.report_inapplicable.new.report
           (sym (place_more (λ o. bytes_eq o.name name) k p.operators _ lt (test ∙ w.if-eq.true)))
-          (one_more p c.args.noted.now (λ run. AreInapplicableLines p run) _ c.loop-operator.report w.report_inapplicable.new.report
+          (one_more p c.args.noted.now (λ run. AreFailedPreconditionLines p run) _ c.loop-operator.report w.report_inapplicable.new.report
           (places_to (λ o. bytes_eq o.name name) k p.operators) k c.loop-operator.invariant w.in_ok-report_inapplicable.ensures))
       | else-eq w ↦
           subst (λ (t : Report). Adds p c.args.noted.now (record first { lines = c.push.new.self }) t
-          (λ run. LinesOfEach (AreInapplicableLines p run) (places_to (λ o. bytes_eq o.name name) (k + 1) p.operators))) (sym w.report-is)
-          (same_items p c.args.noted.now (λ run. AreInapplicableLines p run) (places_to (λ o. bytes_eq o.name name) k p.operators) _ _ c.loop-operator.report
+          (λ run. LinesOfEach (AreFailedPreconditionLines p run) (places_to (λ o. bytes_eq o.name name) (k + 1) p.operators))) (sym w.report-is)
+          (same_items p c.args.noted.now (λ run. AreFailedPreconditionLines p run) (places_to (λ o. bytes_eq o.name name) k p.operators) _ _ c.loop-operator.report
           (sym (place_not (λ o. bytes_eq o.name name) k p.operators _ lt (test ∙ w.if-eq.false)))
           c.loop-operator.invariant)
     ]
@@ -49,6 +49,6 @@ returns g c =
     let p = c.args.task.now in
     let name = c.args.name.now in
     line_and_more p c.args.noted.now c.args.report.now c.loop-operator.report c.push.new.self (Step c.args.step) (λ run. AreOperatorLines p run name) refl c.in_ok-push.ensures.ok
-    (same_items p c.args.noted.now (λ r. AreInapplicableLines p r) _ (operators_of p name) _ c.loop-operator.report
+    (same_items p c.args.noted.now (λ r. AreFailedPreconditionLines p r) _ (operators_of p name) _ c.loop-operator.report
     (places_all (λ o. bytes_eq o.name name) c.loop-operator.operator p.operators (omega (arith, c.operators-operator-end.ensures, c.loop-operator-test.false)))
     c.loop-operator.invariant)
