@@ -1,5 +1,5 @@
 mod Placed
-pub mod Pushing
+pub mod Pushed
 pub mod Putting
 pub mod Sent
 pub mod Texts

@@ -1,6 +1,6 @@
 use Rattle.std.proofs.Common.{arith, subst}
 use Rattle.sas_output.specs.Sink.{Pushes}
-use Rattle.sas_output.proofs.Pushing.{pushes_item}
+use Rattle.sas_output.proofs.Pushed.{pushes_item}
 use Rattle.sas_output.specs.declared.line.Line.{Line}
 use Rattle.sas_output.specs.declared.line.Line.TheVariants.{Step}
 use Rattle.sas_output.specs.Wording.{steps_of}

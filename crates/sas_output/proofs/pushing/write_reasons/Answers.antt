@@ -1,6 +1,6 @@
 use Rattle.std.proofs.Common.{rules, refl, ◌∙◌}
 use Rattle.sas_output.specs.declared.ending.Status.TheVariants.{No}
-use Rattle.sas_output.proofs.Pushing.{finish_ends, pushes_then}
+use Rattle.sas_output.proofs.Pushed.{finish_ends, pushes_then}
 use Rattle.sas_output.proofs.pushing.write_reasons.Goals as goal
 
 pub returns-clause-ends : goal.returns-clause-ends

@@ -7,7 +7,7 @@ use Rattle.sas_groups.specs.Joint.{AreJointVerdicts}
 use Rattle.sas_task_reasons.specs.declared.reason.Reason.{Reason}
 use Rattle.sas_output.specs.declared.ending.Status.{Status}
 use Rattle.sas_output.specs.Ending.{Output}
-use Rattle.sas_output.proofs.Pushing.{finish_ends}
+use Rattle.sas_output.proofs.Pushed.{finish_ends}
 use Rattle.sas_output.proofs.Sent.{ends_counting_as}
 use Rattle.sas_task_reasons.specs.WhyGroups.{WhyGroupsAnswer, why_lines}
 use Rattle.sas_task_reasons.proofs.groups.write_groups.Goals as goal

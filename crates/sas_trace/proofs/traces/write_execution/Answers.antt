@@ -1,7 +1,7 @@
 -- What is pushed in the second pass is the trace.
 use Rattle.std.proofs.Common.{rules, refl, subst, ◌∙◌}
 use Rattle.sas_core.specs.declared.parts.Parts.{Parts}
-use Rattle.sas_output.proofs.Pushing.{finish_ends}
+use Rattle.sas_output.proofs.Pushed.{finish_ends}
 use Rattle.sas_output.proofs.Sent.{ends_counting_as}
 use Rattle.sas_trace.specs.Traced.{IsTraced}
 use Rattle.sas_trace.specs.Tracing.{HasVerdict}

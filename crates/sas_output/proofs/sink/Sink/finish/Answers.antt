@@ -1,7 +1,7 @@
 use Rattle.std.proofs.Common.{sym, ◌∙◌, refl, subst}
 use Rattle.sas_output.specs.Sink.{PushedBy}
 use Rattle.sas_output.proofs.Sent.{all_sent, first_counted}
-use Rattle.sas_output.proofs.Pushing.{puts_so_far, finish_puts, finish_breaks}
+use Rattle.sas_output.proofs.Pushed.{puts_so_far, finish_puts, finish_breaks}
 use Rattle.sas_output.proofs.sink.Sink.finish.Goals as goal
 
 pub returns-then-failed-clause-ends : goal.returns-then-failed-clause-ends

@@ -3,7 +3,7 @@ use Rattle.sas_lines.specs.Lines.{text}
 use Rattle.sas_flat.specs.declared.outline.Outline.{Outline}
 use Rattle.sas_output.specs.declared.ending.Status.TheVariants.{Yes}
 use Rattle.sas_outputs.specs.Summary.{summary_lines}
-use Rattle.sas_output.proofs.Pushing.{finish_ends}
+use Rattle.sas_output.proofs.Pushed.{finish_ends}
 use Rattle.sas_outputs.proofs.Summaries.{summary_is}
 use Rattle.sas_outputs.proofs.summary.Summary.write.Goals as goal
 

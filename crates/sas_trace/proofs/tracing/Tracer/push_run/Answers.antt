@@ -1,7 +1,7 @@
 -- The lines of the initial state, and behind them those of the steps.
 use Rattle.std.proofs.Common.{◌∙◌, ap, subst, length}
 use Rattle.sas_output.specs.Sink.{Pushes}
-use Rattle.sas_output.proofs.Pushing.{pushes_then}
+use Rattle.sas_output.proofs.Pushed.{pushes_then}
 use Rattle.sas_run.specs.Runs.{state_at}
 use Rattle.sas_trace.proofs.RunTexts.{run_text}
 use Rattle.sas_trace.proofs.Standing.{stands_fits}

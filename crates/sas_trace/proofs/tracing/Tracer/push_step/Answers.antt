@@ -2,7 +2,7 @@
 use Rattle.std.proofs.Common.{ℕ, List, subst}
 use Rattle.sas_lines.specs.Lines.{text}
 use Rattle.sas_output.specs.Sink.{Pushes}
-use Rattle.sas_output.proofs.Pushing.{pushes_then}
+use Rattle.sas_output.proofs.Pushed.{pushes_then}
 use Rattle.sas_trace.specs.Trace.{change_lines}
 use Rattle.sas_trace.proofs.tracing.Tracer.push_step.Goals as goal
 

@@ -1,7 +1,7 @@
 -- One step more is made, and its lines pushed, as in the run.
 use Rattle.std.proofs.Common.{◌≡◌, ◌+◌, length, ap, subst, ◌∙◌, arith}
 use Rattle.sas_output.specs.Sink.{Pushes}
-use Rattle.sas_output.proofs.Pushing.{pushes_then}
+use Rattle.sas_output.proofs.Pushed.{pushes_then}
 use Rattle.sas_run.specs.Executions.{next_operator}
 use Rattle.sas_trace.proofs.Numbers.{said_more}
 use Rattle.sas_trace.proofs.RunTexts.{step_text, steps_all}
