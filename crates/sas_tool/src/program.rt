@@ -23,7 +23,7 @@ const NO: u8 = 1;
 /// The exit status for invalid arguments.
 const NOT_UNDERSTOOD: u8 = 2;
 
-/// The exit status at any other fault.
+/// The exit status if there is no answer.
 const FAULT: u8 = 3;
 
 const OUT_OF_MEMORY: &str = "sas: out of memory";

@@ -12,9 +12,9 @@ const WHY: &str = "why";
 
 /// What stands below each help.
 const STATUSES_AND_FILES: &str = "\
-The exit status is 0 for yes, 1 for no, 2 if the words aren't understood, 3 at any other fault.
-Fast Downward's translator writes the task file, output.sas; its driver deletes that file at the
-end unless it is told to keep it (--keep-sas-file). A compressed file is read from standard input:
+The exit status is 0 for yes, 1 for no, 2 for invalid arguments or a help, 3 if there is no answer.
+Fast Downward's translator writes the task file, output.sas. Its driver deletes that file at the
+end, except with --keep-sas-file. A compressed file is read from standard input:
   zcat output.sas.gz | sas plan - sas_plan";
 
 /// Where an input comes from.
