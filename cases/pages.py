@@ -134,7 +134,7 @@ def version_cases(sas):
     told = printed(sas, "--version").split()[-1]
     for file, pattern in (
         ("CHANGELOG.md", r"^## (\S+)"),
-        ("crates/sas_tool/src/words.rt", r'^const VERSION: &str = "(.*)";$'),
+        ("crates/sas_tool/src/arguments.rt", r'^const VERSION: &str = "(.*)";$'),
         ("library/sas.h", r'^#define SAS_VERSION "(.*)"$'),
         ("library/sas.pc", r"^Version: (.*)$"),
         ("library/sasConfigVersion.cmake", r'^set\(PACKAGE_VERSION "(.*)"\)$'),

@@ -1,11 +1,11 @@
 //! The tool: the arguments, the devices of its inputs, and how the program ends.
 #![tactic(auto)]
 
+mod arguments;
 mod plan_files;
 mod program;
 mod streams;
 mod until_end;
-mod words;
 
 pub use program::start;
 pub use sas_plans::{

@@ -1,10 +1,10 @@
 // The program: its arguments, its devices and how it ends.
 ghost use Rattle.std.specs.Prelude.{◌≡◌, false};
 
+use crate::arguments::{ArgumentsFault, Asked, Job, Source, command};
 use crate::plan_files::{PlanFiles, are_labels, name_input_twice};
 use crate::streams::replace_closed;
 use crate::until_end::UntilEnd;
-use crate::words::{Asked, Job, Source, WordsFault, command};
 use crate::{Status, ToolFault, explain, judge, run, trace};
 use sas_lines::{Opened, Watched};
 use sas_plans::{InputFault, JudgeFault};
@@ -21,7 +21,7 @@ const YES: u8 = 0;
 const NO: u8 = 1;
 
 /// The exit status for invalid arguments.
-const NOT_UNDERSTOOD: u8 = 2;
+const INVALID_ARGUMENTS: u8 = 2;
 
 /// The exit status if there is no answer.
 const FAULT: u8 = 3;
@@ -42,7 +42,7 @@ pub fn start<R: AllocGlobal + Env + Files + Input + Print + Eprint>(
     output: &impl AsFd,
     error: &impl AsFd,
 ) -> ExitCode {
-    let job = match job_of_words(rt) {
+    let job = match job_of_arguments(rt) {
         Ok(job) => job,
         Err(status) => return status,
     };
@@ -99,10 +99,10 @@ fn run_plans<R: AllocGlobal + Files + Input + Print + Eprint>(
     labels: &[String],
 ) -> ExitCode {
     if !are_labels(labels) {
-        return stop(rt, NOT_UNDERSTOOD, "sas: a plan's name has a line end");
+        return stop(rt, INVALID_ARGUMENTS, "sas: a plan's name has a line end");
     }
     if name_input_twice(labels, task_source == Some(Source::Input)) {
-        return stop(rt, NOT_UNDERSTOOD, INPUT_TWICE);
+        return stop(rt, INVALID_ARGUMENTS, INPUT_TWICE);
     }
     let mut task = Watched::new(UntilEnd::nothing());
     if open_until_end(rt, task_source, &mut task).is_err() {
@@ -131,12 +131,12 @@ fn end<R: Eprint>(rt: &R, outcome: &Result<Status, ToolFault>) -> ExitCode {
 
 /// Ends where the plan with this number wasn't read.
 fn stop_at<R: Eprint>(rt: &R, fault: InputFault, labels: &[String], number: usize) -> ExitCode {
-    let words = match fault {
+    let message = match fault {
         InputFault::NotOpened => "sas: cannot open the plan: ",
         InputFault::Read => "sas: read failed: ",
         InputFault::TooLong => "sas: input too long: ",
     };
-    let _ = rt.eprint(words);
+    let _ = rt.eprint(message);
     match labels.get(number) {
         Some(label) => stop(rt, FAULT, label.as_str()),
         None => stop(rt, FAULT, ""),
@@ -144,22 +144,22 @@ fn stop_at<R: Eprint>(rt: &R, fault: InputFault, labels: &[String], number: usiz
 }
 
 /// Returns the job of the arguments, or the exit status if they have none.
-fn job_of_words<R: AllocGlobal + Env + Eprint>(rt: &R) -> Result<Job, ExitCode> {
-    let words = match env::args(rt) {
-        Ok(words) => words,
+fn job_of_arguments<R: AllocGlobal + Env + Eprint>(rt: &R) -> Result<Job, ExitCode> {
+    let arguments = match env::args(rt) {
+        Ok(arguments) => arguments,
         Err(error) => return Err(not_text(rt, error.kind())),
     };
-    let Ok(words) = words.collect(rt.alloc()) else {
+    let Ok(arguments) = arguments.collect(rt.alloc()) else {
         return Err(stop(rt, FAULT, OUT_OF_MEMORY));
     };
-    match command(rt.alloc(), words) {
+    match command(rt.alloc(), arguments) {
         Ok(job) => Ok(job),
-        Err(WordsFault::Refused(error)) => {
+        Err(ArgumentsFault::Refused(error)) => {
             let _ = rt.eprint(error);
-            Err(ExitCode::from(NOT_UNDERSTOOD))
+            Err(ExitCode::from(INVALID_ARGUMENTS))
         }
-        Err(WordsFault::InputTwice) => Err(stop(rt, NOT_UNDERSTOOD, INPUT_TWICE)),
-        Err(WordsFault::Memory) => Err(stop(rt, FAULT, OUT_OF_MEMORY)),
+        Err(ArgumentsFault::InputTwice) => Err(stop(rt, INVALID_ARGUMENTS, INPUT_TWICE)),
+        Err(ArgumentsFault::Memory) => Err(stop(rt, FAULT, OUT_OF_MEMORY)),
     }
 }
 
@@ -167,7 +167,7 @@ fn job_of_words<R: AllocGlobal + Env + Eprint>(rt: &R) -> Result<Job, ExitCode> 
 fn not_text<R: Eprint>(rt: &R, kind: ErrorKind) -> ExitCode {
     match kind {
         ErrorKind::OutOfMemory => stop(rt, FAULT, OUT_OF_MEMORY),
-        _ => stop(rt, NOT_UNDERSTOOD, "sas: a word is no text in UTF-8"),
+        _ => stop(rt, INVALID_ARGUMENTS, "sas: a word is no text in UTF-8"),
     }
 }
 

@@ -55,7 +55,7 @@ pub enum Job {
 
 /// Why the arguments are no job.
 #[derive(Drop)]
-pub enum WordsFault {
+pub enum ArgumentsFault {
     /// The arguments are invalid, or request help; the error has the text for the user.
     Refused(Error),
     /// Standard input is named twice.
@@ -64,15 +64,15 @@ pub enum WordsFault {
     Memory,
 }
 
-impl From<AllocError> for WordsFault {
-    fn from(_error: AllocError) -> WordsFault {
-        WordsFault::Memory
+impl From<AllocError> for ArgumentsFault {
+    fn from(_error: AllocError) -> ArgumentsFault {
+        ArgumentsFault::Memory
     }
 }
 
 /// Returns the job of the arguments. The first one is the program's name.
-pub fn command(alloc: Global, words: Vec<String>) -> Result<Job, WordsFault> {
-    match grammar(alloc)?.try_get_matches_from(words.as_slice()) {
+pub fn command(alloc: Global, arguments: Vec<String>) -> Result<Job, ArgumentsFault> {
+    match grammar(alloc)?.try_get_matches_from(arguments.as_slice()) {
         Ok(matches) => job_of(alloc, &matches)?.with_one_input(),
         Err(error) => Err(refused(error)),
     }
@@ -80,13 +80,13 @@ pub fn command(alloc: Global, words: Vec<String>) -> Result<Job, WordsFault> {
 
 impl Job {
     /// Returns the job, unless both of its sources are standard input.
-    fn with_one_input(self) -> Result<Job, WordsFault> {
+    fn with_one_input(self) -> Result<Job, ArgumentsFault> {
         match &self {
             Job::Files {
                 task: Some(Source::Input),
                 plan: Some(Source::Input),
                 ..
-            } => Err(WordsFault::InputTwice),
+            } => Err(ArgumentsFault::InputTwice),
             _ => Ok(self),
         }
     }
@@ -103,7 +103,7 @@ enum Over {
 }
 
 /// A request as the command line names it.
-struct Words {
+struct RequestArguments {
     name: &'static str,
     about: &'static str,
     over: Over,
@@ -112,52 +112,52 @@ struct Words {
 }
 
 /// All requests, in the order in which the help names them.
-const REQUESTS: [Words; 8] = [
-    Words {
+const REQUESTS: [RequestArguments; 8] = [
+    RequestArguments {
         name: "plan",
         about: "Says whether a plan solves a task, or why it doesn't; for many plans, see plans",
         over: Over::Both,
         why: true,
     },
-    Words {
+    RequestArguments {
         name: "plans",
         about: "Says of each of many plans whether it solves a task, and which is best",
         over: Over::Many,
         why: false,
     },
-    Words {
+    RequestArguments {
         name: "trace",
         about: "Says what each step of a plan does, and whether the plan solves a task",
         over: Over::Both,
         why: false,
     },
-    Words {
+    RequestArguments {
         name: "mutex",
         about: "Says for each mutex group of a task whether it is shown to be exclusive",
         over: Over::Task,
         why: true,
     },
-    Words {
+    RequestArguments {
         name: "show",
         about: "Shows what a task is about: its numbers, initial state and goal",
         over: Over::Task,
         why: true,
     },
-    Words {
+    RequestArguments {
         name: "check",
         about: "Says whether a task is well formed and layered, or what is wrong with it",
         over: Over::Task,
         why: true,
     },
-    Words {
+    RequestArguments {
         name: "print",
         about: "Prints a task file again, in its one canonical form",
         over: Over::Task,
         why: true,
     },
-    Words {
+    RequestArguments {
         name: "steps",
-        about: "Prints a plan file again; with no words, that on standard input",
+        about: "Prints a plan file again; without arguments, that on standard input",
         over: Over::Plan,
         why: true,
     },
@@ -169,13 +169,13 @@ fn grammar<'a>(alloc: Global) -> Result<Command<'a>, AllocError> {
         .about("Reads, checks and validates task files and plan files of Fast Downward")
         .after_help(STATUSES_AND_FILES)
         .version(VERSION);
-    for words in &REQUESTS {
-        program = program.subcommand(words.command(alloc)?)?;
+    for request in &REQUESTS {
+        program = program.subcommand(request.command(alloc)?)?;
     }
     Ok(program)
 }
 
-impl Words {
+impl RequestArguments {
     /// Returns the grammar of the arguments of the request.
     fn command<'a>(&self, alloc: Global) -> Result<Command<'a>, AllocError> {
         let mut request = Command::new(alloc, self.name)
@@ -297,9 +297,9 @@ fn job_over_many(alloc: Global, matches: &ArgMatches<'_>) -> Result<Job, AllocEr
 /// Returns the arguments that name the plans.
 fn labels_of(alloc: Global, matches: &ArgMatches<'_>) -> Result<Vec<String>, AllocError> {
     let mut labels = Vec::new(alloc);
-    if let Some(words) = matches.get_strs("PLAN") {
-        for word in words {
-            labels.push(String::from_str(alloc, word)?)?;
+    if let Some(names) = matches.get_strs("PLAN") {
+        for name in names {
+            labels.push(String::from_str(alloc, name)?)?;
         }
     }
     Ok(labels)
@@ -309,14 +309,14 @@ fn labels_of(alloc: Global, matches: &ArgMatches<'_>) -> Result<Vec<String>, All
 fn named(alloc: Global, matches: &ArgMatches<'_>, id: &str) -> Result<Option<Source>, AllocError> {
     match matches.get_str(id) {
         Some("-") => Ok(Some(Source::Input)),
-        Some(word) => Ok(Some(Source::File(String::from_str(alloc, word)?))),
+        Some(name) => Ok(Some(Source::File(String::from_str(alloc, name)?))),
         None => Ok(None),
     }
 }
 
-fn refused(error: Error) -> WordsFault {
+fn refused(error: Error) -> ArgumentsFault {
     match error.kind() {
-        ErrorKind::OutOfMemory => WordsFault::Memory,
-        _ => WordsFault::Refused(error),
+        ErrorKind::OutOfMemory => ArgumentsFault::Memory,
+        _ => ArgumentsFault::Refused(error),
     }
 }
