@@ -33,11 +33,6 @@ use Rattle.sas_c.specs.contracts.box_pointer.BoxPointer as box_pointer
 abbrev pub both : Val → Val → Val
 both v w = vstruct (vcons v (vcons w vnil))
 
-pub both_tt : (x y : Bool) → T x → T y → T (x && (y && true))
-both_tt true true s t = tt
-both_tt true false s t = absurd t
-both_tt false y s t = absurd s
-
 module _ (R Z : RattleType) (L : Laws Z) (g : Ghosts Z.Denot) where
   abbrev pub BoxPointer : RattleType
   BoxPointer = box_pointer.the_row R Z g
@@ -77,10 +72,6 @@ one_told p vs s = mathlib.Core.Path.◌∙◌ s.1.0 (λ i. vstruct (of_list (s.1
 
 pub one_made : {M : Type 1} {𝓤 : Ura M} (𝓛 : Logic 𝓤) (p : Ptr) → ent 𝓤 (emp 𝓤) (sem 𝓛 (one_own p (one_val p ∷ [])))
 one_made 𝓛 p = makes_shadow 𝓛 (one_own p (one_val p ∷ [])) (λ _. (tt, (tt, tt))) ((ptr_val p ∷ [], tt), (refl, (refl, tt)))
-
-pub ptr_typed : (p : Ptr) → Good ty_ptr (ptr_val p)
-ptr_typed (block_ptr b o) = (tt, tt)
-ptr_typed null_ptr = (tt, record { fits = lit< tt })
 
 -- ---- the parameters of a walk, and its cases
 

@@ -212,13 +212,6 @@ invariants_why_told b c before room size number t = λ status is.
 
 -- ---- a task that was opened
 
--- a fault is never told as yes
-pub fault_number : (why : ToolFault) (number : ℕ) → number ≡ number_of_fault why → number ≡ 0 → ⊥
-fault_number TooLong number is zero = omega arith
-fault_number Memory number is zero = omega arith
-fault_number Read number is zero = omega arith
-fault_number (Write written) number is zero = omega arith
-
 -- what isn't yes is never told as yes
 pub never_yes : (o : Output) (before room : List ℕ) (size number : ℕ) → o.status ≡ No → Returns (λ x. x ≡ Some o) before room size number → number ≡ 0 → ⊥
 never_yes o before room size number refused t zero =

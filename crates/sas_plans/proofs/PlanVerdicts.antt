@@ -105,12 +105,4 @@ module _ {D : Type 0} (left : D → Option (List ℕ)) (p : Parts) (old new : De
 
 -- ---- of an input whose bytes are those of the plan, where these are known
 
-pub judges_by : (p : Parts) (a b : Option (List ℕ)) (r : Result Verdict ToolFault) → ((whole : List ℕ) → b ≡ Some whole → a ≡ Some whole) → Judges p a r → Judges p b r
-judges_by p a b r to h = record {
-  output = λ c known. h.output c (to c known);
-  taken = λ decided. let t = h.taken decided in (t.0, λ whole known. t.1 whole (to whole known), t.2);
-  writes = h.writes;
 }
-
-pub judges_unopened : (p : Parts) (known : Option (List ℕ)) → Judges p known (Err tool_fault.Read)
-judges_unopened p known = record { output = λ c is e. absurd cc; taken = λ decided. absurd decided; writes = λ w. w }

@@ -47,14 +47,6 @@ not_of_task gives number old new (Plan other what) h e = absurd cc
 not_of_task gives number old new (Tool why) h e = (let same : why ≡ tool_fault.Read = cc in let memory : why ≡ tool_fault.Memory = h.0 in absurd cc)
 
 module _ {S I : Type 0} (gives : S → ℕ → Option I → S → Type 0) where
-  pub ends_behind : (number : ℕ) (old new : S) (what : ToolFault) (why : JudgeFault) → fault_of why ≡ what → (IsWrite what → ⊥) → IsBehindOpening number why → IsOpened gives number old new → EndsAt gives number old new why
-  ends_behind number old new what (Plan other NotOpened) is other_than its opened = absurd (its.1 refl)
-  ends_behind number old new what (Plan other Read) is other_than its opened = (its.0, opened)
-  ends_behind number old new what (Plan other TooLong) is other_than its opened = (its.0, opened)
-  ends_behind number old new what (Tool tool_fault.Memory) is other_than its opened = (refl, opened)
-  ends_behind number old new what (Tool tool_fault.Read) is other_than its opened = absurd (its.0 refl)
-  ends_behind number old new what (Tool tool_fault.TooLong) is other_than its opened = absurd (its.1 refl)
-  ends_behind number old new what (Tool (tool_fault.Write written)) is other_than its opened = absurd (other_than (subst IsWrite is tt))
 
   -- ---- one plan after another
 
