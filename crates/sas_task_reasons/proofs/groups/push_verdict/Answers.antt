@@ -15,3 +15,8 @@ returns-in-Derived g c = rw c.in-Derived.is (subst (Pushes g.W.Write.contents c.
 
 pub returns-in-Initial : goal.returns-in-Initial
 returns-in-Initial g c = rw c.in-Initial.is (subst (Pushes g.W.Write.contents c.args.sink.now _) (said c.args.place (codes "not shown: initial state")) c.push_words-in-Initial.ensures)
+
+pub returns-in-Broken : goal.returns-in-Broken
+returns-in-Broken g c =
+    let pushed = rw c.from.ensures at c.push_words-in-Broken.ensures in
+    rw c.in-Broken.is (subst (Pushes g.W.Write.contents c.args.sink.now _) (said c.args.place (codes "not shown: operator " ++ decimal c.in-Broken.operator)) pushed)
