@@ -47,7 +47,6 @@ not_of_task gives number old new (Plan other what) h e = absurd cc
 not_of_task gives number old new (Tool why) h e = (let same : why ≡ tool_fault.Read = cc in let memory : why ≡ tool_fault.Memory = h.0 in absurd cc)
 
 module _ {S I : Type 0} (gives : S → ℕ → Option I → S → Type 0) where
-
   -- ---- one plan after another
 
   pub opens_next : (count : ℕ) (old before new : S) → OpensFirst gives count old before → IsOpened gives count before new → OpensFirst gives (count + 1) old new
