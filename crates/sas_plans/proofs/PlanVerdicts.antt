@@ -102,7 +102,3 @@ module _ {D : Type 0} (left : D → Option (List ℕ)) (p : Parts) (old new : De
     pub judges_fault : (r : Result Verdict ToolFault) → IfOk r (IsVerdictOnRefusal f) → (IsErrOf r tool_fault.TooLong → f.kind ≡ kinds.TooLong) → IfErr r (λ e. IsWrite e → ⊥) → Judges p (left old.device) r
     judges_fault (Ok v) ok long writes = judges_refused v ok
     judges_fault (Err why) ok long writes = judges_none why long writes
-
--- ---- of an input whose bytes are those of the plan, where these are known
-
-}
