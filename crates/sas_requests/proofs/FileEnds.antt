@@ -148,6 +148,11 @@ module _ {D V I S A : Type 0} (left : D → Option (List ℕ)) (F : Format V I S
       ends_value a (λ o. o ≡ x) (λ b given o is. let (v, reads, answer) = gives b given in (v, reads, subst (IsAnswer v) (sym is) answer)) r read
       (ends_counting_as x Sent (λ output. IsSomeAnd output (λ o. o ≡ x)) r refl ends) never
 
+  -- and where its bytes are counted exactly
+  pub ends_exactly : (a : A) (x : Output) (r : Result Status ToolFault) → ReadsAll left F Gives old new (Ok a) → ((b : List ℕ) → Gives b a → (v : V) × ReadsAs F most_bytes b (Ok v) × IsAnswer v x)
+      → Ends (λ o. o ≡ Some x) Sent r → (IsErrOf r tool_fault.Read → ⊥) → EndsFile left FileOutput Sent old new r
+  ends_exactly a x r read gives ends never = ends_text a x r read gives (counting_ends (λ o. o ≡ Some x) Sent r ends) never
+
   -- and where the answers are others that follow
   pub ends_more : (Other : V → Output → Type 0) → ((v : V) (o : Output) → IsAnswer v o → Other v o) → (r : Result Status ToolFault) → EndsFile left FileOutput Sent old new r → EndsFile left (FileBy F Tells name detail Other) Sent old new r
   ends_more Other to r one = record {

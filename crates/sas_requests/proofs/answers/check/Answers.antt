@@ -1,10 +1,9 @@
 use Rattle.std.proofs.Common.{codes}
 use Rattle.sas_reader.specs.Devices.{ValueOf}
 use Rattle.sas_task_format.specs.TaskFormat.{task_format}
-use Rattle.sas_output.proofs.Sent.{counting_ends}
 use Rattle.sas_requests.specs.Answering.{CheckBy, UnlayeredBy}
 use Rattle.sas_requests.specs.FileReasons.{AreTaskReasons}
-use Rattle.sas_requests.proofs.FileEnds.{ends_text, ends_more, unread}
+use Rattle.sas_requests.proofs.FileEnds.{ends_exactly, ends_more, unread}
 use Rattle.sas_requests.proofs.RequestEnds.{check_yes, check_no}
 use Rattle.sas_requests.proofs.answers.check.Goals as goal
 
@@ -12,8 +11,8 @@ pub returns-in-Ok-clause-ends : goal.returns-in-Ok-clause-ends
 returns-in-Ok-clause-ends g c =
     let detail = c.args.detail in
     let p = c.in-Ok.layered in
-    rw c.in-Ok.ensures.silent at (ends_text g.R.Read.remaining task_format AreTaskReasons (ValueOf task_format) (codes "task") _ detail (CheckBy detail) _ _ p _ c.answer_layered.result c.in-Ok.ensures.read
-    (λ b value. (p, value, check_yes detail p c.in-Ok.ensures.layered)) (counting_ends _ _ _ c.answer_layered.ensures.ends) (unread _ c.answer_layered.result c.answer_layered.ensures.nothing))
+    rw c.in-Ok.ensures.silent at (ends_exactly g.R.Read.remaining task_format AreTaskReasons (ValueOf task_format) (codes "task") _ detail (CheckBy detail) _ _ p _ c.answer_layered.result c.in-Ok.ensures.read
+    (λ b value. (p, value, check_yes detail p c.in-Ok.ensures.layered)) c.answer_layered.ensures.ends (unread _ c.answer_layered.result c.answer_layered.ensures.nothing))
 
 pub returns-in-Err-clause-ends : goal.returns-in-Err-clause-ends
 returns-in-Err-clause-ends g c =
