@@ -70,7 +70,7 @@ impl Family {
     }
 
     /// Uses these groups as the basis; if memory runs out, only some of them. The basis must be empty.
-    pub fn suppose(&mut self, groups: &[u32])
+    pub fn set_basis(&mut self, groups: &[u32])
         requires none { self.old.supports ≡ [] }
         requires basis { IsBasis (length self.old.basis) self.old }
         ensures kept { self.new.kept ≡ self.old.kept }
@@ -102,7 +102,7 @@ impl Family {
     }
 
     /// Removes all groups from the basis.
-    pub fn suppose_nothing(&mut self)
+    pub fn clear_basis(&mut self)
         requires basis { IsBasis (length self.old.basis) self.old }
         ensures kept { self.new.kept ≡ self.old.kept }
         ensures fallen { self.new.fallen ≡ self.old.fallen }

@@ -233,8 +233,8 @@ fn rests_on<T: Grounded>(
     ensures ready { IsReady indexed.now family.new }
     ensures clean { IsClean indexed.now marks.new }
 {
-    family.suppose(groups);
+    family.set_basis(groups);
     let rests = look_at(indexed, operator, family, marks);
-    family.suppose_nothing();
+    family.clear_basis();
     rests
 }

@@ -11,22 +11,22 @@ returns-clause-falls g c =
     let p = c.args.indexed.now in
     let start = c.args.family.now in
     let after = c.look_at-rests.new.family in
-    let last = c.suppose_nothing.new.self in
+    let last = c.clear_basis.new.self in
     let groups = length p.groups in
-    falls_without p start c.suppose.new.self after last c.look_at-rests.ensures.falls c.suppose.ensures.kept c.suppose.ensures.fallen
-    c.suppose_nothing.ensures.kept c.suppose_nothing.ensures.fallen
+    falls_without p start c.set_basis.new.self after last c.look_at-rests.ensures.falls c.set_basis.ensures.kept c.set_basis.ensures.fallen
+    c.clear_basis.ensures.kept c.clear_basis.ensures.fallen
     (one_of_none groups last.basis start.basis
-    (subst (λ (count : ℕ). IsOfNone count last.basis) c.look_at-rests.ensures.room.basis.one_each c.suppose_nothing.ensures.basis)
+    (subst (λ (count : ℕ). IsOfNone count last.basis) c.look_at-rests.ensures.room.basis.one_each c.clear_basis.ensures.basis)
     (of_none groups start c.requires.ready.room.basis c.requires.ready.free))
-    (c.suppose_nothing.ensures.none ∙ sym c.requires.ready.free)
+    (c.clear_basis.ensures.none ∙ sym c.requires.ready.free)
 
 pub returns-clause-rests : goal.returns-clause-rests
 returns-clause-rests g c t =
     let p = c.args.indexed.now in
     let operator = c.args.operator in
     let groups = c.args.groups.now in
-    let with = c.suppose.new.self in
-    subst (λ (kept : List Bool). RestsOn p kept groups operator) (sym c.suppose_nothing.ensures.kept)
+    let with = c.set_basis.new.self in
+    subst (λ (kept : List Bool). RestsOn p kept groups operator) (sym c.clear_basis.ensures.kept)
     (rests_on p with c.look_at-rests.new.family.kept operator groups
-    (subst (λ (count : ℕ). IsBasis count with) c.requires.ready.room.basis.one_each c.suppose.ensures.basis)
-    c.suppose.ensures.of (c.look_at-rests.ensures.alone t))
+    (subst (λ (count : ℕ). IsBasis count with) c.requires.ready.room.basis.one_each c.set_basis.ensures.basis)
+    c.set_basis.ensures.of (c.look_at-rests.ensures.alone t))

@@ -3,7 +3,7 @@ use Rattle.std.proofs.Common.{ℕ, ◌∷◌, [], get_or, refl, sym, subst, ◌�
 use Rattle.std.specs.List.{All, Contains}
 use Rattle.std.proofs.lemmas.List.Elements.{All-nil, All-cons, All-append, Contains-get_or}
 use Rattle.sas_mutex.specs.Basis.{IsBasis}
-use Rattle.sas_mutex.proofs.family.Family.suppose.Goals as goal
+use Rattle.sas_mutex.proofs.family.Family.set_basis.Goals as goal
 
 pub loop-group-init : goal.loop-group-init
 loop-group-init c = record {

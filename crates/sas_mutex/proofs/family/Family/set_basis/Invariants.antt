@@ -2,7 +2,7 @@
 use Rattle.std.proofs.Common.{◌≡◌, length}
 use Rattle.std.specs.List.{All, Contains}
 use Rattle.sas_mutex.specs.Basis.{IsBasis}
-use Rattle.sas_mutex.proofs.family.Family.suppose.Given as goal
+use Rattle.sas_mutex.proofs.family.Family.set_basis.Given as goal
 
 abbrev pub invariant-loop-group : goal.invariant-loop-group
 invariant-loop-group l = record {
