@@ -10,7 +10,7 @@ use Rattle.sas_core.specs.Names.{IsName}
 use Rattle.sas_core.specs.Numbers.{IsNumber, IsSigned}
 use Rattle.sas_core.specs.Variables.{HasValue, MayHaveValue, FactExists, IsState}
 
--- a list whose length is a number of the format and whose items each follow their rules
+-- a list whose length is a number of the format, and each of whose items meets a condition
 pub record Listed {A : Type 0} (Follows : A → Type 0) (items : List A) : Type 0 where
   pub count : IsNumber (length items)
   pub each : AllByRecursion Follows items
@@ -43,7 +43,7 @@ pub record OperatorFits (variables : List Variable) (o : Operator) : Type 0 wher
   -- its cost is a number
   pub cost : IsNumber o.cost
 
--- a rule follows the same rules as an effect
+-- an axiom rule meets the same conditions as an effect
 pub record RuleFits (variables : List Variable) (r : Rule) : Type 0 where
   pub conditions : Listed (FactExists variables) r.conditions
   pub new : HasValue variables r.var r.new

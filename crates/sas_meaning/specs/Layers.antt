@@ -1,5 +1,5 @@
--- Layered tasks: those in which the values of the basic variables determine the derived variables,
--- layer by layer.
+-- Layered tasks: those whose axioms are stratified. There, the values of the basic variables
+-- determine those of the derived variables, layer by layer.
 use Rattle.std.specs.Prelude.{◌≡◌, ◌≢◌, ℕ, ◌<◌, ◌≤◌, ◌==◌, Bool, not, Some, None, All, slice_index}
 use Rattle.sas_core.specs.declared.parts.Fact.{Fact}
 use Rattle.sas_core.specs.declared.parts.Effect.{Effect}
