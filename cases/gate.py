@@ -8,6 +8,7 @@ is built, called, and used by way of CMake, pkg-config, cargo and pip, and a rel
 'N passed, M failed' of all together, and the exit status is 0 exactly if M is 0. A command that doesn't end as its own last line says
 counts as one failure. gate.log keeps the last line for releases, with the commit and the toolchain.
 """
+import functools
 import glob
 import os
 import re
@@ -15,41 +16,56 @@ import shutil
 import subprocess
 import sys
 import time
+from concurrent.futures import ThreadPoolExecutor
 
 TOP = os.path.dirname(os.path.dirname(os.path.abspath(__file__)))
 sys.path.insert(0, TOP)
 import build as proving  # the file at the top
 
 PROGRAMS = [f"crates/{name}/out/{name}" for name in ("test_core", "test_files", "test_verdicts", "test_requests")]
+# Lists of cases that run side by side, each list in order. Some use all processors at times, others one.
 CASES = [
-    ["cases/reading.py"],
-    ["cases/promises.py"],
-    ["cases/pages.py", "sas"],
-    ["cases/shown.py", "sas"],
-    ["cases/patterns.py"],
-    ["cases/memory.py", "sas", *PROGRAMS],
-    ["cases/calls.py", *PROGRAMS],
-    ["cases/run.py", "sas"],
-    ["cases/streams.py", "sas"],
-    ["cases/library.py", "sas", "library/out"],
-    ["cases/packages.py"],
-    ["cases/release.py", "sas"],
+    [
+        ["cases/memory.py", "sas", *PROGRAMS],
+        ["cases/calls.py", *PROGRAMS],
+        ["cases/run.py", "sas"],
+        ["cases/streams.py", "sas"],
+    ],
+    [["cases/library.py", "sas", "library/out"], ["cases/packages.py"], ["cases/release.py", "sas"]],
+    [
+        ["cases/reading.py"],
+        ["cases/promises.py"],
+        ["cases/pages.py", "sas"],
+        ["cases/shown.py", "sas"],
+        ["cases/patterns.py"],
+    ],
 ]
 RECORD = "gate.log"
 
 
-def counts(command):
-    """Runs a command, shows what it prints and how long it took, and gives how many checks of it passed and failed."""
+def counts(command, lines=None):
+    """Runs a command, shows what it prints, or adds it to the lines, and gives how many checks of it passed and failed."""
+    show = functools.partial(print, flush=True) if lines is None else lines.append
     last, began = "", time.monotonic()
     with subprocess.Popen(command, stdout=subprocess.PIPE, encoding="utf-8", errors="replace") as process:
         for line in process.stdout:
-            print(line, end="", flush=True)
+            show(line.rstrip("\n"))
             last = line.strip() or last
-    print(f"{' '.join(command)}: {time.monotonic() - began:.0f} s", flush=True)
+    show(f"{' '.join(command)}: {time.monotonic() - began:.0f} s")
     told = re.fullmatch(r"(\d+) passed, (\d+) failed", last)
     passed, failed = (int(told[1]), int(told[2])) if told else (0, 0)
     agrees = told and (failed == 0) == (process.returncode == 0)
     return passed, failed if agrees else failed + 1
+
+
+def counts_of(commands):
+    """Runs the cases of a list in order, shows what each prints once it has ended, and gives the counts of each."""
+    found = []
+    for command in commands:
+        lines = []
+        found.append(counts([sys.executable, *command], lines))
+        print("\n".join(lines), flush=True)
+    return found
 
 
 def printed(*command):
@@ -79,7 +95,8 @@ def main():
         proving.build("sas", glob.glob(f"{TOP}/crates/*/out/rlib"), os.cpu_count())
     # where it isn't built its tests end without a last line, which counts as a failure
     subprocess.run([sys.executable, "library/build.py", "--over-gate"], check=False)
-    parts += [counts([sys.executable, *command]) for command in CASES]
+    with ThreadPoolExecutor(len(CASES)) as pool:
+        parts += [part for found in pool.map(counts_of, CASES) for part in found]
     passed, failed = map(sum, zip(*parts))
     last = f"{passed} passed, {failed} failed"
     # a record of files that changed while they were tried would be none
