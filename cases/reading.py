@@ -3,10 +3,8 @@
 
     python3 cases/reading.py crates/sas_run/specs/Plans.antt   prints these files, each with its number of lines without imports and
                                                                empty ones
-    python3 cases/reading.py                                   tests that docs/READING.md names, under each heading, exactly the files
-                                                               that its definitions rest on, with their numbers of lines
-
-The page calls the file crates/sas_run/specs/Plans.antt `sas_run/Plans`.
+    python3 cases/reading.py                                   tests that docs/READING.md names, in each section, the files in bold and
+                                                               exactly those that they rest on, with their numbers of lines
 """
 import os
 import re
@@ -16,22 +14,18 @@ import report
 
 TOP = os.path.dirname(os.path.dirname(os.path.abspath(__file__)))
 READING = f"{TOP}/docs/READING.md"
-PATHS = 9
-# a heading of READING.md that begins paths, and the files that they lead to; a file that it names, and its number of lines
-HEADING = re.compile(r"^## .*: ((?:`\w+/\w+`(?:, )?)+)$", re.MULTILINE)
-FILE = re.compile(r"`(\w+/[A-Z]\w*)`")
-NAMED = re.compile(r"`(\w+/[A-Z]\w*)`\s+\((\d+)\)")
+STARTS = 9
+# a heading of READING.md; a file that the page names; one with its number of lines; one in bold, with which a section starts
+HEADING = re.compile(r"^## (.*)$", re.MULTILINE)
+FILE = re.compile(r"`(crates/[^`]*)`")
+NAMED = re.compile(r"`(crates/\w+/specs/\w+\.antt)`(?:\*\*)? \((\d+)\)")
+START = re.compile(r"\*\*`(crates/[^`]*)`\*\*")
 
 
 def text_of(path):
     """Returns the text of a file of definitions, which is named from the top of the repository."""
     with open(f"{TOP}/{path}", encoding="utf-8") as file:
         return file.read()
-
-
-def path_of(name):
-    """Returns the path of a file of definitions that the page names."""
-    return "crates/{}/specs/{}.antt".format(*name.split("/"))
 
 
 def imports(path):
@@ -54,17 +48,19 @@ def size(path):
     return sum(1 for line in lines if line.strip() and not line.startswith("use "))
 
 
-def wrong_paths(reading):
-    """Yields the paths of READING.md, by what they lead to, and what is wrong under their heading. A path need not name what an earlier
-    one names."""
+def wrong_sections(reading):
+    """Yields the sections of READING.md that name files with which they start, these files, and what is wrong with the files that a
+    section names. It need not name what an earlier one names."""
     known = set()
-    sections = re.split(HEADING, reading)[1:]
-    for heading, text in zip(sections[::2], sections[1::2]):
-        tops = FILE.findall(heading)
-        named = {path_of(name): int(lines) for name, lines in NAMED.findall(text)}
-        due = {path: size(path) for top in tops for path in closure(path_of(top)) if path not in known}
+    parts = re.split(HEADING, reading)[1:]
+    for heading, text in zip(parts[::2], parts[1::2]):
+        starts = START.findall(text)
+        named = {path: int(lines) for path, lines in NAMED.findall(text)}
+        due = {path: size(path) for start in starts for path in closure(start) if path not in known}
         known |= set(due)
-        yield tops, [f"{path}: {due.get(path)} lines, not {named.get(path)}" for path in due | named if due.get(path) != named.get(path)]
+        if starts or named:
+            wrong = [f"{path}: {due.get(path)} lines, not {named.get(path)}" for path in due | named if due.get(path) != named.get(path)]
+            yield heading, starts, wrong
 
 
 def main():
@@ -76,11 +72,11 @@ def main():
         return
     with open(READING, encoding="utf-8") as file:
         reading = file.read()
-    paths = list(wrong_paths(reading))
-    tops = [top for found, _ in paths for top in found]
-    cases = [(f"READING.md, {', '.join(found)}", wrong) for found, wrong in paths]
-    cases.append(("the number of paths", [] if len(tops) == PATHS else [f"{len(tops)}, not {PATHS}"]))
-    cases.append(("files without a number of lines", [it for it in FILE.findall(reading) if not os.path.isfile(f"{TOP}/{path_of(it)}")]))
+    sections = list(wrong_sections(reading))
+    starts = [start for _, found, _ in sections for start in found]
+    cases = [(f"READING.md, {heading}", wrong) for heading, _, wrong in sections]
+    cases.append(("the number of files with which sections start", [] if len(starts) == STARTS else [f"{len(starts)}, not {STARTS}"]))
+    cases.append(("files that aren't there", [it for it in FILE.findall(reading) if not os.path.exists(f"{TOP}/{it}")]))
     report.end([{"name": name} for name, _ in cases], [wrong for _, wrong in cases])
 
 

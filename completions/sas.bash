@@ -22,7 +22,7 @@ _sas() {
     elif [[ $word == -* ]]; then
         mapfile -t COMPREPLY < <(compgen -W "$flags" -- "$word")
     elif ((files < most)); then
-        # any file; of tasks, those with this end and folders, if there are any
+        # any file; for a task, the files that end with .sas and the folders, if there are any
         compopt -o default
         if ((files == 0)) && [[ $request != steps ]]; then
             mapfile -t COMPREPLY < <(compgen -f -X '!*.sas' -- "$word"; compgen -d -- "$word")

@@ -4,11 +4,10 @@ sas.hpp, sas.py, sas.pc and the package files of CMake.
 
     python3 library/build.py [--over-gate]
 
-The archive of the proved crate sas_c is its heart. Where there is none yet, or a file of a crate is younger, build.py proves the crate
-and what it stands on, and builds it; build.log has what the prover prints. With --over-gate the archive is built over the libraries that
-`rt ci` has just proved and left in each out/rlib/, so that nothing is proved twice. Two files in C are added: sas_memory.c, what the heart
-requires of memory, and sas_version.c. The C compiler is $CC or cc, and `ar` is $AR or ar. A library that was there is replaced only by one
-that is built whole.
+It is made of the archive of the proved crate sas_c. If there is none yet, or a file of a crate is younger, build.py proves the crate and
+what it uses, and builds it; build.log has what the prover prints. With --over-gate the archive is built over the libraries that `rt ci`
+has just proved and left in each out/rlib/, so that nothing is proved twice. Two files in C are added: sas_memory.c, which allocates, and
+sas_version.c. The C compiler is $CC or cc, and `ar` is $AR or ar. A library that was there is replaced only after the new one was built.
 """
 import glob
 import os

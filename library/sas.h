@@ -1,16 +1,16 @@
 /* libsas: the answers of the program `sas`, about bytes in memory. No call opens a file or starts a process.
 
-   A call takes its inputs, each as a pointer and a length, and room for its answer. It returns one of the numbers
-   below. The answer is the text that the program prints, to the byte. docs/LIBRARY.md says what is promised.
+   A call takes its inputs, each as a pointer and a length, and a buffer for its answer, the room. It returns one of the
+   numbers below. The answer is the text that the program prints, to the byte. docs/LIBRARY.md has the promises.
 
-   What the caller owes, as no proof sees it:
-   - No pointer is null, also where the length is 0. As many bytes as the length says may be read there, and in a room
-     written, and nobody changes them until the call returns.
-   - `room` and `size` overlap nothing else that the call is given.
-   - A `sas_task` begins as SAS_TASK_NONE, or as bytes that are 0. The caller may read `is_there`, and changes and
-     copies nothing of it, gives it to one call at a time, and in the end to `sas_task_free`.
+   The caller must ensure these, which no proof covers:
+   - No pointer is null, even if the length is 0. As many bytes as the length says may be read there, or written in a
+     room. Nobody changes them until the call returns.
+   - `room` and `size` overlap no other argument.
+   - A `sas_task` starts as SAS_TASK_NONE, or as zero bytes. The caller may read `is_there`, but changes and copies
+     nothing of it. It is passed to one call at a time, and in the end to `sas_task_free`.
 
-   There is no state but what a `sas_task` holds, so threads may call at once, each with a `sas_task` of its own. */
+   There is no global state, so threads may call at the same time, each with a `sas_task` of its own. */
 #ifndef SAS_H
 #define SAS_H
 
@@ -20,17 +20,17 @@
 /* The version of this header. `sas_version` returns that of the library. */
 #define SAS_VERSION "1.1.0"
 
-/* A room that is long enough for each answer of sas_plan, sas_check, sas_task_read and sas_task_plan. */
+/* The size of a room that is enough for each answer of sas_plan, sas_check, sas_task_read and sas_task_plan. */
 #define SAS_LINE_ROOM 128
 
 #ifdef __cplusplus
 extern "C" {
 #endif
 
-/* The version of the library, such as "1.1.0". A program that loads libsas.so may get a later one than SAS_VERSION. */
+/* Returns the version of the library, such as "1.1.0". That of libsas.so may be later than SAS_VERSION. */
 const char *sas_version(void);
 
-/* What a call returns, in 32 bits. Behind an answer the room is as it was, and from 2 on all of it is. At 3, 4 and 5
+/* What a call returns, in 32 bits. The room after an answer is unchanged; from 2 on, the whole room is. At 3, 4 and 5
    the value of `*size` means nothing. */
 #if defined(__cplusplus) || (defined(__STDC_VERSION__) && __STDC_VERSION__ >= 202311L)
 enum sas_number : uint32_t {
@@ -40,8 +40,8 @@ enum sas_number {
     SAS_YES = 0,            /* Yes, or printed. The answer is the first `*size` bytes of the room. */
     SAS_NO = 1,             /* No, or a file is refused. The answer is the first `*size` bytes of the room. */
     SAS_ROOM_TOO_SHORT = 2, /* The answer has `*size` bytes, more than the room. */
-    SAS_OUT_OF_MEMORY = 3,  /* Memory was refused. */
-    SAS_INPUT_TOO_LONG = 4, /* An input goes past 4,294,967,296 bytes. */
+    SAS_OUT_OF_MEMORY = 3,  /* An allocation failed. */
+    SAS_INPUT_TOO_LONG = 4, /* An input has more than 4,294,967,296 bytes. */
     SAS_NO_TASK = 5         /* The `sas_task` holds no task. */
 };
 
@@ -58,10 +58,10 @@ enum sas_number sas_mutex(const uint8_t *task, size_t task_length, uint8_t *room
 /* What a task is about: `sas show TASK`. */
 enum sas_number sas_show(const uint8_t *task, size_t task_length, uint8_t *room, size_t room_length, size_t *size);
 
-/* The text of a task, each line ended by LF: `sas print TASK`. Where it is printed it isn't longer than the task. */
+/* The text of a task, each line ended by LF: `sas print TASK`. If it is printed, it isn't longer than the task. */
 enum sas_number sas_print(const uint8_t *task, size_t task_length, uint8_t *room, size_t room_length, size_t *size);
 
-/* The text of a plan, each line ended by LF: `sas steps PLAN`. Where it is printed it isn't longer than the plan. */
+/* The text of a plan, each line ended by LF: `sas steps PLAN`. If it is printed, it isn't longer than the plan. */
 enum sas_number sas_steps(const uint8_t *plan, size_t plan_length, uint8_t *room, size_t room_length, size_t *size);
 
 /* The same answers with the reasons for a no, in lines that begin with two spaces: `sas plan --why TASK PLAN`, `sas
@@ -75,22 +75,22 @@ enum sas_number sas_mutex_why(const uint8_t *task, size_t task_length, uint8_t *
 enum sas_number sas_trace(const uint8_t *task, size_t task_length, const uint8_t *plan, size_t plan_length,
                           uint8_t *room, size_t room_length, size_t *size);
 
-/* A task that is read once, for many plans. `is_there` isn't 0 exactly where a task is held. */
+/* A task that is read once, for many plans. It holds a task exactly if `is_there` isn't 0. */
 typedef struct sas_task {
     uint8_t is_there;
     void *at;
 } sas_task;
 
-/* What a `sas_task` begins as: it holds no task. */
+/* What a `sas_task` starts as: it holds no task. */
 #define SAS_TASK_NONE {0, NULL}
 
-/* Reads a task and answers as `sas_check`. Exactly at SAS_YES the task is held from then on; at each other number none
-   is. A task that was held before is dropped, whatever the number. */
+/* Reads a task and answers as `sas_check`. At SAS_YES the task is held from then on. At each other number no task is
+   held. A task that was held before is freed, whatever the number. */
 enum sas_number sas_task_read(sas_task *task, const uint8_t *bytes, size_t length,
                               uint8_t *room, size_t room_length, size_t *size);
 
-/* Whether a plan solves the task that is held: it answers as `sas_plan`, and the task is still held, whatever the
-   number. Where none is held that is SAS_NO_TASK. */
+/* Whether a plan solves the task that is held: answers as `sas_plan`. The task is still held, whatever the number. If
+   no task is held, the number is SAS_NO_TASK. */
 enum sas_number sas_task_plan(sas_task *task, const uint8_t *plan, size_t plan_length,
                               uint8_t *room, size_t room_length, size_t *size);
 
@@ -103,7 +103,7 @@ enum sas_number sas_task_plan_why(sas_task *task, const uint8_t *plan, size_t pl
 enum sas_number sas_task_trace(sas_task *task, const uint8_t *plan, size_t plan_length,
                                uint8_t *room, size_t room_length, size_t *size);
 
-/* Drops the task that is held, if there is one. None is held then. */
+/* Frees the task that is held, if there is one. After the call no task is held. */
 void sas_task_free(sas_task *task);
 
 #ifdef __cplusplus

@@ -1,7 +1,8 @@
-// libsas for C++17: bytes in, answers out, and a task that frees its own memory. sas.h says what each call answers.
+// libsas for C++17: bytes in, answers out, and a task that frees its own memory. sas.h describes what each call answers.
 //
-// Out of memory is std::bad_alloc, an input past 4,294,967,296 bytes sas::InputTooLong. Without exceptions (-fno-exceptions) these
-// and the others are a status of the answer, which has no text then. Threads may call at once, each with a sas::Task of its own.
+// If it is out of memory, a call throws std::bad_alloc. If an input has more than 4,294,967,296 bytes, it throws sas::InputTooLong.
+// Without exceptions (-fno-exceptions), these and the others are a status of the answer, which then has no text. Threads may call at
+// the same time, each with a sas::Task of its own.
 #ifndef SAS_HPP
 #define SAS_HPP
 
@@ -30,7 +31,7 @@ namespace sas {
 inline namespace without_exceptions {
 #endif
 
-// Yes or no; without exceptions also why there is no answer.
+// Yes or no. Without exceptions, also why there is no answer.
 enum class Status { yes, no, out_of_memory, input_too_long, no_task };
 
 // What `sas` prints, and its exit status.
@@ -40,10 +41,10 @@ struct [[nodiscard]] Answer {
 
     explicit operator bool() const noexcept { return status == Status::yes; }
 
-    // The number of steps where the answer is `plan valid: S steps, cost C`.
+    // The number of steps, if the answer is `plan valid: S steps, cost C`.
     [[nodiscard]] std::optional<std::uint64_t> steps() const noexcept { return number_after("plan valid: "); }
 
-    // The cost where the answer is `plan valid: S steps, cost C`.
+    // The cost, if the answer is `plan valid: S steps, cost C`.
     [[nodiscard]] std::optional<std::uint64_t> cost() const noexcept { return number_after(" steps, cost "); }
 
 private:
@@ -60,12 +61,12 @@ private:
     }
 };
 
-// An input goes past 4,294,967,296 bytes.
+// An input has more than 4,294,967,296 bytes.
 struct InputTooLong : std::length_error {
     InputTooLong() : std::length_error("sas: input too long") {}
 };
 
-// A plan was given to a task that isn't held.
+// A plan was given to a sas::Task that holds no task.
 struct NoTask : std::logic_error {
     NoTask() : std::logic_error("sas: no task is held") {}
 };
@@ -90,7 +91,7 @@ inline constexpr bool has_bytes<T, std::void_t<decltype(*std::data(std::declval<
 
 } // namespace detail
 
-// The bytes of a file, which the caller keeps: of a text, or of a container or a span of char, unsigned char or std::byte.
+// The bytes of a file: of a text, or of a container or a span of char, unsigned char or std::byte. The caller keeps them.
 class Bytes {
 public:
     Bytes(const char *text) noexcept : Bytes(std::string_view(text)) {}
@@ -114,7 +115,7 @@ namespace detail {
 // the room that most answers fit in
 constexpr std::size_t usual_room = 65536;
 
-// Returns the status of a number that comes without an answer, or throws its exception.
+// Returns the status of a number without an answer, or throws its exception.
 inline Status failure(sas_number number) {
 #ifdef __cpp_exceptions
     switch (number) {
@@ -131,7 +132,7 @@ inline Status failure(sas_number number) {
 #endif
 }
 
-// Returns the answer of a call. The call gets a room of so many bytes, and if the answer is longer, one that has its length.
+// Returns the answer of a call. The call gets a room of so many bytes. If the answer is longer, it is repeated with a room that fits.
 template <class Call> Answer answer(std::size_t room, Call call) {
     std::string text;
     std::size_t size = room;
@@ -209,21 +210,21 @@ public:
     // Whether a task is held.
     [[nodiscard]] bool is_held() const noexcept { return held_.is_there != 0; }
 
-    // Reads a task in place of the one that was held, and answers as `sas::check`. If that is yes the task is held, else none is.
+    // Reads a task in place of the one that was held, and answers as `sas::check`. If the answer is yes, the task is held, else none is.
     Answer read(Bytes task) {
         return detail::answer(SAS_LINE_ROOM, [&](std::uint8_t *at, std::size_t length, std::size_t *size) {
             return sas_task_read(&held_, task.data(), task.size(), at, length, size);
         });
     }
 
-    // Whether a plan solves the task that is held: answers as `sas::plan`. Where none is held it throws sas::NoTask, and so do the next
-    // two. None of them reads the task again.
+    // Whether a plan solves the task that is held: answers as `sas::plan`. If no task is held, it throws sas::NoTask, as do the next two
+    // calls. None of the three reads the task again.
     Answer plan(Bytes plan) { return of_plan(sas_task_plan, plan, SAS_LINE_ROOM); }
 
     // The same with the reasons for a no: answers as `sas::plan_why`.
     Answer plan_why(Bytes plan) { return of_plan(sas_task_plan_why, plan, detail::usual_room); }
 
-    // The same behind what each step does: answers as `sas::trace`.
+    // The same after what each step changes: answers as `sas::trace`.
     Answer trace(Bytes plan) { return of_plan(sas_task_trace, plan, detail::usual_room + 10 * plan.size()); }
 
 private:

@@ -1,4 +1,4 @@
-# Later versions of the same first number serve, on 64 bits.
+# A later version with the same major number is compatible, on 64 bits.
 set(PACKAGE_VERSION "1.1.0")
 if(PACKAGE_FIND_VERSION_MAJOR EQUAL 1 AND NOT PACKAGE_FIND_VERSION VERSION_GREATER PACKAGE_VERSION)
   set(PACKAGE_VERSION_COMPATIBLE TRUE)

@@ -1,5 +1,5 @@
-/* The memory of the library: malloc, realloc and free of the C library. A block of no bytes is one of `align` bytes, so that null
-   always says that memory was refused; `align` is at most that of malloc, 16. */
+/* The memory of the library: malloc, realloc and free of the C library. For a block of no bytes, `align` bytes are allocated, so that
+   null always means that the allocation failed. `align` is at most that of malloc, 16. */
 #include <stddef.h>
 #include <stdint.h>
 #include <stdlib.h>
@@ -9,7 +9,7 @@ struct block {
     void *at;
 };
 
-/* what stands for a block where there is none, since no pointer is null */
+/* the pointer of a block that isn't there, since no pointer is null */
 static uint64_t nothing[2];
 
 static struct block told(void *at) {

@@ -1,4 +1,4 @@
-"""Builds the wheel of sas.py for `pip install`, without other packages. libsas.so is put beside the module if `make lib` has built it."""
+"""Builds the wheel of sas.py for `pip install`, without other packages. Includes libsas.so if `make lib` has built it."""
 import base64
 import hashlib
 import os

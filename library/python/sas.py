@@ -12,13 +12,13 @@
         answers = [held.plan(plan) for plan in plans]
         print(held.plan_why(plan).text.decode(errors="replace"))
 
-Tasks and plans are bytes or have bytes, as a bytearray, a memoryview or an mmap. Only what is read-only and not of type bytes is
-copied. Threads may make calls at once: a call releases the interpreter's lock, and a Task makes one call after another.
+Tasks and plans are bytes, or objects that have bytes, such as a bytearray, a memoryview or an mmap. Only read-only objects that aren't
+bytes are copied. Threads may call at the same time: a call releases the interpreter's lock, and a Task makes one call after another.
 
-Each call raises MemoryError where it is out of memory, and InputTooLong where an input goes past 4,294,967,296 bytes.
+Each call raises MemoryError if it is out of memory, and InputTooLong if an input has more than 4,294,967,296 bytes.
 
-The library is libsas.so beside this file or in the folder above, else libsas.so.1 where the system's loader finds it. The variable
-LIBSAS of the environment names another file.
+The library is libsas.so beside this file or in the folder above, else libsas.so.1 where the system's loader finds it. The environment
+variable LIBSAS can name another file.
 """
 from __future__ import annotations
 
@@ -48,7 +48,7 @@ _REASON = re.compile(rb"^(?:(?:plan|task) (?:invalid|refused): (.*)|(group \d+ (
 
 
 class Answer(NamedTuple):
-    """The answer of a call. It is true where the verdict is yes, and unpacks as `is_yes, text = answer`.
+    """The answer of a call. It is true if the verdict is yes, and unpacks as `is_yes, text = answer`.
 
     Attributes:
         is_yes: Whether the answer is yes, or the text was printed.
@@ -63,19 +63,19 @@ class Answer(NamedTuple):
 
     @property
     def steps(self) -> Optional[int]:
-        """The number of steps where the answer is `plan valid: S steps, cost C`, else None."""
+        """The number of steps if the answer is `plan valid: S steps, cost C`, else None."""
         return self._number(1)
 
     @property
     def cost(self) -> Optional[int]:
-        """The cost where the answer is `plan valid: S steps, cost C`, else None."""
+        """The cost if the answer is `plan valid: S steps, cost C`, else None."""
         return self._number(2)
 
     @property
     def reason(self) -> Optional[str]:
-        """The reason of a no, such as `step 2: not applicable` or `line 7: name`; None of a yes.
+        """The reason for a no, such as `step 2: not applicable` or `line 7: name`. None if the answer is yes.
 
-        Of `mutex` it is the first line about a group that isn't exclusive.
+        For `mutex` it is the first line about a group that isn't exclusive.
         """
         found = None if self.is_yes else _REASON.search(self.text)
         return found and (found[1] or found[2]).decode(errors="replace")
@@ -102,7 +102,7 @@ class Refused(ValueError):
 
 
 class InputTooLong(ValueError):
-    """An input goes past 4,294,967,296 bytes."""
+    """An input has more than 4,294,967,296 bytes."""
 
 
 class NoTask(ValueError):
@@ -166,7 +166,7 @@ def _given(data: Data) -> Tuple[Any, int]:
 
 
 def _answer(call: Callable[..., int], *given: Any, room: int = _LINE_ROOM) -> Answer:
-    """Returns the answer of a call. The call gets a room of so many bytes, and if the answer is longer, one that has its length."""
+    """Returns the answer of a call. It gets a room of so many bytes, and is repeated with a longer one if the answer is longer."""
     size, number = ctypes.c_size_t(room), _ROOM_TOO_SHORT
     while number == _ROOM_TOO_SHORT:
         text = ctypes.create_string_buffer(size.value)
@@ -197,18 +197,18 @@ def plan(task: Data, plan: Data) -> Answer:
 
     Raises:
         MemoryError: Out of memory.
-        InputTooLong: A file goes past 4,294,967,296 bytes.
+        InputTooLong: A file has more than 4,294,967,296 bytes.
     """
     return _answer(_PLAN, *_given(task), *_given(plan))
 
 
 def plan_why(task: Data, plan: Data) -> Answer:
-    """Checks a plan as `plan` does, with the reasons of a no in further lines of the text: `sas plan --why`."""
+    """Checks a plan as `plan` does, with the reasons for a no in further lines of the text: `sas plan --why`."""
     return _answer(_PLAN_WHY, *_given(task), *_given(plan), room=_USUAL_ROOM)
 
 
 def trace(task: Data, plan: Data) -> Answer:
-    """Checks a plan as `plan` does, and prints what each of its steps does: `sas trace`."""
+    """Checks a plan as `plan` does, and prints what each of its steps changes: `sas trace`."""
     (task_at, task_length), (plan_at, plan_length) = _given(task), _given(plan)
     room = _USUAL_ROOM + 10 * plan_length + task_length // 8
     return _answer(_TRACE, task_at, task_length, plan_at, plan_length, room=room)
@@ -220,7 +220,7 @@ def check(task: Data) -> Answer:
 
 
 def check_why(task: Data) -> Answer:
-    """Checks a task as `check` does, with the reasons of a no in further lines of the text: `sas check --why`."""
+    """Checks a task as `check` does, with the reasons for a no in further lines of the text: `sas check --why`."""
     return _answer(_CHECK_WHY, *_given(task), room=_USUAL_ROOM)
 
 
@@ -234,7 +234,7 @@ def mutex(task: Data) -> Answer:
 
 
 def mutex_why(task: Data) -> Answer:
-    """Checks mutex groups as `mutex` does, with the reasons of a no in further lines of the text: `sas mutex --why`."""
+    """Checks mutex groups as `mutex` does, with the reasons for a no in further lines of the text: `sas mutex --why`."""
     return _answer_by_task(_MUTEX_WHY, task)
 
 
@@ -264,8 +264,8 @@ def _answer_by_task(call: Callable[..., int], task: Data) -> Answer:
 class Task:
     """A layered task that is read once, for many plans.
 
-    It is freed at the end of a `with`, by `close`, or with its last reference. In a process that was forked while another thread was
-    inside a call of the task, the task is closed.
+    It is freed at the end of a `with`, by `close`, or with its last reference. If a process forks while another thread is inside a call of
+    the task, the task is closed in the child.
     """
 
     def __init__(self, task: Data) -> None:
@@ -277,7 +277,7 @@ class Task:
         Raises:
             Refused: They aren't the bytes of a layered task.
             MemoryError: Out of memory.
-            InputTooLong: The file goes past 4,294,967,296 bytes.
+            InputTooLong: The file has more than 4,294,967,296 bytes.
         """
         self._hold(_Held())
         answer = _answer(_TASK_READ, self._held, *_given(task))
@@ -303,19 +303,19 @@ class Task:
         Raises:
             NoTask: The task was closed.
             MemoryError: Out of memory.
-            InputTooLong: The file goes past 4,294,967,296 bytes.
+            InputTooLong: The file has more than 4,294,967,296 bytes.
         """
         return self._answer(_TASK_PLAN, plan, _LINE_ROOM)
 
     def plan_why(self, plan: Data) -> Answer:
-        """Checks a plan as `plan` does, with the reasons of a no in further lines of the text: `sas plan --why`.
+        """Checks a plan as `plan` does, with the reasons for a no in further lines of the text: `sas plan --why`.
 
         The task isn't read again.
         """
         return self._answer(_TASK_PLAN_WHY, plan, _USUAL_ROOM)
 
     def trace(self, plan: Data) -> Answer:
-        """Checks a plan as `plan` does, and prints what each of its steps does: `sas trace`.
+        """Checks a plan as `plan` does, and prints what each of its steps changes: `sas trace`.
 
         The task isn't read again.
         """
@@ -346,7 +346,7 @@ _TASKS: weakref.WeakSet[Task] = weakref.WeakSet()
 
 
 def _after_fork() -> None:
-    """Closes the tasks of a forked process that a thread, which isn't there, was inside a call of. What they hold isn't freed."""
+    """Closes in a forked process each task of which another thread was inside a call. What these tasks hold isn't freed."""
     for task in list(_TASKS):
         if task._one_call.locked():
             task._free.detach()

@@ -1,5 +1,5 @@
-//! Finds the library: in the folder that SAS_LIB_DIR names, else in ../out, where `make lib` puts it, else by pkg-config. The static
-//! library is linked where it is there.
+//! Finds the library: in the folder that SAS_LIB_DIR names, else in ../out, where `make lib` puts it, else by pkg-config. Links the
+//! static library if there is one.
 
 use std::path::{Path, PathBuf};
 use std::process::{exit, Command};

@@ -15,8 +15,8 @@
 //! # Ok::<(), Box<dyn std::error::Error>>(())
 //! ```
 //!
-//! Each function takes the bytes of files, and returns what the program `sas` prints. Threads may make calls at once. A [`Task`] may
-//! go to another thread, and makes one call at a time.
+//! Each function takes the bytes of files, and returns what the program `sas` prints. Threads may call at the same time. A [`Task`] can
+//! be sent to another thread, and makes one call at a time.
 
 #![warn(missing_docs)]
 
@@ -33,12 +33,12 @@ pub struct Answer {
 }
 
 impl Answer {
-    /// The number of steps, where the answer is `plan valid: S steps, cost C`.
+    /// The number of steps, if the answer is `plan valid: S steps, cost C`.
     pub fn steps(&self) -> Option<u64> {
         self.valid().map(|(steps, _)| steps)
     }
 
-    /// The cost, where the answer is `plan valid: S steps, cost C`.
+    /// The cost, if the answer is `plan valid: S steps, cost C`.
     pub fn cost(&self) -> Option<u64> {
         self.valid().map(|(_, cost)| cost)
     }
@@ -57,7 +57,7 @@ impl Answer {
 pub enum Error {
     /// Out of memory.
     OutOfMemory,
-    /// An input goes past 4,294,967,296 bytes.
+    /// An input has more than 4,294,967,296 bytes.
     InputTooLong,
 }
 
@@ -88,7 +88,7 @@ impl fmt::Display for ReadError {
     }
 }
 
-// a `main` that returns an error prints it so
+// a `main` that returns an error prints it by `Debug`
 impl fmt::Debug for Error {
     fn fmt(&self, out: &mut fmt::Formatter) -> fmt::Result {
         fmt::Display::fmt(self, out)
@@ -121,12 +121,12 @@ pub fn plan(task: &[u8], plan: &[u8]) -> Result<Answer, Error> {
     of_both(sas_plan, task, plan, LINE_ROOM)
 }
 
-/// Checks a plan as [`plan`] does, with the reasons of a no in further lines: `sas plan --why`.
+/// Checks a plan as [`plan`] does, with the reasons for a no in further lines: `sas plan --why`.
 pub fn plan_why(task: &[u8], plan: &[u8]) -> Result<Answer, Error> {
     of_both(sas_plan_why, task, plan, USUAL_ROOM)
 }
 
-/// Checks a plan as [`plan`] does, and prints what each of its steps does: `sas trace`.
+/// Checks a plan as [`plan`] does, and prints what each of its steps changes: `sas trace`.
 pub fn trace(task: &[u8], plan: &[u8]) -> Result<Answer, Error> {
     of_both(sas_trace, task, plan, USUAL_ROOM + 10 * plan.len() + task.len() / 8)
 }
@@ -136,7 +136,7 @@ pub fn check(task: &[u8]) -> Result<Answer, Error> {
     of_one(sas_check, task, LINE_ROOM)
 }
 
-/// Checks a task as [`check`] does, with the reasons of a no in further lines: `sas check --why`.
+/// Checks a task as [`check`] does, with the reasons for a no in further lines: `sas check --why`.
 pub fn check_why(task: &[u8]) -> Result<Answer, Error> {
     of_one(sas_check_why, task, USUAL_ROOM)
 }
@@ -146,7 +146,7 @@ pub fn mutex(task: &[u8]) -> Result<Answer, Error> {
     of_one(sas_mutex, task, USUAL_ROOM + task.len())
 }
 
-/// Checks mutex groups as [`mutex`] does, with the reasons of a no in further lines: `sas mutex --why`.
+/// Checks mutex groups as [`mutex`] does, with the reasons for a no in further lines: `sas mutex --why`.
 pub fn mutex_why(task: &[u8]) -> Result<Answer, Error> {
     of_one(sas_mutex_why, task, USUAL_ROOM + task.len())
 }
@@ -191,12 +191,12 @@ impl Task {
         self.of_plan(sas_task_plan, plan, LINE_ROOM)
     }
 
-    /// Checks a plan as [`Task::plan`] does, with the reasons of a no in further lines, as the function [`plan_why`].
+    /// Checks a plan as [`Task::plan`] does, with the reasons for a no in further lines, as the function [`plan_why`].
     pub fn plan_why(&mut self, plan: &[u8]) -> Result<Answer, Error> {
         self.of_plan(sas_task_plan_why, plan, USUAL_ROOM)
     }
 
-    /// Checks a plan as [`Task::plan`] does, and prints what each of its steps does, as the function [`trace`].
+    /// Checks a plan as [`Task::plan`] does, and prints what each of its steps changes, as the function [`trace`].
     pub fn trace(&mut self, plan: &[u8]) -> Result<Answer, Error> {
         self.of_plan(sas_task_trace, plan, USUAL_ROOM + 10 * plan.len())
     }
@@ -265,7 +265,7 @@ fn of_both(request: OfBoth, task: &[u8], plan: &[u8], room: usize) -> Result<Ans
     answer(room, |room, length, size| unsafe { request(task.as_ptr(), task.len(), plan.as_ptr(), plan.len(), room, length, size) })
 }
 
-/// Returns the answer of a call. The call gets a room of so many bytes, and if the answer is longer, one that has its length.
+/// Returns the answer of a call. The call gets a room of so many bytes. If the answer is longer, it is repeated with a room that fits.
 fn answer(room: usize, mut call: impl FnMut(*mut u8, usize, *mut usize) -> u32) -> Result<Answer, Error> {
     let mut text = Vec::new();
     let mut size = room;
