@@ -134,7 +134,7 @@ linker     {compiler}
 
 The toolchain builds the program and the library only where each function of theirs is proved to meet its contract. At this commit the
 contracts, definitions and proofs stand in the folder crates of the repository. Its document PROMISES has each promise, and READING says
-what must be believed. The program sas is linked statically; libsas.a and libsas.so want the C library of the machine.
+what must be believed. The program sas is linked statically; libsas.a and libsas.so require the C library of the machine.
 """
 
 
@@ -182,4 +182,5 @@ def main(to=TOP):
     print(f"{hashlib.sha256(held).hexdigest()}  {os.path.join(to, name)}")
 
 
-main(*sys.argv[1:])
+if __name__ == "__main__":
+    main(*sys.argv[1:])
