@@ -10,7 +10,7 @@ const VERSION: &str = "1.1.0";
 /// The flag for reasons.
 const WHY: &str = "why";
 
-/// What stands below each help.
+/// What follows each help.
 const STATUSES_AND_FILES: &str = "\
 The exit status is 0 for yes, 1 for no, 2 for invalid arguments or a help, 3 if there is no answer.
 Fast Downward's translator writes the task file, output.sas. Its driver deletes that file at the
@@ -115,49 +115,49 @@ struct RequestArguments {
 const REQUESTS: [RequestArguments; 8] = [
     RequestArguments {
         name: "plan",
-        about: "Says whether a plan solves a task, or why it doesn't; for many plans, see plans",
+        about: "Checks whether a plan solves a task; for many plans, see plans",
         over: Over::Both,
         why: true,
     },
     RequestArguments {
         name: "plans",
-        about: "Says of each of many plans whether it solves a task, and which is best",
+        about: "Checks many plans of one task, and names the cheapest valid one",
         over: Over::Many,
         why: false,
     },
     RequestArguments {
         name: "trace",
-        about: "Says what each step of a plan does, and whether the plan solves a task",
+        about: "Prints what each step of a plan changes, and whether the plan solves a task",
         over: Over::Both,
         why: false,
     },
     RequestArguments {
         name: "mutex",
-        about: "Says for each mutex group of a task whether it is shown to be exclusive",
+        about: "Prints for each mutex group of a task whether it is shown to be exclusive",
         over: Over::Task,
         why: true,
     },
     RequestArguments {
         name: "show",
-        about: "Shows what a task is about: its numbers, initial state and goal",
+        about: "Prints a summary of a task: its numbers, initial state and goal",
         over: Over::Task,
         why: true,
     },
     RequestArguments {
         name: "check",
-        about: "Says whether a task is well formed and layered, or what is wrong with it",
+        about: "Checks whether a task file is well formed and its axioms are stratified",
         over: Over::Task,
         why: true,
     },
     RequestArguments {
         name: "print",
-        about: "Prints a task file again, in its one canonical form",
+        about: "Prints a task file in its canonical form",
         over: Over::Task,
         why: true,
     },
     RequestArguments {
         name: "steps",
-        about: "Prints a plan file again; without arguments, that on standard input",
+        about: "Prints a plan file in its canonical form; without arguments, that on standard input",
         over: Over::Plan,
         why: true,
     },
@@ -165,39 +165,71 @@ const REQUESTS: [RequestArguments; 8] = [
 
 /// Returns the grammar of the arguments.
 fn grammar<'a>(alloc: Global) -> Result<Command<'a>, AllocError> {
-    let mut program = Command::new(alloc, "sas")
-        .about("Reads, checks and validates task files and plan files of Fast Downward")
-        .after_help(STATUSES_AND_FILES)
-        .version(VERSION);
+    let about = "Reads, checks and validates task files and plan files of Fast Downward";
+    let mut program = command_named(alloc, "sas", about).version(VERSION);
     for request in &REQUESTS {
-        program = program.subcommand(request.command(alloc)?)?;
+        program = request.add_to(alloc, program)?;
     }
     Ok(program)
 }
 
+/// Returns a command without arguments.
+fn command_named<'a>(alloc: Global, name: &'a str, about: &'a str) -> Command<'a> {
+    Command::new(alloc, name)
+        .about(about)
+        .after_help(STATUSES_AND_FILES)
+}
+
 impl RequestArguments {
-    /// Returns the grammar of the arguments of the request.
-    fn command<'a>(&self, alloc: Global) -> Result<Command<'a>, AllocError> {
-        let mut request = Command::new(alloc, self.name)
-            .about(self.about)
-            .after_help(STATUSES_AND_FILES);
-        if self.why {
-            request = request.arg(the_flag(alloc))?;
-        }
-        match self.over {
-            Over::Task => request.arg(the_task(alloc)),
-            Over::Plan => request.arg(the_plan(alloc)),
-            Over::Both => request.arg(the_task(alloc))?.arg(the_plan(alloc)),
-            Over::Many => request.arg(the_task(alloc))?.arg(the_plans(alloc)),
+    /// Adds the request to the grammar of the program.
+    fn add_to<'a>(&self, alloc: Global, program: Command<'a>) -> Result<Command<'a>, AllocError> {
+        match self.command(alloc) {
+            Ok(request) => program.subcommand(request),
+            Err(error) => {
+                drop(program);
+                Err(error)
+            }
         }
     }
+
+    /// Returns the grammar of the arguments of the request.
+    fn command<'a>(&self, alloc: Global) -> Result<Command<'a>, AllocError> {
+        let mut arguments = Vec::new(alloc);
+        self.push_arguments(alloc, &mut arguments)?;
+        command_named(alloc, self.name, self.about).args(arguments)
+    }
+
+    /// Appends the arguments of the request.
+    fn push_arguments<'a>(
+        &self,
+        alloc: Global,
+        arguments: &mut Vec<Arg<'a>>,
+    ) -> Result<(), AllocError> {
+        if self.why {
+            push(arguments, the_flag(alloc))?;
+        }
+        if self.over != Over::Plan {
+            push(arguments, the_task(alloc))?;
+        }
+        match self.over {
+            Over::Task => Ok(()),
+            Over::Plan | Over::Both => push(arguments, the_plan(alloc)),
+            Over::Many => push(arguments, the_plans(alloc)),
+        }
+    }
+}
+
+/// Appends an argument. It is a call of its own, since each place where an argument may be dropped is long to prove.
+fn push<'a>(arguments: &mut Vec<Arg<'a>>, argument: Arg<'a>) -> Result<(), AllocError> {
+    arguments.push(argument)?;
+    Ok(())
 }
 
 fn the_flag<'a>(alloc: Global) -> Arg<'a> {
     Arg::new(alloc, WHY)
         .long(WHY)
         .action(ArgAction::SetTrue)
-        .help("Tells the reasons for a no, too")
+        .help("Adds the reasons for a no")
 }
 
 fn the_task<'a>(alloc: Global) -> Arg<'a> {

@@ -1,5 +1,7 @@
 // The program: its arguments, its devices and how it ends.
-ghost use Rattle.std.specs.Prelude.{◌≡◌, false};
+ghost use Rattle.std.specs.Prelude.{◌≡◌, false, All};
+ghost use Rattle.std.specs.String.{string_bytes};
+ghost use Rattle.sas_plans.specs.Inputs.{IsLabel};
 
 use crate::arguments::{ArgumentsFault, Asked, Job, Source, command};
 use crate::plan_files::{PlanFiles, are_labels, name_input_twice};
@@ -27,6 +29,8 @@ const INVALID_ARGUMENTS: u8 = 2;
 const FAULT: u8 = 3;
 
 const OUT_OF_MEMORY: &str = "sas: out of memory";
+
+const TASK_NOT_OPENED: &str = "sas: cannot open the task";
 
 const WRITE_FAILED: &str = "sas: write failed";
 
@@ -72,18 +76,34 @@ fn run_files<R: AllocGlobal + Files + Input + Print + Eprint>(
     plan_source: Option<Source>,
 ) -> ExitCode {
     let mut task = Watched::new(Opened::Nothing);
-    if open_source(rt, task_source, &mut task).is_err() {
-        return stop(rt, FAULT, "sas: cannot open the task");
-    }
     let mut plan = Watched::new(Opened::Nothing);
-    if open_source(rt, plan_source, &mut plan).is_err() {
-        return stop(rt, FAULT, "sas: cannot open the plan");
-    }
+    let ended = if open_source(rt, task_source, &mut task).is_err() {
+        stop(rt, FAULT, TASK_NOT_OPENED)
+    } else if open_source(rt, plan_source, &mut plan).is_err() {
+        stop(rt, FAULT, "sas: cannot open the plan")
+    } else {
+        answer(rt, asked, &mut task, &mut plan)
+    };
+    drop(plan);
+    drop(task);
+    ended
+}
+
+/// Answers the request about a task, a plan or both, and flushes standard output.
+fn answer<R: AllocGlobal + Files + Input + Print + Eprint>(
+    rt: &R,
+    asked: Asked,
+    task: &mut Watched<Opened<R::File, R::Reader>>,
+    plan: &mut Watched<Opened<R::File, R::Reader>>,
+) -> ExitCode
+    requires task { task.old.failed ≡ false }
+    requires plan { plan.old.failed ≡ false }
+{
     let mut out = Watched::new(io::writer(rt));
     let result = match asked {
-        Asked::Answer(request) => run(rt.alloc(), request, &mut task, &mut plan, &mut out),
-        Asked::Explanation(request) => explain(rt.alloc(), request, &mut task, &mut plan, &mut out),
-        Asked::Trace => trace(rt.alloc(), &mut task, &mut plan, &mut out),
+        Asked::Answer(request) => run(rt.alloc(), request, task, plan, &mut out),
+        Asked::Explanation(request) => explain(rt.alloc(), request, task, plan, &mut out),
+        Asked::Trace => trace(rt.alloc(), task, plan, &mut out),
     };
     if result.is_ok() && out.into_device().flush().is_err() {
         return stop(rt, FAULT, WRITE_FAILED);
@@ -91,7 +111,7 @@ fn run_files<R: AllocGlobal + Files + Input + Print + Eprint>(
     end(rt, &result)
 }
 
-/// Opens a task, judges the plans of these labels, and flushes standard output.
+/// Opens a task, and judges the plans of these labels.
 #[inline(never)]
 fn run_plans<R: AllocGlobal + Files + Input + Print + Eprint>(
     rt: &R,
@@ -105,12 +125,27 @@ fn run_plans<R: AllocGlobal + Files + Input + Print + Eprint>(
         return stop(rt, INVALID_ARGUMENTS, INPUT_TWICE);
     }
     let mut task = Watched::new(UntilEnd::nothing());
-    if open_until_end(rt, task_source, &mut task).is_err() {
-        return stop(rt, FAULT, "sas: cannot open the task");
-    }
+    let ended = if open_until_end(rt, task_source, &mut task).is_err() {
+        stop(rt, FAULT, TASK_NOT_OPENED)
+    } else {
+        judge_plans(rt, &mut task, labels)
+    };
+    drop(task);
+    ended
+}
+
+/// Judges the plans of these labels, and flushes standard output.
+fn judge_plans<R: AllocGlobal + Files + Input + Print + Eprint>(
+    rt: &R,
+    task: &mut Watched<UntilEnd<Opened<R::File, R::Reader>>>,
+    labels: &[String],
+) -> ExitCode
+    requires task { task.old.failed ≡ false }
+    requires labels { All (λ label. IsLabel (string_bytes label)) labels.now }
+{
     let mut plans = PlanFiles { rt, labels };
     let mut out = Watched::new(io::writer(rt));
-    let result = judge(rt.alloc(), &mut task, &mut plans, &mut out);
+    let result = judge(rt.alloc(), task, &mut plans, &mut out);
     if result.is_ok() && out.into_device().flush().is_err() {
         return stop(rt, FAULT, WRITE_FAILED);
     }
@@ -167,7 +202,7 @@ fn job_of_arguments<R: AllocGlobal + Env + Eprint>(rt: &R) -> Result<Job, ExitCo
 fn not_text<R: Eprint>(rt: &R, kind: ErrorKind) -> ExitCode {
     match kind {
         ErrorKind::OutOfMemory => stop(rt, FAULT, OUT_OF_MEMORY),
-        _ => stop(rt, INVALID_ARGUMENTS, "sas: a word is no text in UTF-8"),
+        _ => stop(rt, INVALID_ARGUMENTS, "sas: an argument isn't valid UTF-8"),
     }
 }
 
