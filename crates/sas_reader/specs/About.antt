@@ -7,7 +7,7 @@ use Rattle.sas_reader.specs.declared.fault.Kind.TheVariants as kinds
 use Rattle.sas_reader.specs.Texts.{Reads}
 use Rattle.sas_reader.specs.Format.{Format, Next, FaultOf, EndOf}
 
--- faults of this kind have a text; those of the kinds `Read`, `TooLong` and `Memory` have none
+-- a fault of this kind is about a text; one of kind `Read`, `TooLong` or `Memory` is not
 abbrev pub ConcernsText : Kind → Type 0
 ConcernsText k = (k ≢ kinds.Read) × (k ≢ kinds.TooLong) × (k ≢ kinds.Memory)
 
