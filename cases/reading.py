@@ -30,7 +30,7 @@ def text_of(path):
 
 def imports(path):
     """Returns the files of definitions that this one imports, in order. A type of the code is none of them."""
-    names = re.findall(r"^use Rattle\.(sas_\w+)\.specs\.(?!declared)(\w+)", text_of(path), re.MULTILINE)
+    names = re.findall(r"^(?:pub )?use Rattle\.(sas_\w+)\.specs\.(?!declared)(\w+)", text_of(path), re.MULTILINE)
     return [f"crates/{crate}/specs/{name}.antt" for crate, name in names]
 
 
@@ -45,7 +45,7 @@ def closure(path):
 def size(path):
     """Returns how many lines a file has without imports and empty lines."""
     lines = text_of(path).splitlines()
-    return sum(1 for line in lines if line.strip() and not line.startswith("use "))
+    return sum(1 for line in lines if line.strip() and not line.startswith(("use ", "pub use ")))
 
 
 def wrong_sections(reading):

@@ -1,7 +1,6 @@
 -- The lines of concatenated bytes.
 use Rattle.std.proofs.Common.{◌≡◌, ℕ, suc, ◌≤◌, ◌≢◌, Bool, true, false, ◌==◌, if◌then◌else◌, length, List, [], ◌∷◌, ◌++◌, refl, sym, ap, ◌∙◌, arith}
 use Rattle.std.specs.List.{AllByRecursion}
-use Rattle.std.proofs.lemmas.Bool.{ne_eqb}
 use Rattle.std.proofs.lemmas.List.{append-nil}
 use Rattle.sas_lines.specs.Parts.{parts, onto_first}
 use Rattle.sas_lines.specs.Lines.{without_return, lines_among, rest_among, lines, unfinished, text, NoEnd}
@@ -89,11 +88,6 @@ pub unfinished-end : (bytes : List ℕ) → unfinished (bytes ++ 10 ∷ []) ≡ 
 unfinished-end bytes = unfinished-append bytes (10 ∷ []) ∙ unfinished-one (unfinished bytes) (unfinished-plain_all bytes)
 
 -- ---- a text that is written line by line
-
-pub without_return-none : (bytes : List ℕ) → AllByRecursion (λ b. b ≢ 13) bytes → without_return bytes ≡ bytes
-without_return-none [] h = refl
-without_return-none (b ∷ []) h = rw (ne_eqb b 13 h.0) refl
-without_return-none (b ∷ c ∷ bytes) h = ap (λ (l : List ℕ). b ∷ l) (without_return-none (c ∷ bytes) h.1)
 
 -- a line that is read as it is written
 pub record Plain (line : List ℕ) : Type 0 where

@@ -8,11 +8,9 @@ use Rattle.std.proofs.lemmas.Bool.{eqb-true, ne_eqb, cases_lt}
 use Rattle.std.proofs.lemmas.Fmt.{digits_decimal, decimal_injective, decimal_is_IsNumeral, decimal_is_IsNumeral_wide, length-decimal-le}
 use Rattle.std.proofs.lemmas.Str.Parse.{digit_from_value}
 use Rattle.sas_lines.specs.Parts.{Without, onto_first, parts}
-use Rattle.sas_lines.specs.Lines.{NoEnd}
 use Rattle.std.specs.Prelude.{IfSome}
 use Rattle.sas_lines.specs.Spelling.{signed_decimal, joined}
 use Rattle.sas_lines.proofs.Separated.{parts-first, parts-only, parts-some}
-use Rattle.sas_lines.proofs.Splitting.{Plain, without_return-none}
 use Rattle.sas_lines.proofs.Digits.{own}
 
 abbrev pub NoSpace : List ℕ → Type 0
@@ -76,12 +74,6 @@ Without-decimal separator n l = without_onto separator 64 n [] l tt
 
 pub NoSpace-decimal : (n : ℕ) → NoSpace (decimal n)
 NoSpace-decimal n = Without-decimal 32 n (omega arith)
-
-pub NoEnd-decimal : (n : ℕ) → NoEnd (decimal n)
-NoEnd-decimal n = Without-decimal 10 n (omega arith)
-
-pub Plain-decimal : (n : ℕ) → Plain (decimal n)
-Plain-decimal n = record { no_end = NoEnd-decimal n; no_return = without_return-none (decimal n) (Without-decimal 13 n (omega arith)) }
 
 pub NoSpace-number : (n : ℕ) → n < 2 ^ 31 → NoSpace (decimal n)
 NoSpace-number n h = NoSpace-decimal n

@@ -14,11 +14,12 @@ use Rattle.sas_meaning.proofs.LayerChecksAreRules.{checks_are_rules}
 use Rattle.sas_reader.specs.declared.fault.Fault.{Fault}
 use Rattle.sas_reader.specs.declared.fault.Kind.TheVariants.{TooLong}
 use Rattle.sas_reader.specs.Limit.{most_bytes}
-use Rattle.sas_reader.specs.Format.{Format, Reads, ReadsAs}
+use Rattle.sas_reader.specs.Texts.{Reads}
+use Rattle.sas_reader.specs.Format.{Format, ReadsAs}
 use Rattle.sas_reader.specs.Laws.{Laws}
-use Rattle.sas_plan_file.specs.PlanFormat.{plan_format}
+use Rattle.sas_plan_file.specs.PlanFormat.{plan_texts, plan_format}
 use Rattle.sas_plan_file.proofs.PlanLaws.{plan_laws_hold}
-use Rattle.sas_task_format.specs.TaskFormat.{task_format}
+use Rattle.sas_task_format.specs.TaskFormat.{task_texts, task_format}
 use Rattle.sas_task_format.proofs.TaskLaws.{task_laws_hold}
 use Rattle.sas_output.specs.declared.ending.Status.{Status}
 use Rattle.sas_output.specs.declared.ending.Status.TheVariants.{Yes, No}
@@ -106,9 +107,9 @@ tells_valid = record {
 -- ---- the output for a plan that solves the task
 
 -- a text is read as its value, unless it is too long
-pub text_read : {V I S : Type 0} (F : Format V I S) → Laws F → (bytes : List ℕ) (v : V) (r : Result V Fault) → Reads F bytes v → ((f : Fault) → r ≡ Err f → f.kind ≢ TooLong) → ReadsAs F most_bytes bytes r → r ≡ Ok v
+pub text_read : {V I S : Type 0} (F : Format V I S) → Laws F → (bytes : List ℕ) (v : V) (r : Result V Fault) → Reads F.texts bytes v → ((f : Fault) → r ≡ Err f → f.kind ≢ TooLong) → ReadsAs F most_bytes bytes r → r ≡ Ok v
 text_read F laws bytes v (Ok w) is short reads = ap Ok (laws.one_value bytes w v reads.0 is)
-text_read F laws bytes v (Err f) is short (inl fault) = absurd (laws.fault_is_no_text most_bytes bytes [] f v fault (short f refl) (subst (λ (x : List ℕ). Reads F x v) (sym (append-nil bytes)) is))
+text_read F laws bytes v (Err f) is short (inl fault) = absurd (laws.fault_is_no_text most_bytes bytes [] f v fault (short f refl) (subst (λ (x : List ℕ). Reads F.texts x v) (sym (append-nil bytes)) is))
 text_read F laws bytes v (Err f) is short (inr early) = absurd (early.none v is)
 
 -- the refusal of a file isn't for its length
@@ -125,7 +126,7 @@ sent_same (Some xs) (Some ys) before x y e f g = append_cancel_left xs x y (sym 
 
 module _ (Verdict : Parts → PlanParts → Output → Type 0) (refused : Parts → LayerFault → Option Output) (tells : TellsValid Verdict) (refuses : Refuses refused) where
   module _ (b c : List ℕ) (o : Output) where
-    verdict_told : (p : Parts) (plan : PlanParts) → Reads task_format b p → IsLayered p → Reads plan_format c plan → Verdict p plan o → IsSolved b c o ⊎ IsOther o
+    verdict_told : (p : Parts) (plan : PlanParts) → Reads task_texts b p → IsLayered p → Reads plan_texts c plan → Verdict p plan o → IsSolved b c o ⊎ IsOther o
     verdict_told p plan is_task layered is_plan verdict = elim (tells.told p plan o verdict) [
       | inl x ↦ inl (record {
         status = ap (λ (y : Output). y.status) x.1;
@@ -143,14 +144,14 @@ module _ (Verdict : Parts → PlanParts → Output → Type 0) (refused : Parts 
       | inr other ↦ inr other
     ]
 
-    plan_told : (p : Parts) (r : Result PlanParts Fault) → Reads task_format b p → IsLayered p → ReadsAs plan_format most_bytes c r → IsAnswerOrRefusal (codes "plan") (Verdict p) r (Some o) → IsSolved b c o ⊎ IsOther o
+    plan_told : (p : Parts) (r : Result PlanParts Fault) → Reads task_texts b p → IsLayered p → ReadsAs plan_format most_bytes c r → IsAnswerOrRefusal (codes "plan") (Verdict p) r (Some o) → IsSolved b c o ⊎ IsOther o
     plan_told p (Ok plan) is_task layered reads answer =
         let same : answer.0 ≡ o = (let e : Some o ≡ Some answer.0 = answer.2 in cc) in
         verdict_told p plan is_task layered reads.0 (subst (λ (x : Output). Verdict p plan x) same answer.1)
     plan_told p (Err fault) is_task layered reads is =
         inr (other_words (word_of fault.kind) (refusal_line (codes "plan") fault.line) o (λ w steps cost. plan_refusal_apart fault.line steps cost w) (sym is))
 
-    layers_told : (p : Parts) (first : Option LayerFault) → Reads task_format b p → (first ≡ None → IsLayered p) → LayersOut Verdict refused p first c (Some o) → IsSolved b c o ⊎ IsOther o
+    layers_told : (p : Parts) (first : Option LayerFault) → Reads task_texts b p → (first ≡ None → IsLayered p) → LayersOut Verdict refused p first c (Some o) → IsSolved b c o ⊎ IsOther o
     layers_told p (Some fault) is_task layered is = inr (refusal_other fault o (refuses.told p fault o (sym is)))
     layers_told p None is_task layered out = plan_told p out.0 is_task (layered refl) out.1 out.2
 

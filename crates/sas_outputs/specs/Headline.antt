@@ -15,9 +15,9 @@ use Rattle.sas_core.specs.Grounded.{group_at}
 use Rattle.sas_groups.specs.declared.verdict.Verdict.TheVariants.{Exclusive}
 use Rattle.sas_groups.specs.Groups.{IsInvariant}
 use Rattle.sas_lines.specs.Lines.{lines}
-use Rattle.sas_reader.specs.Format.{Reads}
-use Rattle.sas_plan_file.specs.PlanFormat.{plan_format}
-use Rattle.sas_task_format.specs.TaskFormat.{task_format}
+use Rattle.sas_reader.specs.Texts.{Reads}
+use Rattle.sas_plan_file.specs.PlanTexts.{plan_texts}
+use Rattle.sas_task_format.specs.TaskTexts.{task_texts}
 use Rattle.sas_run.specs.Plans.{IsValid}
 use Rattle.sas_output.specs.declared.ending.Status.{Status}
 use Rattle.sas_output.specs.declared.ending.Status.TheVariants.{Yes}
@@ -30,9 +30,9 @@ pub record Solves (b c line : List ℕ) : Type 0 where
   pub task : Parts
   pub plan : PlanParts
   pub operators : List ℕ
-  pub is_task : Reads task_format b task
+  pub is_task : Reads task_texts b task
   pub layered : IsLayered task
-  pub is_plan : Reads plan_format c plan
+  pub is_plan : Reads plan_texts c plan
   pub valid : IsValid task plan operators
   pub printed : line ≡ valid_line (length plan.steps) plan.cost
 
@@ -48,7 +48,7 @@ pub record Headline (b c : List ℕ) (Sent : List ℕ → Type 0) (status : Stat
 -- invariant of the task.
 pub record HasInvariant (b : List ℕ) (place : ℕ) : Type 0 where
   pub task : Parts
-  pub is_task : Reads task_format b task
+  pub is_task : Reads task_texts b task
   pub layered : IsLayered task
   pub exists : place < length task.groups
   pub invariant : IsInvariant task (group_at task place)

@@ -12,7 +12,8 @@ use Rattle.sas_reader.specs.declared.fault.Fault.{Fault}
 use Rattle.sas_reader.specs.declared.fault.Kind.{Kind}
 use Rattle.sas_reader.specs.declared.fault.Kind.TheVariants.{Keyword, Name, Shape, Value, End}
 use Rattle.sas_reader.specs.declared.fault.Kind.TheVariants.{Trailing, TooLong, Read, Memory}
-use Rattle.sas_reader.specs.Format.{Format, ReadsAs, lines_of}
+use Rattle.sas_reader.specs.Texts.{lines_of}
+use Rattle.sas_reader.specs.Format.{Format, ReadsAs}
 use Rattle.sas_reader.specs.Limit.{most_bytes}
 use Rattle.sas_plan_file.specs.PlanFormat.{plan_format}
 use Rattle.sas_task_format.specs.TaskFormat.{task_format}
@@ -62,7 +63,7 @@ ShowAnswer p output = output ≡ record { text = text (summary_lines (outline_of
 module _ {V I S : Type 0} (F : Format V I S) where
   -- the answer of `print` and `steps` is the lines of the value, each ended by LF
   abbrev pub PrintAnswer : V → Output → Type 0
-  PrintAnswer value output = output ≡ record { text = text (lines_of F value); status = Yes }
+  PrintAnswer value output = output ≡ record { text = text (lines_of F.texts value); status = Yes }
 
   -- the output for the bytes of the file with this name
   abbrev pub FileOut : List ℕ → (V → Output → Type 0) → List ℕ → Option Output → Type 0

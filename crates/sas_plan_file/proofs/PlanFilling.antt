@@ -7,8 +7,8 @@ use Rattle.sas_core.specs.declared.plan.CostKind.TheVariants as costs
 use Rattle.sas_core.specs.Names.{IsName}
 use Rattle.sas_core.specs.PlanParts.{PlanParts}
 use Rattle.sas_core.specs.Plans.{WellNamed}
-use Rattle.sas_reader.specs.Format.{lines_of}
-use Rattle.sas_plan_file.specs.PlanFormat.{step, cost, plan_line_bytes, plan_format}
+use Rattle.sas_reader.specs.Texts.{lines_of}
+use Rattle.sas_plan_file.specs.PlanFormat.{step, cost, plan_line_bytes, plan_texts}
 use Rattle.sas_plan_file.specs.PlanLaws.{PlanIsFilled, filling_cost_line}
 
 abbrev step_lines : List (List ℕ) → List (List ℕ)
@@ -37,7 +37,7 @@ front (b ∷ steps) (x ∷ begun) last line more g e =
     let f = front steps begun last line more g.1 others in
     record { names = b ∷ f.names; good = (g.0, f.good); are = ap (λ (l : List (List ℕ)). plan_line_bytes (step b) ∷ l) f.are ∙ ap (λ (y : List ℕ). y ∷ begun) one }
 
-filled_by : (p : PlanParts) (begun more : List (List ℕ)) → WellNamed p → lines_of plan_format p ≡ begun ++ more → (q : PlanParts) × WellNamed q × ((lines_of plan_format q ≡ begun) ⊎ (lines_of plan_format q ≡ begun ++ filling_cost_line ∷ []))
+filled_by : (p : PlanParts) (begun more : List (List ℕ)) → WellNamed p → lines_of plan_texts p ≡ begun ++ more → (q : PlanParts) × WellNamed q × ((lines_of plan_texts q ≡ begun) ⊎ (lines_of plan_texts q ≡ begun ++ filling_cost_line ∷ []))
 filled_by p begun [] g e = (p, g, inl (e ∙ append-nil begun))
 filled_by p begun (line ∷ more) g e =
     let f = front p.steps begun (plan_line_bytes (cost p.cost p.kind)) line more g.steps (sym (steps_line p.steps p.cost p.kind) ∙ e) in

@@ -10,9 +10,9 @@ use Rattle.sas_core.specs.Names.{IsName}
 use Rattle.sas_core.specs.PlanParts.{PlanParts}
 use Rattle.sas_core.specs.Numbers.{IsPlanCost}
 use Rattle.sas_core.specs.Plans.{WellNamed}
-use Rattle.sas_reader.specs.Format.{lines_of}
+use Rattle.sas_reader.specs.Texts.{lines_of}
 use Rattle.sas_reader.specs.System.{Node, ended, LeadsToEnd, Grammar, IsPlain}
-use Rattle.sas_plan_file.specs.PlanFormat.{PlanLine, step, cost, plan_line_bytes, plan_layout, plan_format, cost_front, cost_words, PlanLineFits}
+use Rattle.sas_plan_file.specs.PlanFormat.{PlanLine, step, cost, plan_line_bytes, plan_layout, plan_texts, plan_format, cost_front, cost_words, PlanLineFits}
 use Rattle.sas_plan_file.specs.PlanMachine.{PlanState, going, closed, plan_node, plan_start}
 use Rattle.sas_reader.proofs.Paths.{one_ended}
 use Rattle.sas_reader.proofs.Plain.{plain-decimal, plain_bytes, plain-name, plain-append}
@@ -73,7 +73,7 @@ plain-lines : (steps : List (List ℕ)) (n : ℕ) (k : CostKind) → AllByRecurs
 plain-lines [] n k g f = (plain-cost_line n k f, tt)
 plain-lines (b ∷ steps) n k g f = (plain-step b g.0, plain-lines steps n k g.1 f)
 
-plan_plain : (p : PlanParts) → WellNamed p → AllByRecursion IsPlain (lines_of plan_format p)
+plan_plain : (p : PlanParts) → WellNamed p → AllByRecursion IsPlain (lines_of plan_texts p)
 plan_plain p g = plain-lines p.steps p.cost p.kind g.steps g.cost
 
 pub plan_grammar : Grammar plan_format PlanLineFits plan_node plan_start

@@ -8,8 +8,8 @@ use Rattle.sas_core.specs.PlanParts.{PlanParts}
 use Rattle.sas_lines.specs.Lines.{text, lines}
 use Rattle.sas_reader.specs.declared.fault.Kind.{Kind}
 use Rattle.sas_plan_file.specs.declared.plan_text.PlanText.{PlanText}
-use Rattle.sas_reader.specs.Format.{lines_of, Reads}
-use Rattle.sas_plan_file.specs.PlanFormat.{step, cost, plan_line_bytes, plan_format, PlanLineFits}
+use Rattle.sas_reader.specs.Texts.{lines_of, Reads}
+use Rattle.sas_plan_file.specs.PlanFormat.{step, cost, plan_line_bytes, plan_texts, plan_format, PlanLineFits}
 use Rattle.sas_plan_file.specs.PlanMachine.{PlanState, going, closed, plan_node, plan_next, plan_start, plan_line_ok, HasCostLine}
 use Rattle.sas_plan_file.specs.PlanText.{KeepsLines}
 use Rattle.sas_reader.specs.System.{IsAllowed, IsRejected, Leads, Rejects}
@@ -73,5 +73,5 @@ text_follows ls m h = record {
 }
 
 -- the text of what was read, if it was read as a plan
-pub text_is : (m : PlanText) (bytes : List ℕ) (p : PlanParts) → KeepsLines (lines bytes) m → Reads plan_format bytes p → m.text.items ≡ text (lines_of plan_format p)
+pub text_is : (m : PlanText) (bytes : List ℕ) (p : PlanParts) → KeepsLines (lines bytes) m → Reads plan_texts bytes p → m.text.items ≡ text (lines_of plan_texts p)
 text_is m bytes p h r = h.kept ∙ ap text r.lines

@@ -1,3 +1,4 @@
+pub mod PlanTexts
 pub mod PlanFormat
 pub mod PlanLaws
 pub mod PlanMachine

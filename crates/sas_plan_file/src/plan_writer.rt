@@ -1,8 +1,8 @@
 // Writes plan files.
 ghost use Rattle.std.specs.Prelude.{◌≡◌, [], ◌∷◌, ◌++◌, IfOk, OnOk};
 ghost use Rattle.sas_lines.specs.Lines.{text};
-ghost use Rattle.sas_reader.specs.Format.{lines_of};
-ghost use Rattle.sas_plan_file.specs.PlanFormat.{plan_format, plan_line_bytes, cost_words, step, cost};
+ghost use Rattle.sas_reader.specs.Texts.{lines_of};
+ghost use Rattle.sas_plan_file.specs.PlanFormat.{plan_texts, plan_line_bytes, cost_words, step, cost};
 
 use sas_core::{CostKind, Plan};
 use sas_lines::{push_line, push_number};
@@ -40,7 +40,7 @@ fn push_cost(out: &mut Vec<u8>, n: u64, kind: CostKind) -> Result<(), AllocError
 
 /// Returns the text of a plan: its lines, each ended by LF. Returns `Err` only if out of memory.
 pub fn encode_plan(alloc: Global, plan: &Plan) -> Result<Vec<u8>, AllocError>
-    ensures { IfOk result (λ t. t.items ≡ text (lines_of plan_format plan.now)) }
+    ensures { IfOk result (λ t. t.items ≡ text (lines_of plan_texts plan.now)) }
 {
     let mut out = Vec::new(alloc);
     for name in plan.steps().as_slice() {

@@ -10,9 +10,10 @@ use Rattle.sas_core.specs.PlanParts.{PlanParts}
 use Rattle.sas_meaning.specs.declared.layered.LayerFault.{LayerFault}
 use Rattle.sas_meaning.specs.LayerChecks.{layer_checks}
 use Rattle.sas_reader.specs.declared.fault.Fault.{Fault}
-use Rattle.sas_reader.specs.Format.{Reads, ReadsAs}
+use Rattle.sas_reader.specs.Texts.{Reads}
+use Rattle.sas_reader.specs.Format.{ReadsAs}
 use Rattle.sas_reader.specs.Limit.{most_bytes}
-use Rattle.sas_plan_file.specs.PlanFormat.{plan_format}
+use Rattle.sas_plan_file.specs.PlanTexts.{plan_texts}
 use Rattle.sas_task_format.specs.TaskFormat.{task_format}
 use Rattle.sas_output.specs.declared.ending.Status.{Status}
 use Rattle.sas_output.specs.declared.ending.Status.TheVariants.{Yes, No}
@@ -29,7 +30,7 @@ pub record Judged : Type 0 where
 
 -- the cost of a plan with these bytes, by the status of the answer about it
 abbrev pub HasCost : List ℕ → Status → Option ℕ → Type 0
-HasCost c Yes cost = (plan : PlanParts) × Reads plan_format c plan × (cost ≡ Some plan.cost)
+HasCost c Yes cost = (plan : PlanParts) × Reads plan_texts c plan × (cost ≡ Some plan.cost)
 HasCost c No cost = cost ≡ None
 
 -- this is said of the plan with this label and these bytes, for a layered task

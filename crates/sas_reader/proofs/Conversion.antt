@@ -5,7 +5,8 @@ use Rattle.sas_lines.specs.Lines.{without_return, lines, unfinished}
 use Rattle.sas_reader.specs.declared.fault.Fault.{Fault}
 use Rattle.sas_reader.specs.declared.fault.Kind.{Kind}
 use Rattle.sas_reader.specs.declared.fault.Kind.TheVariants as kinds
-use Rattle.sas_reader.specs.Format.{Format, Reads, Live, FaultOf, EndOf, MoreIsDue, ReadsAs}
+use Rattle.sas_reader.specs.Texts.{Reads}
+use Rattle.sas_reader.specs.Format.{Format, Live, FaultOf, EndOf, MoreIsDue, ReadsAs}
 use Rattle.sas_reader.specs.System.{Node, ended, Rejects, Leads, Grammar}
 use Rattle.sas_reader.specs.Limit.{most_bytes}
 use Rattle.sas_reader.specs.Reader.{Reached, LineIsDue, Stops, full, over, rejected, FaultIn, EndsEarly, IsRefused, ReadFails, unread, early, faulty}
@@ -44,11 +45,11 @@ module _ {T V I S M : Type 0} (F : Format V I S) (Fits : I → Type 0) (node : T
   pub live_of_format : (limit : ℕ) (m : M) (bytes : List ℕ) → length bytes ≤ limit → Reached led_by Ended m bytes → Live F limit bytes
   live_of_format limit m bytes l h = live F Fits node start g limit (at m bytes h).state bytes l (path_of m bytes h)
 
-  pub reads_of_format : (m : M) (v : V) (bytes : List ℕ) (h : Reached led_by Ended m bytes) → node (at m bytes h).state ≡ ended v → Reads F bytes v
+  pub reads_of_format : (m : M) (v : V) (bytes : List ℕ) (h : Reached led_by Ended m bytes) → node (at m bytes h).state ≡ ended v → Reads F.texts bytes v
   reads_of_format m v bytes h d = reads_done F Fits node start g (at m bytes h).state v bytes d (path_of m bytes h)
 
   -- if the machine has ended, a value was read
-  pub some_read : (m : M) (bytes : List ℕ) → Reached led_by Ended m bytes → Ended m → (v : V) × Reads F bytes v
+  pub some_read : (m : M) (bytes : List ℕ) → Reached led_by Ended m bytes → Ended m → (v : V) × Reads F.texts bytes v
   some_read m bytes h d = let v = (at m bytes h).value d in (v.0, reads_of_format m v.0 bytes h v.1)
 
   pub more_is_due : (limit : ℕ) (bytes piece : List ℕ) → LineIsDue led_by Ended limit bytes piece → MoreIsDue F limit bytes piece

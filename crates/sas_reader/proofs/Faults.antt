@@ -39,7 +39,7 @@ module _ {T V I S : Type 0} (F : Format V I S) (Fits : I → Type 0) (node : T �
   line_goes : (limit : ℕ) (p : T) (s : S) (ok : I → Bool) (next : I → T) (front rest : List ℕ) → node p ≡ before s ok next → Path F Fits node start p front → length front + 1 ≤ limit → None limit (front ++ 10 ∷ rest)
       → ((q : T) → Path F Fits node start q (one_more front 10) → ⊥) → ⊥
   line_goes limit p s ok next front rest e h l none later =
-      let no : (i : I) → IsAllowed F Fits s ok i → F.spelled i ≡ without_return (unfinished front) → ⊥ = λ i t w. later (next i) (path_line F Fits node start p (next i) front i h (taken p s ok next i e t) w) in
+      let no : (i : I) → IsAllowed F Fits s ok i → F.texts.spelled i ≡ without_return (unfinished front) → ⊥ = λ i t w. later (next i) (path_line F Fits node start p (next i) front i h (taken p s ok next i e t) w) in
       g.some_kind s (without_return (unfinished front)) (λ k kind. no_fault limit front 10 rest k none (fault_line F Fits node start g limit p s ok next front (fault_with front k) e h (record { none = no; kind = kind }) l refl))
 
   byte_goes : (limit : ℕ) (p : T) (s : S) (ok : I → Bool) (next : I → T) (front : List ℕ) (x : ℕ) (rest : List ℕ) → node p ≡ before s ok next → Path F Fits node start p front → length front + 1 ≤ limit → None limit (front ++ x ∷ rest)

@@ -7,7 +7,8 @@ use Rattle.sas_lines.proofs.Splitting.{lines-none, unfinished-none, lines-plain,
 use Rattle.sas_reader.specs.declared.fault.Fault.{Fault}
 use Rattle.sas_reader.specs.declared.fault.Kind.{Kind}
 use Rattle.sas_reader.specs.declared.fault.Kind.TheVariants.{End, Trailing, TooLong}
-use Rattle.sas_reader.specs.Format.{Format, lines_of, Reads, IsBegun, Live, Next, too_long, trailing, wrong, FaultOf, EndOf}
+use Rattle.sas_reader.specs.Texts.{lines_of, Reads}
+use Rattle.sas_reader.specs.Format.{Format, IsBegun, Live, Next, too_long, trailing, wrong, FaultOf, EndOf}
 use Rattle.sas_reader.specs.System.{Node, ended, before, OneLine, After, LeadsToEnd, IsRejected, Rejects, Leads, Grammar}
 use Rattle.sas_reader.proofs.Paths.{Path, cut_at, map-append, ended_stops, after_append, after_ends, ends_split, ends_after, same_path}
 
@@ -28,14 +29,14 @@ module _ {T V I S : Type 0} (F : Format V I S) (Fits : I → Type 0) (node : T �
   pub path_plain : (p : T) (bytes : List ℕ) (byte : ℕ) → Path F Fits node start p bytes → byte ≢ 10 → ((v : V) → node p ≡ ended v → ⊥) → Path F Fits node start p (one_more bytes byte)
   path_plain p bytes byte h ne going = record { leads = subst (λ (l : List (List ℕ)). Leads F Fits node start l p) (sym (lines-plain bytes byte ne)) h.leads; ended = λ v e. absurd (going v e) }
 
-  pub leads_line : (p q : T) (ls : List (List ℕ)) (i : I) → Leads F Fits node start ls p → After F Fits node p (i ∷ []) q → Leads F Fits node start (ls ++ F.spelled i ∷ []) q
+  pub leads_line : (p q : T) (ls : List (List ℕ)) (i : I) → Leads F Fits node start ls p → After F Fits node p (i ∷ []) q → Leads F Fits node start (ls ++ F.texts.spelled i ∷ []) q
   leads_line p q ls i h a = record {
     items = h.items ++ i ∷ [];
     after = after_append F Fits node start p q h.items (i ∷ []) h.after a;
-    spells = map-append F.spelled h.items (i ∷ []) ∙ ap (λ (l : List (List ℕ)). l ++ F.spelled i ∷ []) h.spells;
+    spells = map-append F.texts.spelled h.items (i ∷ []) ∙ ap (λ (l : List (List ℕ)). l ++ F.texts.spelled i ∷ []) h.spells;
   }
 
-  pub path_line : (p q : T) (bytes : List ℕ) (i : I) → Path F Fits node start p bytes → After F Fits node p (i ∷ []) q → F.spelled i ≡ without_return (unfinished bytes) → Path F Fits node start q (one_more bytes 10)
+  pub path_line : (p q : T) (bytes : List ℕ) (i : I) → Path F Fits node start p bytes → After F Fits node p (i ∷ []) q → F.texts.spelled i ≡ without_return (unfinished bytes) → Path F Fits node start q (one_more bytes 10)
   path_line p q bytes i h a e = record {
     leads = subst (λ (l : List (List ℕ)). Leads F Fits node start l q) (ap (λ (l : List ℕ). lines bytes ++ l ∷ []) e ∙ sym (lines-end bytes)) (leads_line p q (lines bytes) i h.leads a);
     ended = λ v f. unfinished-end bytes;
@@ -46,30 +47,30 @@ module _ {T V I S : Type 0} (F : Format V I S) (Fits : I → Type 0) (node : T �
   begun p ls h =
       let c = g.fillable h.items p h.after in
       let s = g.sound (h.items ++ c.0) c.1 (after_ends F Fits node start p c.1 h.items c.0 h.after c.2) in
-      (c.1, map F.spelled c.0, s.0, ap (map F.spelled) (sym s.1) ∙ map-append F.spelled h.items c.0 ∙ ap (λ (l : List (List ℕ)). l ++ map F.spelled c.0) h.spells)
+      (c.1, map F.texts.spelled c.0, s.0, ap (map F.texts.spelled) (sym s.1) ∙ map-append F.texts.spelled h.items c.0 ∙ ap (λ (l : List (List ℕ)). l ++ map F.texts.spelled c.0) h.spells)
 
-  whole : (p : T) (ls : List (List ℕ)) → Leads F Fits node start ls p → (v : V) → F.Good v → lines_of F v ≡ ls → node p ≡ ended v
+  whole : (p : T) (ls : List (List ℕ)) → Leads F Fits node start ls p → (v : V) → F.texts.Good v → lines_of F.texts v ≡ ls → node p ≡ ended v
   whole p ls h v w e =
-      let a = ends_after F Fits node start v (F.layout v) (g.complete v w) in
-      let s = same_path F Fits node start g start p a.0 h.items (F.layout v) h.after a.1 (h.spells ∙ sym e) in
+      let a = ends_after F Fits node start v (F.texts.layout v) (g.complete v w) in
+      let s = same_path F Fits node start g start p a.0 h.items (F.texts.layout v) h.after a.1 (h.spells ∙ sym e) in
       ap node s.state ∙ a.2
 
   pub live : (limit : ℕ) (p : T) (bytes : List ℕ) → length bytes ≤ limit → Path F Fits node start p bytes → Live F limit bytes
   live limit p bytes l h = record { short = l; begun = begun p (lines bytes) h.leads; whole = λ v w e. h.ended v (whole p (lines bytes) h.leads v w e) }
 
-  first : (p : T) (v : V) (is : List I) (line : List ℕ) (more : List (List ℕ)) → LeadsToEnd F Fits node p is v → map F.spelled is ≡ line ∷ more → (i : I) × (js : List I) × LeadsToEnd F Fits node p (i ∷ js) v × (F.spelled i ≡ line)
+  first : (p : T) (v : V) (is : List I) (line : List ℕ) (more : List (List ℕ)) → LeadsToEnd F Fits node p is v → map F.texts.spelled is ≡ line ∷ more → (i : I) × (js : List I) × LeadsToEnd F Fits node p (i ∷ js) v × (F.texts.spelled i ≡ line)
   first p v [] line more a e = absurd cc
   first p v (i ∷ is) line more a e = (i, is, a, cc)
 
   -- if a value has more lines after these, the next one is a line that the state takes
-  goes_on : (p : T) (ls : List (List ℕ)) (line : List ℕ) (more : List (List ℕ)) → Leads F Fits node start ls p → (v : V) → F.Good v → lines_of F v ≡ (ls ++ line ∷ []) ++ more → (i : I) × (is : List I) × LeadsToEnd F Fits node p (i ∷ is) v × (F.spelled i ≡ line)
+  goes_on : (p : T) (ls : List (List ℕ)) (line : List ℕ) (more : List (List ℕ)) → Leads F Fits node start ls p → (v : V) → F.texts.Good v → lines_of F.texts v ≡ (ls ++ line ∷ []) ++ more → (i : I) × (is : List I) × LeadsToEnd F Fits node p (i ∷ is) v × (F.texts.spelled i ≡ line)
   goes_on p ls line more h v w e =
-      let c = cut_at F.spelled ls (line ∷ more) (F.layout v) (e ∙ append_assoc ls (line ∷ []) more) in
+      let c = cut_at F.texts.spelled ls (line ∷ more) (F.texts.layout v) (e ∙ append_assoc ls (line ∷ []) more) in
       let t = ends_split F Fits node start v c.before c.after (subst (λ x. LeadsToEnd F Fits node start x v) c.whole (g.complete v w)) in
       let same = same_path F Fits node start g start t.0 p c.before h.items t.1 h.after (c.front_is ∙ sym h.spells) in
       first p v c.after line more (subst (λ x. LeadsToEnd F Fits node x c.after v) same.state t.2) c.back_is
 
-  no_line : (p : T) (ls : List (List ℕ)) (line : List ℕ) → Leads F Fits node start ls p → ((i : I) (is : List I) (v : V) → LeadsToEnd F Fits node p (i ∷ is) v → F.spelled i ≡ line → ⊥) → IsBegun F (ls ++ line ∷ []) → ⊥
+  no_line : (p : T) (ls : List (List ℕ)) (line : List ℕ) → Leads F Fits node start ls p → ((i : I) (is : List I) (v : V) → LeadsToEnd F Fits node p (i ∷ is) v → F.texts.spelled i ≡ line → ⊥) → IsBegun F (ls ++ line ∷ []) → ⊥
   no_line p ls line h none b =
       let t = goes_on p ls line b.1 h b.0 b.2 b.3 in
       none t.0 t.1 b.0 t.2 t.3
@@ -88,10 +89,10 @@ module _ {T V I S : Type 0} (F : Format V I S) (Fits : I → Type 0) (node : T �
     kind = too_long (omega arith) k;
   }
 
-  pub reads_done : (p : T) (v : V) (bytes : List ℕ) → node p ≡ ended v → Path F Fits node start p bytes → Reads F bytes v
+  pub reads_done : (p : T) (v : V) (bytes : List ℕ) → node p ≡ ended v → Path F Fits node start p bytes → Reads F.texts bytes v
   reads_done p v bytes e h =
       let s = g.sound (h.leads.items ++ []) v (after_ends F Fits node start p v h.leads.items [] h.leads.after e) in
-      record { good = s.0; lines = sym h.leads.spells ∙ ap (map F.spelled) (sym (append-nil h.leads.items) ∙ s.1); rest = h.ended v e }
+      record { good = s.0; lines = sym h.leads.spells ∙ ap (map F.texts.spelled) (sym (append-nil h.leads.items) ∙ s.1); rest = h.ended v e }
 
   pub done_dead : (limit : ℕ) (p : T) (v : V) (bytes : List ℕ) (byte : ℕ) → node p ≡ ended v → Path F Fits node start p bytes → Live F limit (one_more bytes byte) → ⊥
   done_dead limit p v bytes byte d h x =

@@ -86,21 +86,21 @@ module _ {T V I S : Type 0} (F : Format V I S) (Fits : I → Type 0) where
       (t.0, step_to (node p) i s.0 (λ x. After F Fits node x is t.0) s.1 t.1, t.2)
 
 module _ {T V I S : Type 0} (F : Format V I S) (Fits : I → Type 0) (node : T → Node T V I S) (start : T) (g : Grammar F Fits node start) where
-  same_taken : (s : S) (ok : I → Bool) (i j : I) → IsAllowed F Fits s ok i → IsAllowed F Fits s ok j → F.spelled i ≡ F.spelled j → i ≡ j
+  same_taken : (s : S) (ok : I → Bool) (i j : I) → IsAllowed F Fits s ok i → IsAllowed F Fits s ok j → F.texts.spelled i ≡ F.texts.spelled j → i ≡ j
   same_taken s ok i j t u e = g.one_item i j (t.slot ∙ sym u.slot) t.fits u.fits e
 
-  step_same : (n : Node T V I S) (i j : I) (K L : T → Type 0) → OneLine F Fits n i K → OneLine F Fits n j L → F.spelled i ≡ F.spelled j → (i ≡ j) × (r : T) × K r × L r
+  step_same : (n : Node T V I S) (i j : I) (K L : T → Type 0) → OneLine F Fits n i K → OneLine F Fits n j L → F.texts.spelled i ≡ F.texts.spelled j → (i ≡ j) × (r : T) × K r × L r
   step_same (ended v) i j K L a b e = absurd a
   step_same (before s ok next) i j K L a b e = let q = same_taken s ok i j a.0 b.0 e in (q, next i, a.1, subst (λ x. L (next x)) (sym q) b.1)
 
   -- the same lines lead to the same state
-  pub same_path : (p q r : T) (is js : List I) → After F Fits node p is q → After F Fits node p js r → map F.spelled is ≡ map F.spelled js → SamePath q r is js
+  pub same_path : (p q r : T) (is js : List I) → After F Fits node p is q → After F Fits node p js r → map F.texts.spelled is ≡ map F.texts.spelled js → SamePath q r is js
   same_path p q r [] [] a b e = record { state = sym a ∙ b; items = refl }
   same_path p q r [] (j ∷ js) a b e = absurd cc
   same_path p q r (i ∷ is) [] a b e = absurd cc
   same_path p q r (i ∷ is) (j ∷ js) a b e =
-      let one : F.spelled i ≡ F.spelled j = cc in
-      let others : map F.spelled is ≡ map F.spelled js = cc in
+      let one : F.texts.spelled i ≡ F.texts.spelled j = cc in
+      let others : map F.texts.spelled is ≡ map F.texts.spelled js = cc in
       let s = step_same (node p) i j (λ x. After F Fits node x is q) (λ x. After F Fits node x js r) a b one in
       let t = same_path s.1 q r is js s.2 s.3 others in
       record { state = t.state; items = ap (λ x. x ∷ is) s.0 ∙ ap (λ xs. j ∷ xs) t.items }

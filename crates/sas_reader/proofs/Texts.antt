@@ -5,7 +5,8 @@ use Rattle.std.proofs.lemmas.Bool.{ne_eqb}
 use Rattle.sas_lines.specs.Lines.{without_return, lines, unfinished, text, NoEnd, EndedLines}
 use Rattle.sas_lines.proofs.EndedLines.{ended_lines}
 use Rattle.sas_lines.proofs.Splitting.{lines-none, unfinished-none, lines-append, unfinished-append, lines-one, unfinished-one}
-use Rattle.sas_reader.specs.Format.{Format, lines_of, Reads}
+use Rattle.sas_reader.specs.Texts.{lines_of, Reads}
+use Rattle.sas_reader.specs.Format.{Format}
 use Rattle.sas_reader.specs.System.{Node, Grammar, IsPlain}
 use Rattle.sas_reader.specs.Laws.{TextsAreEndedLines, TextIsRead}
 
@@ -56,11 +57,11 @@ ended_text [] = refl
 ended_text (line ∷ ls) = (text ls, inl (append_assoc line (10 ∷ []) (text ls)), ended_text ls)
 
 module _ {T V I S : Type 0} (F : Format V I S) (Fits : I → Type 0) (node : T → Node T V I S) (start : T) (g : Grammar F Fits node start) where
-  reads_ended : (bytes : List ℕ) (v : V) → F.Good v → EndedLines (lines_of F v) [] bytes → Reads F bytes v
-  reads_ended bytes v h e = let s = splits_lines (lines_of F v) bytes (g.plain v h) e in record { good = h; lines = s.lines_are; rest = s.none_left }
+  reads_ended : (bytes : List ℕ) (v : V) → F.texts.Good v → EndedLines (lines_of F.texts v) [] bytes → Reads F.texts bytes v
+  reads_ended bytes v h e = let s = splits_lines (lines_of F.texts v) bytes (g.plain v h) e in record { good = h; lines = s.lines_are; rest = s.none_left }
 
   pub texts_are_ended_lines : TextsAreEndedLines F
   texts_are_ended_lines bytes v h = (λ r. subst (λ (ls : List (List ℕ)). EndedLines ls [] bytes) r.lines (subst (λ (rest : List ℕ). EndedLines (lines bytes) rest bytes) r.rest (ended_lines bytes)), λ e. reads_ended bytes v h e)
 
   pub text_is_read : TextIsRead F
-  text_is_read v h = reads_ended (text (lines_of F v)) v h (ended_text (lines_of F v))
+  text_is_read v h = reads_ended (text (lines_of F.texts v)) v h (ended_text (lines_of F.texts v))

@@ -7,7 +7,8 @@ use Rattle.sas_lines.proofs.Splitting.{lines-plain, unfinished-plain, lines-end}
 use Rattle.sas_reader.specs.declared.fault.Fault.{Fault}
 use Rattle.sas_reader.specs.declared.fault.Kind.{Kind}
 use Rattle.sas_reader.specs.declared.fault.Kind.TheVariants.{TooLong}
-use Rattle.sas_reader.specs.Format.{Format, lines_of, Reads, Live, Next, KindAt, too_long, trailing, wrong, FaultOf, EndOf}
+use Rattle.sas_reader.specs.Texts.{lines_of, Reads}
+use Rattle.sas_reader.specs.Format.{Format, Live, Next, KindAt, too_long, trailing, wrong, FaultOf, EndOf}
 use Rattle.sas_reader.specs.System.{Node, ended, After, LeadsToEnd, Grammar}
 use Rattle.sas_reader.specs.Laws.{OneValue, OneSlot, NoSlotAtEnd, FaultIsDead, OneFault, TextIsLive, FaultIsNoText, OneReading}
 use Rattle.sas_reader.proofs.Paths.{cut_at, ended_stops, same_path, ends_split, ends_after, slot_at, takes_at, one_ended}
@@ -76,11 +77,11 @@ pub text_is_live : {V I S : Type 0} (F : Format V I S) → TextIsLive F
 text_is_live F limit bytes v l r = record { short = l; begun = (v, [], r.good, sym r.lines ∙ sym (append-nil (lines bytes))); whole = λ w h e. r.rest }
 
 module _ {T V I S : Type 0} (F : Format V I S) (Fits : I → Type 0) (node : T → Node T V I S) (start : T) (g : Grammar F Fits node start) where
-  same_value : (v w : V) → F.Good v → F.Good w → lines_of F v ≡ lines_of F w → v ≡ w
+  same_value : (v w : V) → F.texts.Good v → F.texts.Good w → lines_of F.texts v ≡ lines_of F.texts w → v ≡ w
   same_value v w h k l =
-      let a = ends_after F Fits node start v (F.layout v) (g.complete v h) in
-      let b = ends_after F Fits node start w (F.layout w) (g.complete w k) in
-      let s = same_path F Fits node start g start a.0 b.0 (F.layout v) (F.layout w) a.1 b.1 l in
+      let a = ends_after F Fits node start v (F.texts.layout v) (g.complete v h) in
+      let b = ends_after F Fits node start w (F.texts.layout w) (g.complete w k) in
+      let s = same_path F Fits node start g start a.0 b.0 (F.texts.layout v) (F.texts.layout w) a.1 b.1 l in
       one_ended v w (sym a.2 ∙ ap node s.state ∙ b.2)
 
   pub one_value : OneValue F
@@ -88,24 +89,24 @@ module _ {T V I S : Type 0} (F : Format V I S) (Fits : I → Type 0) (node : T �
 
   -- ---- a prefix of live bytes is live
 
-  ends : (p : T) (v w : V) (is : List I) (l : List ℕ) (more : List (List ℕ)) → node p ≡ ended v → LeadsToEnd F Fits node p is w → map F.spelled is ≡ l ∷ more → ⊥
+  ends : (p : T) (v w : V) (is : List I) (l : List ℕ) (more : List (List ℕ)) → node p ≡ ended v → LeadsToEnd F Fits node p is w → map F.texts.spelled is ≡ l ∷ more → ⊥
   ends p v w [] l more e a k = absurd cc
   ends p v w (i ∷ is) l more e a k = ended_stops F Fits (node p) v i (λ r. LeadsToEnd F Fits node r is w) e a
 
   -- the lines of one value are not the first lines of another
-  no_more : (v w : V) (l : List ℕ) (more : List (List ℕ)) → F.Good v → F.Good w → lines_of F w ≡ lines_of F v ++ l ∷ more → ⊥
+  no_more : (v w : V) (l : List ℕ) (more : List (List ℕ)) → F.texts.Good v → F.texts.Good w → lines_of F.texts w ≡ lines_of F.texts v ++ l ∷ more → ⊥
   no_more v w l more h k e =
-      let c = cut_at F.spelled (lines_of F v) (l ∷ more) (F.layout w) e in
+      let c = cut_at F.texts.spelled (lines_of F.texts v) (l ∷ more) (F.texts.layout w) e in
       let t = ends_split F Fits node start w c.before c.after (subst (λ x. LeadsToEnd F Fits node start x w) c.whole (g.complete w k)) in
-      let u = ends_after F Fits node start v (F.layout v) (g.complete v h) in
-      let s = same_path F Fits node start g start t.0 u.0 c.before (F.layout v) t.1 u.1 c.front_is in
+      let u = ends_after F Fits node start v (F.texts.layout v) (g.complete v h) in
+      let s = same_path F Fits node start g start t.0 u.0 c.before (F.texts.layout v) t.1 u.1 c.front_is in
       ends u.0 v w c.after l more u.2 (subst (λ x. LeadsToEnd F Fits node x c.after w) s.state t.2) c.back_is
 
-  ended_here : (limit : ℕ) (b : List ℕ) (x : ℕ) (c : List ℕ) (v : V) (more : List (List ℕ)) → F.Good v → lines_of F v ≡ lines b → lines (b ++ x ∷ c) ≡ lines b ++ more → (more ≡ [] → unfinished (b ++ x ∷ c) ≡ unfinished b ++ x ∷ c) → Live F limit (b ++ x ∷ c) → ⊥
+  ended_here : (limit : ℕ) (b : List ℕ) (x : ℕ) (c : List ℕ) (v : V) (more : List (List ℕ)) → F.texts.Good v → lines_of F.texts v ≡ lines b → lines (b ++ x ∷ c) ≡ lines b ++ more → (more ≡ [] → unfinished (b ++ x ∷ c) ≡ unfinished b ++ x ∷ c) → Live F limit (b ++ x ∷ c) → ⊥
   ended_here limit b x c v [] h e l f a = append_none (unfinished b) x c (sym (f refl) ∙ a.whole v h (e ∙ sym (append-nil (lines b)) ∙ sym l))
   ended_here limit b x c v (m ∷ more) h e l f a =
       let w = a.begun in
-      no_more v w.0 m (more ++ w.1) h w.2 (w.3 ∙ ap (λ (y : List (List ℕ)). y ++ w.1) (l ∙ ap (λ (y : List (List ℕ)). y ++ m ∷ more) (sym e)) ∙ append_assoc (lines_of F v) (m ∷ more) w.1)
+      no_more v w.0 m (more ++ w.1) h w.2 (w.3 ∙ ap (λ (y : List (List ℕ)). y ++ w.1) (l ∙ ap (λ (y : List (List ℕ)). y ++ m ∷ more) (sym e)) ∙ append_assoc (lines_of F.texts v) (m ∷ more) w.1)
 
   live-front : (limit : ℕ) (b c : List ℕ) → Live F limit (b ++ c) → Live F limit b
   live-front limit b [] a = subst (Live F limit) (append-nil b) a
@@ -144,7 +145,7 @@ module _ {T V I S : Type 0} (F : Format V I S) (Fits : I → Type 0) (node : T �
     state : T
     before : List I
     after : After F Fits node start before state
-    spells : map F.spelled before ≡ ls
+    spells : map F.texts.spelled before ≡ ls
     slot : (s : S) → F.slot_of i ≡ slot_at (node state) s
     value : V
     more : List I
@@ -165,8 +166,8 @@ module _ {T V I S : Type 0} (F : Format V I S) (Fits : I → Type 0) (node : T �
   pub no_slot_at_end : NoSlotAtEnd F
   no_slot_at_end ls s v n h e =
       let a = stop_of ls s n in
-      let u = ends_after F Fits node start v (F.layout v) (g.complete v h) in
-      let same = same_path F Fits node start g start a.state u.0 a.before (F.layout v) a.after u.1 (a.spells ∙ sym e) in
+      let u = ends_after F Fits node start v (F.texts.layout v) (g.complete v h) in
+      let same = same_path F Fits node start g start a.state u.0 a.before (F.texts.layout v) a.after u.1 (a.spells ∙ sym e) in
       ended_stops F Fits (node a.state) v n.item (λ r. LeadsToEnd F Fits node r a.more a.value) (ap node same.state ∙ u.2) a.goes
 
   -- ---- one fault
@@ -210,10 +211,10 @@ module _ {T V I S : Type 0} (F : Format V I S) (Fits : I → Type 0) (node : T �
 
   -- ---- one reading
 
-  read_is_live : (limit : ℕ) (bytes : List ℕ) (v : V) → Reads F bytes v × (length bytes ≤ limit) → Live F limit bytes
+  read_is_live : (limit : ℕ) (bytes : List ℕ) (v : V) → Reads F.texts bytes v × (length bytes ≤ limit) → Live F limit bytes
   read_is_live limit bytes v r = text_is_live F limit bytes v r.1 r.0
 
-  read_or_fault : (limit : ℕ) (bytes : List ℕ) (v : V) (f : Fault) → Reads F bytes v × (length bytes ≤ limit) → FaultOf F limit bytes f ⊎ EndOf F limit bytes f → ⊥
+  read_or_fault : (limit : ℕ) (bytes : List ℕ) (v : V) (f : Fault) → Reads F.texts bytes v × (length bytes ≤ limit) → FaultOf F limit bytes f ⊎ EndOf F limit bytes f → ⊥
   read_or_fault limit bytes v f r (inl h) = fault_is_dead limit bytes f h (read_is_live limit bytes v r)
   read_or_fault limit bytes v f r (inr h) = h.none v r.0
 

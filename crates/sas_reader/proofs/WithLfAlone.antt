@@ -120,9 +120,6 @@ pub record FrontOf (bytes plain_front : List ℕ) (byte : ℕ) : Type 0 where
   pub ends : EachEnds front
   pub may : Between byte between
 
-get_first : (a : List ℕ) (b : ℕ) (x y : List ℕ) → get_or ((b ∷ a) ++ x) 0 0 ≡ get_or ((b ∷ a) ++ y) 0 0
-get_first a b x y = refl
-
 -- with one more byte in front
 more_front : (b : ℕ) (bytes front between after : List ℕ) (byte : ℕ) → bytes ≡ front ++ (between ++ byte ∷ after) → (b ≡ 13 → get_or bytes 0 0 ≡ 10) → (b ≡ 13 → 0 < length front) → EachEnds front → EachEnds (b ∷ front)
 more_front b bytes [] between after byte whole next some ends = (λ e. let l = some e in absurd (omega (arith, l)), tt)

@@ -4,9 +4,10 @@ use Rattle.sas_lines.specs.Lines.{lines, unfinished}
 use Rattle.sas_reader.specs.declared.fault.Fault.{Fault}
 use Rattle.sas_reader.specs.declared.fault.Kind.{Kind}
 use Rattle.sas_reader.specs.declared.fault.Kind.TheVariants as kinds
-use Rattle.sas_reader.specs.Format.{Format, Reads, Next, FaultOf, EndOf}
+use Rattle.sas_reader.specs.Texts.{Reads}
+use Rattle.sas_reader.specs.Format.{Format, Next, FaultOf, EndOf}
 
--- faults of this kind have a text; those of the kinds `Read`, `TooLong` and `Memory` have none
+-- a fault of this kind is about a text; one of kind `Read`, `TooLong` or `Memory` is not
 abbrev pub ConcernsText : Kind → Type 0
 ConcernsText k = (k ≢ kinds.Read) × (k ≢ kinds.TooLong) × (k ≢ kinds.Memory)
 
@@ -21,7 +22,7 @@ module _ {V I S : Type 0} (F : Format V I S) where
         → IsAbout limit bytes f accepted text
     -- the byte after a whole text
     of_byte : (h : FaultOf F limit bytes f) → accepted ≡ lines h.before → text ≡ h.byte ∷ []
-        → (v : V) → Reads F h.before v → f.kind ≡ kinds.Trailing
+        → (v : V) → Reads F.texts h.before v → f.kind ≡ kinds.Trailing
         → IsAbout limit bytes f accepted text
     -- an early end: the text is what follows the last line end
     of_end : EndOf F limit bytes f → accepted ≡ lines bytes → text ≡ unfinished bytes

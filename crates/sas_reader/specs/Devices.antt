@@ -6,7 +6,8 @@ use Rattle.sas_lines.specs.Device.{Device}
 use Rattle.sas_lines.specs.Lines.{lines, text}
 use Rattle.sas_reader.specs.declared.fault.Fault.{Fault}
 use Rattle.sas_reader.specs.declared.fault.Kind.TheVariants as kinds
-use Rattle.sas_reader.specs.Format.{Format, Live, FaultOf, EndOf, MoreIsDue, ReadsAs, lines_of}
+use Rattle.sas_reader.specs.Texts.{lines_of}
+use Rattle.sas_reader.specs.Format.{Format, Live, FaultOf, EndOf, MoreIsDue, ReadsAs}
 use Rattle.sas_reader.specs.Limit.{most_bytes}
 
 module _ {V I S : Type 0} (F : Format V I S) where
@@ -16,7 +17,7 @@ module _ {V I S : Type 0} (F : Format V I S) where
 
   -- the input is a text of some value, and the bytes are its text in which each line ends with LF
   abbrev pub TextOf : List ℕ → List ℕ → Type 0
-  TextOf input bytes = (v : V) × ValueOf input v × (bytes ≡ text (lines_of F v))
+  TextOf input bytes = (v : V) × ValueOf input v × (bytes ≡ text (lines_of F.texts v))
 
   -- Why an input is refused, by the bytes of it that were read. Either a read failed after live
   -- bytes, on the line after their complete ones; or the bytes are all and end early; or they have

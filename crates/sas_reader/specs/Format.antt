@@ -1,39 +1,26 @@
--- A format of lines: which byte lists are texts of it, which can still become one, and what is
--- wrong with all others.
+-- A format of lines: which byte lists can become texts of a value, and what is wrong with all
+-- others.
 use Rattle.std.specs.Prelude.{◌≡◌, ℕ, ◌<◌, ◌≤◌, ◌+◌, List, [], ◌∷◌, ◌++◌, length, map, ◌⊎◌, Result, Ok, Err}
 use Rattle.sas_lines.specs.Lines.{lines, unfinished}
+use Rattle.sas_reader.specs.Texts.{Texts, lines_of, Reads}
 use Rattle.sas_reader.specs.declared.fault.Fault.{Fault}
 use Rattle.sas_reader.specs.declared.fault.Kind.{Kind}
 use Rattle.sas_reader.specs.declared.fault.Kind.TheVariants.{End, Trailing, TooLong}
 
--- A format for values V. Its lines are items I. Each item belongs to one of the slots S.
+-- A format for values V. Each line belongs to one of the slots S.
 pub record Format (V I S : Type 0) : Type 1 where
-  -- the lines of a value, in order
-  pub layout : V → List I
-  -- which values a file may contain
-  pub Good : V → Type 0
-  -- the bytes of a line, without its line end
-  pub spelled : I → List ℕ
-  -- the slot to which such a line belongs
+  -- the texts of its values
+  pub texts : Texts V I
+  -- the slot to which a line belongs
   pub slot_of : I → S
   -- the kind of fault of a line that may not stand at a slot
   pub KindOf : S → List ℕ → Kind → Type 0
 
 module _ {V I S : Type 0} (F : Format V I S) where
-  -- the bytes of the lines of a value
-  abbrev pub lines_of : V → List (List ℕ)
-  lines_of v = map F.spelled (F.layout v)
-
-  -- The bytes are a text of the value: their complete lines are its lines, and nothing follows. So
-  -- the last line has a line end as well.
-  pub record Reads (bytes : List ℕ) (v : V) : Type 0 where
-    pub good : F.Good v
-    pub lines : lines bytes ≡ lines_of v
-    pub rest : unfinished bytes ≡ []
-
   -- the lines of some value begin with these lines
   abbrev pub IsBegun : List (List ℕ) → Type 0
-  IsBegun begun = (v : V) × (more : List (List ℕ)) × F.Good v × (lines_of v ≡ begun ++ more)
+  IsBegun begun = (v : V) × (more : List (List ℕ)) × F.texts.Good v
+      × (lines_of F.texts v ≡ begun ++ more)
 
   -- No fault so far: the bytes are within the limit, some value's lines begin with their complete
   -- lines and, if these are all lines of a value, nothing follows. Otherwise anything may follow
@@ -41,7 +28,8 @@ module _ {V I S : Type 0} (F : Format V I S) where
   pub record Live (limit : ℕ) (bytes : List ℕ) : Type 0 where
     pub short : length bytes ≤ limit
     pub begun : IsBegun (lines bytes)
-    pub whole : (v : V) → F.Good v → lines_of v ≡ lines bytes → unfinished bytes ≡ []
+    pub whole : (v : V) → F.texts.Good v → lines_of F.texts v ≡ lines bytes
+        → unfinished bytes ≡ []
 
   -- after these lines some value has a line that belongs to the slot
   pub record Next (begun : List (List ℕ)) (s : S) : Type 0 where
@@ -49,16 +37,16 @@ module _ {V I S : Type 0} (F : Format V I S) where
     pub before : List I
     pub item : I
     pub more : List I
-    pub good : F.Good value
-    pub layout : F.layout value ≡ before ++ item ∷ more
-    pub spells : map F.spelled before ≡ begun
+    pub good : F.texts.Good value
+    pub layout : F.texts.layout value ≡ before ++ item ∷ more
+    pub spells : map F.texts.spelled before ≡ begun
     pub slot : F.slot_of item ≡ s
 
   -- why the byte is a fault after these live bytes: it exceeds the limit; or it follows a whole
   -- text; or it completes a line that may not stand there
   pub data KindAt (limit : ℕ) (bytes : List ℕ) (byte : ℕ) (kind : Kind) : Type 0 where
     too_long : limit < length bytes + 1 → kind ≡ TooLong → KindAt limit bytes byte kind
-    trailing : length bytes + 1 ≤ limit → (v : V) → Reads bytes v → kind ≡ Trailing
+    trailing : length bytes + 1 ≤ limit → (v : V) → Reads F.texts bytes v → kind ≡ Trailing
         → KindAt limit bytes byte kind
     wrong : length bytes + 1 ≤ limit → (line : List ℕ)
         → lines (bytes ++ byte ∷ []) ≡ lines bytes ++ line ∷ []
@@ -79,7 +67,7 @@ module _ {V I S : Type 0} (F : Format V I S) where
   -- the fault at the end of bytes that are live but no text: they end early
   pub record EndOf (limit : ℕ) (bytes : List ℕ) (f : Fault) : Type 0 where
     pub live : Live limit bytes
-    pub none : (v : V) → Reads bytes v → ⊥
+    pub none : (v : V) → Reads F.texts bytes v → ⊥
     pub line : f.line ≡ length (lines bytes) + 1
     pub kind : f.kind ≡ End
 
@@ -91,10 +79,10 @@ module _ {V I S : Type 0} (F : Format V I S) where
     pub whole : piece ≡ front ++ rest
     pub some : 0 < length rest
     pub live : Live limit (bytes ++ front)
-    pub none : (v : V) → Reads (bytes ++ front) v → ⊥
+    pub none : (v : V) → Reads F.texts (bytes ++ front) v → ⊥
     pub room : length (bytes ++ front) < limit
 
   -- the result of reading the bytes: the value that they are a text of, or their fault
   abbrev pub ReadsAs : ℕ → List ℕ → Result V Fault → Type 0
-  ReadsAs limit bytes (Ok v) = Reads bytes v × (length bytes ≤ limit)
+  ReadsAs limit bytes (Ok v) = Reads F.texts bytes v × (length bytes ≤ limit)
   ReadsAs limit bytes (Err f) = FaultOf limit bytes f ⊎ EndOf limit bytes f

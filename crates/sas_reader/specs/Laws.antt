@@ -3,33 +3,34 @@ use Rattle.std.specs.Prelude.{◌≡◌, ◌≢◌, ℕ, ◌≤◌, List, [], �
 use Rattle.sas_lines.specs.Lines.{text, EndedLines}
 use Rattle.sas_reader.specs.declared.fault.Fault.{Fault}
 use Rattle.sas_reader.specs.declared.fault.Kind.TheVariants.{TooLong}
-use Rattle.sas_reader.specs.Format.{Format, lines_of, Reads, Live, Next, FaultOf, ReadsAs}
+use Rattle.sas_reader.specs.Texts.{lines_of, Reads}
+use Rattle.sas_reader.specs.Format.{Format, Live, Next, FaultOf, ReadsAs}
 
 module _ {V I S : Type 0} (F : Format V I S) where
   -- no byte list is a text of two values
   abbrev pub OneValue : Type 0
-  OneValue = (bytes : List ℕ) (v w : V) → Reads F bytes v → Reads F bytes w → v ≡ w
+  OneValue = (bytes : List ℕ) (v w : V) → Reads F.texts bytes v → Reads F.texts bytes w → v ≡ w
 
   -- the texts of a good value are its lines, each ended by LF or by CR LF
   abbrev pub TextsAreEndedLines : Type 0
-  TextsAreEndedLines = (bytes : List ℕ) (v : V) → F.Good v
-      → Reads F bytes v ↔ EndedLines (lines_of F v) [] bytes
+  TextsAreEndedLines = (bytes : List ℕ) (v : V) → F.texts.Good v
+      → Reads F.texts bytes v ↔ EndedLines (lines_of F.texts v) [] bytes
 
   -- so its lines, each ended by LF, are a text of it
   abbrev pub TextIsRead : Type 0
-  TextIsRead = (v : V) → F.Good v → Reads F (text (lines_of F v)) v
+  TextIsRead = (v : V) → F.texts.Good v → Reads F.texts (text (lines_of F.texts v)) v
 
   -- after the same lines every value has a line of the same slot, or every value ends there
   abbrev pub OneSlot : Type 0
   OneSlot = (begun : List (List ℕ)) (s t : S) → Next F begun s → Next F begun t → s ≡ t
 
   abbrev pub NoSlotAtEnd : Type 0
-  NoSlotAtEnd = (begun : List (List ℕ)) (s : S) (v : V) → Next F begun s → F.Good v
-      → lines_of F v ≡ begun → ⊥
+  NoSlotAtEnd = (begun : List (List ℕ)) (s : S) (v : V) → Next F begun s → F.texts.Good v
+      → lines_of F.texts v ≡ begun → ⊥
 
   -- a text within the limit is live
   abbrev pub TextIsLive : Type 0
-  TextIsLive = (limit : ℕ) (bytes : List ℕ) (v : V) → length bytes ≤ limit → Reads F bytes v
+  TextIsLive = (limit : ℕ) (bytes : List ℕ) (v : V) → length bytes ≤ limit → Reads F.texts bytes v
       → Live F limit bytes
 
   -- bytes with a fault aren't live
@@ -54,7 +55,7 @@ module _ {V I S : Type 0} (F : Format V I S) where
   -- no text begins with bytes that have a fault other than `TooLong`
   abbrev pub FaultIsNoText : Type 0
   FaultIsNoText = (limit : ℕ) (bytes more : List ℕ) (f : Fault) (v : V)
-      → FaultOf F limit bytes f → f.kind ≢ TooLong → Reads F (bytes ++ more) v → ⊥
+      → FaultOf F limit bytes f → f.kind ≢ TooLong → Reads F.texts (bytes ++ more) v → ⊥
 
   -- bytes have exactly one result (its existence is stated with a double negation)
   abbrev pub OneReading : Type 0

@@ -1,5 +1,6 @@
 pub mod Faults
 pub mod Found
+pub mod Texts
 pub mod Format
 pub mod Laws
 pub mod System

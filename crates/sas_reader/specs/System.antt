@@ -3,7 +3,8 @@
 use Rattle.std.specs.Prelude.{◌≡◌, ◌≢◌, ℕ, Bool, List, [], ◌∷◌, IsTrue, map}
 use Rattle.std.specs.List.{AllByRecursion}
 use Rattle.sas_reader.specs.declared.fault.Kind.{Kind}
-use Rattle.sas_reader.specs.Format.{Format, lines_of}
+use Rattle.sas_reader.specs.Texts.{lines_of}
+use Rattle.sas_reader.specs.Format.{Format}
 
 -- a state of T is at the end with a value, or before a line of a slot that passes a test and leads
 -- to a next state
@@ -25,7 +26,7 @@ module _ {V I S : Type 0} (F : Format V I S) (Fits : I → Type 0) where
 
   -- no such line may stand here, and this is the kind of its fault
   pub record IsRejected (s : S) (ok : I → Bool) (line : List ℕ) (k : Kind) : Type 0 where
-    pub none : (i : I) → IsAllowed s ok i → F.spelled i ≡ line → ⊥
+    pub none : (i : I) → IsAllowed s ok i → F.texts.spelled i ≡ line → ⊥
     pub kind : F.KindOf s line k
 
 module _ {T V I S : Type 0} (F : Format V I S) (Fits : I → Type 0) where
@@ -53,20 +54,21 @@ module _ {T V I S : Type 0} (F : Format V I S) (Fits : I → Type 0) where
   pub record Leads (node : T → Node T V I S) (start : T) (ls : List (List ℕ)) (p : T) : Type 0 where
     pub items : List I
     pub after : After node start items p
-    pub spells : map F.spelled items ≡ ls
+    pub spells : map F.texts.spelled items ≡ ls
 
   -- The states describe a format. Lines that lead from the start to the end are those of a good
   -- value, and the lines of each good value lead there. Lines that lead to any state can be
   -- completed. No line of a good value contains LF or CR. At a slot a line has one meaning, and its
   -- fault has one kind.
   pub record Grammar (node : T → Node T V I S) (start : T) : Type 0 where
-    pub sound : (is : List I) (v : V) → LeadsToEnd node start is v → F.Good v × (is ≡ F.layout v)
-    pub complete : (v : V) → F.Good v → LeadsToEnd node start (F.layout v) v
+    pub sound : (is : List I) (v : V) → LeadsToEnd node start is v
+        → F.texts.Good v × (is ≡ F.texts.layout v)
+    pub complete : (v : V) → F.texts.Good v → LeadsToEnd node start (F.texts.layout v) v
     pub fillable : (is : List I) (p : T) → After node start is p
         → (more : List I) × (v : V) × LeadsToEnd node p more v
-    pub plain : (v : V) → F.Good v → AllByRecursion IsPlain (lines_of F v)
+    pub plain : (v : V) → F.texts.Good v → AllByRecursion IsPlain (lines_of F.texts v)
     pub one_item : (i j : I) → F.slot_of i ≡ F.slot_of j → Fits i → Fits j
-        → F.spelled i ≡ F.spelled j → i ≡ j
+        → F.texts.spelled i ≡ F.texts.spelled j → i ≡ j
     pub one_kind : (s : S) (line : List ℕ) (j k : Kind) → F.KindOf s line j
         → F.KindOf s line k → j ≡ k
     pub some_kind : (s : S) (line : List ℕ) → ((k : Kind) → F.KindOf s line k → ⊥) → ⊥

@@ -1,5 +1,5 @@
 // Reads a text of any line format in pieces. A machine judges one line after another.
-ghost use Rattle.std.specs.Prelude.{◌≡◌, ◌≢◌, ◌≤◌, ◌<◌, ◌+◌, ◌-◌, ◌^◌, ◌↔◌, ℕ, List, [], ◌∷◌, ◌++◌, length};
+ghost use Rattle.std.specs.Prelude.{◌≡◌, ◌≢◌, ◌≤◌, ◌<◌, ◌+◌, ◌-◌, ◌↔◌, ℕ, List, [], ◌∷◌, ◌++◌, length};
 ghost use Rattle.std.specs.Prelude.{take, Some, None, Err, IfOk, IfErr, IfSome, IfNone, OnOk, IsTrue};
 ghost use Rattle.sas_reader.specs.Faults.{IsOfBytes};
 ghost use Rattle.sas_reader.specs.Limit.{most_bytes};

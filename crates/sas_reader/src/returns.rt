@@ -1,5 +1,5 @@
 // Copies bytes without their CRs, thirty-two bytes at a time. So lines that end with CR LF become lines that end with LF.
-ghost use Rattle.std.specs.Prelude.{◌≡◌, ◌+◌, ◌*◌, ◌<◌, ◌≤◌, ◌++◌, ◌↔◌, ℕ, length, take, drop, get_or, IsTrue, IfSome};
+ghost use Rattle.std.specs.Prelude.{◌≡◌, ◌+◌, ◌*◌, ◌<◌, ◌≤◌, ◌++◌, ◌↔◌, length, take, drop, get_or, IsTrue, IfSome};
 ghost use Rattle.sas_reader.specs.Returns.{returns_in, CopiesSoFar, IsCopyWithLfAlone};
 
 use std::simd::prelude::*;

@@ -18,9 +18,10 @@ use Rattle.sas_lines.proofs.Splitting.{Plain, lines-text}
 use Rattle.sas_lines.proofs.Words.{same_first, NoSpace-decimal, own_decimal}
 use Rattle.sas_reader.specs.declared.fault.Fault.{Fault}
 use Rattle.sas_reader.specs.Limit.{most_bytes}
-use Rattle.sas_reader.specs.Format.{Reads, ReadsAs}
+use Rattle.sas_reader.specs.Texts.{Reads}
+use Rattle.sas_reader.specs.Format.{ReadsAs}
 use Rattle.sas_reader.proofs.Plain.{plain_bytes}
-use Rattle.sas_task_format.specs.TaskFormat.{task_format}
+use Rattle.sas_task_format.specs.TaskFormat.{task_texts, task_format}
 use Rattle.sas_groups.specs.declared.verdict.Verdict.{Verdict}
 use Rattle.sas_groups.specs.declared.verdict.Verdict.TheVariants.{Exclusive, Derived, Initial, Broken}
 use Rattle.sas_groups.specs.Joint.{AreJointVerdicts}
@@ -223,7 +224,7 @@ why_groups p o ranged answer = why_told p (first_fault (layer_checks p)) o range
 -- ---- what was printed of the bytes
 
 module _ (b : List ℕ) (o : Output) (place : ℕ) (has : Contains (lines o.text) (group_line place Exclusive)) where
-  groups_have : (p : Parts) → Reads task_format b p → IsLayered p → TellsVerdicts p o.text → HasInvariant b place
+  groups_have : (p : Parts) → Reads task_texts b p → IsLayered p → TellsVerdicts p o.text → HasInvariant b place
   groups_have p is layered told =
       let one_each = told.are.one_each in
       let said = told.said place has in
@@ -237,7 +238,7 @@ module _ (b : List ℕ) (o : Output) (place : ℕ) (has : Contains (lines o.text
         invariant = listed_invariants p told.verdicts told.are place exists (ap (λ (k : ℕ). get_or told.verdicts k Exclusive) same ∙ said.exclusive);
       }
 
-  answer_has : (p : Parts) → Reads task_format b p → (IsLayered p × TellsVerdicts p o.text) ⊎ SaysNone o.text → HasInvariant b place
+  answer_has : (p : Parts) → Reads task_texts b p → (IsLayered p × TellsVerdicts p o.text) ⊎ SaysNone o.text → HasInvariant b place
   answer_has p is told = elim told [
     | inl groups ↦ groups_have p is groups.0 groups.1
     | inr none ↦ absurd (none place has)

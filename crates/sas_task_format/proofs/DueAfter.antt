@@ -1,9 +1,8 @@
 -- What is expected after lines that lead the process of task files to a state.
 use Rattle.std.proofs.Common.{◌≡◌, Bool, List, [], ◌∷◌, ◌++◌, map, refl, sym, subst, ◌∙◌}
-use Rattle.std.proofs.lemmas.List.{append-nil}
 use Rattle.sas_core.specs.declared.parts.Parts.{Parts}
 use Rattle.sas_core.specs.WellRanged.{WellRanged}
-use Rattle.sas_reader.specs.System.{before, ended, OneLine, After, LeadsToEnd}
+use Rattle.sas_reader.specs.System.{before, OneLine, After, LeadsToEnd}
 use Rattle.sas_task_format.specs.Process.{process_node}
 use Rattle.sas_task_format.specs.TaskFormat.{TaskLine, TaskLineFits, TaskSlot, task_line_bytes, task_layout, task_format}
 use Rattle.sas_task_format.specs.TaskProcess.{TaskProcess, task_start}
@@ -11,7 +10,7 @@ use Rattle.sas_task_format.specs.Marks.{slot_of_due, IsDue}
 use Rattle.sas_task_format.specs.Tracker.{tracker_start, track, mark_in}
 use Rattle.sas_reader.proofs.Paths.{after_ends}
 use Rattle.sas_task_format.proofs.TaskGrammar.{task_grammar}
-use Rattle.sas_task_format.proofs.DueBehind.{belongs_behind, is_due, IsAtEnd, whole_behind}
+use Rattle.sas_task_format.proofs.DueBehind.{belongs_behind, is_due}
 
 abbrev Leads : TaskProcess → List TaskLine → TaskProcess → Type 0
 Leads p items q = After task_format TaskLineFits process_node p items q
@@ -41,10 +40,3 @@ module _ (items : List TaskLine) (p : TaskProcess) (s : TaskSlot) (ok : TaskLine
       let f = task_grammar.fillable items p h in
       let good = task_grammar.sound (items ++ f.0) f.1 (after_ends task_format TaskLineFits process_node task_start p f.1 items f.0 h f.2) in
       due_with f.0 f.1 f.2 good.0 (sym good.1)
-
--- at the end of the process all lines have been read
-pub whole_after : (items : List TaskLine) (p : TaskProcess) (v : Parts) → Leads task_start items p → process_node p ≡ ended v → IsAtEnd (track tracker_start items)
-whole_after items p v h n =
-    let runs = after_ends task_format TaskLineFits process_node task_start p v items [] h n in
-    let good = task_grammar.sound (items ++ []) v runs in
-    whole_behind v good.0 items (sym good.1 ∙ append-nil items)

@@ -6,14 +6,14 @@ use Rattle.sas_core.specs.declared.parts.Parts.{Parts}
 use Rattle.sas_core.specs.WellRanged.{WellRanged}
 use Rattle.sas_reader.specs.declared.fault.Kind.{Kind}
 use Rattle.sas_reader.specs.declared.fault.Kind.TheVariants as kinds
-use Rattle.sas_reader.specs.Format.{lines_of}
+use Rattle.sas_reader.specs.Texts.{lines_of}
 use Rattle.sas_reader.specs.System.{After, LeadsToEnd}
 use Rattle.sas_task_format.specs.declared.marks.Due.{Due}
 use Rattle.sas_task_format.specs.declared.marks.Due.TheVariants as due
 use Rattle.sas_task_format.specs.declared.marks.Mark.{Mark}
 use Rattle.sas_task_format.specs.declared.marks.WrongWord.{WrongWord}
 use Rattle.sas_task_format.specs.Process.{process_node}
-use Rattle.sas_task_format.specs.TaskFormat.{TaskLine, TaskLineFits, task_line_bytes, task_layout, task_format}
+use Rattle.sas_task_format.specs.TaskFormat.{TaskLine, TaskLineFits, task_line_bytes, task_layout, task_texts, task_format}
 use Rattle.sas_task_format.specs.TaskProcess.{TaskProcess, task_start}
 use Rattle.sas_task_format.specs.Marks.{slot_of_due, IsDue, OneDue, SomeDue}
 use Rattle.sas_task_format.specs.Tracker.{tracker_start, track, mark_in}
@@ -71,7 +71,7 @@ speaks due.Layer h = h
 speaks due.Nothing h = h
 
 -- before such a mark, all ranges are known for each task that begins with the lines
-pub ranges_there : (begun : List (List ℕ)) (m : Mark) (d : IsDue begun m) (v : Parts) → WellRanged v → (more : List (List ℕ)) → lines_of task_format v ≡ begun ++ more → HasBounds (slot_of_due m.due)
+pub ranges_there : (begun : List (List ℕ)) (m : Mark) (d : IsDue begun m) (v : Parts) → WellRanged v → (more : List (List ℕ)) → lines_of task_texts v ≡ begun ++ more → HasBounds (slot_of_due m.due)
     → (track tracker_start (standing begun m d).items).ranges ≡ map (λ (x : Variable). length x.values) v.variables
 ranges_there begun m d v good more e h =
     let a = standing begun m d in

@@ -240,21 +240,21 @@ module _ {V I S : Type 0} (F : Format V I S) (Fits : I → Type 0) where
   -- the first three fields of a grammar: lines that lead to the end are those of a good value, the
   -- lines of each good value lead there, and any lines can be completed
   pub record Meets (start : Process V I S) : Type 0 where
-    pub sound : (is : List I) (v : V) → Runs F Fits start is v → F.Good v × (is ≡ F.layout v)
-    pub complete : (v : V) → F.Good v → Runs F Fits start (F.layout v) v
+    pub sound : (is : List I) (v : V) → Runs F Fits start is v → F.texts.Good v × (is ≡ F.texts.layout v)
+    pub complete : (v : V) → F.texts.Good v → Runs F Fits start (F.texts.layout v) v
     pub fillable : (is : List I) (p : Process V I S) → After F Fits process_node start is p → (more : List I) × (v : V) × Runs F Fits p more v
 
-module _ {V I S : Type 0} (F : Format V I S) (Fits : I → Type 0) {part : Part V I S V} (s : Section F Fits F.layout F.Good part) where
-  whole_sound : (is : List I) (v : V) → Runs F Fits (part done) is v → F.Good v × (is ≡ F.layout v)
+module _ {V I S : Type 0} (F : Format V I S) (Fits : I → Type 0) {part : Part V I S V} (s : Section F Fits F.texts.layout F.texts.Good part) where
+  whole_sound : (is : List I) (v : V) → Runs F Fits (part done) is v → F.texts.Good v × (is ≡ F.texts.layout v)
   whole_sound is v e =
       let f = s.sound done is v e in
       let a = at_end F Fits f.value v f.rest f.runs in
-      (subst F.Good a.0 f.good, f.whole ∙ ap (λ (x : List I). F.layout f.value ++ x) a.1 ∙ append-nil (F.layout f.value) ∙ ap F.layout a.0)
+      (subst F.texts.Good a.0 f.good, f.whole ∙ ap (λ (x : List I). F.texts.layout f.value ++ x) a.1 ∙ append-nil (F.texts.layout f.value) ∙ ap F.texts.layout a.0)
 
   -- the section of a format's values, with nothing after it
   pub meets : Meets F Fits (part done)
   meets = record {
     sound = whole_sound;
-    complete = λ v g. subst (λ (x : List I). Runs F Fits (part done) x v) (append-nil (F.layout v)) (s.complete done v [] v g refl);
+    complete = λ v g. subst (λ (x : List I). Runs F Fits (part done) x v) (append-nil (F.texts.layout v)) (s.complete done v [] v g refl);
     fillable = λ is p a. filled F Fits p (fill_after F Fits (part done) p is (s.fill done (λ v g. tt)) a);
   }

@@ -8,12 +8,13 @@ use Rattle.sas_lines.specs.Lines.{lines, unfinished}
 use Rattle.sas_reader.specs.declared.fault.Fault.{Fault}
 use Rattle.sas_reader.specs.declared.fault.Kind.{Kind}
 use Rattle.sas_reader.specs.declared.fault.Kind.TheVariants as kinds
-use Rattle.sas_reader.specs.Format.{lines_of, EndOf}
+use Rattle.sas_reader.specs.Texts.{lines_of}
+use Rattle.sas_reader.specs.Format.{EndOf}
 use Rattle.sas_reader.specs.Limit.{most_bytes}
 use Rattle.sas_reader.specs.About.{of_line, of_byte, of_end}
 use Rattle.sas_task_format.specs.declared.marks.Mark.{Mark}
 use Rattle.sas_task_format.specs.declared.marks.WrongWord.{WrongWord}
-use Rattle.sas_task_format.specs.TaskFormat.{TaskLine, fact, effect, head, TaskSlot, word_slot, name_slot, number_slot, signed_slot, fact_slot, effect_slot, head_slot, task_slot, task_line_bytes, TaskLineFits, task_layout, NumbersKind, no_shape, no_value, TaskKind, task_format}
+use Rattle.sas_task_format.specs.TaskFormat.{TaskLine, fact, effect, head, TaskSlot, word_slot, name_slot, number_slot, signed_slot, fact_slot, effect_slot, head_slot, task_slot, task_line_bytes, TaskLineFits, task_layout, NumbersKind, no_shape, no_value, TaskKind, task_texts, task_format}
 use Rattle.sas_task_format.specs.Marks.{IsDue, slot_of_due}
 use Rattle.sas_task_format.specs.Tracker.{tracker_start, track, mark_in}
 use Rattle.sas_task_format.specs.WrongWords.{line_bounds, IsWrongBehind}
@@ -36,7 +37,7 @@ due_reason kind begun found m d t v = (m, None, record { trailing = λ e. absurd
 
 module _ (begun : List (List ℕ)) (m : Mark) (d : IsDue begun m) where
   -- each task that begins with these lines has the same bounds for the next line
-  pub same_bounds : (v : Parts) → WellRanged v → (more : List (List ℕ)) → lines_of task_format v ≡ begun ++ more → (i : TaskLine) → task_slot i ≡ slot_of_due m.due → line_bounds d.task.variables i ≡ line_bounds v.variables i
+  pub same_bounds : (v : Parts) → WellRanged v → (more : List (List ℕ)) → lines_of task_texts v ≡ begun ++ more → (i : TaskLine) → task_slot i ≡ slot_of_due m.due → line_bounds d.task.variables i ≡ line_bounds v.variables i
   same_bounds v good more e i s = bounds i s
     where
       same : HasBounds (slot_of_due m.due) → map (λ (x : Variable). length x.values) d.task.variables ≡ map (λ (x : Variable). length x.values) v.variables
@@ -126,7 +127,7 @@ module _ (bytes : List ℕ) (f : Fault) (h : EndOf task_format most_bytes bytes 
   -- some task that begins with the lines of the bytes has more
   more_due : (v : Parts) → WellRanged v → (items after : List TaskLine) → task_layout v ≡ items ++ after → map task_line_bytes items ≡ lines bytes → (m : Mark) × IsDue (lines bytes) m
   more_due v good items [] e s =
-      let all : lines_of task_format v ≡ lines bytes = ap (map task_line_bytes) (e ∙ append-nil items) ∙ s in
+      let all : lines_of task_texts v ≡ lines bytes = ap (map task_line_bytes) (e ∙ append-nil items) ∙ s in
       absurd (h.none v (record { good = good; lines = sym all; rest = h.live.whole v good all }))
   more_due v good items (i ∷ after) e s = (mark_in (track tracker_start items), is_due v good (lines bytes) items i after s e)
 

@@ -8,14 +8,15 @@ use Rattle.sas_lines.proofs.Splitting.{lines-plain, unfinished-end}
 use Rattle.sas_reader.specs.declared.fault.Fault.{Fault}
 use Rattle.sas_reader.specs.declared.fault.Kind.{Kind}
 use Rattle.sas_reader.specs.declared.fault.Kind.TheVariants as kinds
-use Rattle.sas_reader.specs.Format.{Format, lines_of, IsBegun, KindAt, too_long, trailing, wrong, FaultOf}
+use Rattle.sas_reader.specs.Texts.{lines_of}
+use Rattle.sas_reader.specs.Format.{Format, IsBegun, KindAt, too_long, trailing, wrong, FaultOf}
 use Rattle.sas_reader.specs.Limit.{most_bytes}
 use Rattle.sas_reader.specs.About.{of_line, of_byte, of_end}
 use Rattle.sas_task_format.specs.declared.marks.Due.{Due}
 use Rattle.sas_task_format.specs.declared.marks.Due.TheVariants as due
 use Rattle.sas_task_format.specs.declared.marks.Mark.{Mark}
 use Rattle.sas_task_format.specs.declared.marks.WrongWord.{WrongWord}
-use Rattle.sas_task_format.specs.TaskFormat.{TaskSlot, word_slot, name_slot, number_slot, signed_slot, fact_slot, effect_slot, head_slot, task_slot, task_line_bytes, HasShape, NumbersKind, no_shape, no_value, TaskKind, task_format}
+use Rattle.sas_task_format.specs.TaskFormat.{TaskSlot, word_slot, name_slot, number_slot, signed_slot, fact_slot, effect_slot, head_slot, task_slot, task_line_bytes, HasShape, NumbersKind, no_shape, no_value, TaskKind, task_texts, task_format}
 use Rattle.sas_task_format.specs.Marks.{IsDue, slot_of_due}
 use Rattle.sas_task_format.specs.TaskReasons.{IsTaskReason, WrongWordIsNamed}
 use Rattle.sas_task_format.specs.WrongWords.{line_bounds, IsWrongBehind, SpeaksOfFacts, SomeWrongWord}
@@ -44,7 +45,7 @@ some_wrong_word begun line m d speaks shape none =
     let slot : slot_of_due m.due ≡ task_slot a.item = ap (λ (x : Mark). slot_of_due x.due) a.marked ∙ belongs_behind a.task a.good a.items a.item a.more a.layout in
     let bounds : HasBounds (task_slot a.item) = subst HasBounds slot (has_bounds m.due speaks) in
     let more : List (List ℕ) = map task_line_bytes (a.item ∷ a.more) in
-    let whole : lines_of task_format a.task ≡ begun ++ more = ap (map task_line_bytes) a.layout ∙ map-append task_line_bytes a.items (a.item ∷ a.more) ∙ ap (λ (x : List (List ℕ)). x ++ more) a.spells in
+    let whole : lines_of task_texts a.task ≡ begun ++ more = ap (map task_line_bytes) a.layout ∙ map-append task_line_bytes a.items (a.item ∷ a.more) ∙ ap (λ (x : List (List ℕ)). x ++ more) a.spells in
     let same : line_bounds d.task.variables shape.0 ≡ line_bounds a.task.variables shape.0 = same_bounds begun m d a.task a.good more whole shape.0 shape.1 in
     elim (first_wrong (line_bounds d.task.variables shape.0)) [
       | inl all ↦ absurd (none (subst (λ (x : List ℕ). IsBegun task_format (begun ++ x ∷ [])) shape.3 (goes_on a.task a.good begun a.items a.item a.more a.layout a.spells bounds shape.0 (shape.1 ∙ slot) shape.2 (subst AllStand same all))))

@@ -13,10 +13,10 @@ use Rattle.sas_core.specs.Numbers.{IsNumber, IsSigned}
 use Rattle.sas_core.specs.Variables.{FactExists}
 use Rattle.sas_core.specs.WellRanged.{Listed, VariableFits, EffectFits, OperatorFits, RuleFits, WellRanged}
 use Rattle.sas_lines.specs.Spelling.{signed_decimal, joined}
-use Rattle.sas_reader.specs.Format.{lines_of}
+use Rattle.sas_reader.specs.Texts.{lines_of}
 use Rattle.sas_reader.specs.System.{IsPlain}
 use Rattle.sas_task_format.specs.Process.{Paired}
-use Rattle.sas_task_format.specs.TaskFormat.{TaskLine, word, name, number, signed, fact, effect, head, fact_words, head_words, effect_words, task_line_bytes, TaskLineFits, FactNumbers, HeadNumbers, EffectNumbers, line, between, counted, version_lines, metric_lines, variable_lines, group_lines, goal_lines, operator_lines, rule_lines, task_layout, task_format}
+use Rattle.sas_task_format.specs.TaskFormat.{TaskLine, word, name, number, signed, fact, effect, head, fact_words, head_words, effect_words, task_line_bytes, TaskLineFits, FactNumbers, HeadNumbers, EffectNumbers, line, between, counted, version_lines, metric_lines, variable_lines, group_lines, goal_lines, operator_lines, rule_lines, task_layout, task_texts}
 use Rattle.sas_reader.proofs.Plain.{plain-decimal, plain_bytes, plain-name, plain-append}
 use Rattle.sas_task_format.proofs.TaskSections.{Known, known, Ranged, InRange, state_paired, fact_numbers, effect_numbers, change_numbers}
 
@@ -138,5 +138,5 @@ of_task p h =
     let goal = also init (of_goal p.variables k p.goal h.goal) in
     also (also goal (of_list operator_lines (of_operator p.variables k) p.operators h.operators)) (of_list rule_lines (of_rule p.variables k) p.rules h.rules)
 
-pub task_plain : (p : Parts) → WellRanged p → AllByRecursion IsPlain (lines_of task_format p)
+pub task_plain : (p : Parts) → WellRanged p → AllByRecursion IsPlain (lines_of task_texts p)
 task_plain p h = plain-lines (task_layout p) (of_task p h).all

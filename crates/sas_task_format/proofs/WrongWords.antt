@@ -80,20 +80,6 @@ HasBounds effect_slot = Unit {0}
 HasBounds head_slot = Unit {0}
 HasBounds _ = ⊥
 
-no_bounds_on : (vs : List Variable) (i : TaskLine) → (HasBounds (task_slot i) → ⊥) → line_bounds vs i ≡ []
-no_bounds_on vs (fact f) h = absurd (h tt)
-no_bounds_on vs (effect e) h = absurd (h tt)
-no_bounds_on vs (head var old new) h = absurd (h tt)
-no_bounds_on vs _ h = refl
-
-nothing_wrong : (bounds before : List Bounded) (wrong : Bounded) (behind : List Bounded) → bounds ≡ before ++ wrong ∷ behind → bounds ≡ [] → ⊥
-nothing_wrong bounds [] wrong behind e n = absurd cc
-nothing_wrong bounds (b ∷ before) wrong behind e n = absurd cc
-
--- elsewhere no word is wrong
-pub no_bounds : (vs : List Variable) (slot : TaskSlot) (line : List ℕ) (w : WrongWord) → (HasBounds slot → ⊥) → IsWrongWord vs slot line w → ⊥
-no_bounds vs slot line w h a = nothing_wrong (line_bounds vs a.item) a.before a.wrong a.behind a.words (no_bounds_on vs a.item (subst (λ (s : TaskSlot). HasBounds s → ⊥) (sym a.belongs) h))
-
 range_same : (vs us : List Variable) → map (λ v. length v.values) vs ≡ map (λ v. length v.values) us → (i : ℕ) → range_of vs i ≡ range_of us i
 range_same [] [] e i = refl
 range_same [] (u ∷ us) e i = absurd cc
@@ -136,24 +122,6 @@ pub ranges_decide : (vs us : List Variable) → map (λ v. length v.values) vs �
 ranges_decide vs us e i =
     let range_in : Variable → ℕ = λ v. length v.values in
     same_bounds vs us (sym (length-map vs range_in) ∙ ap length e ∙ length-map us range_in) (range_same vs us e) i
-
--- so the same words are wrong for both lists
-pub wrong_among : (vs us : List Variable) (slot : TaskSlot) (line : List ℕ) (w : WrongWord) → map (λ v. length v.values) vs ≡ map (λ v. length v.values) us → IsWrongWord vs slot line w → IsWrongWord us slot line w
-wrong_among vs us slot line w e a = record {
-  item = a.item;
-  belongs = a.belongs;
-  fits = a.fits;
-  spells = a.spells;
-  before = a.before;
-  wrong = a.wrong;
-  behind = a.behind;
-  words = sym (ranges_decide vs us e a.item) ∙ a.words;
-  earlier = a.earlier;
-  stands_not = a.stands_not;
-  word = a.word;
-  may_be_none = a.may_be_none;
-  most = a.most;
-}
 
 -- the same ranges give a line the same bounds
 pub one_word : (vs us : List Variable) (slot : TaskSlot) (line : List ℕ) (w x : WrongWord) → (HasBounds slot → map (λ v. length v.values) vs ≡ map (λ v. length v.values) us) → IsWrongWord vs slot line w → IsWrongWord us slot line x → w ≡ x

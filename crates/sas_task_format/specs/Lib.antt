@@ -1,4 +1,5 @@
 pub mod Process
+pub mod TaskTexts
 pub mod TaskFormat
 pub mod TaskProcess
 pub mod TaskLaws

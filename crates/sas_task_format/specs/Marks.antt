@@ -6,7 +6,8 @@ use Rattle.sas_core.specs.declared.parts.Operator.{Operator}
 use Rattle.sas_core.specs.declared.parts.Rule.{Rule}
 use Rattle.sas_core.specs.declared.parts.Parts.{Parts}
 use Rattle.sas_core.specs.WellRanged.{WellRanged}
-use Rattle.sas_reader.specs.Format.{Next, lines_of}
+use Rattle.sas_reader.specs.Texts.{lines_of}
+use Rattle.sas_reader.specs.Format.{Next}
 use Rattle.sas_task_format.specs.declared.marks.Due.{Due}
 use Rattle.sas_task_format.specs.declared.marks.Due.TheVariants as due
 use Rattle.sas_task_format.specs.declared.marks.FixedWord.{FixedWord}
@@ -14,7 +15,7 @@ use Rattle.sas_task_format.specs.declared.marks.FixedWord.TheVariants as fixed
 use Rattle.sas_task_format.specs.declared.marks.Location.{Location}
 use Rattle.sas_task_format.specs.declared.marks.Location.TheVariants as at
 use Rattle.sas_task_format.specs.declared.marks.Mark.{Mark}
-use Rattle.sas_task_format.specs.TaskFormat.{TaskSlot, word_slot, name_slot, number_slot, signed_slot, fact_slot, effect_slot, head_slot, task_format}
+use Rattle.sas_task_format.specs.TaskFormat.{TaskSlot, word_slot, name_slot, number_slot, signed_slot, fact_slot, effect_slot, head_slot, task_texts, task_format}
 
 -- the bytes of the words
 abbrev pub fixed_word_bytes : FixedWord → List ℕ
@@ -126,7 +127,7 @@ pub record IsDue (begun : List (List ℕ)) (mark : Mark) : Type 0 where
   pub task : Parts
   pub more : List (List ℕ)
   pub good : WellRanged task
-  pub lines : lines_of task_format task ≡ begun ++ more
+  pub lines : lines_of task_texts task ≡ begun ++ more
   pub marked : slice_get (task_marks task) (length begun) ≡ Some mark
 
 -- the slot of an expected line

@@ -6,12 +6,13 @@ use Rattle.sas_core.specs.declared.parts.Variable.{Variable}
 use Rattle.sas_core.specs.declared.parts.Parts.{Parts}
 use Rattle.sas_core.specs.Variables.{range_of}
 use Rattle.sas_core.specs.WellRanged.{WellRanged}
-use Rattle.sas_reader.specs.Format.{lines_of, IsBegun}
+use Rattle.sas_reader.specs.Texts.{lines_of}
+use Rattle.sas_reader.specs.Format.{IsBegun}
 use Rattle.sas_task_format.specs.declared.marks.Due.{Due}
 use Rattle.sas_task_format.specs.declared.marks.Due.TheVariants as due
 use Rattle.sas_task_format.specs.declared.marks.Mark.{Mark}
 use Rattle.sas_task_format.specs.declared.marks.WrongWord.{WrongWord}
-use Rattle.sas_task_format.specs.TaskFormat.{TaskLine, fact, effect, head, TaskSlot, task_slot, task_line_bytes, TaskLineFits, HasShape, task_format}
+use Rattle.sas_task_format.specs.TaskFormat.{TaskLine, fact, effect, head, TaskSlot, task_slot, task_line_bytes, TaskLineFits, HasShape, task_texts, task_format}
 use Rattle.sas_task_format.specs.Marks.{IsDue, slot_of_due}
 
 -- A number on a line (`None` for `-1`). Allowed are numbers less than the bound, and none if
@@ -83,7 +84,7 @@ pub record IsWrongBehind (begun : List (List ℕ)) (line : List ℕ) (w : WrongW
   pub task : Parts
   pub more : List (List ℕ)
   pub good : WellRanged task
-  pub lines : lines_of task_format task ≡ begun ++ more
+  pub lines : lines_of task_texts task ≡ begun ++ more
   pub mark : Mark
   pub due : IsDue begun mark
   pub wrong : IsWrongWord task.variables (slot_of_due mark.due) line w

@@ -23,8 +23,8 @@ use Rattle.sas_task_judge.specs.TaskPlaces.{version_begin, version_number, versi
 
 -- ---- what may still follow
 
--- the state at a place, after the content s; `left` variables, groups, operators or rules are left,
--- and `more` values, facts or effects
+-- What may follow at a place, after the content s. Still to come are `left` variables, groups,
+-- operators or rules, and of the current one `more` values, facts or effects.
 abbrev pub process_at : Place → ℕ → ℕ → SoFar → TaskProcess
 process_at at.VersionBegin left more s = version_begin s.parts
 process_at at.VersionNumber left more s = version_number s.parts

@@ -1,6 +1,6 @@
 // Parses a whole operator or rule at the beginning of some bytes. Most of a large file consists of these. Everything else, and every fault,
 // is left to the code that reads line by line.
-ghost use Rattle.std.specs.Prelude.{◌≡◌, [], ◌∷◌, length, codes, IsTrue, IfOk, IfSome};
+ghost use Rattle.std.specs.Prelude.{[], ◌∷◌, length, codes, IsTrue, IfOk, IfSome};
 ghost use Rattle.sas_core.specs.Names.{IsName};
 ghost use Rattle.sas_task_format.specs.TaskFormat as format;
 ghost use Rattle.sas_task_line.specs.LinesBefore.{LinesBefore, FactsBefore, ChangesBefore};

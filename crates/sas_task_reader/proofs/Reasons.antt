@@ -16,7 +16,6 @@ use Rattle.sas_task_line.specs.FirstWrong.{FirstWrong}
 use Rattle.sas_task_judge.specs.declared.task_machine.TaskMachine.{TaskMachine}
 use Rattle.sas_task_judge.specs.Marks.{mark_of, due_slot, WrongWordIn}
 use Rattle.sas_task_judge.specs.TaskJudge.{state_of}
-use Rattle.sas_task_judge.specs.TaskMachine.{LedBy}
 use Rattle.sas_task_judge.proofs.Reasons.{task_reason, trailing_reason, led_still, ended_still, wrong_still}
 use Rattle.sas_task_reader.specs.TaskRefusal.{StandsRefused}
 

@@ -6,10 +6,11 @@ use Rattle.sas_core.proofs.ChecksAreRules.{checks_are_the_rules}
 use Rattle.sas_core.specs.WellRanged.{WellRanged}
 use Rattle.sas_task_line.specs.declared.so_far.SoFar.{SoFar}
 use Rattle.sas_task_judge.specs.declared.task_machine.TaskMachine.{TaskMachine}
-use Rattle.sas_reader.specs.Format.{Reads, ReadsAs}
+use Rattle.sas_reader.specs.Texts.{Reads}
+use Rattle.sas_reader.specs.Format.{ReadsAs}
 use Rattle.sas_task_format.specs.Process.{process_node}
 use Rattle.sas_reader.specs.Reader as reading
-use Rattle.sas_task_format.specs.TaskFormat.{task_format, TaskLineFits}
+use Rattle.sas_task_format.specs.TaskFormat.{task_texts, task_format, TaskLineFits}
 use Rattle.sas_task_judge.specs.TaskJudge.{state_of, HasEnded, RejectsLine}
 use Rattle.sas_task_judge.specs.TaskMachine.{LedBy}
 use Rattle.sas_task_format.specs.TaskProcess.{task_start}
@@ -29,7 +30,7 @@ module _ {K : Type 0} (keeps : List (List ℕ) → SoFar → K → Type 0) where
   }
 
   -- if the machine has ended, the bytes are read as the content so far
-  pub reads_so_far : (m : TaskMachine K) (bytes : List ℕ) (h : reading.Reached (LedBy keeps) (λ (n : TaskMachine K). HasEnded n.judge) m bytes) → HasEnded m.judge → Reads task_format bytes h.led.so_far.parts
+  pub reads_so_far : (m : TaskMachine K) (bytes : List ℕ) (h : reading.Reached (LedBy keeps) (λ (n : TaskMachine K). HasEnded n.judge) m bytes) → HasEnded m.judge → Reads task_texts bytes h.led.so_far.parts
   unfolding machine_follows
   reads_so_far m bytes h d = reads_of_format task_format TaskLineFits process_node task_start task_grammar (LedBy keeps) _ _ machine_follows m h.led.so_far.parts bytes h (ends_with m.judge h.led.so_far d)
 
@@ -40,8 +41,8 @@ reader_follows = machine_follows (λ lines s kept. kept ≡ s)
 -- ---- the end
 
 -- if the machine has ended, the bytes are read as its parts
-pub reads_parts : (m : TaskMachine SoFar) (bytes : List ℕ) → reading.Reached LedTo EndedAt m bytes → EndedAt m → Reads task_format bytes m.kept.parts
-reads_parts m bytes h d = subst (λ (s : SoFar). Reads task_format bytes s.parts) (sym h.led.kept) (reads_so_far (λ lines s kept. kept ≡ s) m bytes h d)
+pub reads_parts : (m : TaskMachine SoFar) (bytes : List ℕ) → reading.Reached LedTo EndedAt m bytes → EndedAt m → Reads task_texts bytes m.kept.parts
+reads_parts m bytes h d = subst (λ (s : SoFar). Reads task_texts bytes s.parts) (sym h.led.kept) (reads_so_far (λ lines s kept. kept ≡ s) m bytes h d)
 
 pub well_ranged : (m : TaskMachine SoFar) (bytes : List ℕ) → reading.Reached LedTo EndedAt m bytes → EndedAt m → WellRanged m.kept.parts
 well_ranged m bytes h d = (reads_parts m bytes h d).good

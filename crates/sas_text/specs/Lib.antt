@@ -1,15 +1,18 @@
 -- What the public clauses cite.
 pub use Rattle.sas_reader.specs.Limit
+pub use Rattle.sas_reader.specs.Texts
 pub use Rattle.sas_reader.specs.Format
 pub use Rattle.sas_reader.specs.Laws
 pub use Rattle.sas_reader.specs.Reading
 pub use Rattle.sas_reader.specs.Devices
 pub use Rattle.sas_reader.specs.About
 pub use Rattle.sas_reader.specs.Refusals
+pub use Rattle.sas_plan_file.specs.PlanTexts
 pub use Rattle.sas_plan_file.specs.PlanFormat
 pub use Rattle.sas_plan_file.specs.PlanLaws
 pub use Rattle.sas_plan_file.specs.PlanReader
 pub use Rattle.sas_plan_file.specs.PlanRefusal
+pub use Rattle.sas_task_format.specs.TaskTexts
 pub use Rattle.sas_task_format.specs.TaskFormat
 pub use Rattle.sas_task_format.specs.TaskLaws
 pub use Rattle.sas_task_format.specs.TaskReasons

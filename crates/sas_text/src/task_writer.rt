@@ -3,11 +3,11 @@ ghost use Rattle.std.specs.Prelude.{◌≡◌, List, [], ◌∷◌, ◌++◌, If
 ghost use Rattle.std.specs.List.{flat_map};
 ghost use Rattle.sas_lines.specs.Lines.{text};
 ghost use Rattle.sas_lines.specs.Spelling.{signed_decimal, joined};
-ghost use Rattle.sas_reader.specs.Format.{lines_of};
+ghost use Rattle.sas_reader.specs.Texts.{lines_of};
 ghost use Rattle.sas_task_format.specs.TaskFormat as format;
 ghost use Rattle.sas_task_format.specs.TaskFormat.{TaskLine, line, counted, version_lines, metric_lines};
 ghost use Rattle.sas_task_format.specs.TaskFormat.{variable_lines, group_lines, state_lines, goal_lines};
-ghost use Rattle.sas_task_format.specs.TaskFormat.{operator_lines, rule_lines, fact_words, task_format};
+ghost use Rattle.sas_task_format.specs.TaskFormat.{operator_lines, rule_lines, fact_words, task_texts};
 ghost use Rattle.sas_text.specs.TaskText.{text_of, spaced};
 
 use sas_core::{Effect, Fact, Items, Operator, Rule, Task, Variable};
@@ -243,7 +243,7 @@ fn push_goal(out: &mut Vec<u8>, facts: &Items<Fact>) -> Result<(), AllocError>
 
 /// Returns the text of a task: its lines, each ended by LF. Returns `Err` only if out of memory.
 pub fn encode_task(alloc: Global, task: &Task) -> Result<Vec<u8>, AllocError>
-    ensures { IfOk result (λ t. t.items ≡ text (lines_of task_format task.now)) }
+    ensures { IfOk result (λ t. t.items ≡ text (lines_of task_texts task.now)) }
 {
     let parts = task.parts();
     let mut out = Vec::new(alloc);

@@ -1,8 +1,7 @@
 // Accepts the first line of some bytes directly, if it is of a frequent kind and has the expected content. All other lines, and all faults,
 // are left to `take`.
-ghost use Rattle.std.specs.Prelude.{◌≡◌, ◌≢◌, ◌<◌, ◌≤◌, ◌-◌, ◌^◌, length, [], ◌∷◌, ◌++◌, IfSome, IfNone};
+ghost use Rattle.std.specs.Prelude.{◌≡◌, ◌≢◌, ◌<◌, ◌-◌, ◌^◌, length, [], ◌∷◌, ◌++◌, IfSome, IfNone};
 ghost use Rattle.sas_core.specs.Names.{IsName};
-ghost use Rattle.sas_task_line.specs.declared.so_far.SoFar.{SoFar};
 ghost use Rattle.sas_task_format.specs.TaskFormat as format;
 ghost use Rattle.sas_task_format.specs.TaskProcess.{a_word, a_name, a_number, a_fact, any};
 ghost use Rattle.sas_task_judge.specs.TaskJudge.{Due, MovesAhead, HasEnded};
