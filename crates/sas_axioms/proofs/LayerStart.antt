@@ -56,9 +56,6 @@ pub record LooksUpTo (p : Parts) (k : ℕ) (below : List Bool) : Type 0 where
   pub one_each : length below ≡ k
   pub each : (layer rule : ℕ) (d : Bool) → rule < k → IsRuleOn p layer rule → (get_or below rule d ≡ false) ↔ StaysOn p layer rule
 
-pub looks_none : (p : Parts) → LooksUpTo p 0 []
-looks_none p = record { one_each = refl; each = λ layer rule d lt is. absurd (omega arith) }
-
 -- what a test tells of a rule
 pub looks_told : (p : Parts) (k layer : ℕ) (looks : Bool) → (looks ≡ true → StaysOn p layer k → ⊥) → (looks ≡ false → StaysOn p layer k) → (looks ≡ false) ↔ StaysOn p layer k
 looks_told p k layer true low stays = ((λ e. cc), (λ s. absurd (low refl s)))

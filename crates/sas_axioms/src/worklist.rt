@@ -59,8 +59,9 @@ impl Worklist {
         let rules = ranked_rules(alloc, layered)?;
         let spans = spans_of(alloc, rules.as_slice())?;
         let derived = derived_variables(alloc, layered)?;
-        // Settling a state from scratch evaluates each derived variable and each rule, so an update may do as much work.
-        let share = derived.len().saturating_add(layered.rules() as usize);
+        // Settling a state from scratch goes through the derived variables and the rules, mostly in order. An update jumps between them, so
+        // it may process half as many.
+        let share = derived.len().saturating_add(layered.rules() as usize) / 2;
         Ok(Worklist {
             derived,
             fires: any_fires(layered),
