@@ -43,9 +43,6 @@ pub record ConditionsUpTo (p : Parts) (k : ℕ) (ws : List (Entry Waiting)) : Ty
   pub each : (layer var value rule : ℕ) → rule < k → IsRuleOn p layer rule → waits rule var value ws ≡ asking var value (rule_at p rule).conditions
   pub later : (var value rule : ℕ) → k ≤ rule → waits rule var value ws ≡ 0
 
-pub conditions_none : (p : Parts) → ConditionsUpTo p 0 []
-conditions_none p = record { only = All-nil (IsCondition p); each = λ layer var value rule lt is. absurd (omega arith); later = λ var value rule le. refl }
-
 pub conditions_skip : (p : Parts) (k : ℕ) (ws : List (Entry Waiting)) → ((layer : ℕ) → IsRuleOn p layer k → ⊥) → ConditionsUpTo p k ws → ConditionsUpTo p (k + 1) ws
 conditions_skip p k ws not up = record {
   only = up.only;

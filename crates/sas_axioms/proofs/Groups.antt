@@ -36,8 +36,8 @@ pub layer_group : (p : Parts) (rules : List LayerRule) (start end layer : ℕ) �
     → IsLayerEnd rules start layer end → AreRulesOn p layer (take (end - start) (drop start rules))
 layer_group p rules start end layer are below here ends = record {
   only = all_part (λ (r : LayerRule). IsRuleOn p layer r.rule) rules start end
-      (λ place d low high within. subst (λ m. IsRuleOn p m (get_or rules place d).rule) (ends.on place d low high) (are.firing.only place d within));
-  each = λ rule is. there rule (are.firing.each layer rule is);
+      (λ place d low high within. subst (λ m. IsRuleOn p m (get_or rules place d).rule) (ends.on place d low high) (are.first.only place d within));
+  each = λ rule is. elim (are.first.each layer rule is) [ inl found ↦ inl (there rule found) | inr late ↦ inr late ];
 }
   where
     there : (rule : ℕ) → Contains rules (record { layer = layer; rule = rule }) → Contains (take (end - start) (drop start rules)) (record { layer = layer; rule = rule })

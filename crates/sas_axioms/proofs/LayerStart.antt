@@ -7,13 +7,16 @@ use Rattle.std.proofs.lemmas.List.Elements.{All-head, All-tail}
 use Rattle.sas_core.specs.declared.parts.Fact.{Fact}
 use Rattle.sas_core.specs.declared.parts.Parts.{Parts}
 use Rattle.sas_core.specs.Grounded.{rule_at}
-use Rattle.sas_meaning.specs.Layers.{IsBasic, IsOnLayer}
+use Rattle.sas_meaning.specs.States.{AllHold}
+use Rattle.sas_meaning.specs.Layers.{IsBasic, IsOnLayer, IsLayered}
 use Rattle.sas_meaning.specs.Forced.{AtDefault}
 use Rattle.sas_meaning.proofs.Layers.{layer_cases}
-use Rattle.sas_axioms.specs.LayerRules.{IsRuleOn}
+use Rattle.sas_meaning.proofs.Forced.{differs_not}
+use Rattle.sas_axioms.specs.LayerRules.{IsRuleOn, StaysOn, IsLate}
 use Rattle.sas_axioms.specs.Conditions.{open_conditions, SameRequired}
-use Rattle.sas_axioms.specs.Resting.{StaysOn, AreLooks}
+use Rattle.sas_axioms.specs.Resting.{AreLooks}
 use Rattle.sas_axioms.proofs.Asked.{condition_asked}
+use Rattle.sas_axioms.proofs.Sources.{condition_differs}
 
 -- as many conditions are open under values that are the same where they ask
 pub open_alike : (value value' : ℕ → ℕ) (cs : List Fact) → All (λ (c : Fact). value c.var ≡ value' c.var) cs → open_conditions value cs ≡ open_conditions value' cs
@@ -37,15 +40,21 @@ pub still_default : (p : Parts) (v value : ℕ) (values : List ℕ) → IsBasic 
 still_default p v value values basic kept l u on =
     get_or-set_other values v u value 0 (λ e. let a : IsOnLayer p l v = subst (λ x. IsOnLayer p l x) e on in let b = basic in cc) ∙ kept l u on
 
+-- a late rule doesn't hold while the variables of its layer have their defaults
+pub late_waits : (p : Parts) (layer k : ℕ) (s : List ℕ) → IsLayered p → IsRuleOn p layer k → IsLate p layer k → AtDefault p layer s → AllHold (λ v. get_or s v 0) (rule_at p k).conditions → ⊥
+late_waits p layer k s layered is late at hold =
+    let c = late.waits.0 in
+    let there = late.waits.1 in
+    let on : IsOnLayer p layer (get_or (rule_at p k).conditions there.0 c).var = subst (λ (f : Fact). IsOnLayer p layer f.var) (sym there.2) late.waits.2 in
+    differs_not p s (get_or (rule_at p k).conditions there.0 c).var (condition_differs p layer k s layered is there.0 c there.1 on (hold there.0 c there.1))
+    (at (get_or (rule_at p k).conditions there.0 c).var on)
+
 -- ---- which rules look below
 
 -- the first `k` rules
 pub record LooksUpTo (p : Parts) (k : ℕ) (below : List Bool) : Type 0 where
   pub one_each : length below ≡ k
   pub each : (layer rule : ℕ) (d : Bool) → rule < k → IsRuleOn p layer rule → (get_or below rule d ≡ false) ↔ StaysOn p layer rule
-
-pub looks_none : (p : Parts) → LooksUpTo p 0 []
-looks_none p = record { one_each = refl; each = λ layer rule d lt is. absurd (omega arith) }
 
 -- what a test tells of a rule
 pub looks_told : (p : Parts) (k layer : ℕ) (looks : Bool) → (looks ≡ true → StaysOn p layer k → ⊥) → (looks ≡ false → StaysOn p layer k) → (looks ≡ false) ↔ StaysOn p layer k

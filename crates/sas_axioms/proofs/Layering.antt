@@ -1,25 +1,32 @@
 -- From a settled layer to the next one on which a rule can fire.
-use Rattle.std.proofs.Common.{ℕ, ◌+◌, ◌<◌, ◌≤◌, List, get_or, sym, subst, inl, inr, arith}
+use Rattle.std.proofs.Common.{ℕ, ◌+◌, ◌<◌, ◌≤◌, List, length, sym, subst, inl, inr, arith}
 use Rattle.std.proofs.lemmas.Bool.{cases_eq, cases_lt}
+use Rattle.std.proofs.lemmas.List.{get_or_default}
+use Rattle.sas_core.specs.declared.parts.Rule.{Rule}
 use Rattle.sas_core.specs.declared.parts.Parts.{Parts}
+use Rattle.sas_core.specs.Grounded.{rule_at}
 use Rattle.sas_meaning.specs.Layers.{IsLayered}
 use Rattle.sas_meaning.specs.Settled.{IsSettledAt, IsSettled}
-use Rattle.sas_meaning.specs.Forced.{AtDefault, Occurs}
-use Rattle.sas_meaning.proofs.Forced.{differs_not}
-use Rattle.sas_meaning.proofs.Settling.{default_off, settled_off}
+use Rattle.sas_meaning.specs.Forced.{AtDefault, HasFired, Occurs}
+use Rattle.sas_meaning.proofs.Settling.{default_off, settled_off, forced_at_default, settled_when_fired}
 use Rattle.sas_axioms.specs.ByLayers.{IsIdle, SettlesNext}
+use Rattle.sas_axioms.specs.LayerRules.{IsRuleOn}
+use Rattle.sas_axioms.proofs.LayerStart.{late_waits}
+use Rattle.sas_axioms.proofs.Sources.{no_rule}
 
 -- a layer without a variable is idle
 pub idle_where_empty : (p : Parts) (layer : ℕ) → (Occurs p layer → ⊥) → IsIdle p layer
-idle_where_empty p layer none k d lt on can = none ((get_or p.rules k d).var, on)
+idle_where_empty p layer none k is = absurd (none ((rule_at p k).var, is.on))
 
 -- where all variables of an idle layer have their default, it is settled
-pub settled_where_idle : (p : Parts) (layer : ℕ) (s : List ℕ) → IsIdle p layer → AtDefault p layer s → IsSettledAt p layer s
-settled_where_idle p layer s idle at = record {
-  new = λ v on d. absurd (differs_not p s v d (at v on));
-  closed = λ k d lt on can hold. absurd (idle k d lt on can);
-  least = λ set closed v on d. absurd (differs_not p s v d (at v on));
-}
+pub settled_where_idle : (p : Parts) (layer : ℕ) (s : List ℕ) → IsLayered p → IsIdle p layer → AtDefault p layer s → IsSettledAt p layer s
+settled_where_idle p layer s layered idle at = settled_when_fired p layer s (forced_at_default p layer s at) (λ k d lt.
+    subst (λ (r : Rule). HasFired p layer s r) (get_or_default p.rules k no_rule d lt) (has k lt))
+  where
+    has : (k : ℕ) → k < length p.rules → HasFired p layer s (rule_at p k)
+    has k lt on can hold =
+        let is : IsRuleOn p layer k = record { exists = lt; on = on; can = can } in
+        absurd (late_waits p layer k s layered is (idle k is) at hold)
 
 -- the layers up to the one that was settled are settled
 pub settled_to_next : (p : Parts) (from layer : ℕ) (s s' : List ℕ) → IsLayered p → SettlesNext p from s s' layer
@@ -29,14 +36,14 @@ settled_to_next p from layer s s' layered next below above m lt = elim (cases_eq
   | inl e ↦ subst (λ n. IsSettledAt p n s') (sym e) next.settles.settled
   | inr ne ↦ elim (cases_lt m from) [
     | inl lt' ↦ settled_off p layer s s' layered next.settles.off m (omega arith) (below m lt')
-    | inr ge ↦ settled_where_idle p m s' (next.idle m ge (omega arith)) (default_off p layer s s' layered next.settles.off m ne (above m ge))
+    | inr ge ↦ settled_where_idle p m s' layered (next.idle m ge (omega arith)) (default_off p layer s s' layered next.settles.off m ne (above m ge))
   ]
 ]
 
 -- where the layers that are left are idle, all is settled
-pub settled_in_the_end : (p : Parts) (from : ℕ) (s : List ℕ) → ((m : ℕ) → m < from → IsSettledAt p m s)
+pub settled_in_the_end : (p : Parts) (from : ℕ) (s : List ℕ) → IsLayered p → ((m : ℕ) → m < from → IsSettledAt p m s)
     → ((m : ℕ) → from ≤ m → AtDefault p m s) → ((m : ℕ) → from ≤ m → IsIdle p m) → IsSettled p s
-settled_in_the_end p from s below above idle m = elim (cases_lt m from) [
+settled_in_the_end p from s layered below above idle m = elim (cases_lt m from) [
   | inl lt ↦ below m lt
-  | inr ge ↦ settled_where_idle p m s (idle m ge) (above m ge)
+  | inr ge ↦ settled_where_idle p m s layered (idle m ge) (above m ge)
 ]

@@ -1,45 +1,49 @@
--- Collecting the rules that can fire.
-use Rattle.std.proofs.Common.{◌≡◌, ℕ, ◌+◌, ◌<◌, List, [], ◌∷◌, ◌++◌, length, subst, inl, inr, arith}
+-- Collecting the rules that can fire, without late ones.
+use Rattle.std.proofs.Common.{◌≡◌, ◌⊎◌, ℕ, ◌+◌, ◌<◌, List, [], ◌∷◌, ◌++◌, length, sym, subst, inl, inr, arith}
 use Rattle.std.specs.List.{All, Contains}
 use Rattle.std.proofs.lemmas.Bool.{cases_eq}
 use Rattle.std.proofs.lemmas.List.Elements.{All-nil, All-push, Contains-append_left, Contains-push}
 use Rattle.sas_core.specs.declared.parts.Parts.{Parts}
 use Rattle.sas_axioms.specs.declared.layer_rules.LayerRule.{LayerRule}
-use Rattle.sas_axioms.specs.LayerRules.{IsRuleOn, AreFiringRules}
+use Rattle.sas_axioms.specs.LayerRules.{IsRuleOn, IsLate, AreFirstRules}
 
--- those of the first `k` rules that can fire
-pub record FiringUpTo (p : Parts) (k : ℕ) (rules : List LayerRule) : Type 0 where
+-- those of the first `k` rules that can fire, without late ones
+pub record FirstUpTo (p : Parts) (k : ℕ) (rules : List LayerRule) : Type 0 where
   pub only : All (λ (r : LayerRule). IsRuleOn p r.layer r.rule) rules
-  pub each : (layer rule : ℕ) → rule < k → IsRuleOn p layer rule → Contains rules (record { layer = layer; rule = rule })
+  pub each : (layer rule : ℕ) → rule < k → IsRuleOn p layer rule → Contains rules (record { layer = layer; rule = rule }) ⊎ IsLate p layer rule
 
-pub firing_none : (p : Parts) → FiringUpTo p 0 []
-firing_none p = record { only = All-nil (λ (r : LayerRule). IsRuleOn p r.layer r.rule); each = λ layer rule lt is. absurd (omega arith) }
+pub first_none : (p : Parts) → FirstUpTo p 0 []
+first_none p = record { only = All-nil (λ (r : LayerRule). IsRuleOn p r.layer r.rule); each = λ layer rule lt is. absurd (omega arith) }
 
 -- a rule is on one layer only
 pub one_layer : (p : Parts) (m layer rule : ℕ) → IsRuleOn p m rule → IsRuleOn p layer rule → m ≡ layer
 one_layer p m layer rule a b = let e = a.on in let f = b.on in cc
 
-pub firing_more : (p : Parts) (k layer : ℕ) (rules : List LayerRule) → IsRuleOn p layer k → FiringUpTo p k rules
-    → FiringUpTo p (k + 1) (rules ++ record { layer = layer; rule = k } ∷ [])
-firing_more p k layer rules is up = record {
+pub first_more : (p : Parts) (k layer : ℕ) (rules : List LayerRule) → IsRuleOn p layer k → FirstUpTo p k rules
+    → FirstUpTo p (k + 1) (rules ++ record { layer = layer; rule = k } ∷ [])
+first_more p k layer rules is up = record {
   only = All-push (λ (r : LayerRule). IsRuleOn p r.layer r.rule) rules (record { layer = layer; rule = k }) up.only is;
   each = λ m rule lt on. elim (cases_eq rule k) [
-    | inr ne ↦ Contains-append_left rules (record { layer = layer; rule = k } ∷ []) (record { layer = m; rule = rule }) (up.each m rule (omega arith) on)
+    | inr ne ↦ elim (up.each m rule (omega arith) on) [
+      | inl there ↦ inl (Contains-append_left rules (record { layer = layer; rule = k } ∷ []) (record { layer = m; rule = rule }) there)
+      | inr late ↦ inr late
+    ]
     | inl e ↦ (let on' : IsRuleOn p m k = subst (λ i. IsRuleOn p m i) e on in
         let f : m ≡ layer = one_layer p m layer k on' is in
         let same : record { layer = layer; rule = k } ≡ (let x : LayerRule = record { layer = m; rule = rule } in x) = cc in
-        subst (λ (r : LayerRule). Contains (rules ++ record { layer = layer; rule = k } ∷ []) r) same (Contains-push rules (record { layer = layer; rule = k })))
+        inl (subst (λ (r : LayerRule). Contains (rules ++ record { layer = layer; rule = k } ∷ []) r) same (Contains-push rules (record { layer = layer; rule = k }))))
   ];
 }
 
-pub firing_skip : (p : Parts) (k : ℕ) (rules : List LayerRule) → ((layer : ℕ) → IsRuleOn p layer k → ⊥) → FiringUpTo p k rules → FiringUpTo p (k + 1) rules
-firing_skip p k rules not up = record {
+-- one rule that can't fire or is late
+pub first_skip : (p : Parts) (k : ℕ) (rules : List LayerRule) → ((layer : ℕ) → IsRuleOn p layer k → IsLate p layer k) → FirstUpTo p k rules → FirstUpTo p (k + 1) rules
+first_skip p k rules late up = record {
   only = up.only;
   each = λ m rule lt on. elim (cases_eq rule k) [
     | inr ne ↦ up.each m rule (omega arith) on
-    | inl e ↦ absurd (not m (subst (λ i. IsRuleOn p m i) e on))
+    | inl e ↦ inr (subst (λ i. IsLate p m i) (sym e) (late m (subst (λ i. IsRuleOn p m i) e on)))
   ];
 }
 
-pub firing_all : (p : Parts) (k : ℕ) (rules : List LayerRule) → k ≡ length p.rules → FiringUpTo p k rules → AreFiringRules p rules
-firing_all p k rules e up = record { only = up.only; each = λ layer rule is. up.each layer rule (let lt = is.exists in omega arith) is }
+pub first_all : (p : Parts) (k : ℕ) (rules : List LayerRule) → k ≡ length p.rules → FirstUpTo p k rules → AreFirstRules p rules
+first_all p k rules e up = record { only = up.only; each = λ layer rule is. up.each layer rule (let lt = is.exists in omega arith) is }

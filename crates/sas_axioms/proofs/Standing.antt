@@ -1,26 +1,18 @@
 -- Where the layers of a worklist begin and end.
-use Rattle.std.proofs.Common.{◌≡◌, ◌≢◌, ℕ, ◌+◌, ◌-◌, ◌<◌, ◌≤◌, List, length, get_or, take, drop, subst, ap, inl, inr, arith}
+use Rattle.std.proofs.Common.{◌≡◌, ◌≢◌, ℕ, ◌+◌, ◌-◌, ◌<◌, ◌≤◌, List, length, get_or, take, drop, ap, inl, inr, arith}
 use Rattle.std.proofs.lemmas.Bool.{cases_lt}
-use Rattle.std.proofs.lemmas.List.{get_or_default}
 use Rattle.std.specs.List.{Contains}
-use Rattle.sas_core.specs.declared.parts.Rule.{Rule}
 use Rattle.sas_core.specs.declared.parts.Parts.{Parts}
-use Rattle.sas_meaning.specs.Layers.{IsOnLayer, CanFire}
 use Rattle.sas_axioms.specs.declared.layer_rules.LayerRule.{LayerRule}
 use Rattle.sas_axioms.specs.ByLayers.{IsIdle}
 use Rattle.sas_axioms.specs.LayerRules.{AreLayerRules, IsLayerSpan, AreRulesOn}
 use Rattle.sas_axioms.specs.Worklist.{LayerBeginsAt}
 use Rattle.sas_axioms.proofs.Groups.{layer_group}
-use Rattle.sas_axioms.proofs.Sources.{no_rule}
 
-module _ (p : Parts) (rules : List LayerRule) (from place : ℕ) (firing : AreLayerRules p rules) (stands : LayerBeginsAt rules from place) where
+module _ (p : Parts) (rules : List LayerRule) (from place : ℕ) (rules_are : AreLayerRules p rules) (stands : LayerBeginsAt rules from place) where
   -- a layer is idle if no rule that is left is on it
   idle_without : (layer : ℕ) → from ≤ layer → ((k : ℕ) (d : LayerRule) → place ≤ k → k < length rules → (get_or rules k d).layer ≢ layer) → IsIdle p layer
-  idle_without layer le none k d lt on can = not_there (firing.firing.each layer k (record {
-    exists = lt;
-    on = subst (λ (r : Rule). IsOnLayer p layer r.var) (get_or_default p.rules k d no_rule lt) on;
-    can = subst (λ (r : Rule). CanFire p r) (get_or_default p.rules k d no_rule lt) can;
-  }))
+  idle_without layer le none k on = elim (rules_are.first.each layer k on) [ inl there ↦ absurd (not_there there) | inr late ↦ late ]
     where
       not_there : Contains rules (record { layer = layer; rule = k }) → ⊥
       not_there there =
@@ -44,7 +36,7 @@ module _ (p : Parts) (rules : List LayerRule) (from place : ℕ) (firing : AreLa
 
     -- the rules behind the place are on no lower layer
     not_lower : (k : ℕ) (d : LayerRule) → place ≤ k → k < length rules → layer ≤ (get_or rules k d).layer
-    not_lower k d ge lt = let le = firing.ascending place k d ge lt in let e = span.first d in omega arith
+    not_lower k d ge lt = let le = rules_are.ascending place k d ge lt in let e = span.first d in omega arith
 
     -- those between are idle
     pub idle_between : (below : ℕ) → from ≤ below → below < layer → IsIdle p below
@@ -52,7 +44,7 @@ module _ (p : Parts) (rules : List LayerRule) (from place : ℕ) (firing : AreLa
 
     -- the rules of the span are those of the layer
     pub rules_of_span : AreRulesOn p layer (take (end - place) (drop place rules))
-    rules_of_span = layer_group p rules place end layer firing
+    rules_of_span = layer_group p rules place end layer rules_are
         (λ k d lt. let before = stands.before k d lt in let le = from_on in omega arith)
         (λ d lt. let e = span.first d in omega arith)
         span.ends
@@ -73,4 +65,4 @@ module _ (p : Parts) (rules : List LayerRule) (from place : ℕ) (firing : AreLa
             let start = span.ends.from_start in
             let not = not_lower end d start (omega arith) in
             let other : (get_or rules end d).layer ≢ layer = span.ends.last d (omega arith) in
-            let up = firing.ascending end k d ge lt in omega arith
+            let up = rules_are.ascending end k d ge lt in omega arith

@@ -1,4 +1,4 @@
--- The rules on an agenda.
+-- The rules that an update still has to evaluate.
 use Rattle.std.specs.Prelude.{◌≡◌, ◌⊎◌, ℕ, ◌+◌, ◌*◌, ◌<◌, ◌≤◌, List, [], ◌∷◌, ◌++◌, length, All, Contains}
 use Rattle.std.specs.declared.cmp.Ordering.{Ordering}
 use Rattle.std.specs.declared.cmp.Reverse.{Reverse}
@@ -8,7 +8,7 @@ use Rattle.std.specs.BinaryHeap.{heap_items, IsHeap}
 use Rattle.sas_axioms.specs.declared.agenda.Agenda.{Agenda}
 use Rattle.sas_axioms.specs.declared.layer_rules.LayerRule.{LayerRule}
 
--- lower layers come first
+-- rules of lower layers come first
 abbrev pub layer_cmp : LayerRule → LayerRule → Ordering
 layer_cmp a b = ordering_then (nat_cmp a.layer b.layer) (nat_cmp a.rule b.rule)
 
@@ -16,15 +16,15 @@ layer_cmp a b = ordering_then (nat_cmp a.layer b.layer) (nat_cmp a.rule b.rule)
 abbrev pub entry_for : ℕ → ℕ → Reverse LayerRule
 entry_for layer rule = record { 0 = record { layer = layer; rule = rule } }
 
--- the rule of this layer is noted
+-- the rule is noted, with this layer
 abbrev pub IsOnAgenda : Agenda → ℕ → ℕ → Type 0
 IsOnAgenda a layer rule = Contains (heap_items a.noted) (entry_for layer rule)
 
--- the rule of the current layer is noted or ready
+-- the rule is noted, with this layer, or is ready
 abbrev pub IsAwaited : Agenda → ℕ → ℕ → Type 0
 IsAwaited a layer rule = IsOnAgenda a layer rule ⊎ Contains a.ready.items rule
 
--- `noted` is a heap: the lowest layer comes first
+-- the noted rules are a heap, with a rule of the lowest layer on top
 abbrev pub IsOrdered : Agenda → Type 0
 IsOrdered a = IsHeap (λ x y. layer_cmp y.0 x.0) (heap_items a.noted)
 
@@ -32,12 +32,12 @@ IsOrdered a = IsHeap (λ x y. layer_cmp y.0 x.0) (heap_items a.noted)
 abbrev pub NoLowerLayer : ℕ → Agenda → Type 0
 NoLowerLayer layer a = All (λ (e : Reverse LayerRule). layer ≤ e.0.layer) (heap_items a.noted)
 
--- no rule of this layer or a lower one is noted
+-- no rule of this layer or of a lower layer is noted
 abbrev pub AreBehind : ℕ → Agenda → Type 0
 AreBehind layer a = All (λ (e : Reverse LayerRule). layer < e.0.layer) (heap_items a.noted)
 
--- an upper bound of the remaining work: each list entry that is processed may note a rule, and each
--- noted rule may be made ready
+-- an upper bound of the work that is left: to process a list entry may note a rule, and each noted
+-- rule may be made ready
 abbrev pub work_left : Agenda → ℕ
 work_left a = 3 * a.left + 2 * length (heap_items a.noted) + length a.ready.items
 

@@ -1,6 +1,7 @@
 -- The rules that can fire, layer by layer.
-use Rattle.std.specs.Prelude.{◌≡◌, ℕ, ◌<◌, ◌≤◌, List, [], ◌∷◌, length, All, Contains, slice_index_or}
+use Rattle.std.specs.Prelude.{◌≡◌, ◌⊎◌, ℕ, ◌<◌, ◌≤◌, List, [], ◌∷◌, length, All, Contains, slice_index_or}
 use Rattle.std.specs.List.Sorted.{IsNonDecreasingBy}
+use Rattle.sas_core.specs.declared.parts.Fact.{Fact}
 use Rattle.sas_core.specs.declared.parts.Parts.{Parts}
 use Rattle.sas_core.specs.Grounded.{rule_at}
 use Rattle.sas_meaning.specs.Layers.{IsOnLayer, CanFire}
@@ -14,15 +15,26 @@ pub record IsRuleOn (p : Parts) (layer rule : ℕ) : Type 0 where
   pub on : IsOnLayer p layer (rule_at p rule).var
   pub can : CanFire p (rule_at p rule)
 
--- the rules that can fire, each with its layer
-pub record AreFiringRules (p : Parts) (rules : List LayerRule) : Type 0 where
+-- all conditions of the rule on derived variables are on this layer
+abbrev pub StaysOn : Parts → ℕ → ℕ → Type 0
+StaysOn p layer rule =
+    All (λ (c : Fact). (its : ℕ) → IsOnLayer p its c.var → its ≡ layer) (rule_at p rule).conditions
+
+-- the rule, which is on this layer, has conditions on derived variables, all of them on this layer:
+-- it doesn't hold while these variables have their defaults
+pub record IsLate (p : Parts) (layer rule : ℕ) : Type 0 where
+  pub stays : StaysOn p layer rule
+  pub waits : (c : Fact) × Contains (rule_at p rule).conditions c × IsOnLayer p layer c.var
+
+-- rules that can fire, each with its layer, among them all that aren't late
+pub record AreFirstRules (p : Parts) (rules : List LayerRule) : Type 0 where
   pub only : All (λ (r : LayerRule). IsRuleOn p r.layer r.rule) rules
   pub each : (layer rule : ℕ) → IsRuleOn p layer rule
-      → Contains rules (record { layer = layer; rule = rule })
+      → Contains rules (record { layer = layer; rule = rule }) ⊎ IsLate p layer rule
 
--- the rules that can fire, in ascending order of their layers
+-- rules that can fire, among them all that aren't late, in ascending order of their layers
 pub record AreLayerRules (p : Parts) (rules : List LayerRule) : Type 0 where
-  pub firing : AreFiringRules p rules
+  pub first : AreFirstRules p rules
   pub ascending : IsNonDecreasingBy (λ (r : LayerRule). r.layer) rules
 
 -- the rules from index `start` up to but not including `end` are on the layer, and the rule at
@@ -47,11 +59,11 @@ AreSpans rules start [] end = start ≡ end
 AreSpans rules start (span ∷ spans) end =
     IsLayerSpan rules start span.layer span.end × AreSpans rules span.end spans end
 
--- the rules on one layer that can fire
+-- rules on one layer that can fire, among them all that aren't late
 pub record AreRulesOn (p : Parts) (layer : ℕ) (rules : List LayerRule) : Type 0 where
   pub only : All (λ (r : LayerRule). IsRuleOn p layer r.rule) rules
   pub each : (rule : ℕ) → IsRuleOn p layer rule
-      → Contains rules (record { layer = layer; rule = rule })
+      → Contains rules (record { layer = layer; rule = rule }) ⊎ IsLate p layer rule
 
 -- for each variable its rules that can fire, in order
 pub record AreRulesOf (p : Parts) (lists : List (List ℕ)) : Type 0 where

@@ -1,18 +1,10 @@
 -- What a worklist keeps from one state to the next.
-use Rattle.std.specs.Prelude.{◌≡◌, ℕ, Bool, false, ◌↔◌, List, length, All, slice_index_or}
-use Rattle.sas_core.specs.declared.parts.Fact.{Fact}
+use Rattle.std.specs.Prelude.{◌≡◌, ℕ, Bool, false, ◌↔◌, List, length, slice_index_or}
 use Rattle.sas_core.specs.declared.parts.Parts.{Parts}
-use Rattle.sas_core.specs.Grounded.{rule_at}
-use Rattle.sas_meaning.specs.Layers.{IsOnLayer}
 use Rattle.sas_meaning.specs.Forced.{AtDefault}
 use Rattle.sas_axioms.specs.declared.resting.Resting.{Resting}
-use Rattle.sas_axioms.specs.LayerRules.{IsRuleOn}
+use Rattle.sas_axioms.specs.LayerRules.{IsRuleOn, StaysOn}
 use Rattle.sas_axioms.specs.Conditions.{AreRequiredBasic, IsCounted}
-
--- all conditions of the rule on derived variables are on this layer
-abbrev pub StaysOn : Parts → ℕ → ℕ → Type 0
-StaysOn p layer rule =
-    All (λ (c : Fact). (its : ℕ) → IsOnLayer p its c.var → its ≡ layer) (rule_at p rule).conditions
 
 -- for each rule, whether it has a condition on a lower layer
 pub record AreLooks (p : Parts) (below : List Bool) : Type 0 where

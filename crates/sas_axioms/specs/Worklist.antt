@@ -1,5 +1,5 @@
 -- How far a worklist has come on a layer, and what it needs.
-use Rattle.std.specs.Prelude.{◌≡◌, ℕ, ◌+◌, ◌*◌, ◌<◌, ◌≤◌, ◌==◌, if◌then◌else◌, IsTrue, List, [], length, slice_index, slice_index_or, vec_capacity, drop}
+use Rattle.std.specs.Prelude.{◌≡◌, ℕ, ◌+◌, ◌*◌, ◌<◌, ◌≤◌, ◌==◌, if◌then◌else◌, IsTrue, IsFalse, List, [], length, slice_index, slice_index_or, vec_capacity, drop}
 use Rattle.sas_core.specs.declared.parts.Parts.{Parts}
 use Rattle.sas_core.specs.Grounded.{rule_at}
 use Rattle.sas_core.specs.Variables.{IsState}
@@ -103,6 +103,7 @@ pub record IsFiringReady (p : Parts) (f : Firing) : Type 0 where
 
 -- what a worklist holds fits the task
 pub record IsReadyFor (p : Parts) (w : Worklist) : Type 0 where
+  pub fires : IsFalse w.fires → (layer rule : ℕ) → IsRuleOn p layer rule → ⊥
   pub variables : AreDerived p w.derived.items
   pub rules : AreLayerRules p w.rules.items
   pub spans : AreSpans w.rules.items 0 w.spans.items (length w.rules.items)
@@ -115,6 +116,11 @@ pub record LayerBeginsAt (rules : List LayerRule) (layer place : ℕ) : Type 0 w
   pub behind : (k : ℕ) (d : LayerRule) → place ≤ k → k < length rules
       → layer ≤ (slice_index_or rules k d).layer
 
+-- the counters of the layer are those for the defaults of derived variables
+abbrev pub AreAtRest : Parts → ℕ → Firing → Type 0
+AreAtRest p layer f = (rule : ℕ) → IsRuleOn p layer rule
+    → slice_index f.work.counters rule ≡ slice_index f.resting.counted.counters rule
+
 -- the worklist is ready, this layer and the higher ones remain, and the counters fit the values of
 -- the state
 pub record IsReadyFrom (p : Parts) (layer : ℕ) (s : List ℕ) (w : Worklist) : Type 0 where
@@ -122,5 +128,6 @@ pub record IsReadyFrom (p : Parts) (layer : ℕ) (s : List ℕ) (w : Worklist) :
   pub stands : LayerBeginsAt w.rules.items layer w.start
   pub left : AreSpans w.rules.items w.start (drop w.next w.spans.items) (length w.rules.items)
   pub follows : SameRequired p s w.firing.resting.counted.values
+  pub rest : (m : ℕ) → layer ≤ m → AreAtRest p m w.firing
   pub counts : (below : ℕ) → below < layer → AreCountedOn p below s w.firing.work.counters
   pub given : (below : ℕ) → below < layer → AreGiven p below s w.firing.work.sources

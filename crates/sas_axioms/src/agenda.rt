@@ -1,4 +1,4 @@
-// The rules that must be re-evaluated after a settled state has changed.
+// The rules that an update of a settled state still has to evaluate.
 ghost use Rattle.std.specs.Prelude.{◌≡◌, ◌+◌, ◌≤◌, [], IfOk, OnOk, IfSome, OnSome, IfNone};
 ghost use Rattle.std.specs.BinaryHeap.{heap_items};
 ghost use Rattle.sas_axioms.specs.Agenda.{IsEmpty, IsOrdered, NoLowerLayer, AreBehind, Lowest, AddsToAgenda, RemovesFromAgenda, IsMadeReady, work_left};
@@ -8,24 +8,24 @@ use std::alloc::{AllocError, Global};
 use std::cmp::Reverse;
 use std::collections::BinaryHeap;
 
-/// Updating the settled state would take too long: it is faster to settle the state from scratch.
+/// The update would take longer than settling the state from scratch.
 #[derive(Clone, Copy, Debug, PartialEq, Eq)]
 pub struct TooMuch;
 
-/// The rules that must be re-evaluated, layer by layer, and a limit on the work.
+/// The rules that an update still has to evaluate, layer by layer, and how much work it may still do.
 pub struct Agenda {
-    /// Noted rules: those that began or ceased to hold (all conditions true) and haven't been processed since. The lowest layer comes
-    /// first.
+    /// The noted rules. Each began to hold or ceased to hold, and hasn't been evaluated since. (A rule holds if all its conditions are
+    /// true.) Rules of the lowest layer come first.
     pub noted: BinaryHeap<Reverse<LayerRule>>,
-    /// Ready rules: those of the current layer that may set their variables after its other variables were reset.
+    /// The ready rules. They are on the current layer, and are evaluated after its variables have been reset.
     pub ready: Vec<u32>,
-    /// How many list entries may still be processed. Noting a rule counts as `NOTING` entries.
+    /// How many list entries the update may still process. Noting a rule counts as `NOTING` entries.
     pub left: usize,
-    /// The limit for each state.
+    /// How many list entries each update may process.
     pub share: usize,
-    /// How many of the next states are settled from scratch without trying an update.
+    /// How many of the next states are settled from scratch, without trying an update.
     pub passes: usize,
-    /// The value of `passes` after the next update that fails.
+    /// What `passes` is set to when the next update fails.
     pub next_passes: usize,
 }
 
@@ -48,10 +48,11 @@ impl Drop for Agenda {
 const NOTING: usize = 8;
 
 /// At most this many states are settled from scratch before the next try.
-const MOST_PASSES: usize = 16;
+const MOST_PASSES: usize = 64;
 
 impl Agenda {
-    /// Returns an empty agenda with this limit for each state. Allocates all memory that it will need. `Err` means out of memory.
+    /// Returns an empty agenda. Each update may process `share` list entries. Allocates all memory that it will need. `Err` means out of
+    /// memory.
     pub fn new(alloc: Global, share: usize) -> Result<Agenda, AllocError>
         ensures { IfOk result IsEmpty }
     {
@@ -65,7 +66,8 @@ impl Agenda {
         })
     }
 
-    /// Empties the agenda and resets the limit. If updates are suspended, the limit is 0, so that only updates without any work succeed.
+    /// Empties the agenda for the next update, which may process `share` list entries. While updates are suspended, it may process none, so
+    /// that it succeeds only if there is nothing to do.
     pub fn begin(&mut self)
         ensures { IsEmpty self.new }
     {
@@ -74,8 +76,8 @@ impl Agenda {
         self.left = if self.passes == 0 { self.share } else { 0 };
     }
 
-    /// Records whether an update succeeded. After a failure, updates are suspended for a number of states, which doubles with each failure
-    /// in a row. This bounds the cost of failures. Updates without any work are ignored.
+    /// Records whether an update succeeded. After a failure, updates are suspended for some states: twice as many after each failure in a
+    /// row. So failures take little of the time. An update that had nothing to do doesn't count.
     pub fn end(&mut self, tried: Result<(), TooMuch>) {
         if self.passes > 0 {
             if tried.is_err() {
@@ -89,7 +91,7 @@ impl Agenda {
         }
     }
 
-    /// Subtracts `entries` from the remaining work. If less remains, returns an error and changes nothing.
+    /// Takes `entries` from the work that is left. If less is left, returns an error and changes nothing.
     pub fn pay(&mut self, entries: usize) -> Result<(), TooMuch>
         ensures noted { self.new.noted ≡ self.old.noted }
         ensures ready { self.new.ready ≡ self.old.ready }
@@ -102,7 +104,8 @@ impl Agenda {
         Ok(())
     }
 
-    /// Notes the rule and subtracts the work for it. Returns an error if too little work or memory remains. Allocates no memory.
+    /// Notes the rule, and takes the work for it from what is left. Returns an error if too little work or room is left. Allocates no
+    /// memory.
     pub fn note(&mut self, entry: LayerRule) -> Result<(), TooMuch>
         requires { IsOrdered self.old }
         ensures { OnOk result (AddsToAgenda entry.layer entry.rule self.old self.new) }
@@ -111,7 +114,7 @@ impl Agenda {
         self.push(entry)
     }
 
-    /// Notes the rule. The work for it has been subtracted.
+    /// Notes the rule. The work for it has been taken from what is left. Returns an error if there is no room.
     fn push(&mut self, entry: LayerRule) -> Result<(), TooMuch>
         requires { IsOrdered self.old }
         ensures { OnOk result (AddsToAgenda entry.layer entry.rule self.old self.new) }
@@ -173,7 +176,7 @@ impl Agenda {
         }
     }
 
-    /// Makes the rule ready. Returns an error if the reserved memory is full. Allocates no memory.
+    /// Makes the rule ready. Returns an error if there is no room. Allocates no memory.
     pub fn make_ready(&mut self, rule: u32) -> Result<(), TooMuch>
         ensures { OnOk result (IsMadeReady rule self.old self.new) }
     {

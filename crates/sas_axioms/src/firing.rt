@@ -17,7 +17,7 @@ ghost use Rattle.sas_axioms.specs.Agenda.{IsEmpty};
 ghost use Rattle.sas_axioms.specs.Sources.{AreGiven, SameSourcesOff};
 ghost use Rattle.sas_axioms.specs.Following.{IsFollowed};
 ghost use Rattle.sas_axioms.specs.Worklist.{AreCountedOn, SameCountsOff};
-ghost use Rattle.sas_axioms.specs.Worklist.{IsRunning, AreCountedWithStack, HasRoom, IsAtWork, WorkGoesOn, FiresRule, IsFiringReady};
+ghost use Rattle.sas_axioms.specs.Worklist.{IsRunning, AreCountedWithStack, HasRoom, IsAtWork, WorkGoesOn, FiresRule, AreAtRest, IsFiringReady};
 
 use crate::agenda::{Agenda, TooMuch};
 use crate::following::{count_gone, settle_noted};
@@ -122,7 +122,24 @@ impl Firing {
         })
     }
 
-    /// Settles a layer. All its variables must have their defaults. `rules` are its rules that can fire.
+    /// Sets all counters to those for the basic variables of the state and the defaults of the derived ones. Must be called before the
+    /// lowest layer is settled.
+    pub fn begin<T: Grounded>(&mut self, task: &Layered<T>, state: &State)
+        requires prepared { IsFiringReady task.now self.old }
+        requires state { IsState task.now.variables state.now }
+        ensures prepared { IsFiringReady task.now self.new }
+        ensures follows { SameRequired task.now state.now self.new.resting.counted.values }
+        ensures rest { (layer : ℕ) → AreAtRest task.now layer self.new }
+    {
+        self.resting.follow(task, state);
+        copy_counts(
+            self.resting.counted.counters.as_slice(),
+            &mut self.work.counters,
+        );
+    }
+
+    /// Settles a layer. All its variables must have their defaults. `rules` are its rules that can fire; those that never fire first may
+    /// be left out.
     pub fn settle_layer<T: Grounded>(
         &mut self,
         task: &Layered<T>,
@@ -132,6 +149,7 @@ impl Firing {
     )
         requires prepared { IsFiringReady task.now self.old }
         requires follows { SameRequired task.now state.old self.old.resting.counted.values }
+        requires rest { AreAtRest task.now layer self.old }
         requires rules { AreRulesOn task.now layer rules.now }
         requires state { IsState task.now.variables state.old }
         requires default { AtDefault task.now layer state.old }
@@ -199,7 +217,17 @@ impl Firing {
     }
 }
 
-/// Sets the counters of the rules of the layer.
+/// Sets each counter to the count of the same rule.
+fn copy_counts(counts: &[u32], counters: &mut Items<u32>)
+    requires { length counts.now ≡ length counters.old }
+    ensures { counters.new ≡ counts.now }
+{
+    for rule in 0..counts.len() {
+        counters.set(rule, counts[rule]);
+    }
+}
+
+/// Sets the counters of these rules of the layer. The others have theirs.
 fn count_conditions<T: Grounded>(
     task: &Layered<T>,
     rules: &[LayerRule],
@@ -210,6 +238,8 @@ fn count_conditions<T: Grounded>(
     requires rules { AreRulesOn task.now work.old.layer rules.now }
     requires resting { IsResting task.now resting.now }
     requires follows { SameRequired task.now state.now resting.now.counted.values }
+    requires rest { (rule : ℕ) → IsRuleOn task.now work.old.layer rule
+        → slice_index work.old.counters rule ≡ slice_index resting.now.counted.counters rule }
     requires room { HasRoom task.now work.old }
     requires state { IsState task.now.variables state.now }
     requires default { AtDefault task.now work.old.layer state.now }
@@ -242,7 +272,8 @@ pub fn open_of(state: &State, conditions: &[Fact]) -> u32
     open
 }
 
-/// Fires the rules of the layer that have no open conditions.
+/// Fires the rules of the layer that have no open conditions. All variables of the layer must have their defaults, so that none of the
+/// rules that are left out has.
 fn fire_ready<T: Grounded>(
     task: &Layered<T>,
     rules: &[LayerRule],
@@ -255,6 +286,7 @@ fn fire_ready<T: Grounded>(
     requires counts { AreCountedWithStack task.now work.old.layer state.old work.old.stack.items
         work.old.counters [] }
     requires given { AreGiven task.now work.old.layer state.old work.old.sources }
+    requires default { AtDefault task.now work.old.layer state.old }
     ensures at_work { IsAtWork task.now state.new work.new [] }
     ensures goes_on { WorkGoesOn task.now state.old work.old state.new work.new }
 {

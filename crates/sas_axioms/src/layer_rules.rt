@@ -1,6 +1,6 @@
 // The rules that can fire, layer by layer.
-ghost use Rattle.std.specs.Prelude.{◌≡◌, ◌<◌, ◌≤◌, ◌^◌, ℕ, length, IfOk, IfSome, IfNone};
-ghost use Rattle.sas_axioms.specs.LayerRules.{IsRuleOn, AreFiringRules, AreLayerRules, IsLayerEnd, IsLayerSpan, AreSpans, AreRulesOf};
+ghost use Rattle.std.specs.Prelude.{◌≡◌, ◌<◌, ◌≤◌, ◌^◌, ℕ, length, IfOk, IfSome, IfNone, IsTrue, IsFalse};
+ghost use Rattle.sas_axioms.specs.LayerRules.{IsRuleOn, IsLate, AreFirstRules, AreLayerRules, IsLayerEnd, IsLayerSpan, AreSpans, AreRulesOf};
 
 use sas_core::Grounded;
 use sas_flat::{Entry, Lists};
@@ -14,29 +14,64 @@ pub struct LayerRule {
     pub rule: u32,
 }
 
-/// Returns the rules that can fire, in ascending order of their layers. `Err` means out of memory.
+/// Returns the rules that can fire, without those that never fire first on their layer, in ascending order of their layers. `Err` means
+/// out of memory.
 pub fn ranked_rules<T: Grounded>(
     alloc: Global,
     task: &Layered<T>,
 ) -> Result<Vec<LayerRule>, AllocError>
     ensures { IfOk result (λ rules. AreLayerRules task.now rules.items) }
 {
-    let mut rules = firing_rules(alloc, task)?;
+    let mut rules = first_rules(alloc, task)?;
     rules.sort_by_key(|entry| entry.layer)?;
     Ok(rules)
 }
 
-/// Returns the rules that can fire, in the order of the task.
-fn firing_rules<T: Grounded>(alloc: Global, task: &Layered<T>) -> Result<Vec<LayerRule>, AllocError>
-    ensures { IfOk result (λ rules. AreFiringRules task.now rules.items) }
+/// Returns the rules that can fire, without those that never fire first on their layer, in the order of the task.
+fn first_rules<T: Grounded>(alloc: Global, task: &Layered<T>) -> Result<Vec<LayerRule>, AllocError>
+    ensures { IfOk result (λ rules. AreFirstRules task.now rules.items) }
 {
     let mut rules = Vec::new(alloc);
     for rule in 0..task.rules() {
         if let Some(layer) = firing_layer(task, rule) {
-            rules.push(LayerRule { layer, rule })?;
+            if !is_late(task, layer, rule) {
+                rules.push(LayerRule { layer, rule })?;
+            }
         }
     }
     Ok(rules)
+}
+
+/// Returns whether the rule, which is on this layer, has conditions on derived variables, all of them on this layer. Such a rule never fires
+/// first on its layer, and at first its counter depends on basic variables only.
+fn is_late<T: Grounded>(task: &Layered<T>, layer: u32, rule: u32) -> bool
+    requires rule { IsRuleOn task.now layer rule }
+    ensures { IsTrue result → IsLate task.now layer rule }
+{
+    // The contract of `task` ensures that the task is well ranged and layered.
+    let _ = task.task();
+    let mut waits = false;
+    for condition in task.rule_conditions(rule) {
+        if let Some(its) = task.layer(condition.var) {
+            if its != layer {
+                return false;
+            }
+            waits = true;
+        }
+    }
+    waits
+}
+
+/// Returns whether any rule can fire.
+pub fn any_fires<T: Grounded>(task: &Layered<T>) -> bool
+    ensures { IsFalse result → (layer rule : ℕ) → IsRuleOn task.now layer rule → ⊥ }
+{
+    for rule in 0..task.rules() {
+        if firing_layer(task, rule).is_some() {
+            return true;
+        }
+    }
+    false
 }
 
 /// Returns the rules of each variable that can fire, in the order of the task.

@@ -3,9 +3,9 @@ ghost use Rattle.std.specs.Prelude.{◌≡◌, ℕ, IsTrue, IsFalse, IfOk, slice
 ghost use Rattle.sas_core.specs.Grounded.{rule_at};
 ghost use Rattle.sas_core.specs.Variables.{IsState};
 ghost use Rattle.sas_meaning.specs.Forced.{AtDefault};
-ghost use Rattle.sas_axioms.specs.LayerRules.{IsRuleOn};
+ghost use Rattle.sas_axioms.specs.LayerRules.{IsRuleOn, StaysOn};
 ghost use Rattle.sas_axioms.specs.Conditions.{AreRequiredBasic, SameRequired, open_conditions, IsCounted};
-ghost use Rattle.sas_axioms.specs.Resting.{StaysOn, AreLooks, IsResting};
+ghost use Rattle.sas_axioms.specs.Resting.{AreLooks, IsResting};
 
 use crate::conditions::asked_variables;
 use crate::counting::Counted;

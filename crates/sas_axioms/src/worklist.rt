@@ -8,7 +8,7 @@ ghost use Rattle.sas_axioms.specs.Worklist.{IsReadyFor};
 
 use crate::by_layers::{ByLayers, settle_by_layers};
 use crate::firing::Firing;
-use crate::layer_rules::{LayerRule, LayerSpan, ranked_rules, spans_of};
+use crate::layer_rules::{LayerRule, LayerSpan, any_fires, ranked_rules, spans_of};
 use sas_core::{Fact, Grounded};
 use sas_meaning::{Layered, Settle, State, Touched, derived_variables};
 use std::alloc::{AllocError, Global};
@@ -19,7 +19,9 @@ use std::alloc::{AllocError, Global};
 pub struct Worklist {
     /// The derived variables.
     derived: Vec<u32>,
-    /// The rules that can fire, in ascending order of their layers.
+    /// Whether any rule can fire.
+    fires: bool,
+    /// The rules that can fire, without those that never fire first on their layer, in ascending order of their layers.
     rules: Vec<LayerRule>,
     /// The layers in `rules`, in ascending order.
     spans: Vec<LayerSpan>,
@@ -35,6 +37,7 @@ impl Drop for Worklist {
     fn drop(self) {
         let Worklist {
             derived,
+            fires: _,
             rules,
             spans,
             next: _,
@@ -56,10 +59,12 @@ impl Worklist {
         let rules = ranked_rules(alloc, layered)?;
         let spans = spans_of(alloc, rules.as_slice())?;
         let derived = derived_variables(alloc, layered)?;
-        // Settling a state from scratch evaluates each derived variable and each rule, so an update may do as much work.
-        let share = derived.len().saturating_add(rules.len());
+        // Settling a state from scratch goes through the derived variables and the rules, mostly in order. An update jumps between them, so
+        // it may process half as many.
+        let share = derived.len().saturating_add(layered.rules() as usize) / 2;
         Ok(Worklist {
             derived,
+            fires: any_fires(layered),
             rules,
             spans,
             next: 0,
@@ -91,7 +96,7 @@ impl<T: Grounded> Settle<T> for Worklist {
         // The contract of `task` ensures that the task is well ranged and layered.
         let _ = layered.task();
         touched.clear();
-        if self.rules.is_empty() {
+        if !self.fires {
             // No rule can fire, so the state is already settled.
             return;
         }
@@ -114,7 +119,7 @@ impl<T: Grounded> ByLayers<T> for Worklist {
 
     fn begin(&mut self, layered: &Layered<T>, state: &mut State) {
         set_defaults(layered, self.derived.as_slice(), state);
-        self.firing.resting.follow(layered, state);
+        self.firing.begin(layered, state);
         self.next = 0;
         self.start = 0;
     }

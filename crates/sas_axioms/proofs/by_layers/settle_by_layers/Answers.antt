@@ -59,14 +59,14 @@ returns-clause-settles g c =
     rw same record {
       state = inv.state;
       basic = inv.basic;
-      settled = settled_in_the_end c.args.layered.now c.loop-layer.from c.loop-layer.state inv.below inv.above c.in_default.ensures.idle;
+      settled = settled_in_the_end c.args.layered.now c.loop-layer.from c.loop-layer.state c.task.ensures.layered inv.below inv.above c.in_default.ensures.idle;
     }
 
 pub returns-clause-follows : goal.returns-clause-follows
 returns-clause-follows g c =
     let inv = c.loop-layer.invariant in
     let same = c.in_default.ensures.same in
-    c.in_default.ensures.follows (rw same (settled_in_the_end c.args.layered.now c.loop-layer.from c.loop-layer.state inv.below inv.above c.in_default.ensures.idle))
+    c.in_default.ensures.follows (rw same (settled_in_the_end c.args.layered.now c.loop-layer.from c.loop-layer.state c.task.ensures.layered inv.below inv.above c.in_default.ensures.idle))
 
 pub returns-clause-ready : goal.returns-clause-ready
 returns-clause-ready g c = c.in_default.ensures.ready

@@ -1,9 +1,10 @@
--- Each rule of the layer is among the given rules.
-use Rattle.std.proofs.Common.{◌≡◌, ◌<◌, length, ap, subst, get_or, ◌∙◌, inl, inr, arith}
+-- Each rule of the layer is among the given rules, or begins with what is kept.
+use Rattle.std.proofs.Common.{◌≡◌, ◌⊎◌, ◌<◌, length, ap, sym, subst, get_or, ◌∙◌, inl, inr, arith}
 use Rattle.std.proofs.lemmas.Bool.{cases_eq}
 use Rattle.std.proofs.lemmas.List.{get_or_default, get_or-set_same, get_or-set_other, length-set}
 use Rattle.sas_axioms.specs.LayerRules.{IsRuleOn}
 use Rattle.sas_axioms.proofs.Counters.{counts_set_off}
+use Rattle.sas_axioms.proofs.LayerStart.{begins_as_kept}
 use Rattle.sas_core.specs.Grounded.{rule_at}
 use Rattle.sas_axioms.specs.declared.layer_rules.LayerRule.{LayerRule}
 use Rattle.sas_axioms.specs.Conditions.{open_conditions}
@@ -15,11 +16,20 @@ no_entry = record { layer = 0; rule = 0 }
 pub returns-clause-counts : goal.returns-clause-counts
 returns-clause-counts g c rule on =
     let p = c.args.task.now in
-    let entry : LayerRule = record { layer = c.args.work.now.layer; rule = rule } in
-    let there = c.requires.rules.each rule on in
-    let its : (get_or c.args.rules.now there.0 entry).rule ≡ rule = ap (λ (r : LayerRule). r.rule) there.2 in
-    let counted = subst (λ k. get_or c.loop-entry.work.counters k 0 ≡ open_conditions (λ v. get_or c.args.state.now v 0) (rule_at p k).conditions) its
-    (c.loop-entry.invariant.so_far there.0 entry (omega (arith, there.1, c.loop-entry-test.false))) in
+    let layer = c.args.work.now.layer in
+    let s = c.args.state.now in
+    let entry : LayerRule = record { layer = layer; rule = rule } in
+    let counted : get_or c.loop-entry.work.counters rule 0 ≡ open_conditions (λ v. get_or s v 0) (rule_at p rule).conditions = elim (c.requires.rules.each rule on) [
+      | inl there ↦ subst (λ k. get_or c.loop-entry.work.counters k 0 ≡ open_conditions (λ v. get_or s v 0) (rule_at p k).conditions)
+          (ap (λ (r : LayerRule). r.rule) there.2)
+          (c.loop-entry.invariant.so_far there.0 entry (omega (arith, there.1, c.loop-entry-test.false)))
+      | inr late ↦ elim (c.loop-entry.invariant.rest rule on) [
+        | inr set ↦ set
+        | inl same ↦ same ∙ (c.requires.rest rule on
+            ∙ (c.requires.resting.counted.counts.exact layer rule on
+            ∙ begins_as_kept p layer rule s c.args.resting.now.counted.values on late.stays c.requires.follows c.requires.default c.requires.resting.default))
+      ]
+    ] in
     omega (arith, counted)
 
 pub loop-entry-preserved : goal.loop-entry-preserved
@@ -43,5 +53,10 @@ loop-entry-preserved g c =
           | inl same ↦ absurd (ne (ap (λ n. (get_or rules n d).rule) same ∙ ap (λ (r : LayerRule). r.rule) (get_or_default rules i d no_entry lt)))
           | inr other ↦ omega arith
         ])
+      ];
+      rest = λ rule on. elim (cases_eq rule (get_or rules i no_entry).rule) [
+        | inl e ↦ inr (rw e (get_or-set_same c.loop-entry.work.counters (get_or rules i no_entry).rule c.count_of-open.result 0 within ∙ c.count_of-open.ensures))
+        | inr ne ↦ subst (λ n. (n ≡ get_or c.args.work.now.counters rule 0) ⊎ (n ≡ open_conditions (λ v. get_or c.args.state.now v 0) (rule_at p rule).conditions))
+            (sym (get_or-set_other c.loop-entry.work.counters (get_or rules i no_entry).rule rule c.count_of-open.result 0 ne)) (inv.rest rule on)
       ];
     }

@@ -1,9 +1,10 @@
 -- The counters of the rules so far are set.
-use Rattle.std.proofs.Common.{◌≡◌, ℕ, ◌<◌, length, get_or}
+use Rattle.std.proofs.Common.{◌≡◌, ◌⊎◌, ℕ, ◌<◌, length, get_or}
 use Rattle.std.specs.Prelude.{slice_index}
 use Rattle.sas_core.specs.Grounded.{rule_at}
 use Rattle.sas_axioms.specs.declared.layer_rules.LayerRule.{LayerRule}
 use Rattle.sas_axioms.specs.Conditions.{open_conditions}
+use Rattle.sas_axioms.specs.LayerRules.{IsRuleOn}
 use Rattle.sas_axioms.specs.Worklist.{SameCountsOff}
 use Rattle.sas_axioms.proofs.firing.count_conditions.Given as goal
 
@@ -17,4 +18,6 @@ invariant-loop-entry g l = record {
   so_far : (j : ℕ) (d : LayerRule) → j < l.entry-index
       → get_or l.work.counters (get_or l.rules j d).rule 0
       ≡ open_conditions (slice_index l.state) (rule_at l.task (get_or l.rules j d).rule).conditions;
+  rest : (rule : ℕ) → IsRuleOn l.task l.fn.work.layer rule → (get_or l.work.counters rule 0 ≡ get_or l.fn.work.counters rule 0)
+      ⊎ (get_or l.work.counters rule 0 ≡ open_conditions (slice_index l.state) (rule_at l.task rule).conditions);
 }

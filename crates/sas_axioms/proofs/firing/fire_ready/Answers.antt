@@ -6,6 +6,7 @@ use Rattle.sas_core.specs.Grounded.{rule_at}
 use Rattle.sas_meaning.proofs.Forced.{differs_true}
 use Rattle.sas_axioms.specs.declared.layer_rules.LayerRule.{LayerRule}
 use Rattle.sas_axioms.specs.LayerRules.{IsRuleOn}
+use Rattle.sas_axioms.proofs.LayerStart.{late_waits}
 use Rattle.sas_axioms.proofs.Counters.{ready, counts_seen, goes_on_more}
 use Rattle.sas_axioms.proofs.firing.fire_ready.Goals as goal
 use Rattle.sas_axioms.proofs.firing.fire_ready.Goals.{then-as_slice-entry-eq0, else-as_slice-entry-eq0}
@@ -29,6 +30,29 @@ fire-requires-clause-hold g c =
     let on : IsRuleOn p layer rule = c.requires.rules.only c.loop-entry.entry-index no_entry c.loop-entry-test.true in
     let none : get_or counters rule 0 ≡ 0 = ap (λ (xs : List ℕ). get_or xs rule 0) (sym inv.same ∙ sym c.as_slice.ensures) ∙ c.if-as_slice-entry-eq0.true in
     ready p layer c.loop-entry.state c.loop-entry.work.stack.items counters [] rule c.task.ensures.layered inv.running inv.counts on none
+
+pub returns-clause-at_work : goal.returns-clause-at_work
+returns-clause-at_work g c =
+    let p = c.args.task.now in
+    let layer = c.args.work.now.layer in
+    let counters = c.args.work.now.counters in
+    let s = c.loop-entry.state in
+    let inv = c.loop-entry.invariant in
+    record {
+      room = inv.room;
+      running = rw inv.goes_on.layer inv.running;
+      counts = rw (inv.goes_on.layer, inv.same) inv.counts;
+      given = rw inv.goes_on.layer inv.given;
+      fired = rw (inv.goes_on.layer, inv.same) (λ rule on none. elim (c.requires.rules.each rule on) [
+        | inl there ↦
+            (let entry : LayerRule = record { layer = layer; rule = rule } in
+            let its : (get_or c.args.rules.now there.0 entry).rule ≡ rule = ap (λ (r : LayerRule). r.rule) there.2 in
+            subst (λ k. get_or s (rule_at p k).var 0 ≡ (rule_at p k).new) its
+            (inv.fired there.0 entry (omega (arith, there.1, c.loop-entry-test.false)) (subst (λ k. get_or counters k 0 ≡ 0) (sym its) none)))
+        | inr late ↦ absurd (late_waits p layer rule c.args.state.now c.task.ensures.layered on late c.requires.default
+            (ready p layer c.args.state.now c.args.work.now.stack.items counters [] rule c.task.ensures.layered c.requires.running c.requires.counts on none))
+      ]);
+    }
 
 pub loop-entry-preserved : goal.loop-entry-preserved
 loop-entry-preserved g c =

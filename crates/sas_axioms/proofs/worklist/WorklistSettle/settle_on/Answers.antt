@@ -1,28 +1,22 @@
 -- A state that was updated is settled.
-use Rattle.std.proofs.Common.{rules, ◌≡◌, ℕ, sym, ◌∙◌, arith}
-use Rattle.std.proofs.lemmas.Bool.{eqb-true}
-use Rattle.std.specs.Vec.{vec_len}
+use Rattle.std.proofs.Common.{rules, ℕ}
 use Rattle.sas_meaning.proofs.Telling.{tells_gone, tells_any}
 use Rattle.sas_axioms.specs.Following.{IsFollowed}
 use Rattle.sas_axioms.specs.LayerRules.{IsRuleOn}
 use Rattle.sas_axioms.proofs.GoneSteps.{idle_followed, idle_settles}
 use Rattle.sas_axioms.proofs.worklist.WorklistSettle.settle_on.Goals as goal
 use Rattle.sas_axioms.proofs.worklist.WorklistSettle.settle_on.Given.{Over}
-use Rattle.sas_axioms.proofs.worklist.WorklistSettle.settle_on.Goals.{Then-is_empty}
+use Rattle.sas_axioms.proofs.worklist.WorklistSettle.settle_on.Goals.{Then-not-self}
 
--- a rule that can fire would be among the rules
-no_rule : (g : Over) (c : Then-is_empty g) (layer rule : ℕ) → IsRuleOn c.args.layered.now layer rule → ⊥
-no_rule g c layer rule is =
-    let has = c.requires.ready.rules.firing.each layer rule is in
-    let lt = has.1 in
-    let none : vec_len c.args.self.now.rules ≡ 0 = eqb-true (vec_len c.args.self.now.rules) 0 (sym c.is_empty.ensures ∙ c.if-is_empty.true) in omega arith
+no_rule : (g : Over) (c : Then-not-self g) (layer rule : ℕ) → IsRuleOn c.args.layered.now layer rule → ⊥
+no_rule g c = c.requires.ready.fires c.if-not-self.true
 
-pub returns-then-is_empty-clause-follows : goal.returns-then-is_empty-clause-follows
-returns-then-is_empty-clause-follows g c =
+pub returns-then-not-self-clause-follows : goal.returns-then-not-self-clause-follows
+returns-then-not-self-clause-follows g c =
     idle_followed c.args.layered.now c.args.gone.now c.requires.follows.0 c.args.state.now c.args.self.now.firing.work c.task.ensures.layered (no_rule g c) c.requires.state c.requires.follows.1 c.requires.follows.2
 
-pub returns-then-is_empty-clause-settles : goal.returns-then-is_empty-clause-settles
-returns-then-is_empty-clause-settles g c =
+pub returns-then-not-self-clause-settles : goal.returns-then-not-self-clause-settles
+returns-then-not-self-clause-settles g c =
     idle_settles c.args.layered.now c.args.gone.now c.requires.follows.0 c.args.state.now c.args.self.now.firing.work c.task.ensures.layered (no_rule g c) c.requires.state c.requires.follows.1 c.requires.follows.2
 
 pub returns-else-is_err-clause-settles : goal.returns-else-is_err-clause-settles
@@ -31,8 +25,8 @@ returns-else-is_err-clause-settles g c =
     record { state = c.follow.ensures.state; basic = c.follow.ensures.basic; settled = followed.settled }
 
 -- the facts that have gone are on basic variables, so no derived one had changed
-pub returns-then-is_empty-clause-told : goal.returns-then-is_empty-clause-told
-returns-then-is_empty-clause-told g c s followed have = tells_gone c.args.layered.now c.args.gone.now s c.args.state.now c.clear.new.self have c.clear.ensures.cleared
+pub returns-then-not-self-clause-told : goal.returns-then-not-self-clause-told
+returns-then-not-self-clause-told g c s followed have = tells_gone c.args.layered.now c.args.gone.now s c.args.state.now c.clear.new.self have c.clear.ensures.cleared
 
 pub returns-then-is_err-clause-told : goal.returns-then-is_err-clause-told
 returns-then-is_err-clause-told g c s followed have =

@@ -1,0 +1,7 @@
+-- None of the rules so far can fire.
+use Rattle.std.proofs.Common.{ℕ, ◌<◌}
+use Rattle.sas_axioms.specs.LayerRules.{IsRuleOn}
+use Rattle.sas_axioms.proofs.layer_rules.any_fires.Given as goal
+
+abbrev pub invariant-loop-rule : goal.invariant-loop-rule
+invariant-loop-rule g l = (layer k : ℕ) → k < l.rule → IsRuleOn l.task layer k → ⊥

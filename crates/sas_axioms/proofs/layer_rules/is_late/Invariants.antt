@@ -1,0 +1,16 @@
+-- The conditions so far aren't on lower layers, and whether one is on the layer.
+use Rattle.std.proofs.Common.{◌≡◌, ℕ, ◌<◌, true, get_or}
+use Rattle.std.specs.List.{Contains}
+use Rattle.sas_core.specs.declared.parts.Fact.{Fact}
+use Rattle.sas_core.specs.Grounded.{rule_at}
+use Rattle.sas_meaning.specs.Layers.{IsOnLayer}
+use Rattle.sas_axioms.proofs.layer_rules.is_late.Given as goal
+
+abbrev pub invariant-loop-condition : goal.invariant-loop-condition
+invariant-loop-condition g l =
+    let p = l.task in
+    let conditions = (rule_at p l.rule).conditions in
+    record {
+      stays : (j : ℕ) (d : Fact) → j < l.condition-index → (its : ℕ) → IsOnLayer p its (get_or conditions j d).var → its ≡ l.layer;
+      waits : l.waits ≡ true → (c : Fact) × Contains conditions c × IsOnLayer p l.layer c.var;
+    }
