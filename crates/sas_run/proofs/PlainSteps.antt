@@ -12,7 +12,7 @@ use Rattle.sas_core.specs.declared.parts.Fact.{Fact}
 use Rattle.sas_core.specs.declared.parts.Operator.{Operator}
 use Rattle.sas_core.specs.declared.parts.Parts.{Parts}
 use Rattle.sas_core.specs.Changes.{plain_effect, plain_effects}
-use Rattle.sas_core.specs.Grounded.{operator_at}
+use Rattle.sas_core.specs.Grounded.{operator_at, effect_at}
 use Rattle.sas_core.specs.Variables.{HasValue, IsState}
 use Rattle.sas_core.specs.WellRanged.{EffectFits, WellRanged}
 use Rattle.sas_meaning.specs.Following.{HaveGone}
@@ -164,6 +164,9 @@ module _ (o : Operator) (changes : List Change) (effects : o.effects ≡ plain_e
   of_changes P each k d lt = subst P (get_or-map plain_effect changes k d no_effect lt)
       (subst (All P) effects each k no_effect (omega (arith, lt, length-map changes plain_effect)))
 
+  pub effect_is : (k : ℕ) (d : Change) → k < length changes → effect_at o k ≡ plain_effect (get_or changes k d)
+  effect_is k d lt = ap (λ (es : List Effect). get_or es k no_effect) effects ∙ get_or-map plain_effect changes k d no_effect lt
+
   pub effect_number : length o.effects ≡ length changes
   effect_number = ap length effects ∙ length-map changes plain_effect
 
@@ -182,7 +185,7 @@ module _ (p : Parts) (operator : ℕ) (exists : operator < length p.operators) (
   changes_basic layered = of_changes (operator_at p operator) changes effects (λ (e : Effect). IsBasic p e.var) (effects_basic p operator layered exists)
 
 -- an effect without conditions fires
-fires : (s : List ℕ) (c : Change) → Fires s (plain_effect c)
+pub fires : (s : List ℕ) (c : Change) → Fires s (plain_effect c)
 fires s c = All-nil (Holds (λ v. get_or s v 0))
 
 pub applied_plainly : (p : Parts) (s : List ℕ) (o : Operator) (changes : List Change) (s' : List ℕ) → AllHold (λ v. get_or s v 0) (preconditions o)

@@ -1,6 +1,7 @@
 // One step from a state by an operator, before the derived variables are computed.
-ghost use Rattle.std.specs.Prelude.{◌≡◌, ℕ, ◌<◌, ◌≤◌, [], length, IsTrue, IsFalse, IfSome, IfNone, OnOk, OnErr};
+ghost use Rattle.std.specs.Prelude.{◌≡◌, ℕ, ◌<◌, List, [], length, IsTrue, IsFalse, IfSome, IfNone, OnOk, OnErr};
 ghost use Rattle.std.specs.Prelude.{slice_index};
+ghost use Rattle.sas_core.specs.Changes.{plain_effects};
 ghost use Rattle.sas_core.specs.Grounded.{operator_at};
 ghost use Rattle.sas_core.specs.Variables.{IsState};
 ghost use Rattle.sas_run.specs.Deletions.{HasRoom, NotesOn, NotesGone};
@@ -10,7 +11,7 @@ ghost use Rattle.sas_run.specs.Given.{NothingGiven, IsGiven, IsGivenTo, value_af
 
 use crate::deletions::Deleted;
 use crate::plain_steps::{make_changes, plain_step, replace};
-use sas_core::{Fact, Grounded, Items};
+use sas_core::{Change, Fact, Grounded, Items};
 use sas_meaning::{Layered, Preconditions, State};
 
 /// Why an operator has no step in a state.
@@ -121,6 +122,9 @@ fn give_effects<T: Grounded>(
         (length (operator_at task.now operator).effects) given.new) }
     ensures given_to { IsGivenTo task.now (operator_at task.now operator) given.new }
 {
+    if let Some(changes) = task.plain_changes(operator) {
+        return give_changes(task, operator, changes, given);
+    }
     // By its contract the task is well ranged and layered.
     let _ = task.task();
     for effect in 0..task.effects(operator) {
@@ -129,6 +133,33 @@ fn give_effects<T: Grounded>(
             if !give(given, change.var, change.new) {
                 return Some(effect);
             }
+        }
+    }
+    None
+}
+
+/// Does the same as `give_effects` if the operator's effects are these changes, without conditions. So they fire in each state.
+fn give_changes<T: Grounded>(
+    task: &Layered<T>,
+    operator: u32,
+    changes: &[Change],
+    given: &mut Items<Option<u32>>,
+) -> Option<u32>
+    requires operator { operator < length task.now.operators }
+    requires plain { (operator_at task.now operator).effects ≡ plain_effects changes.now }
+    requires clean { NothingGiven task.now given.old }
+    ensures some { IfSome result (λ effect. (s : List ℕ)
+        → IsFirstConflict s (operator_at task.now operator) effect) }
+    ensures none { IfNone result ((s : List ℕ) → IsGiven task.now s (operator_at task.now operator)
+        (length (operator_at task.now operator).effects) given.new) }
+    ensures given_to { IsGivenTo task.now (operator_at task.now operator) given.new }
+{
+    // By its contract the task is well ranged and layered.
+    let _ = task.task();
+    for effect in 0..task.effects(operator) {
+        let change = changes[effect as usize];
+        if !give(given, change.var, change.new) {
+            return Some(effect);
         }
     }
     None
