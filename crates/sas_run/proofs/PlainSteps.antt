@@ -47,36 +47,6 @@ pub record LostSoFar (p : Parts) (s : List ℕ) (changes : List Change) (n : ℕ
   pub among : (var : ℕ) → Untouched changes n var → All (λ (f : Fact). f.var ≢ var) deleted
   pub few : length deleted ≤ n
 
-none_deleted : (p : Parts) (s : List ℕ) → HaveGone p [] s s
-none_deleted p s = record {
-  basic = All-nil (λ (f : Fact). IsBasic p f.var);
-  exist = All-nil (λ (f : Fact). f.var < length p.variables);
-  held = All-nil (Holds (λ v. get_or s v 0));
-  once = λ i j d lt below. absurd (omega arith);
-  others = λ var _. refl;
-}
-
-pub nothing_made : (p : Parts) (s : List ℕ) (changes : List Change) → IsState p.variables s → MadeSoFar p s changes 0 s
-nothing_made p s changes state = record {
-  state = state;
-  set = λ k d lt. absurd (omega arith);
-  kept = λ var _. refl;
-}
-
-pub nothing_lost : (p : Parts) (s : List ℕ) (changes : List Change) → LostSoFar p s changes 0 [] s
-nothing_lost p s changes = record {
-  lost = none_deleted p s;
-  among = λ var _. All-nil (λ (f : Fact). f.var ≢ var);
-  few = omega arith;
-}
-
-pub all_made : (p : Parts) (s : List ℕ) (changes : List Change) (s' : List ℕ) → MadeSoFar p s changes (length changes) s' → AreMade p s changes s'
-all_made p s changes s' made = record {
-  state = made.state;
-  set = λ k d lt. made.set k d lt;
-  kept = λ var not. made.kept var (λ k d lt. not k d lt);
-}
-
 -- one more change, on another variable than those before it
 module _ (p : Parts) (s s' : List ℕ) (changes : List Change) (n : ℕ) (made : MadeSoFar p s changes n s') (apart : AreApart changes) (some : n < length changes)
     (change : Change) (at : (d : Change) → get_or changes n d ≡ change) (exists : change.var < length p.variables) where

@@ -1,6 +1,5 @@
 -- One more change has given its value.
-use Rattle.std.proofs.Common.{◌≡◌, ◌+◌, ◌<◌, ℕ, List, [], length, get_or, sym, subst, ap, ◌∙◌, arith}
-use Rattle.sas_core.specs.declared.grounded.Change.{Change}
+use Rattle.std.proofs.Common.{◌≡◌, ◌<◌, [], length, get_or, sym, subst, arith}
 use Rattle.sas_core.specs.declared.parts.Effect.{Effect}
 use Rattle.sas_core.specs.Changes.{plain_effect}
 use Rattle.sas_core.specs.Grounded.{operator_at, effect_at}
