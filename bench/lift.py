@@ -29,7 +29,7 @@ class Lift:
     # for each unit of size, how many floors that makes; bytes by what a pair of floors takes in a file of 20 MB
     UNITS = {
         "floors": lambda floors: floors,
-        "MB": lambda megabytes: sqrt(megabytes * 1e6 / 75),
+        "MB": lambda megabytes: sqrt(megabytes * 1e6 / 69),
         "operators": sqrt,
         "groups": lambda groups: groups - 1,
     }

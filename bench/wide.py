@@ -15,7 +15,7 @@ class Wide:
     """The task with so many lamps."""
 
     # for each unit of size, how many lamps that makes; bytes by what a lamp takes in a file of a MB
-    UNITS = {"effects": lambda effects: effects, "MB": lambda megabytes: megabytes * 1e6 / 150}
+    UNITS = {"effects": lambda effects: effects, "MB": lambda megabytes: megabytes * 1e6 / 188}
     LEAST = 1
 
     def __init__(self, lamps):
