@@ -16,6 +16,8 @@ CASES = [
     Case("check power, 30 MB", "check", "power", 30, "MB", enlarged=5),
     Case("plan gripper, 100k operators, 1M steps", "plan", "gripper", 100000, "operators", 1000000, True, 4),
     Case("plan blocks, 20k operators, 1M steps", "plan", "blocks", 20000, "operators", 1000000, True, 8),
+    Case("plan lift, 10k operators, 1M steps", "plan", "lift", 10000, "operators", 1000000, True, 8),
+    Case("plan wide, 10k effects, 200 steps", "plan", "wide", 10000, "effects", 200, enlarged=8),
     # a step may let nearly all fall and rise, and so cost what the rules cost: the steps stay as they are
     Case("plan power, 100k rules, 400 steps", "plan", "power", 100000, "rules", 400, enlarged=2),
     Case("plan tables, 100k rules, 20k steps", "plan", "tables", 100000, "rules", 20000, True, 4),

@@ -4,9 +4,10 @@
     bench/make.py FOLDER [--scale F] [--only TEXT]          the inputs of all cases, or of those with TEXT in their name
     bench/make.py FOLDER DOMAIN SIZE [--steps N]            one input; with N, a plan of N steps or as many as it needs
 
-DOMAIN is gripper (transport), blocks (blocks world), or one with derived variables: power, tables or building. SIZE is a
-number with a unit: MB, operators, groups (gripper, blocks) or rules (the last three), as in 200MB or 100000rules; without a
-unit it counts balls, blocks, columns, tables or floors. MB is 1,000,000 bytes, and about.
+DOMAIN is gripper (transport), blocks (blocks world), lift (passengers), wide (operators with many effects), or one with derived
+variables: power, tables or building. SIZE is a number with a unit: MB, operators, groups (gripper, blocks, lift), effects (wide)
+or rules (the last three), as in 200MB or 100000rules; without a unit it counts balls, blocks, floors, effects, columns, tables
+or floors. MB is 1,000,000 bytes, and about.
 
 Each input has a folder of its own in FOLDER, with `task.sas`, `plan` where it has one, and `about.json`, which
 describes them. An input that is there already is left as it is; after a change of these scripts remove it.
@@ -24,11 +25,14 @@ from blocks import Blocks
 from building import Building
 from cases import chosen, wanted_size, wanted_steps
 from gripper import Gripper
+from lift import Lift
 from power import Power
 from sas_text import plan_pieces, task_pieces
 from tables import Tables
+from wide import Wide
 
-DOMAINS = {"gripper": Gripper, "blocks": Blocks, "power": Power, "tables": Tables, "building": Building}
+DOMAINS = {"gripper": Gripper, "blocks": Blocks, "lift": Lift, "wide": Wide, "power": Power, "tables": Tables,
+           "building": Building}
 PIECES_AT_ONCE = 4096
 
 Made = namedtuple("Made", "folder task plan about")

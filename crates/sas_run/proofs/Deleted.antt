@@ -10,7 +10,19 @@ use Rattle.sas_core.specs.declared.parts.Parts.{Parts}
 use Rattle.sas_meaning.specs.States.{Holds, AllHold}
 use Rattle.sas_meaning.specs.Layers.{IsBasic}
 use Rattle.sas_meaning.specs.Following.{HaveGone}
+use Rattle.sas_run.specs.declared.deletions.Deleted.{Deleted}
+use Rattle.sas_run.specs.Deletions.{HasRoom, NotesOn}
 use Rattle.sas_run.specs.Given.{given_to, Replaces}
+
+-- facts are still noted or not, as before
+pub notes_on : (a b c : Deleted) → NotesOn a b → NotesOn b c → NotesOn a c
+notes_on a b c before after = record { noted = after.noted ∙ before.noted; room = omega (arith, before.room, after.room) }
+
+pub notes_still : (d : Deleted) → NotesOn d d
+notes_still d = record { noted = refl; room = omega arith }
+
+pub room_on : (d d' : Deleted) (many : ℕ) → NotesOn d d' → HasRoom d many → HasRoom d' many
+room_on d d' many notes room noted = omega (arith, notes.room, room (sym notes.noted ∙ noted))
 
 -- these facts are deleted so far, and their variables have no given value any more
 pub record DeletedSoFar (p : Parts) (given : List (Option ℕ)) (s s' : List ℕ) (deleted : List Fact) : Type 0 where

@@ -7,7 +7,7 @@ use Rattle.sas_run.specs.declared.plan_check.PlanFault.{PlanFault}
 use Rattle.sas_run.specs.declared.plan_check.PlanFault.TheVariants.{Memory, NoOperator, NotApplicable, Conflict, GoalMissed, CostDiffers}
 use Rattle.sas_run.specs.Plans.{LeadsTo, IsValid}
 use Rattle.sas_run.specs.Running.{StepFails, IsFinalVerdict}
-use Rattle.sas_run.specs.Runs.{Run, IsRunOf, steps_before, RunEndsWith, IsEnding}
+use Rattle.sas_run.specs.Runs.{Run, steps_before, RunEndsWith, IsEnding}
 use Rattle.sas_run.specs.Verdicts.{ComesTo, IsFaultOf}
 use Rattle.sas_run.proofs.Going.{around, length_of_take}
 use Rattle.sas_run.proofs.Runs.{some_run}

@@ -1,6 +1,6 @@
 -- An execution advances along its run.
 use Rattle.std.proofs.Common.{◌≡◌, ℕ, ◌+◌, ◌<◌, ◌≤◌, List, [], length, get_or, Option, None, Result, Ok, Err, refl, sym, ◌∙◌, ap, subst, inl, inr, arith, rules}
-use Rattle.std.specs.Prelude.{vec_capacity}
+use Rattle.std.specs.Prelude.{IsTrue, vec_capacity}
 use Rattle.std.specs.Result.{IsOk}
 use Rattle.std.proofs.lemmas.Bool.{cases_lt}
 use Rattle.std.proofs.lemmas.List.{get_or-take, get_or_default, length-take}
@@ -156,7 +156,7 @@ module _ {E : Type 0} {Ready : E → Parts → Type 0} {Follows : E → Parts �
 
     -- it was made
     module _ (stepper' : Stepper E) (state : List ℕ) (step : Step p progress.state (operator_at p operator) state)
-        (lists : ListsChanges p progress.state state stepper'.deleted.items stepper'.touched) where
+        (lists : ListsChanges p progress.state state stepper'.deleted.facts.items stepper'.touched) where
       abbrev after : Progress
       after = record { state = state; operators = progress.operators }
 
@@ -175,9 +175,11 @@ module _ {E : Type 0} {Ready : E → Parts → Type 0} {Follows : E → Parts �
       pub step_along : (run : Run) → Executes run e → Executes run (executed_of p plan stepper' after (made + 1))
       step_along run executes = goes_along run e executes left layered operator (executed_of p plan stepper' after (made + 1)) step_advances
 
-      pub goes_ahead : IsPrepared Ready p stepper' → Follows stepper'.evaluator p state → IsExecuting Ready Follows p plan stepper' found nexts after (made + 1)
-      goes_ahead prepared follows = record {
+      pub goes_ahead : IsPrepared Ready p stepper' → IsTrue stepper'.deleted.noted → Follows stepper'.evaluator p state
+          → IsExecuting Ready Follows p plan stepper' found nexts after (made + 1)
+      goes_ahead prepared noted follows = record {
         prepared = prepared;
+        noted = noted;
         follows = follows;
         firsts = executing.firsts;
         chains = executing.chains;
@@ -192,10 +194,11 @@ module _ {E : Type 0} {Ready : E → Parts → Type 0} {Follows : E → Parts �
     pub goes_back : IsFound p plan fault (executed_of p plan stepper' progress' made)
     goes_back = back e (executed_of p plan stepper' progress' made) fault layered refl refl (none_made executing.run e executing.executes none) refl starts ending
 
-    pub goes_anew : IsPrepared Ready p stepper' → Follows stepper'.evaluator p progress'.state → length plan.steps ≤ vec_capacity progress'.operators
+    pub goes_anew : IsPrepared Ready p stepper' → IsTrue stepper'.deleted.noted → Follows stepper'.evaluator p progress'.state → length plan.steps ≤ vec_capacity progress'.operators
         → IsExecuting Ready Follows p plan stepper' found nexts progress' made
-    goes_anew prepared follows room = record {
+    goes_anew prepared noted follows room = record {
       prepared = prepared;
+      noted = noted;
       follows = follows;
       firsts = executing.firsts;
       chains = executing.chains;

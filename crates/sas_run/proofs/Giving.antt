@@ -11,8 +11,8 @@ use Rattle.sas_core.specs.Variables.{HasValue, IsState}
 use Rattle.sas_core.specs.WellRanged.{EffectFits}
 use Rattle.sas_meaning.specs.States.{AllHold}
 use Rattle.sas_meaning.specs.Steps.{preconditions, Fires}
-use Rattle.sas_run.specs.Given.{given_to, value_after, NothingGiven, IsGiven, IsGivenTo, GivesValue}
-use Rattle.sas_run.specs.Running.{IsApplied}
+use Rattle.sas_run.specs.Given.{given_to, value_after, NothingGiven, IsGiven, IsGivenTo, GivesValue, GivesOther}
+use Rattle.sas_run.specs.Running.{IsApplied, IsFirstConflict}
 use Rattle.sas_run.proofs.Ranges.{no_effect}
 
 pub same_inside : (a b : ℕ) → Some a ≡ Some b → a ≡ b
@@ -49,6 +49,22 @@ module _ (p : Parts) (s : List ℕ) (o : Operator) (n : ℕ) (given : List (Opti
     ];
     giver = λ var value at. (let (k, lt, fires, on, new) = is.giver var value at in (k, omega arith, fires, on, new));
   }
+
+  -- one more effect fires that gives another value: it is the first that conflicts
+  pub conflicts_first : n < length o.effects → Fires s (effect_at o n) → (given' : List (Option ℕ)) → GivesOther given (effect_at o n).var (effect_at o n).new given' → IsFirstConflict s o n
+  conflicts_first within fires given' gives_other =
+      let (value, at, differs) = gives_other.other in
+      let (k, lt, fires', on, new) = is.giver (effect_at o n).var value at in
+      record {
+        exists = within;
+        fires = fires;
+        earlier = k;
+        before = lt;
+        earlier_fires = fires';
+        contradicts = record { var = on; new = λ same. differs (sym new ∙ same) };
+        first = λ e f before below fires_e fires_f contradicts.
+            contradicts.new (same_inside (effect_at o e).new (effect_at o f).new (sym (is.gives e (omega arith) fires_e) ∙ ap (given_to given) contradicts.var ∙ is.gives f below fires_f));
+      }
 
   -- one more effect that fires gives its new value
   pub gives_one_more : (effect_at o n).var < length p.variables → Fires s (effect_at o n) → (given' : List (Option ℕ)) → GivesValue given (effect_at o n).var (effect_at o n).new given'

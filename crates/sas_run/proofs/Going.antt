@@ -4,11 +4,9 @@ use Rattle.std.proofs.lemmas.List.{take-append-drop, drop_more}
 use Rattle.std.proofs.lemmas.Grind.{common_steps}
 use Rattle.sas_core.specs.declared.parts.Parts.{Parts}
 use Rattle.sas_core.specs.Grounded.{operator_at}
-use Rattle.sas_meaning.specs.Steps.{Step, Agree}
+use Rattle.sas_meaning.specs.Steps.{Step}
 use Rattle.sas_run.specs.Plans.{IsChosen, GoThrough, LeadsTo}
-use Rattle.sas_run.specs.declared.plan_check.PlanFault.{PlanFault}
-use Rattle.sas_run.specs.declared.plan_check.PlanFault.TheVariants.{Conflict}
-use Rattle.sas_run.specs.Running.{MakesStep, StepFails}
+use Rattle.sas_run.specs.Running.{MakesStep}
 
 pub goes_one_more : (p : Parts) (s : List ℕ) (names : List (List ℕ)) (operators mid : List ℕ) (name : List ℕ) (operator : ℕ) (next : List ℕ)
     → GoThrough p s names operators mid → MakesStep p mid name operator next → GoThrough p s (names ++ name ∷ []) (operators ++ operator ∷ []) next
@@ -38,11 +36,6 @@ around xs i d lt = sym (take-append-drop i xs) ∙ ap (λ ys. take i xs ++ ys) (
 
 pub length_of_take : {X : Type 0} (xs : List X) (i : ℕ) → i < length xs → length (take i xs) ≡ i
 length_of_take xs i lt = grind (arith, common_steps)
-
--- a step whose effects conflict fails
-pub conflict_stops : (p : Parts) (s name : List ℕ) (operator step : ℕ) (fault : PlanFault) → IsChosen p s name operator
-    → fault ≡ Conflict step operator → (Agree s (operator_at p operator).effects → ⊥) → StepFails p s name step fault
-conflict_stops p s name operator step fault chosen is none = subst (StepFails p s name step) (sym is) (refl, chosen, none)
 
 -- `?` passes on the fault
 pub passed_on : {A E : Type 0} (result : Result A E) (fault : E) → (f : E) × (result ≡ Err f) × (f ≡ fault) → result ≡ Err fault

@@ -1,5 +1,5 @@
 -- The operators of one name, in order.
-use Rattle.std.proofs.Common.{◌≡◌, ℕ, ◌+◌, ◌<◌, ◌≤◌, List, length, get_or, Option, None, Some, sym, subst, refl, ◌∙◌, inl, inr, arith}
+use Rattle.std.proofs.Common.{◌≡◌, ℕ, ◌+◌, ◌<◌, ◌≤◌, List, get_or, Option, None, Some, sym, subst, inl, inr, arith}
 use Rattle.std.proofs.lemmas.Bool.{cases_eq, cases_lt}
 use Rattle.sas_core.specs.declared.parts.Parts.{Parts}
 use Rattle.sas_core.specs.Grounded.{operator_at}
@@ -7,9 +7,8 @@ use Rattle.sas_names.proofs.Searching.{left}
 use Rattle.sas_names.specs.Chains.{IsChain}
 use Rattle.sas_names.specs.Named.{IsNamed}
 use Rattle.sas_names.specs.Names.{IsNextNamed}
-use Rattle.sas_run.specs.declared.runner.Choice.TheVariants.{Blocked, Found}
 use Rattle.sas_run.specs.Plans.{IsApplicable}
-use Rattle.sas_run.specs.Running.{IsFirstChosen, IsChoice}
+use Rattle.sas_run.specs.Running.{IsFirstChosen}
 
 -- no operator of the first one's name below this number is applicable
 abbrev pub NoneBefore : Parts → List ℕ → ℕ → ℕ → Type 0
@@ -19,9 +18,6 @@ NoneBefore p s first place = (lower : ℕ) → first ≤ lower → lower < place
 abbrev pub SearchedTo : Parts → List ℕ → ℕ → Option ℕ → Type 0
 SearchedTo p s first (Some operator) = (first ≤ operator) × IsNamed p (operator_at p first).name operator × NoneBefore p s first operator
 SearchedTo p s first None = IsFirstChosen p s first None
-
-pub search_starts : (p : Parts) (s : List ℕ) (first : ℕ) → first < length p.operators → SearchedTo p s first (Some first)
-search_starts p s first lt = (omega arith, record { exists = lt; named = refl }, λ lower ge below. absurd (omega arith))
 
 goes_on : (p : Parts) (s : List ℕ) (first operator : ℕ) (next : Option ℕ) → SearchedTo p s first (Some operator) → (IsApplicable s (operator_at p operator) → ⊥)
     → IsNextNamed p (operator_at p first).name (operator + 1) next → SearchedTo p s first next
@@ -60,23 +56,3 @@ module _ (p : Parts) (s : List ℕ) (first operator : ℕ) (nexts : List (Option
 
   pub less_left : left p next < left p (Some operator)
   less_left = less p s first operator next searched is_next
-
--- a search from the first operator of a name finds the chosen operator
-pub found_is_choice : (p : Parts) (s name : List ℕ) (first operator : ℕ) → IsNextNamed p name 0 (Some first) → IsFirstChosen p s first (Some operator) → IsChoice p s name (Found operator)
-found_is_choice p s name first operator lowest (le, named, holds, none) = record {
-  of_name = record { exists = named.exists; named = named.named ∙ lowest.of_name.named };
-  applicable = holds;
-  first = λ lower below of_name applicable. elim (cases_lt lower first) [
-    | inl early ↦ lowest.first lower (omega arith) early of_name
-    | inr late ↦ none lower late below (record { exists = of_name.exists; named = of_name.named ∙ sym lowest.of_name.named }) applicable
-  ];
-}
-
-pub none_is_choice : (p : Parts) (s name : List ℕ) (first : ℕ) → IsNextNamed p name 0 (Some first) → IsFirstChosen p s first None → IsChoice p s name Blocked
-none_is_choice p s name first lowest none = (
-  (first, lowest.of_name),
-  λ operator of_name applicable. elim (cases_lt operator first) [
-    | inl early ↦ lowest.first operator (omega arith) early of_name
-    | inr late ↦ none operator late (record { exists = of_name.exists; named = of_name.named ∙ sym lowest.of_name.named }) applicable
-  ],
-)

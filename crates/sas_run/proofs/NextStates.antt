@@ -18,6 +18,7 @@ use Rattle.sas_meaning.specs.Steps.{Fires, Agree, Step}
 use Rattle.sas_meaning.proofs.Facts.{hold_or_not, Untouched}
 use Rattle.sas_meaning.proofs.Forced.{state_set, fact_within}
 use Rattle.sas_meaning.proofs.Exists.{settled_exists}
+use Rattle.sas_meaning.proofs.Settling.{settled_where_empty}
 use Rattle.sas_run.specs.Plans.{IsApplicable}
 use Rattle.sas_run.specs.declared.steps.StepFault.{StepFault}
 use Rattle.sas_run.specs.declared.steps.StepFault.TheVariants.{NotApplicable, Conflict}
@@ -126,6 +127,14 @@ pub applied_exists : (p : Parts) (s : List ℕ) (o : Operator) → All (λ (e : 
 applied_exists p s o fits state applicable agree =
     let r = write p s state o.effects fits agree in
     (r.result, record { applicable = applicable; agree = agree; state = r.state; set = r.sets; kept = r.kept })
+
+-- where no variable is derived, each state is settled
+pub settled_if_basic : (p : Parts) (s : List ℕ) → ((var : ℕ) → IsBasic p var) → IsState p.variables s → Settles p s s
+settled_if_basic p s basic state = record {
+  state = state;
+  basic = λ _ _. refl;
+  settled = λ layer. settled_where_empty p layer s (λ (var, on). let none = basic var in cc);
+}
 
 -- settling the result makes the step
 pub step_from_applied : (p : Parts) (s : List ℕ) (o : Operator) (s' next : List ℕ) → All (λ (e : Effect). IsBasic p e.var) o.effects

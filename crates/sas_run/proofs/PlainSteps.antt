@@ -12,7 +12,7 @@ use Rattle.sas_core.specs.declared.parts.Fact.{Fact}
 use Rattle.sas_core.specs.declared.parts.Operator.{Operator}
 use Rattle.sas_core.specs.declared.parts.Parts.{Parts}
 use Rattle.sas_core.specs.Changes.{plain_effect, plain_effects}
-use Rattle.sas_core.specs.Grounded.{operator_at}
+use Rattle.sas_core.specs.Grounded.{operator_at, effect_at}
 use Rattle.sas_core.specs.Variables.{HasValue, IsState}
 use Rattle.sas_core.specs.WellRanged.{EffectFits, WellRanged}
 use Rattle.sas_meaning.specs.Following.{HaveGone}
@@ -36,53 +36,25 @@ abbrev pub Untouched : List Change → ℕ → ℕ → Type 0
 Untouched changes n var = (k : ℕ) (d : Change) → k < n → (get_or changes k d).var ≢ var
 
 -- the first n changes are made in s, which gives s'
-pub record MadeSoFar (p : Parts) (s : List ℕ) (changes : List Change) (n : ℕ) (deleted : List Fact) (s' : List ℕ) : Type 0 where
+pub record MadeSoFar (p : Parts) (s : List ℕ) (changes : List Change) (n : ℕ) (s' : List ℕ) : Type 0 where
   pub state : IsState p.variables s'
   pub set : (k : ℕ) (d : Change) → k < n → get_or s' (get_or changes k d).var 0 ≡ (get_or changes k d).new
   pub kept : (var : ℕ) → Untouched changes n var → get_or s' var 0 ≡ get_or s var 0
+
+-- these facts are deleted by the first n changes
+pub record LostSoFar (p : Parts) (s : List ℕ) (changes : List Change) (n : ℕ) (deleted : List Fact) (s' : List ℕ) : Type 0 where
   pub lost : HaveGone p deleted s s'
   pub among : (var : ℕ) → Untouched changes n var → All (λ (f : Fact). f.var ≢ var) deleted
   pub few : length deleted ≤ n
 
-none_deleted : (p : Parts) (s : List ℕ) → HaveGone p [] s s
-none_deleted p s = record {
-  basic = All-nil (λ (f : Fact). IsBasic p f.var);
-  exist = All-nil (λ (f : Fact). f.var < length p.variables);
-  held = All-nil (Holds (λ v. get_or s v 0));
-  once = λ i j d lt below. absurd (omega arith);
-  others = λ var _. refl;
-}
-
-pub nothing_made : (p : Parts) (s : List ℕ) (changes : List Change) → IsState p.variables s → MadeSoFar p s changes 0 [] s
-nothing_made p s changes state = record {
-  state = state;
-  set = λ k d lt. absurd (omega arith);
-  kept = λ var _. refl;
-  lost = none_deleted p s;
-  among = λ var _. All-nil (λ (f : Fact). f.var ≢ var);
-  few = omega arith;
-}
-
-pub all_made : (p : Parts) (s : List ℕ) (changes : List Change) (deleted : List Fact) (s' : List ℕ) → MadeSoFar p s changes (length changes) deleted s'
-    → AreMade p s changes deleted s'
-all_made p s changes deleted s' made = record {
-  state = made.state;
-  set = λ k d lt. made.set k d lt;
-  kept = λ var not. made.kept var (λ k d lt. not k d lt);
-  lost = made.lost;
-}
-
 -- one more change, on another variable than those before it
-module _ (p : Parts) (s s' : List ℕ) (changes : List Change) (n : ℕ) (deleted : List Fact) (made : MadeSoFar p s changes n deleted s') (apart : AreApart changes) (some : n < length changes)
-    (change : Change) (at : (d : Change) → get_or changes n d ≡ change) (exists : change.var < length p.variables) (fits : HasValue p.variables change.var change.new) (basic : IsBasic p change.var) where
+module _ (p : Parts) (s s' : List ℕ) (changes : List Change) (n : ℕ) (made : MadeSoFar p s changes n s') (apart : AreApart changes) (some : n < length changes)
+    (change : Change) (at : (d : Change) → get_or changes n d ≡ change) (exists : change.var < length p.variables) where
   fresh : Untouched changes n change.var
   fresh k d lt same = apart k n d lt some (same ∙ ap (λ (c : Change). c.var) (sym (at d)))
 
   in_state : change.var < length s'
   in_state = let one_each = made.state.one_each in omega arith
-
-  others_than : All (λ (f : Fact). f.var ≢ change.var) deleted
-  others_than = made.among change.var fresh
 
   was : get_or s' change.var 0 ≡ get_or s change.var 0
   was = made.kept change.var fresh
@@ -106,41 +78,50 @@ module _ (p : Parts) (s s' : List ℕ) (changes : List Change) (n : ℕ) (delete
     | inr ne ↦ get_or-set_other s' change.var var change.new 0 ne
   ]
 
-  abbrev taken : Fact
-  taken = record { var = change.var; value = get_or s' change.var 0 }
-
-  deleted_now : (deleted' : List Fact) → Replaces s' (record { var = change.var; value = change.new }) deleted deleted' → HaveGone p deleted' s (set s' change.var change.new)
-  deleted_now deleted' (inl same) = subst (λ g. HaveGone p g s (set s' change.var change.new)) (sym same.1) (record {
-    basic = made.lost.basic;
-    exist = made.lost.exist;
-    held = made.lost.held;
-    once = made.lost.once;
-    others = λ var not. kept_value same.0 var ∙ made.lost.others var not;
-  })
-  deleted_now deleted' (inr other) = subst (λ g. HaveGone p g s (set s' change.var change.new)) (sym other.1) (record {
-    basic = All-push (λ (f : Fact). IsBasic p f.var) deleted taken made.lost.basic basic;
-    exist = All-push (λ (f : Fact). f.var < length p.variables) deleted taken made.lost.exist exists;
-    held = All-push (Holds (λ x. get_or s x 0)) deleted taken made.lost.held (sym was);
-    once = all_pairs_push (λ (f g : Fact). f.var ≢ g.var) deleted taken made.lost.once (λ k d lt. others_than k d lt);
-    others = λ var not.
-        (let apart : var ≢ change.var = λ e. (all_last (λ (g : Fact). g.var ≢ var) deleted taken not) (sym e) in
-        get_or-set_other s' change.var var change.new 0 apart ∙ made.lost.others var (all_before (λ (g : Fact). g.var ≢ var) deleted taken not));
-  })
-
-  among_now : (deleted' : List Fact) → Replaces s' (record { var = change.var; value = change.new }) deleted deleted' → (var : ℕ) → Untouched changes (n + 1) var → All (λ (f : Fact). f.var ≢ var) deleted'
-  among_now deleted' (inl same) var not = subst (All (λ (f : Fact). f.var ≢ var)) (sym same.1) (made.among var (fewer var not))
-  among_now deleted' (inr other) var not = subst (All (λ (f : Fact). f.var ≢ var)) (sym other.1)
-      (All-push (λ (f : Fact). f.var ≢ var) deleted taken (made.among var (fewer var not)) (λ same. another var not (sym same)))
-
-  pub one_more_made : (deleted' : List Fact) → Replaces s' (record { var = change.var; value = change.new }) deleted deleted' → MadeSoFar p s changes (n + 1) deleted' (set s' change.var change.new)
-  one_more_made deleted' replaces = record {
+  pub one_more_made : HasValue p.variables change.var change.new → MadeSoFar p s changes (n + 1) (set s' change.var change.new)
+  one_more_made fits = record {
     state = state_set p s' change.var change.new made.state fits;
     set = now_set;
     kept = λ var not. get_or-set_other s' change.var var change.new 0 (another var not) ∙ made.kept var (fewer var not);
-    lost = deleted_now deleted' replaces;
-    among = among_now deleted' replaces;
-    few = (let few = made.few in let more = deleted_few s' (record { var = change.var; value = change.new }) deleted deleted' replaces in omega arith);
   }
+
+  -- what it deletes
+  module _ (deleted : List Fact) (so_far : LostSoFar p s changes n deleted s') (basic : IsBasic p change.var) where
+    abbrev taken : Fact
+    taken = record { var = change.var; value = get_or s' change.var 0 }
+
+    others_than : All (λ (f : Fact). f.var ≢ change.var) deleted
+    others_than = so_far.among change.var fresh
+
+    deleted_now : (deleted' : List Fact) → Replaces s' (record { var = change.var; value = change.new }) deleted deleted' → HaveGone p deleted' s (set s' change.var change.new)
+    deleted_now deleted' (inl same) = subst (λ g. HaveGone p g s (set s' change.var change.new)) (sym same.1) (record {
+      basic = so_far.lost.basic;
+      exist = so_far.lost.exist;
+      held = so_far.lost.held;
+      once = so_far.lost.once;
+      others = λ var not. kept_value same.0 var ∙ so_far.lost.others var not;
+    })
+    deleted_now deleted' (inr other) = subst (λ g. HaveGone p g s (set s' change.var change.new)) (sym other.1) (record {
+      basic = All-push (λ (f : Fact). IsBasic p f.var) deleted taken so_far.lost.basic basic;
+      exist = All-push (λ (f : Fact). f.var < length p.variables) deleted taken so_far.lost.exist exists;
+      held = All-push (Holds (λ x. get_or s x 0)) deleted taken so_far.lost.held (sym was);
+      once = all_pairs_push (λ (f g : Fact). f.var ≢ g.var) deleted taken so_far.lost.once (λ k d lt. others_than k d lt);
+      others = λ var not.
+          (let apart : var ≢ change.var = λ e. (all_last (λ (g : Fact). g.var ≢ var) deleted taken not) (sym e) in
+          get_or-set_other s' change.var var change.new 0 apart ∙ so_far.lost.others var (all_before (λ (g : Fact). g.var ≢ var) deleted taken not));
+    })
+
+    among_now : (deleted' : List Fact) → Replaces s' (record { var = change.var; value = change.new }) deleted deleted' → (var : ℕ) → Untouched changes (n + 1) var → All (λ (f : Fact). f.var ≢ var) deleted'
+    among_now deleted' (inl same) var not = subst (All (λ (f : Fact). f.var ≢ var)) (sym same.1) (so_far.among var (fewer var not))
+    among_now deleted' (inr other) var not = subst (All (λ (f : Fact). f.var ≢ var)) (sym other.1)
+        (All-push (λ (f : Fact). f.var ≢ var) deleted taken (so_far.among var (fewer var not)) (λ same. another var not (sym same)))
+
+    pub one_more_lost : (deleted' : List Fact) → Replaces s' (record { var = change.var; value = change.new }) deleted deleted' → LostSoFar p s changes (n + 1) deleted' (set s' change.var change.new)
+    one_more_lost deleted' replaces = record {
+      lost = deleted_now deleted' replaces;
+      among = among_now deleted' replaces;
+      few = (let few = so_far.few in let more = deleted_few s' (record { var = change.var; value = change.new }) deleted deleted' replaces in omega arith);
+    }
 
 -- ---- making the changes is applying the effects
 
@@ -152,6 +133,9 @@ module _ (o : Operator) (changes : List Change) (effects : o.effects ≡ plain_e
   pub of_changes : (P : Effect → Type 0) → All P o.effects → All (λ c. P (plain_effect c)) changes
   of_changes P each k d lt = subst P (get_or-map plain_effect changes k d no_effect lt)
       (subst (All P) effects each k no_effect (omega (arith, lt, length-map changes plain_effect)))
+
+  pub effect_is : (k : ℕ) (d : Change) → k < length changes → effect_at o k ≡ plain_effect (get_or changes k d)
+  effect_is k d lt = ap (λ (es : List Effect). get_or es k no_effect) effects ∙ get_or-map plain_effect changes k d no_effect lt
 
   pub effect_number : length o.effects ≡ length changes
   effect_number = ap length effects ∙ length-map changes plain_effect
@@ -171,12 +155,12 @@ module _ (p : Parts) (operator : ℕ) (exists : operator < length p.operators) (
   changes_basic layered = of_changes (operator_at p operator) changes effects (λ (e : Effect). IsBasic p e.var) (effects_basic p operator layered exists)
 
 -- an effect without conditions fires
-fires : (s : List ℕ) (c : Change) → Fires s (plain_effect c)
+pub fires : (s : List ℕ) (c : Change) → Fires s (plain_effect c)
 fires s c = All-nil (Holds (λ v. get_or s v 0))
 
-pub applied_plainly : (p : Parts) (s : List ℕ) (o : Operator) (changes : List Change) (deleted : List Fact) (s' : List ℕ) → AllHold (λ v. get_or s v 0) (preconditions o)
-    → IsPlainStep o changes → AreMade p s changes deleted s' → IsApplied p s o s'
-applied_plainly p s o changes deleted s' applicable plain made =
+pub applied_plainly : (p : Parts) (s : List ℕ) (o : Operator) (changes : List Change) (s' : List ℕ) → AllHold (λ v. get_or s v 0) (preconditions o)
+    → IsPlainStep o changes → AreMade p s changes s' → IsApplied p s o s'
+applied_plainly p s o changes s' applicable plain made =
     let set_each = of_effects o changes plain.effects (λ (e : Effect). get_or s' e.var 0 ≡ e.new) made.set in
     record {
       applicable = applicable;

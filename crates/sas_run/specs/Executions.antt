@@ -1,5 +1,5 @@
 -- Executions of plans.
-use Rattle.std.specs.Prelude.{◌≡◌, ℕ, ◌+◌, ◌≤◌, [], List, length, Option, slice_index, slice_index_or, vec_capacity}
+use Rattle.std.specs.Prelude.{◌≡◌, ℕ, ◌+◌, ◌≤◌, [], IsTrue, List, length, Option, slice_index, slice_index_or, vec_capacity}
 use Rattle.sas_core.specs.declared.parts.Fact.{Fact}
 use Rattle.sas_core.specs.declared.parts.Parts.{Parts}
 use Rattle.sas_core.specs.Grounded.{operator_at}
@@ -78,7 +78,7 @@ executed_of p plan stepper progress made = record {
   operators = progress.operators.items;
   made = made;
   state = progress.state;
-  deleted = stepper.deleted.items;
+  deleted = stepper.deleted.facts.items;
   touched = stepper.touched;
 }
 
@@ -87,6 +87,7 @@ pub record IsExecuting {E : Type 0} (Ready : E → Parts → Type 0)
     (Follows : E → Parts → List ℕ → Type 0) (p : Parts) (plan : PlanParts) (stepper : Stepper E)
     (found : List ℕ) (nexts : List (Option ℕ)) (progress : Progress) (made : ℕ) : Type 0 where
   pub prepared : IsPrepared Ready p stepper
+  pub noted : IsTrue stepper.deleted.noted
   pub follows : Follows stepper.evaluator p progress.state
   pub firsts : AreFirsts p plan.steps found
   pub chains : HaveChains p found nexts

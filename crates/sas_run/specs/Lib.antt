@@ -7,4 +7,5 @@ pub mod Running
 pub mod Given
 pub mod PlainSteps
 pub mod Stepping
+pub mod Deletions
 pub mod Executions

@@ -3,12 +3,10 @@
 use Rattle.std.specs.Prelude.{◌≡◌, ◌≢◌, ℕ, List, Some, All, slice_index}
 use Rattle.std.specs.List.{AllPairs}
 use Rattle.sas_core.specs.declared.grounded.Change.{Change}
-use Rattle.sas_core.specs.declared.parts.Fact.{Fact}
 use Rattle.sas_core.specs.declared.parts.Operator.{Operator}
 use Rattle.sas_core.specs.declared.parts.Parts.{Parts}
 use Rattle.sas_core.specs.Changes.{plain_effects}
 use Rattle.sas_core.specs.Variables.{IsState}
-use Rattle.sas_meaning.specs.Following.{HaveGone}
 
 -- the changes are on different variables
 abbrev pub AreApart : List Change → Type 0
@@ -23,11 +21,9 @@ pub record IsPlainStep (o : Operator) (changes : List Change) : Type 0 where
 abbrev pub OldHolds : List ℕ → Change → Type 0
 OldHolds s c = (value : ℕ) → c.old ≡ Some value → slice_index s c.var ≡ value
 
--- making all changes in s gives s' and deletes these facts
-pub record AreMade (p : Parts) (s : List ℕ) (changes : List Change) (deleted : List Fact)
-    (s' : List ℕ) : Type 0 where
+-- making all changes in s gives s'
+pub record AreMade (p : Parts) (s : List ℕ) (changes : List Change) (s' : List ℕ) : Type 0 where
   pub state : IsState p.variables s'
   pub set : All (λ (c : Change). slice_index s' c.var ≡ c.new) changes
   pub kept : (var : ℕ) → All (λ (c : Change). c.var ≢ var) changes
       → slice_index s' var ≡ slice_index s var
-  pub lost : HaveGone p deleted s s'

@@ -49,12 +49,12 @@ IsLaterIfAny p s operator None = (later : ℕ) → IsLater p s operator later �
 IsLaterIfAny p s operator (Some later) = IsLater p s operator later
     × ((lower : ℕ) → lower < later → IsLater p s operator lower → ⊥)
 
--- two effects set one variable to different values
+-- both effects set the same variable, but to different values
 pub record Contradicts (e f : Effect) : Type 0 where
   pub var : e.var ≡ f.var
   pub new : e.new ≢ f.new
 
--- the first effect that fires and contradicts an earlier one that fires
+-- the effect fires and contradicts an earlier one that fires; it is the first such effect
 pub record IsFirstConflict (s : List ℕ) (o : Operator) (effect : ℕ) : Type 0 where
   pub exists : effect < length o.effects
   pub fires : Fires s (effect_at o effect)
@@ -103,12 +103,12 @@ abbrev pub IsGoalAnswer : List ℕ → List Fact → Option ℕ → Type 0
 IsGoalAnswer s goal None = AllHold (slice_index s) goal
 IsGoalAnswer s goal (Some index) = IsFirstMissed (slice_index s) goal index
 
--- the step of this name is made by its chosen operator
+-- the name means this operator in the state s, and its step leads to s'
 pub record MakesStep (p : Parts) (s name : List ℕ) (operator : ℕ) (s' : List ℕ) : Type 0 where
   pub chosen : IsChosen p s name operator
   pub step : Step p s (operator_at p operator) s'
 
--- why the step of this name fails; steps are counted from 1
+-- the fault says why the step fails that has this name and this number, counted from 1
 abbrev pub StepFails : Parts → List ℕ → List ℕ → ℕ → PlanFault → Type 0
 StepFails p s name step (plan_fault.NoOperator at) = (at ≡ step)
     × ((operator : ℕ) → IsNamed p name operator → ⊥)
@@ -122,7 +122,8 @@ StepFails p s name step (plan_fault.GoalMissed index) = ⊥
 StepFails p s name step (plan_fault.CostDiffers sum) = ⊥
 StepFails p s name step plan_fault.Memory = ⊥
 
--- in the last state the goal holds and the operators' costs add up to `cost`; or what fails
+-- The verdict after the last step: nothing fails if the goal holds and the operators' costs add up
+-- to `cost`. Otherwise it is the first fact of the goal that doesn't hold, or the sum of the costs.
 abbrev pub IsFinalVerdict : Parts → List ℕ → List ℕ → ℕ → Option PlanFault → Type 0
 IsFinalVerdict p operators s cost None = AllHold (slice_index s) p.goal
     × (cost_of_all p operators ≡ cost)

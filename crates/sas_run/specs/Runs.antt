@@ -8,8 +8,8 @@ use Rattle.sas_run.specs.declared.plan_check.PlanFault.TheVariants.{Conflict, Go
 use Rattle.sas_run.specs.Plans.{LeadsTo, IsValid}
 use Rattle.sas_run.specs.Verdicts.{IsFaultOf}
 
--- The names of n steps, their operators, and the states s0 to sn: s0 is the initial state, and step
--- i leads from state i - 1 to state i.
+-- The names of n steps, their operators, and n + 1 states. The first state is the initial one, and
+-- each step leads from one state to the next.
 pub record Run : Type 0 where
   pub steps : List (List ℕ)
   pub operators : List ℕ

@@ -1,5 +1,5 @@
 -- When a stepper is ready for a task, and what it lists after a step.
-use Rattle.std.specs.Prelude.{◌≡◌, ◌≢◌, ◌⊎◌, ℕ, ◌<◌, ◌≤◌, List, length, All, Contains, slice_index, vec_capacity, count_by, is_some}
+use Rattle.std.specs.Prelude.{◌≡◌, ◌≢◌, ◌⊎◌, ℕ, ◌<◌, List, length, All, Contains, IsTrue, IsFalse, slice_index, count_by, is_some}
 use Rattle.std.specs.List.{AllPairs}
 use Rattle.sas_core.specs.declared.parts.Fact.{Fact}
 use Rattle.sas_core.specs.declared.parts.Parts.{Parts}
@@ -11,16 +11,23 @@ use Rattle.sas_meaning.specs.Layers.{IsBasic}
 use Rattle.sas_meaning.specs.States.{AllHold}
 use Rattle.sas_meaning.specs.Touched.{MayHaveChanged}
 use Rattle.sas_run.specs.declared.stepper.Stepper.{Stepper}
+use Rattle.sas_run.specs.Deletions.{HasRoom}
 use Rattle.sas_run.specs.Given.{NothingGiven}
 
--- the evaluator is ready, no value is given, and each operator's effects may all delete a fact
--- without allocation
+-- The evaluator is ready, and no value is given. If deleted facts are noted, each operator's effects
+-- may all delete a fact without allocation. If not, no variable is derived.
 pub record IsPrepared {E : Type 0} (Ready : E → Parts → Type 0) (p : Parts) (w : Stepper E)
     : Type 0 where
   pub ready : Ready w.evaluator p
   pub clean : NothingGiven p w.given
   pub room : (operator : ℕ) → operator < length p.operators
-      → length (operator_at p operator).effects ≤ vec_capacity w.deleted
+      → HasRoom w.deleted (length (operator_at p operator).effects)
+  pub basic : IsFalse w.deleted.noted → (var : ℕ) → IsBasic p var
+
+-- the evaluator settled this state last, if it is used: it is if deleted facts are noted
+abbrev pub Follows : {E : Type 0} → (E → Parts → List ℕ → Type 0) → Parts → Stepper E → List ℕ
+    → Type 0
+Follows follows p w s = IsTrue w.deleted.noted → follows w.evaluator p s
 
 -- how many derived variables the task has
 abbrev pub derived_variable_count : Parts → ℕ

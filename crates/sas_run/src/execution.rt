@@ -107,7 +107,7 @@ impl<'t, 'p, E: Settle<T> + Drop, T: Grounded, P: Stepwise> Execution<'t, 'p, E,
     pub fn deleted(&self) -> &[Fact]
         ensures { result.now ≡ self.now.deleted }
     {
-        self.stepper.deleted.as_slice()
+        self.stepper.deleted.facts.as_slice()
     }
 
     /// Returns which derived variables may have changed in the last step. It takes no memory.

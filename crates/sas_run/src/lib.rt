@@ -1,6 +1,7 @@
 //! Makes steps, executes plans, and checks whether a plan is valid.
 #![tactic(auto)]
 
+mod deletions;
 mod execution;
 mod held;
 mod holding;

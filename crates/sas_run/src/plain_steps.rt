@@ -1,12 +1,14 @@
 // Steps of operators whose effects have no conditions and are on different variables. Such effects can be applied directly, one after
 // another. Most steps of most plans are of this kind.
-ghost use Rattle.std.specs.Prelude.{◌≡◌, ◌≢◌, ◌<◌, ◌≤◌, [], length, All, IsTrue, IsFalse, IfSome, slice_index, slice_set, vec_capacity};
+ghost use Rattle.std.specs.Prelude.{◌≡◌, ◌≢◌, ◌+◌, ◌<◌, [], length, All, IsTrue, IsFalse, IfSome, slice_index, slice_set};
 ghost use Rattle.sas_core.specs.declared.grounded.Change.{Change};
 ghost use Rattle.sas_core.specs.Grounded.{operator_at};
 ghost use Rattle.sas_core.specs.Variables.{IsState};
+ghost use Rattle.sas_run.specs.Deletions.{HasRoom, NotesOn, NotesGone};
 ghost use Rattle.sas_run.specs.Given.{Replaces};
 ghost use Rattle.sas_run.specs.PlainSteps.{AreApart, AreMade, IsPlainStep, OldHolds};
 
+use crate::deletions::Deleted;
 use sas_core::{Change, Fact, Grounded};
 use sas_meaning::{Layered, State};
 
@@ -66,23 +68,24 @@ pub fn old_values_hold(state: &State, changes: &[Change]) -> bool
     true
 }
 
-/// Makes the changes in the state. They are those of the operator's effects. Adds the facts that become false to `deleted`, which must be
-/// empty.
+/// Makes the changes in the state. They are those of the operator's effects. If deleted facts are noted, adds those that become false.
+/// `deleted` must be empty.
 #[inline(always)]
 pub fn make_changes<T: Grounded>(
     task: &Layered<T>,
     operator: u32,
     changes: &[Change],
-    deleted: &mut Vec<Fact>,
+    deleted: &mut Deleted,
     state: &mut State,
 )
     requires operator { operator < length task.now.operators }
     requires plain { IsPlainStep (operator_at task.now operator) changes.now }
     requires state { IsState task.now.variables state.old }
-    requires empty { deleted.old.items ≡ [] }
-    requires room { length changes.now ≤ vec_capacity deleted.old }
-    ensures made { AreMade task.now state.old changes.now deleted.new.items state.new }
-    ensures room { vec_capacity deleted.old ≤ vec_capacity deleted.new }
+    requires empty { deleted.old.facts.items ≡ [] }
+    requires room { HasRoom deleted.old (length changes.now) }
+    ensures made { AreMade task.now state.old changes.now state.new }
+    ensures gone { NotesGone task.now deleted.new state.old state.new }
+    ensures notes { NotesOn deleted.old deleted.new }
 {
     // By its contract the task is well ranged and layered.
     let _ = task.task();
@@ -91,19 +94,21 @@ pub fn make_changes<T: Grounded>(
     }
 }
 
-/// Makes the fact true in the state. If its variable had another value, adds that fact to `deleted`, which must have room for it.
+/// Makes the fact true in the state. If deleted facts are noted and its variable had another value, adds that fact to `deleted`, which must
+/// have room for it.
 #[inline(always)]
-pub fn replace(fact: Fact, deleted: &mut Vec<Fact>, state: &mut State)
+pub fn replace(fact: Fact, deleted: &mut Deleted, state: &mut State)
     requires exists { fact.var < length state.old }
-    requires room { length deleted.old.items < vec_capacity deleted.old }
+    requires room { HasRoom deleted.old (length deleted.old.facts.items + 1) }
     ensures state { state.new ≡ slice_set state.old fact.var fact.value }
-    ensures deleted { Replaces state.old fact deleted.old.items deleted.new.items }
-    ensures room { vec_capacity deleted.old ≤ vec_capacity deleted.new }
+    ensures deleted { IsTrue deleted.old.noted
+        → Replaces state.old fact deleted.old.facts.items deleted.new.facts.items }
+    ensures notes { NotesOn deleted.old deleted.new }
 {
     let before = state.value(fact.var);
-    if before != fact.value {
+    if deleted.noted && before != fact.value {
         let var = fact.var;
-        deleted.push(Fact { var, value: before }).unwrap();
-        state.set(fact);
+        deleted.facts.push(Fact { var, value: before }).unwrap();
     }
+    state.set(fact);
 }

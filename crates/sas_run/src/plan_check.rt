@@ -10,7 +10,7 @@ ghost use Rattle.sas_run.specs.Plans.{LeadsTo, IsValid};
 ghost use Rattle.sas_run.specs.Verdicts.{IsFaultOf};
 ghost use Rattle.sas_run.specs.Running.{MakesStep, StepFails};
 ghost use Rattle.sas_run.specs.Runs.{IsEnding};
-ghost use Rattle.sas_run.specs.Stepping.{IsPrepared};
+ghost use Rattle.sas_run.specs.Stepping.{Follows, IsPrepared};
 
 use crate::progress::{NextStep, Progress, choose, judge_last};
 use crate::runner::Runner;
@@ -153,13 +153,14 @@ pub fn find_fault<E: Settle<T> + Drop, T: Grounded, P: Stepwise>(
     progress: &mut Progress,
 ) -> Option<PlanFault>
     requires prepared { IsPrepared E.ready layered.now stepper.old }
-    requires follows { E.follows stepper.old.evaluator layered.now progress.old.state }
+    requires follows { Follows E.follows layered.now stepper.old progress.old.state }
     requires firsts { AreFirsts layered.now (P.says plan.now).steps found.firsts.now }
     requires chains { HaveChains layered.now found.firsts.now found.nexts.now }
     requires initial { IsInitial layered.now progress.old.state }
     requires room { length (P.says plan.now).steps ≤ vec_capacity progress.old.operators }
     requires empty { progress.old.operators.items ≡ [] }
     ensures prepared { IsPrepared E.ready layered.now stepper.new }
+    ensures noted { stepper.new.deleted.noted ≡ stepper.old.deleted.noted }
     ensures ends { IsEnding layered.now (P.says plan.now) progress.new.operators.items result }
     ensures state { IsState layered.now.variables progress.new.state }
     ensures room { vec_capacity progress.old.operators ≤ vec_capacity progress.new.operators }
@@ -180,13 +181,14 @@ fn go_through<E: Settle<T> + Drop, T: Grounded, P: Stepwise>(
     progress: &mut Progress,
 ) -> Result<(), PlanFault>
     requires prepared { IsPrepared E.ready layered.now stepper.old }
-    requires follows { E.follows stepper.old.evaluator layered.now progress.old.state }
+    requires follows { Follows E.follows layered.now stepper.old progress.old.state }
     requires firsts { AreFirsts layered.now (P.says plan.now).steps found.firsts.now }
     requires chains { HaveChains layered.now found.firsts.now found.nexts.now }
     requires initial { IsInitial layered.now progress.old.state }
     requires room { length (P.says plan.now).steps ≤ vec_capacity progress.old.operators }
     requires empty { progress.old.operators.items ≡ [] }
     ensures prepared { IsPrepared E.ready layered.now stepper.new }
+    ensures noted { stepper.new.deleted.noted ≡ stepper.old.deleted.noted }
     ensures leads { OnOk result (LeadsTo layered.now (P.says plan.now).steps
         progress.new.operators.items progress.new.state) }
     ensures ends { IfErr result (λ fault. IsEnding layered.now (P.says plan.now)
@@ -220,12 +222,13 @@ fn go_on<E: Settle<T> + Drop, T: Grounded>(
     state: &mut State,
 ) -> Result<u32, PlanFault>
     requires prepared { IsPrepared E.ready layered.now stepper.old }
-    requires follows { E.follows stepper.old.evaluator layered.now state.old }
+    requires follows { Follows E.follows layered.now stepper.old state.old }
     requires first { IsFirst layered.now next.first }
     requires chain { IsChain layered.now next.first nexts.now }
     requires state { IsState layered.now.variables state.old }
     ensures prepared { IsPrepared E.ready layered.now stepper.new }
-    ensures follows { IfOk result (λ _. E.follows stepper.new.evaluator layered.now state.new) }
+    ensures noted { stepper.new.deleted.noted ≡ stepper.old.deleted.noted }
+    ensures follows { IfOk result (λ _. Follows E.follows layered.now stepper.new state.new) }
     ensures ok { IfOk result (λ operator. MakesStep layered.now state.old
         (operator_at layered.now next.first).name operator state.new) }
     ensures err { IfErr result (λ fault. StepFails layered.now state.old

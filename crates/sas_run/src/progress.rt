@@ -34,6 +34,7 @@ impl Progress {
     ) -> Result<Progress, AllocError>
         requires prepared { IsPrepared E.ready layered.now stepper.old }
         ensures prepared { IsPrepared E.ready layered.now stepper.new }
+        ensures deleted { stepper.new.deleted ≡ stepper.old.deleted }
         ensures initial { IfOk result (λ p. IsInitial layered.now p.state) }
         ensures follows { IfOk result (λ p. E.follows stepper.new.evaluator layered.now p.state) }
         ensures empty { IfOk result (λ p. p.operators.items ≡ []) }

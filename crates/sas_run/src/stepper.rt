@@ -1,13 +1,16 @@
 // Makes the steps of a task, one after another.
-ghost use Rattle.std.specs.Prelude.{◌≡◌, ◌<◌, ◌≤◌, ℕ, length, IfOk, IfErr, OnOk, vec_capacity};
+ghost use Rattle.std.specs.Prelude.{◌≡◌, ◌<◌, ◌≤◌, ℕ, length, IfOk, IfErr, IsTrue, IsFalse, OnOk, vec_capacity};
 ghost use Rattle.sas_core.specs.Grounded.{operator_at};
 ghost use Rattle.sas_core.specs.Variables.{IsState};
+ghost use Rattle.sas_meaning.specs.Layers.{IsBasic};
 ghost use Rattle.sas_meaning.specs.Reachable.{IsInitial};
+ghost use Rattle.sas_run.specs.Deletions.{HasRoom};
 ghost use Rattle.sas_run.specs.Given.{NothingGiven};
 ghost use Rattle.sas_run.specs.Plans.{IsApplicable};
 ghost use Rattle.sas_run.specs.Running.{Steps};
-ghost use Rattle.sas_run.specs.Stepping.{IsPrepared, ListsChanges, derived_variable_count};
+ghost use Rattle.sas_run.specs.Stepping.{Follows, IsPrepared, ListsChanges, derived_variable_count};
 
+use crate::deletions::Deleted;
 use crate::steps::{StepFault, apply};
 use sas_core::{Fact, Grounded, Items};
 use sas_meaning::{Layered, Settle, State, Touched};
@@ -18,8 +21,9 @@ pub struct Stepper<E> {
     pub evaluator: E,
     /// For each variable, the value to which the current step's effects set it, if they do. Between two steps all are `None`.
     pub given: Items<Option<u32>>,
-    /// Facts that the last step made false.
-    pub deleted: Vec<Fact>,
+    /// Facts that the last step made false. They are noted if a variable is derived, since the evaluator uses them, or if `Execution`
+    /// returns them.
+    pub deleted: Deleted,
     /// The derived variables that the last step may have changed, if `go_on_from` made it.
     pub touched: Touched,
 }
@@ -50,11 +54,12 @@ pub fn stepper_for<E: Settle<T> + Drop, T: Grounded>(
     ensures prepared { IfOk result (λ s. IsPrepared E.ready layered.now s) }
     ensures handed_back { IfErr result (λ e. e.0 ≡ evaluator) }
 {
-    stepper_with(alloc, layered, evaluator, Touched::none(alloc))
+    let noted = count_derived(layered) > 0;
+    stepper_with(alloc, layered, evaluator, noted, Touched::none(alloc))
 }
 
-/// Returns a stepper that lists which derived variables may have changed. It has room for all derived variables of the task. All memory for
-/// the steps is allocated here. If that fails, the evaluator is returned unchanged.
+/// Returns a stepper that lists the deleted facts and which derived variables may have changed. It has room for all derived variables of
+/// the task. All memory for the steps is allocated here. If that fails, the evaluator is returned unchanged.
 pub fn stepper_listing<E: Settle<T> + Drop, T: Grounded>(
     alloc: Global,
     layered: &Layered<T>,
@@ -62,29 +67,33 @@ pub fn stepper_listing<E: Settle<T> + Drop, T: Grounded>(
 ) -> Result<Stepper<E>, (E, AllocError)>
     requires { E.ready evaluator layered.now }
     ensures prepared { IfOk result (λ s. IsPrepared E.ready layered.now s) }
+    ensures noted { IfOk result (λ s. IsTrue s.deleted.noted) }
     ensures room { IfOk result (λ s. vec_capacity s.touched.vars
         ≡ derived_variable_count layered.now) }
     ensures handed_back { IfErr result (λ e. e.0 ≡ evaluator) }
 {
     match Touched::with_room(alloc, count_derived(layered)) {
-        Ok(touched) => stepper_with(alloc, layered, evaluator, touched),
+        Ok(touched) => stepper_with(alloc, layered, evaluator, true, touched),
         Err(error) => Err((evaluator, error)),
     }
 }
 
-/// Returns a stepper that lists in `touched` which derived variables may have changed.
+/// Returns a stepper that lists in `touched` which derived variables may have changed. `noted` is whether it lists the deleted facts.
 fn stepper_with<E: Settle<T> + Drop, T: Grounded>(
     alloc: Global,
     layered: &Layered<T>,
     evaluator: E,
+    noted: bool,
     touched: Touched,
 ) -> Result<Stepper<E>, (E, AllocError)>
-    requires { E.ready evaluator layered.now }
+    requires ready { E.ready evaluator layered.now }
+    requires basic { IsFalse noted → (var : ℕ) → IsBasic layered.now var }
     ensures prepared { IfOk result (λ s. IsPrepared E.ready layered.now s) }
+    ensures noted { IfOk result (λ s. s.deleted.noted ≡ noted) }
     ensures touched { IfOk result (λ s. s.touched ≡ touched) }
     ensures handed_back { IfErr result (λ e. e.0 ≡ evaluator) }
 {
-    let deleted = match Vec::with_capacity(alloc, most_effects(layered)) {
+    let deleted = match nothing_deleted(alloc, layered, noted) {
         Ok(deleted) => deleted,
         Err(error) => return Err((evaluator, error)),
     };
@@ -107,6 +116,7 @@ pub fn initial_of<E: Settle<T> + Drop, T: Grounded>(
 ) -> Result<State, AllocError>
     requires prepared { IsPrepared E.ready layered.now stepper.old }
     ensures prepared { IsPrepared E.ready layered.now stepper.new }
+    ensures deleted { stepper.new.deleted ≡ stepper.old.deleted }
     ensures initial { IfOk result (λ s. IsInitial layered.now s) }
     ensures follows { IfOk result (λ s. E.follows stepper.new.evaluator layered.now s) }
 {
@@ -124,6 +134,7 @@ pub fn go_back<E: Settle<T> + Drop, T: Grounded>(
     requires prepared { IsPrepared E.ready layered.now stepper.old }
     requires state { IsState layered.now.variables state.old }
     ensures prepared { IsPrepared E.ready layered.now stepper.new }
+    ensures deleted { stepper.new.deleted ≡ stepper.old.deleted }
     ensures initial { IsInitial layered.now state.new }
     ensures follows { E.follows stepper.new.evaluator layered.now state.new }
 {
@@ -174,7 +185,8 @@ pub fn step_on<E: Settle<T> + Drop, T: Grounded>(
 }
 
 /// Makes the step like `step_on`, but from the state that the evaluator settled last. So the evaluator may reuse what the step doesn't
-/// change. Afterwards the stepper lists what the step changed.
+/// change. Afterwards the stepper lists what the step changed. If deleted facts aren't noted, no variable is derived. Then each state is
+/// settled, so the evaluator isn't called.
 #[inline(always)]
 pub fn go_on_from<E: Settle<T> + Drop, T: Grounded>(
     layered: &Layered<T>,
@@ -186,12 +198,14 @@ pub fn go_on_from<E: Settle<T> + Drop, T: Grounded>(
     requires operator { operator < length layered.now.operators }
     requires state { IsState layered.now.variables state.old }
     requires applicable { IsApplicable state.old (operator_at layered.now operator) }
-    requires follows { E.follows stepper.old.evaluator layered.now state.old }
+    requires follows { Follows E.follows layered.now stepper.old state.old }
     ensures prepared { IsPrepared E.ready layered.now stepper.new }
     ensures steps { Steps layered.now state.old operator state.new result }
-    ensures follows { E.follows stepper.new.evaluator layered.now state.new }
-    ensures lists { OnOk result (ListsChanges layered.now state.old state.new
-        stepper.new.deleted.items stepper.new.touched) }
+    ensures noted { stepper.new.deleted.noted ≡ stepper.old.deleted.noted }
+    ensures follows { Follows E.follows layered.now stepper.new state.new }
+    ensures lists { OnOk result (IsTrue stepper.new.deleted.noted
+        → ListsChanges layered.now state.old state.new stepper.new.deleted.facts.items
+        stepper.new.touched) }
 {
     // By its contract the task is well ranged and layered.
     let _ = layered.task();
@@ -202,12 +216,14 @@ pub fn go_on_from<E: Settle<T> + Drop, T: Grounded>(
         &mut stepper.deleted,
         state,
     )?;
-    stepper.evaluator.settle_on(
-        layered,
-        stepper.deleted.as_slice(),
-        state,
-        &mut stepper.touched,
-    );
+    if stepper.deleted.noted {
+        stepper.evaluator.settle_on(
+            layered,
+            stepper.deleted.facts.as_slice(),
+            state,
+            &mut stepper.touched,
+        );
+    }
     Ok(())
 }
 
@@ -219,6 +235,21 @@ fn nothing_given<T: Grounded>(
     ensures { IfOk result (λ given. NothingGiven task.now given) }
 {
     Ok(Items::from_vec(vec![in alloc; None; task.variables() as usize]?))
+}
+
+/// Returns an empty list of deleted facts. If they are noted, it has room for those of any step.
+fn nothing_deleted<T: Grounded>(
+    alloc: Global,
+    task: &Layered<T>,
+    noted: bool,
+) -> Result<Deleted, AllocError>
+    ensures noted { IfOk result (λ deleted. deleted.noted ≡ noted) }
+    ensures room { IfOk result (λ deleted. (operator : ℕ) → operator < length task.now.operators
+        → HasRoom deleted (length (operator_at task.now operator).effects)) }
+{
+    let room = if noted { most_effects(task) } else { 0 };
+    let facts = Vec::with_capacity(alloc, room)?;
+    Ok(Deleted { noted, facts })
 }
 
 /// Returns an upper bound on the number of effects of an operator.

@@ -1,15 +1,17 @@
 // One step from a state by an operator, before the derived variables are computed.
-ghost use Rattle.std.specs.Prelude.{◌≡◌, ℕ, ◌<◌, ◌≤◌, [], length, IsTrue, IsFalse, IfSome, IfNone, OnOk, OnErr};
-ghost use Rattle.std.specs.Prelude.{slice_index, vec_capacity};
+ghost use Rattle.std.specs.Prelude.{◌≡◌, ℕ, ◌<◌, List, [], length, IsTrue, IsFalse, IfSome, IfNone, OnOk, OnErr};
+ghost use Rattle.std.specs.Prelude.{slice_index};
+ghost use Rattle.sas_core.specs.Changes.{plain_effects};
 ghost use Rattle.sas_core.specs.Grounded.{operator_at};
 ghost use Rattle.sas_core.specs.Variables.{IsState};
-ghost use Rattle.sas_meaning.specs.Following.{HaveGone};
+ghost use Rattle.sas_run.specs.Deletions.{HasRoom, NotesOn, NotesGone};
 ghost use Rattle.sas_run.specs.Plans.{IsApplicable};
 ghost use Rattle.sas_run.specs.Running.{IsFirstConflict, IsStepFault, Applies};
 ghost use Rattle.sas_run.specs.Given.{NothingGiven, IsGiven, IsGivenTo, value_after, GivesValue, GivesOther};
 
+use crate::deletions::Deleted;
 use crate::plain_steps::{make_changes, plain_step, replace};
-use sas_core::{Fact, Grounded, Items};
+use sas_core::{Change, Fact, Grounded, Items};
 use sas_meaning::{Layered, Preconditions, State};
 
 /// Why an operator has no step in a state.
@@ -44,30 +46,30 @@ pub fn missed_precondition<T: Grounded>(
 }
 
 /// Applies the effects that fire to the state. The operator must be applicable. On success `deleted` contains the facts that the effects
-/// made false. If two of the effects conflict, leaves the state and `deleted` unchanged and returns the fault. `given` is scratch memory:
-/// it has no value before and after.
+/// made false, if they are noted. If two of the effects conflict, leaves the state and `deleted` unchanged and returns the fault. `given`
+/// is scratch memory: it has no value before and after.
 #[inline(always)]
 pub fn apply<T: Grounded>(
     task: &Layered<T>,
     operator: u32,
     given: &mut Items<Option<u32>>,
-    deleted: &mut Vec<Fact>,
+    deleted: &mut Deleted,
     state: &mut State,
 ) -> Result<(), StepFault>
     requires operator { operator < length task.now.operators }
     requires state { IsState task.now.variables state.old }
     requires applicable { IsApplicable state.old (operator_at task.now operator) }
     requires clean { NothingGiven task.now given.old }
-    requires room { length (operator_at task.now operator).effects ≤ vec_capacity deleted.old }
+    requires room { HasRoom deleted.old (length (operator_at task.now operator).effects) }
     ensures applies { Applies task.now state.old operator state.new result }
-    ensures deleted { OnOk result (HaveGone task.now deleted.new.items state.old state.new) }
+    ensures gone { OnOk result (NotesGone task.now deleted.new state.old state.new) }
     ensures same { OnErr result (deleted.new ≡ deleted.old) }
     ensures clean { NothingGiven task.now given.new }
-    ensures room { vec_capacity deleted.old ≤ vec_capacity deleted.new }
+    ensures notes { NotesOn deleted.old deleted.new }
 {
     match plain_step(task, operator) {
         Some(changes) => {
-            deleted.clear();
+            deleted.facts.clear();
             make_changes(task, operator, changes, deleted, state);
             Ok(())
         }
@@ -80,25 +82,25 @@ fn apply_given<T: Grounded>(
     task: &Layered<T>,
     operator: u32,
     given: &mut Items<Option<u32>>,
-    deleted: &mut Vec<Fact>,
+    deleted: &mut Deleted,
     state: &mut State,
 ) -> Result<(), StepFault>
     requires operator { operator < length task.now.operators }
     requires state { IsState task.now.variables state.old }
     requires applicable { IsApplicable state.old (operator_at task.now operator) }
     requires clean { NothingGiven task.now given.old }
-    requires room { length (operator_at task.now operator).effects ≤ vec_capacity deleted.old }
+    requires room { HasRoom deleted.old (length (operator_at task.now operator).effects) }
     ensures applies { Applies task.now state.old operator state.new result }
-    ensures deleted { OnOk result (HaveGone task.now deleted.new.items state.old state.new) }
+    ensures gone { OnOk result (NotesGone task.now deleted.new state.old state.new) }
     ensures same { OnErr result (deleted.new ≡ deleted.old) }
     ensures clean { NothingGiven task.now given.new }
-    ensures room { vec_capacity deleted.old ≤ vec_capacity deleted.new }
+    ensures notes { NotesOn deleted.old deleted.new }
 {
     if let Some(effect) = give_effects(task, operator, state, given) {
         take_back(task, operator, given);
         return Err(StepFault::Conflict { effect });
     }
-    deleted.clear();
+    deleted.facts.clear();
     write_given(task, operator, given, deleted, state);
     Ok(())
 }
@@ -120,6 +122,9 @@ fn give_effects<T: Grounded>(
         (length (operator_at task.now operator).effects) given.new) }
     ensures given_to { IsGivenTo task.now (operator_at task.now operator) given.new }
 {
+    if let Some(changes) = task.plain_changes(operator) {
+        return give_changes(task, operator, changes, given);
+    }
     // By its contract the task is well ranged and layered.
     let _ = task.task();
     for effect in 0..task.effects(operator) {
@@ -128,6 +133,33 @@ fn give_effects<T: Grounded>(
             if !give(given, change.var, change.new) {
                 return Some(effect);
             }
+        }
+    }
+    None
+}
+
+/// Does the same as `give_effects` if the operator's effects are these changes, without conditions. So they fire in each state.
+fn give_changes<T: Grounded>(
+    task: &Layered<T>,
+    operator: u32,
+    changes: &[Change],
+    given: &mut Items<Option<u32>>,
+) -> Option<u32>
+    requires operator { operator < length task.now.operators }
+    requires plain { (operator_at task.now operator).effects ≡ plain_effects changes.now }
+    requires clean { NothingGiven task.now given.old }
+    ensures some { IfSome result (λ effect. (s : List ℕ)
+        → IsFirstConflict s (operator_at task.now operator) effect) }
+    ensures none { IfNone result ((s : List ℕ) → IsGiven task.now s (operator_at task.now operator)
+        (length (operator_at task.now operator).effects) given.new) }
+    ensures given_to { IsGivenTo task.now (operator_at task.now operator) given.new }
+{
+    // By its contract the task is well ranged and layered.
+    let _ = task.task();
+    for effect in 0..task.effects(operator) {
+        let change = changes[effect as usize];
+        if !give(given, change.var, change.new) {
+            return Some(effect);
         }
     }
     None
@@ -162,25 +194,25 @@ fn take_back<T: Grounded>(task: &Layered<T>, operator: u32, given: &mut Items<Op
     }
 }
 
-/// Moves the values that are stored for the variables of the effects into the state. Adds the facts that become false to `deleted`, which
-/// must be empty.
+/// Moves the values that are stored for the variables of the effects into the state. If deleted facts are noted, adds those that become
+/// false. `deleted` must be empty.
 fn write_given<T: Grounded>(
     task: &Layered<T>,
     operator: u32,
     given: &mut Items<Option<u32>>,
-    deleted: &mut Vec<Fact>,
+    deleted: &mut Deleted,
     state: &mut State,
 )
     requires operator { operator < length task.now.operators }
     requires state { IsState task.now.variables state.old }
     requires given_to { IsGivenTo task.now (operator_at task.now operator) given.old }
-    requires empty { deleted.old.items ≡ [] }
-    requires room { length (operator_at task.now operator).effects ≤ vec_capacity deleted.old }
+    requires empty { deleted.old.facts.items ≡ [] }
+    requires room { HasRoom deleted.old (length (operator_at task.now operator).effects) }
     ensures state { IsState task.now.variables state.new }
     ensures written { (var : ℕ) → slice_index state.new var ≡ value_after given.old state.old var }
-    ensures deleted { HaveGone task.now deleted.new.items state.old state.new }
+    ensures gone { NotesGone task.now deleted.new state.old state.new }
     ensures clean { NothingGiven task.now given.new }
-    ensures room { vec_capacity deleted.old ≤ vec_capacity deleted.new }
+    ensures notes { NotesOn deleted.old deleted.new }
 {
     // By its contract the task is well ranged and layered.
     let _ = task.task();

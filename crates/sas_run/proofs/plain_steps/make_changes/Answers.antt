@@ -1,9 +1,11 @@
 -- One more change is made.
+use Rattle.std.specs.Prelude.{IsTrue}
 use Rattle.std.proofs.Common.{◌+◌, ◌<◌, length, get_or, set, sym, ap, ◌∙◌, subst, arith}
 use Rattle.std.proofs.lemmas.List.{get_or_default}
 use Rattle.sas_core.specs.declared.parts.Fact.{Fact}
 use Rattle.sas_run.specs.Given.{Replaces}
-use Rattle.sas_run.proofs.PlainSteps.{MadeSoFar, no_change, one_more_made, changes_fit, changes_within, changes_basic}
+use Rattle.sas_run.proofs.Deleted.{notes_on}
+use Rattle.sas_run.proofs.PlainSteps.{MadeSoFar, LostSoFar, no_change, one_more_made, one_more_lost, changes_fit, changes_within, changes_basic}
 use Rattle.sas_run.proofs.plain_steps.make_changes.Goals as goal
 
 pub replace-requires-clause-exists : goal.replace-requires-clause-exists
@@ -23,13 +25,18 @@ loop-change-preserved g c =
     let change = get_or changes n no_change in
     let some = c.loop-change-test.true in
     let effects = c.requires.plain.effects in
-    let more = one_more_made p c.args.state.now c.loop-change.state changes n c.loop-change.deleted.items c.loop-change.invariant.made c.requires.plain.apart some change (λ d. get_or_default changes n d no_change some)
+    let more = one_more_made p c.args.state.now c.loop-change.state changes n c.loop-change.invariant.made c.requires.plain.apart some change (λ d. get_or_default changes n d no_change some)
     (changes_within p c.args.operator c.requires.operator changes effects c.task.ensures.well_ranged n no_change some)
-    (changes_fit p c.args.operator c.requires.operator changes effects c.task.ensures.well_ranged n no_change some)
-    (changes_basic p c.args.operator c.requires.operator changes effects c.task.ensures.layered n no_change some)
-    c.replace.new.deleted.items (subst (λ f. Replaces c.loop-change.state f c.loop-change.deleted.items c.replace.new.deleted.items) c.fact.ensures c.replace.ensures.deleted) in
+    (changes_fit p c.args.operator c.requires.operator changes effects c.task.ensures.well_ranged n no_change some) in
     let now = c.replace.ensures.state ∙ ap (λ (f : Fact). set c.loop-change.state f.var f.value) c.fact.ensures in
     record {
-      made = subst (MadeSoFar p c.args.state.now changes (n + 1) c.replace.new.deleted.items) (sym now) more;
-      room = (let before = c.loop-change.invariant.room in let after = c.replace.ensures.room in omega arith);
+      made = subst (MadeSoFar p c.args.state.now changes (n + 1)) (sym now) more;
+      lost = λ noted.
+          (let before : IsTrue c.loop-change.deleted.noted = sym c.replace.ensures.notes.noted ∙ noted in
+          let replaces = subst (λ f. Replaces c.loop-change.state f c.loop-change.deleted.facts.items c.replace.new.deleted.facts.items) c.fact.ensures (c.replace.ensures.deleted before) in
+          subst (LostSoFar p c.args.state.now changes (n + 1) c.replace.new.deleted.facts.items) (sym now)
+          (one_more_lost p c.args.state.now c.loop-change.state changes n c.loop-change.invariant.made c.requires.plain.apart some change (λ d. get_or_default changes n d no_change some)
+          (changes_within p c.args.operator c.requires.operator changes effects c.task.ensures.well_ranged n no_change some) c.loop-change.deleted.facts.items (c.loop-change.invariant.lost before)
+          (changes_basic p c.args.operator c.requires.operator changes effects c.task.ensures.layered n no_change some) c.replace.new.deleted.facts.items replaces));
+      notes = notes_on c.args.deleted.now c.loop-change.deleted c.replace.new.deleted c.loop-change.invariant.notes c.replace.ensures.notes;
     }

@@ -44,6 +44,7 @@ loop-before-preserved g c =
     let on : MakesStep p progress.state (get_or steps n []) operator next = subst (λ name. MakesStep p progress.state name operator next) named c.in_ok-operator.ensures.ok in
     record {
       prepared = c.go_on.ensures.prepared;
+      noted = c.go_on.ensures.noted ∙ inv.noted;
       follows = c.in_ok-operator.ensures.follows;
       leads = rw items (subst (λ (names : List (List ℕ)). LeadsTo p names (progress.operators.items ++ operator ∷ []) next) (sym (take_more steps n [] below))
           (leads_one_more p (take n steps) progress.operators.items progress.state (get_or steps n []) operator next inv.leads on));
@@ -79,6 +80,7 @@ loop-before-init g c =
     let s = c.args.progress.now.state in
     record {
       prepared = c.requires.prepared;
+      noted = refl;
       follows = c.requires.follows;
       leads = subst (λ (operators : List ℕ). LeadsTo p [] operators s) (sym c.requires.empty) (record { initial = s; starts = c.requires.initial; goes = refl });
       one_each = ap length c.requires.empty;

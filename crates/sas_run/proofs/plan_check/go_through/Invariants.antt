@@ -2,13 +2,14 @@
 use Rattle.std.proofs.Common.{◌≡◌, ◌≤◌, length, take}
 use Rattle.std.specs.Prelude.{vec_capacity}
 use Rattle.sas_run.specs.Plans.{LeadsTo}
-use Rattle.sas_run.specs.Stepping.{IsPrepared}
+use Rattle.sas_run.specs.Stepping.{Follows, IsPrepared}
 use Rattle.sas_run.proofs.plan_check.go_through.Given as goal
 
 abbrev pub invariant-loop-before : goal.invariant-loop-before
 invariant-loop-before g l = record {
   prepared : IsPrepared g.E.Settle.ready l.layered l.stepper;
-  follows : g.E.Settle.follows l.stepper.evaluator l.layered l.progress.state;
+  noted : l.stepper.deleted.noted ≡ l.fn.stepper.deleted.noted;
+  follows : Follows g.E.Settle.follows l.layered l.stepper l.progress.state;
   leads : LeadsTo l.layered (take l.before (g.P.Stepwise.says l.plan).steps) l.progress.operators.items l.progress.state;
   one_each : length l.progress.operators.items ≡ l.before;
   room : length (g.P.Stepwise.says l.plan).steps ≤ vec_capacity l.progress.operators;

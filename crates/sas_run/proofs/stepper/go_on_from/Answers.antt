@@ -1,5 +1,5 @@
 -- The effects are applied, and the result is settled from the state before.
-use Rattle.std.proofs.Common.{arith, Err, ◌≡◌, ◌≢◌, ◌⊎◌, ℕ, ◌∷◌, List, [], is_some, sym, ◌∙◌, ap, subst, inl, inr}
+use Rattle.std.proofs.Common.{Err, ◌≡◌, ◌≢◌, ◌⊎◌, ℕ, ◌∷◌, List, [], is_some, sym, ◌∙◌, ap, subst, inl, inr}
 use Rattle.std.specs.List.{All}
 use Rattle.std.proofs.lemmas.Bool.{cases_eq}
 use Rattle.std.proofs.lemmas.Result.{err_from_is_err_and}
@@ -15,21 +15,30 @@ use Rattle.sas_meaning.proofs.Layers.{layer_cases}
 use Rattle.sas_run.specs.Stepping.{HasFactOn, ListsChanges}
 use Rattle.sas_run.specs.Running.{Steps}
 use Rattle.sas_run.proofs.Going.{passed_on}
-use Rattle.sas_run.proofs.NextStates.{effects_basic, step_from_applied}
+use Rattle.sas_run.proofs.Deleted.{room_on}
+use Rattle.sas_run.proofs.NextStates.{effects_basic, settled_if_basic, step_from_applied}
 use Rattle.sas_run.proofs.stepper.go_on_from.Goals as goal
 
 pub settle_on-requires-clause-follows : goal.settle_on-requires-clause-follows
 settle_on-requires-clause-follows g c = (
   c.args.state.now,
-  c.requires.follows,
-  subst (λ (deleted : List Fact). HaveGone c.args.layered.now deleted c.args.state.now c.apply.new.state) (sym c.as_slice.ensures.value) c.in_ok-apply.ensures.deleted,
+  c.requires.follows (sym c.apply.ensures.notes.noted ∙ c.if-stepper.true),
+  subst (λ (deleted : List Fact). HaveGone c.args.layered.now deleted c.args.state.now c.apply.new.state) (sym c.as_slice.ensures.value)
+      (c.in_ok-apply.ensures.gone c.if-stepper.true),
 )
 
-pub returns-clause-steps : goal.returns-clause-steps
-returns-clause-steps g c =
+pub returns-then-stepper-clause-steps : goal.returns-then-stepper-clause-steps
+returns-then-stepper-clause-steps g c =
     let p = c.args.layered.now in
     step_from_applied p c.args.state.now (operator_at p c.args.operator) c.apply.new.state c.settle_on.new.state
     (effects_basic p c.args.operator c.task.ensures.layered c.requires.operator) c.in_ok-apply.ensures.applies c.settle_on.ensures.settles
+
+pub returns-else-stepper-clause-steps : goal.returns-else-stepper-clause-steps
+returns-else-stepper-clause-steps g c =
+    let p = c.args.layered.now in
+    let s = c.apply.new.state in
+    step_from_applied p c.args.state.now (operator_at p c.args.operator) s s (effects_basic p c.args.operator c.task.ensures.layered c.requires.operator) c.in_ok-apply.ensures.applies
+    (settled_if_basic p s (c.requires.prepared.basic (sym c.apply.ensures.notes.noted ∙ c.if-stepper.false)) c.in_ok-apply.ensures.applies.state)
 
 -- ---- what is listed
 
@@ -63,13 +72,15 @@ lists_step p s m s' deleted touched have basic tells = record {
   ];
 }
 
-pub returns-clause-lists : goal.returns-clause-lists
-returns-clause-lists g c =
+pub returns-then-stepper-clause-lists : goal.returns-then-stepper-clause-lists
+returns-then-stepper-clause-lists g c noted =
     let p = c.args.layered.now in
     let s = c.args.state.now in
-    let deleted = c.apply.new.deleted.items in
-    lists_step p s c.apply.new.state c.settle_on.new.state deleted c.settle_on.new.touched c.in_ok-apply.ensures.deleted c.settle_on.ensures.settles.basic
-    (c.settle_on.ensures.told s c.requires.follows (subst (λ (facts : List Fact). HaveGone p facts s c.apply.new.state) (sym c.as_slice.ensures.value) c.in_ok-apply.ensures.deleted))
+    let deleted = c.apply.new.deleted.facts.items in
+    let gone = c.in_ok-apply.ensures.gone noted in
+    lists_step p s c.apply.new.state c.settle_on.new.state deleted c.settle_on.new.touched gone c.settle_on.ensures.settles.basic
+    (c.settle_on.ensures.told s (c.requires.follows (sym c.apply.ensures.notes.noted ∙ noted))
+    (subst (λ (facts : List Fact). HaveGone p facts s c.apply.new.state) (sym c.as_slice.ensures.value) gone))
 
 pub apply-requires-clause-clean : goal.apply-requires-clause-clean
 apply-requires-clause-clean g c = c.requires.prepared.clean
@@ -81,7 +92,8 @@ pub returns-in_err-apply-clause-prepared : goal.returns-in_err-apply-clause-prep
 returns-in_err-apply-clause-prepared g c = record {
   ready = c.requires.prepared.ready;
   clean = c.apply.ensures.clean;
-  room = λ operator lt. omega (arith, c.requires.prepared.room operator lt, c.apply.ensures.room);
+  room = λ operator lt. room_on c.args.stepper.now.deleted c.apply.new.deleted _ c.apply.ensures.notes (c.requires.prepared.room operator lt);
+  basic = λ none. c.requires.prepared.basic (sym c.apply.ensures.notes.noted ∙ none);
 }
 
 pub returns-in_err-apply-clause-steps : goal.returns-in_err-apply-clause-steps
@@ -91,8 +103,9 @@ returns-in_err-apply-clause-steps g c =
     subst (Steps c.args.layered.now c.args.state.now c.args.operator c.apply.new.state) (sym told) c.in_err-apply.ensures.applies
 
 pub returns-in_err-apply-clause-follows : goal.returns-in_err-apply-clause-follows
-returns-in_err-apply-clause-follows g c =
-    subst (λ (s : List ℕ). g.E.Settle.follows c.args.stepper.now.evaluator c.args.layered.now s) (sym c.in_err-apply.ensures.applies.1) c.requires.follows
+returns-in_err-apply-clause-follows g c noted =
+    subst (λ (s : List ℕ). g.E.Settle.follows c.args.stepper.now.evaluator c.args.layered.now s) (sym c.in_err-apply.ensures.applies.1)
+    (c.requires.follows (sym c.apply.ensures.notes.noted ∙ noted))
 
 pub settle_on-requires-clause-ready : goal.settle_on-requires-clause-ready
 settle_on-requires-clause-ready g c = c.requires.prepared.ready
@@ -100,12 +113,18 @@ settle_on-requires-clause-ready g c = c.requires.prepared.ready
 pub settle_on-requires-clause-state : goal.settle_on-requires-clause-state
 settle_on-requires-clause-state g c = c.in_ok-apply.ensures.applies.state
 
-pub returns-clause-prepared : goal.returns-clause-prepared
-returns-clause-prepared g c = record {
+pub returns-then-stepper-clause-prepared : goal.returns-then-stepper-clause-prepared
+returns-then-stepper-clause-prepared g c = record {
   ready = c.settle_on.ensures.ready;
   clean = c.apply.ensures.clean;
-  room = λ operator lt. omega (arith, c.requires.prepared.room operator lt, c.apply.ensures.room);
+  room = λ operator lt. room_on c.args.stepper.now.deleted c.apply.new.deleted _ c.apply.ensures.notes (c.requires.prepared.room operator lt);
+  basic = λ none. c.requires.prepared.basic (sym c.apply.ensures.notes.noted ∙ none);
 }
 
-pub returns-clause-follows : goal.returns-clause-follows
-returns-clause-follows g c = c.settle_on.ensures.follows
+pub returns-else-stepper-clause-prepared : goal.returns-else-stepper-clause-prepared
+returns-else-stepper-clause-prepared g c = record {
+  ready = c.requires.prepared.ready;
+  clean = c.apply.ensures.clean;
+  room = λ operator lt. room_on c.args.stepper.now.deleted c.apply.new.deleted _ c.apply.ensures.notes (c.requires.prepared.room operator lt);
+  basic = λ none. c.requires.prepared.basic (sym c.apply.ensures.notes.noted ∙ none);
+}

@@ -9,7 +9,7 @@ use Rattle.sas_run.proofs.steps.apply.Goals as goal
 pub returns-in-Some-clause-applies : goal.returns-in-Some-clause-applies
 returns-in-Some-clause-applies g c =
     applied_plainly c.args.task.now c.args.state.now (operator_at c.args.task.now c.args.operator) c.in-Some.changes.now
-    c.make_changes.new.deleted.items c.make_changes.new.state c.requires.applicable c.in-Some.ensures c.make_changes.ensures.made
+    c.make_changes.new.state c.requires.applicable c.in-Some.ensures c.make_changes.ensures.made
 
 pub make_changes-requires-clause-plain : goal.make_changes-requires-clause-plain
 make_changes-requires-clause-plain g c = c.in-Some.ensures
@@ -19,22 +19,16 @@ make_changes-requires-clause-empty g c = c.clear.ensures.items
 
 pub make_changes-requires-clause-room : goal.make_changes-requires-clause-room
 make_changes-requires-clause-room g c =
-    omega (arith, ap length c.in-Some.ensures.effects, length-map c.in-Some.changes.now plain_effect, c.requires.room, c.clear.ensures.capacity)
-
-pub returns-in-Some-clause-room : goal.returns-in-Some-clause-room
-returns-in-Some-clause-room g c = omega (arith, c.clear.ensures.capacity, c.make_changes.ensures.room)
+    λ noted. omega (arith, ap length c.in-Some.ensures.effects, length-map c.in-Some.changes.now plain_effect, c.requires.room noted, c.clear.ensures.capacity)
 
 pub returns-in-None-clause-applies : goal.returns-in-None-clause-applies
 returns-in-None-clause-applies g c = c.apply_given.ensures.applies
 
-pub returns-in-None-clause-deleted : goal.returns-in-None-clause-deleted
-returns-in-None-clause-deleted g c = c.apply_given.ensures.deleted
+pub returns-in-None-clause-gone : goal.returns-in-None-clause-gone
+returns-in-None-clause-gone g c = c.apply_given.ensures.gone
 
 pub returns-in-None-clause-same : goal.returns-in-None-clause-same
 returns-in-None-clause-same g c = c.apply_given.ensures.same
 
 pub returns-in-None-clause-clean : goal.returns-in-None-clause-clean
 returns-in-None-clause-clean g c = c.apply_given.ensures.clean
-
-pub returns-in-Some-clause-deleted : goal.returns-in-Some-clause-deleted
-returns-in-Some-clause-deleted g c = c.make_changes.ensures.made.lost

@@ -26,13 +26,10 @@ pub write_given-requires-clause-empty : goal.write_given-requires-clause-empty
 write_given-requires-clause-empty g c = c.clear.ensures.items
 
 pub write_given-requires-clause-room : goal.write_given-requires-clause-room
-write_given-requires-clause-room g c = omega (arith, c.requires.room, c.clear.ensures.capacity)
+write_given-requires-clause-room g c = λ noted. omega (arith, c.requires.room noted, c.clear.ensures.capacity)
 
-pub returns-clause-deleted : goal.returns-clause-deleted
-returns-clause-deleted g c = c.write_given.ensures.deleted
+pub returns-clause-gone : goal.returns-clause-gone
+returns-clause-gone g c = c.write_given.ensures.gone
 
 pub returns-clause-clean : goal.returns-clause-clean
 returns-clause-clean g c = c.write_given.ensures.clean
-
-pub returns-clause-room : goal.returns-clause-room
-returns-clause-room g c = omega (arith, c.clear.ensures.capacity, c.write_given.ensures.room)

@@ -1,8 +1,8 @@
 -- One more effect has given its value, if it fires.
-use Rattle.std.proofs.Common.{◌≡◌, ◌+◌, ◌<◌, length, sym, subst, arith, rules}
+use Rattle.std.proofs.Common.{◌≡◌, ◌+◌, ◌<◌, ℕ, List, Option, None, Some, length, sym, subst, arith, rules}
 use Rattle.std.specs.List.{All}
 use Rattle.sas_core.specs.declared.parts.Fact.{Fact}
-use Rattle.std.specs.Prelude.{slice_index}
+use Rattle.std.specs.Prelude.{IfNone, slice_index}
 use Rattle.sas_core.specs.declared.grounded.Change.{Change}
 use Rattle.sas_core.specs.Grounded.{operator_at, effect_at}
 use Rattle.sas_meaning.specs.States.{AllHold}
@@ -73,3 +73,13 @@ returns-clause-none g c =
     let o = operator_at p c.args.operator in
     let all : c.loop-effect.effect ≡ length o.effects = omega arith in
     subst (λ n. IsGiven p c.args.state.now o n c.loop-effect.given) all c.loop-effect.invariant
+
+in_this : (P : List ℕ → Type 0) (s : List ℕ) (result : Option ℕ) → IfNone result ((s : List ℕ) → P s) → IfNone result (P s)
+in_this P s None all = all s
+in_this P s (Some effect) all = all
+
+pub returns-in-Some-clause-none : goal.returns-in-Some-clause-none
+returns-in-Some-clause-none g c =
+    let p = c.args.task.now in
+    let o = operator_at p c.args.operator in
+    in_this (λ s. IsGiven p s o (length o.effects) c.give_changes.new.given) c.args.state.now c.give_changes.result c.give_changes.ensures.none

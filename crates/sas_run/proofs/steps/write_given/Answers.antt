@@ -1,14 +1,17 @@
 -- The given value of one more variable is written and removed.
 use Rattle.std.proofs.Common.{◌≡◌, ◌<◌, length, set, None, Some, refl, sym, ap, subst, ◌∙◌, inl, inr, arith}
+use Rattle.std.specs.Prelude.{IsTrue}
 use Rattle.std.proofs.lemmas.Bool.{cases_eq}
 use Rattle.sas_core.specs.declared.grounded.Change.{Change}
 use Rattle.sas_core.specs.Grounded.{operator_at, effect_at}
 use Rattle.sas_meaning.specs.Layers.{IsBasic}
 use Rattle.sas_meaning.proofs.Forced.{state_set}
+use Rattle.sas_run.specs.declared.deletions.Deleted.{Deleted}
+use Rattle.sas_run.specs.Deletions.{NotesOn}
 use Rattle.sas_run.specs.Given.{given_to}
 use Rattle.sas_run.proofs.Ranges.{no_effect, change_within}
 use Rattle.sas_run.proofs.Giving.{fewer_on_effects, one_more_taken, written_same, all_taken}
-use Rattle.sas_run.proofs.Deleted.{DeletedSoFar, nothing_deleted, deleted_more, deleted_few, deleted_in_the_end}
+use Rattle.sas_run.proofs.Deleted.{DeletedSoFar, notes_on, notes_still, nothing_deleted, deleted_more, deleted_few, deleted_in_the_end}
 use Rattle.sas_run.proofs.NextStates.{effects_basic}
 use Rattle.sas_run.proofs.steps.write_given.Goals as goal
 use Rattle.sas_run.proofs.steps.write_given.Goals.{in-Some, in_default}
@@ -21,6 +24,8 @@ loop-effect-preserved g c =
     let s = c.loop-effect.state in
     let given = c.loop-effect.given in
     let inv = c.loop-effect.invariant in
+    let deleted = c.loop-effect.deleted.facts.items in
+    let still = λ (after : Deleted) (notes : NotesOn c.loop-effect.deleted after) (noted : IsTrue after.noted). sym notes.noted ∙ noted in
     let v = c.effect_change-var.result.var in
     let on : v ≡ (effect_at o n).var = ap (λ (change : Change). change.var) c.effect_change-var.ensures in
     let exists : v < length p.variables = change_within p c.task.ensures.well_ranged c.args.operator c.requires.operator n (omega arith) c.effect_change-var.result c.effect_change-var.ensures in
@@ -39,9 +44,15 @@ loop-effect-preserved g c =
             on_effects = fewer_on_effects given v (omega arith) p o inv.on_effects;
             taken = one_more_taken given v (omega arith) o n on inv.taken;
             written = λ var. written_same given v (omega arith) s value (omega arith) at var ∙ inv.written var;
-            deleted = deleted_more p given c.args.state.now s c.loop-effect.deleted.items inv.deleted v value (omega arith) (omega arith) at basic exists w.replace.new.deleted.items w.replace.ensures.deleted;
-            few = (let more = deleted_few s (record { var = v; value = value }) c.loop-effect.deleted.items w.replace.new.deleted.items w.replace.ensures.deleted in let few = inv.few in omega arith);
-            room = (let before = inv.room in let after = w.replace.ensures.room in omega arith);
+            deleted = λ noted.
+                (let before = still w.replace.new.deleted w.replace.ensures.notes noted in
+                deleted_more p given c.args.state.now s deleted (inv.deleted before) v value (omega arith) (omega arith) at basic exists w.replace.new.deleted.facts.items (w.replace.ensures.deleted before));
+            few = λ noted.
+                (let before = still w.replace.new.deleted w.replace.ensures.notes noted in
+                let more = deleted_few s (record { var = v; value = value }) deleted w.replace.new.deleted.facts.items (w.replace.ensures.deleted before) in
+                let few = inv.few before in
+                omega arith);
+            notes = notes_on c.args.deleted.now c.loop-effect.deleted w.replace.new.deleted inv.notes w.replace.ensures.notes;
           })
       | in_default w ↦
           (let none : given_to given v ≡ None = read ∙ w.in_default.is in
@@ -54,8 +65,8 @@ loop-effect-preserved g c =
             ];
             written = inv.written;
             deleted = inv.deleted;
-            few = (let few = inv.few in omega arith);
-            room = inv.room;
+            few = λ noted. (let few = inv.few noted in omega arith);
+            notes = inv.notes;
           })
     ]
 
@@ -65,14 +76,14 @@ loop-effect-init g c = record {
   on_effects = c.requires.given_to;
   taken = λ k lt. absurd (omega arith);
   written = λ var. refl;
-  deleted = subst (DeletedSoFar c.args.task.now c.args.given.now c.args.state.now c.args.state.now) (sym c.requires.empty) (nothing_deleted c.args.task.now c.args.given.now c.args.state.now);
-  few = omega (arith, ap length c.requires.empty);
-  room = omega arith;
+  deleted = λ _. subst (DeletedSoFar c.args.task.now c.args.given.now c.args.state.now c.args.state.now) (sym c.requires.empty) (nothing_deleted c.args.task.now c.args.given.now c.args.state.now);
+  few = λ _. omega (arith, ap length c.requires.empty);
+  notes = notes_still c.args.deleted.now;
 }
 
-pub returns-clause-deleted : goal.returns-clause-deleted
-returns-clause-deleted g c =
-    deleted_in_the_end c.args.task.now c.loop-effect.given c.args.state.now c.loop-effect.state c.loop-effect.deleted.items c.loop-effect.invariant.deleted
+pub returns-clause-gone : goal.returns-clause-gone
+returns-clause-gone g c noted =
+    deleted_in_the_end c.args.task.now c.loop-effect.given c.args.state.now c.loop-effect.state c.loop-effect.deleted.facts.items (c.loop-effect.invariant.deleted noted)
 
 pub effect_change-var-requires-clause-operator : goal.effect_change-var-requires-clause-operator
 effect_change-var-requires-clause-operator g c = c.requires.operator
@@ -110,7 +121,9 @@ replace-requires-clause-exists g c =
     )
 
 pub replace-requires-clause-room : goal.replace-requires-clause-room
-replace-requires-clause-room g c = omega (arith, c.loop-effect.invariant.few, c.loop-effect.invariant.room)
+replace-requires-clause-room g c noted =
+    let inv = c.loop-effect.invariant in
+    omega (arith, inv.few noted, inv.notes.room, c.requires.room (sym inv.notes.noted ∙ noted))
 
 pub set-requires : goal.set-requires
 set-requires g c =
@@ -129,5 +142,5 @@ returns-clause-clean g c =
     let inv = c.loop-effect.invariant in
     all_taken c.args.task.now (operator_at c.args.task.now c.args.operator) c.loop-effect.effect c.loop-effect.given inv.on_effects (omega arith) inv.taken
 
-pub returns-clause-room : goal.returns-clause-room
-returns-clause-room g c = c.loop-effect.invariant.room
+pub returns-clause-notes : goal.returns-clause-notes
+returns-clause-notes g c = c.loop-effect.invariant.notes

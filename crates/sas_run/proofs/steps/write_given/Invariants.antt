@@ -1,8 +1,9 @@
 -- The given values of the variables of the effects so far are written and removed.
 use Rattle.std.proofs.Common.{◌≡◌, ℕ, ◌<◌, ◌≤◌, length, None}
-use Rattle.std.specs.Prelude.{vec_capacity}
+use Rattle.std.specs.Prelude.{IsTrue}
 use Rattle.sas_core.specs.Grounded.{operator_at, effect_at}
 use Rattle.sas_core.specs.Variables.{IsState}
+use Rattle.sas_run.specs.Deletions.{NotesOn}
 use Rattle.sas_run.specs.Given.{given_to, value_after, IsGivenTo}
 use Rattle.sas_run.proofs.Deleted.{DeletedSoFar}
 use Rattle.sas_run.proofs.steps.write_given.Given as goal
@@ -13,7 +14,7 @@ invariant-loop-effect g l = record {
   on_effects : IsGivenTo l.task (operator_at l.task l.operator) l.given;
   taken : (k : ℕ) → k < l.effect → given_to l.given (effect_at (operator_at l.task l.operator) k).var ≡ None;
   written : (var : ℕ) → value_after l.given l.state var ≡ value_after l.fn.given l.fn.state var;
-  deleted : DeletedSoFar l.task l.given l.fn.state l.state l.deleted.items;
-  few : length l.deleted.items ≤ l.effect;
-  room : vec_capacity l.fn.deleted ≤ vec_capacity l.deleted;
+  deleted : IsTrue l.deleted.noted → DeletedSoFar l.task l.given l.fn.state l.state l.deleted.facts.items;
+  few : IsTrue l.deleted.noted → length l.deleted.facts.items ≤ l.effect;
+  notes : NotesOn l.fn.deleted l.deleted;
 }

@@ -1,7 +1,6 @@
 -- The next step is made by its operator, which has a step.
-use Rattle.std.proofs.Common.{◌+◌, subst}
-use Rattle.sas_run.specs.Executions.{Executed, executed_of, Executes, Advances}
-use Rattle.sas_run.specs.Runs.{Run}
+use Rattle.std.proofs.Common.{◌+◌, ◌∙◌, subst}
+use Rattle.sas_run.specs.Executions.{Executed, executed_of, Advances}
 use Rattle.sas_run.proofs.Executing.{executed_fits, makes_step, step_goes, step_advances, step_along, goes_ahead}
 use Rattle.sas_run.proofs.execution.Execution.advance.Goals as goal
 
@@ -25,20 +24,23 @@ unwrap-requires g c =
 
 pub invariant_of-self : goal.invariant_of-self
 invariant_of-self g c =
+    let noted = c.go_on_from.ensures.noted ∙ c.self.invariant.noted in
     goes_ahead c.self.invariant c.task.ensures.layered (rw (← c.self.view_is) at c.requires) c.index-operator.result.now c.index-operator.ensures
-    c.go_on_from.new.stepper c.go_on_from.new.state (rw c.unwrap.ensures at c.go_on_from.ensures.steps) (rw c.unwrap.ensures at c.go_on_from.ensures.lists)
-    c.go_on_from.ensures.prepared c.go_on_from.ensures.follows
+    c.go_on_from.new.stepper c.go_on_from.new.state (rw c.unwrap.ensures at c.go_on_from.ensures.steps) (rw c.unwrap.ensures at c.go_on_from.ensures.lists noted)
+    c.go_on_from.ensures.prepared noted (c.go_on_from.ensures.follows noted)
 
 pub returns-clause-advances : goal.returns-clause-advances
 returns-clause-advances g c =
+    let noted = c.go_on_from.ensures.noted ∙ c.self.invariant.noted in
     let its = c.self.inside in
     let new = executed_of its.layered.now (g.P.Stepwise.says its.plan.now) c.go_on_from.new.stepper (record { state = c.go_on_from.new.state; operators = its.progress.operators }) (its.made + 1) in
     subst (λ (e : Executed). Advances e c.index-operator.result.now new) c.self.view_is
     (step_advances c.self.invariant c.task.ensures.layered (rw (← c.self.view_is) at c.requires) c.index-operator.result.now c.index-operator.ensures
-    c.go_on_from.new.stepper c.go_on_from.new.state (rw c.unwrap.ensures at c.go_on_from.ensures.steps) (rw c.unwrap.ensures at c.go_on_from.ensures.lists))
+    c.go_on_from.new.stepper c.go_on_from.new.state (rw c.unwrap.ensures at c.go_on_from.ensures.steps) (rw c.unwrap.ensures at c.go_on_from.ensures.lists noted))
 
 pub returns-clause-run : goal.returns-clause-run
 returns-clause-run g c run executes =
+    let noted = c.go_on_from.ensures.noted ∙ c.self.invariant.noted in
     step_along c.self.invariant c.task.ensures.layered (rw (← c.self.view_is) at c.requires) c.index-operator.result.now c.index-operator.ensures
-    c.go_on_from.new.stepper c.go_on_from.new.state (rw c.unwrap.ensures at c.go_on_from.ensures.steps) (rw c.unwrap.ensures at c.go_on_from.ensures.lists)
+    c.go_on_from.new.stepper c.go_on_from.new.state (rw c.unwrap.ensures at c.go_on_from.ensures.steps) (rw c.unwrap.ensures at c.go_on_from.ensures.lists noted)
     run (rw (← c.self.view_is) at executes)

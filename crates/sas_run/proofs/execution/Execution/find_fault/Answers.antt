@@ -1,5 +1,6 @@
 -- The plan ends, and the execution returns to its start.
-use Rattle.std.proofs.Common.{◌≤◌, length, subst, arith}
+use Rattle.std.proofs.Common.{subst, ap, ◌∙◌, arith}
+use Rattle.sas_run.specs.declared.deletions.Deleted.{Deleted}
 use Rattle.sas_run.specs.declared.progress.Progress.{Progress}
 use Rattle.sas_run.specs.Executions.{Executed, executed_of, IsFound}
 use Rattle.sas_run.proofs.Executing.{goes_back, goes_anew}
@@ -9,7 +10,8 @@ pub invariant_of-self : goal.invariant_of-self
 invariant_of-self g c =
     let after : Progress = record { state = c.go_back.new.state; operators = c.find_fault-fault.new.progress.operators } in
     goes_anew c.self.invariant c.task.ensures.layered (rw (← c.self.view_is) at c.requires) c.go_back.new.stepper after c.find_fault-fault.result c.go_back.ensures.initial
-    c.find_fault-fault.ensures.ends c.go_back.ensures.prepared c.go_back.ensures.follows (omega (arith, c.self.invariant.room, c.find_fault-fault.ensures.room))
+    c.find_fault-fault.ensures.ends c.go_back.ensures.prepared
+    (ap (λ (d : Deleted). d.noted) c.go_back.ensures.deleted ∙ c.find_fault-fault.ensures.noted ∙ c.self.invariant.noted) c.go_back.ensures.follows (omega (arith, c.self.invariant.room, c.find_fault-fault.ensures.room))
 
 pub returns : goal.returns
 returns g c =

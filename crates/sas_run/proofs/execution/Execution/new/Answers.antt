@@ -1,5 +1,6 @@
 -- No step is known to succeed yet.
-use Rattle.std.proofs.Common.{refl}
+use Rattle.std.proofs.Common.{refl, ap, ◌∙◌}
+use Rattle.sas_run.specs.declared.deletions.Deleted.{Deleted}
 use Rattle.sas_run.specs.Executions.{executed_of}
 use Rattle.sas_run.proofs.Executing.{executes_none}
 use Rattle.sas_run.proofs.Runs.{still}
@@ -10,6 +11,7 @@ invariant_of-result g c =
     let progress = c.in_ok-progress.progress in
     record {
       prepared = c.new-2.ensures.prepared;
+      noted = ap (λ (d : Deleted). d.noted) c.new-2.ensures.deleted ∙ c.in-Ok.ensures.noted;
       follows = c.in_ok-progress.ensures.follows;
       firsts = c.in_ok-found.ensures.firsts;
       chains = c.in_ok-found.ensures.chains;

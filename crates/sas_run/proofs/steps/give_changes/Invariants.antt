@@ -1,0 +1,8 @@
+-- The given values are exactly those of the changes so far, in each state.
+use Rattle.std.proofs.Common.{ℕ, List}
+use Rattle.sas_core.specs.Grounded.{operator_at}
+use Rattle.sas_run.specs.Given.{IsGiven}
+use Rattle.sas_run.proofs.steps.give_changes.Given as goal
+
+abbrev pub invariant-loop-effect : goal.invariant-loop-effect
+invariant-loop-effect g l = (s : List ℕ) → IsGiven l.task s (operator_at l.task l.operator) l.effect l.given
