@@ -41,7 +41,7 @@ FAMILIES = [
     Family("groups that share a fact and fall at once", "mutex", Spoiled, 2000),
     Family("groups that share a fact and fall one after another", "mutex", Chained, 500),
     Family("groups that fall, operators that rest on another", "mutex", Resting, 1000),
-    Family("operators that rely on a group for many others", "mutex", Relying, 1000),
+    Family("operators that rely on a group for many others", "mutex", Relying, 2000),
     Family("effects beside a group", "mutex", Effects, 5000),
     Family("effects and no group", "mutex", Ungrouped, 5000),
     Family("names that end alike", "plan", Names, 10000, 1),

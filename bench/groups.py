@@ -6,7 +6,7 @@ each of another:
     Spoiled     the same, and each group falls by an operator of its own
     Chained     the same, and each group falls as the next one has fallen
     Resting     groups that share facts and fall one after another, and operators that rest on a group that stays
-    Relying     operators that set a fact of 500 groups, which they keep by one more group that they share
+    Relying     operators that set a fact of 100 groups, which they keep by one more group that they share
     Effects     effects of one operator that set no fact of a group, beside one group or none
 
 A task of n objects has n of these, and at most 2 n operators. Only the groups of Relying are as many in each task, since each of its
@@ -138,7 +138,7 @@ class Relying(Grouped):
     """Fact 0 is in each group but the last, beside one of its own. Each operator sets fact 0, and asks for a fact that is in the last
     group with all own facts, so that none of these holds beside it."""
 
-    SHARING = 500
+    SHARING = 100
 
     def groups(self):
         own = [(1 + group, HOLDS) for group in range(self.SHARING)]
