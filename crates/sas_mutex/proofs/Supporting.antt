@@ -1,11 +1,11 @@
 -- Growing the basis and emptying it.
-use Rattle.std.proofs.Common.{◌≡◌, ℕ, ◌+◌, ◌<◌, ◌≤◌, Bool, true, false, List, [], ◌∷◌, ◌++◌, length, set, refl, sym, ◌∙◌, ap, subst, inl, inr, arith}
+use Rattle.std.proofs.Common.{◌≡◌, ℕ, ◌+◌, ◌<◌, ◌≤◌, Bool, true, false, List, [], length, set, refl, sym, ◌∙◌, ap, subst, inl, inr}
 use Rattle.std.specs.Prelude.{vec_capacity}
 use Rattle.std.specs.Global.{Vec}
 use Rattle.std.proofs.lemmas.Bool.{cases_eq, cases_lt, true≢false}
-use Rattle.std.proofs.lemmas.List.{length-set, get_or-set_same, get_or-set_other, get_or_past}
-use Rattle.std.proofs.lemmas.List.Elements.{All-nil, All-cons, All-append, Contains-append_left, Contains-push}
-use Rattle.std.specs.List.{All, Contains}
+use Rattle.std.proofs.lemmas.List.{get_or-set_same, get_or-set_other, get_or_past}
+use Rattle.std.proofs.lemmas.List.Elements.{All-nil}
+use Rattle.std.specs.List.{All}
 use Rattle.sas_core.specs.declared.parts.Parts.{Parts}
 use Rattle.sas_mutex.specs.declared.family.Family.{Family}
 use Rattle.sas_groups.specs.Kept.{family_of}
@@ -93,17 +93,3 @@ out_less list place group below is = elim (cases_eq group place) [
   | inl e ↦ absurd (true≢false (sym is ∙ (ap (λ (n : ℕ). family_of (set list place false) n) e ∙ out_now list place below)))
   | inr ne ↦ sym (get_or-set_other list place group false false ne) ∙ is
 ]
-
--- one more group is in the basis, and among the supports
-pub basis_more : (groups : ℕ) (before after : Family) (support : ℕ) → IsBasis groups before → support < groups
-    → after.basis ≡ set before.basis support true → after.supports ≡ before.supports ++ support ∷ [] → IsBasis groups after
-basis_more groups before after support is below basis supports = record {
-  one_each = ap length basis ∙ (length-set before.basis support true ∙ is.one_each);
-  only = λ place there. subst (λ (xs : List ℕ). Contains xs place) (sym supports) (elim (cases_eq place support) [
-    | inl e ↦ subst (Contains (before.supports ++ support ∷ [])) (sym e) (Contains-push before.supports support)
-    | inr ne ↦ Contains-append_left before.supports (support ∷ []) place
-        (is.only place (sym (get_or-set_other before.basis support place true false ne) ∙ (sym (ap (λ (xs : List Bool). family_of xs place) basis) ∙ there)))
-  ]);
-  low = subst (All (λ (n : ℕ). n < groups)) (sym supports) (All-append (λ (n : ℕ). n < groups) before.supports (support ∷ []) is.low
-      (All-cons (λ (n : ℕ). n < groups) support [] below (All-nil (λ (n : ℕ). n < groups))));
-}

@@ -1,9 +1,9 @@
 -- If no more groups were removed, the operator is at rest.
-use Rattle.std.proofs.Common.{ℕ, ◌≡◌, List, length, sym, subst, ◌∙◌, arith}
+use Rattle.std.proofs.Common.{ℕ, ◌≡◌, length, sym, subst, arith}
 use Rattle.std.specs.Global.{Vec}
 use Rattle.std.proofs.lemmas.List.Elements.{All-contains_itself}
 use Rattle.sas_mutex.specs.Basis.{IsBasis, IsOfNone}
-use Rattle.sas_mutex.specs.Falling.{Falls, FamilyHasRoom}
+use Rattle.sas_mutex.specs.Falling.{Falls}
 use Rattle.sas_mutex.proofs.FallingGroups.{falls_then, rests_on, none_newly}
 use Rattle.sas_mutex.proofs.Supporting.{none_are, same_falls, same_room}
 use Rattle.sas_mutex.proofs.greatest.look_until_quiet.Goals as goal

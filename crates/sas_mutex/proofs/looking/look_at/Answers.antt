@@ -1,6 +1,6 @@
 -- One more effect is at rest. An effect without conditions was at rest before, and stays so while
 -- others remove groups.
-use Rattle.std.proofs.Common.{◌≡◌, ℕ, ◌<◌, Bool, List, length, sym, subst, below_more, arith}
+use Rattle.std.proofs.Common.{◌≡◌, ℕ, ◌<◌, length, sym, subst, below_more, arith}
 use Rattle.sas_core.specs.declared.parts.Parts.{Parts}
 use Rattle.sas_core.specs.Grounded.{operator_at}
 use Rattle.sas_mutex.specs.Basis.{EffectKeepsByBasis}

@@ -1,5 +1,5 @@
 -- One more effect is at rest if it has no conditions, since its known facts are the recorded ones.
-use Rattle.std.proofs.Common.{◌≡◌, ℕ, ◌<◌, Bool, List, [], length, sym, subst, below_more, arith}
+use Rattle.std.proofs.Common.{◌≡◌, ℕ, ◌<◌, List, [], length, sym, subst, below_more, arith}
 use Rattle.sas_core.specs.declared.parts.Parts.{Parts}
 use Rattle.std.proofs.lemmas.Bool.{and_parts}
 use Rattle.sas_core.specs.declared.parts.Fact.{Fact}

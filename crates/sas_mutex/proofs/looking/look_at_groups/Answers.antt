@@ -1,5 +1,5 @@
 -- The effect is at rest for one more group, and in the end for all groups that contain the fact.
-use Rattle.std.proofs.Common.{ℕ, Bool, List, get_or, subst, below_more, arith}
+use Rattle.std.proofs.Common.{ℕ, below_more, arith}
 use Rattle.std.specs.List.{Contains}
 use Rattle.std.proofs.lemmas.Bool.{and_parts}
 use Rattle.std.specs.Prelude.{◌↔◌}

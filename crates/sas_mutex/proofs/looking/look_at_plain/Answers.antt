@@ -1,5 +1,5 @@
 -- Effects that never fire, assuming the basis, preserve all groups under this assumption.
-use Rattle.std.proofs.Common.{List, [], Bool, subst, sym, ◌∙◌}
+use Rattle.std.proofs.Common.{List, [], Bool, subst, sym}
 use Rattle.sas_core.specs.declared.parts.Fact.{Fact}
 use Rattle.sas_core.specs.declared.parts.Parts.{Parts}
 use Rattle.sas_core.specs.Grounded.{operator_at}

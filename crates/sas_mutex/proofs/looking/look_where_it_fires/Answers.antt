@@ -16,7 +16,6 @@ use Rattle.sas_mutex.specs.Marks.{IsClean, IsNoted, IsNotedFrom}
 use Rattle.sas_mutex.specs.ByNotes.{known_at}
 use Rattle.sas_mutex.specs.Basis.{EffectKeepsByBasis}
 use Rattle.sas_mutex.specs.Falling.{FamilyHasRoom, Falls, IsEffectAtRest, newly}
-use Rattle.sas_mutex.proofs.FallingGroups.{none_fell}
 use Rattle.sas_mutex.proofs.ToldByNotes.{clash_keeps}
 use Rattle.sas_mutex.proofs.Supporting.{grown_falls, grown_room}
 use Rattle.sas_mutex.proofs.TaskFacts.{conditions_exist}
