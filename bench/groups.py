@@ -6,9 +6,11 @@ each of another:
     Spoiled     the same, and each group falls by an operator of its own
     Chained     the same, and each group falls as the next one has fallen
     Resting     groups that share facts and fall one after another, and operators that rest on a group that stays
+    Relying     operators that set a fact of 100 groups, which they keep by one more group that they share
     Effects     effects of one operator that set no fact of a group, beside one group or none
 
-A task of n objects has n of these, and at most 2 n operators. One operator with n conditional effects on the facts of one group
+A task of n objects has n of these, and at most 2 n operators. Only the groups of Relying are as many in each task, since each of its
+operators has to be looked at with each of them. One operator with n conditional effects on the facts of one group
 isn't among them: each of its effects has to leave all other facts of the group false, so that n squared pairs are looked at.
 """
 from sas_text import both
@@ -130,6 +132,27 @@ class Resting(Grouped):
 
     def breaking(self):
         return [self.resting() + group for group in range(self.objects)] + [None]
+
+
+class Relying(Grouped):
+    """Fact 0 is in each group but the last, beside one of its own. Each operator sets fact 0, and asks for a fact that is in the last
+    group with all own facts, so that none of these holds beside it."""
+
+    SHARING = 100
+
+    def groups(self):
+        own = [(1 + group, HOLDS) for group in range(self.SHARING)]
+        return [[(0, HOLDS), fact] for fact in own] + [own + [self.asked(place) for place in range(self.objects)]]
+
+    def asked(self, place):
+        """Returns what an operator asks for."""
+        return 1 + self.SHARING + place, HOLDS
+
+    def initial(self):
+        return [NOT] * (1 + self.SHARING + self.objects)
+
+    def operators(self):
+        return [("go %d" % place, [self.asked(place)], [(0, -1, HOLDS)]) for place in range(self.objects)]
 
 
 class Effects(Grouped):

@@ -1,10 +1,10 @@
 -- The entries of groups by the numbers of their facts.
 use Rattle.std.proofs.Common.{◌≡◌, ℕ, ◌+◌, ◌-◌, ◌<◌, ◌≤◌, ◌↔◌, List, [], ◌++◌, length, get_or, refl, sym, ap, subst, ◌∙◌, inl, inr, arith}
-use Rattle.std.specs.List.{All, AllByRecursion, Contains}
+use Rattle.std.specs.List.{All, Contains}
 use Rattle.std.specs.List.Sorted.{IsNonDecreasingBy}
 use Rattle.std.proofs.lemmas.Bool.{cases_eq, cases_lt}
 use Rattle.std.proofs.lemmas.List.{get_or_append_left, get_or-append_right, length-append}
-use Rattle.std.proofs.lemmas.List.Elements.{All-from_recursion, All-weaker, Contains-get_or, Contains-append_left, Contains-append_right, Contains-append_cases}
+use Rattle.std.proofs.lemmas.List.Elements.{Contains-get_or, Contains-append_left, Contains-append_right, Contains-append_cases}
 use Rattle.sas_core.specs.declared.parts.Fact.{Fact}
 use Rattle.sas_core.specs.declared.parts.Parts.{Parts}
 use Rattle.sas_core.specs.Grounded.{group_at}
@@ -25,13 +25,6 @@ pub group_fact_exists : (p : Parts) (group : ℕ) (fact : Fact) → WellRanged p
 group_fact_exists p group fact ranged lt there =
     let listed : Listed (FactExists p.variables) (group_at p group) = holds_at (Listed (FactExists p.variables)) [] p.groups ranged.groups.each group lt in
     subst (FactExists p.variables) there.2 (holds_at (FactExists p.variables) fact (group_at p group) listed.each there.0 there.1)
-
--- facts that exist are on variables that have a first number
-pub on_numbered : (p : Parts) (firsts : List ℕ) (facts : List Fact) → length firsts ≡ length p.variables → AllByRecursion (FactExists p.variables) facts
-    → All (λ (f : Fact). f.var < length firsts) facts
-on_numbered p firsts facts one_each each = subst (λ (n : ℕ). All (λ (f : Fact). f.var < n) facts) (sym one_each)
-    (All-weaker (FactExists p.variables) (λ (f : Fact). f.var < length p.variables) (λ f exists. fact_within p f.var f.value exists) facts
-    (All-from_recursion (FactExists p.variables) facts each))
 
 -- the facts of a group, each once
 module _ (p : Parts) (own : List (List Fact)) (ranged : WellRanged p) (distinct : AreOwnLists p own) where

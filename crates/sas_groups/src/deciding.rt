@@ -30,14 +30,17 @@ impl Groups {
         self.groups.get(..self.count)
     }
 
+    /// Returns whether the group is one of these, or there are too many already.
+    #[inline(always)]
+    fn has(&self, group: u32) -> bool {
+        match self.as_slice() {
+            Some(noted) => noted.contains(&group),
+            None => true,
+        }
+    }
+
     /// Returns these groups and one more.
     fn with(self, group: u32) -> Groups {
-        let Some(noted) = self.as_slice() else {
-            return self;
-        };
-        if noted.contains(&group) {
-            return self;
-        }
         let mut groups = self.groups;
         if let Some(place) = groups.get_mut(self.count) {
             *place = group;
@@ -59,7 +62,11 @@ impl Deciding {
 
     /// Records that the group was used in a test.
     pub fn decided_by(&self, group: u32) {
-        self.noted.set(self.noted.get().with(group));
+        let noted = self.noted.get();
+        // Mostly the same group decides again.
+        if !noted.has(group) {
+            self.noted.set(noted.with(group));
+        }
     }
 
     /// Removes all groups.

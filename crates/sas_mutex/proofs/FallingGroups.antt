@@ -14,7 +14,7 @@ use Rattle.sas_groups.proofs.GreatestFamily.{group_of_larger, keeps_more}
 use Rattle.sas_mutex.specs.declared.family.Family.{Family}
 use Rattle.sas_groups.specs.Kept.{family_of}
 use Rattle.sas_mutex.specs.Effects.{IsKept, EffectKeeps, KeepsAt, KeepsWithItself}
-use Rattle.sas_mutex.specs.Basis.{EffectKeepsByBasis, KeepsByBasis, IsBasis}
+use Rattle.sas_mutex.specs.Basis.{EffectKeepsByBasis, KeepsByBasis, IsBasis, Grows}
 use Rattle.sas_mutex.specs.Falling.{IsEffectAtRest, IsAtRest, RestsAt, AreCandidates, newly, Falls, IsWithin, RestsOn}
 use Rattle.sas_mutex.proofs.ToldByNotes.{clash_keeps}
 use Rattle.sas_mutex.proofs.Keeping.{keeps_from_effects, effect_of_keeps, effect_keeps_more}
@@ -34,8 +34,6 @@ module _ (p : Parts) where
   pub none_fell : (family : Family) → Falls p family family
   none_fell family = record {
     one_each = refl;
-    same_basis = refl;
-    same_supports = refl;
     behind = sym (ap (λ (xs : List ℕ). family.fallen.items ++ xs) nothing ∙ append-nil family.fallen.items);
     exist = subst (All (λ place. place < length p.groups)) (sym nothing) (All-nil (λ place. place < length p.groups));
     gone = λ place within. absurd (let in_none = subst (λ (xs : List ℕ). Contains xs place) nothing within in omega (arith, in_none.1));
@@ -56,8 +54,6 @@ module _ (p : Parts) where
   pub falls_then : (a b c : Family) → Falls p a b → Falls p b c → Falls p a c
   falls_then a b c first second = record {
     one_each = second.one_each ∙ first.one_each;
-    same_basis = second.same_basis ∙ first.same_basis;
-    same_supports = second.same_supports ∙ first.same_supports;
     behind = second.behind ∙ (ap (λ (xs : List ℕ). xs ++ newly b c) first.behind ∙ (append_assoc a.fallen.items (newly a b) (newly b c)
         ∙ ap (λ (xs : List ℕ). a.fallen.items ++ xs) (sym both)));
     exist = subst (All (λ place. place < length p.groups)) (sym both) (All-append (λ place. place < length p.groups) (newly a b) (newly b c) first.exist second.exist);
@@ -84,11 +80,9 @@ module _ (p : Parts) where
   pub one_fell : (before after : Family) (place : ℕ) → after.kept ≡ set before.kept place false → after.fallen.items ≡ before.fallen.items ++ place ∷ []
       → place < length p.groups
       → ((other : ℕ → Bool) → IsKeptJointly p other → ((n : ℕ) → IsIn p other n → IsIn p (family_of before.kept) n) → IsIn p other place → ⊥)
-      → length before.kept ≡ length p.groups → after.basis ≡ before.basis → after.supports ≡ before.supports → Falls p before after
-  one_fell before after place kept fallen exists never one_each basis supports = record {
+      → length before.kept ≡ length p.groups → Falls p before after
+  one_fell before after place kept fallen exists never one_each = record {
     one_each = ap length kept ∙ length-set before.kept place false;
-    same_basis = basis;
-    same_supports = supports;
     behind = fallen ∙ ap (λ (xs : List ℕ). before.fallen.items ++ xs) (sym one);
     exist = subst (All (λ place. place < length p.groups)) (sym one) (All-cons (λ place. place < length p.groups) place [] exists (All-nil (λ place. place < length p.groups)));
     gone = λ n within w. both_ways (family_of after.kept place) is_out (subst (λ i. family_of after.kept i ≡ true) (only n (subst (λ (xs : List ℕ). Contains xs n) one within)) w.chosen);
@@ -189,10 +183,20 @@ module _ (p : Parts) where
       (operator_at p operator) (group_at p place) (effect_at (operator_at p operator) effect) (λ group counts. inl counts)
       (clash_keeps (IsKept p basis) (operator_at p operator) (group_at p place) (effect_at (operator_at p operator) effect) clash)
 
-  -- and stays so while others fall
-  pub effect_alone_still : (basis : List Bool) (b c : Family) (operator effect : ℕ) → Falls p b c
-      → EffectKeepsByBasis p basis b.kept operator effect → EffectKeepsByBasis p basis c.kept operator effect
-  effect_alone_still basis b c operator effect falls alone place w has = alone place (falls.less place w) has
+  -- and stays so while the basis grows
+  pub basis_grows : (b c : List Bool) (operator effect place : ℕ) → Grows b c → KeepsWithItself p b operator effect place → KeepsWithItself p c operator effect place
+  basis_grows b c operator effect place grows = effect_keeps_more (IsGroupOfOr p (family_of b) (group_at p place)) (IsGroupOfOr p (family_of c) (group_at p place))
+      (operator_at p operator) (group_at p place) (effect_at (operator_at p operator) effect)
+      (λ group either. elim either [
+        | inl in_b ↦ inl (in_b.0, record { exists = in_b.1.exists; chosen = grows in_b.0 in_b.1.chosen }, in_b.2)
+        | inr is ↦ inr is
+      ])
+
+  -- and while others fall
+  pub effect_alone_still : (b c : Family) (operator effect : ℕ) → Falls p b c → Grows b.basis c.basis
+      → EffectKeepsByBasis p b.basis b.kept operator effect → EffectKeepsByBasis p c.basis c.kept operator effect
+  effect_alone_still b c operator effect falls grows alone place w has =
+      basis_grows b.basis c.basis operator effect place grows (alone place (falls.less place w) has)
 
   -- an operator that was looked at with a basis is at rest as long as the groups of that are in the
   -- family

@@ -1,5 +1,5 @@
 -- The verdicts before operators are checked.
-use Rattle.std.proofs.Common.{◌≡◌, ◌≢◌, ℕ, ◌<◌, List, length, refl, sym, subst}
+use Rattle.std.proofs.Common.{◌≢◌, ℕ, ◌<◌, List, refl, sym, subst}
 use Rattle.std.specs.List.{All}
 use Rattle.sas_core.specs.declared.parts.Parts.{Parts}
 use Rattle.sas_core.specs.Grounded.{group_at}

@@ -17,7 +17,7 @@ use Rattle.sas_groups.specs.Index.{IsIndexOf, groups_of}
 use Rattle.sas_mutex.specs.declared.marks.Marks.{Marks}
 use Rattle.sas_mutex.specs.Effects.{IsKept}
 use Rattle.sas_mutex.specs.Firing.{EffectPlace, operator_of, effect_of}
-use Rattle.sas_mutex.specs.ByNotes.{IsNotedAt, IsSingleAt, NotBothAt, SetsBeside}
+use Rattle.sas_mutex.specs.ByNotes.{IsNotedAt, HasNoPartnerAt, NotBothAt, SetsBeside}
 use Rattle.sas_mutex.proofs.TaskFacts.{effect_fits}
 
 abbrev no_effect : Effect
@@ -62,7 +62,7 @@ module _ (f : EffectPlace) (kept : List Bool) (group : ℕ) (index : Index) (cha
 
   -- the change sets one, on another variable, where the effect fires too
   pub change_beside : (marks : Marks) (var : ℕ) → IsNotedAt f kept marks → var ≡ (effect_of f).var → SetsBeside index (get_or changes n d) var group
-      → IsSingleAt f kept group → ⊥
+      → HasNoPartnerAt f kept group → ⊥
   change_beside marks var notes var_is sets_one single = notes.noted.are.apart
       (subst (λ (conditions : List Fact). Clash (IsKept f.task kept) (known (operator_of f) (effect_of f).conditions conditions)) (no_conditions (operator_of f) changes is n d lt)
       (single n within

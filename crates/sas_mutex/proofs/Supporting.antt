@@ -1,14 +1,17 @@
--- Adding groups to the basis and emptying it.
-use Rattle.std.proofs.Common.{◌≡◌, ℕ, ◌<◌, Bool, true, false, List, [], ◌∷◌, ◌++◌, length, set, sym, ◌∙◌, ap, subst, inl, inr, arith}
-use Rattle.std.proofs.lemmas.Bool.{cases_Bool, cases_eq, cases_lt, true≢false}
-use Rattle.std.proofs.lemmas.List.{ext_get_or, length-set, get_or-set_same, get_or-set_other, get_or_past}
-use Rattle.std.proofs.lemmas.List.Elements.{All-nil, All-cons, All-append, Contains-append_left, Contains-push}
-use Rattle.std.specs.List.{All, Contains}
+-- Growing the basis and emptying it.
+use Rattle.std.proofs.Common.{◌≡◌, ℕ, ◌+◌, ◌<◌, ◌≤◌, Bool, true, false, List, [], length, set, refl, sym, ◌∙◌, ap, subst, inl, inr}
+use Rattle.std.specs.Prelude.{vec_capacity}
+use Rattle.std.specs.Global.{Vec}
+use Rattle.std.proofs.lemmas.Bool.{cases_eq, cases_lt, true≢false}
+use Rattle.std.proofs.lemmas.List.{get_or-set_same, get_or-set_other, get_or_past}
+use Rattle.std.proofs.lemmas.List.Elements.{All-nil}
+use Rattle.std.specs.List.{All}
 use Rattle.sas_core.specs.declared.parts.Parts.{Parts}
 use Rattle.sas_mutex.specs.declared.family.Family.{Family}
 use Rattle.sas_groups.specs.Kept.{family_of}
-use Rattle.sas_mutex.specs.Basis.{IsBasis, IsOfNone}
-use Rattle.sas_mutex.specs.Falling.{Falls}
+use Rattle.sas_mutex.specs.Basis.{IsBasis, IsOfNone, HasGrown}
+use Rattle.sas_mutex.specs.Falling.{count, Falls, FamilyHasRoom}
+use Rattle.sas_mutex.proofs.FallingGroups.{none_fell}
 
 -- a place at which a list is true is one of its places
 pub kept_below : (kept : List Bool) (place : ℕ) → family_of kept place ≡ true → place < length kept
@@ -17,27 +20,29 @@ kept_below kept place is = elim (cases_lt place (length kept)) [
   | inr past ↦ absurd (true≢false (sym is ∙ get_or_past kept place false past))
 ]
 
--- without supports the basis has no group
-pub of_none : (groups : ℕ) (family : Family) → IsBasis groups family → family.supports ≡ [] → IsOfNone groups family.basis
-of_none groups family is free = record {
-  one_each = is.one_each;
-  out = λ place. elim (cases_Bool (family_of family.basis place)) [
-    | inl there ↦ absurd (let among = subst (λ (xs : List ℕ). Contains xs place) free (is.only place there) in omega (arith, among.1))
-    | inr none ↦ none
-  ];
+-- no groups are a basis
+pub none_are : (groups : ℕ) (family : Family) → IsOfNone groups family.basis → family.supports ≡ [] → IsBasis groups family
+none_are groups family none free = record {
+  one_each = none.one_each;
+  only = λ place there. absurd (true≢false (sym there ∙ none.out place));
+  low = subst (All (λ (support : ℕ). support < groups)) (sym free) (All-nil (λ (support : ℕ). support < groups));
 }
 
--- there is one list of so many that keeps none
-pub one_of_none : (groups : ℕ) (a b : List Bool) → IsOfNone groups a → IsOfNone groups b → a ≡ b
-one_of_none groups a b first second = ext_get_or false a b (first.one_each ∙ sym second.one_each) (λ i _. first.out i ∙ sym (second.out i))
+-- a family with the same groups has room if it has a basis, and nothing fell
+pub same_room : (p : Parts) (before after : Family) → after.kept ≡ before.kept → after.fallen ≡ before.fallen → IsBasis (length p.groups) after
+    → FamilyHasRoom p before → FamilyHasRoom p after
+same_room p before after kept fallen basis room = record {
+  one_each = ap length kept ∙ room.one_each;
+  room = subst (λ (f : Vec ℕ). count after.kept + length f.items ≤ vec_capacity f) (sym fallen)
+      (subst (λ (k : List Bool). count k + length before.fallen.items ≤ vec_capacity before.fallen) (sym kept) room.room);
+  few = subst (λ (f : Vec ℕ). count after.kept + length f.items ≤ length p.groups) (sym fallen)
+      (subst (λ (k : List Bool). count k + length before.fallen.items ≤ length p.groups) (sym kept) room.few);
+  basis = basis;
+}
 
--- what fell while some groups were supposed to decide fell
-pub falls_without : (p : Parts) (start with after last : Family) → Falls p with after → with.kept ≡ start.kept → with.fallen ≡ start.fallen
-    → last.kept ≡ after.kept → last.fallen ≡ after.fallen → last.basis ≡ start.basis → last.supports ≡ start.supports → Falls p start last
-falls_without p start with after last falls kept fallen kept' fallen' basis supports = record {
-  one_each = ap length kept' ∙ (falls.one_each ∙ ap length kept);
-  same_basis = basis;
-  same_supports = supports;
+pub same_falls : (p : Parts) (before after : Family) → after.kept ≡ before.kept → after.fallen ≡ before.fallen → Falls p before after
+same_falls p before after kept fallen = record {
+  one_each = ap length kept;
   behind = moved.behind;
   exist = moved.exist;
   gone = moved.gone;
@@ -46,11 +51,31 @@ falls_without p start with after last falls kept fallen kept' fallen' basis supp
   none_lost = moved.none_lost;
 }
   where
-    plain : Family → Family → Family
-    plain f g = record { kept = f.kept; fallen = f.fallen; basis = g.basis; supports = g.supports }
+    plain : Family → Family
+    plain f = record { kept = f.kept; fallen = f.fallen; basis = before.basis; supports = before.supports; is_short = before.is_short }
 
-    moved : Falls p (plain start with) (plain last after)
-    moved = rw (kept', fallen', ← kept, ← fallen) falls
+    moved : Falls p before (plain after)
+    moved = rw (kept, fallen) (none_fell p before)
+
+-- the same where the basis has grown
+pub grown_room : (p : Parts) (before after : Family) → HasGrown before after → FamilyHasRoom p before → FamilyHasRoom p after
+grown_room p before after grown room =
+    same_room p before after grown.kept grown.fallen (grown.basis (length p.groups) room.basis) room
+
+pub grown_falls : (p : Parts) (before after : Family) → HasGrown before after → Falls p before after
+grown_falls p before after grown = same_falls p before after grown.kept grown.fallen
+
+-- the basis is unchanged
+pub same_grown : (family : Family) → HasGrown family family
+same_grown family = record { kept = refl; fallen = refl; basis = λ groups is. is; grows = λ place is. is }
+
+pub grown_then : (a b c : Family) → HasGrown a b → HasGrown b c → HasGrown a c
+grown_then a b c first second = record {
+  kept = second.kept ∙ first.kept;
+  fallen = second.fallen ∙ first.fallen;
+  basis = λ groups is. second.basis groups (first.basis groups is);
+  grows = λ place is. second.grows place (first.grows place is);
+}
 
 -- ---- one place of a list is set
 
@@ -68,17 +93,3 @@ out_less list place group below is = elim (cases_eq group place) [
   | inl e ↦ absurd (true≢false (sym is ∙ (ap (λ (n : ℕ). family_of (set list place false) n) e ∙ out_now list place below)))
   | inr ne ↦ sym (get_or-set_other list place group false false ne) ∙ is
 ]
-
--- one more group is in the basis, and among the supports
-pub basis_more : (groups : ℕ) (before after : Family) (support : ℕ) → IsBasis groups before → support < groups
-    → after.basis ≡ set before.basis support true → after.supports ≡ before.supports ++ support ∷ [] → IsBasis groups after
-basis_more groups before after support is below basis supports = record {
-  one_each = ap length basis ∙ (length-set before.basis support true ∙ is.one_each);
-  only = λ place there. subst (λ (xs : List ℕ). Contains xs place) (sym supports) (elim (cases_eq place support) [
-    | inl e ↦ subst (Contains (before.supports ++ support ∷ [])) (sym e) (Contains-push before.supports support)
-    | inr ne ↦ Contains-append_left before.supports (support ∷ []) place
-        (is.only place (sym (get_or-set_other before.basis support place true false ne) ∙ (sym (ap (λ (xs : List Bool). family_of xs place) basis) ∙ there)))
-  ]);
-  low = subst (All (λ (n : ℕ). n < groups)) (sym supports) (All-append (λ (n : ℕ). n < groups) before.supports (support ∷ []) is.low
-      (All-cons (λ (n : ℕ). n < groups) support [] below (All-nil (λ (n : ℕ). n < groups))));
-}

@@ -141,8 +141,8 @@ abbrev pub NotBothAt : EffectPlace → List Bool → ℕ → ℕ → Type 0
 NotBothAt f kept other place = NotBoth (IsKept f.task kept) (operator_of f)
     (group_at f.task place) (effect_of f) (effect_at (operator_of f) other)
 
-abbrev pub IsSingleAt : EffectPlace → List Bool → ℕ → Type 0
-IsSingleAt f kept place =
+abbrev pub HasNoPartnerAt : EffectPlace → List Bool → ℕ → Type 0
+HasNoPartnerAt f kept place =
     HasNoPartner (IsKept f.task kept) (operator_of f) (group_at f.task place) (effect_of f)
 
 -- the effect with this index, if it exists, can't set another fact of the group in the same step

@@ -48,11 +48,6 @@ pub record FamilyHasRoom (p : Parts) (family : Family) : Type 0 where
   pub few : count family.kept + length family.fallen.items ≤ length p.groups
   pub basis : IsBasis (length p.groups) family
 
--- the same, and the basis is empty
-pub record IsReady (p : Parts) (family : Family) : Type 0 where
-  pub room : FamilyHasRoom p family
-  pub free : family.supports ≡ []
-
 -- the family contains exactly the groups that may be exclusive
 abbrev pub AreCandidates : Parts → List Bool → Type 0
 AreCandidates p kept = (place : ℕ) → place < length p.groups
@@ -66,8 +61,6 @@ newly before after = drop (length before.fallen.items) after.fallen.items
 -- that is preserved jointly and was contained in the family before.
 pub record Falls (p : Parts) (before after : Family) : Type 0 where
   pub one_each : length after.kept ≡ length before.kept
-  pub same_basis : after.basis ≡ before.basis
-  pub same_supports : after.supports ≡ before.supports
   pub behind : after.fallen.items ≡ before.fallen.items ++ newly before after
   pub exist : All (λ place. place < length p.groups) (newly before after)
   pub gone : (place : ℕ) → Contains (newly before after) place

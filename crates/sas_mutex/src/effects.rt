@@ -14,7 +14,7 @@ ghost use Rattle.sas_groups.specs.Noting.{AreBelow, IsReadable};
 ghost use Rattle.sas_mutex.specs.ByNotes.{IsMet, SomeRemoves, RemovesByNotes, known_at};
 ghost use Rattle.sas_mutex.specs.ByNotes.{IsNotedAt, EffectKeepsGroup, EffectKeepsGroupWithItself, BothClashAt, NotBothAt};
 ghost use Rattle.sas_mutex.specs.ByNotes.{ClashesAt, SomeClashesAt, SharesBesideAt};
-ghost use Rattle.sas_mutex.specs.ByNotes.{IsSingleAt, IsApartAt, IsSingleOn, IsOnVariableBefore};
+ghost use Rattle.sas_mutex.specs.ByNotes.{HasNoPartnerAt, IsApartAt, IsSingleOn, IsOnVariableBefore};
 ghost use Rattle.sas_mutex.specs.ByNotes.{SetsBeside, SomeOther, SetsOtherValue};
 ghost use Rattle.sas_mutex.specs.ByNotes.{IsGoneAt, AreGoneAt, IsUnknownAt, IsDecidedByFirst};
 ghost use Rattle.sas_mutex.specs.Basis.{SetsNone};
@@ -124,8 +124,8 @@ impl<'a, 'b, T: Grounded> Firing<'a, 'b, T> {
         requires notes { IsNotedAt self.now kept.now marks.old }
         requires group { IsIn self.now.task (family_of kept.now) group }
         ensures notes { IsNotedAt self.now kept.now marks.new }
-        ensures yes { IsTrue result → IsSingleAt self.now kept.now group }
-        ensures no { IsFalse result → IsSingleAt self.now kept.now group → ⊥ }
+        ensures yes { IsTrue result → HasNoPartnerAt self.now kept.now group }
+        ensures no { IsFalse result → HasNoPartnerAt self.now kept.now group → ⊥ }
     {
         if self.has_more_effects(group) {
             return self.is_single_by_facts(kept, group, marks);
@@ -148,8 +148,8 @@ impl<'a, 'b, T: Grounded> Firing<'a, 'b, T> {
         requires notes { IsNotedAt self.now kept.now marks.now }
         requires group { IsIn self.now.task (family_of kept.now) group }
         requires plain { (operator_of self.now).effects ≡ plain_effects changes.now }
-        ensures yes { IsTrue result → IsSingleAt self.now kept.now group }
-        ensures no { IsFalse result → IsSingleAt self.now kept.now group → ⊥ }
+        ensures yes { IsTrue result → HasNoPartnerAt self.now kept.now group }
+        ensures no { IsFalse result → HasNoPartnerAt self.now kept.now group → ⊥ }
     {
         let var = self.task.effect_change(self.operator, self.effect).var;
         for change in changes {
@@ -179,8 +179,8 @@ impl<'a, 'b, T: Grounded> Firing<'a, 'b, T> {
         requires notes { IsNotedAt self.now kept.now marks.old }
         requires group { IsIn self.now.task (family_of kept.now) group }
         ensures notes { IsNotedAt self.now kept.now marks.new }
-        ensures yes { IsTrue result → IsSingleAt self.now kept.now group }
-        ensures no { IsFalse result → IsSingleAt self.now kept.now group → ⊥ }
+        ensures yes { IsTrue result → HasNoPartnerAt self.now kept.now group }
+        ensures no { IsFalse result → HasNoPartnerAt self.now kept.now group → ⊥ }
     {
         let var = self.task.effect_change(self.operator, self.effect).var;
         for other in 0..self.task.effects(self.operator) {
@@ -198,8 +198,8 @@ impl<'a, 'b, T: Grounded> Firing<'a, 'b, T> {
         requires notes { IsNotedAt self.now kept.now marks.old }
         requires group { IsIn self.now.task (family_of kept.now) group }
         ensures notes { IsNotedAt self.now kept.now marks.new }
-        ensures yes { IsTrue result → IsSingleAt self.now kept.now group }
-        ensures no { IsFalse result → IsSingleAt self.now kept.now group → ⊥ }
+        ensures yes { IsTrue result → HasNoPartnerAt self.now kept.now group }
+        ensures no { IsFalse result → HasNoPartnerAt self.now kept.now group → ⊥ }
     {
         let facts = self.index.facts_of(self.task, group);
         for place in 0..facts.len() {
@@ -218,7 +218,7 @@ impl<'a, 'b, T: Grounded> Firing<'a, 'b, T> {
         requires group { IsIn self.now.task (family_of kept.now) group }
         ensures notes { IsNotedAt self.now kept.now marks.new }
         ensures yes { IsTrue result → IsSingleOn self.now kept.now group var }
-        ensures no { IsFalse result → IsSingleAt self.now kept.now group → ⊥ }
+        ensures no { IsFalse result → HasNoPartnerAt self.now kept.now group → ⊥ }
     {
         match self.index.effects_on(self.task, self.operator, var) {
             Some(effects) => self.is_single_among(kept, group, effects, marks),
@@ -232,7 +232,7 @@ impl<'a, 'b, T: Grounded> Firing<'a, 'b, T> {
         requires group { IsIn self.now.task (family_of kept.now) group }
         ensures notes { IsNotedAt self.now kept.now marks.new }
         ensures yes { IsTrue result → All (IsApartAt self.now kept.now group) effects.now }
-        ensures no { IsFalse result → IsSingleAt self.now kept.now group → ⊥ }
+        ensures no { IsFalse result → HasNoPartnerAt self.now kept.now group → ⊥ }
     {
         for other in effects {
             if *other < self.task.effects(self.operator)
@@ -432,10 +432,11 @@ impl<'a, 'b, T: Grounded> Firing<'a, 'b, T> {
         if let Some(fact) = self.noted(group, marks).only() {
             return self.is_gone(kept, fact, marks);
         }
+        let var = self.task.effect_change(self.operator, self.effect).var;
         let mut left = self.index.facts_of(self.task, group);
         for length in self.index.runs.as_slice()[group as usize].as_slice() {
             let (run, rest) = left.split_at(*length as usize);
-            if !self.run_is_gone(kept, run, marks) {
+            if !self.run_is_gone(kept, var, run, marks) {
                 return false;
             }
             left = rest;
@@ -443,10 +444,11 @@ impl<'a, 'b, T: Grounded> Firing<'a, 'b, T> {
         true
     }
 
-    /// Returns whether none of these facts can remain. They must be on one variable, and none of them may be known. If it is the variable
-    /// of the effect, or another value of it is known, no fact needs to be checked.
-    fn run_is_gone(&self, kept: &[bool], run: &[Fact], marks: &Marks) -> bool
+    /// Returns whether none of these facts can remain, given the variable of this effect. They must be on one variable, and none of them may
+    /// be known. If it is the variable of the effect, or another value of it is known, no fact needs to be checked.
+    fn run_is_gone(&self, kept: &[bool], var: u32, run: &[Fact], marks: &Marks) -> bool
         requires notes { IsNotedAt self.now kept.now marks.now }
+        requires var { var ≡ (effect_of self.now).var }
         requires exist { All (FactExists self.now.task.variables) run.now }
         requires one { AreOnOne run.now }
         requires unknown { All (IsUnknownAt self.now) run.now }
@@ -455,11 +457,11 @@ impl<'a, 'b, T: Grounded> Firing<'a, 'b, T> {
     {
         // For the proof: accessing a field makes the invariant of the effect available.
         let _ = &self.index;
-        if self.is_settled(run, &marks.known) {
+        if self.is_settled(var, run, &marks.known) {
             return true;
         }
         for fact in run {
-            if !self.is_gone(kept, *fact, marks) {
+            if !self.goes(kept, var, *fact, marks) {
                 return false;
             }
         }
@@ -467,14 +469,15 @@ impl<'a, 'b, T: Grounded> Firing<'a, 'b, T> {
     }
 
     /// Returns whether the first of the facts, if any, is on the variable of the effect, or a value of its variable is known.
-    fn is_settled(&self, run: &[Fact], notes: &Notes) -> bool
+    #[inline(always)]
+    fn is_settled(&self, var: u32, run: &[Fact], notes: &Notes) -> bool
+        requires var { var ≡ (effect_of self.now).var }
         requires values { All (λ (f : Fact). f.var < length notes.now.values) run.now }
         ensures { IsTrue result → IsDecidedByFirst (effect_of self.now) run.now notes.now }
     {
         match run.first() {
             Some(first) => {
-                self.task.effect_change(self.operator, self.effect).var == first.var
-                    || notes.values.as_slice()[first.var as usize].is_some()
+                var == first.var || notes.values.as_slice()[first.var as usize].is_some()
             }
             None => true,
         }
@@ -488,7 +491,22 @@ impl<'a, 'b, T: Grounded> Firing<'a, 'b, T> {
         ensures yes { IsTrue result → IsGoneAt self.now kept.now fact }
         ensures no { IsFalse result → IsGoneAt self.now kept.now fact → ⊥ }
     {
-        if self.task.effect_change(self.operator, self.effect).var == fact.var {
+        let var = self.task.effect_change(self.operator, self.effect).var;
+        self.goes(kept, var, fact, marks)
+    }
+
+    /// `is_gone`, given the variable of this effect.
+    #[inline(always)]
+    fn goes(&self, kept: &[bool], var: u32, fact: Fact, marks: &Marks) -> bool
+        requires notes { IsNotedAt self.now kept.now marks.now }
+        requires var { var ≡ (effect_of self.now).var }
+        requires fact { FactExists self.now.task.variables fact }
+        ensures yes { IsTrue result → IsGoneAt self.now kept.now fact }
+        ensures no { IsFalse result → IsGoneAt self.now kept.now fact → ⊥ }
+    {
+        // For the proof: accessing a field makes the invariant of the effect available.
+        let _ = &self.task;
+        if var == fact.var {
             return true;
         }
         self.clashes(kept, fact, marks) || self.is_removed(fact, &marks.known)

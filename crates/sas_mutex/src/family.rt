@@ -1,10 +1,11 @@
 // The family: the groups that may still be preserved jointly.
-ghost use Rattle.std.specs.Prelude.{◌≡◌, ◌⊎◌, ◌≤◌, ◌+◌, ◌++◌, [], ◌∷◌, false, ℕ, ◌<◌, length, Contains, IsTrue, All, slice_set, vec_capacity};
+ghost use Rattle.std.specs.Prelude.{◌≡◌, ◌≤◌, ◌+◌, ◌++◌, [], ◌∷◌, false, ℕ, ◌<◌, length, IsTrue, All, slice_set, vec_capacity};
 ghost use Rattle.sas_groups.specs.Kept.{family_of};
 ghost use Rattle.sas_mutex.specs.Falling.{count};
-ghost use Rattle.sas_mutex.specs.Basis.{IsBasis, IsBasisKept, IsOfNone, IsWithout};
+ghost use Rattle.sas_mutex.specs.Basis.{IsBasis, IsBasisKept, HasGrown, IsOfNone, IsWithout};
 
 use sas_core::Items;
+use sas_groups::MOST_GROUPS;
 
 /// The groups that may still be preserved jointly, and those that were removed.
 pub struct Family {
@@ -12,11 +13,14 @@ pub struct Family {
     pub kept: Items<bool>,
     /// The removed groups, in the order of their removal.
     pub fallen: Vec<u32>,
-    /// The groups that are assumed besides a group itself to check whether an effect preserves the group whichever others are removed:
-    /// none, or those on which an operator may depend.
+    /// The groups that are assumed besides a group itself to check whether an effect preserves the group whichever others are removed.
+    /// They are those on which the current operator depends, as far as it was checked.
     pub basis: Items<bool>,
     /// The groups of the basis as a list. They are few.
     pub supports: Items<u32>,
+    /// Whether the operator depends on more groups than the basis may have. Then the basis isn't used any more. It is a hint that no
+    /// contract mentions.
+    pub is_short: bool,
 }
 
 impl Drop for Family {
@@ -26,6 +30,7 @@ impl Drop for Family {
             fallen,
             basis,
             supports,
+            is_short: _,
         } = self;
         drop(kept);
         drop(fallen);
@@ -56,11 +61,14 @@ impl Family {
         }
     }
 
-    /// Returns whether all groups of the basis are in the family.
+    /// Returns whether the basis is used and all its groups are in the family.
     #[inline(always)]
     pub fn has_basis(&self) -> bool
         ensures { IsTrue result → (groups : ℕ) → IsBasis groups self.now → IsBasisKept self.now }
     {
+        if self.is_short {
+            return false;
+        }
         for support in self.supports.as_slice() {
             if !self.has(*support) {
                 return false;
@@ -69,36 +77,31 @@ impl Family {
         true
     }
 
-    /// Uses these groups as the basis; if memory runs out, only some of them. The basis must be empty.
-    pub fn set_basis(&mut self, groups: &[u32])
-        requires none { self.old.supports ≡ [] }
-        requires basis { IsBasis (length self.old.basis) self.old }
-        ensures kept { self.new.kept ≡ self.old.kept }
-        ensures fallen { self.new.fallen ≡ self.old.fallen }
-        ensures basis { IsBasis (length self.old.basis) self.new }
-        ensures of { All (Contains groups.now) self.new.supports }
+    /// Adds these groups to the basis. If they are too many, as `None` is, or memory runs out, the basis isn't used any more.
+    pub fn grow_basis(&mut self, groups: Option<&[u32]>)
+        ensures { HasGrown self.old self.new }
     {
+        let Some(groups) = groups else {
+            self.is_short = true;
+            return;
+        };
         for group in groups {
             self.support(*group);
         }
     }
 
-    /// Adds the group to the basis, unless the group doesn't exist or memory runs out.
+    /// Adds the group to the basis, if it exists.
     fn support(&mut self, group: u32)
-        requires basis { IsBasis (length self.old.basis) self.old }
-        ensures kept { self.new.kept ≡ self.old.kept }
-        ensures fallen { self.new.fallen ≡ self.old.fallen }
-        ensures basis { IsBasis (length self.old.basis) self.new }
-        ensures supports { (self.new.supports ≡ self.old.supports)
-            ⊎ (self.new.supports ≡ self.old.supports ++ group ∷ []) }
+        ensures { HasGrown self.old self.new }
     {
-        if group as usize >= self.basis.len() {
+        if group as usize >= self.basis.len() || self.basis.as_slice()[group as usize] {
             return;
         }
-        match self.supports.push(group) {
-            Ok(()) => self.basis.set(group as usize, true),
-            Err(_) => {}
+        if self.supports.len() >= MOST_GROUPS || self.supports.push(group).is_err() {
+            self.is_short = true;
+            return;
         }
+        self.basis.set(group as usize, true);
     }
 
     /// Removes all groups from the basis.
@@ -111,6 +114,7 @@ impl Family {
     {
         take_out(&mut self.basis, self.supports.as_slice());
         self.supports.clear();
+        self.is_short = false;
     }
 
     /// Removes the group from the family and appends it to the removed groups.

@@ -3,7 +3,7 @@ ghost use Rattle.std.specs.Prelude.{◌≡◌, ◌<◌, ◌≤◌, ℕ, [], leng
 ghost use Rattle.sas_groups.specs.Families.{IsIn, IsGreatest};
 ghost use Rattle.sas_groups.specs.Kept.{family_of};
 ghost use Rattle.sas_mutex.specs.Marks.{IsClean};
-ghost use Rattle.sas_mutex.specs.Falling.{IsReady, AreCandidates, newly, Falls, IsAtRest, RestsOn};
+ghost use Rattle.sas_mutex.specs.Falling.{FamilyHasRoom, AreCandidates, newly, Falls, IsAtRest, RestsOn};
 ghost use Rattle.sas_mutex.specs.Basis.{KeepsByBasis};
 ghost use Rattle.sas_mutex.specs.Watching.{AreUnwatched, AreWatched, FallenAreUnwatched, IsUnwatched, StayUnwatched, IsWatchedAnew, AreLooseAtRest, RestsBy, WatchesMore};
 
@@ -26,7 +26,7 @@ pub fn find_greatest<T: Grounded>(
         AreUnwatched (length p.groups) (length p.operators) watches.old }
     requires candidates { AreCandidates indexed.now family.old.kept }
     requires none { family.old.fallen.items ≡ [] }
-    requires ready { IsReady indexed.now family.old }
+    requires room { FamilyHasRoom indexed.now family.old }
     requires clean { IsClean indexed.now marks.old }
     ensures greatest { IsGreatest indexed.now (family_of family.new.kept) }
     ensures one_each { length family.new.kept ≡ length indexed.now.groups }
@@ -52,7 +52,7 @@ fn look_at_loose<T: Grounded>(
     requires watched { AreWatched indexed.now family.old watches.old }
     requires told { let fallen = family.old.fallen.items in
         FallenAreUnwatched fallen (length fallen) watches.old }
-    requires ready { IsReady indexed.now family.old }
+    requires room { FamilyHasRoom indexed.now family.old }
     requires clean { IsClean indexed.now marks.old }
     ensures falls { Falls indexed.now family.old family.new }
     ensures rest { AreLooseAtRest indexed.now family.new.kept
@@ -60,7 +60,7 @@ fn look_at_loose<T: Grounded>(
     ensures watched { AreWatched indexed.now family.new watches.new }
     ensures told { let fallen = family.old.fallen.items in
         FallenAreUnwatched fallen (length fallen) watches.new }
-    ensures ready { IsReady indexed.now family.new }
+    ensures room { FamilyHasRoom indexed.now family.new }
     ensures clean { IsClean indexed.now marks.new }
 {
     for operator in 0..indexed.task.operators() {
@@ -81,13 +81,13 @@ fn tell_watching<T: Grounded>(
     requires watched { AreWatched indexed.now family.old watches.old }
     requires from { from ≤ length family.old.fallen.items }
     requires told { FallenAreUnwatched family.old.fallen.items from watches.old }
-    requires ready { IsReady indexed.now family.old }
+    requires room { FamilyHasRoom indexed.now family.old }
     requires clean { IsClean indexed.now marks.old }
     ensures falls { Falls indexed.now family.old family.new }
     ensures watched { AreWatched indexed.now family.new watches.new }
     ensures told { let fallen = family.new.fallen.items in
         FallenAreUnwatched fallen (length fallen) watches.new }
-    ensures ready { IsReady indexed.now family.new }
+    ensures room { FamilyHasRoom indexed.now family.new }
     ensures clean { IsClean indexed.now marks.new }
 {
     let mut next = from;
@@ -109,13 +109,13 @@ fn tell_of<T: Grounded>(
     requires group { group < length indexed.now.groups }
     requires fell { IsTrue (family_of family.old.kept group) → ⊥ }
     requires watched { AreWatched indexed.now family.old watches.old }
-    requires ready { IsReady indexed.now family.old }
+    requires room { FamilyHasRoom indexed.now family.old }
     requires clean { IsClean indexed.now marks.old }
     ensures falls { Falls indexed.now family.old family.new }
     ensures watched { AreWatched indexed.now family.new watches.new }
     ensures told { IsUnwatched watches.new group }
     ensures still { StayUnwatched family.old.kept watches.old watches.new }
-    ensures ready { IsReady indexed.now family.new }
+    ensures room { FamilyHasRoom indexed.now family.new }
     ensures clean { IsClean indexed.now marks.new }
 {
     let mut next = watches.last.as_slice()[group as usize];
@@ -138,14 +138,14 @@ fn look_once<T: Grounded>(
 )
     requires operator { operator < length indexed.now.operators }
     requires watched { AreWatched indexed.now family.old watches.old }
-    requires ready { IsReady indexed.now family.old }
+    requires room { FamilyHasRoom indexed.now family.old }
     requires clean { IsClean indexed.now marks.old }
     ensures falls { Falls indexed.now family.old family.new }
     ensures rest { IsAtRest indexed.now family.new.kept
         (newly family.old family.new) operator }
     ensures watched { AreWatched indexed.now family.new watches.new }
     ensures anew { IsWatchedAnew operator family.new.kept watches.old watches.new }
-    ensures ready { IsReady indexed.now family.new }
+    ensures room { FamilyHasRoom indexed.now family.new }
     ensures clean { IsClean indexed.now marks.new }
 {
     let start = watches.made.len() as u32;
@@ -167,7 +167,7 @@ fn comes_to_rest<T: Grounded>(
 ) -> bool
     requires operator { operator < length indexed.now.operators }
     requires watched { AreWatched indexed.now family.old watches.old }
-    requires ready { IsReady indexed.now family.old }
+    requires room { FamilyHasRoom indexed.now family.old }
     requires clean { IsClean indexed.now marks.old }
     ensures falls { Falls indexed.now family.old family.new }
     ensures rest { IsAtRest indexed.now family.new.kept
@@ -175,22 +175,15 @@ fn comes_to_rest<T: Grounded>(
     ensures watches { WatchesMore operator family.new.kept watches.old watches.new }
     ensures rests { IsTrue result → RestsBy indexed.now family.new.kept
         watches.new.made operator (length watches.old.made) }
-    ensures ready { IsReady indexed.now family.new }
+    ensures room { FamilyHasRoom indexed.now family.new }
     ensures clean { IsClean indexed.now marks.new }
 {
-    if look_until_quiet(indexed, operator, family, marks) {
-        return true;
-    }
-    let deciders = marks.deciding.groups();
-    let Some(groups) = deciders.as_slice() else {
-        return false;
-    };
-    rests_on(indexed, operator, groups, family, marks)
-        && watches.watch_all(operator, groups, family)
+    look_until_quiet(indexed, operator, family, marks)
+        && watches.watch_all(operator, family.supports.as_slice(), family)
 }
 
-/// Removes every group that the operator may break, until none is left. Returns true only if each remaining group is preserved without help
-/// from another group.
+/// Removes every group that the operator may break, until none is left. Returns true only if it preserves each remaining group as long as
+/// all groups of the basis are in the family.
 fn look_until_quiet<T: Grounded>(
     indexed: &IndexedTask<'_, '_, T>,
     operator: u32,
@@ -198,43 +191,21 @@ fn look_until_quiet<T: Grounded>(
     marks: &mut Marks,
 ) -> bool
     requires operator { operator < length indexed.now.operators }
-    requires ready { IsReady indexed.now family.old }
+    requires room { FamilyHasRoom indexed.now family.old }
     requires clean { IsClean indexed.now marks.old }
     ensures falls { Falls indexed.now family.old family.new }
     ensures rest { IsAtRest indexed.now family.new.kept [] operator }
-    ensures alone { IsTrue result → RestsOn indexed.now family.new.kept [] operator }
-    ensures ready { IsReady indexed.now family.new }
+    ensures alone { IsTrue result
+        → RestsOn indexed.now family.new.kept family.new.supports operator }
+    ensures room { FamilyHasRoom indexed.now family.new }
     ensures clean { IsClean indexed.now marks.new }
 {
     loop {
         let before = family.fallen.len();
-        marks.deciding.clear();
+        family.clear_basis();
         let alone = look_at(indexed, operator, family, marks);
         if family.fallen.len() == before {
             return alone;
         }
     }
-}
-
-/// Checks the operator with these groups as the basis, which may remove more groups. Returns true only if it preserves each remaining
-/// group, assuming only these groups and that group.
-fn rests_on<T: Grounded>(
-    indexed: &IndexedTask<'_, '_, T>,
-    operator: u32,
-    groups: &[u32],
-    family: &mut Family,
-    marks: &mut Marks,
-) -> bool
-    requires operator { operator < length indexed.now.operators }
-    requires ready { IsReady indexed.now family.old }
-    requires clean { IsClean indexed.now marks.old }
-    ensures falls { Falls indexed.now family.old family.new }
-    ensures rests { IsTrue result → RestsOn indexed.now family.new.kept groups.now operator }
-    ensures ready { IsReady indexed.now family.new }
-    ensures clean { IsClean indexed.now marks.new }
-{
-    family.set_basis(groups);
-    let rests = look_at(indexed, operator, family, marks);
-    family.clear_basis();
-    rests
 }

@@ -5,7 +5,7 @@ ghost use Rattle.sas_groups.specs.Families.{IsGreatest};
 ghost use Rattle.sas_groups.specs.declared.verdict.Verdict.{Verdict};
 ghost use Rattle.sas_groups.specs.declared.verdict.Verdict.TheVariants.{Exclusive};
 ghost use Rattle.sas_groups.specs.Kept.{family_of};
-ghost use Rattle.sas_mutex.specs.Falling.{AreCandidates, IsReady};
+ghost use Rattle.sas_mutex.specs.Falling.{AreCandidates, FamilyHasRoom};
 ghost use Rattle.sas_mutex.specs.Watching.{AreUnwatched};
 ghost use Rattle.sas_mutex.specs.Firing.{effect_of};
 ghost use Rattle.sas_groups.specs.Index.{HasFact};
@@ -86,7 +86,7 @@ fn judge_by_operators<T: Grounded>(
         AreUnwatched (length p.groups) (length p.operators) watches.old }
     requires candidates { AreCandidates indexed.now family.old.kept }
     requires none { family.old.fallen.items ≡ [] }
-    requires ready { IsReady indexed.now family.old }
+    requires room { FamilyHasRoom indexed.now family.old }
     requires clean { IsClean indexed.now marks.old }
     ensures { AreJointVerdicts indexed.now verdicts.new }
 {
@@ -125,6 +125,7 @@ fn candidates(alloc: Global, verdicts: &[Verdict]) -> Result<Family, AllocError>
         fallen: Vec::with_capacity(alloc, verdicts.len())?,
         basis: Items::from_vec(vec![in alloc; false; verdicts.len()]?),
         supports: Items::from_vec(Vec::with_capacity(alloc, MOST_GROUPS)?),
+        is_short: false,
     })
 }
 

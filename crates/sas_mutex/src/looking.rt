@@ -12,7 +12,7 @@ ghost use Rattle.sas_mutex.specs.Firing.{effect_of};
 ghost use Rattle.sas_mutex.specs.Marks.{IsClean};
 ghost use Rattle.sas_mutex.specs.ByNotes.{AreNoted, IsNotedAt, EffectKeepsGroup, EffectKeepsGroupWithItself};
 ghost use Rattle.sas_mutex.specs.Falling.{FamilyHasRoom, newly, Falls, IsAtRest, IsEffectAtRest, ArePlainAtRest, RestsAt};
-ghost use Rattle.sas_mutex.specs.Basis.{KeptByBasis, KeepsByBasis, EffectKeepsByBasis, PlainKeepByBasis, PlainSetNone};
+ghost use Rattle.sas_mutex.specs.Basis.{Grows, HasGrown, KeptByBasis, KeepsByBasis, EffectKeepsByBasis, PlainKeepByBasis, PlainSetNone};
 
 use crate::effects::Firing;
 use crate::family::Family;
@@ -35,7 +35,8 @@ pub fn look_at<T: Grounded>(
     ensures falls { Falls indexed.now family.old family.new }
     ensures rest { IsAtRest indexed.now family.new.kept
         (newly family.old family.new) operator }
-    ensures alone { IsTrue result → KeepsByBasis indexed.now family.old.basis family.new.kept operator }
+    ensures alone { IsTrue result → KeepsByBasis indexed.now family.new.basis family.new.kept operator }
+    ensures grows { Grows family.old.basis family.new.basis }
     ensures room { FamilyHasRoom indexed.now family.new }
     ensures clean { IsClean indexed.now marks.new }
 {
@@ -68,8 +69,9 @@ fn look_at_plain<T: Grounded>(
     ensures rest { ArePlainAtRest indexed.now family.new.kept
         (newly family.old family.new) operator
         (length (operator_at indexed.now operator).effects) }
-    ensures alone { IsTrue result → PlainKeepByBasis indexed.now family.old.basis family.new.kept
+    ensures alone { IsTrue result → PlainKeepByBasis indexed.now family.new.basis family.new.kept
         operator (length (operator_at indexed.now operator).effects) }
+    ensures grows { Grows family.old.basis family.new.basis }
     ensures room { FamilyHasRoom indexed.now family.new }
     ensures clean { IsClean indexed.now marks.new }
 {
@@ -99,8 +101,9 @@ fn look_where_plain_fire<T: Grounded>(
     ensures rest { ArePlainAtRest indexed.now family.new.kept
         (newly family.old family.new) operator
         (length (operator_at indexed.now operator).effects) }
-    ensures alone { IsTrue result → PlainKeepByBasis indexed.now family.old.basis family.new.kept
+    ensures alone { IsTrue result → PlainKeepByBasis indexed.now family.new.basis family.new.kept
         operator (length (operator_at indexed.now operator).effects) }
+    ensures grows { Grows family.old.basis family.new.basis }
     ensures room { FamilyHasRoom indexed.now family.new }
     ensures clean { IsClean indexed.now marks.new }
 {
@@ -113,6 +116,7 @@ fn look_where_plain_fire<T: Grounded>(
         second: &[],
     };
     let mut alone = false;
+    marks.deciding.clear();
     if !note_known(
         indexed.task,
         indexed.index,
@@ -121,6 +125,9 @@ fn look_where_plain_fire<T: Grounded>(
         marks,
     ) {
         alone = look_at_each_plain(indexed, operator, family, marks);
+    } else {
+        let deciders = marks.deciding.groups();
+        family.grow_basis(deciders.as_slice());
     }
     forget_known(indexed.task, indexed.index, &premises, marks);
     alone
@@ -164,8 +171,9 @@ fn look_at_each_plain<T: Grounded>(
     ensures rest { ArePlainAtRest indexed.now family.new.kept
         (newly family.old family.new) operator
         (length (operator_at indexed.now operator).effects) }
-    ensures alone { IsTrue result → PlainKeepByBasis indexed.now family.old.basis family.new.kept
+    ensures alone { IsTrue result → PlainKeepByBasis indexed.now family.new.basis family.new.kept
         operator (length (operator_at indexed.now operator).effects) }
+    ensures grows { Grows family.old.basis family.new.basis }
     ensures room { FamilyHasRoom indexed.now family.new }
     ensures noted { AreNoted indexed.now family.new.kept
         (known (operator_at indexed.now operator) [] []) marks.new }
@@ -240,7 +248,8 @@ fn look_at_setting<T: Grounded>(
     ensures rest { let f = firing.now in IsEffectAtRest f.task family.new.kept
         (newly family.old family.new) f.operator f.effect }
     ensures alone { let f = firing.now in IsTrue result
-        → EffectKeepsByBasis f.task family.old.basis family.new.kept f.operator f.effect }
+        → EffectKeepsByBasis f.task family.new.basis family.new.kept f.operator f.effect }
+    ensures grows { Grows family.old.basis family.new.basis }
     ensures room { FamilyHasRoom firing.now.task family.new }
     ensures clean { IsClean firing.now.task marks.new }
 {
@@ -262,7 +271,8 @@ fn look_at_effect<T: Grounded>(
     ensures rest { let f = firing.now in IsEffectAtRest f.task family.new.kept
         (newly family.old family.new) f.operator f.effect }
     ensures alone { let f = firing.now in IsTrue result
-        → EffectKeepsByBasis f.task family.old.basis family.new.kept f.operator f.effect }
+        → EffectKeepsByBasis f.task family.new.basis family.new.kept f.operator f.effect }
+    ensures grows { Grows family.old.basis family.new.basis }
     ensures room { FamilyHasRoom firing.now.task family.new }
     ensures clean { IsClean firing.now.task marks.new }
 {
@@ -291,7 +301,8 @@ fn look_where_it_fires<T: Grounded>(
     ensures rest { let f = firing.now in IsEffectAtRest f.task family.new.kept
         (newly family.old family.new) f.operator f.effect }
     ensures alone { let f = firing.now in IsTrue result
-        → EffectKeepsByBasis f.task family.old.basis family.new.kept f.operator f.effect }
+        → EffectKeepsByBasis f.task family.new.basis family.new.kept f.operator f.effect }
+    ensures grows { Grows family.old.basis family.new.basis }
     ensures room { FamilyHasRoom firing.now.task family.new }
     ensures clean { IsClean firing.now.task marks.new }
 {
@@ -303,6 +314,7 @@ fn look_where_it_fires<T: Grounded>(
         second: &[],
     };
     let mut alone = false;
+    marks.deciding.clear();
     if !note_known(
         firing.task,
         firing.index,
@@ -311,6 +323,9 @@ fn look_where_it_fires<T: Grounded>(
         marks,
     ) {
         alone = look_at_groups(firing, family, marks);
+    } else {
+        let deciders = marks.deciding.groups();
+        family.grow_basis(deciders.as_slice());
     }
     forget_known(firing.task, firing.index, &premises, marks);
     alone
@@ -328,7 +343,8 @@ fn look_at_groups<T: Grounded>(
     ensures rest { let f = firing.now in IsEffectAtRest f.task family.new.kept
         (newly family.old family.new) f.operator f.effect }
     ensures alone { let f = firing.now in IsTrue result
-        → EffectKeepsByBasis f.task family.old.basis family.new.kept f.operator f.effect }
+        → EffectKeepsByBasis f.task family.new.basis family.new.kept f.operator f.effect }
+    ensures grows { Grows family.old.basis family.new.basis }
     ensures room { FamilyHasRoom firing.now.task family.new }
     ensures notes { IsNotedAt firing.now family.new.kept marks.new }
 {
@@ -363,7 +379,8 @@ fn look_at_group<T: Grounded>(
     ensures rest { let f = firing.now in RestsAt f.task family.new.kept
         (newly family.old family.new) f.operator f.effect group }
     ensures alone { let f = firing.now in IsTrue result
-        → KeptByBasis f.task family.old.basis family.new.kept f.operator f.effect group }
+        → KeptByBasis f.task family.new.basis family.new.kept f.operator f.effect group }
+    ensures grows { Grows family.old.basis family.new.basis }
     ensures room { FamilyHasRoom firing.now.task family.new }
     ensures notes { IsNotedAt firing.now family.new.kept marks.new }
 {
@@ -375,11 +392,33 @@ fn look_at_group<T: Grounded>(
     if keeps_by_basis(firing, group, family, marks) {
         return true;
     }
+    marks.deciding.clear();
     if firing.keeps_by_notes(family.kept.as_slice(), group, marks) {
-        return false;
+        return keeps_by_more(firing, group, family, marks);
     }
     family.take_away(group);
     true
+}
+
+/// Adds the groups that were used in the last test to the basis. Returns true only if the effect then preserves the group, assuming only
+/// the basis and the group itself.
+#[inline(never)]
+fn keeps_by_more<T: Grounded>(
+    firing: &Firing<'_, '_, T>,
+    group: u32,
+    family: &mut Family,
+    marks: &mut Marks,
+) -> bool
+    requires group { group < length firing.now.task.groups }
+    requires room { FamilyHasRoom firing.now.task family.old }
+    requires notes { IsNotedAt firing.now family.old.kept marks.old }
+    ensures basis { IsTrue result → EffectKeepsGroupWithItself firing.now family.new.basis group }
+    ensures grown { HasGrown family.old family.new }
+    ensures notes { IsNotedAt firing.now family.old.kept marks.new }
+{
+    let deciders = marks.deciding.groups();
+    family.grow_basis(deciders.as_slice());
+    keeps_by_basis(firing, group, family, marks)
 }
 
 /// Returns true only if all groups of the basis are in the family and the effect preserves the group, assuming only these groups and the

@@ -34,7 +34,7 @@ loop-before-preserved g c =
       falls = falls_then p start now after (falls_then p start before now c.loop-before.invariant.falls c.look_at_loose.ensures.falls) turn.falls;
       watched = turn.watched;
       told = turn.told;
-      ready = turn.ready;
+      room = turn.room;
       clean = turn.clean;
     }
 
@@ -46,7 +46,7 @@ loop-before-init g c =
       falls = none_fell p family;
       watched = none_watched p family c.args.watches.now c.requires.unwatched c.requires.none;
       told = λ place lt. absurd (omega (arith, lt, ap length c.requires.none));
-      ready = c.requires.ready;
+      room = c.requires.room;
       clean = c.requires.clean;
     }
 
@@ -56,14 +56,14 @@ look_at_loose-requires-clause-watched g c = c.loop-before.invariant.watched
 pub look_at_loose-requires-clause-told : goal.look_at_loose-requires-clause-told
 look_at_loose-requires-clause-told g c = c.loop-before.invariant.told
 
-pub look_at_loose-requires-clause-ready : goal.look_at_loose-requires-clause-ready
-look_at_loose-requires-clause-ready g c = c.loop-before.invariant.ready
+pub look_at_loose-requires-clause-room : goal.look_at_loose-requires-clause-room
+look_at_loose-requires-clause-room g c = c.loop-before.invariant.room
 
 pub look_at_loose-requires-clause-clean : goal.look_at_loose-requires-clause-clean
 look_at_loose-requires-clause-clean g c = c.loop-before.invariant.clean
 
 pub returns-then-len-before-clause-one_each : goal.returns-then-len-before-clause-one_each
-returns-then-len-before-clause-one_each g c = c.look_at_loose.ensures.ready.room.one_each
+returns-then-len-before-clause-one_each g c = c.look_at_loose.ensures.room.one_each
 
 pub returns-then-len-before-clause-clean : goal.returns-then-len-before-clause-clean
 returns-then-len-before-clause-clean g c = c.look_at_loose.ensures.clean
@@ -86,8 +86,8 @@ tell_watching-requires-clause-told g c =
     (sym (ap (λ (xs : List ℕ). get_or xs place 0) c.look_at_loose.ensures.falls.behind ∙ get_or_append_left before.fallen.items (newly before now) 0 place early))
     (c.look_at_loose.ensures.told place early))
 
-pub tell_watching-requires-clause-ready : goal.tell_watching-requires-clause-ready
-tell_watching-requires-clause-ready g c = c.look_at_loose.ensures.ready
+pub tell_watching-requires-clause-room : goal.tell_watching-requires-clause-room
+tell_watching-requires-clause-room g c = c.look_at_loose.ensures.room
 
 pub tell_watching-requires-clause-clean : goal.tell_watching-requires-clause-clean
 tell_watching-requires-clause-clean g c = c.look_at_loose.ensures.clean
@@ -102,7 +102,7 @@ loop-before-smaller g c =
       arith,
       fallen_grow p before now c.look_at_loose.ensures.falls,
       fallen_grow p now after c.tell_watching.ensures.falls,
-      c.look_at_loose.ensures.ready.room.few,
+      c.look_at_loose.ensures.room.few,
       c.len.ensures,
       c.len-before.ensures,
       c.if-len-before.false,

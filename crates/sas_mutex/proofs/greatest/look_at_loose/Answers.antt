@@ -31,8 +31,8 @@ loop-operator-preserved g c =
             ];
             watched = turn.watched;
             told = told_more p start.fallen.items (length start.fallen.items) before.kept w now (fell_first p start before inv.falls inv.watched.fell)
-                (stay_told p before after w now k turn.falls turn.ready.room.one_each turn.anew) inv.told;
-            ready = turn.ready;
+                (stay_told p before after w now k turn.falls turn.room.one_each turn.anew) inv.told;
+            room = turn.room;
             clean = turn.clean;
           })
       | else-is_loose t ↦ rw (t.family-is, t.watches-is, t.marks-is) record {
@@ -43,7 +43,7 @@ loop-operator-preserved g c =
         ];
         watched = inv.watched;
         told = inv.told;
-        ready = inv.ready;
+        room = inv.room;
         clean = inv.clean;
       }
     ]

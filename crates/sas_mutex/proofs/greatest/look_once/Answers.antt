@@ -16,7 +16,7 @@ returns-then-comes_to_rest-clause-watched g c =
     let turn = c.comes_to_rest.ensures in
     let start = c.len-start.result in
     watched_anew p c.args.family.now after w now.made now.last c.set.new.self now.room c.args.operator (Some start)
-    turn.falls turn.ready.room.one_each c.requires.operator c.requires.watched turn.watches.made turn.watches.chained turn.watches.one_each turn.watches.few
+    turn.falls turn.room.one_each c.requires.operator c.requires.watched turn.watches.made turn.watches.chained turn.watches.one_each turn.watches.few
     (c.set.ensures ∙ ap (λ (xs : List (Option ℕ)). set xs c.args.operator (Some start)) turn.watches.since)
     (λ from is. subst (RestsBy p after.kept now.made c.args.operator) (sym c.len-start.ensures ∙ same_inside start from is) (turn.rests c.if-comes_to_rest.true))
 
@@ -27,6 +27,6 @@ returns-clause-watched g c =
     let now = c.comes_to_rest.new.watches in
     let turn = c.comes_to_rest.ensures in
     watched_anew p c.args.family.now c.comes_to_rest.new.family w now.made now.last c.set-2.new.self now.room c.args.operator None
-    turn.falls turn.ready.room.one_each c.requires.operator c.requires.watched turn.watches.made turn.watches.chained turn.watches.one_each turn.watches.few
+    turn.falls turn.room.one_each c.requires.operator c.requires.watched turn.watches.made turn.watches.chained turn.watches.one_each turn.watches.few
     (c.set-2.ensures ∙ ap (λ (xs : List (Option ℕ)). set xs c.args.operator None) turn.watches.since)
     (λ from is. absurd (let none : None ≡ Some from = is in cc))

@@ -1,13 +1,13 @@
 -- The operator may have removed groups.
 use Rattle.std.proofs.Common.{◌-◌, length}
-use Rattle.sas_mutex.specs.Falling.{IsReady, Falls}
+use Rattle.sas_mutex.specs.Falling.{FamilyHasRoom, Falls}
 use Rattle.sas_mutex.specs.Marks.{IsClean}
 use Rattle.sas_mutex.proofs.greatest.look_until_quiet.Given as goal
 
 abbrev pub invariant-loop-operator : goal.invariant-loop-operator
 invariant-loop-operator g l = record {
   falls : Falls l.indexed l.fn.family l.family;
-  ready : IsReady l.indexed l.family;
+  room : FamilyHasRoom l.indexed l.family;
   clean : IsClean l.indexed l.marks;
 }
 

@@ -22,7 +22,7 @@ loop-next-preserved-then-counts g c =
     let same = c.as_slice-in-Some.ensures in
     let operator = (watch_at made at).operator in
     let told = subst (IsUnwatchedBehind w group) c.in-Some.is inv.told in
-    let one_each = turn.ready.room.one_each in
+    let one_each = turn.room.one_each in
     record {
       falls = falls_then p start before after inv.falls turn.falls;
       watched = turn.watched;
@@ -31,9 +31,9 @@ loop-next-preserved-then-counts g c =
           (over_now p before after w now operator turn.falls one_each turn.anew at told.0 (ap (λ (xs : List Watch). (watch_at xs at).operator) (sym same)))
           (subst (λ (xs : List Watch). IsLastBelow w.made at group (watch_at xs at).before) (sym same)
           (subst (λ (n : ℕ). IsLastBelow w.made at n (watch_at w.made at).before) told.1 (inv.watched.chained.of_watches at told.0)));
-      still = stay_then p start before c.args.watches.now w now inv.falls inv.ready.room.one_each inv.still
+      still = stay_then p start before c.args.watches.now w now inv.falls inv.room.one_each inv.still
           (stay_told p before after w now operator turn.falls one_each turn.anew);
-      ready = turn.ready;
+      room = turn.room;
       clean = turn.clean;
     }
 
@@ -54,6 +54,6 @@ loop-next-preserved g c =
           (subst (λ (xs : List Watch). IsLastBelow w.made at group (watch_at xs at).before) (sym same)
           (subst (λ (n : ℕ). IsLastBelow w.made at n (watch_at w.made at).before) told.1 (inv.watched.chained.of_watches at told.0)));
       still = inv.still;
-      ready = inv.ready;
+      room = inv.room;
       clean = inv.clean;
     }

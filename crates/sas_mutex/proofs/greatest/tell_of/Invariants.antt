@@ -1,6 +1,6 @@
 -- After the next watch of the group, no watch of the group is valid any more.
 use Rattle.std.proofs.Common.{ℕ, ◌+◌, Option, Some, None}
-use Rattle.sas_mutex.specs.Falling.{IsReady, Falls}
+use Rattle.sas_mutex.specs.Falling.{FamilyHasRoom, Falls}
 use Rattle.sas_mutex.specs.Watching.{AreWatched, IsUnwatchedBehind, StayUnwatched}
 use Rattle.sas_mutex.specs.Marks.{IsClean}
 use Rattle.sas_mutex.proofs.greatest.tell_of.Given as goal
@@ -11,7 +11,7 @@ invariant-loop-next g l = record {
   watched : AreWatched l.indexed l.family l.watches;
   told : IsUnwatchedBehind l.watches l.group l.next;
   still : StayUnwatched l.fn.family.kept l.fn.watches l.watches;
-  ready : IsReady l.indexed l.family;
+  room : FamilyHasRoom l.indexed l.family;
   clean : IsClean l.indexed l.marks;
 }
 

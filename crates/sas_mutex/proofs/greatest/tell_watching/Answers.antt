@@ -36,6 +36,6 @@ loop-next-preserved g c =
             | inl e ↦ subst (λ (n : ℕ). IsUnwatched now (get_or fallen n 0)) (sym e) here
             | inr ne ↦ first place (omega arith)
           ]);
-      ready = turn.ready;
+      room = turn.room;
       clean = turn.clean;
     }

@@ -1,6 +1,6 @@
 -- All operators that watched one of the removed groups so far were checked again.
 use Rattle.std.proofs.Common.{◌-◌, ◌≤◌, length}
-use Rattle.sas_mutex.specs.Falling.{IsReady, Falls}
+use Rattle.sas_mutex.specs.Falling.{FamilyHasRoom, Falls}
 use Rattle.sas_mutex.specs.Watching.{AreWatched, FallenAreUnwatched}
 use Rattle.sas_mutex.specs.Marks.{IsClean}
 use Rattle.sas_mutex.proofs.greatest.tell_watching.Given as goal
@@ -11,7 +11,7 @@ invariant-loop-next g l = record {
   falls : Falls l.indexed l.fn.family l.family;
   watched : AreWatched l.indexed l.family l.watches;
   told : FallenAreUnwatched l.family.fallen.items l.next l.watches;
-  ready : IsReady l.indexed l.family;
+  room : FamilyHasRoom l.indexed l.family;
   clean : IsClean l.indexed l.marks;
 }
 

@@ -1,6 +1,6 @@
 -- One more effect is at rest. An effect without conditions was at rest before, and stays so while
 -- others remove groups.
-use Rattle.std.proofs.Common.{◌≡◌, ℕ, ◌<◌, Bool, List, length, sym, subst, below_more, arith}
+use Rattle.std.proofs.Common.{◌≡◌, ℕ, ◌<◌, length, sym, subst, below_more, arith}
 use Rattle.sas_core.specs.declared.parts.Parts.{Parts}
 use Rattle.sas_core.specs.Grounded.{operator_at}
 use Rattle.sas_mutex.specs.Basis.{EffectKeepsByBasis}
@@ -38,11 +38,11 @@ loop-effect-preserved g c =
                 (λ k lt. effect_since p start before after c.args.operator k inv.falls falls (inv.rest k lt))
                 (effect_now p start before after c.args.operator c.loop-effect.effect inv.falls falls
                 (subst (λ (q : Parts). IsEffectAtRest q after.kept (newly before after) operator effect) is turn.rest));
-            plain_alone = λ t k lt without. effect_alone_still p start.basis before after c.args.operator k falls (inv.plain_alone (both t).0 k lt without);
+            plain_alone = λ t k lt without. effect_alone_still p before after c.args.operator k falls turn.grows (inv.plain_alone (both t).0 k lt without);
             alone = λ t. below_more _ _
-                (λ k lt. effect_alone_still p start.basis before after c.args.operator k falls (inv.alone (both t).0 k lt))
-                (subst (λ (basis : List Bool). EffectKeepsByBasis p basis after.kept operator effect) inv.falls.same_basis
-                (subst (λ (q : Parts). EffectKeepsByBasis q before.basis after.kept operator effect) is (turn.alone (both t).1)));
+                (λ k lt. effect_alone_still p before after c.args.operator k falls turn.grows (inv.alone (both t).0 k lt))
+                (subst (λ (q : Parts). EffectKeepsByBasis q after.basis after.kept operator effect) is (turn.alone (both t).1));
+            grows = λ place is. turn.grows place (inv.grows place is);
           })
       | else-not-is_plain w ↦ rw (w.family-is, w.marks-is, w.alone-is) record {
         falls = inv.falls;
@@ -51,6 +51,7 @@ loop-effect-preserved g c =
         plain = inv.plain;
         rest = below_more _ _ inv.rest (inv.plain effect (omega (arith, count)) (subst (λ (q : Parts). IsUnconditional q operator effect) is (c.is_plain.ensures.yes w.if-not-is_plain.false)));
         plain_alone = inv.plain_alone;
+        grows = inv.grows;
         alone = λ t. below_more _ _ (inv.alone t) (inv.plain_alone t effect (omega (arith, count)) (subst (λ (q : Parts). IsUnconditional q operator effect) is (c.is_plain.ensures.yes w.if-not-is_plain.false)));
       }
     ]
@@ -78,6 +79,7 @@ loop-effect-init g c =
       rest = λ k lt. absurd (omega arith);
       plain_alone = plain.alone;
       alone = λ t k lt. absurd (omega arith);
+      grows = plain.grows;
     }
 
 pub is_plain-requires-clause-operator : goal.is_plain-requires-clause-operator
@@ -120,3 +122,6 @@ returns-clause-room g c = c.loop-effect.invariant.room
 
 pub returns-clause-clean : goal.returns-clause-clean
 returns-clause-clean g c = c.loop-effect.invariant.clean
+
+pub returns-clause-grows : goal.returns-clause-grows
+returns-clause-grows g c = c.loop-effect.invariant.grows

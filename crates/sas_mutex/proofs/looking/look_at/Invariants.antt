@@ -2,7 +2,7 @@
 use Rattle.std.proofs.Common.{◌≡◌, ℕ, ◌<◌, true, length}
 use Rattle.sas_core.specs.Grounded.{operator_at}
 use Rattle.sas_mutex.specs.Falling.{FamilyHasRoom, Falls, newly, IsEffectAtRest, ArePlainAtRest}
-use Rattle.sas_mutex.specs.Basis.{EffectKeepsByBasis, PlainKeepByBasis}
+use Rattle.sas_mutex.specs.Basis.{EffectKeepsByBasis, PlainKeepByBasis, Grows}
 use Rattle.sas_mutex.specs.Marks.{IsClean}
 use Rattle.sas_mutex.proofs.looking.look_at.Given as goal
 
@@ -14,6 +14,7 @@ invariant-loop-effect g l = record {
   plain : ArePlainAtRest l.indexed l.family.kept (newly l.fn.family l.family) l.operator
       (length (operator_at l.indexed l.operator).effects);
   rest : (k : ℕ) → k < l.effect → IsEffectAtRest l.indexed l.family.kept (newly l.fn.family l.family) l.operator k;
-  plain_alone : l.alone ≡ true → PlainKeepByBasis l.indexed l.fn.family.basis l.family.kept l.operator (length (operator_at l.indexed l.operator).effects);
-  alone : l.alone ≡ true → (k : ℕ) → k < l.effect → EffectKeepsByBasis l.indexed l.fn.family.basis l.family.kept l.operator k;
+  plain_alone : l.alone ≡ true → PlainKeepByBasis l.indexed l.family.basis l.family.kept l.operator (length (operator_at l.indexed l.operator).effects);
+  alone : l.alone ≡ true → (k : ℕ) → k < l.effect → EffectKeepsByBasis l.indexed l.family.basis l.family.kept l.operator k;
+  grows : Grows l.fn.family.basis l.family.basis;
 }

@@ -1,5 +1,5 @@
 -- One more effect is at rest if it has no conditions, since its known facts are the recorded ones.
-use Rattle.std.proofs.Common.{◌≡◌, ℕ, ◌<◌, Bool, List, [], length, sym, subst, below_more, arith}
+use Rattle.std.proofs.Common.{◌≡◌, ℕ, ◌<◌, List, [], length, sym, subst, below_more, arith}
 use Rattle.sas_core.specs.declared.parts.Parts.{Parts}
 use Rattle.std.proofs.lemmas.Bool.{and_parts}
 use Rattle.sas_core.specs.declared.parts.Fact.{Fact}
@@ -42,15 +42,16 @@ loop-effect-preserved g c =
                 (λ without. effect_now p start before after c.args.operator c.loop-effect.effect inv.falls falls
                 (subst (λ (q : Parts). IsEffectAtRest q after.kept (newly before after) operator effect) is turn.rest));
             alone = λ t. below_more _ _
-                (λ k lt without. effect_alone_still p start.basis before after c.args.operator k falls (inv.alone (both t).0 k lt without))
-                (λ without. subst (λ (basis : List Bool). EffectKeepsByBasis p basis after.kept operator effect) inv.falls.same_basis
-                (subst (λ (q : Parts). EffectKeepsByBasis q before.basis after.kept operator effect) is (turn.alone (both t).1)));
+                (λ k lt without. effect_alone_still p before after c.args.operator k falls turn.grows (inv.alone (both t).0 k lt without))
+                (λ without. subst (λ (q : Parts). EffectKeepsByBasis q after.basis after.kept operator effect) is (turn.alone (both t).1));
+            grows = λ place is. turn.grows place (inv.grows place is);
           })
       | else-is_plain w ↦ rw (w.family-is, w.marks-is, w.alone-is) record {
         falls = inv.falls;
         room = inv.room;
         noted = inv.noted;
         rest = below_more _ _ inv.rest (λ without. absurd (subst (λ (q : Parts). IsUnconditional q operator effect → ⊥) is (c.is_plain.ensures.no w.if-is_plain.false) without));
+        grows = inv.grows;
         alone = λ t. below_more _ _ (inv.alone t) (λ without. absurd (subst (λ (q : Parts). IsUnconditional q operator effect → ⊥) is (c.is_plain.ensures.no w.if-is_plain.false) without));
       }
     ]
@@ -62,6 +63,7 @@ loop-effect-init g c = record {
   noted = c.requires.noted;
   rest = λ effect lt. absurd (omega arith);
   alone = λ t effect lt. absurd (omega arith);
+  grows = λ place is. is;
 }
 
 pub effects-effects-requires : goal.effects-effects-requires
@@ -114,3 +116,6 @@ returns-clause-room g c = c.loop-effect.invariant.room
 
 pub returns-clause-noted : goal.returns-clause-noted
 returns-clause-noted g c = c.loop-effect.invariant.noted
+
+pub returns-clause-grows : goal.returns-clause-grows
+returns-clause-grows g c = c.loop-effect.invariant.grows

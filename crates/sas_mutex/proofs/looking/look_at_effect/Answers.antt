@@ -18,9 +18,9 @@ returns-else-basis_decides-clause-alone g c =
     let q = c.firing.inside.task.now in
     let o = operator_at q c.firing.inside.operator in
     let e = effect_at o c.firing.inside.effect in
-    let same = c.look_where_it_fires-basis_decides.ensures.falls.same_basis in
-    rw (← c.firing.view_is) (λ t place in_family has. clash_by_basis q c.args.family.now.basis c.firing.inside.operator c.firing.inside.effect place
-    (subst (λ (basis : List Bool). Clash (IsKept q basis) (known o e.conditions [])) (c.as_slice-basis.ensures ∙ same)
+    let basis = c.look_where_it_fires-basis_decides.new.family.basis in
+    rw (← c.firing.view_is) (λ t place in_family has. clash_by_basis q basis c.firing.inside.operator c.firing.inside.effect place
+    (subst (λ (xs : List Bool). Clash (IsKept q xs) (known o e.conditions [])) c.as_slice-basis.ensures
     (subst (λ (conditions : List Fact). Clash (IsKept q c.as_slice-basis.result.now) (known o conditions [])) c.effect_conditions.ensures (c.never_fires.ensures.yes t))))
 
 pub look_where_it_fires-basis_decides-requires-clause-room : goal.look_where_it_fires-basis_decides-requires-clause-room
@@ -72,3 +72,9 @@ returns-else-basis_decides-clause-room g c = c.look_where_it_fires-basis_decides
 
 pub returns-else-basis_decides-clause-clean : goal.returns-else-basis_decides-clause-clean
 returns-else-basis_decides-clause-clean g c = subst (λ (f : EffectPlace). IsClean f.task c.never_fires.new.marks) c.firing.view_is c.never_fires.ensures.clean
+
+pub returns-then-basis_decides-clause-grows : goal.returns-then-basis_decides-clause-grows
+returns-then-basis_decides-clause-grows g c = c.look_where_it_fires-basis_decides.ensures.grows
+
+pub returns-else-basis_decides-clause-grows : goal.returns-else-basis_decides-clause-grows
+returns-else-basis_decides-clause-grows g c = c.look_where_it_fires-basis_decides.ensures.grows

@@ -2,7 +2,7 @@
 -- isn't.
 use Rattle.std.specs.List.{All, Contains}
 use Rattle.std.proofs.Common.{◌≡◌, ◌<◌, ℕ, Bool, true, false, List, length, sym, ap, subst, ◌∙◌, arith, rules}
-use Rattle.std.proofs.lemmas.Bool.{true≢false, both_ways}
+use Rattle.std.proofs.lemmas.Bool.{both_ways}
 use Rattle.std.proofs.lemmas.List.{length-set, length_push, get_or-set_same}
 use Rattle.sas_core.specs.Grounded.{operator_at, effect_at, group_at}
 use Rattle.sas_groups.specs.Families.{IsIn}
@@ -11,9 +11,11 @@ use Rattle.sas_groups.specs.Kept.{family_of}
 use Rattle.sas_mutex.specs.Effects.{IsKept, EffectKeeps}
 use Rattle.sas_mutex.specs.Firing.{EffectPlace, operator_of}
 use Rattle.sas_mutex.proofs.Counting.{count_fell}
+use Rattle.sas_mutex.proofs.Supporting.{grown_falls, grown_room}
+use Rattle.sas_mutex.specs.Basis.{Grows}
 use Rattle.sas_mutex.proofs.FallingGroups.{none_fell, one_fell, never_jointly}
 use Rattle.sas_mutex.specs.Falling.{count, Falls, FamilyHasRoom, RestsAt, newly}
-use Rattle.sas_mutex.specs.ByNotes.{IsNotedFor, IsNotedAt, EffectKeepsGroup}
+use Rattle.sas_mutex.specs.ByNotes.{IsNotedFor, IsNotedAt, EffectKeepsGroup, EffectKeepsGroupWithItself}
 use Rattle.sas_mutex.proofs.ToldByNotes.{noted_fewer}
 use Rattle.sas_mutex.proofs.looking.look_at_group.Goals as goal
 use Rattle.sas_mutex.proofs.looking.look_at_group.Given.{Over}
@@ -32,7 +34,9 @@ returns-then-keeps_by_basis-clause-rest g c =
     record { keeps = λ none w. c.keeps_by_basis.ensures.kept c.if-keeps_by_basis.true w }
 
 pub returns-then-keeps_by_basis-clause-alone : goal.returns-then-keeps_by_basis-clause-alone
-returns-then-keeps_by_basis-clause-alone g c t w = c.keeps_by_basis.ensures.basis c.if-keeps_by_basis.true
+returns-then-keeps_by_basis-clause-alone g c t w =
+    subst (λ (family : Family). EffectKeepsGroupWithItself c.args.firing.now family.basis c.args.group) (sym c.keeps_by_basis.ensures.same)
+    (c.keeps_by_basis.ensures.basis c.if-keeps_by_basis.true)
 
 pub returns-then-keeps_by_basis-clause-room : goal.returns-then-keeps_by_basis-clause-room
 returns-then-keeps_by_basis-clause-room g c = subst (FamilyHasRoom c.args.firing.now.task) (sym c.keeps_by_basis.ensures.same) c.requires.room
@@ -40,9 +44,6 @@ returns-then-keeps_by_basis-clause-room g c = subst (FamilyHasRoom c.args.firing
 pub returns-then-keeps_by_basis-clause-notes : goal.returns-then-keeps_by_basis-clause-notes
 returns-then-keeps_by_basis-clause-notes g c =
     subst (λ (family : Family). IsNotedAt c.args.firing.now family.kept c.keeps_by_basis.new.marks) (sym c.keeps_by_basis.ensures.same) c.keeps_by_basis.ensures.notes
-
-pub returns-then-keeps_by_notes-clause-alone : goal.returns-then-keeps_by_notes-clause-alone
-returns-then-keeps_by_notes-clause-alone g c t = absurd (true≢false (sym t))
 
 -- what falls, of the family as it stands after the test by the basis
 fell : (g : Over) (c : After-take_away g) → Falls c.args.firing.now.task c.args.family.now c.take_away.new.self
@@ -59,8 +60,7 @@ fell g c =
     c.requires.has
     (λ keeps. c.keeps_by_notes.ensures.no c.if-keeps_by_notes.false (subst (λ (kept : List Bool). EffectKeeps (IsKept p kept) o (group_at p c.args.group) (effect_at o c.args.firing.now.effect))
     (sym c.as_slice-2.ensures) keeps)))
-    (subst (λ (family : Family). length family.kept ≡ length p.groups) (sym c.keeps_by_basis.ensures.same) c.requires.room.one_each)
-    c.take_away.ensures.basis c.take_away.ensures.supports)
+    (subst (λ (family : Family). length family.kept ≡ length p.groups) (sym c.keeps_by_basis.ensures.same) c.requires.room.one_each))
 
 pub returns-clause-falls : goal.returns-clause-falls
 returns-clause-falls g c = fell g (goal.at.returns-clause-falls g c).After-take_away
@@ -151,22 +151,46 @@ pub keeps_by_notes-requires-clause-group : goal.keeps_by_notes-requires-clause-g
 keeps_by_notes-requires-clause-group g c =
     subst (λ (kept : List Bool). IsIn c.args.firing.now.task (family_of kept) c.args.group) (sym c.as_slice-2.ensures) (here g c)
 
+pub keeps_by_more-requires-clause-group : goal.keeps_by_more-requires-clause-group
+keeps_by_more-requires-clause-group g c = c.requires.group
+
+pub keeps_by_more-requires-clause-room : goal.keeps_by_more-requires-clause-room
+keeps_by_more-requires-clause-room g c = subst (FamilyHasRoom c.args.firing.now.task) (sym c.keeps_by_basis.ensures.same) c.requires.room
+
+pub keeps_by_more-requires-clause-notes : goal.keeps_by_more-requires-clause-notes
+keeps_by_more-requires-clause-notes g c =
+    subst (λ (kept : List Bool). IsNotedAt c.args.firing.now kept c.keeps_by_notes.new.marks) c.as_slice-2.ensures c.keeps_by_notes.ensures.notes
+
 pub returns-then-keeps_by_notes-clause-falls : goal.returns-then-keeps_by_notes-clause-falls
 returns-then-keeps_by_notes-clause-falls g c =
     let p = c.args.firing.now.task in
-    subst (Falls p c.args.family.now) (sym c.keeps_by_basis.ensures.same) (none_fell p c.args.family.now)
+    let after = c.keeps_by_more.new.family in
+    subst (λ (family : Family). Falls p family after) c.keeps_by_basis.ensures.same (grown_falls p c.keeps_by_basis.new.family after c.keeps_by_more.ensures.grown)
 
 pub returns-then-keeps_by_notes-clause-rest : goal.returns-then-keeps_by_notes-clause-rest
 returns-then-keeps_by_notes-clause-rest g c =
     let f = c.args.firing.now in
-    record { keeps = λ none w. subst (λ (kept : List Bool). EffectKeepsGroup f kept c.args.group) c.as_slice-2.ensures (c.keeps_by_notes.ensures.yes c.if-keeps_by_notes.true) }
+    record {
+      keeps = λ none w. subst (λ (kept : List Bool). EffectKeepsGroup f kept c.args.group) (c.as_slice-2.ensures ∙ sym c.keeps_by_more.ensures.grown.kept)
+          (c.keeps_by_notes.ensures.yes c.if-keeps_by_notes.true);
+    }
+
+pub returns-then-keeps_by_notes-clause-alone : goal.returns-then-keeps_by_notes-clause-alone
+returns-then-keeps_by_notes-clause-alone g c t w = c.keeps_by_more.ensures.basis t
+
+pub returns-then-keeps_by_notes-clause-grows : goal.returns-then-keeps_by_notes-clause-grows
+returns-then-keeps_by_notes-clause-grows g c =
+    subst (λ (family : Family). Grows family.basis c.keeps_by_more.new.family.basis) c.keeps_by_basis.ensures.same c.keeps_by_more.ensures.grown.grows
 
 pub returns-then-keeps_by_notes-clause-room : goal.returns-then-keeps_by_notes-clause-room
-returns-then-keeps_by_notes-clause-room g c = subst (FamilyHasRoom c.args.firing.now.task) (sym c.keeps_by_basis.ensures.same) c.requires.room
+returns-then-keeps_by_notes-clause-room g c =
+    let p = c.args.firing.now.task in
+    grown_room p c.keeps_by_basis.new.family c.keeps_by_more.new.family c.keeps_by_more.ensures.grown
+    (subst (FamilyHasRoom p) (sym c.keeps_by_basis.ensures.same) c.requires.room)
 
 pub returns-then-keeps_by_notes-clause-notes : goal.returns-then-keeps_by_notes-clause-notes
 returns-then-keeps_by_notes-clause-notes g c =
-    subst (λ (kept : List Bool). IsNotedAt c.args.firing.now kept c.keeps_by_notes.new.marks) c.as_slice-2.ensures c.keeps_by_notes.ensures.notes
+    subst (λ (kept : List Bool). IsNotedAt c.args.firing.now kept c.keeps_by_more.new.marks) (sym c.keeps_by_more.ensures.grown.kept) c.keeps_by_more.ensures.notes
 
 -- ---- and one that the effect doesn't keep
 
@@ -192,3 +216,14 @@ returns-clause-rest g c = record { keeps = λ none w. absurd (fallen g c w) }
 
 pub returns-clause-alone : goal.returns-clause-alone
 returns-clause-alone g c t w = absurd (fallen g c w)
+
+pub returns-clause-grows : goal.returns-clause-grows
+returns-clause-grows g c place is =
+    subst (λ (basis : List Bool). family_of basis place ≡ true) (sym (c.take_away.ensures.basis ∙ ap (λ (family : Family). family.basis) c.keeps_by_basis.ensures.same)) is
+
+pub returns-then-keeps_by_basis-clause-grows : goal.returns-then-keeps_by_basis-clause-grows
+returns-then-keeps_by_basis-clause-grows g c place is =
+    subst (λ (family : Family). family_of family.basis place ≡ true) (sym c.keeps_by_basis.ensures.same) is
+
+pub returns-then-not-as_slice-group-clause-grows : goal.returns-then-not-as_slice-group-clause-grows
+returns-then-not-as_slice-group-clause-grows g c place is = is

@@ -1,5 +1,5 @@
 -- The effect is at rest for one more group, and in the end for all groups that contain the fact.
-use Rattle.std.proofs.Common.{ℕ, Bool, List, get_or, subst, below_more, arith}
+use Rattle.std.proofs.Common.{ℕ, below_more, arith}
 use Rattle.std.specs.List.{Contains}
 use Rattle.std.proofs.lemmas.Bool.{and_parts}
 use Rattle.std.specs.Prelude.{◌↔◌}
@@ -9,7 +9,7 @@ use Rattle.sas_groups.specs.Clashes.{sets}
 use Rattle.sas_mutex.specs.Falling.{newly, RestsAt}
 use Rattle.sas_mutex.specs.Basis.{KeptByBasis}
 use Rattle.sas_groups.specs.Index.{HasFact}
-use Rattle.sas_mutex.proofs.FallingGroups.{none_fell, falls_then, rests_later, rests_now}
+use Rattle.sas_mutex.proofs.FallingGroups.{none_fell, falls_then, rests_later, rests_now, basis_grows}
 use Rattle.sas_mutex.proofs.SetFacts.{groups_setting, at_item}
 use Rattle.sas_mutex.proofs.looking.look_at_groups.Goals as goal
 use Rattle.sas_mutex.proofs.looking.look_at_groups.Given.{Over}
@@ -47,15 +47,16 @@ loop-group-preserved g c =
           (λ k lt. rests_later p start before after c.args.firing.now.operator c.args.firing.now.effect _ inv.falls turn.falls (inv.rest k lt))
           (rests_now p start before after c.args.firing.now.operator c.args.firing.now.effect _ inv.falls turn.falls turn.rest);
       alone = λ t. let both = and_parts c.loop-group.alone c.look_at_group-alone.result t in below_more _ _
-          (λ k lt w. inv.alone both.0 k lt (turn.falls.less _ w))
-          (subst (λ (basis : List Bool). KeptByBasis p basis after.kept c.args.firing.now.operator c.args.firing.now.effect (get_or c.groups_of-groups.result.now c.loop-group.group-index 0)) inv.falls.same_basis (turn.alone both.1));
+          (λ k lt w. basis_grows p before.basis after.basis c.args.firing.now.operator c.args.firing.now.effect _ turn.grows (inv.alone both.0 k lt (turn.falls.less _ w)))
+          (turn.alone both.1);
+      grows = λ place is. turn.grows place (inv.grows place is);
     }
 
 pub returns-clause-alone : goal.returns-clause-alone
 returns-clause-alone g c =
     let p = c.args.firing.now.task in
     let at_end = (goal.at.returns-clause-alone g c).After-groups_of-groups in
-    λ t place w has. at_item (KeptByBasis p c.args.family.now.basis c.loop-group.family.kept c.args.firing.now.operator c.args.firing.now.effect) c.groups_of-groups.result.now place
+    λ t place w has. at_item (KeptByBasis p c.loop-group.family.basis c.loop-group.family.kept c.args.firing.now.operator c.args.firing.now.effect) c.groups_of-groups.result.now place
     (λ k lt. c.loop-group.invariant.alone t k (omega arith)) ((setting g at_end place).1 (record { exists = w.exists; among = has })) w
 
 pub returns-clause-rest : goal.returns-clause-rest
@@ -73,6 +74,7 @@ loop-group-init g c = record {
   notes = c.requires.notes;
   rest = λ k lt. absurd (omega arith);
   alone = λ t k lt. absurd (omega arith);
+  grows = λ place is. is;
 }
 
 pub look_at_group-alone-requires-clause-room : goal.look_at_group-alone-requires-clause-room
@@ -89,3 +91,6 @@ returns-clause-room g c = c.loop-group.invariant.room
 
 pub returns-clause-notes : goal.returns-clause-notes
 returns-clause-notes g c = c.loop-group.invariant.notes
+
+pub returns-clause-grows : goal.returns-clause-grows
+returns-clause-grows g c = c.loop-group.invariant.grows

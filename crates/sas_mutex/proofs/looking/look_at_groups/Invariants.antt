@@ -1,7 +1,7 @@
 -- The effect is at rest for the groups so far.
 use Rattle.std.proofs.Common.{◌≡◌, ℕ, ◌<◌, true, get_or}
 use Rattle.sas_mutex.specs.Falling.{FamilyHasRoom, Falls, newly, RestsAt}
-use Rattle.sas_mutex.specs.Basis.{KeptByBasis}
+use Rattle.sas_mutex.specs.Basis.{KeptByBasis, Grows}
 use Rattle.sas_mutex.specs.ByNotes.{IsNotedAt}
 use Rattle.sas_mutex.proofs.looking.look_at_groups.Given as goal
 
@@ -13,5 +13,6 @@ invariant-loop-group g l = record {
   rest : (k : ℕ) → k < l.group-index
       → RestsAt l.firing.task l.family.kept (newly l.fn.family l.family) l.firing.operator l.firing.effect (get_or l.groups k 0);
   alone : l.alone ≡ true → (k : ℕ) → k < l.group-index
-      → KeptByBasis l.firing.task l.fn.family.basis l.family.kept l.firing.operator l.firing.effect (get_or l.groups k 0);
+      → KeptByBasis l.firing.task l.family.basis l.family.kept l.firing.operator l.firing.effect (get_or l.groups k 0);
+  grows : Grows l.fn.family.basis l.family.basis;
 }

@@ -1,5 +1,5 @@
 -- Effects that never fire, assuming the basis, preserve all groups under this assumption.
-use Rattle.std.proofs.Common.{List, [], Bool, subst, sym, ◌∙◌}
+use Rattle.std.proofs.Common.{List, [], Bool, subst, sym}
 use Rattle.sas_core.specs.declared.parts.Fact.{Fact}
 use Rattle.sas_core.specs.declared.parts.Parts.{Parts}
 use Rattle.sas_core.specs.Grounded.{operator_at}
@@ -13,8 +13,8 @@ pub returns-else-basis_decides-clause-alone : goal.returns-else-basis_decides-cl
 returns-else-basis_decides-clause-alone g c t =
     let p = c.args.indexed.now in
     let o = operator_at p c.args.operator in
-    let same = c.look_where_plain_fire-basis_decides.ensures.falls.same_basis in
-    λ effect lt plain place in_family has. clash_by_basis p c.args.family.now.basis c.args.operator effect place
-    (subst (λ (conditions : List Fact). Clash (IsKept p c.args.family.now.basis) (known o conditions [])) (sym plain)
-    (subst (λ (basis : List Bool). Clash (IsKept p basis) (known o [] [])) (c.as_slice-basis.ensures ∙ same)
+    let basis = c.look_where_plain_fire-basis_decides.new.family.basis in
+    λ effect lt plain place in_family has. clash_by_basis p basis c.args.operator effect place
+    (subst (λ (conditions : List Fact). Clash (IsKept p basis) (known o conditions [])) (sym plain)
+    (subst (λ (xs : List Bool). Clash (IsKept p xs) (known o [] [])) c.as_slice-basis.ensures
     (subst (λ (q : Parts). Clash (IsKept q c.as_slice-basis.result.now) (known (operator_at q c.args.operator) [] [])) c.indexed.view_is (c.never_fires.ensures.yes t))))

@@ -16,8 +16,8 @@ use Rattle.sas_mutex.specs.Marks.{IsClean, IsNoted, IsNotedFrom}
 use Rattle.sas_mutex.specs.ByNotes.{known_at}
 use Rattle.sas_mutex.specs.Basis.{EffectKeepsByBasis}
 use Rattle.sas_mutex.specs.Falling.{FamilyHasRoom, Falls, IsEffectAtRest, newly}
-use Rattle.sas_mutex.proofs.FallingGroups.{none_fell}
 use Rattle.sas_mutex.proofs.ToldByNotes.{clash_keeps}
+use Rattle.sas_mutex.proofs.Supporting.{grown_falls, grown_room}
 use Rattle.sas_mutex.proofs.TaskFacts.{conditions_exist}
 use Rattle.sas_mutex.proofs.looking.look_where_it_fires.Goals as goal
 use Rattle.sas_mutex.proofs.looking.look_where_it_fires.Goals.{then-not-note_known, else-not-note_known}
@@ -48,7 +48,7 @@ returns-clause-falls g c =
     let p = c.args.firing.now.task in
     elim c.if-not-note_known.branch [
       | then-not-note_known w ↦ subst (Falls p c.args.family.now) (sym w.family-is) w.look_at_groups-alone.ensures.falls
-      | else-not-note_known w ↦ subst (Falls p c.args.family.now) (sym w.family-is) (none_fell p c.args.family.now)
+      | else-not-note_known w ↦ subst (Falls p c.args.family.now) (sym w.family-is) (grown_falls p c.args.family.now w.grow_basis.new.self w.grow_basis.ensures)
     ]
 
 pub returns-clause-rest : goal.returns-clause-rest
@@ -61,7 +61,7 @@ returns-clause-rest g c =
     let AtRest : Family → Type 0 = λ family. IsEffectAtRest p family.kept (newly start family) c.args.firing.now.operator c.args.firing.now.effect in
     elim c.if-not-note_known.branch [
       | then-not-note_known w ↦ subst AtRest (sym w.family-is) w.look_at_groups-alone.ensures.rest
-      | else-not-note_known w ↦ subst AtRest (sym w.family-is) (rw (← c.firing.view_is) (λ none place in_family has. clash_keeps (IsKept q start.kept) o (group_at q place) e
+      | else-not-note_known w ↦ subst AtRest (sym w.family-is) (rw (w.grow_basis.ensures.kept, ← c.firing.view_is) (λ none place in_family has. clash_keeps (IsKept q start.kept) o (group_at q place) e
           (subst (λ (kept : List Bool). Clash (IsKept q kept) (known o e.conditions [])) c.as_slice.ensures
           (subst (λ (conditions : List Fact). Clash (IsKept q c.as_slice.result.now) (known o conditions [])) c.effect_conditions.ensures
           (c.note_known.ensures.yes w.if-not-note_known.false)))))
@@ -111,10 +111,10 @@ forget_known-requires-clause-from g c =
 pub returns-clause-alone : goal.returns-clause-alone
 returns-clause-alone g c =
     let f = c.args.firing.now in
-    let Alone : List Bool → Bool → Type 0 = λ kept alone. IsTrue alone → EffectKeepsByBasis f.task c.args.family.now.basis kept f.operator f.effect in
+    let Alone : Family → Bool → Type 0 = λ family alone. IsTrue alone → EffectKeepsByBasis f.task family.basis family.kept f.operator f.effect in
     elim c.if-not-note_known.branch [
-      | then-not-note_known w ↦ subst (λ (family : Family). Alone family.kept c.if-not-note_known.alone) (sym w.family-is)
-          (subst (Alone w.look_at_groups-alone.new.family.kept) (sym w.alone-is) w.look_at_groups-alone.ensures.alone)
+      | then-not-note_known w ↦ subst (λ (family : Family). Alone family c.if-not-note_known.alone) (sym w.family-is)
+          (subst (Alone w.look_at_groups-alone.new.family) (sym w.alone-is) w.look_at_groups-alone.ensures.alone)
       | else-not-note_known w ↦ λ t. absurd (true≢false (sym t ∙ w.alone-is))
     ]
 
@@ -123,8 +123,14 @@ returns-clause-room g c =
     let p = c.args.firing.now.task in
     elim c.if-not-note_known.branch [
       | then-not-note_known w ↦ subst (FamilyHasRoom p) (sym w.family-is) w.look_at_groups-alone.ensures.room
-      | else-not-note_known w ↦ subst (FamilyHasRoom p) (sym w.family-is) c.requires.room
+      | else-not-note_known w ↦ subst (FamilyHasRoom p) (sym w.family-is) (grown_room p c.args.family.now w.grow_basis.new.self w.grow_basis.ensures c.requires.room)
     ]
 
 pub returns-clause-clean : goal.returns-clause-clean
 returns-clause-clean g c = subst (λ (f : EffectPlace). IsClean f.task c.forget_known.new.marks) c.firing.view_is c.forget_known.ensures
+
+pub returns-clause-grows : goal.returns-clause-grows
+returns-clause-grows g c = elim c.if-not-note_known.branch [
+  | then-not-note_known w ↦ rw (w.family-is) w.look_at_groups-alone.ensures.grows
+  | else-not-note_known w ↦ rw (w.family-is) w.grow_basis.ensures.grows
+]

@@ -16,6 +16,7 @@ use Rattle.sas_mutex.specs.Falling.{FamilyHasRoom}
 use Rattle.sas_mutex.specs.Basis.{PlainKeepByBasis, PlainSetNone}
 use Rattle.sas_mutex.proofs.FallingGroups.{none_fell}
 use Rattle.sas_mutex.proofs.ToldByNotes.{clash_keeps}
+use Rattle.sas_mutex.proofs.Supporting.{grown_falls, grown_room}
 use Rattle.sas_mutex.proofs.looking.look_where_plain_fire.Goals as goal
 use Rattle.sas_mutex.proofs.looking.look_where_plain_fire.Goals.{then-not-note_known, else-not-note_known}
 
@@ -24,7 +25,7 @@ returns-clause-falls g c =
     let p = c.args.indexed.now in
     elim c.if-not-note_known.branch [
       | then-not-note_known w ↦ rw (w.family-is) w.look_at_each_plain-alone.ensures.falls
-      | else-not-note_known w ↦ rw (w.family-is) (none_fell p c.args.family.now)
+      | else-not-note_known w ↦ rw (w.family-is) (grown_falls p c.args.family.now w.grow_basis.new.self w.grow_basis.ensures)
     ]
 
 pub returns-clause-rest : goal.returns-clause-rest
@@ -34,7 +35,7 @@ returns-clause-rest g c =
     let start = c.args.family.now in
     elim c.if-not-note_known.branch [
       | then-not-note_known w ↦ rw (w.family-is) w.look_at_each_plain-alone.ensures.rest
-      | else-not-note_known w ↦ rw (w.family-is) (λ effect lt plain none place in_family has. clash_keeps (IsKept p start.kept) o (group_at p place) (effect_at o effect)
+      | else-not-note_known w ↦ rw (w.family-is, w.grow_basis.ensures.kept) (λ effect lt plain none place in_family has. clash_keeps (IsKept p start.kept) o (group_at p place) (effect_at o effect)
           (subst (λ (conditions : List Fact). Clash (IsKept p start.kept) (known o conditions [])) (sym plain)
           (subst (λ (kept : List Bool). Clash (IsKept p kept) (known o [] [])) c.as_slice-2.ensures
           (subst (λ (q : Parts). Clash (IsKept q c.as_slice-2.result.now) (known (operator_at q c.args.operator) [] [])) c.indexed.view_is
@@ -115,11 +116,11 @@ forget_known-requires-clause-from g c =
 pub returns-clause-alone : goal.returns-clause-alone
 returns-clause-alone g c =
     let p = c.args.indexed.now in
-    let Alone : List Bool → Bool → Type 0 = λ kept alone. IsTrue alone
-    → PlainKeepByBasis p c.args.family.now.basis kept c.args.operator (length (operator_at p c.args.operator).effects) in
+    let Alone : Family → Bool → Type 0 = λ family alone. IsTrue alone
+    → PlainKeepByBasis p family.basis family.kept c.args.operator (length (operator_at p c.args.operator).effects) in
     elim c.if-not-note_known.branch [
-      | then-not-note_known w ↦ subst (λ (family : Family). Alone family.kept c.if-not-note_known.alone) (sym w.family-is)
-          (subst (Alone w.look_at_each_plain-alone.new.family.kept) (sym w.alone-is) w.look_at_each_plain-alone.ensures.alone)
+      | then-not-note_known w ↦ subst (λ (family : Family). Alone family c.if-not-note_known.alone) (sym w.family-is)
+          (subst (Alone w.look_at_each_plain-alone.new.family) (sym w.alone-is) w.look_at_each_plain-alone.ensures.alone)
       | else-not-note_known w ↦ λ t. absurd (true≢false (sym t ∙ w.alone-is))
     ]
 
@@ -127,8 +128,18 @@ pub returns-clause-room : goal.returns-clause-room
 returns-clause-room g c =
     elim c.if-not-note_known.branch [
       | then-not-note_known w ↦ subst (FamilyHasRoom c.args.indexed.now) (sym w.family-is) w.look_at_each_plain-alone.ensures.room
-      | else-not-note_known w ↦ subst (FamilyHasRoom c.args.indexed.now) (sym w.family-is) c.requires.room
+      | else-not-note_known w ↦ subst (FamilyHasRoom c.args.indexed.now) (sym w.family-is)
+          (grown_room c.args.indexed.now c.args.family.now w.grow_basis.new.self w.grow_basis.ensures c.requires.room)
     ]
 
 pub returns-clause-clean : goal.returns-clause-clean
 returns-clause-clean g c = subst (λ (p : Parts). IsClean p c.forget_known.new.marks) c.indexed.view_is c.forget_known.ensures
+
+pub returns-clause-grows : goal.returns-clause-grows
+returns-clause-grows g c = elim c.if-not-note_known.branch [
+  | then-not-note_known w ↦ rw (w.family-is) w.look_at_each_plain-alone.ensures.grows
+  | else-not-note_known w ↦ rw (w.family-is) w.grow_basis.ensures.grows
+]
+
+pub returns-then-not-plain_sets_one-clause-grows : goal.returns-then-not-plain_sets_one-clause-grows
+returns-then-not-plain_sets_one-clause-grows g c place is = is

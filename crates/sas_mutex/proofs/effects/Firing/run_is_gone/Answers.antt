@@ -23,13 +23,14 @@ loop-fact-preserved g c =
     let p = c.args.self.now.task in
     let o = operator_at p c.args.self.now.operator in
     each_more (IsGone (IsKept p c.args.kept.now) o (effect_at o c.args.self.now.effect)) c.args.run.now c.loop-fact.fact-index _ c.loop-fact-test.true c.loop-fact.invariant
-    (c.is_gone.ensures.yes c.if-not-is_gone.false)
+    (c.goes.ensures.yes c.if-not-goes.false)
 
-pub returns-then-not-is_gone-clause-yes : goal.returns-then-not-is_gone-clause-yes
-returns-then-not-is_gone-clause-yes g c t = absurd (true≢false (sym t))
+pub returns-then-not-goes-clause-yes : goal.returns-then-not-goes-clause-yes
+returns-then-not-goes-clause-yes g c t = absurd (true≢false (sym t))
 
 pub is_settled-requires : goal.is_settled-requires
 is_settled-requires g c = record {
+  var = c.requires.var;
   values = λ k d lt. subst (λ n. (get_or c.args.run.now k d).var < n) (sym c.requires.notes.noted.from.known.wide.variables)
       (variable_below c.args.self.now.task (get_or c.args.run.now k d) (c.requires.exist k d lt));
 }
@@ -40,17 +41,20 @@ returns-then-is_settled-clause-no g c t = absurd (true≢false t)
 pub loop-fact-init : goal.loop-fact-init
 loop-fact-init g c = λ k d lt. absurd (omega arith)
 
-pub is_gone-requires-clause-notes : goal.is_gone-requires-clause-notes
-is_gone-requires-clause-notes g c = c.requires.notes
+pub goes-requires-clause-notes : goal.goes-requires-clause-notes
+goes-requires-clause-notes g c = c.requires.notes
 
-pub is_gone-requires-clause-fact : goal.is_gone-requires-clause-fact
-is_gone-requires-clause-fact g c = c.requires.exist c.loop-fact.fact-index (record { var = 0; value = 0 }) c.loop-fact-test.true
+pub goes-requires-clause-fact : goal.goes-requires-clause-fact
+goes-requires-clause-fact g c = c.requires.exist c.loop-fact.fact-index (record { var = 0; value = 0 }) c.loop-fact-test.true
 
-pub returns-then-not-is_gone-clause-no : goal.returns-then-not-is_gone-clause-no
-returns-then-not-is_gone-clause-no g c = λ t all. c.is_gone.ensures.no c.if-not-is_gone.true (all c.loop-fact.fact-index _ c.loop-fact-test.true)
+pub returns-then-not-goes-clause-no : goal.returns-then-not-goes-clause-no
+returns-then-not-goes-clause-no g c = λ t all. c.goes.ensures.no c.if-not-goes.true (all c.loop-fact.fact-index _ c.loop-fact-test.true)
 
 pub returns-clause-yes : goal.returns-clause-yes
 returns-clause-yes g c = λ t k d lt. c.loop-fact.invariant k d (omega (arith, lt, c.loop-fact-test.false))
 
 pub returns-clause-no : goal.returns-clause-no
 returns-clause-no g c t = absurd (true≢false t)
+
+pub goes-requires-clause-var : goal.goes-requires-clause-var
+goes-requires-clause-var g c = c.requires.var

@@ -1,10 +1,9 @@
 -- The notes decide whether the fact can remain.
-use Rattle.std.proofs.Common.{ap, ◌∙◌, inl, inr}
-use Rattle.sas_core.specs.declared.grounded.Change.{Change}
+use Rattle.std.proofs.Common.{◌∙◌, inl, inr}
 use Rattle.sas_core.specs.Grounded.{operator_at, effect_at}
 use Rattle.sas_mutex.proofs.TaskFacts.{conditions_exist}
 use Rattle.sas_mutex.proofs.ToldByNotes.{removes_is_removed, removed_is_removes}
-use Rattle.sas_mutex.proofs.effects.Firing.is_gone.Goals as goal
+use Rattle.sas_mutex.proofs.effects.Firing.goes.Goals as goal
 
 pub returns-then-clashes-clause-yes : goal.returns-then-clashes-clause-yes
 returns-then-clashes-clause-yes g c =
@@ -29,8 +28,8 @@ returns-else-clashes-clause-no g c =
     let o = operator_at p c.self.inside.operator in
     let none = rw (← c.self.view_is) at c.is_removed.ensures.no in
     let no_clash = rw (← c.self.view_is) at c.clashes.ensures.no in
-    let is = c.effect_change.ensures in
-    rw (← c.self.view_is) (λ t gone. elim (gone (λ same. c.if-effect_change-fact.false (ap (λ (change : Change). change.var) is ∙ same))) [
+    let var = rw (← c.self.view_is) at c.requires.var in
+    rw (← c.self.view_is) (λ t gone. elim (gone (λ same. c.if-var-fact.false (var ∙ same))) [
       | inl clash ↦ no_clash c.if-clashes.false clash
       | inr removed ↦ none t
           (removed_is_removes p c.self.inside.index.now c.args.kept.now c.args.marks.now.known o (effect_at o c.self.inside.effect).conditions c.self.invariant.1 notes.noted.are c.args.fact

@@ -1,0 +1,14 @@
+-- One more group is added to the basis.
+use Rattle.sas_mutex.proofs.Supporting.{same_grown, grown_then}
+use Rattle.sas_mutex.proofs.family.Family.grow_basis.Goals as goal
+
+pub loop-group-init : goal.loop-group-init
+loop-group-init c = record { grown = same_grown c.args.self.now }
+
+pub loop-group-preserved : goal.loop-group-preserved
+loop-group-preserved c = record {
+  grown = grown_then c.args.self.now c.loop-group.self c.support.new.self c.loop-group.invariant.grown c.support.ensures;
+}
+
+pub returns : goal.returns
+returns c = c.loop-group.invariant.grown
