@@ -34,7 +34,7 @@ use Rattle.sas_requests.specs.Why.{OutWhy, WithReasons}
 use Rattle.sas_plans.specs.declared.held.Opening.{Opening}
 use Rattle.sas_plans.specs.declared.held.Opening.TheVariants.{Ready, Refused}
 use Rattle.sas_plans.specs.Opened.{Opens}
-use Rattle.sas_plans.specs.TraceOut.{TraceOut}
+use Rattle.sas_requests.specs.TraceOut.{TraceOut}
 use Rattle.sas_c.specs.declared.prepared.Prepared.{Prepared}
 use Rattle.sas_c.specs.Holding.{HoldsTask}
 use Rattle.sas_c.specs.Telling.{Returns, ReturnsHeadline, EndsInLine, ReturnsLastLine, ReturnsInvariants, number_of_fault, number_of_status}

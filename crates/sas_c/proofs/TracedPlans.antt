@@ -19,7 +19,7 @@ use Rattle.sas_outputs.proofs.Headlines.{tells_valid, headline_of}
 use Rattle.sas_outputs.proofs.PlanOutputs.{plain_refuses}
 use Rattle.sas_trace.specs.Trace.{run_lines}
 use Rattle.sas_trace.specs.Traced.{EndsWith, TraceVerdict}
-use Rattle.sas_plans.specs.TraceOut.{TraceOut}
+use Rattle.sas_requests.specs.TraceOut.{TraceOut}
 use Rattle.sas_plans.proofs.PlanLines.{IsLine, valid_plain, verdict_line, file_refusal, layers_refused}
 use Rattle.sas_c.specs.Telling.{EndsInLine}
 

@@ -2,14 +2,13 @@
 ghost use Rattle.std.specs.Prelude.{◌≡◌};
 ghost use Rattle.sas_outputs.specs.Output.{Out};
 ghost use Rattle.sas_requests.specs.Why.{OutWhy};
-ghost use Rattle.sas_plans.specs.TraceOut.{TraceOut};
+ghost use Rattle.sas_requests.specs.TraceOut.{TraceOut};
 ghost use Rattle.sas_c.specs.Telling.{Returns};
 
 use crate::numbers::number_without;
 use crate::telling::tell;
 use sas_lines::Watched;
-use sas_plans::trace;
-use sas_requests::{Request, explain, run};
+use sas_requests::{Request, explain, run, trace};
 use std::alloc::Global;
 
 /// A request about these bytes. An input that the request doesn't read has none.

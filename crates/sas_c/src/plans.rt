@@ -6,7 +6,7 @@ ghost use Rattle.sas_outputs.specs.Output.{PlanOut, VerdictOut};
 ghost use Rattle.sas_trace.specs.Traced.{TraceVerdict};
 ghost use Rattle.sas_requests.specs.FileReasons.{PlanFileReasons};
 ghost use Rattle.sas_requests.specs.Why.{OutWhy, WithReasons};
-ghost use Rattle.sas_plans.specs.TraceOut.{TraceOut};
+ghost use Rattle.sas_requests.specs.TraceOut.{TraceOut};
 ghost use Rattle.sas_c.specs.Telling.{Returns, ReturnsHeadline, ReturnsLastLine};
 ghost use Rattle.sas_c.specs.Holding.{HoldsTask};
 
@@ -15,8 +15,8 @@ use crate::prepared::Prepared;
 use crate::sas_task::SasTask;
 use crate::telling::{tell, tell_told};
 use sas_lines::Watched;
-use sas_plans::{judge_bytes, trace_bytes};
-use sas_requests::{Request, explain_bytes};
+use sas_plans::judge_bytes;
+use sas_requests::{Request, explain_bytes, trace_bytes};
 use std::alloc::Global;
 
 /// Answers whether the plan solves the task that is held, as `sas_plan` does. It stays held.
@@ -149,7 +149,7 @@ fn trace(alloc: Global, prepared: &Prepared, plan: &[u8], room: &mut [u8], size:
         room.old room.new size.new result }
 {
     let mut text = Watched::new(Vec::new(alloc));
-    match trace_bytes(alloc, &prepared.held, plan, &mut text) {
+    match trace_bytes(alloc, prepared.held.layered(), plan, &mut text) {
         Ok(status) => tell(text.into_device().as_slice(), status, room, size),
         Err(fault) => number_without(fault),
     }

@@ -12,5 +12,3 @@ pub mod PlanLines
 mod PlansHeadlines
 mod JudgeEndings
 mod InMemory
-mod TraceEnds
-mod TraceLaws

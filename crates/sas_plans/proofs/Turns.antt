@@ -1,37 +1,15 @@
 -- Which plans were opened, one after another, up to the end of a run.
-use Rattle.std.proofs.Common.{◌≡◌, ◌≢◌, ℕ, suc, ◌+◌, ◌<◌, ◌≤◌, List, length, codes, add-one, refl, sym, ap, subst, ◌∙◌, arith, inl, inr, Option, Some, None, Result, Ok, Err}
+use Rattle.std.proofs.Common.{◌≡◌, ◌≢◌, ℕ, suc, ◌+◌, ◌<◌, ◌≤◌, List, add-one, refl, sym, subst, arith, inl, Option, Some, None, Result, Ok, Err}
 use Rattle.std.specs.Prelude.{IfOk, IfErr}
-use Rattle.std.proofs.lemmas.Option.{none-some}
-use Rattle.sas_core.specs.declared.parts.Parts.{Parts}
-use Rattle.sas_core.specs.FirstFault.{first_fault}
-use Rattle.sas_meaning.specs.declared.layered.LayerFault.{LayerFault}
-use Rattle.sas_meaning.specs.declared.layered.LayerFault.TheVariants as layer_fault
-use Rattle.sas_meaning.specs.Layers.{IsLayered}
-use Rattle.sas_meaning.specs.LayerChecks.{layer_checks}
-use Rattle.sas_meaning.proofs.LayerChecksAreRules.{checks_are_rules}
-use Rattle.sas_lines.specs.Device.{Device}
-use Rattle.sas_reader.specs.declared.fault.Fault.{Fault}
-use Rattle.sas_reader.specs.declared.fault.Kind.TheVariants as kinds
-use Rattle.sas_reader.specs.Devices.{ValueOf, ReadsAll}
-use Rattle.sas_reader.specs.Format.{ReadsAs}
-use Rattle.sas_reader.specs.Limit.{most_bytes}
-use Rattle.sas_reader.proofs.Known.{known_answer, known_fault}
-use Rattle.sas_task_format.specs.TaskFormat.{task_format}
-use Rattle.sas_task_format.proofs.TaskLaws.{task_laws_hold}
 use Rattle.sas_output.specs.declared.ending.ToolFault.{ToolFault}
 use Rattle.sas_output.specs.declared.ending.ToolFault.TheVariants as tool_fault
-use Rattle.sas_output.specs.declared.told.Told.{Told}
-use Rattle.sas_output.specs.Ending.{Output, output_told, IsWrite}
-use Rattle.sas_answers.specs.Answers.{layers_refusal}
-use Rattle.sas_outputs.specs.Output.{refusal}
-use Rattle.sas_outputs.proofs.Outputs.{refused_kind}
-use Rattle.sas_outputs.proofs.PlanOutputs.{told_fault}
+use Rattle.sas_output.specs.Ending.{IsWrite}
 use Rattle.sas_plans.specs.declared.inputs.InputFault.TheVariants.{NotOpened, Read, TooLong}
 use Rattle.sas_plans.specs.declared.inputs.JudgeFault.{JudgeFault}
 use Rattle.sas_plans.specs.declared.inputs.JudgeFault.TheVariants.{Tool, Plan}
 use Rattle.sas_plans.specs.Inputs.{tool_fault as fault_of}
-use Rattle.sas_plans.specs.InTurn.{IsRightlyLong, IsUnlayered, OpensAll, OpensFirst, OpensInTurn, OpensTo}
-use Rattle.sas_plans.specs.Judging.{EndsAt, IsBehindOpening, IsOfPlan, IsOfTask, IsOpened, OpensUntil}
+use Rattle.sas_plans.specs.InTurn.{IsRightlyLong, OpensAll, OpensFirst, OpensInTurn, OpensTo}
+use Rattle.sas_plans.specs.Judging.{EndsAt, IsBehindOpening, IsOfPlan, IsOpened, OpensUntil}
 
 -- ---- the fault of one plan
 
@@ -81,32 +59,12 @@ module _ {S I : Type 0} (gives : S → ℕ → Option I → S → Type 0) where
     in_turn_written (Err (Tool tool_fault.TooLong)) write all = absurd write
     in_turn_written (Err (Tool (tool_fault.Write written))) write all = all
 
-  -- of no task, or another one
-  pub in_turn_none : {A : Type 0} (task : Option (List ℕ)) (count : ℕ) (plans : S) (r : Result A JudgeFault) → IfOk r (λ a. IsUnlayered task) → IfErr r IsOfTask → OpensInTurn gives task count plans plans r
-  in_turn_none task count plans (Ok a) unlayered of_task = inr (unlayered, refl)
-  in_turn_none task count plans (Err (Plan number what)) unlayered of_task = absurd of_task
-  in_turn_none task count plans (Err (Tool tool_fault.Memory)) unlayered of_task = (0, omega arith, refl)
-  in_turn_none task count plans (Err (Tool tool_fault.Read)) unlayered of_task = refl
-  in_turn_none task count plans (Err (Tool tool_fault.TooLong)) unlayered of_task = refl
-  in_turn_none task count plans (Err (Tool (tool_fault.Write written))) unlayered of_task = absurd (of_task tt)
-
--- ---- a task that isn't layered
-
-module _ {D : Type 0} (left : D → Option (List ℕ)) (old new : Device D) where
-  pub unlayered_fault : (f : Fault) → ReadsAll left task_format (ValueOf task_format) old new (Err f) → (r : Result Told JudgeFault) → IfOk r (λ told. refusal (codes "task") f ≡ Some (output_told told)) → IfOk r (λ told. IsUnlayered (left old.device))
-  unlayered_fault f h (Err e) is = tt
-  unlayered_fault f h (Ok told) is = λ b known layered.
-      let reads = known_fault left task_format (ValueOf task_format) old new f b h known (refused_kind f.kind kinds.Memory _ (output_told told) refl is) (refused_kind f.kind kinds.Read _ (output_told told) refl is) in
-      let same : Err f ≡ Ok layered.0 = task_laws_hold.one_reading most_bytes b (Err f) (Ok layered.0) reads layered.1 in
-      absurd cc
-
-  pub unlayered_first : (p : Parts) (fault : LayerFault) (told : Told) → ReadsAll left task_format (ValueOf task_format) old new (Ok p) → (fault ≢ layer_fault.Memory → first_fault (layer_checks p) ≡ Some fault)
-      → layers_refusal fault ≡ Some (output_told told) → IsUnlayered (left old.device)
-  unlayered_first p fault told h first is b known (q, reads, layered) =
-      let mine = known_answer left task_format (ValueOf task_format) old new p b h known in
-      let same : Ok p ≡ Ok q = task_laws_hold.one_reading most_bytes b (Ok p) (Ok q) mine reads in
-      let parts : p ≡ q = cc in
-      none-some fault (sym ((checks_are_rules p).1 (subst IsLayered (sym parts) layered)) ∙ first (told_fault fault (output_told told) is))
+  -- where the run ends before a plan is opened
+  pub in_turn_fault : (A : Type 0) (task : Option (List ℕ)) (count : ℕ) (plans : S) (why : ToolFault) → (IsWrite why → ⊥) → OpensInTurn gives {A = A} task count plans plans (Err (Tool why))
+  in_turn_fault A task count plans tool_fault.Memory writes = (0, omega arith, refl)
+  in_turn_fault A task count plans tool_fault.Read writes = refl
+  in_turn_fault A task count plans tool_fault.TooLong writes = refl
+  in_turn_fault A task count plans (tool_fault.Write written) writes = absurd (writes tt)
 
 -- ---- the plan that is too long
 

@@ -105,11 +105,6 @@ abbrev pub IsBehindOpening : ℕ → JudgeFault → Type 0
 IsBehindOpening number (judge_fault.Plan other what) = (other ≡ number) × (what ≢ NotOpened)
 IsBehindOpening number (judge_fault.Tool why) = (why ≢ fault.Read) × (why ≢ fault.TooLong)
 
--- a fault of the task, or of memory
-abbrev pub IsOfTask : JudgeFault → Type 0
-IsOfTask (judge_fault.Plan number what) = ⊥
-IsOfTask (judge_fault.Tool why) = IsWrite why → ⊥
-
 module _ {S I : Type 0} (gives : S → ℕ → Option I → S → Type 0) where
   -- the plan with this number was opened
   abbrev pub IsOpened : ℕ → S → S → Type 0

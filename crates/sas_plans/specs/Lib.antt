@@ -1,14 +1,11 @@
 -- What the public clauses cite.
 pub use Rattle.sas_outputs.specs.Output
 pub use Rattle.sas_outputs.specs.Headline
-pub use Rattle.sas_trace.specs.Trace
-pub use Rattle.sas_trace.specs.Traced
 pub mod Judged
 pub mod Inputs
 pub mod InTurn
 pub mod Slices
 pub mod PlansHeadline
-pub mod TraceOut
 pub mod Laws
 pub mod Opened
 pub mod Judging

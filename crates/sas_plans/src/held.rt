@@ -1,27 +1,22 @@
-// A task that is read once from bytes in memory, and for which plans in memory are then judged.
-ghost use Rattle.std.specs.Prelude.{◌≡◌, ◌⊎◌, ◌↔◌, false, Some, None};
-ghost use Rattle.std.specs.Prelude.{IfOk, IfErr, IsErrAnd, IsErrOf, IsTrue};
-ghost use Rattle.std.specs.Io.KnownBytes.{Appends};
+// A task that is read once, for plans to come; and plans in memory, judged for it.
+ghost use Rattle.std.specs.Prelude.{◌≡◌, false, Some, None, IfOk, IsErrOf};
 ghost use Rattle.sas_answers.specs.Answers.{VerdictAnswer};
-ghost use Rattle.sas_output.specs.Ending.{EndsCounting, IsWrite, output_told};
+ghost use Rattle.sas_output.specs.Ending.{output_told};
 ghost use Rattle.sas_outputs.specs.Output.{CheckOut, VerdictOut};
-ghost use Rattle.sas_trace.specs.Traced.{TraceVerdict};
-ghost use Rattle.sas_plans.specs.Opened.{Opens};
+ghost use Rattle.sas_plans.specs.Opened.{Opens, OpensDevice};
 
-use crate::tracing::write_refusal;
 use sas_answers::{answer_by, refuse_layers};
 use sas_axioms::Worklist;
 use sas_flat::FlatTask;
 use sas_lines::Watched;
 use sas_meaning::Layered;
-use sas_output::{Status, Told, ToolFault};
+use sas_output::{Told, ToolFault};
 use sas_outputs::refuse_file;
 use sas_plan_file::flat_plan_of;
 use sas_run::Held;
 use sas_task_reader::read_flat_task;
-use sas_trace::write_trace;
 use std::alloc::{AllocError, Global};
-use std::io::Write;
+use std::io::Read;
 
 /// What comes of opening a task.
 #[derive(Drop)]
@@ -38,7 +33,15 @@ pub fn open_task(alloc: Global, bytes: &[u8]) -> Result<Opening, ToolFault>
     ensures long { IsErrOf result ToolFault.TooLong → CheckOut bytes.now None }
 {
     let mut device = Watched::new(bytes);
-    let read = match read_flat_task(alloc, &mut device) {
+    open_device(alloc, &mut device)
+}
+
+/// Reads a task from a device, for plans to come.
+pub fn open_device<R: Read>(alloc: Global, device: &mut Watched<R>) -> Result<Opening, ToolFault>
+    requires { device.old.failed ≡ false }
+    ensures { OpensDevice R.remaining device.old device.new result }
+{
+    let read = match read_flat_task(alloc, device) {
         Ok(read) => read,
         Err(refusal) => {
             return match refuse_file(alloc, "task", refusal.fault) {
@@ -75,35 +78,8 @@ pub fn judge_bytes(
     }
 }
 
-/// Reads a plan from these bytes, and writes the answer to whether it solves the task, with its trace in front, as `trace` does.
-/// At `Write` the first bytes of the answer were written; at any other fault nothing was. Not to be called after a failure.
-pub fn trace_bytes<W: Write>(
-    alloc: Global,
-    held: &Held<Worklist, FlatTask>,
-    plan: &[u8],
-    out: &mut Watched<W>,
-) -> Result<Status, ToolFault>
-    requires { out.old.failed ≡ false }
-    ensures ends { EndsCounting (VerdictOut TraceVerdict held.now plan.now)
-        (Appends (W.contents out.old.device) (W.contents out.new.device)) result }
-    ensures nothing { IfErr result (λ e. IsWrite e ⊎ (out.new ≡ out.old)) }
-    ensures writes { IsErrAnd result IsWrite ↔ IsTrue out.new.failed }
-{
-    match flat_plan_of(alloc, plan) {
-        Ok(read) => {
-            let ended = write_trace(alloc, held.layered(), &read, out);
-            drop(read);
-            ended
-        }
-        Err(refusal) => write_refusal(alloc, "plan", refusal.fault, out),
-    }
-}
-
 /// Holds the task for many plans, with an evaluator that counts open conditions.
-pub fn hold(
-    alloc: Global,
-    layered: Layered<FlatTask>,
-) -> Result<Held<Worklist, FlatTask>, AllocError>
+fn hold(alloc: Global, layered: Layered<FlatTask>) -> Result<Held<Worklist, FlatTask>, AllocError>
     ensures { IfOk result (λ h. h ≡ layered) }
 {
     let worklist = Worklist::new(alloc, &layered)?;

@@ -1,27 +1,23 @@
 // Many plans of one task, judged one after another.
-ghost use Rattle.std.specs.Prelude.{◌≡◌, ◌↔◌, ◌⊎◌, ℕ, List, [], length, All, Some, false, codes};
+ghost use Rattle.std.specs.Prelude.{◌≡◌, ◌↔◌, ◌⊎◌, ℕ, List, [], length, All, Some, false};
 ghost use Rattle.std.specs.Prelude.{IfOk, IfErr, IsErrAnd, IsErrOf, IsTrue};
 ghost use Rattle.std.specs.Io.KnownBytes.{Appends, Consumes};
 ghost use Rattle.sas_output.specs.Ending.{Ends, IsDecided, IsWrite, output_told};
-ghost use Rattle.sas_outputs.specs.Output.{IsLayeredText, refusal};
+ghost use Rattle.sas_outputs.specs.Output.{IsLayeredText};
 ghost use Rattle.sas_plans.specs.Inputs.{HaveBytes, IsLabel, WereRead, tool_fault, tool_result};
 ghost use Rattle.sas_plans.specs.InTurn.{IsRightlyLong, OpensFirst, OpensInTurn};
 ghost use Rattle.sas_plans.specs.Judged.{JudgeOut};
 ghost use Rattle.sas_plans.specs.PlansHeadline.{PlansHeadline};
-ghost use Rattle.sas_plans.specs.Judging.{AnswersPlans, JudgesPlans, answer_told};
-ghost use Rattle.sas_plans.specs.Judging.{IsOfTask, OpensUntil};
+ghost use Rattle.sas_plans.specs.Judging.{AnswersPlans, JudgesPlans, OpensUntil, answer_told};
 
-use crate::held::hold;
+use crate::held::{Opening, open_device};
 use crate::inputs::{JudgeFault, PlanInputs};
 use crate::telling::tell_plans;
-use sas_answers::refuse_layers;
+use sas_axioms::Worklist;
 use sas_flat::FlatTask;
 use sas_lines::Watched;
-use sas_meaning::Layered;
 use sas_output::{Status, Told, ToolFault};
-use sas_outputs::refuse_file;
-use sas_reader::{Fault, Kind};
-use sas_task_reader::read_flat_task;
+use sas_run::Held;
 use std::alloc::Global;
 use std::io::{Read, Write};
 
@@ -112,41 +108,20 @@ fn answer_about<T: Read, S: PlanInputs>(
         → (IsLayeredText b → ⊥) → plans.new ≡ plans.old }
     ensures labels { S.labels plans.new ≡ S.labels plans.old }
 {
-    let read = match read_flat_task(alloc, task) {
-        Ok(read) => read,
-        Err(refusal) => return refuse_task(alloc, refusal.fault),
-    };
-    match Layered::new(alloc, read) {
-        Ok(layered) => judge_plans(alloc, layered, plans),
-        Err((task, fault)) => {
-            drop(task);
-            Ok(refuse_layers(alloc, fault)?)
-        }
+    match open_device(alloc, task) {
+        Ok(Opening::Ready(held)) => judge_plans(alloc, held, plans),
+        Ok(Opening::Refused(told)) => Ok(told),
+        Err(fault) => Err(JudgeFault::Tool(fault)),
     }
 }
 
-/// Returns the refusal of a task file for its fault, or why the run ends at it.
-fn refuse_task(alloc: Global, fault: Fault) -> Result<Told, JudgeFault>
-    ensures ok { IfOk result (λ told. refusal (codes "task") fault ≡ Some (output_told told)) }
-    ensures long { IfErr result
-        (λ e. tool_fault e ≡ ToolFault.TooLong → fault.kind ≡ Kind.TooLong) }
-    ensures read { IsErrOf result (JudgeFault.Tool ToolFault.Read) ↔ (fault.kind ≡ Kind.Read) }
-    ensures writes { IfErr result (λ e. IsWrite (tool_fault e) → ⊥) }
-    ensures task { IfErr result IsOfTask }
-{
-    match refuse_file(alloc, "task", fault) {
-        Ok(told) => Ok(told),
-        Err(why) => Err(JudgeFault::Tool(why)),
-    }
-}
-
-/// Returns the answer about the plans of a layered task, which is held for them all.
+/// Returns the answer about the plans of a task that is held for them all.
 fn judge_plans<S: PlanInputs>(
     alloc: Global,
-    layered: Layered<FlatTask>,
+    mut held: Held<Worklist, FlatTask>,
     plans: &mut S,
 ) -> Result<Told, JudgeFault>
-    ensures judges { JudgesPlans layered (S.bytes plans.old) (S.labels plans.old)
+    ensures judges { JudgesPlans held (S.bytes plans.old) (S.labels plans.old)
         (answer_told result) }
     ensures opened { IfOk result
         (λ _. OpensFirst S.open_gives (length (S.labels plans.old)) plans.old plans.new) }
@@ -154,7 +129,6 @@ fn judge_plans<S: PlanInputs>(
         (OpensUntil S.open_gives (length (S.labels plans.old)) plans.old plans.new) }
     ensures labels { S.labels plans.new ≡ S.labels plans.old }
 {
-    let mut held = hold(alloc, layered)?;
     let mut text = Vec::new(alloc);
     let status = tell_plans(alloc, &mut held, plans, &mut text);
     drop(held);

@@ -1,4 +1,4 @@
-//! The requests about what plans do: many plans of one task, and the trace of a plan.
+//! Many plans of one task: how they are judged, one after another, and what is printed of them.
 #![tactic(auto)]
 
 mod held;
@@ -8,12 +8,10 @@ mod laws;
 mod slices;
 mod tally;
 mod telling;
-mod tracing;
 mod verdicts;
 
-pub use held::{Opening, judge_bytes, open_task, trace_bytes};
+pub use held::{Opening, judge_bytes, open_task};
 pub use inputs::{InputFault, JudgeFault, PlanInputs, is_label};
 pub use judging::judge;
-pub use laws::{judge_laws, trace_output_laws};
+pub use laws::judge_laws;
 pub use slices::{PlanBytes, PlanSlices, are_labels, judge_slices};
-pub use tracing::trace;

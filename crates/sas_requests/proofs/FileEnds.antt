@@ -42,7 +42,7 @@ use Rattle.sas_outputs.proofs.Endings.{ends_counting_by}
 use Rattle.sas_outputs.proofs.Outputs.{refused_kind, too_long_else, reading_of_refusal}
 use Rattle.sas_outputs.proofs.PlanOutputs.{told_fault}
 use Rattle.sas_requests.specs.declared.detail.Detail.{Detail}
-use Rattle.sas_requests.specs.declared.detail.Detail.TheVariants.{Plain, Reasons}
+use Rattle.sas_requests.specs.declared.detail.Detail.TheVariants.{Plain, Reasons, Trace}
 use Rattle.sas_outputs.specs.EndsFile.{EndsFile}
 use Rattle.sas_requests.specs.Answering.{FileBy, TaskBy, PlanBy, UnlayeredBy, layers_by, refusal_by, task_refusal_lines, plan_refusal_lines}
 use Rattle.sas_requests.specs.FileReasons.{FaultReasons, told, past_limit, AreTaskReasons, ArePlanReasons}
@@ -75,6 +75,7 @@ module _ {V I S : Type 0} (F : Format V I S) (Tells : Kind → List (List ℕ) �
   -- an answer about their value
   value_by : (detail : Detail) (IsAnswer : V → Output → Type 0) (b : List ℕ) (v : V) (o : Output) → ReadsAs F most_bytes b (Ok v) → IsAnswer v o → FileBy F Tells name detail IsAnswer b (Some o)
   value_by Plain IsAnswer b v o reads is = (Ok v, reads, (o, is, refl))
+  value_by Trace IsAnswer b v o reads is = (Ok v, reads, (o, is, refl))
   value_by Reasons IsAnswer b v o reads is = record {
     of_read = Some o;
     reasons = [];
@@ -90,6 +91,7 @@ module _ {V I S : Type 0} (F : Format V I S) (Tells : Kind → List (List ℕ) �
 
   more_by : (detail : Detail) (A B : V → Output → Type 0) → ((v : V) (o : Output) → A v o → B v o) → (b : List ℕ) (o : Option Output) → FileBy F Tells name detail A b o → FileBy F Tells name detail B b o
   more_by Plain A B to b o (r, reads, is) = (r, reads, more_read A B to r o is)
+  more_by Trace A B to b o (r, reads, is) = (r, reads, more_read A B to r o is)
   more_by Reasons A B to b o out =
       let (r, reads, is) = out.is_out in
       record { of_read = out.of_read; reasons = out.reasons; is_out = (r, reads, more_read A B to r out.of_read is); are_reasons = out.are_reasons; whole = out.whole }
@@ -101,16 +103,19 @@ module _ {V I S : Type 0} (F : Format V I S) (Tells : Kind → List (List ℕ) �
     -- the kind of a fault that is refused
     told_kind : (detail : Detail) (o : Output) → Some o ≡ refusal_by detail name f reasons → ConcernsText f.kind
     told_kind Plain o is = plain_kind o (sym is)
+    told_kind Trace o is = plain_kind o (sym is)
     told_kind Reasons o is = let (plain, refused, same) = some_of (file_text reasons) (refusal name f) o is in plain_kind plain refused
 
     -- the refusal
     refused_by : (detail : Detail) (IsAnswer : V → Output → Type 0) (b : List ℕ) (o : Output) → Some o ≡ refusal_by detail name f reasons → ReadsAs F most_bytes b (Err f) → FaultReasons F Tells b f reasons → FileBy F Tells name detail IsAnswer b (Some o)
     refused_by Plain IsAnswer b o is reads why = (Err f, reads, is)
+    refused_by Trace IsAnswer b o is reads why = (Err f, reads, is)
     refused_by Reasons IsAnswer b o is reads why = record { of_read = refusal name f; reasons = reasons; is_out = (Err f, reads, refl); are_reasons = (Err f, reads, why); whole = is }
 
     -- or none, past the limit
     long_by : (detail : Detail) (IsAnswer : V → Output → Type 0) (b : List ℕ) → f.kind ≡ TooLong → ReadsAs F most_bytes b (Err f) → FileBy F Tells name detail IsAnswer b None
     long_by Plain IsAnswer b long reads = (Err f, reads, rw long refl)
+    long_by Trace IsAnswer b long reads = (Err f, reads, rw long refl)
     long_by Reasons IsAnswer b long reads = record {
       of_read = refusal name f;
       reasons = [];
@@ -270,6 +275,7 @@ module _ {D A : Type 0} (left : D → Option (List ℕ)) (Gives : List ℕ → A
 -- a task that isn't layered is refused for its first fault
 not_memory_by : (detail : Detail) (p : Parts) (fault : LayerFault) (o : Output) → layers_by detail p fault ≡ Some o → fault ≢ layer_fault.Memory
 not_memory_by Plain p fault o is = told_fault fault o is
+not_memory_by Trace p fault o is = told_fault fault o is
 not_memory_by Reasons p fault o is = not_memory p o fault is
 
 module _ {D : Type 0} (left : D → Option (List ℕ)) (Sent : List ℕ → Type 0) (detail : Detail) (old new : Device D) (p : Parts) where

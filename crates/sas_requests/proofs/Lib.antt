@@ -10,5 +10,6 @@ mod SameAnswers
 pub mod RefusalReasons
 mod RefusalLaws
 pub mod ReasonedOutputs
+mod TraceLaws
 mod FileEnds
 pub mod RequestEnds

@@ -21,36 +21,36 @@ use Rattle.sas_output.specs.declared.ending.Status.{Status}
 use Rattle.sas_output.specs.declared.ending.Status.TheVariants.{Yes}
 use Rattle.sas_output.specs.declared.ending.ToolFault.{ToolFault}
 use Rattle.sas_output.specs.Ending.{Output, EndsCounting}
-use Rattle.sas_answers.specs.Answers.{layers_verdict, LayeredGroupsAnswer, MutexAnswer, VerdictAnswer}
+use Rattle.sas_answers.specs.Answers.{layers_verdict, LayeredGroupsAnswer, VerdictAnswer}
 use Rattle.sas_answers.proofs.CheckAnswers.{layered_answer}
 use Rattle.sas_task_reasons.specs.WhyGroups.{WhyGroupsAnswer}
 use Rattle.sas_task_reasons.specs.WhyLayers.{why_refusal, WhyMutexAnswer}
 use Rattle.sas_task_reasons.proofs.TaskAnswers.{check_layered, check_refused, groups_layered, groups_refused}
+use Rattle.sas_trace.specs.Traced.{IsTraced, TraceVerdict}
 use Rattle.sas_why.specs.Verdict.{WhyVerdict}
 use Rattle.sas_outputs.specs.declared.Request.{Request}
 use Rattle.sas_outputs.specs.declared.Request.TheVariants as request
 use Rattle.sas_outputs.specs.Headline.{Headline, Invariants}
 use Rattle.sas_outputs.specs.Output.{IsAnswerOrRefusal, PlanOutBy, ShowAnswer, PrintAnswer, plain_refusal, AreInputs, reads_task}
-use Rattle.sas_outputs.proofs.Headlines.{tells_valid, headline_of}
 use Rattle.sas_outputs.proofs.Outputs.{takes_nothing}
-use Rattle.sas_outputs.proofs.PlanOutputs.{plain_refuses, first_alone, second_alone, judged_out, unlayered_out}
+use Rattle.sas_outputs.proofs.PlanOutputs.{first_alone, second_alone, judged_out, unlayered_out}
 use Rattle.sas_requests.specs.declared.detail.Detail.{Detail}
-use Rattle.sas_requests.specs.declared.detail.Detail.TheVariants.{Plain, Reasons}
+use Rattle.sas_requests.specs.declared.detail.Detail.TheVariants.{Plain, Reasons, Trace}
 use Rattle.sas_outputs.specs.EndsFile.{EndsFile}
 use Rattle.sas_requests.specs.Answering.{CheckBy, MutexBy, VerdictBy, UnlayeredBy, layers_by, TaskBy, PlanBy, OutBy, EndsRequest}
 use Rattle.sas_requests.specs.FileReasons.{ReadReasons, AreTaskReasons, LayersFileReasons, JudgedFileReasons}
 use Rattle.sas_requests.proofs.FileEnds.{ends_by}
-use Rattle.sas_requests.proofs.InvariantGroups.{plain_groups, invariants_of}
-use Rattle.sas_requests.proofs.ReasonedOutputs.{headline_why, invariants_why}
 
 -- ---- answers about a task
 
 pub check_yes : (detail : Detail) (p : Parts) → IsLayered p → CheckBy detail p (record { text = codes "task layered\n"; status = Yes })
 check_yes Plain p layered = layered_answer p layered
+check_yes Trace p layered = layered_answer p layered
 check_yes Reasons p layered = check_layered p _ layered refl
 
 pub check_no : (detail : Detail) (p : Parts) (o : Output) → UnlayeredBy detail p o → CheckBy detail p o
 check_no Plain p o (fault, first, is) = ap layers_verdict first ∙ is
+check_no Trace p o (fault, first, is) = ap layers_verdict first ∙ is
 check_no Reasons p o (fault, first, is) = check_refused p o fault is first
 
 -- of the groups of a layered task
@@ -60,28 +60,39 @@ mutex_yes p layered None told = told
 
 pub mutex_no : (detail : Detail) (p : Parts) (o : Output) → UnlayeredBy detail p o → MutexBy detail p o
 mutex_no Plain p o (fault, first, is) = subst (λ (f : Option LayerFault). LayeredGroupsAnswer p f o) (sym first) is
+mutex_no Trace p o (fault, first, is) = subst (λ (f : Option LayerFault). LayeredGroupsAnswer p f o) (sym first) is
 mutex_no Reasons p o (fault, first, is) = groups_refused p o fault is first
+
+-- about a plan, by its trace
+pub trace_answers : (p : Parts) (plan : PlanParts) (o : Option Output) → IsTraced p plan o → IsSomeAnd o (TraceVerdict p plan)
+trace_answers p plan (Some o) traced = traced
+trace_answers p plan None traced = traced
 
 -- ---- outputs of requests
 
 pub show_by : (detail : Detail) (b c : List ℕ) (o : Option Output) → TaskBy detail ShowAnswer b o → OutBy detail request.Show b c o
 show_by Plain b c o out = out
+show_by Trace b c o out = out
 show_by Reasons b c o out = out
 
 pub print_by : (detail : Detail) (b c : List ℕ) (o : Option Output) → TaskBy detail (PrintAnswer task_format) b o → OutBy detail request.Print b c o
 print_by Plain b c o out = out
+print_by Trace b c o out = out
 print_by Reasons b c o out = out
 
 pub steps_by : (detail : Detail) (b c : List ℕ) (o : Option Output) → PlanBy detail (PrintAnswer plan_format) c o → OutBy detail request.Steps b c o
 steps_by Plain b c o out = out
+steps_by Trace b c o out = out
 steps_by Reasons b c o out = out
 
 pub check_by : (detail : Detail) (b c : List ℕ) (o : Option Output) → TaskBy detail (CheckBy detail) b o → OutBy detail request.Check b c o
 check_by Plain b c o out = out
+check_by Trace b c o out = out
 check_by Reasons b c o out = out
 
 pub mutex_by : (detail : Detail) (b c : List ℕ) (o : Option Output) → TaskBy detail (MutexBy detail) b o → OutBy detail request.Mutex b c o
 mutex_by Plain b c o out = out
+mutex_by Trace b c o out = out
 mutex_by Reasons b c o out = out
 
 -- ---- the output of `plan`
@@ -98,6 +109,7 @@ unlayered_reasons detail b c (Err fault) o reasons is why = why
 
 pub unlayered_by : (detail : Detail) (b c : List ℕ) (o : Option Output) → TaskBy detail (UnlayeredBy detail) b o → OutBy detail request.Plan b c o
 unlayered_by Plain b c o (r, reads, is) = unlayered_read Plain VerdictAnswer b c r o reads is
+unlayered_by Trace b c o (r, reads, is) = unlayered_read Trace TraceVerdict b c r o reads is
 unlayered_by Reasons b c o out =
     let (r, reads, is) = out.is_out in
     let (other, other_reads, why) = out.are_reasons in
@@ -113,6 +125,7 @@ unlayered_by Reasons b c o out =
 -- and of the plan of a layered one
 pub judged_by : (detail : Detail) (p : Parts) → IsLayered p → (b c : List ℕ) → ReadsAs task_format most_bytes b (Ok p) → (o : Option Output) → PlanBy detail (VerdictBy detail p) c o → OutBy detail request.Plan b c o
 judged_by Plain p layered b c reads o out = judged_out VerdictAnswer plain_refusal p layered b c reads o out
+judged_by Trace p layered b c reads o out = judged_out TraceVerdict plain_refusal p layered b c reads o out
 judged_by Reasons p layered b c reads o out = record {
   of_read = out.of_read;
   reasons = out.reasons;
@@ -176,30 +189,23 @@ module _ {T P : Type 0} (left_task : T → Option (List ℕ)) (left_plan : P →
 
 -- ---- what a planner relies on
 
-headline_by : (detail : Detail) (b c : List ℕ) (o : Output) → OutBy detail request.Plan b c (Some o)
-    → (old new : Option (List ℕ)) (before : List ℕ) (status : Status) → old ≡ Some before → status ≡ o.status → Appends old new o.text → Headline b c (Appends old new) status
-headline_by Plain b c o out = headline_of VerdictAnswer plain_refusal tells_valid plain_refuses b c o out
-headline_by Reasons b c o out = headline_why b c o out
-
-invariants_by : (detail : Detail) (b c : List ℕ) (o : Output) → OutBy detail request.Mutex b c (Some o) → (old new : Option (List ℕ)) (before : List ℕ) → old ≡ Some before → Appends old new o.text → Invariants b (Appends old new)
-invariants_by Plain b c o out = invariants_of MutexAnswer plain_groups b o out
-invariants_by Reasons b c o out = invariants_why b c o out
-
-module _ (detail : Detail) (asked : Request) (task plan old new : Option (List ℕ)) where
+module _ (Outputs : Request → List ℕ → List ℕ → Option Output → Type 0) (asked : Request) (task plan old new : Option (List ℕ)) where
   abbrev Ended : Result Status ToolFault → Type 0
-  Ended r = (b c : List ℕ) → AreInputs asked task plan b c → EndsCounting (OutBy detail asked b c) (Appends old new) r
+  Ended r = (b c : List ℕ) → AreInputs asked task plan b c → EndsCounting (Outputs asked b c) (Appends old new) r
 
-  pub headline_told : (r : Result Status ToolFault) → Ended r
+  pub headline_told : ((b c : List ℕ) (o : Output) → Outputs request.Plan b c (Some o) → (old new : Option (List ℕ)) (before : List ℕ) (status : Status)
+      → old ≡ Some before → status ≡ o.status → Appends old new o.text → Headline b c (Appends old new) status) → (r : Result Status ToolFault) → Ended r
       → IfOk r (λ status. asked ≡ request.Plan → (b c before : List ℕ) → task ≡ Some b → plan ≡ Some c → old ≡ Some before → Headline b c (Appends old new) status)
-  headline_told (Ok status) ends = λ is b c before known_task known_plan known.
+  headline_told heads (Ok status) ends = λ is b c before known_task known_plan known.
       let (o, out, same, sent) = ends b c (λ _. known_task, λ _. known_plan) in
-      headline_by detail b c o (subst (λ (q : Request). OutBy detail q b c (Some o)) is out) old new before status known same sent
-  headline_told (Err why) ends = tt
+      heads b c o (subst (λ (q : Request). Outputs q b c (Some o)) is out) old new before status known same sent
+  headline_told heads (Err why) ends = tt
 
-  pub invariants_told : (r : Result Status ToolFault) → Ended r
+  pub invariants_told : ((b c : List ℕ) (o : Output) → Outputs request.Mutex b c (Some o) → (old new : Option (List ℕ)) (before : List ℕ)
+      → old ≡ Some before → Appends old new o.text → Invariants b (Appends old new)) → (r : Result Status ToolFault) → Ended r
       → IfOk r (λ status. asked ≡ request.Mutex → (b before : List ℕ) → task ≡ Some b → old ≡ Some before → Invariants b (Appends old new))
-  invariants_told (Ok status) ends = λ is b before known_task known.
+  invariants_told holds (Ok status) ends = λ is b before known_task known.
       let inputs = subst (λ (q : Request). AreInputs q task plan b []) (sym is) (λ _. known_task, λ e. absurd cc) in
       let (o, out, same, sent) = ends b [] inputs in
-      invariants_by detail b [] o (subst (λ (q : Request). OutBy detail q b [] (Some o)) is out) old new before known sent
-  invariants_told (Err why) ends = tt
+      holds b [] o (subst (λ (q : Request). Outputs q b [] (Some o)) is out) old new before known sent
+  invariants_told holds (Err why) ends = tt

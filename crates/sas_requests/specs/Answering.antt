@@ -24,15 +24,17 @@ use Rattle.sas_output.specs.declared.ending.ToolFault.TheVariants as fault
 use Rattle.sas_output.specs.Ending.{Output, EndsCounting, IsDecided}
 use Rattle.sas_answers.specs.Answers.{CheckAnswer, MutexAnswer, VerdictAnswer}
 use Rattle.sas_task_reasons.specs.WhyLayers.{with_reasons, why_refusal, WhyCheckAnswer, WhyMutexAnswer}
+use Rattle.sas_trace.specs.Traced.{TraceVerdict}
 use Rattle.sas_why.specs.Verdict.{WhyVerdict}
 use Rattle.sas_outputs.specs.declared.Request.{Request}
 use Rattle.sas_outputs.specs.declared.Request.TheVariants as requests
 use Rattle.sas_outputs.specs.Output.{Out, FileOut, refusal, plain_refusal}
 use Rattle.sas_outputs.specs.Output.{AreInputs, IsLayeredText, reads_plan, reads_task}
 use Rattle.sas_requests.specs.declared.detail.Detail.{Detail}
-use Rattle.sas_requests.specs.declared.detail.Detail.TheVariants.{Plain, Reasons}
+use Rattle.sas_requests.specs.declared.detail.Detail.TheVariants.{Plain, Reasons, Trace}
 use Rattle.sas_requests.specs.FileReasons.{FileReasons, AreTaskReasons, ArePlanReasons}
 use Rattle.sas_requests.specs.Why.{OutWhy, WithReasons}
+use Rattle.sas_requests.specs.TraceOut.{TraceOut}
 
 -- ---- answers, by how much is reported
 
@@ -40,21 +42,25 @@ use Rattle.sas_requests.specs.Why.{OutWhy, WithReasons}
 abbrev pub CheckBy : Detail → Parts → Output → Type 0
 CheckBy Plain = CheckAnswer
 CheckBy Reasons = WhyCheckAnswer
+CheckBy Trace = CheckAnswer
 
 -- about its mutex groups
 abbrev pub MutexBy : Detail → Parts → Output → Type 0
 MutexBy Plain = MutexAnswer
 MutexBy Reasons = WhyMutexAnswer
+MutexBy Trace = MutexAnswer
 
 -- about a plan
 abbrev pub VerdictBy : Detail → Parts → PlanParts → Output → Type 0
 VerdictBy Plain = VerdictAnswer
 VerdictBy Reasons = WhyVerdict
+VerdictBy Trace = TraceVerdict
 
 -- the refusal of a task for a fault of its layers
 abbrev pub layers_by : Detail → Parts → LayerFault → Option Output
 layers_by Plain = plain_refusal
 layers_by Reasons = why_refusal
+layers_by Trace = plain_refusal
 
 -- this refusal, for the first fault
 abbrev pub UnlayeredBy : Detail → Parts → Output → Type 0
@@ -66,6 +72,7 @@ abbrev pub refusal_by : Detail → List ℕ → Fault → List FileLine → Opti
 refusal_by Plain name fault reasons = refusal name fault
 refusal_by Reasons name fault reasons =
     option_map (with_reasons (file_text reasons)) (refusal name fault)
+refusal_by Trace name fault reasons = refusal name fault
 
 -- the reasons why a task is refused, and a plan
 abbrev pub task_refusal_lines : TaskRefusal → List FileLine
@@ -84,6 +91,7 @@ module _ {V I S : Type 0} (F : Format V I S)
   FileBy Plain IsAnswer bytes output = FileOut F name IsAnswer bytes output
   FileBy Reasons IsAnswer bytes output =
       WithReasons (FileOut F name IsAnswer bytes) (FileReasons F Explains bytes) output
+  FileBy Trace IsAnswer bytes output = FileOut F name IsAnswer bytes output
 
 abbrev pub TaskBy : Detail → (Parts → Output → Type 0) → List ℕ → Option Output → Type 0
 TaskBy = FileBy task_format AreTaskReasons (codes "task")
@@ -95,6 +103,8 @@ PlanBy = FileBy plan_format ArePlanReasons (codes "plan")
 abbrev pub OutBy : Detail → Request → List ℕ → List ℕ → Option Output → Type 0
 OutBy Plain request b c output = Out request b c output
 OutBy Reasons request b c output = OutWhy request b c output
+OutBy Trace requests.Plan b c output = TraceOut b c output
+OutBy Trace request b c output = Out request b c output
 
 -- ---- how an output went out
 

@@ -7,6 +7,9 @@ pub use Rattle.sas_output.specs.Ending
 pub use Rattle.sas_outputs.specs.Summary
 pub use Rattle.sas_outputs.specs.Output
 pub use Rattle.sas_outputs.specs.Headline
+pub use Rattle.sas_trace.specs.Trace
+pub use Rattle.sas_trace.specs.Traced
 pub mod FileReasons
 pub mod Why
+pub mod TraceOut
 pub mod Answering

@@ -213,7 +213,7 @@ fn answer_groups<W: Write>(
     ensures writes { IsErrAnd result IsWrite ↔ IsTrue out.new.failed }
 {
     match detail {
-        Detail::Plain => groups_answer(alloc, layered)?.write(out),
+        Detail::Plain | Detail::Trace => groups_answer(alloc, layered)?.write(out),
         Detail::Reasons => write_groups(alloc, layered, out),
     }
 }

@@ -9,6 +9,8 @@ pub enum Detail {
     Plain,
     /// The answer, and behind a no the reasons for it.
     Reasons,
+    /// The answer, and in front of that about a plan what its steps do.
+    Trace,
 }
 
 /// A request, and how much is reported.

@@ -1,6 +1,7 @@
 // Laws of the outputs.
 ghost use Rattle.sas_outputs.specs.Output.{OneOutput, SomeOutput, NoneIsLong, ShortOutput};
 ghost use Rattle.sas_requests.specs.Why.{SameAnswer, OneWhyOutput, SomeWhyOutput, NoneWhyIsLong};
+ghost use Rattle.sas_requests.specs.TraceOut.{EndsAsPlan, OneTraceOutput, SomeTraceOutput, NoneTraceIsLong};
 
 /// What holds of outputs: a request has one output over the same inputs, and it can't have nothing; it has none only
 /// where an input passes the limit. Each output is shorter than 2^64 bytes.
@@ -20,4 +21,13 @@ pub fn explain_laws()
     ensures one { OneWhyOutput }
     ensures some { SomeWhyOutput }
     ensures long { NoneWhyIsLong }
+{}
+
+/// What holds of traces: the output of `plan` follows one, with the same status; there is one output over the same inputs, and it
+/// can't have nothing; there is none only where an input passes the limit.
+pub fn trace_output_laws()
+    ensures plan { EndsAsPlan }
+    ensures one { OneTraceOutput }
+    ensures some { SomeTraceOutput }
+    ensures long { NoneTraceIsLong }
 {}

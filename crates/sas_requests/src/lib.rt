@@ -14,12 +14,13 @@ ghost use Rattle.std.specs.Io.KnownBytes.{Appends, Consumes};
 ghost use Rattle.sas_outputs.specs.Output.{Out, AreInputs, IsLayeredText, reads_plan, reads_task};
 ghost use Rattle.sas_outputs.specs.Headline.{Headline, Invariants};
 ghost use Rattle.sas_requests.specs.Why.{OutWhy, HasNoReasons};
+ghost use Rattle.sas_requests.specs.TraceOut.{TraceOut};
 ghost use Rattle.sas_output.specs.Ending.{Ends, EndsCounting, IsDecided, IsWrite};
 
 use answers::answer;
 use detail::{Asked, Detail};
-pub use laws::{explain_laws, run_laws};
-pub use plans::explain_bytes;
+pub use laws::{explain_laws, run_laws, trace_output_laws};
+pub use plans::{explain_bytes, trace_bytes};
 use sas_lines::Watched;
 pub use sas_output::{Status, ToolFault};
 pub use sas_outputs::{Request, refuse_file};
@@ -136,5 +137,44 @@ pub fn explain<T: Read, P: Read, W: Write>(
     ensures writes { IsErrAnd result IsWrite ↔ IsTrue out.new.failed }
 {
     let detail = Detail::Reasons;
+    answer(alloc, Asked { request, detail }, task, plan, out)
+}
+
+/// Traces the plan: answers as `plan` does, and if the plan is judged, first writes what its steps do, up to the first that doesn't
+/// go through: each variable's initial value, then for each step its operator, what that costs, and each variable whose value it
+/// changed. Nothing is written before the verdict is known; then the steps are gone through once more, and all memory was allocated
+/// before. At `Write` the first bytes of the answer were written, and `written` is their number where that is less than 2^64; at
+/// any other fault nothing was. Not to be called with a device that has failed.
+///
+/// The theorem, `output`, holds for every reader whose bytes are known, as that of `run`.
+pub fn trace<T: Read, P: Read, W: Write>(
+    alloc: Global,
+    task: &mut Watched<T>,
+    plan: &mut Watched<P>,
+    out: &mut Watched<W>,
+) -> Result<Status, ToolFault>
+    requires task { task.old.failed ≡ false }
+    requires plan { plan.old.failed ≡ false }
+    requires out { out.old.failed ≡ false }
+    // Of inputs whose bytes are known, the output went out, or its first bytes, or there is none.
+    ensures output { (b c : List ℕ)
+        → T.remaining task.old.device ≡ Some b → P.remaining plan.old.device ≡ Some c
+        → EndsCounting (TraceOut b c)
+        (Appends (W.contents out.old.device) (W.contents out.new.device)) result }
+    // And of any inputs, the output for the bytes that were read of them.
+    ensures taken { IsDecided result → (b c : List ℕ)
+        × Consumes (T.remaining task.old.device) (T.remaining task.new.device) b
+        × Consumes (P.remaining plan.old.device) (P.remaining plan.new.device) c
+        × EndsCounting (TraceOut b c)
+        (Appends (W.contents out.old.device) (W.contents out.new.device)) result }
+    // Before the answer is known nothing is written.
+    ensures nothing { IfErr result (λ e. IsWrite e ⊎ (out.new ≡ out.old)) }
+    // The plan stays as it was where the task isn't a text of a layered one.
+    ensures plan_waits { (b : List ℕ) → T.remaining task.old.device ≡ Some b
+        → (IsLayeredText b → ⊥) → plan.new ≡ plan.old }
+    ensures reads { IsErrOf result ToolFault.Read ↔ IsTrue (task.new.failed || plan.new.failed) }
+    ensures writes { IsErrAnd result IsWrite ↔ IsTrue out.new.failed }
+{
+    let (request, detail) = (Request::Plan, Detail::Trace);
     answer(alloc, Asked { request, detail }, task, plan, out)
 }

@@ -2,6 +2,7 @@
 ghost use Rattle.std.specs.Prelude.{◌≡◌, ◌⊎◌, ◌↔◌, false};
 ghost use Rattle.std.specs.Prelude.{IfErr, IsErrAnd, IsSomeAnd, IsTrue};
 ghost use Rattle.std.specs.Io.KnownBytes.{Appends};
+ghost use Rattle.sas_trace.specs.Traced.{TraceVerdict};
 ghost use Rattle.sas_why.specs.Verdict.{WhyVerdict};
 ghost use Rattle.sas_output.specs.Ending.{EndsCounting, IsWrite};
 ghost use Rattle.sas_outputs.specs.Output.{VerdictOut};
@@ -19,6 +20,7 @@ use sas_flat::{FlatPlan, FlatTask};
 use sas_lines::Watched;
 use sas_meaning::Layered;
 use sas_plan_file::read_flat_plan;
+use sas_trace::write_trace;
 use sas_why::write_explained;
 use std::alloc::Global;
 use std::io::{Read, Write};
@@ -69,6 +71,24 @@ pub fn explain_bytes<W: Write>(
     judge_plan_file(alloc, Detail::Reasons, layered, &mut device, out)
 }
 
+/// Answers whether a plan with these bytes solves a layered task, with its trace in front, as `trace` does. At `Write` the first bytes of
+/// the answer were written; at any other fault nothing was. Not to be called after a failure.
+pub fn trace_bytes<W: Write>(
+    alloc: Global,
+    layered: &Layered<FlatTask>,
+    plan: &[u8],
+    out: &mut Watched<W>,
+) -> Result<Status, ToolFault>
+    requires { out.old.failed ≡ false }
+    ensures ends { EndsCounting (VerdictOut TraceVerdict layered.now plan.now)
+        (Appends (W.contents out.old.device) (W.contents out.new.device)) result }
+    ensures nothing { IfErr result (λ e. IsWrite e ⊎ (out.new ≡ out.old)) }
+    ensures writes { IsErrAnd result IsWrite ↔ IsTrue out.new.failed }
+{
+    let mut device = Watched::new(plan);
+    judge_plan_file(alloc, Detail::Trace, layered, &mut device, out)
+}
+
 /// Answers whether the plan solves a layered task that was read. The frame of this call is large, and isn't to stand below the reader of
 /// the task.
 #[inline(never)]
@@ -116,5 +136,6 @@ fn answer_plan<W: Write>(
     match detail {
         Detail::Plain => verdict_answer(alloc, layered, plan)?.write(out),
         Detail::Reasons => write_explained(alloc, layered, plan, out),
+        Detail::Trace => write_trace(alloc, layered, plan, out),
     }
 }

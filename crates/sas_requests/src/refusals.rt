@@ -33,7 +33,7 @@ pub fn refuse_task<W: Write>(
     ensures writes { IsErrAnd result IsWrite ↔ IsTrue out.new.failed }
 {
     match detail {
-        Detail::Plain => refuse_file(alloc, "task", refused.fault)?.write(out),
+        Detail::Plain | Detail::Trace => refuse_file(alloc, "task", refused.fault)?.write(out),
         Detail::Reasons => explain_task_refusal(alloc, refused)?.write(out),
     }
 }
@@ -55,7 +55,7 @@ pub fn refuse_plan<W: Write>(
     ensures writes { IsErrAnd result IsWrite ↔ IsTrue out.new.failed }
 {
     match detail {
-        Detail::Plain => refuse_file(alloc, "plan", refused.fault)?.write(out),
+        Detail::Plain | Detail::Trace => refuse_file(alloc, "plan", refused.fault)?.write(out),
         Detail::Reasons => explain_plan_refusal(alloc, refused)?.write(out),
     }
 }

@@ -75,7 +75,7 @@ fn refuse_unlayered<W: Write>(
     ensures writes { IsErrAnd result IsWrite ↔ IsTrue out.new.failed }
 {
     match detail {
-        Detail::Plain => refuse_layers(alloc, fault)?.write(out),
+        Detail::Plain | Detail::Trace => refuse_layers(alloc, fault)?.write(out),
         Detail::Reasons => write_unlayered(alloc, task, fault, out),
     }
 }

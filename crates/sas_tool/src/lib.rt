@@ -8,7 +8,7 @@ mod streams;
 mod until_end;
 
 pub use program::start;
-pub use sas_plans::{
-    InputFault, JudgeFault, PlanInputs, judge, judge_laws, trace, trace_output_laws,
+pub use sas_plans::{InputFault, JudgeFault, PlanInputs, judge, judge_laws};
+pub use sas_requests::{
+    Request, Status, ToolFault, explain, explain_laws, run, run_laws, trace, trace_output_laws,
 };
-pub use sas_requests::{Request, Status, ToolFault, explain, explain_laws, run, run_laws};

@@ -2,8 +2,10 @@
 use crate::answers::{ROOM, is_cut_off, say_answer, say_exactly};
 use sas_lines::Watched;
 use sas_lines::trial::{Breaks, Narrow};
-use sas_plans::{judge_laws, trace, trace_output_laws};
-use sas_requests::{Request, Status, ToolFault, explain, explain_laws, run, run_laws};
+use sas_plans::judge_laws;
+use sas_requests::{
+    Request, Status, ToolFault, explain, explain_laws, run, run_laws, trace, trace_output_laws,
+};
 use std::alloc::{AllocError, Global};
 use std::cell::Cell;
 use std::io::{Read, Write};

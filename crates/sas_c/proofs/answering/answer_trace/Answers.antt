@@ -1,7 +1,7 @@
 use Rattle.std.proofs.Common.{List, ℕ, Bor, ap, Some, ◌∙◌}
 use Rattle.std.specs.Global.{Vec}
 use Rattle.std.specs.Io.KnownBytes.{Appends}
-use Rattle.sas_plans.specs.TraceOut.{TraceOut}
+use Rattle.sas_requests.specs.TraceOut.{TraceOut}
 use Rattle.sas_c.proofs.Tellings.{tells_ended, ends_fault}
 use Rattle.sas_c.proofs.answering.answer_trace.Goals as goal
 

@@ -1,3 +1,4 @@
+use Rattle.std.proofs.Common.{inl, inr}
 use Rattle.sas_output.specs.Ending.{output_told}
 use Rattle.sas_answers.specs.Answers.{MutexAnswer}
 use Rattle.sas_answers.proofs.MutexAnswers.{groups_answered}
@@ -9,7 +10,8 @@ pub returns-in_ok-groups_answer-in-Plain-clause-ends : goal.returns-in_ok-groups
 returns-in_ok-groups_answer-in-Plain-clause-ends g c =
     let p = c.args.layered.now in
     let told = output_told c.in_ok-groups_answer-in-Plain.field-0 in
-    rw c.in-Plain.is (ends_some _ (MutexAnswer p) told c.write.result (groups_answered p told c.requires.layered c.in_ok-groups_answer-in-Plain.ensures) c.write.ensures.ends)
+    let ends = ends_some _ (MutexAnswer p) told c.write.result (groups_answered p told c.requires.layered c.in_ok-groups_answer-in-Plain.ensures) c.write.ensures.ends in
+    elim c.in-Plain.is [ inl is ↦ rw is ends | inr is ↦ rw is ends ]
 
 pub returns-in-Reasons-clause-ends : goal.returns-in-Reasons-clause-ends
 returns-in-Reasons-clause-ends g c =

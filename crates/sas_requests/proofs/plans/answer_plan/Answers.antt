@@ -1,6 +1,8 @@
 use Rattle.sas_output.specs.Ending.{output_told}
 use Rattle.sas_answers.specs.Answers.{VerdictAnswer}
-use Rattle.sas_requests.proofs.FileEnds.{ends_some}
+use Rattle.sas_requests.proofs.FileEnds.{ends_by, ends_some}
+use Rattle.sas_trace.specs.Traced.{IsTraced}
+use Rattle.sas_requests.proofs.RequestEnds.{trace_answers}
 use Rattle.sas_requests.proofs.plans.answer_plan.Goals as goal
 
 pub returns-in_ok-verdict_answer-in-Plain-clause-ends : goal.returns-in_ok-verdict_answer-in-Plain-clause-ends
@@ -9,3 +11,9 @@ returns-in_ok-verdict_answer-in-Plain-clause-ends g c =
 
 pub returns-in-Reasons-clause-ends : goal.returns-in-Reasons-clause-ends
 returns-in-Reasons-clause-ends g c = rw c.in-Reasons.is c.write_explained.ensures.ends
+
+pub returns-in-Trace-clause-ends : goal.returns-in-Trace-clause-ends
+returns-in-Trace-clause-ends g c =
+    let p = c.args.layered.now in
+    let plan = c.args.plan.now in
+    rw c.in-Trace.is (ends_by _ (IsTraced p plan) _ c.write_trace.result (trace_answers p plan) c.write_trace.ensures.ends)

@@ -1,4 +1,4 @@
-use Rattle.std.proofs.Common.{◌≡◌, Some}
+use Rattle.std.proofs.Common.{◌≡◌, inl, inr, Some}
 use Rattle.sas_output.specs.Ending.{output_told}
 use Rattle.sas_outputs.specs.Output.{plain_refusal}
 use Rattle.sas_requests.proofs.FileEnds.{ends_some}
@@ -6,7 +6,8 @@ use Rattle.sas_requests.proofs.tasks.refuse_unlayered.Goals as goal
 
 pub returns-in_ok-refuse_layers-in-Plain-clause-ends : goal.returns-in_ok-refuse_layers-in-Plain-clause-ends
 returns-in_ok-refuse_layers-in-Plain-clause-ends g c =
-    rw c.in-Plain.is (ends_some _ (λ o. plain_refusal c.args.task.now c.args.fault ≡ Some o) (output_told c.in_ok-refuse_layers-in-Plain.field-0) c.write.result c.in_ok-refuse_layers-in-Plain.ensures c.write.ensures.ends)
+    let ends = ends_some _ (λ o. plain_refusal c.args.task.now c.args.fault ≡ Some o) (output_told c.in_ok-refuse_layers-in-Plain.field-0) c.write.result c.in_ok-refuse_layers-in-Plain.ensures c.write.ensures.ends in
+    elim c.in-Plain.is [ inl is ↦ rw is ends | inr is ↦ rw is ends ]
 
 pub returns-in-Reasons-clause-ends : goal.returns-in-Reasons-clause-ends
 returns-in-Reasons-clause-ends g c = rw c.in-Reasons.is c.write_unlayered.ensures.ends

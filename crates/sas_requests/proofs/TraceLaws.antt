@@ -12,7 +12,7 @@ use Rattle.sas_outputs.specs.Output.{IsAnswerOrRefusal, LayersOut, JudgedOut, pl
 use Rattle.sas_outputs.proofs.PlanOutputs.{plain_refuses, one_plan_output, some_plan_output, no_plan_output}
 use Rattle.sas_trace.specs.Traced.{TraceVerdict}
 use Rattle.sas_trace.specs.Laws.{EndsWithVerdict, OneTrace, SomeTrace}
-use Rattle.sas_plans.specs.TraceOut.{EndsAsPlan, OneTraceOutput, SomeTraceOutput, NoneTraceIsLong}
+use Rattle.sas_requests.specs.TraceOut.{EndsAsPlan, OneTraceOutput, SomeTraceOutput, NoneTraceIsLong}
 
 -- ---- behind a trace stands the output of `plan`
 
