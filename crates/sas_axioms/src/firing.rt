@@ -28,6 +28,7 @@ use sas_core::{Fact, Grounded, Items};
 use sas_flat::Lists;
 use sas_meaning::{Layered, State, Touched};
 use std::alloc::{AllocError, Global};
+use std::mem::replace;
 
 /// The data for settling a layer.
 pub struct Work {
@@ -78,6 +79,8 @@ impl Work {
 
 /// Settles the layers of a task, one at a time.
 pub struct Firing {
+    /// Makes the empty list that takes the place of the counters while they are set.
+    alloc: Global,
     /// For each variable, the conditions on it of rules on its own layer.
     index: Lists<Waiting>,
     /// For each rule, the number of open conditions before its layer is settled.
@@ -91,6 +94,7 @@ pub struct Firing {
 impl Drop for Firing {
     fn drop(self) {
         let Firing {
+            alloc: _,
             index,
             resting,
             rules_of,
@@ -115,6 +119,7 @@ impl Firing {
     {
         let work = Work::new(alloc, task, share)?;
         Ok(Firing {
+            alloc,
             index: index_of_own_layers(alloc, task)?,
             resting: Resting::new(alloc, task)?,
             rules_of: rules_of_variables(alloc, task)?,
@@ -132,10 +137,11 @@ impl Firing {
         ensures rest { (layer : ℕ) → AreAtRest task.now layer self.new }
     {
         self.resting.follow(task, state);
-        copy_counts(
-            self.resting.counted.counters.as_slice(),
-            &mut self.work.counters,
-        );
+        let mut counters = replace(&mut self.work.counters, Items::new(self.alloc)).into_vec();
+        counters
+            .as_mut_slice()
+            .copy_from_slice(self.resting.counted.counters.as_slice());
+        self.work.counters = Items::from_vec(counters);
     }
 
     /// Settles a layer. All its variables must have their defaults. `rules` are its rules that can fire; those that never fire first may
@@ -217,17 +223,7 @@ impl Firing {
     }
 }
 
-/// Sets each counter to the count of the same rule.
-fn copy_counts(counts: &[u32], counters: &mut Items<u32>)
-    requires { length counts.now ≡ length counters.old }
-    ensures { counters.new ≡ counts.now }
-{
-    for rule in 0..counts.len() {
-        counters.set(rule, counts[rule]);
-    }
-}
-
-/// Sets the counters of these rules of the layer. The others have theirs.
+/// Sets the counters of the rules of the layer that aren't at rest, which are among these rules.
 fn count_conditions<T: Grounded>(
     task: &Layered<T>,
     rules: &[LayerRule],
@@ -252,8 +248,9 @@ fn count_conditions<T: Grounded>(
 {
     let layer = work.layer;
     for entry in rules {
-        let open = resting.count_of(task, layer, entry.rule, state);
-        work.counters.set(entry.rule as usize, open);
+        if let Some(count) = resting.count_below(task, layer, entry.rule, state) {
+            work.counters.set(entry.rule as usize, count);
+        }
     }
 }
 

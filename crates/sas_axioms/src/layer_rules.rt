@@ -42,8 +42,8 @@ fn first_rules<T: Grounded>(alloc: Global, task: &Layered<T>) -> Result<Vec<Laye
     Ok(rules)
 }
 
-/// Returns whether the rule, which is on this layer, has conditions on derived variables, all of them on this layer. Such a rule never fires
-/// first on its layer, and at first its counter depends on basic variables only.
+/// Returns whether the rule, which is on this layer, has conditions on derived variables, and all of them are on this layer. Such a rule
+/// never fires first on its layer. Before another rule fires there, its counter depends only on basic variables.
 fn is_late<T: Grounded>(task: &Layered<T>, layer: u32, rule: u32) -> bool
     requires rule { IsRuleOn task.now layer rule }
     ensures { IsTrue result → IsLate task.now layer rule }

@@ -1,5 +1,5 @@
 // The number of open conditions of each rule before its layer is settled, kept from state to state.
-ghost use Rattle.std.specs.Prelude.{◌≡◌, ℕ, IsTrue, IsFalse, IfOk, slice_index};
+ghost use Rattle.std.specs.Prelude.{◌≡◌, ℕ, IsTrue, IsFalse, IfOk, IfSome, IfNone, slice_index};
 ghost use Rattle.sas_core.specs.Grounded.{rule_at};
 ghost use Rattle.sas_core.specs.Variables.{IsState};
 ghost use Rattle.sas_meaning.specs.Forced.{AtDefault};
@@ -69,29 +69,31 @@ impl Resting {
         follow_asked(task, self.asked.as_slice(), state, &mut self.counted);
     }
 
-    /// Returns the number of open conditions of the rule before its layer is settled. A rule with a condition on a lower layer is counted
-    /// here, since the lower layers have been settled.
-    pub fn count_of<T: Grounded>(
+    /// Returns the number of open conditions of a rule that has a condition on a lower layer. The lower layers must have been settled.
+    /// Returns `None` for any other rule: the stored count is right.
+    pub fn count_below<T: Grounded>(
         &self,
         task: &Layered<T>,
         layer: u32,
         rule: u32,
         state: &State,
-    ) -> u32
+    ) -> Option<u32>
         requires rule { IsRuleOn task.now layer rule }
         requires resting { IsResting task.now self.now }
         requires follows { SameRequired task.now state.now self.now.counted.values }
         requires state { IsState task.now.variables state.now }
         requires default { AtDefault task.now layer state.now }
-        ensures { result
-            ≡ open_conditions (slice_index state.now) (rule_at task.now rule).conditions }
+        ensures some { IfSome result (λ count. count
+            ≡ open_conditions (slice_index state.now) (rule_at task.now rule).conditions) }
+        ensures none { IfNone result (slice_index self.now.counted.counters rule
+            ≡ open_conditions (slice_index state.now) (rule_at task.now rule).conditions) }
     {
         // The contract of `task` ensures that the task is well ranged and layered.
         let _ = task.task();
         if self.looks_below[rule as usize] {
-            open_of(state, task.rule_conditions(rule))
+            Some(open_of(state, task.rule_conditions(rule)))
         } else {
-            self.counted.counters.as_slice()[rule as usize]
+            None
         }
     }
 }

@@ -9,6 +9,7 @@ use Rattle.sas_core.specs.Grounded.{rule_at}
 use Rattle.sas_axioms.specs.declared.layer_rules.LayerRule.{LayerRule}
 use Rattle.sas_axioms.specs.Conditions.{open_conditions}
 use Rattle.sas_axioms.proofs.firing.count_conditions.Goals as goal
+use Rattle.sas_axioms.proofs.firing.count_conditions.Goals.{in-Some, in_default}
 
 abbrev no_entry : LayerRule
 no_entry = record { layer = 0; rule = 0 }
@@ -37,26 +38,48 @@ loop-entry-preserved g c =
     let p = c.args.task.now in
     let inv = c.loop-entry.invariant in
     let rules = c.args.rules.now in
+    let counters = c.loop-entry.work.counters in
     let i = c.loop-entry.entry-index in
+    let k = (get_or rules i no_entry).rule in
     let lt = c.loop-entry-test.true in
-    let is : IsRuleOn p c.args.work.now.layer (get_or rules i no_entry).rule = c.requires.rules.only i no_entry lt in
-    let within : (get_or rules i no_entry).rule < length c.loop-entry.work.counters = omega (arith, is.exists, inv.one_each, c.requires.room.one_each) in
-    rw c.set.ensures record {
-      layer = inv.layer;
-      stack = inv.stack;
-      sources = inv.sources;
-      one_each = length-set c.loop-entry.work.counters (get_or rules i no_entry).rule c.count_of-open.result ∙ inv.one_each;
-      others = λ m rule ne on. counts_set_off p c.args.work.now.layer (get_or rules i no_entry).rule c.count_of-open.result c.loop-entry.work.counters is m rule ne on ∙ inv.others m rule ne on;
-      so_far = λ j d below. elim (cases_eq (get_or rules j d).rule (get_or rules i no_entry).rule) [
-        | inl e ↦ rw e (get_or-set_same c.loop-entry.work.counters (get_or rules i no_entry).rule c.count_of-open.result 0 within ∙ c.count_of-open.ensures)
-        | inr ne ↦ get_or-set_other c.loop-entry.work.counters (get_or rules i no_entry).rule (get_or rules j d).rule c.count_of-open.result 0 ne ∙ inv.so_far j d (elim (cases_eq j i) [
-          | inl same ↦ absurd (ne (ap (λ n. (get_or rules n d).rule) same ∙ ap (λ (r : LayerRule). r.rule) (get_or_default rules i d no_entry lt)))
-          | inr other ↦ omega arith
-        ])
-      ];
-      rest = λ rule on. elim (cases_eq rule (get_or rules i no_entry).rule) [
-        | inl e ↦ inr (rw e (get_or-set_same c.loop-entry.work.counters (get_or rules i no_entry).rule c.count_of-open.result 0 within ∙ c.count_of-open.ensures))
-        | inr ne ↦ subst (λ n. (n ≡ get_or c.args.work.now.counters rule 0) ⊎ (n ≡ open_conditions (λ v. get_or c.args.state.now v 0) (rule_at p rule).conditions))
-            (sym (get_or-set_other c.loop-entry.work.counters (get_or rules i no_entry).rule rule c.count_of-open.result 0 ne)) (inv.rest rule on)
-      ];
-    }
+    let is : IsRuleOn p c.args.work.now.layer k = c.requires.rules.only i no_entry lt in
+    let within : k < length counters = omega (arith, is.exists, inv.one_each, c.requires.room.one_each) in
+    elim c.match-count_below.branch [
+      | in-Some w ↦ rw (w.work-is, w.set.ensures) record {
+        layer = inv.layer;
+        stack = inv.stack;
+        sources = inv.sources;
+        one_each = length-set counters k w.in-Some.count ∙ inv.one_each;
+        others = λ m rule ne on. counts_set_off p c.args.work.now.layer k w.in-Some.count counters is m rule ne on ∙ inv.others m rule ne on;
+        so_far = λ j d below. elim (cases_eq (get_or rules j d).rule k) [
+          | inl e ↦ rw e (get_or-set_same counters k w.in-Some.count 0 within ∙ w.in-Some.ensures.some)
+          | inr ne ↦ get_or-set_other counters k (get_or rules j d).rule w.in-Some.count 0 ne ∙ inv.so_far j d (elim (cases_eq j i) [
+            | inl same ↦ absurd (ne (ap (λ n. (get_or rules n d).rule) same ∙ ap (λ (r : LayerRule). r.rule) (get_or_default rules i d no_entry lt)))
+            | inr other ↦ omega arith
+          ])
+        ];
+        rest = λ rule on. elim (cases_eq rule k) [
+          | inl e ↦ inr (rw e (get_or-set_same counters k w.in-Some.count 0 within ∙ w.in-Some.ensures.some))
+          | inr ne ↦ subst (λ n. (n ≡ get_or c.args.work.now.counters rule 0) ⊎ (n ≡ open_conditions (λ v. get_or c.args.state.now v 0) (rule_at p rule).conditions))
+              (sym (get_or-set_other counters k rule w.in-Some.count 0 ne)) (inv.rest rule on)
+        ];
+      }
+      | in_default w ↦
+          (let here : get_or counters k 0 ≡ open_conditions (λ v. get_or c.args.state.now v 0) (rule_at p k).conditions = elim (inv.rest k is) [
+            | inl same ↦ same ∙ (c.requires.rest k is ∙ w.in_default.ensures.none)
+            | inr set ↦ set
+          ] in
+          rw w.work-is record {
+            layer = inv.layer;
+            stack = inv.stack;
+            sources = inv.sources;
+            one_each = inv.one_each;
+            others = inv.others;
+            so_far = λ j d below. elim (cases_eq j i) [
+              | inl e ↦ subst (λ (r : LayerRule). get_or counters r.rule 0 ≡ open_conditions (λ v. get_or c.args.state.now v 0) (rule_at p r.rule).conditions)
+                  (get_or_default rules i no_entry d lt ∙ ap (λ n. get_or rules n d) (sym e)) here
+              | inr ne ↦ inv.so_far j d (omega arith)
+            ];
+            rest = inv.rest;
+          })
+    ]

@@ -1,20 +1,19 @@
 -- A rule without conditions on lower layers has the stored count.
-use Rattle.std.proofs.Common.{◌≡◌, List, length, true, rules, arith, sym, ap, ◌∙◌, get_or}
+use Rattle.std.proofs.Common.{◌≡◌, List, true, rules, arith, sym, ap, ◌∙◌, get_or}
 use Rattle.sas_core.specs.declared.parts.Fact.{Fact}
 use Rattle.sas_axioms.specs.Conditions.{open_conditions}
 use Rattle.sas_axioms.proofs.LayerStart.{begins_as_kept}
 use Rattle.sas_axioms.proofs.RuleChanges.{conditions_within, conditions_few}
-use Rattle.sas_axioms.proofs.resting.Resting.count_of.Goals as goal
+use Rattle.sas_axioms.proofs.resting.Resting.count_below.Goals as goal
 
-pub returns-else-index : goal.returns-else-index
-returns-else-index g c =
+pub returns-else-index-clause-none : goal.returns-else-index-clause-none
+returns-else-index-clause-none g c =
     let p = c.args.task.now in
     let resting = c.requires.resting in
     let told : c.index.result.now ≡ get_or c.args.self.now.looks_below.items c.args.rule true = search rules in
-    ap (λ xs. get_or xs c.args.rule 0) c.as_slice.ensures
-    ∙ (resting.counted.counts.exact c.args.layer c.args.rule c.requires.rule
+    resting.counted.counts.exact c.args.layer c.args.rule c.requires.rule
     ∙ begins_as_kept p c.args.layer c.args.rule c.args.state.now c.args.self.now.counted.values c.requires.rule
-    ((resting.looks.each c.args.layer c.args.rule true c.requires.rule).0 (sym told ∙ c.if-index.false)) c.requires.follows c.requires.default resting.default)
+    ((resting.looks.each c.args.layer c.args.rule true c.requires.rule).0 (sym told ∙ c.if-index.false)) c.requires.follows c.requires.default resting.default
 
 pub index-requires : goal.index-requires
 index-requires g c = omega (arith, c.requires.rule.exists, c.requires.resting.looks.one_each)
@@ -28,9 +27,6 @@ pub open_of-requires-clause-few : goal.open_of-requires-clause-few
 open_of-requires-clause-few g c =
     conditions_few c.args.task.now c.task.ensures.well_ranged c.args.rule c.requires.rule.exists c.rule_conditions.result.now c.rule_conditions.ensures
 
-pub bounds-as_slice-rule : goal.bounds-as_slice-rule
-bounds-as_slice-rule g c = omega (arith, c.requires.rule.exists, c.requires.resting.counted.counts.one_each, ap length c.as_slice.ensures)
-
-pub returns-then-index : goal.returns-then-index
-returns-then-index g c =
+pub returns-then-index-clause-some : goal.returns-then-index-clause-some
+returns-then-index-clause-some g c =
     c.open_of.ensures ∙ ap (λ (cs : List Fact). open_conditions (λ v. get_or c.args.state.now v 0) cs) c.rule_conditions.ensures
