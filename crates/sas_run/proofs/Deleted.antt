@@ -18,9 +18,11 @@ use Rattle.sas_run.specs.Given.{given_to, Replaces}
 pub notes_on : (a b c : Deleted) → NotesOn a b → NotesOn b c → NotesOn a c
 notes_on a b c before after = record { noted = after.noted ∙ before.noted; room = omega (arith, before.room, after.room) }
 
+-- a step that notes nothing
 pub notes_still : (d : Deleted) → NotesOn d d
 notes_still d = record { noted = refl; room = omega arith }
 
+-- there is still room for as many
 pub room_on : (d d' : Deleted) (many : ℕ) → NotesOn d d' → HasRoom d many → HasRoom d' many
 room_on d d' many notes room noted = omega (arith, notes.room, room (sym notes.noted ∙ noted))
 

@@ -1,4 +1,4 @@
--- The facts that a step makes false, where they are noted.
+-- The facts that a step makes false, if they are noted.
 use Rattle.std.specs.Prelude.{◌≡◌, ℕ, ◌≤◌, List, IsTrue, vec_capacity}
 use Rattle.sas_core.specs.declared.parts.Parts.{Parts}
 use Rattle.sas_meaning.specs.Following.{HaveGone}
@@ -13,6 +13,6 @@ pub record NotesOn (d d' : Deleted) : Type 0 where
   pub noted : d'.noted ≡ d.noted
   pub room : vec_capacity d.facts ≤ vec_capacity d'.facts
 
--- if facts are noted, these may differ between s and s', as `HaveGone` says
+-- if facts are noted, they are those that held in s and may have been replaced in s'
 abbrev pub NotesGone : Parts → Deleted → List ℕ → List ℕ → Type 0
 NotesGone p d s s' = IsTrue d.noted → HaveGone p d.facts.items s s'

@@ -24,7 +24,7 @@ pub record IsPrepared {E : Type 0} (Ready : E → Parts → Type 0) (p : Parts) 
       → HasRoom w.deleted (length (operator_at p operator).effects)
   pub basic : IsFalse w.deleted.noted → (var : ℕ) → IsBasic p var
 
--- the evaluator settled this state last, if it is used: it is if deleted facts are noted
+-- if deleted facts are noted, this is the state that the evaluator settled last
 abbrev pub Follows : {E : Type 0} → (E → Parts → List ℕ → Type 0) → Parts → Stepper E → List ℕ
     → Type 0
 Follows follows p w s = IsTrue w.deleted.noted → follows w.evaluator p s

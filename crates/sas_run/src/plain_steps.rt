@@ -105,10 +105,12 @@ pub fn replace(fact: Fact, deleted: &mut Deleted, state: &mut State)
         → Replaces state.old fact deleted.old.facts.items deleted.new.facts.items }
     ensures notes { NotesOn deleted.old deleted.new }
 {
-    let before = state.value(fact.var);
-    if deleted.noted && before != fact.value {
+    if deleted.noted {
         let var = fact.var;
-        deleted.facts.push(Fact { var, value: before }).unwrap();
+        let value = state.value(var);
+        if value != fact.value {
+            deleted.facts.push(Fact { var, value }).unwrap();
+        }
     }
     state.set(fact);
 }
