@@ -1,4 +1,4 @@
--- What is said of the mutex groups of a task: one thing, always something, and what it means.
+-- A task has an answer about its mutex groups, and only one; and how the answer comes about.
 use Rattle.std.proofs.Common.{◌≡◌, ℕ, ◌+◌, ◌<◌, List, [], ◌∷◌, ◌++◌, length, take, get_or, refl, sym, ap, subst, ◌∙◌, arith, append-nil, Option, Some, None}
 use Rattle.std.proofs.lemmas.List.{take_more, length-take}
 use Rattle.std.proofs.lemmas.Grind.{flat_map-append}
@@ -10,9 +10,7 @@ use Rattle.sas_meaning.specs.LayerChecks.{layer_checks}
 use Rattle.sas_meaning.proofs.LayerChecksAreRules.{checks_are_rules}
 use Rattle.sas_lines.specs.Lines.{text}
 use Rattle.sas_groups.specs.declared.verdict.Verdict.{Verdict}
-use Rattle.sas_groups.specs.declared.verdict.Verdict.TheVariants.{Exclusive, Derived, Initial, Broken}
 use Rattle.sas_groups.proofs.JointLists.{one_list, some_list}
-use Rattle.sas_output.specs.declared.ending.Status.TheVariants.{No}
 use Rattle.sas_answers.specs.GroupWords.{group_line, verdict_lines_from, verdict_lines, groups_status}
 use Rattle.sas_answers.specs.Answers.{GroupsAnswer, LayeredGroupsAnswer, MutexAnswer}
 use Rattle.sas_output.specs.Ending.{Output}
@@ -41,20 +39,6 @@ lines_behind before after verdicts place otherwise h e f =
     ∙ sym (ap text (lines_next verdicts place otherwise h) ∙ flat_map-append (λ (line : List ℕ). line ++ 10 ∷ []) (verdict_lines (take place verdicts)) (group_line place (get_or verdicts place otherwise) ∷ [])
     ∙ ap (λ (x : List ℕ). text (verdict_lines (take place verdicts)) ++ x) (append-nil (group_line place (get_or verdicts place otherwise) ++ 10 ∷ [])))
 
--- ---- the status of verdicts
-
-pub status_otherwise : (verdict : Verdict) (verdicts : List Verdict) → (verdict ≡ Exclusive → ⊥) → groups_status (verdict ∷ verdicts) ≡ No
-status_otherwise Exclusive verdicts other = absurd (other refl)
-status_otherwise Derived verdicts other = refl
-status_otherwise Initial verdicts other = refl
-status_otherwise (Broken operator) verdicts other = refl
-
-pub status_on : (verdict : Verdict) (verdicts : List Verdict) → verdict ≡ Exclusive → groups_status (verdict ∷ verdicts) ≡ groups_status verdicts
-status_on Exclusive verdicts is = refl
-status_on Derived verdicts is = absurd cc
-status_on Initial verdicts is = absurd cc
-status_on (Broken operator) verdicts is = absurd cc
-
 -- ---- one answer, and some
 
 one_of : (p : Parts) (first : Option LayerFault) (a b : Output) → LayeredGroupsAnswer p first a → LayeredGroupsAnswer p first b → a ≡ b
@@ -65,7 +49,7 @@ pub one_mutex_answer : OneAnswer MutexAnswer
 one_mutex_answer p a b = one_of p (first_fault (layer_checks p)) a b
 
 some_of : (p : Parts) (first : Option LayerFault) → first_fault (layer_checks p) ≡ first → ((o : Output) → LayeredGroupsAnswer p first o → ⊥) → ⊥
-some_of p (Some fault) is none = some_check_answer p (λ o told. none o (rw is at told))
+some_of p (Some fault) is none = some_check_answer p (λ o answered. none o (rw is at answered))
 some_of p None is none = some_list p (λ verdicts are. none _ (verdicts, are, refl))
 
 pub some_mutex_answer : SomeAnswer MutexAnswer
@@ -74,4 +58,4 @@ some_mutex_answer p = some_of p (first_fault (layer_checks p)) refl
 -- ---- how the answer comes about
 
 pub groups_answered : (p : Parts) (o : Output) → IsLayered p → GroupsAnswer p o → MutexAnswer p o
-groups_answered p o layered told = subst (λ (first : Option LayerFault). LayeredGroupsAnswer p first o) (sym ((checks_are_rules p).1 layered)) told
+groups_answered p o layered answered = subst (λ (first : Option LayerFault). LayeredGroupsAnswer p first o) (sym ((checks_are_rules p).1 layered)) answered

@@ -1,4 +1,4 @@
--- What is said of a plan: one thing, and always something.
+-- There is an answer about a plan, and only one.
 use Rattle.std.proofs.Common.{◌≡◌, refl, sym, ap, ◌∙◌, inl, inr, Some}
 use Rattle.sas_core.specs.declared.parts.Parts.{Parts}
 use Rattle.sas_core.specs.PlanParts.{PlanParts}
@@ -28,17 +28,17 @@ one_verdict_answer p layered plan o q a b = elim a [
 ]
 
 module _ (p : Parts) (plan : PlanParts) (none : (o : Output) → VerdictAnswer p plan o → ⊥) where
-  -- each fault is told
-  fault_told : (fault : PlanFault) → IsFaultOf p plan fault → ⊥
-  fault_told Memory f = f
-  fault_told (NoOperator step) f = none _ (inr (NoOperator step, f, refl))
-  fault_told (NotApplicable step) f = none _ (inr (NotApplicable step, f, refl))
-  fault_told (Conflict step operator) f = none _ (inr (Conflict step operator, f, refl))
-  fault_told (GoalMissed index) f = none _ (inr (GoalMissed index, f, refl))
-  fault_told (CostDiffers sum) f = none _ (inr (CostDiffers sum, f, refl))
+  -- each fault has an answer
+  fault_answered : (fault : PlanFault) → IsFaultOf p plan fault → ⊥
+  fault_answered Memory f = f
+  fault_answered (NoOperator step) f = none _ (inr (NoOperator step, f, refl))
+  fault_answered (NotApplicable step) f = none _ (inr (NotApplicable step, f, refl))
+  fault_answered (Conflict step operator) f = none _ (inr (Conflict step operator, f, refl))
+  fault_answered (GoalMissed index) f = none _ (inr (GoalMissed index, f, refl))
+  fault_answered (CostDiffers sum) f = none _ (inr (CostDiffers sum, f, refl))
 
 pub some_verdict_answer : (p : Parts) → WellRanged p → IsLayered p → SomeAnswer (VerdictAnswer p)
 some_verdict_answer p ranged layered plan none = elim (some_verdict p plan ranged layered) [
   | inl valid ↦ none (valid_answer plan) (inl (valid, refl))
-  | inr fault ↦ fault_told p plan none fault.0 fault.1
+  | inr fault ↦ fault_answered p plan none fault.0 fault.1
 ]

@@ -1,6 +1,6 @@
 -- Each line begins with two spaces, and holds neither LF nor CR.
-use Rattle.std.proofs.Common.{◌≡◌, ℕ, zero, suc, ◌-◌, Bool, true, false, List, [], ◌∷◌, ◌++◌, get_or, refl, ap, arith, IsTrue, not}
-use Rattle.std.specs.Prelude.{◌==◌, ◌&&◌, length, if◌then◌else◌, codes, decimal, slice_get}
+use Rattle.std.proofs.Common.{ℕ, zero, suc, ◌-◌, List, [], ◌∷◌, ◌++◌, get_or, refl, ap, arith, IsTrue, not}
+use Rattle.std.specs.Prelude.{◌==◌, length, if◌then◌else◌, codes, decimal, slice_get}
 use Rattle.std.specs.List.{AllByRecursion, list_all}
 use Rattle.std.specs.Option.{unwrap_or}
 use Rattle.std.proofs.lemmas.Bool.{and_parts, and_from, ne_eqb}

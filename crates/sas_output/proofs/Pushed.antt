@@ -1,12 +1,7 @@
 -- Bytes that are pushed, call after call.
-use Rattle.std.proofs.Common.{◌≡◌, ℕ, ◌+◌, ◌<◌, List, [], ◌++◌, append_assoc, append-nil, take, get_or, flat_map, length, refl, sym, ap, subst, ◌∙◌, Option, Some, Result, true, false}
-use Rattle.std.specs.Io.KnownBytes.{Appends}
-use Rattle.sas_lines.specs.Device.{Device}
+use Rattle.std.proofs.Common.{◌≡◌, ℕ, ◌+◌, ◌<◌, List, [], ◌++◌, append_assoc, append-nil, take, get_or, flat_map, length, refl, sym, subst, ◌∙◌, Option, true, false}
 use Rattle.sas_lines.specs.declared.devices.Short.{Short}
 use Rattle.sas_output.specs.declared.sink.Sink.{Sink}
-use Rattle.sas_output.specs.declared.ending.Status.{Status}
-use Rattle.sas_output.specs.declared.ending.ToolFault.{ToolFault}
-use Rattle.sas_output.specs.Ending.{Output, EndsCounting}
 use Rattle.sas_output.specs.Pieces.{Piece, Puts, Breaks}
 use Rattle.sas_output.specs.Sink.{empty_piece, Pushed, PushedBy, Pushes}
 use Rattle.sas_output.proofs.Putting.{next_item, puts_then, puts_then_breaks, breaks_with_more}
@@ -38,28 +33,28 @@ module _ {W : Type 0} (contents : W → Option (List ℕ)) where
   pushes_lost s bytes failed = record {
     same = refl;
     text = λ start text pushed.
-        let by = subst (PushedBy start (contents s.out.now.device) s.pieces s.short text) failed pushed in
-        subst (PushedBy start (contents s.out.now.device) s.pieces s.short (text ++ bytes)) (sym failed)
+        let by = subst (PushedBy start (contents s.out.now.device) s.pieces.now s.short text) failed pushed in
+        subst (PushedBy start (contents s.out.now.device) s.pieces.now s.short (text ++ bytes)) (sym failed)
         (breaks_with_more start (contents s.out.now.device) empty_piece empty_piece text bytes (record { written = s.short }) by);
   }
 
   -- what was pushed as long as no write failed
-  pub puts_so_far : (s : Sink W) → s.out.now.failed ≡ false → (start : Option (List ℕ)) (text : List ℕ) → Pushed contents start s text → Puts start (contents s.out.now.device) empty_piece s.pieces text
-  puts_so_far s well start text pushed = subst (PushedBy start (contents s.out.now.device) s.pieces s.short text) well pushed
+  pub puts_so_far : (s : Sink W) → s.out.now.failed ≡ false → (start : Option (List ℕ)) (text : List ℕ) → Pushed contents start s text → Puts start (contents s.out.now.device) empty_piece s.pieces.now text
+  puts_so_far s well start text pushed = subst (PushedBy start (contents s.out.now.device) s.pieces.now s.short text) well pushed
 
   module _ (s t : Sink W) (bytes : List ℕ) (same : t.out.ghost_name ≡ s.out.ghost_name) (well : s.out.now.failed ≡ false) where
-    pub pushes_put : t.out.now.failed ≡ false → Puts (contents s.out.now.device) (contents t.out.now.device) s.pieces t.pieces bytes → Pushes contents s t bytes
+    pub pushes_put : t.out.now.failed ≡ false → Puts (contents s.out.now.device) (contents t.out.now.device) s.pieces.now t.pieces.now bytes → Pushes contents s t bytes
     pushes_put is puts = record {
       same = same;
-      text = λ start text pushed. subst (PushedBy start (contents t.out.now.device) t.pieces t.short (text ++ bytes)) (sym is)
-          (puts_then start (contents s.out.now.device) empty_piece s.pieces text (contents t.out.now.device) t.pieces bytes (puts_so_far s well start text pushed) puts);
+      text = λ start text pushed. subst (PushedBy start (contents t.out.now.device) t.pieces.now t.short (text ++ bytes)) (sym is)
+          (puts_then start (contents s.out.now.device) empty_piece s.pieces.now text (contents t.out.now.device) t.pieces.now bytes (puts_so_far s well start text pushed) puts);
     }
 
-    pub pushes_broken : t.out.now.failed ≡ true → Breaks (contents s.out.now.device) (contents t.out.now.device) s.pieces bytes (record { written = t.short }) → Pushes contents s t bytes
+    pub pushes_broken : t.out.now.failed ≡ true → Breaks (contents s.out.now.device) (contents t.out.now.device) s.pieces.now bytes (record { written = t.short }) → Pushes contents s t bytes
     pushes_broken is broken = record {
       same = same;
-      text = λ start text pushed. subst (PushedBy start (contents t.out.now.device) t.pieces t.short (text ++ bytes)) (sym is)
-          (puts_then_breaks start (contents s.out.now.device) empty_piece s.pieces text (contents t.out.now.device) bytes (record { written = t.short }) (puts_so_far s well start text pushed) broken);
+      text = λ start text pushed. subst (PushedBy start (contents t.out.now.device) t.pieces.now t.short (text ++ bytes)) (sym is)
+          (puts_then_breaks start (contents s.out.now.device) empty_piece s.pieces.now text (contents t.out.now.device) bytes (record { written = t.short }) (puts_so_far s well start text pushed) broken);
     }
 
   -- the bytes of the next item, behind those of the items before it
@@ -67,11 +62,3 @@ module _ {W : Type 0} (contents : W → Option (List ℕ)) where
       → Pushes contents s t (flat_map says (take i items)) → Pushes contents t u (says (get_or items i d)) → Pushes contents s u (flat_map says (take (i + 1) items))
   pushes_item says items i d s t u h first second =
       subst (Pushes contents s u) (sym (next_item says items i d h)) (pushes_then s t u _ _ first second)
-
-  -- how a text ended, for the device that was borrowed
-  pub finish_ends : (s : Sink W) (start : Option (List ℕ)) (status : Status) (result : Result Status ToolFault) (now : Device W) (pushed text : List ℕ) → pushed ≡ text
-      → EndsCounting (λ (output : Option Output). output ≡ Some (record { text = pushed; status = status })) (Appends start (contents s.out.now.device)) result → s.out.now ≡ now
-      → EndsCounting (λ (output : Option Output). output ≡ Some (record { text = text; status = status })) (Appends start (contents now.device)) result
-  finish_ends s start status result now pushed text whole ends is =
-      subst (λ (t : List ℕ). EndsCounting (λ (output : Option Output). output ≡ Some (record { text = t; status = status })) (Appends start (contents now.device)) result) whole
-      (subst (λ (d : Device W). EndsCounting (λ (output : Option Output). output ≡ Some (record { text = pushed; status = status })) (Appends start (contents d.device)) result) is ends)

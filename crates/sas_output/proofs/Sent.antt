@@ -29,13 +29,6 @@ first_counted a b p bytes whole short starts is broken =
       subst (Appends a b) (sym first) broken.sent,
     )
 
--- exactly so many if the text is shorter than 2 ^ 64
-pub first_sent : (a b : Option (List ℕ)) (p : Piece) (bytes whole : List ℕ) (short : Short) → p ≡ record { held = []; written = 0 } → bytes ≡ whole → length whole < 2 ^ 64 → Breaks a b p bytes short → (short.written < length whole) × Appends a b (take short.written whole)
-first_sent a b p bytes whole short starts is fits broken =
-    let (number, counts, less, sent) = first_counted a b p bytes whole short starts is broken in
-    let told : number ≡ short.written = sym (counts (omega (arith, less, fits))) in
-    (omega (arith, told, less), subst (λ (n : ℕ). Appends a b (take n whole)) told sent)
-
 -- ---- how a run ends
 
 module _ (Out : Option Output → Type 0) (Sent : List ℕ → Type 0) where

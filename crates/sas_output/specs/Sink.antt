@@ -1,7 +1,5 @@
 -- A text on its way to a device.
 use Rattle.std.specs.Prelude.{◌≡◌, ℕ, Bool, true, false, List, [], ◌++◌, Option}
-use Rattle.sas_lines.specs.Device.{Device}
-use Rattle.sas_lines.specs.declared.devices.Short.{Short}
 use Rattle.sas_output.specs.declared.sink.Sink.{Sink}
 use Rattle.sas_output.specs.Pieces.{Piece, Puts, Breaks}
 
@@ -20,7 +18,7 @@ module _ {W : Type 0} (contents : W → Option (List ℕ)) where
   -- the text was added since the device had this start
   abbrev pub Pushed : Option (List ℕ) → Sink W → List ℕ → Type 0
   Pushed start sink text =
-      PushedBy start (contents sink.out.now.device) sink.pieces sink.short text sink.out.now.failed
+      PushedBy start (contents sink.out.now.device) sink.pieces.now sink.short text sink.out.now.failed
 
   -- these bytes were added to the text
   pub record Pushes (old new : Sink W) (bytes : List ℕ) : Type 0 where

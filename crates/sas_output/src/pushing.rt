@@ -13,6 +13,7 @@ use crate::line::Line;
 use crate::names::{Named, given_by, operator_name, set_by, value_name};
 use crate::pieces::Pieces;
 use crate::sink::Sink;
+use crate::told::Told;
 use crate::wording::{Part, Rest, Start, wording};
 use crate::words::{Word, Words};
 use itoa::Buffer;
@@ -22,40 +23,31 @@ use sas_lines::Watched;
 use std::alloc::Global;
 use std::io::Write;
 
-/// Writes an answer that says no: its verdict, a line with its end, and its reasons. The text goes out in pieces. If an `Err` isn't
-/// a failed write, it is `Memory`, and nothing was written. Not to be called after a failure.
+/// Writes the verdict and, behind it, the lines of the reasons for it. Returns the verdict's status. The text goes out in pieces. If an
+/// `Err` isn't a failed write, it is `Memory`, and nothing was written. Not to be called after a failure.
 pub fn write_reasons<W: Write>(
     alloc: Global,
     out: &mut Watched<W>,
-    verdict: &[u8],
+    verdict: &Told,
     named: &Named<'_>,
     lines: &[Line],
 ) -> Result<Status, ToolFault>
     requires { out.old.failed ≡ false }
     ensures ends { EndsCounting (λ output. output ≡ Some (record {
-      text = verdict.now
+      text = verdict.now.text.items
           ++ reasons_text named.now.task.now (steps_of named.now.plan) lines.now;
-      status = Status.No;
+      status = verdict.now.status;
     })) (Appends (W.contents out.old.device) (W.contents out.new.device)) result }
     ensures nothing { IfErr result (λ e. IsWrite e
         ⊎ ((e ≡ ToolFault.Memory) × (out.new ≡ out.old))) }
     ensures writes { IsErrAnd result IsWrite ↔ IsTrue out.new.failed }
 {
     // What takes memory comes first.
-    let pieces = Pieces::new(alloc)?;
-    let mut sink = Sink::new(pieces, out);
-    sink.push(verdict);
+    let mut pieces = Pieces::new(alloc)?;
+    let mut sink = Sink::new(&mut pieces, out);
+    sink.push(verdict.text.as_slice());
     push_lines(&mut sink, named, lines);
-    let ended = sink.finish(Status::No);
-    let Sink {
-        out: device,
-        pieces,
-        short: _,
-    } = sink;
-    drop(pieces);
-    // No effect at run time. The proof reads what `out` holds from this use of `device`.
-    let _ = &*device;
-    ended
+    sink.finish(verdict.status)
 }
 
 /// Adds the lines, each with its end, to the text.

@@ -15,16 +15,16 @@ use std::io::Write;
 #[derive(Drop)]
 pub struct Sink<'w, W> {
     pub out: &'w mut Watched<W>,
-    pub pieces: Pieces,
+    pub pieces: &'w mut Pieces,
     /// How many bytes had been written when a write failed.
     pub short: usize,
 }
 
 impl<'w, W: Write> Sink<'w, W> {
     /// Opens a text that goes to this device by these pieces, which hold nothing.
-    pub fn new(pieces: Pieces, out: &'w mut Watched<W>) -> Sink<'w, W>
+    pub fn new(pieces: &'w mut Pieces, out: &'w mut Watched<W>) -> Sink<'w, W>
         requires failed { out.old.failed ≡ false }
-        requires empty { pieces ≡ empty_piece }
+        requires empty { pieces.old ≡ empty_piece }
         ensures same { result.out.ghost_name ≡ out.entry.ghost_name }
         ensures text { Pushed W.contents (W.contents out.old.device) result [] }
     {
@@ -75,21 +75,19 @@ impl<'w, W: Write> Sink<'w, W> {
     }
 
     /// Writes what is held back, and returns the status, or that a write failed.
-    pub fn finish(&mut self, status: Status) -> Result<Status, ToolFault>
-        ensures same { self.new.out.ghost_name ≡ self.old.out.ghost_name }
+    pub fn finish(self, status: Status) -> Result<Status, ToolFault>
         ensures ends { (start : Option (List ℕ)) (text : List ℕ)
-            → Pushed W.contents start self.old text
+            → Pushed W.contents start self.entry text
             → EndsCounting (λ output. output ≡ Some (record { text = text; status = status }))
-            (Appends start (W.contents self.new.out.now.device)) result }
+            (Appends start (W.contents self.exit.0.now.device)) result }
         ensures write { IfErr result IsWrite }
-        ensures note { IsErrAnd result IsWrite ↔ IsTrue self.new.out.now.failed }
+        ensures note { IsErrAnd result IsWrite ↔ IsTrue self.exit.0.now.failed }
     {
-        if self.out.failed() {
-            return Err(ToolFault::Write {
-                written: self.short,
-            });
+        let Sink { out, pieces, short } = self;
+        if out.failed() {
+            return Err(ToolFault::Write { written: short });
         }
-        match self.pieces.flush(self.out) {
+        match pieces.flush(out) {
             Ok(()) => Ok(status),
             Err(short) => Err(ToolFault::Write {
                 written: short.written,

@@ -27,13 +27,6 @@ module _ (o : Output) (Sent : List ℕ → Type 0) where
   pub ends_well : (P : Status → Type 0) (r : Result Status ToolFault) → Ends (λ output. output ≡ Some o) Sent r → ((status : Status) → status ≡ o.status → Sent o.text → P status) → IfOk r P
   ends_well P r ends = ends_counting_well P r (counting_ends (λ output. output ≡ Some o) Sent r ends)
 
--- a run that ends before an answer is known claims at most that there is no output
-pub ends_err : (Out : Option Output → Type 0) (Sent : List ℕ → Type 0) (why : ToolFault) → (IsWrite why → ⊥) → (why ≡ tool_fault.TooLong → Out None) → EndsCounting Out Sent (Err why)
-ends_err Out Sent (tool_fault.Write written) other long = absurd (other tt)
-ends_err Out Sent tool_fault.TooLong other long = long refl
-ends_err Out Sent tool_fault.Memory other long = tt
-ends_err Out Sent tool_fault.Read other long = tt
-
 -- what ends with one output ends with another that follows from it, where the inputs decided
 pub ends_counting_by : (Sent : List ℕ → Type 0) (A B : Option Output → Type 0) (r : Result Status ToolFault) → (IsDecided r → (o : Option Output) → A o → B o) → EndsCounting A Sent r → EndsCounting B Sent r
 ends_counting_by Sent A B (Ok status) to (output, is, same, sent) = (output, to tt (Some output) is, same, sent)

@@ -33,6 +33,7 @@ use Rattle.sas_answers.specs.PlanWords.{valid_line, fault_words, invalid_line}
 use Rattle.sas_outputs.proofs.Outputs.{refused_kind}
 use Rattle.sas_outputs.proofs.PlanOutputs.{IsRefusal, Refuses}
 use Rattle.sas_answers.proofs.VerdictAnswers.{one_verdict_answer}
+use Rattle.sas_answers.proofs.WordedLines.{worded}
 
 -- ---- properties of all outputs about a plan
 
@@ -49,10 +50,9 @@ record IsSolved (b c : List ℕ) (o : Output) : Type 0 where
 -- no line with words of its own is that of a valid plan
 other_words : (words : Option (List ℕ)) (line_of : List ℕ → List ℕ) (o : Output) → ((w : List ℕ) (steps cost : ℕ) → line_of w ≡ valid_line steps cost → ⊥)
     → option_map (λ w. record { text = line_of w; status = No }) words ≡ Some o → IsOther o
-other_words None line_of o apart is = absurd (none-some o is)
-other_words (Some w) line_of o apart is =
-    let same : (record { text = line_of w; status = No }) ≡ o = cc in
-    record { status = sym (ap (λ (x : Output). x.status) same); text = λ steps cost e. apart w steps cost (ap (λ (x : Output). x.text) same ∙ e) }
+other_words words line_of o apart is =
+    let w = worded words line_of o is in
+    record { status = w.status; text = λ steps cost e. apart w.said steps cost (sym w.text ∙ e) }
 
 not_same : (m n : ℕ) → m < n → n ≡ m → ⊥
 not_same m n less same = omega arith
@@ -67,22 +67,16 @@ invalid_line_apart : (steps cost : ℕ) (w : List ℕ) → invalid_line w ≡ va
 invalid_line_apart steps cost w e = not_same 105 118 (omega arith) (sym (ap (λ (t : List ℕ). get_or t 5 0) e))
 
 -- nor is the refusal of a task for a fault of its layers, whatever follows it
-line_begins : (words : Option (List ℕ)) (o : Output) → option_map (λ w. record { text = layers_line w; status = No }) words ≡ Some o → (get_or o.text 0 0 ≡ 116) × (o.status ≡ No)
-line_begins None o is = absurd (none-some o is)
-line_begins (Some w) o is =
-    let same : (record { text = layers_line w; status = No }) ≡ o = cc in
-    (sym (ap (λ (x : Output). get_or x.text 0 0) same), sym (ap (λ (x : Output). x.status) same))
-
 begins_same : (front behind : List ℕ) → get_or front 0 0 ≡ 116 → get_or (front ++ behind) 0 0 ≡ 116
 begins_same [] behind is = absurd (omega (arith, is))
 begins_same (b ∷ front) behind is = is
 
 refusal_other : (fault : LayerFault) (o : Output) → IsRefusal fault o → IsOther o
 refusal_other fault o r =
-    let first = line_begins (layer_words fault) r.plain r.is in
-    let begins = ap (λ (t : List ℕ). get_or t 0 0) r.text ∙ begins_same (r.plain).text r.behind first.0 in
+    let w = worded (layer_words fault) layers_line r.plain r.is in
+    let begins = ap (λ (t : List ℕ). get_or t 0 0) r.text ∙ begins_same (r.plain).text r.behind (ap (λ (t : List ℕ). get_or t 0 0) w.text) in
     record {
-      status = r.status ∙ first.1;
+      status = r.status ∙ w.status;
       text = λ steps cost e. not_same 112 116 (omega arith) (sym begins ∙ ap (λ (t : List ℕ). get_or t 0 0) e);
     }
 

@@ -3,7 +3,6 @@ mod ShownTexts
 pub mod ReasonLines
 pub mod Outputs
 pub mod PlanOutputs
-pub mod WordedLines
 pub mod Headlines
 pub mod Endings
 pub mod Lengths

@@ -50,19 +50,10 @@ impl Summary {
     {
         // What takes memory comes first.
         let numbers = numbers_text(alloc, &self.outline)?;
-        let pieces = Pieces::new(alloc)?;
-        let mut sink = Sink::new(pieces, out);
+        let mut pieces = Pieces::new(alloc)?;
+        let mut sink = Sink::new(&mut pieces, out);
         push_summary(&mut sink, numbers.as_slice(), &self.outline);
-        let ended = sink.finish(Status::Yes);
-        let Sink {
-            out: device,
-            pieces,
-            short: _,
-        } = sink;
-        drop(pieces);
-        // No effect at run time. The proof reads what `out` holds from this use of `device`.
-        let _ = &*device;
-        ended
+        sink.finish(Status::Yes)
     }
 }
 

@@ -1,7 +1,6 @@
 -- The rules that concern a fact that doesn't hold. A fact has exactly one cause.
 use Rattle.std.proofs.Common.{◌≡◌, ℕ, ◌<◌, Bool, true, false, List, [], ◌∷◌, ◌++◌, length, get_or, slice_index, Some, refl, sym, ◌∙◌, ap, subst, inl, inr}
 use Rattle.std.specs.Prelude.{◌==◌, ◌&&◌, is_some, find, map}
-use Rattle.std.specs.List.{Contains}
 use Rattle.std.proofs.lemmas.Bool.{false≢true, and_parts, eqb-true, not-true, eqb-false}
 use Rattle.std.proofs.lemmas.Bool.Decides.{eqb_tells, Decides-eqb, Decides-not}
 use Rattle.std.proofs.lemmas.List.Elements.{All-nil, All-cons}

@@ -17,7 +17,7 @@ use Rattle.sas_meaning.proofs.Unique.{differs_tells}
 use Rattle.sas_meaning.proofs.Forced.{differs_true}
 use Rattle.sas_reasons.specs.Lowest.{IsLowest}
 use Rattle.sas_reasons.specs.Derivation.{fires_with, reached, IsRank, HasLayerAndRank, FiresNext, IsGivenBy, DependsOn, Itself, Below, IsLess, ComesBefore}
-use Rattle.sas_reasons.specs.Laws.{RankIfDiffers, OneRank, SomeGiver, OneGiver, GiverFires, AsksLower, AsksEarlier, GiverLooksDown, ItselfIsLast, NoCircle, AllDiffer}
+use Rattle.sas_reasons.specs.Laws.{RankIfDiffers, OneRank, SomeGiver, OneGiver, GiverFires, RequiresLower, RequiresEarlier, GiverLooksDown, ItselfIsLast, NoCircle, AllDiffer}
 use Rattle.sas_reasons.proofs.Lowest.{lowest_is_one, lowest_below, lowest_from}
 use Rattle.sas_reasons.proofs.Rounds.{Fires, fires_decides, ReachedBy, reached_by, more_hold, reached_differs, differs_reached}
 
@@ -144,10 +144,10 @@ module _ (p : Parts) (s : List ℕ) (layered : IsLayered p) (settled : IsSettled
 
     -- if a condition requires a value of a derived variable that isn't its default, this variable
     -- comes before
-    asks_earlier : (c : Fact) (layer : ℕ) → LooksDown p (rule_at p rule).var c → IsOnLayer p layer c.var
+    requires_earlier : (c : Fact) (layer : ℕ) → LooksDown p (rule_at p rule).var c → IsOnLayer p layer c.var
         → value_with p given.layer s (reached p given.layer s given.before) c.var ≡ c.value → get_or s c.var 0 ≡ c.value
         → c.value ≢ default_of p c.var → ComesBefore p s c.var var
-    asks_earlier c layer down on hold holds other = elim (cases_eq layer given.layer) [
+    requires_earlier c layer down on hold holds other = elim (cases_eq layer given.layer) [
       | inr ne ↦ (let le = (down given.layer layer on_its_layer on).0 in
           let r = (rank_if_differs p s layer c.var layered settled on).1 (differs_true p s c.var (λ e. other (sym holds ∙ e))) in
           record {
@@ -181,7 +181,7 @@ module _ (p : Parts) (s : List ℕ) (layered : IsLayered p) (settled : IsSettled
 
     looks : (c : Fact) → LooksDown p (rule_at p rule).var c
         → value_with p given.layer s (reached p given.layer s given.before) c.var ≡ c.value → get_or s c.var 0 ≡ c.value
-        → IsBasic p c.var ⊎ (AsksLower p var c ⊎ AsksEarlier p s var c)
+        → IsBasic p c.var ⊎ (RequiresLower p var c ⊎ RequiresEarlier p s var c)
     looks c down hold holds = elim (layer_cases p c.var) [
       | inl b ↦ inl b
       | inr w ↦ elim (cases_eq c.value (default_of p c.var)) [
@@ -190,14 +190,14 @@ module _ (p : Parts) (s : List ℕ) (layered : IsLayered p) (settled : IsSettled
           here = given.layer;
           there = w.0;
           on = given.stands.on;
-          asked = w.1;
+          on_there = w.1;
           lower = (down given.layer w.0 on_its_layer w.1).1 e;
         }))
-        | inr other ↦ inr (inr (record { other = other; earlier = asks_earlier c w.0 down w.1 hold holds other }))
+        | inr other ↦ inr (inr (record { other = other; earlier = requires_earlier c w.0 down w.1 hold holds other }))
       ]
     ]
 
-    pub looks_down : All (λ (c : Fact). IsBasic p c.var ⊎ (AsksLower p var c ⊎ AsksEarlier p s var c)) (rule_at p rule).conditions
+    pub looks_down : All (λ (c : Fact). IsBasic p c.var ⊎ (RequiresLower p var c ⊎ RequiresEarlier p s var c)) (rule_at p rule).conditions
     looks_down j d lt = looks (get_or (rule_at p rule).conditions j d)
         ((layered.rules rule _ given.lowest.has.exists fires.can).order j d lt) (fires.hold j d lt) (conditions_hold j d lt)
 
@@ -205,9 +205,9 @@ module _ (p : Parts) (s : List ℕ) (layered : IsLayered p) (settled : IsSettled
     -- defaults
     pub rests_on_earlier : (other : ℕ) → DependsOn p rule other → ComesBefore p s other var
     rests_on_earlier other rests =
-        at (All-contains (λ (c : Fact). IsBasic p c.var ⊎ (AsksLower p var c ⊎ AsksEarlier p s var c)) (rule_at p rule).conditions rests.condition looks_down rests.among)
+        at (All-contains (λ (c : Fact). IsBasic p c.var ⊎ (RequiresLower p var c ⊎ RequiresEarlier p s var c)) (rule_at p rule).conditions rests.condition looks_down rests.among)
       where
-        at : IsBasic p rests.condition.var ⊎ (AsksLower p var rests.condition ⊎ AsksEarlier p s var rests.condition) → ComesBefore p s other var
+        at : IsBasic p rests.condition.var ⊎ (RequiresLower p var rests.condition ⊎ RequiresEarlier p s var rests.condition) → ComesBefore p s other var
         at (inl basic) = absurd (false≢true (sym (ap is_some (subst (λ v. layer_of p.variables v ≡ None) rests.on basic)) ∙ rests.derived))
         at (inr (inl lower)) = absurd (rests.other (subst (λ v. rests.condition.value ≡ default_of p v) rests.on lower.default))
         at (inr (inr earlier)) = subst (λ v. ComesBefore p s v var) rests.on earlier.earlier

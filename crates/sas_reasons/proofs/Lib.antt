@@ -7,7 +7,7 @@ pub mod Derivation
 pub mod Sorting
 pub mod Listing
 pub mod Conflicts
-pub mod Telling
+pub mod Repeats
 pub mod Causes
 pub mod Places
 pub mod WhyPlan

@@ -67,12 +67,12 @@ pub record Listing (Has : ℕ → Type 0) : Type 0 where
   pub whole : (rule : ℕ) → Has rule → Contains rules rule
 
 -- a condition requires a value of a derived variable that isn't its default
-record Asks (p : Parts) (c : Fact) : Type 0 where
+record RequiresDerived (p : Parts) (c : Fact) : Type 0 where
   derived : IsDerived p.variables c.var
   other : c.value ≢ default_of p c.var
 
-asks_or_not : (p : Parts) (c : Fact) → Asks p c ⊎ (Asks p c → ⊥)
-asks_or_not p c = elim (cases_Bool (is_some (layer_of p.variables c.var))) [
+requires_derived_or_not : (p : Parts) (c : Fact) → RequiresDerived p c ⊎ (RequiresDerived p c → ⊥)
+requires_derived_or_not p c = elim (cases_Bool (is_some (layer_of p.variables c.var))) [
   | inr n ↦ inr (λ a. false≢true (sym n ∙ a.derived))
   | inl y ↦ elim (cases_eq c.value (default_of p c.var)) [
     | inl e ↦ inr (λ a. a.other e)
@@ -98,34 +98,34 @@ module _ (p : Parts) (s : List ℕ) where
 
   -- the rules of the derivations of the variables in these conditions
   abbrev RuleOfOne : List Fact → ℕ → Type 0
-  RuleOfOne cs rule = (c : Fact) × Contains cs c × Asks p c × IsRuleOf p s c.var rule
+  RuleOfOne cs rule = (c : Fact) × Contains cs c × RequiresDerived p c × IsRuleOf p s c.var rule
 
-  gathered : (cs : List Fact) → ((c : Fact) → Contains cs c → Asks p c → Listing (IsRuleOf p s c.var)) → Listing (RuleOfOne cs)
+  gathered : (cs : List Fact) → ((c : Fact) → Contains cs c → RequiresDerived p c → Listing (IsRuleOf p s c.var)) → Listing (RuleOfOne cs)
   gathered [] lists = record {
     rules = [];
     each = λ rule h. absurd (contains_none rule h);
     whole = λ rule h. absurd (contains_none h.0 h.1);
   }
-  gathered (c ∷ cs) lists = more (asks_or_not p c) (gathered cs (λ d h a. lists d (contains_tail c cs d h) a))
+  gathered (c ∷ cs) lists = more (requires_derived_or_not p c) (gathered cs (λ d h a. lists d (contains_tail c cs d h) a))
     where
       later : (rule : ℕ) → RuleOfOne cs rule → RuleOfOne (c ∷ cs) rule
       later rule w = (w.0, contains_tail c cs w.0 w.1, w.2, w.3)
 
-      more : Asks p c ⊎ (Asks p c → ⊥) → Listing (RuleOfOne cs) → Listing (RuleOfOne (c ∷ cs))
+      more : RequiresDerived p c ⊎ (RequiresDerived p c → ⊥) → Listing (RuleOfOne cs) → Listing (RuleOfOne (c ∷ cs))
       more (inr none) rest = record {
         rules = rest.rules;
         each = λ rule h. later rule (rest.each rule h);
         whole = λ rule h. elim (contains_cases c cs h.0 h.1) [
-          | inl e ↦ absurd (none (subst (λ d. Asks p d) (sym e) h.2))
+          | inl e ↦ absurd (none (subst (λ d. RequiresDerived p d) (sym e) h.2))
           | inr behind ↦ rest.whole rule (h.0, behind, h.2, h.3)
         ];
       }
-      more (inl asks) rest =
-          let its = lists c (contains_head c cs) asks in
+      more (inl requires) rest =
+          let its = lists c (contains_head c cs) requires in
           record {
             rules = its.rules ++ rest.rules;
             each = λ rule h. elim (Contains-append_cases its.rules rest.rules rule h) [
-              | inl here ↦ (c, contains_head c cs, asks, its.each rule here)
+              | inl here ↦ (c, contains_head c cs, requires, its.each rule here)
               | inr there ↦ later rule (rest.each rule there)
             ];
             whole = λ rule h. elim (contains_cases c cs h.0 h.1) [
@@ -139,8 +139,8 @@ module _ (p : Parts) (s : List ℕ) where
     -- variables on which it rests
     listed : (var rule : ℕ) → IsGivenBy p s var rule → ((other : ℕ) → ComesBefore p s other var → Listing (IsRuleOf p s other))
         → Listing (IsRuleOf p s var)
-    listed var rule given lists = from (gathered (rule_at p rule).conditions (λ c among asks. lists c.var (rests_on_earlier p s layered settled var rule given c.var
-        (record { condition = c; among = among; on = refl; derived = asks.derived; other = asks.other }))))
+    listed var rule given lists = from (gathered (rule_at p rule).conditions (λ c among requires. lists c.var (rests_on_earlier p s layered settled var rule given c.var
+        (record { condition = c; among = among; on = refl; derived = requires.derived; other = requires.other }))))
       where
         on : (rule_at p rule).var ≡ var
         on = giver_on p s var rule given

@@ -135,9 +135,9 @@ module _ (p : Parts) (layer : ℕ) (s : List ℕ) where
             | inl y ↦ given_on p layer s b c.var w.0 ∙ (ap (λ t. cond t (new_value_of p c.var) (default_of p c.var)) (more c.var w.0 y ∙ sym y)
                 ∙ (sym (given_on p layer s a c.var w.0) ∙ h))
             | inr not_f ↦
-                (let asks : c.value ≡ default_of p c.var =
+                (let requires : c.value ≡ default_of p c.var =
                 sym h ∙ (given_on p layer s a c.var w.0 ∙ ap (λ t. cond t (new_value_of p c.var) (default_of p c.var)) not_f) in
-                let lt : layer < layer = (down layer layer on w.0).1 asks in
+                let lt : layer < layer = (down layer layer on w.0).1 requires in
                 absurd (omega arith))
           ]
         ]

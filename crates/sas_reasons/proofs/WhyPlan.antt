@@ -77,26 +77,26 @@ conflict_one p s operator a b x y =
     x.3 ∙ (ap (λ d. line.Operator operator ∷ line.ConflictingEffect operator d ∷ line.ConflictingEffect operator x.1 ∷ []) same.0
     ∙ (ap (λ e. line.Operator operator ∷ line.ConflictingEffect operator y.0 ∷ line.ConflictingEffect operator e ∷ []) same.1 ∙ sym y.3))
 
-fault_told_one : (p : Parts) (plan : PlanParts) (run : Run) (fault : PlanFault) (a b : List Line)
+fault_lines_one : (p : Parts) (plan : PlanParts) (run : Run) (fault : PlanFault) (a b : List Line)
     → AreFaultLines p plan run fault a → AreFaultLines p plan run fault b → a ≡ b
-fault_told_one p plan run (NoOperator step) a b x y = behind_one (line.Step step) _ (like_one p (step_at plan (step - 1))) a b x y
-fault_told_one p plan run (NotApplicable step) a b x y =
+fault_lines_one p plan run (NoOperator step) a b x y = behind_one (line.Step step) _ (like_one p (step_at plan (step - 1))) a b x y
+fault_lines_one p plan run (NotApplicable step) a b x y =
     behind_one (line.Step step) _ (each_one (AreFailedPreconditionLines p run) (inapplicable_one p run) (operators_of p (step_at plan (step - 1)))) a b x y
-fault_told_one p plan run (Conflict step operator) a b x y = behind_one (line.Step step) _ (conflict_one p (last_state run) operator) a b x y
-fault_told_one p plan run (GoalMissed index) a b x y = each_one (AreGoalFactLines p run) (goal_fact_one p run) (places (fails (last_state run)) p.goal) a b x y
-fault_told_one p plan run (CostDiffers sum) a b x y = x ∙ sym y
-fault_told_one p plan run Memory a b x y = absurd x
+fault_lines_one p plan run (Conflict step operator) a b x y = behind_one (line.Step step) _ (conflict_one p (last_state run) operator) a b x y
+fault_lines_one p plan run (GoalMissed index) a b x y = each_one (AreGoalFactLines p run) (goal_fact_one p run) (places (fails (last_state run)) p.goal) a b x y
+fault_lines_one p plan run (CostDiffers sum) a b x y = x ∙ sym y
+fault_lines_one p plan run Memory a b x y = absurd x
 
 pub one_why : OneWhy
 one_why p plan fault a b layered x y = x.whole
-    ∙ (ap (λ (reasons : List Line). with_lines [] reasons ++ x.others) (fault_told_one p plan y.run fault x.reasons y.reasons told y.told)
+    ∙ (ap (λ (reasons : List Line). with_lines [] reasons ++ x.others) (fault_lines_one p plan y.run fault x.reasons y.reasons are y.are)
     ∙ (ap (λ (others : List Line). with_lines [] y.reasons ++ others) (other_one p y.run x.others y.others may y.may) ∙ sym y.whole))
   where
     same : x.run ≡ y.run
     same = one_run p x.run y.run layered x.through y.through (x.went ∙ sym y.went)
 
-    told : AreFaultLines p plan y.run fault x.reasons
-    told = subst (λ run. AreFaultLines p plan run fault x.reasons) same x.told
+    are : AreFaultLines p plan y.run fault x.reasons
+    are = subst (λ run. AreFaultLines p plan run fault x.reasons) same x.are
 
     may : AreCouldBeLines p y.run x.others
     may = subst (λ run. AreCouldBeLines p run x.others) same x.may
@@ -120,10 +120,10 @@ module _ (p : Parts) (plan : PlanParts) (layered : IsLayered p) where
   -- the reasons after a run that leads to the fault
   from_run : (fault : PlanFault) (run : Run) → run.steps ≡ steps_before plan fault → StepsSucceed p run
       → ((lines : List Line) × AreFaultLines p plan run fault lines) → (lines : List Line) × IsWhy p plan fault lines
-  from_run fault run went through told =
+  from_run fault run went through are =
       let other = some_other p run in (
-        with_lines [] told.0 ++ other.0,
-        record { run = run; went = went; through = through; reasons = told.0; told = told.1; others = other.0; may = other.1; whole = refl },
+        with_lines [] are.0 ++ other.0,
+        record { run = run; went = went; through = through; reasons = are.0; are = are.1; others = other.0; may = other.1; whole = refl },
       )
 
   -- a run of these steps, and that its last state is settled
@@ -165,27 +165,27 @@ module _ (p : Parts) (plan : PlanParts) (layered : IsLayered p) where
       let cause = some_cause p run (goal_fact_at p index) layered settled some in
       (line.GoalFact index ∷ cause.0, (cause.0, cause.1, refl))
 
-  why_told : (fault : PlanFault) → IsFaultOf p plan fault → (lines : List Line) × IsWhy p plan fault lines
-  why_told Memory f = absurd f
-  why_told (NoOperator step) f =
+  some_why_of : (fault : PlanFault) → IsFaultOf p plan fault → (lines : List Line) × IsWhy p plan fault lines
+  some_why_of Memory f = absurd f
+  some_why_of (NoOperator step) f =
       let l = led_to_step step f.0 f.1 f.2 in
       let like = some_like p (step_at plan (step - 1)) in
       from_run (NoOperator step) l.run l.went l.through (_, (_, (like.0, like.1, refl), refl))
-  why_told (NotApplicable step) f =
+  some_why_of (NotApplicable step) f =
       let l = led_to_step step f.0 f.1 f.2 in
       let w = some_each (AreFailedPreconditionLines p l.run) (some_inapplicable l.run l.settled l.some) (operators_of p (step_at plan (step - 1))) in
       from_run (NotApplicable step) l.run l.went l.through (line.Step step ∷ w.0, (w.0, w.1, refl))
-  why_told (Conflict step operator) f =
+  some_why_of (Conflict step operator) f =
       let l = led_to_step step f.0 f.1 f.2 in
       let w = some_conflict (last_state l.run) (operator_at p operator) (λ agree. f.4 (subst (λ s. Rattle.sas_meaning.specs.Steps.Agree s (operator_at p operator).effects) l.ends agree)) in
       from_run (Conflict step operator) l.run l.went l.through (_, (_, (w.0, w.1, w.2, refl), refl))
-  why_told (GoalMissed index) f =
+  some_why_of (GoalMissed index) f =
       let l = led plan.steps f.0 f.1 f.2 in
       from_run (GoalMissed index) l.run l.went l.through
       (some_each (AreGoalFactLines p l.run) (some_goal_fact l.run l.settled l.some) (places (fails (last_state l.run)) p.goal))
-  why_told (CostDiffers sum) f =
+  some_why_of (CostDiffers sum) f =
       let l = led plan.steps f.0 f.1 f.2 in
       from_run (CostDiffers sum) l.run l.went l.through (cost_lines p l.run, refl)
 
 pub some_why : SomeWhy
-some_why p plan fault layered f = why_told p plan layered fault f
+some_why p plan fault layered f = some_why_of p plan layered fault f

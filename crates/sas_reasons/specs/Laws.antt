@@ -102,16 +102,16 @@ GiverFires = (p : Parts) (s : List ℕ) (var rule : ℕ) → IsLayered p → IsS
     × ((rule_at p rule).new ≡ slice_index s var)
 
 -- a condition requires the default of a variable on a lower layer
-pub record AsksLower (p : Parts) (var : ℕ) (condition : Fact) : Type 0 where
+pub record RequiresLower (p : Parts) (var : ℕ) (condition : Fact) : Type 0 where
   pub default : condition.value ≡ default_of p condition.var
   pub here : ℕ
   pub there : ℕ
   pub on : IsOnLayer p here var
-  pub asked : IsOnLayer p there condition.var
+  pub on_there : IsOnLayer p there condition.var
   pub lower : there < here
 
 -- a condition requires a value other than the default of a variable that comes before this one
-pub record AsksEarlier (p : Parts) (s : List ℕ) (var : ℕ) (condition : Fact) : Type 0 where
+pub record RequiresEarlier (p : Parts) (s : List ℕ) (var : ℕ) (condition : Fact) : Type 0 where
   pub other : condition.value ≢ default_of p condition.var
   pub earlier : ComesBefore p s condition.var var
 
@@ -119,7 +119,7 @@ pub record AsksEarlier (p : Parts) (s : List ℕ) (var : ℕ) (condition : Fact)
 abbrev pub GiverLooksDown : Type 0
 GiverLooksDown = (p : Parts) (s : List ℕ) (var rule : ℕ) → IsLayered p → IsSettled p s
     → IsGivenBy p s var rule
-    → All (λ (c : Fact). IsBasic p c.var ⊎ (AsksLower p var c ⊎ AsksEarlier p s var c))
+    → All (λ (c : Fact). IsBasic p c.var ⊎ (RequiresLower p var c ⊎ RequiresEarlier p s var c))
     (rule_at p rule).conditions
 
 -- in the derivation of a variable all other variables come before it
@@ -202,8 +202,8 @@ NoneIsLost = (lines : List Line) (line : Line)
     → Contains (with_lines [] lines) line ↔ Contains lines line
 
 -- no line of a rule remains twice
-abbrev pub RulesToldOnce : Type 0
-RulesToldOnce = (lines : List Line)
+abbrev pub RulesStandOnce : Type 0
+RulesStandOnce = (lines : List Line)
     → AllPairs (λ a b. IsTrue (is_rule_line a) → a ≢ b) (with_lines [] lines)
 
 -- ---- why a plan isn't valid

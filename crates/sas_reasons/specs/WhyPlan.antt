@@ -117,7 +117,7 @@ pub record IsWhy (p : Parts) (plan : PlanParts) (fault : PlanFault) (lines : Lis
   pub went : run.steps ≡ steps_before plan fault
   pub through : StepsSucceed p run
   pub reasons : List Line
-  pub told : AreFaultLines p plan run fault reasons
+  pub are : AreFaultLines p plan run fault reasons
   pub others : List Line
   pub may : AreCouldBeLines p run others
   pub whole : lines ≡ with_lines [] reasons ++ others

@@ -4,7 +4,7 @@ ghost use Rattle.sas_reasons.specs.Laws.{SpaceFolds, FoldsOnce, SomeLike, OneLik
 ghost use Rattle.sas_reasons.specs.Laws.{RankIfDiffers, OneRank, SomeGiver, OneGiver, GiverFires, GiverLooksDown};
 ghost use Rattle.sas_reasons.specs.Laws.{ItselfIsLast, NoCircle, AllDiffer, SomeDerivation, OneDerivation, OwnRuleIsLast};
 ghost use Rattle.sas_reasons.specs.Laws.{DefaultIfNotGiven, EachRuleFails, SomePreconditionFails, OperatorsHaveName};
-ghost use Rattle.sas_reasons.specs.Laws.{FirstGoalFact, SomeConflict, OneConflict, NoneIsLost, RulesToldOnce, SomeWhy, OneWhy};
+ghost use Rattle.sas_reasons.specs.Laws.{FirstGoalFact, SomeConflict, OneConflict, NoneIsLost, RulesStandOnce, SomeWhy, OneWhy};
 
 /// Ensures the laws of changes. In a run each variable has exactly one last change, and keeps its value from there on.
 pub fn since_laws()
@@ -64,7 +64,7 @@ pub fn cause_laws()
     ensures some_conflict { SomeConflict }
     ensures one_conflict { OneConflict }
     ensures none_lost { NoneIsLost }
-    ensures rules_once { RulesToldOnce }
+    ensures rules_once { RulesStandOnce }
 {}
 
 /// Ensures that each fault of a plan of a layered task has exactly one list of reasons.

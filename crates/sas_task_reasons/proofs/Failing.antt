@@ -16,7 +16,7 @@ use Rattle.sas_mutex.specs.Effects.{EffectKeeps}
 use Rattle.sas_mutex.proofs.Keeping.{keeps_from_effects, effect_of_keeps}
 use Rattle.sas_task_reasons.specs.declared.reason.Failure.{Failure}
 use Rattle.sas_task_reasons.specs.declared.reason.Failure.TheVariants.{SetsTwo, MayStay}
-use Rattle.sas_task_reasons.specs.Failures.{effect_of_failure, FailsSo, Fails, IsEarlier, IsEarlierFailure, IsFirstFailure}
+use Rattle.sas_task_reasons.specs.Failures.{effect_of_failure, FailsSo, IsFailure, IsEarlier, IsEarlierFailure, IsFirstFailure}
 use Rattle.sas_task_reasons.specs.Lowest.{IsFirstOfEffect}
 use Rattle.sas_task_reasons.proofs.Least.{all_below, IsLeast, none_at_all, has_or_not, item_at}
 
@@ -36,10 +36,10 @@ module _ (Counts : List Fact → Type 0) (o : Operator) (group : List Fact) wher
   sets_one (SetsTwo effect other) (within, two) = two.sets_one
   sets_one (MayStay effect place) (fact, here, lets) = lets.sets_one
 
-  pub kept_never_fails : (failure : Failure) → EffectKeeps Counts o group (effect_at o (effect_of_failure failure)) → Fails Counts o group failure → ⊥
+  pub kept_never_fails : (failure : Failure) → EffectKeeps Counts o group (effect_at o (effect_of_failure failure)) → IsFailure Counts o group failure → ⊥
   kept_never_fails failure keeps fails = kept_so failure keeps fails.so
 
-  pub fails_not_kept : (failure : Failure) → Fails Counts o group failure → Keeps Counts o group → ⊥
+  pub fails_not_kept : (failure : Failure) → IsFailure Counts o group failure → Keeps Counts o group → ⊥
   fails_not_kept failure fails keeps = kept_never_fails failure
       (effect_of_keeps Counts o group keeps (effect_of_failure failure) fails.exists (sets_one failure fails.so)) fails
 
@@ -47,7 +47,7 @@ module _ (Counts : List Fact → Type 0) (o : Operator) (group : List Fact) wher
 
   -- effects that may set two facts of the group
   pub two_fails : (effect other : ℕ) → effect < length o.effects → other < length o.effects → Contains group (sets (effect_at o effect))
-      → (NotBoth Counts o group (effect_at o effect) (effect_at o other) → ⊥) → Fails Counts o group (SetsTwo effect other)
+      → (NotBoth Counts o group (effect_at o effect) (effect_at o other) → ⊥) → IsFailure Counts o group (SetsTwo effect other)
   two_fails effect other lt lt' has may = elim (has_or_not group (sets (effect_at o other))) [
     | inl has' ↦ record {
       exists = lt;
@@ -58,13 +58,13 @@ module _ (Counts : List Fact → Type 0) (o : Operator) (group : List Fact) wher
 
   -- a fact that may stay
   pub stay_fails : (effect place : ℕ) (fact : Fact) → effect < length o.effects → Contains group (sets (effect_at o effect)) → slice_get group place ≡ Some fact
-      → (IsGone Counts o (effect_at o effect) fact → ⊥) → Fails Counts o group (MayStay effect place)
+      → (IsGone Counts o (effect_at o effect) fact → ⊥) → IsFailure Counts o group (MayStay effect place)
   stay_fails effect place fact lt has here stays = record {
     exists = lt;
     so = (fact, here, record { sets_one = has; differ = λ same. stays (λ ne. absurd (ne same)); no_clash = λ clash. stays (λ ne. inl clash); stays = λ removed. stays (λ ne. inr removed) });
   }
 
-  module _ (none : (failure : Failure) → Fails Counts o group failure → ⊥) where
+  module _ (none : (failure : Failure) → IsFailure Counts o group failure → ⊥) where
     -- then an effect that sets a fact of the group can't but keep it
     effect_keeps : (effect : ℕ) → effect < length o.effects → Contains group (sets (effect_at o effect))
         → (EffectKeeps Counts o group (effect_at o effect) → ⊥) → ⊥
@@ -79,7 +79,7 @@ module _ (Counts : List Fact → Type 0) (o : Operator) (group : List Fact) wher
         })))
       where
         later : (place : ℕ) (fact : Fact) → slice_get group place ≡ Some fact
-            → (((f : Fact) → slice_get group place ≡ Some f → IsGone Counts o (effect_at o effect) f) → ⊥) → Fails Counts o group (MayStay effect place)
+            → (((f : Fact) → slice_get group place ≡ Some f → IsGone Counts o (effect_at o effect) f) → ⊥) → IsFailure Counts o group (MayStay effect place)
         later place fact here stays = stay_fails effect place fact lt has here (λ gone. stays (λ f here'.
             subst (λ (x : Fact). IsGone Counts o (effect_at o effect) x) (same here here') gone))
           where
@@ -98,43 +98,43 @@ module _ (Counts : List Fact → Type 0) (o : Operator) (group : List Fact) wher
 
   -- failures of one effect are those with another effect and those with a fact
   abbrev Of : ℕ → Type 0
-  Of effect = (failure : Failure) × (effect_of_failure failure ≡ effect) × Fails Counts o group failure
+  Of effect = (failure : Failure) × (effect_of_failure failure ≡ effect) × IsFailure Counts o group failure
 
   module _ (no_first : (failure : Failure) → IsFirstFailure Counts o group failure → ⊥) where
     module _ (effect : ℕ) (none_below : (lower : ℕ) → lower < effect → Of lower → ⊥) where
-      no_two : (other : ℕ) → Fails Counts o group (SetsTwo effect other) → ⊥
-      no_two = none_at_all (λ other. Fails Counts o group (SetsTwo effect other)) (λ other least.
+      no_two : (other : ℕ) → IsFailure Counts o group (SetsTwo effect other) → ⊥
+      no_two = none_at_all (λ other. IsFailure Counts o group (SetsTwo effect other)) (λ other least.
           no_first (SetsTwo effect other) (record { fails = least.has; first = λ x before fails. earlier other least x before fails }))
         where
-          earlier : (other : ℕ) → IsLeast (λ n. Fails Counts o group (SetsTwo effect n)) other → (x : Failure) → IsEarlierFailure x (SetsTwo effect other)
-              → Fails Counts o group x → ⊥
+          earlier : (other : ℕ) → IsLeast (λ n. IsFailure Counts o group (SetsTwo effect n)) other → (x : Failure) → IsEarlierFailure x (SetsTwo effect other)
+              → IsFailure Counts o group x → ⊥
           earlier other least x (inl lower) fails = none_below (effect_of_failure x) lower (x, refl, fails)
           earlier other least (SetsTwo effect' other') (inr (same, lt)) fails =
-              least.none_below other' lt (subst (λ n. Fails Counts o group (SetsTwo n other')) same fails)
+              least.none_below other' lt (subst (λ n. IsFailure Counts o group (SetsTwo n other')) same fails)
           earlier other least (MayStay effect' place) (inr (same, never)) fails = never
 
-      no_stay : (place : ℕ) → Fails Counts o group (MayStay effect place) → ⊥
-      no_stay = none_at_all (λ place. Fails Counts o group (MayStay effect place)) (λ place least.
+      no_stay : (place : ℕ) → IsFailure Counts o group (MayStay effect place) → ⊥
+      no_stay = none_at_all (λ place. IsFailure Counts o group (MayStay effect place)) (λ place least.
           no_first (MayStay effect place) (record { fails = least.has; first = λ x before fails. earlier place least x before fails }))
         where
-          earlier : (place : ℕ) → IsLeast (λ n. Fails Counts o group (MayStay effect n)) place → (x : Failure) → IsEarlierFailure x (MayStay effect place)
-              → Fails Counts o group x → ⊥
+          earlier : (place : ℕ) → IsLeast (λ n. IsFailure Counts o group (MayStay effect n)) place → (x : Failure) → IsEarlierFailure x (MayStay effect place)
+              → IsFailure Counts o group x → ⊥
           earlier place least x (inl lower) fails = none_below (effect_of_failure x) lower (x, refl, fails)
-          earlier place least (SetsTwo effect' other) (inr (same, first)) fails = no_two other (subst (λ n. Fails Counts o group (SetsTwo n other)) same fails)
+          earlier place least (SetsTwo effect' other) (inr (same, first)) fails = no_two other (subst (λ n. IsFailure Counts o group (SetsTwo n other)) same fails)
           earlier place least (MayStay effect' place') (inr (same, lt)) fails =
-              least.none_below place' lt (subst (λ n. Fails Counts o group (MayStay n place')) same fails)
+              least.none_below place' lt (subst (λ n. IsFailure Counts o group (MayStay n place')) same fails)
 
-      none_of : (failure : Failure) → effect_of_failure failure ≡ effect → Fails Counts o group failure → ⊥
-      none_of (SetsTwo effect' other) same fails = no_two other (subst (λ n. Fails Counts o group (SetsTwo n other)) same fails)
-      none_of (MayStay effect' place) same fails = no_stay place (subst (λ n. Fails Counts o group (MayStay n place)) same fails)
+      none_of : (failure : Failure) → effect_of_failure failure ≡ effect → IsFailure Counts o group failure → ⊥
+      none_of (SetsTwo effect' other) same fails = no_two other (subst (λ n. IsFailure Counts o group (SetsTwo n other)) same fails)
+      none_of (MayStay effect' place) same fails = no_stay place (subst (λ n. IsFailure Counts o group (MayStay n place)) same fails)
 
-    none_fails : (failure : Failure) → Fails Counts o group failure → ⊥
+    none_fails : (failure : Failure) → IsFailure Counts o group failure → ⊥
     none_fails failure fails = none_at_all Of (λ effect least. none_of effect least.none_below least.has.0 least.has.1 least.has.2)
         (effect_of_failure failure) (failure, refl, fails)
 
   -- the first one of its effect is the first one of all where the effects below have none
   pub first_of_all : (effect : ℕ) (failure : Failure) → IsFirstOfEffect Counts o group effect failure
-      → ((other : Failure) → effect_of_failure other < effect → Fails Counts o group other → ⊥) → IsFirstFailure Counts o group failure
+      → ((other : Failure) → effect_of_failure other < effect → IsFailure Counts o group other → ⊥) → IsFirstFailure Counts o group failure
   first_of_all effect failure first none = record {
     fails = first.fails;
     first = λ other before fails. elim before [
@@ -144,7 +144,7 @@ module _ (Counts : List Fact → Type 0) (o : Operator) (group : List Fact) wher
   }
 
   -- an operator that doesn't keep the group can't be without a failure, nor without a first one
-  pub some_failure : (Keeps Counts o group → ⊥) → ((failure : Failure) → Fails Counts o group failure → ⊥) → ⊥
+  pub some_failure : (Keeps Counts o group → ⊥) → ((failure : Failure) → IsFailure Counts o group failure → ⊥) → ⊥
   some_failure not none = all_keep none not
 
   pub some_first : (Keeps Counts o group → ⊥) → ((failure : Failure) → IsFirstFailure Counts o group failure → ⊥) → ⊥
@@ -214,7 +214,7 @@ module _ (Counts Others : List Fact → Type 0) (o : Operator) (group : List Fac
     },
   )
 
-  pub fails_too : (failure : Failure) → Fails Counts o group failure → Fails Others o group failure
+  pub fails_too : (failure : Failure) → IsFailure Counts o group failure → IsFailure Others o group failure
   fails_too failure fails = record { exists = fails.exists; so = fails_so_too failure fails.so }
 
 module _ (Counts Others : List Fact → Type 0) (o : Operator) (group : List Fact)

@@ -20,10 +20,10 @@ pub check_passes : (passes : Bool) (d : LayerFault) → first_fault (check passe
 check_passes true d is = refl
 check_passes false d is = absurd cc
 
--- checks that are asked only sometimes
-pub asked_fails : (asked : Bool) (checks : List (Check LayerFault)) (e : LayerFault) → IsFirst (if asked then checks else []) e → IsFirst checks e
-asked_fails true checks e is = is
-asked_fails false checks e is = absurd (none-some e is)
+-- checks that are only made in some cases
+pub guarded_fails : (guard : Bool) (checks : List (Check LayerFault)) (e : LayerFault) → IsFirst (if guard then checks else []) e → IsFirst checks e
+guarded_fails true checks e is = is
+guarded_fails false checks e is = absurd (none-some e is)
 
 -- one behind the other
 abbrev pub IsFirstOfEither : List (Check LayerFault) → List (Check LayerFault) → LayerFault → Type 0

@@ -12,7 +12,7 @@ use Rattle.sas_mutex.specs.Firing.{EffectPlace, operator_of}
 use Rattle.sas_mutex.specs.ByNotes.{NotBothAt, IsGoneAt, EffectKeepsGroup}
 use Rattle.sas_task_reasons.specs.declared.reason.Failure.{Failure}
 use Rattle.sas_task_reasons.specs.declared.reason.Failure.TheVariants.{SetsTwo, MayStay}
-use Rattle.sas_task_reasons.specs.Failures.{effect_of_failure, Fails, IsEarlier}
+use Rattle.sas_task_reasons.specs.Failures.{effect_of_failure, IsFailure, IsEarlier}
 use Rattle.sas_task_reasons.specs.Lowest.{IsLowestPartner, IsAny, IsFirstStaying, IsFirstOfEffect}
 use Rattle.sas_task_reasons.proofs.Least.{item_at, stands_at}
 use Rattle.sas_task_reasons.proofs.Failing.{two_fails, stay_fails}
@@ -55,9 +55,9 @@ module _ (f : EffectPlace) (kept : List Bool) (place : ℕ) where
       first = earlier;
     }
       where
-        earlier : (x : Failure) → effect_of_failure x ≡ f.effect → IsEarlier x (SetsTwo f.effect other) → Fails (IsKept f.task kept) (operator_of f) (group_at f.task place) x → ⊥
+        earlier : (x : Failure) → effect_of_failure x ≡ f.effect → IsEarlier x (SetsTwo f.effect other) → IsFailure (IsKept f.task kept) (operator_of f) (group_at f.task place) x → ⊥
         earlier (SetsTwo effect other') same lower fails =
-            let it = subst (λ n. Fails (IsKept f.task kept) (operator_of f) (group_at f.task place) (SetsTwo n other')) same fails in
+            let it = subst (λ n. IsFailure (IsKept f.task kept) (operator_of f) (group_at f.task place) (SetsTwo n other')) same fails in
             it.so.1.no_clash (lowest.below other' lower tt it.so.1.sets_other it.so.1.differ)
         earlier (MayStay effect place') same never fails = never
 
@@ -76,12 +76,12 @@ module _ (f : EffectPlace) (kept : List Bool) (place : ℕ) where
         here : slice_get (group_at f.task place) n ≡ Some (get_or (group_at f.task place) n d)
         here = slice_get-get_or (group_at f.task place) n d lt
 
-        earlier : (x : Failure) → effect_of_failure x ≡ f.effect → IsEarlier x (MayStay f.effect n) → Fails (IsKept f.task kept) (operator_of f) (group_at f.task place) x → ⊥
+        earlier : (x : Failure) → effect_of_failure x ≡ f.effect → IsEarlier x (MayStay f.effect n) → IsFailure (IsKept f.task kept) (operator_of f) (group_at f.task place) x → ⊥
         earlier (SetsTwo effect other') same before fails =
-            let it = subst (λ m. Fails (IsKept f.task kept) (operator_of f) (group_at f.task place) (SetsTwo m other')) same fails in
+            let it = subst (λ m. IsFailure (IsKept f.task kept) (operator_of f) (group_at f.task place) (SetsTwo m other')) same fails in
             it.so.1.no_clash (single other' it.so.0 it.so.1.sets_other it.so.1.differ)
         earlier (MayStay effect place') same lower fails =
-            let it = subst (λ m. Fails (IsKept f.task kept) (operator_of f) (group_at f.task place) (MayStay m place')) same fails in
+            let it = subst (λ m. IsFailure (IsKept f.task kept) (operator_of f) (group_at f.task place) (MayStay m place')) same fails in
             elim (first.below place' it.so.0 lower it.so.1 it.so.2.differ) [
               | inl clash ↦ it.so.2.no_clash clash
               | inr removed ↦ it.so.2.stays removed
@@ -94,7 +94,7 @@ module _ (f : EffectPlace) (kept : List Bool) (place : ℕ) where
     others = λ x among. first.below among.0 x (let lt = among.1 in omega arith) (stands_at (group_at f.task place) x among);
   }
 
--- what the failure that was found is, said in other words
+-- the failure that was found, in other words
 pub if_some_so : {A : Type 0} (found : Option A) (P Q : A → Type 0) → ((x : A) → P x → Q x) → IfSome found P → IfSome found Q
 if_some_so None P Q so is = is
 if_some_so (Some x) P Q so is = so x is

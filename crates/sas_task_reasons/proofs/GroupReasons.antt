@@ -23,7 +23,7 @@ use Rattle.sas_task_reasons.specs.declared.reason.Reason.TheVariants.{OnDerived,
 use Rattle.sas_task_reasons.specs.declared.reason.Failure.TheVariants.{SetsTwo, MayStay}
 use Rattle.sas_task_reasons.specs.Failures.{effect_of_failure, IsFirstFailure}
 use Rattle.sas_task_reasons.specs.GroupReasons.{IsFirstSuch, HoldTwo, AreFirstHolding, verdict_of, TrueOfGroup, IsReason}
-use Rattle.sas_task_reasons.specs.Telling.{HoldsBeside}
+use Rattle.sas_task_reasons.specs.Reporting.{HoldsBeside}
 use Rattle.sas_task_reasons.specs.GroupLaws.{NotKeptIfFails, FailsIfNotKept, SomeFirstFailure, OneFirstFailure, SomeReason, OneReason}
 use Rattle.sas_task_reasons.proofs.Least.{all_below, IsLeast, none_at_all, least_is_one, facts_same, stands_at}
 use Rattle.sas_task_reasons.proofs.Failing.{fails_not_kept, some_failure, some_first, one_first, first_too}
@@ -57,7 +57,7 @@ module _ (P : Fact → Type 0) (facts : List Fact) where
     first = λ lower other lt here' such'. least.none_below lower lt (other, here', such');
   })) place (fact, here, such)
 
--- what can't fail of any item is so of all
+-- what can't fail for any item can't fail for all of them together
 not_all : (P : Fact → Type 0) (facts : List Fact) → ((place : ℕ) (fact : Fact) → slice_get facts place ≡ Some fact → (P fact → ⊥) → ⊥)
     → (All P facts → ⊥) → ⊥
 not_all P facts each not = all_below (length facts) (λ place. (d : Fact) → P (get_or facts place d))
@@ -253,12 +253,7 @@ module _ (p : Parts) (place : ℕ) (verdict : Verdict) (joint : IsJointVerdict p
   pub effect_exists : effect_of_failure failure < length (operator_at p operator).effects
   effect_exists = reason.says.2.fails.exists
 
--- the other effect
-pub other_exists : (p : Parts) (place : ℕ) (verdict : Verdict) (operator effect other : ℕ) → IsReason p place verdict (Breaks operator (SetsTwo effect other))
-    → other < length (operator_at p operator).effects
-other_exists p place verdict operator effect other reason = reason.says.2.fails.so.0
-
--- or the fact
+-- the fact that may remain is in the group
 pub fact_exists : (p : Parts) (place : ℕ) (verdict : Verdict) (operator effect fact : ℕ) → IsReason p place verdict (Breaks operator (MayStay effect fact))
     → fact < length (group_at p place)
 fact_exists p place verdict operator effect fact reason =

@@ -10,40 +10,34 @@ use Rattle.sas_output.specs.Words.{line}
 use Rattle.sas_output.proofs.Texts.{text_of_both}
 use Rattle.sas_task_reasons.specs.WhyGroups.{explained_group_lines, why_lines_from, why_lines}
 
--- ---- the line of a verdict, as words
-
-pub words_are : (place : ℕ) (words : List ℕ) → line 0 (codes "group" ∷ decimal place ∷ words ∷ []) ≡ codes "group " ++ decimal place ++ codes " " ++ words
-words_are place words =
-    sym (append_assoc (codes "group " ++ decimal place) (codes " ") words ∙ append_assoc (codes "group ") (decimal place) (codes " " ++ words))
-
 -- ---- group after group
 
 module _ (p : Parts) (reasons : List (Option Reason)) where
   -- the lines of the group at this place
-  abbrev pub told : ℕ → Verdict → List (List ℕ)
-  told place verdict = explained_group_lines p place verdict (reason_at reasons place)
+  abbrev pub lines_at : ℕ → Verdict → List (List ℕ)
+  lines_at place verdict = explained_group_lines p place verdict (reason_at reasons place)
 
   -- those of some verdicts, and of others behind them
   lines_both : (n : ℕ) (a b : List Verdict) → why_lines_from p reasons n (a ++ b) ≡ why_lines_from p reasons n a ++ why_lines_from p reasons (n + length a) b
   lines_both n [] b = ap (λ (k : ℕ). why_lines_from p reasons k b) (omega arith)
   lines_both n (verdict ∷ a) b =
       let index : (n + 1) + length a ≡ n + length (verdict ∷ a) = omega arith in
-      ap (λ (l : List (List ℕ)). told n verdict ++ l) (lines_both (n + 1) a b ∙ ap (λ (k : ℕ). why_lines_from p reasons (n + 1) a ++ why_lines_from p reasons k b) index)
-      ∙ sym (append_assoc (told n verdict) (why_lines_from p reasons (n + 1) a) (why_lines_from p reasons (n + length (verdict ∷ a)) b))
+      ap (λ (l : List (List ℕ)). lines_at n verdict ++ l) (lines_both (n + 1) a b ∙ ap (λ (k : ℕ). why_lines_from p reasons (n + 1) a ++ why_lines_from p reasons k b) index)
+      ∙ sym (append_assoc (lines_at n verdict) (why_lines_from p reasons (n + 1) a) (why_lines_from p reasons (n + length (verdict ∷ a)) b))
 
   lines_next : (verdicts : List Verdict) (place : ℕ) (d : Verdict) → place < length verdicts
-      → why_lines p (take (place + 1) verdicts) reasons ≡ why_lines p (take place verdicts) reasons ++ told place (get_or verdicts place d)
+      → why_lines p (take (place + 1) verdicts) reasons ≡ why_lines p (take place verdicts) reasons ++ lines_at place (get_or verdicts place d)
   lines_next verdicts place d h =
       let verdict = get_or verdicts place d in
       let taken : 0 + length (take place verdicts) ≡ place = simp length-take (omega arith) in
       ap (λ (vs : List Verdict). why_lines p vs reasons) (take_more verdicts place d h)
       ∙ lines_both 0 (take place verdicts) (verdict ∷ [])
       ∙ ap (λ (k : ℕ). why_lines p (take place verdicts) reasons ++ why_lines_from p reasons k (verdict ∷ [])) taken
-      ∙ ap (λ (l : List (List ℕ)). why_lines p (take place verdicts) reasons ++ l) (append-nil (told place verdict))
+      ∙ ap (λ (l : List (List ℕ)). why_lines p (take place verdicts) reasons ++ l) (append-nil (lines_at place verdict))
 
   pub text_next : (verdicts : List Verdict) (place : ℕ) (d : Verdict) → place < length verdicts
-      → text (why_lines p (take (place + 1) verdicts) reasons) ≡ text (why_lines p (take place verdicts) reasons) ++ text (told place (get_or verdicts place d))
-  text_next verdicts place d h = ap text (lines_next verdicts place d h) ∙ text_of_both (why_lines p (take place verdicts) reasons) (told place (get_or verdicts place d))
+      → text (why_lines p (take (place + 1) verdicts) reasons) ≡ text (why_lines p (take place verdicts) reasons) ++ text (lines_at place (get_or verdicts place d))
+  text_next verdicts place d h = ap text (lines_next verdicts place d h) ∙ text_of_both (why_lines p (take place verdicts) reasons) (lines_at place (get_or verdicts place d))
 
   -- all groups, so that the text is whole
   pub all_groups : (verdicts : List Verdict) (n : ℕ) → length verdicts ≤ n → text (why_lines p (take n verdicts) reasons) ≡ text (why_lines p verdicts reasons)

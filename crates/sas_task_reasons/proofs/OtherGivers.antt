@@ -11,7 +11,7 @@ use Rattle.sas_meaning.specs.Layers.{CanFire, can_fire}
 use Rattle.sas_meaning.specs.LayerChecks.{agrees_with}
 use Rattle.sas_meaning.proofs.RuleTests.{fires, agrees_with_earlier}
 use Rattle.sas_task_reasons.specs.LayerReasons.{gives_other}
-use Rattle.sas_task_reasons.specs.LayerLaws.{IsOtherGiver, IsToldOther}
+use Rattle.sas_task_reasons.specs.LayerLaws.{IsOtherGiver, IsReportedOther}
 
 abbrev none : Rule
 none = record { conditions = []; var = 0; old = None; new = 0 }
@@ -73,10 +73,10 @@ module _ (p : Parts) (place : ℕ) (within : place < length p.rules) where
   all_agree : place ≤ lowest → agrees_with p (take place p.rules) rule ≡ true
   all_agree past = (agrees_with_earlier p rule place (omega (arith, within))).1 (λ k before. agrees p rule (rule_at p k) (below k (omega (arith, before, past))))
 
-  is_told : lowest < place → IsToldOther p place lowest
-  is_told before =
+  is_reported : lowest < place → IsReportedOther p place lowest
+  is_reported before =
       let exists : lowest < length p.rules = omega (arith, before, within) in record {
-        told = ap (λ (b : Bool). cond b (Some lowest) None) (lt-ltb lowest (length p.rules) exists);
+        reported = ap (λ (b : Bool). cond b (Some lowest) None) (lt-ltb lowest (length p.rules) exists);
         before = before;
         gives = gives_tells p rule (rule_at p lowest) (passes_at_first (gives_other p rule) p.rules none exists);
         lowest = λ lower less gives.
@@ -85,8 +85,8 @@ module _ (p : Parts) (place : ℕ) (within : place < length p.rules) where
             absurd (let apart : true ≡ false = sym passes ∙ fails in cc);
       }
 
-  pub other_told : agrees_with p (take place p.rules) rule ≡ false → (other : ℕ) × IsToldOther p place other
-  other_told disagrees = elim (cases_lt lowest place) [
-    | inl before ↦ (lowest, is_told before)
+  pub other_reported : agrees_with p (take place p.rules) rule ≡ false → (other : ℕ) × IsReportedOther p place other
+  other_reported disagrees = elim (cases_lt lowest place) [
+    | inl before ↦ (lowest, is_reported before)
     | inr past ↦ absurd (let agree = all_agree past in let apart : true ≡ false = sym agree ∙ disagrees in cc)
   ]

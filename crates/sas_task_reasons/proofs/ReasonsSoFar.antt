@@ -22,7 +22,7 @@ use Rattle.sas_task_reasons.specs.declared.reason.Reason.TheVariants.{Breaks}
 use Rattle.sas_task_reasons.specs.Failures.{effect_of_failure}
 use Rattle.sas_task_reasons.specs.Lowest.{IsFirstOfEffect}
 use Rattle.sas_task_reasons.specs.GroupReasons.{IsReason, IsReasonIfAny, reason_at, AreReasons}
-use Rattle.sas_task_reasons.specs.Telling.{KeptBelow, IsPending, IsReasonSoFar, AreReasonsSoFar, LacksReason, IsBroken}
+use Rattle.sas_task_reasons.specs.Reporting.{KeptBelow, IsPending, IsReasonSoFar, AreReasonsSoFar, LacksReason, IsBroken}
 use Rattle.sas_task_reasons.proofs.Least.{has_or_not}
 use Rattle.sas_task_reasons.proofs.Failing.{sets_one, kept_never_fails, first_of_all}
 use Rattle.sas_task_reasons.proofs.GreatestOfVerdicts.{breaks_under}
@@ -60,7 +60,7 @@ module _ (p : Parts) (verdicts : List Verdict) where
 -- ---- the reasons so far
 
 module _ (p : Parts) (kept : List Bool) where
-  -- what is pending, said again further on
+  -- what is pending stays so for later places
   pending_by : (operator effect operator' effect' place : ℕ) (verdict : Verdict)
       → ((breaking : ℕ) → verdict ≡ Broken breaking → IsPending p kept operator effect place (Broken breaking) → IsPending p kept operator' effect' place (Broken breaking))
       → IsPending p kept operator effect place verdict → IsPending p kept operator' effect' place verdict
@@ -69,7 +69,7 @@ module _ (p : Parts) (kept : List Bool) where
   pending_by operator effect operator' effect' place Initial more is = is
   pending_by operator effect operator' effect' place (Broken breaking) more is = more breaking refl is
 
-  -- a reason is told for good
+  -- a reason that was reported stays
   pub so_far_by : (operator effect operator' effect' place : ℕ) (verdict : Verdict) (reason : Option Reason)
       → ((breaking : ℕ) → reason ≡ None → verdict ≡ Broken breaking → IsPending p kept operator effect place (Broken breaking)
       → IsPending p kept operator' effect' place (Broken breaking))
@@ -95,7 +95,7 @@ module _ (p : Parts) (kept : List Bool) where
       → (Contains (group_at p place) (sets (effect_at (operator_at p operator) effect)) → KeepsWithItself p kept operator effect place)
       → IsReasonSoFar p kept operator effect place verdict reason → IsReasonSoFar p kept operator (effect + 1) place verdict reason
   pending_more operator effect place verdict reason keeps = so_far_by operator effect operator (effect + 1) place verdict reason
-      (λ breaking untold is pending. (pending.0, λ same. kept_more operator effect place keeps (pending.1 same)))
+      (λ breaking unreported is pending. (pending.0, λ same. kept_more operator effect place keeps (pending.1 same)))
 
   pub next_effect : (operator effect : ℕ) (verdicts : List Verdict) (reasons : List (Option Reason))
       → ((place : ℕ) → HasFact p place (sets (effect_at (operator_at p operator) effect))
@@ -109,18 +109,18 @@ module _ (p : Parts) (kept : List Bool) where
     ];
   }
 
-  -- where no reason is asked for, the operator leaves pending what was
-  pub not_asked : (operator effect place : ℕ) (verdicts : List Verdict) (reasons : List (Option Reason)) → (LacksReason operator verdicts reasons place → ⊥)
+  -- where no reason is missing, the operator leaves pending what was
+  pub not_lacking : (operator effect place : ℕ) (verdicts : List Verdict) (reasons : List (Option Reason)) → (LacksReason operator verdicts reasons place → ⊥)
       → IsReasonSoFar p kept operator effect place (verdict_at verdicts place) (reason_at reasons place)
       → IsReasonSoFar p kept operator (effect + 1) place (verdict_at verdicts place) (reason_at reasons place)
-  not_asked operator effect place verdicts reasons not = so_far_by operator effect operator (effect + 1) place (verdict_at verdicts place) (reason_at reasons place)
-      (λ breaking untold is pending. (pending.0, λ same. absurd (not (record { breaks = is ∙ ap (λ (n : ℕ). Broken n) same; untold = untold }))))
+  not_lacking operator effect place verdicts reasons not = so_far_by operator effect operator (effect + 1) place (verdict_at verdicts place) (reason_at reasons place)
+      (λ breaking unreported is pending. (pending.0, λ same. absurd (not (record { breaks = is ∙ ap (λ (n : ℕ). Broken n) same; unreported = unreported }))))
 
-  -- one reason is told
-  pub one_told : (operator effect place : ℕ) (verdicts : List Verdict) (reasons : List (Option Reason)) (reason : Reason) → place < length p.groups
+  -- one reason is reported
+  pub one_reported : (operator effect place : ℕ) (verdicts : List Verdict) (reasons : List (Option Reason)) (reason : Reason) → place < length p.groups
       → AreReasonsSoFar p kept operator effect verdicts reasons → IsReason p place (verdict_at verdicts place) reason
       → AreReasonsSoFar p kept operator effect verdicts (set reasons place (Some reason))
-  one_told operator effect place verdicts reasons reason exists so_far is = record {
+  one_reported operator effect place verdicts reasons reason exists so_far is = record {
     one_each = length-set reasons place (Some reason) ∙ so_far.one_each;
     are = λ n lt. elim (cases_eq n place) [
       | inl e ↦ subst (λ i. IsReasonSoFar p kept operator effect i (verdict_at verdicts i) (reason_at (set reasons place (Some reason)) i)) (sym e)
@@ -130,12 +130,12 @@ module _ (p : Parts) (kept : List Bool) where
     ];
   }
 
-  -- what is asked for is pending
-  pub asked_pending : (operator effect place : ℕ) (verdicts : List Verdict) (reasons : List (Option Reason)) → LacksReason operator verdicts reasons place
+  -- a reason that is missing is pending
+  pub lacking_pending : (operator effect place : ℕ) (verdicts : List Verdict) (reasons : List (Option Reason)) → LacksReason operator verdicts reasons place
       → IsReasonSoFar p kept operator effect place (verdict_at verdicts place) (reason_at reasons place) → KeptBelow p kept operator effect place
-  asked_pending operator effect place verdicts reasons asked is =
-      let pending : IsPending p kept operator effect place (Broken operator) = subst (IsPending p kept operator effect place) asked.breaks
-      (subst (IsReasonSoFar p kept operator effect place (verdict_at verdicts place)) asked.untold is) in
+  lacking_pending operator effect place verdicts reasons lacks is =
+      let pending : IsPending p kept operator effect place (Broken operator) = subst (IsPending p kept operator effect place) lacks.breaks
+      (subst (IsReasonSoFar p kept operator effect place (verdict_at verdicts place)) lacks.unreported is) in
       pending.1 refl
 
   -- the first failure of the effect is the reason
@@ -170,41 +170,41 @@ module _ (p : Parts) (kept : List Bool) where
     next_operator operator effects reasons all so_far = record {
       one_each = so_far.one_each;
       are = λ place lt. so_far_by operator effects (operator + 1) 0 place (verdict_at verdicts place) (reason_at reasons place)
-          (λ breaking untold is pending. elim (cases_eq breaking operator) [
+          (λ breaking unreported is pending. elim (cases_eq breaking operator) [
             | inl same ↦ absurd (not_all_keep operator effects place lt all (is ∙ ap (λ (n : ℕ). Broken n) same) (pending.1 same))
             | inr differ ↦ (let below = pending.0 in omega arith, λ same. record { keeps = λ lower less. absurd (omega arith) })
           ])
           (so_far.are place lt);
     }
 
-    -- an operator that breaks no group has nothing to be told of
+    -- an operator that breaks no group is no reason
     pub skip_operator : (operator : ℕ) (reasons : List (Option Reason))
         → ((place : ℕ) → place < length p.groups → verdict_at verdicts place ≡ Broken operator → ⊥)
         → AreReasonsSoFar p kept operator 0 verdicts reasons → AreReasonsSoFar p kept (operator + 1) 0 verdicts reasons
     skip_operator operator reasons none so_far = record {
       one_each = so_far.one_each;
       are = λ place lt. so_far_by operator 0 (operator + 1) 0 place (verdict_at verdicts place) (reason_at reasons place)
-          (λ breaking untold is pending. elim (cases_eq breaking operator) [
+          (λ breaking unreported is pending. elim (cases_eq breaking operator) [
             | inl same ↦ absurd (none place lt (is ∙ ap (λ (n : ℕ). Broken n) same))
             | inr differ ↦ (let below = pending.0 in omega arith, λ same. record { keeps = λ lower less. absurd (omega arith) })
           ])
           (so_far.are place lt);
     }
 
-    -- in the end each is told
-    told_in_the_end : (place : ℕ) (verdict : Verdict) (reason : Option Reason) → IsJointVerdict p place verdict
+    -- in the end each is reported
+    reported_in_the_end : (place : ℕ) (verdict : Verdict) (reason : Option Reason) → IsJointVerdict p place verdict
         → IsReasonSoFar p kept (length p.operators) 0 place verdict reason → IsReasonIfAny p place verdict reason
-    told_in_the_end place verdict (Some reason) said is = is
-    told_in_the_end place Exclusive None said is = refl
-    told_in_the_end place Derived None said is = absurd is
-    told_in_the_end place Initial None said is = absurd is
-    told_in_the_end place (Broken breaking) None (family, great, outside, basic, initial, first) is = absurd (let lt = first.exists in let ge = is.0 in omega arith)
+    reported_in_the_end place verdict (Some reason) said is = is
+    reported_in_the_end place Exclusive None said is = refl
+    reported_in_the_end place Derived None said is = absurd is
+    reported_in_the_end place Initial None said is = absurd is
+    reported_in_the_end place (Broken breaking) None (family, great, outside, basic, initial, first) is = absurd (let lt = first.exists in let ge = is.0 in omega arith)
 
     pub reasons_in_the_end : (operators : ℕ) (reasons : List (Option Reason)) → operators ≡ length p.operators
         → AreReasonsSoFar p kept operators 0 verdicts reasons → AreReasons p verdicts reasons
     reasons_in_the_end operators reasons all so_far = record {
       one_each = so_far.one_each;
-      are = λ place lt. told_in_the_end place (verdict_at verdicts place) (reason_at reasons place) (joint.are place lt)
+      are = λ place lt. reported_in_the_end place (verdict_at verdicts place) (reason_at reasons place) (joint.are place lt)
           (subst (λ n. IsReasonSoFar p kept n 0 place (verdict_at verdicts place) (reason_at reasons place)) all (so_far.are place lt));
     }
 

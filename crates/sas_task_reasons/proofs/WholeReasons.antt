@@ -1,4 +1,4 @@
--- All that the lines of reasons tell is there, where the fault is the first of a task's layers.
+-- All that the lines of reasons name exists, where the fault is the first of a task's layers.
 use Rattle.std.proofs.Common.{◌≡◌, ℕ, ◌<◌, ◌==◌, Bool, true, false, List, [], ◌++◌, length, take, get_or, refl, subst, inl, inr, eq-eqb, Option, Some, None}
 use Rattle.std.specs.Prelude.{if◌then◌else◌, not, is_some, IsSome}
 use Rattle.std.specs.Option.{option_map_or}
@@ -14,9 +14,9 @@ use Rattle.sas_meaning.specs.declared.layered.LayerFault.{LayerFault}
 use Rattle.sas_meaning.specs.declared.layered.LayerFault.TheVariants.{EffectOnDerived, RuleOnBasic, OldValue, TwoValues, LayerOrder}
 use Rattle.sas_meaning.specs.Layers.{default_of, can_fire}
 use Rattle.sas_meaning.specs.LayerChecks.{numbered_checks, effect_layer_checks, operator_layer_checks, agrees_with, looks_down, firing_checks, rule_layer_checks, layer_checks}
-use Rattle.sas_task_reasons.specs.LayerLaws.{IsToldOld, IsWhole, LayerReasonsAreWhole}
-use Rattle.sas_task_reasons.proofs.FailingChecks.{IsFirst, check_fails, asked_fails, either_fails, numbered_fails}
-use Rattle.sas_task_reasons.proofs.OtherGivers.{other_told}
+use Rattle.sas_task_reasons.specs.LayerLaws.{IsReportedOld, IsWhole, LayerReasonsAreWhole}
+use Rattle.sas_task_reasons.proofs.FailingChecks.{IsFirst, check_fails, guarded_fails, either_fails, numbered_fails}
+use Rattle.sas_task_reasons.proofs.OtherGivers.{other_reported}
 
 -- ---- tests that fail
 
@@ -34,11 +34,11 @@ both_layers (Some here) None test e = absurd cc
 both_layers (Some here) (Some its) test e = (search, search)
 
 module _ (p : Parts) where
-  old_told : (rule : Rule) (old : Option ℕ) → rule.old ≡ old → option_map_or (λ its. its == default_of p rule.var) old true ≡ false → IsToldOld p rule
-  old_told rule None is e = absurd cc
-  old_told rule (Some old) is e = record {
+  old_reported : (rule : Rule) (old : Option ℕ) → rule.old ≡ old → option_map_or (λ its. its == default_of p rule.var) old true ≡ false → IsReportedOld p rule
+  old_reported rule None is e = absurd cc
+  old_reported rule (Some old) is e = record {
     old = old;
-    told = is;
+    reported = is;
     differs = λ same. let yes : (old == default_of p rule.var) ≡ true = eq-eqb old (default_of p rule.var) same in absurd cc;
   }
 
@@ -82,12 +82,12 @@ module _ (p : Parts) where
     old_whole : IsFirst old_checks e → IsWhole p e
     old_whole is =
         let fails = check_fails (option_map_or (λ old. old == default_of p rule.var) rule.old true) (OldValue place) e is in
-        subst (IsWhole p) fails.1 (within, old_told rule rule.old refl fails.0)
+        subst (IsWhole p) fails.1 (within, old_reported rule rule.old refl fails.0)
 
     value_whole : IsFirst value_checks e → IsWhole p e
     value_whole is =
         let fails = check_fails (agrees_with p (take place p.rules) rule) (TwoValues place) e is in
-        subst (IsWhole p) fails.1 (within, other_told p place within fails.0)
+        subst (IsWhole p) fails.1 (within, other_reported p place within fails.0)
 
     order_whole : IsFirst (numbered_checks order_check rule.conditions) e → IsWhole p e
     order_whole is =
@@ -112,7 +112,7 @@ module _ (p : Parts) where
         let firing = firing_checks p place rule in
         elim (either_fails (check (is_some layer) (RuleOnBasic place)) (if can_fire p rule then firing else []) e is) [
           | inl basic ↦ (let fails = check_fails (is_some layer) (RuleOnBasic place) e basic in subst (IsWhole p) fails.1 (within, no_layer layer fails.0))
-          | inr fires ↦ firing_whole (asked_fails (can_fire p rule) firing e fires.1)
+          | inr fires ↦ firing_whole (guarded_fails (can_fire p rule) firing e fires.1)
         ]
 
   whole : (e : LayerFault) → IsFirst (layer_checks p) e → IsWhole p e

@@ -42,7 +42,7 @@ FailsSo Counts o group (MayStay effect place) = (fact : Fact)
     × LetsStay Counts o group (effect_at o effect) fact
 
 -- the operator fails to preserve the group in this way
-pub record Fails (Counts : List Fact → Type 0) (o : Operator) (group : List Fact)
+pub record IsFailure (Counts : List Fact → Type 0) (o : Operator) (group : List Fact)
     (failure : Failure) : Type 0 where
   pub exists : effect_of_failure failure < length o.effects
   pub so : FailsSo Counts o group failure
@@ -63,5 +63,5 @@ IsEarlierFailure a b = (effect_of_failure a < effect_of_failure b)
 -- the first failure of the operator
 pub record IsFirstFailure (Counts : List Fact → Type 0) (o : Operator) (group : List Fact)
     (failure : Failure) : Type 0 where
-  pub fails : Fails Counts o group failure
-  pub first : (other : Failure) → IsEarlierFailure other failure → Fails Counts o group other → ⊥
+  pub fails : IsFailure Counts o group failure
+  pub first : (other : Failure) → IsEarlierFailure other failure → IsFailure Counts o group other → ⊥

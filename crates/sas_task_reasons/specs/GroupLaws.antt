@@ -10,7 +10,7 @@ use Rattle.sas_groups.specs.Families.{IsGroupOfOr}
 use Rattle.sas_groups.specs.Verdicts.{IsJointVerdict}
 use Rattle.sas_task_reasons.specs.declared.reason.Failure.{Failure}
 use Rattle.sas_task_reasons.specs.declared.reason.Reason.{Reason}
-use Rattle.sas_task_reasons.specs.Failures.{Fails, IsFirstFailure}
+use Rattle.sas_task_reasons.specs.Failures.{IsFailure, IsFirstFailure}
 use Rattle.sas_task_reasons.specs.GroupReasons.{IsReason}
 
 -- these laws assume the groups of a family and the group itself
@@ -18,7 +18,7 @@ use Rattle.sas_task_reasons.specs.GroupReasons.{IsReason}
 -- an operator that fails to preserve a group doesn't preserve it
 abbrev pub NotKeptIfFails : Type 0
 NotKeptIfFails = (p : Parts) (family : ℕ → Bool) (o : Operator) (group : List Fact)
-    (failure : Failure) → Fails (IsGroupOfOr p family group) o group failure
+    (failure : Failure) → IsFailure (IsGroupOfOr p family group) o group failure
     → Keeps (IsGroupOfOr p family group) o group → ⊥
 
 -- if an operator doesn't preserve a group, it can't be that it has no failure; this is weaker than
@@ -26,7 +26,7 @@ NotKeptIfFails = (p : Parts) (family : ℕ → Bool) (o : Operator) (group : Lis
 abbrev pub FailsIfNotKept : Type 0
 FailsIfNotKept = (p : Parts) (family : ℕ → Bool) (o : Operator) (group : List Fact)
     → (Keeps (IsGroupOfOr p family group) o group → ⊥)
-    → ((failure : Failure) → Fails (IsGroupOfOr p family group) o group failure → ⊥) → ⊥
+    → ((failure : Failure) → IsFailure (IsGroupOfOr p family group) o group failure → ⊥) → ⊥
 
 -- then it can't be that it has no first failure
 abbrev pub SomeFirstFailure : Type 0

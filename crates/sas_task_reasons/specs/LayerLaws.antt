@@ -20,16 +20,16 @@ pub record IsOtherGiver (p : Parts) (rule other : Rule) : Type 0 where
   pub differs : other.new ≢ rule.new
 
 -- the other rule in the reasons for the rule at this place is the lowest, and comes before it
-pub record IsToldOther (p : Parts) (rule other : ℕ) : Type 0 where
-  pub told : other_giver p (rule_at p rule) ≡ Some other
+pub record IsReportedOther (p : Parts) (rule other : ℕ) : Type 0 where
+  pub reported : other_giver p (rule_at p rule) ≡ Some other
   pub before : other < rule
   pub gives : IsOtherGiver p (rule_at p rule) (rule_at p other)
   pub lowest : (lower : ℕ) → lower < other → IsOtherGiver p (rule_at p rule) (rule_at p lower) → ⊥
 
 -- the old value in the reasons for a rule isn't the default of its variable
-pub record IsToldOld (p : Parts) (rule : Rule) : Type 0 where
+pub record IsReportedOld (p : Parts) (rule : Rule) : Type 0 where
   pub old : ℕ
-  pub told : rule.old ≡ Some old
+  pub reported : rule.old ≡ Some old
   pub differs : old ≢ default_of p rule.var
 
 -- the parts that the lines for a fault name exist, and so do the layers, the old value and the
@@ -40,8 +40,8 @@ IsWhole p (EffectOnDerived operator effect) =
     × (effect < length (operator_at p operator).effects)
     × IsDerived p.variables (effect_at (operator_at p operator) effect).var
 IsWhole p (RuleOnBasic rule) = (rule < length p.rules) × IsBasic p (rule_at p rule).var
-IsWhole p (OldValue rule) = (rule < length p.rules) × IsToldOld p (rule_at p rule)
-IsWhole p (TwoValues rule) = (rule < length p.rules) × ((other : ℕ) × IsToldOther p rule other)
+IsWhole p (OldValue rule) = (rule < length p.rules) × IsReportedOld p (rule_at p rule)
+IsWhole p (TwoValues rule) = (rule < length p.rules) × ((other : ℕ) × IsReportedOther p rule other)
 IsWhole p (LayerOrder rule condition) =
     (rule < length p.rules)
     × (condition < length (rule_at p rule).conditions)

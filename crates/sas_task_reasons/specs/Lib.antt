@@ -3,7 +3,7 @@ pub mod Failures
 pub mod GroupReasons
 pub mod GroupLaws
 pub mod Lowest
-pub mod Telling
+pub mod Reporting
 pub mod LayerReasons
 pub mod WhyGroups
 pub mod WhyLayers

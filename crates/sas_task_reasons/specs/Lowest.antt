@@ -7,7 +7,7 @@ use Rattle.sas_mutex.specs.Firing.{EffectPlace, operator_of}
 use Rattle.sas_mutex.specs.ByNotes.{NotBothAt, IsGoneAt}
 use Rattle.sas_groups.specs.ByVariable.{variable_of}
 use Rattle.sas_task_reasons.specs.declared.reason.Failure.{Failure}
-use Rattle.sas_task_reasons.specs.Failures.{Fails, effect_of_failure, IsEarlier}
+use Rattle.sas_task_reasons.specs.Failures.{IsFailure, effect_of_failure, IsEarlier}
 
 -- The lowest effect, among those that were checked, that may set a fact of the group on another
 -- variable in the same step; the number of all effects if there is none.
@@ -60,6 +60,6 @@ pub record IsFirstStaying (f : EffectPlace) (kept : List Bool) (group : List Fac
 pub record IsFirstOfEffect (Counts : List Fact → Type 0) (o : Operator) (group : List Fact)
     (effect : ℕ) (failure : Failure) : Type 0 where
   pub of : effect_of_failure failure ≡ effect
-  pub fails : Fails Counts o group failure
+  pub fails : IsFailure Counts o group failure
   pub first : (other : Failure) → effect_of_failure other ≡ effect → IsEarlier other failure
-      → Fails Counts o group other → ⊥
+      → IsFailure Counts o group other → ⊥

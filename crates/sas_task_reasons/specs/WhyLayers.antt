@@ -20,14 +20,14 @@ why_refusal p fault =
     option_map (with_reasons (reasons_text p [] (layer_reasons p fault))) (layers_refusal fault)
 
 -- the answer about a task's layers with reasons, by their first fault if they have one
-abbrev pub why_verdict : Parts → Option LayerFault → Option Output
-why_verdict p None = layers_verdict None
-why_verdict p (Some fault) = why_refusal p fault
+abbrev pub why_layers_verdict : Parts → Option LayerFault → Option Output
+why_layers_verdict p None = layers_verdict None
+why_layers_verdict p (Some fault) = why_refusal p fault
 
 -- the answer to a check of a task, with reasons: that it is layered, or the refusal for the first
 -- fault of its layers and why
 abbrev pub WhyCheckAnswer : Parts → Output → Type 0
-WhyCheckAnswer p output = why_verdict p (first_fault (layer_checks p)) ≡ Some output
+WhyCheckAnswer p output = why_layers_verdict p (first_fault (layer_checks p)) ≡ Some output
 
 -- the answer about the mutex groups of a task, by the first fault of its layers if they have one:
 -- with the reasons why it isn't layered, or else with those why groups aren't exclusive

@@ -9,7 +9,7 @@ ghost use Rattle.sas_groups.specs.Verdicts.{IsJointVerdict};
 ghost use Rattle.sas_groups.specs.declared.verdict.Verdict.TheVariants.{Derived, Initial};
 ghost use Rattle.sas_groups.specs.Joint.{AreJointVerdicts};
 ghost use Rattle.sas_task_reasons.specs.GroupReasons.{IsFirstSuch, AreFirstHolding, IsReason};
-ghost use Rattle.sas_task_reasons.specs.Telling.{HoldsBeside, IsReasonSoFar, AreReasonsSoFar};
+ghost use Rattle.sas_task_reasons.specs.Reporting.{HoldsBeside, IsReasonSoFar, AreReasonsSoFar};
 
 use crate::reason::Reason;
 use sas_core::{Fact, Grounded, Items};

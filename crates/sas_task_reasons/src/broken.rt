@@ -10,7 +10,7 @@ ghost use Rattle.sas_mutex.specs.Marks.{IsClean};
 ghost use Rattle.sas_groups.specs.Noting.{AreBelow};
 ghost use Rattle.sas_mutex.specs.ByNotes.{IsNotedAt};
 ghost use Rattle.sas_task_reasons.specs.GroupReasons.{reason_at, AreReasons};
-ghost use Rattle.sas_task_reasons.specs.Telling.{IsReasonSoFar, AreReasonsSoFar, LacksReason, AreMarked};
+ghost use Rattle.sas_task_reasons.specs.Reporting.{IsReasonSoFar, AreReasonsSoFar, LacksReason, AreMarked};
 
 use crate::failures::first_failure;
 use crate::reason::Reason;
@@ -28,7 +28,7 @@ pub struct Greatest {
 
 /// Finds, for each group that an operator breaks, the first way in which the operator fails to preserve it, assuming the family and the
 /// group itself. `marked` must contain each operator that breaks a group.
-pub fn tell_failures<T: Grounded>(
+pub fn report_failures<T: Grounded>(
     indexed: &IndexedTask<'_, '_, T>,
     verdicts: &[Verdict],
     marked: &[bool],
@@ -47,13 +47,13 @@ pub fn tell_failures<T: Grounded>(
     for operator in 0..indexed.task.operators() {
         let breaks = marked[operator as usize];
         if breaks {
-            tell_failures_of(indexed, operator, verdicts, greatest, reasons);
+            report_failures_of(indexed, operator, verdicts, greatest, reasons);
         }
     }
 }
 
 /// Finds, for each group that the operator breaks, the first failure to preserve it.
-fn tell_failures_of<T: Grounded>(
+fn report_failures_of<T: Grounded>(
     indexed: &IndexedTask<'_, '_, T>,
     operator: u32,
     verdicts: &[Verdict],
@@ -79,13 +79,13 @@ fn tell_failures_of<T: Grounded>(
             operator,
             effect,
         };
-        tell_failures_at(&firing, verdicts, greatest, reasons);
+        report_failures_at(&firing, verdicts, greatest, reasons);
     }
 }
 
 /// Finds the first failure of the effect to preserve each group whose reason is still missing. The known facts of the effect are recorded
 /// once for all groups. If they clash, the effect never fires.
-fn tell_failures_at<T: Grounded>(
+fn report_failures_at<T: Grounded>(
     firing: &Firing<'_, '_, T>,
     verdicts: &[Verdict],
     greatest: &mut Greatest,
@@ -104,7 +104,7 @@ fn tell_failures_at<T: Grounded>(
 {
     let change = firing.task.effect_change(firing.operator, firing.effect);
     let groups = firing.index.groups_of(change.fact());
-    if !some_asked(groups, firing.operator, verdicts, reasons.as_slice()) {
+    if !some_lacks_reason(groups, firing.operator, verdicts, reasons.as_slice()) {
         return;
     }
     let premises = Premises {
@@ -117,13 +117,13 @@ fn tell_failures_at<T: Grounded>(
     let kept = greatest.kept.as_slice();
     let marks = &mut greatest.marks;
     if !note_known(firing.task, firing.index, kept, &premises, marks) {
-        tell_groups(firing, groups, verdicts, greatest, reasons);
+        report_groups(firing, groups, verdicts, greatest, reasons);
     }
     forget_known(firing.task, firing.index, &premises, &mut greatest.marks);
 }
 
 /// Returns whether the reason of one of these groups is still missing.
-fn some_asked(
+fn some_lacks_reason(
     groups: &[u32],
     operator: u32,
     verdicts: &[Verdict],
@@ -135,7 +135,7 @@ fn some_asked(
         → All (λ (place : ℕ). LacksReason operator verdicts.now reasons.now place → ⊥) groups.now }
 {
     for group in groups {
-        if is_asked(*group, operator, verdicts, reasons) {
+        if lacks_reason(*group, operator, verdicts, reasons) {
             return true;
         }
     }
@@ -143,7 +143,7 @@ fn some_asked(
 }
 
 /// Returns whether the reason of the group is still missing: the operator breaks it, and no reason was found yet.
-fn is_asked(group: u32, operator: u32, verdicts: &[Verdict], reasons: &[Option<Reason>]) -> bool
+fn lacks_reason(group: u32, operator: u32, verdicts: &[Verdict], reasons: &[Option<Reason>]) -> bool
     requires verdicts { group < length verdicts.now }
     requires reasons { group < length reasons.now }
     ensures yes { IsTrue result → LacksReason operator verdicts.now reasons.now group }
@@ -154,7 +154,7 @@ fn is_asked(group: u32, operator: u32, verdicts: &[Verdict], reasons: &[Option<R
 
 /// Finds the first failure of the effect to preserve each of these groups whose reason is still missing. The groups must contain the fact
 /// that the effect sets, and the known facts must be recorded.
-fn tell_groups<T: Grounded>(
+fn report_groups<T: Grounded>(
     firing: &Firing<'_, '_, T>,
     groups: &[u32],
     verdicts: &[Verdict],
@@ -170,20 +170,20 @@ fn tell_groups<T: Grounded>(
     requires notes { IsNotedAt firing.now greatest.old.kept greatest.old.marks }
     ensures so_far { let f = firing.now in AreReasonsSoFar f.task greatest.old.kept f.operator
         f.effect verdicts.now reasons.new }
-    ensures told { let f = firing.now in All (λ (place : ℕ).
+    ensures reported { let f = firing.now in All (λ (place : ℕ).
         IsReasonSoFar f.task greatest.old.kept f.operator (f.effect + 1) place
         (verdict_at verdicts.now place) (reason_at reasons.new place)) groups.now }
     ensures kept { greatest.new.kept ≡ greatest.old.kept }
     ensures notes { IsNotedAt firing.now greatest.old.kept greatest.new.marks }
 {
     for group in groups {
-        tell_group(firing, *group, verdicts, greatest, reasons);
+        report_group(firing, *group, verdicts, greatest, reasons);
     }
 }
 
 /// Finds the first failure of the effect to preserve the group, if its reason is still missing. The group must contain the fact that the
 /// effect sets, and the known facts must be recorded.
-fn tell_group<T: Grounded>(
+fn report_group<T: Grounded>(
     firing: &Firing<'_, '_, T>,
     group: u32,
     verdicts: &[Verdict],
@@ -198,7 +198,7 @@ fn tell_group<T: Grounded>(
     requires notes { IsNotedAt firing.now greatest.old.kept greatest.old.marks }
     ensures so_far { let f = firing.now in AreReasonsSoFar f.task greatest.old.kept f.operator
         f.effect verdicts.now reasons.new }
-    ensures told { let f = firing.now in
+    ensures reported { let f = firing.now in
         IsReasonSoFar f.task greatest.old.kept f.operator (f.effect + 1) group
         (verdict_at verdicts.now group) (reason_at reasons.new group) }
     ensures others { (place : ℕ) → place ≢ group
@@ -207,7 +207,7 @@ fn tell_group<T: Grounded>(
     ensures notes { IsNotedAt firing.now greatest.old.kept greatest.new.marks }
 {
     let operator = firing.operator;
-    if !is_asked(group, operator, verdicts, reasons.as_slice()) {
+    if !lacks_reason(group, operator, verdicts, reasons.as_slice()) {
         return;
     }
     let kept = &mut greatest.kept;

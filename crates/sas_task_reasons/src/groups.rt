@@ -41,21 +41,12 @@ pub fn write_groups<W: Write>(
     ensures writes { IsErrAnd result IsWrite ↔ IsTrue out.new.failed }
 {
     let verdicts = check_groups(alloc, task)?;
-    let told = verdicts.as_slice();
-    let reasons = group_reasons(alloc, task, told)?;
-    let pieces = Pieces::new(alloc)?;
-    let mut sink = Sink::new(pieces, out);
-    push_groups(&mut sink, task.task(), told, reasons.as_slice());
-    let ended = sink.finish(groups_status(told));
-    let Sink {
-        out: device,
-        pieces,
-        short: _,
-    } = sink;
-    drop(pieces);
-    // No effect at run time. The proof reads what `out` holds from this use of `device`.
-    let _ = &*device;
-    ended
+    let all = verdicts.as_slice();
+    let reasons = group_reasons(alloc, task, all)?;
+    let mut pieces = Pieces::new(alloc)?;
+    let mut sink = Sink::new(&mut pieces, out);
+    push_groups(&mut sink, task.task(), all, reasons.as_slice());
+    sink.finish(groups_status(all))
 }
 
 /// Adds the lines of all groups, each with its end, to the text.

@@ -5,10 +5,10 @@ ghost use Rattle.sas_groups.specs.declared.verdict.Verdict.TheVariants.{Broken};
 ghost use Rattle.sas_groups.specs.Kept.{family_of};
 ghost use Rattle.sas_groups.specs.Joint.{AreJointVerdicts};
 ghost use Rattle.sas_task_reasons.specs.GroupReasons.{AreReasons};
-ghost use Rattle.sas_task_reasons.specs.Telling.{AreReasonsSoFar, IsBroken, AreMarked};
+ghost use Rattle.sas_task_reasons.specs.Reporting.{AreReasonsSoFar, IsBroken, AreMarked};
 
 use crate::before_operators::first_reasons;
-use crate::broken::{Greatest, tell_failures};
+use crate::broken::{Greatest, report_failures};
 use crate::reason::Reason;
 use sas_core::{Grounded, Items};
 use sas_groups::{Index, IndexedTask, Verdict};
@@ -38,14 +38,14 @@ pub fn group_reasons<T: Grounded>(
         task: layered,
         index: &index,
     };
-    let told = tell_breaking(alloc, &indexed, verdicts, &mut reasons);
+    let ended = report_breaking(alloc, &indexed, verdicts, &mut reasons);
     drop(index);
-    told?;
+    ended?;
     Ok(reasons.into_vec())
 }
 
 /// Finds the reason of each group that an operator breaks. Allocates the memory for this.
-fn tell_breaking<T: Grounded>(
+fn report_breaking<T: Grounded>(
     alloc: Global,
     indexed: &IndexedTask<'_, '_, T>,
     verdicts: &[Verdict],
@@ -60,7 +60,7 @@ fn tell_breaking<T: Grounded>(
     let kept = exclusive_of(alloc, verdicts)?;
     let marks = Marks::new(alloc, indexed.task, indexed.index)?;
     let mut greatest = Greatest { kept, marks };
-    tell_failures(indexed, verdicts, marked.as_slice(), &mut greatest, reasons);
+    report_failures(indexed, verdicts, marked.as_slice(), &mut greatest, reasons);
     drop(marked);
     drop(greatest);
     Ok(())

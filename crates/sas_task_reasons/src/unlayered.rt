@@ -25,7 +25,7 @@ pub fn write_unlayered<W: Write>(
 ) -> Result<Status, ToolFault>
     requires { out.old.failed ≡ false }
     ensures ends { EndsCounting
-        (λ output. IsSomeAnd output (λ told. why_refusal task.now fault ≡ Some told))
+        (λ output. IsSomeAnd output (λ refusal. why_refusal task.now fault ≡ Some refusal))
         (Appends (W.contents out.old.device) (W.contents out.new.device)) result }
     ensures nothing { IfErr result (λ e. IsWrite e
         ⊎ ((e ≡ ToolFault.Memory) × (out.new ≡ out.old))) }
@@ -34,6 +34,5 @@ pub fn write_unlayered<W: Write>(
     let refusal = refuse_layers(alloc, fault)?;
     let reasons = layer_reasons(alloc, task, fault)?;
     let named = Named { task, plan: None };
-    let line = refusal.text.as_slice();
-    write_reasons(alloc, out, line, &named, reasons.as_slice())
+    write_reasons(alloc, out, &refusal, &named, reasons.as_slice())
 }

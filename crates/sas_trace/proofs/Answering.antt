@@ -17,6 +17,7 @@ use Rattle.sas_output.specs.Ending.{Output}
 use Rattle.sas_answers.specs.Answers.{valid_answer, invalid_answer}
 use Rattle.sas_answers.specs.PlanWords.{fault_words, invalid_line}
 use Rattle.sas_run.specs.Runs.{Run, StepsSucceed, steps_before}
+use Rattle.sas_answers.proofs.WordedLines.{worded}
 use Rattle.sas_run.proofs.Runs.{some_run, one_run, to_fault}
 use Rattle.sas_trace.specs.Trace.{run_lines}
 use Rattle.sas_trace.specs.Traced.{EndsWith, TraceVerdict}
@@ -30,17 +31,11 @@ ends_with_verdict p plan output trace = elim trace.ends [
 
 -- ---- a plan that isn't valid
 
-refusal_is_no : (words : Option (List ℕ)) (verdict : Output) → option_map (λ (w : List ℕ). record { text = invalid_line w; status = No }) words ≡ Some verdict → verdict.status ≡ No
-refusal_is_no None verdict e = absurd cc
-refusal_is_no (Some words) verdict e =
-    let same = same_Some (record { text = invalid_line words; status = No }) verdict e in
-    sym (ap (λ (o : Output). o.status) same)
-
 pub costs_add_up : CostsAddUp
 costs_add_up p plan output trace accepted = elim trace.ends [
   | inl w ↦ w.0.0.cost
   | inr w ↦
-      let no : Yes ≡ No = sym accepted ∙ (trace.status ∙ refusal_is_no (fault_words plan.cost w.0) trace.verdict w.2) in
+      let no : Yes ≡ No = sym accepted ∙ (trace.status ∙ (worded (fault_words plan.cost w.0) invalid_line trace.verdict w.2).status) in
       absurd cc
 ]
 

@@ -1,5 +1,5 @@
--- What the first numbers say, one after the other.
-use Rattle.std.proofs.Common.{◌≡◌, ℕ, zero, suc, ◌+◌, ◌<◌, ◌≤◌, List, [], ◌∷◌, ◌++◌, map, flat_map, append-nil, sym, ◌∙◌, ap, arith}
+-- The texts of the first numbers, one after the other.
+use Rattle.std.proofs.Common.{◌≡◌, ℕ, zero, suc, ◌+◌, ◌<◌, ◌≤◌, List, [], ◌∷◌, ◌++◌, map, flat_map, append-nil, append_assoc, sym, ◌∙◌, ap, arith}
 use Rattle.std.specs.List.{range_with_len}
 use Rattle.std.proofs.lemmas.Grind.{flat_map-append}
 use Rattle.std.proofs.lemmas.List.Folds.{flat_map-map}
@@ -24,6 +24,14 @@ module _ (says : ℕ → List ℕ) where
       ∙ ap (λ (l : List ℕ). l ++ flat_map says (n ∷ [])) (flat_map-map says itself row)
       ∙ ap (λ (l : List ℕ). said n ++ l) (append-nil (says n)) in
       sym parts
+
+  -- and some more
+  pub said_rest : (m n : ℕ) → (rest : List ℕ) × (said m ++ rest ≡ said (m + n))
+  said_rest m zero = ([], append-nil (said m) ∙ (let e : m ≡ m + 0 = omega arith in ap said e))
+  said_rest m (suc n) =
+      let (rest, is) = said_rest m n in
+      let e : (m + n) + 1 ≡ m + suc n = omega arith in
+      (rest ++ says (m + n), sym (append_assoc (said m) rest (says (m + n))) ∙ ap (λ (l : List ℕ). l ++ says (m + n)) is ∙ said_more (m + n) ∙ ap said e)
 
   -- some that say nothing
   pub said_quiet : (m n : ℕ) → ((j : ℕ) → m ≤ j → j < m + n → says j ≡ []) → said (m + n) ≡ said m

@@ -31,7 +31,7 @@ abbrev pub Replays : Type 0
 Replays = (p : Parts) (run : Run) (k : ℕ) → WellRanged p → StepsSucceed p run → k ≤ length run.steps
     → replayed p run k ≡ state_at run k
 
--- the answer that there is without it follows the trace, and its status is that of both
+-- the answer without a trace follows the trace, and both have its status
 abbrev pub EndsWithVerdict : Type 0
 EndsWithVerdict = (p : Parts) (plan : PlanParts) (output : Output) → TraceVerdict p plan output
     → (verdict : Output) × VerdictAnswer p plan verdict × (front : List ℕ)

@@ -61,20 +61,11 @@ fn write_execution<W: Write, E: Settle<FlatTask> + Drop>(
     // What takes memory comes first.
     let verdict = plan_verdict(alloc, plan, execution)?;
     let mut tracer = Tracer::new(alloc, execution.state())?;
-    let pieces = Pieces::new(alloc)?;
-    let mut sink = Sink::new(pieces, out);
+    let mut pieces = Pieces::new(alloc)?;
+    let mut sink = Sink::new(&mut pieces, out);
     tracer.push_run(&mut sink, task, execution);
     sink.push(verdict.text.as_slice());
-    let ended = sink.finish(verdict.status);
-    let Sink {
-        out: device,
-        pieces,
-        short: _,
-    } = sink;
-    drop(pieces);
-    // No effect at run time. The proof reads what `out` holds from this use of `device`.
-    let _ = &*device;
-    ended
+    sink.finish(verdict.status)
 }
 
 /// Returns the answer about the plan. Its execution then knows which steps go through, and is at its start.

@@ -57,7 +57,7 @@ impl Tracer {
         self.push_steps(sink, task, execution);
     }
 
-    /// Makes the steps that go through, and adds their lines to the text.
+    /// Makes the steps that go through, and adds their lines to the text. After a failed write it makes no more steps.
     fn push_steps<W: Write, E: Settle<FlatTask> + Drop>(
         &mut self,
         sink: &mut Sink<'_, W>,
@@ -72,6 +72,10 @@ impl Tracer {
             (text (flat_map (step_lines task.now run) (range_with_len 0 (length run.steps)))) }
     {
         for before in 0..execution.operators().len() {
+            // Nothing more would be written.
+            if sink.out.failed() {
+                return;
+            }
             self.push_step(sink, task, execution, before + 1);
         }
     }

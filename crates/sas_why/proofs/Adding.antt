@@ -1,6 +1,6 @@
 -- Reports with more lines.
 use Rattle.std.proofs.Common.{◌≡◌, ◌≢◌, ℕ, suc, ◌<◌, ◌⊎◌, Bool, true, false, not, List, [], ◌∷◌, ◌++◌, length, get_or, set, map, Option, None, Some, Vec, Global, refl, sym, ◌∙◌, ap, subst, inl, inr, arith}
-use Rattle.std.specs.Prelude.{flat_map, filter, find, ◌↔◌, IsTrue}
+use Rattle.std.specs.Prelude.{flat_map, find, ◌↔◌, IsTrue}
 use Rattle.std.specs.List.{AllByRecursion, AllPairs, Contains}
 use Rattle.std.specs.Option.{option_map_or}
 use Rattle.std.proofs.lemmas.Bool.{cases_eq, cases_Bool, false≢true}
@@ -23,10 +23,10 @@ use Rattle.sas_reasons.specs.Cause.{fails, failing_lines}
 use Rattle.sas_reasons.proofs.Derivation.{no_circle}
 use Rattle.sas_why.specs.declared.origins.Origins.{Origins}
 use Rattle.sas_why.specs.declared.report.Report.{Report}
-use Rattle.sas_why.specs.Origins.{is_told, AreOrigins, TellsDerivation}
+use Rattle.sas_why.specs.Origins.{is_reported, AreOrigins, ReportsDerivation}
 use Rattle.sas_why.specs.Report.{lines_of_keepers, is_kept, IsReport}
 use Rattle.sas_why.proofs.Once.{IsPlain, Apart, rule_of, other_line, contains_map, map_contains, derived_lines, none_new, all_new}
-use Rattle.sas_why.proofs.ToldRules.{in_filter, of_filter}
+use Rattle.sas_why.proofs.ReportedRules.{in_filter, of_filter}
 
 -- a plain line isn't one of a rule
 no_rule_line : (more : List Line) (z : Line) → AllByRecursion IsPlain more → is_rule_line z ≡ true → Contains more z → ⊥
@@ -41,7 +41,7 @@ module _ (p : Parts) (s : List ℕ) where
   record Grows (old new : Report) (more : List Line) : Type 0 where
     lines : new.lines ≡ old.lines ++ more
     origins : AreOrigins p s new.origins
-    derived : (rule : ℕ) → IsTrue (is_told new.origins rule) ↔ (IsTrue (is_told old.origins rule) ⊎ Contains more (RuleDerives rule))
+    derived : (rule : ℕ) → IsTrue (is_reported new.origins rule) ↔ (IsTrue (is_reported old.origins rule) ⊎ Contains more (RuleDerives rule))
     rules : new.rules ≡ old.rules
     one_each : length new.kept ≡ length old.kept
     kept : (var : ℕ) → is_kept new var ≡ true → (is_kept old var ≡ true) ⊎ ((z : Line) → Contains (lines_of_keepers p s var) z → Contains more z)
@@ -106,15 +106,15 @@ module _ (p : Parts) (s : List ℕ) where
       let itself = subst (λ r. ComesBefore p s (rule_at p a).var (rule_at p r).var) (sym same) (d.ordered i j e lt within) in
       no_circle p s (rule_at p a).var (rule_at p a).var itself itself
 
-  module _ (report : Report) (new : List Line) (origins : Origins) (next : Vec ℕ Global) (var : ℕ) (t : TellsDerivation p s var report.origins origins [] next.items)
+  module _ (report : Report) (new : List Line) (origins : Origins) (next : Vec ℕ Global) (var : ℕ) (t : ReportsDerivation p s var report.origins origins [] next.items)
       (add : new ≡ report.lines ++ map RuleDerives next.items) (is : IsReport p s report) where
     pub derivation_once : new ≡ with_lines report.lines (map RuleDerives t.derivation)
     derivation_once = add
-        ∙ (ap (λ (l : List ℕ). report.lines ++ map RuleDerives l) t.told
-        ∙ sym (derived_lines report.lines (is_told report.origins) is.derived t.derivation (rules_differ var t.derivation t.is)))
+        ∙ (ap (λ (l : List ℕ). report.lines ++ map RuleDerives l) t.reported
+        ∙ sym (derived_lines report.lines (is_reported report.origins) is.derived t.derivation (rules_differ var t.derivation t.is)))
 
-    untold : ℕ → Bool
-    untold rule = not (is_told report.origins rule)
+    unreported : ℕ → Bool
+    unreported rule = not (is_reported report.origins rule)
 
     pub derivation_added : IsReport p s (record report { lines = new; origins = origins; next = next })
     derivation_added = grown report (record report { lines = new; origins = origins; next = next }) (map RuleDerives next.items) (record {
@@ -123,17 +123,17 @@ module _ (p : Parts) (s : List ℕ) where
       derived = λ rule. (
         (λ so. elim ((t.noted rule).0 so) [
           | inl before ↦ inl before
-          | inr now ↦ elim (cases_Bool (is_told report.origins rule)) [
+          | inr now ↦ elim (cases_Bool (is_reported report.origins rule)) [
             | inl before ↦ inl before
             | inr new ↦ inr (contains_map RuleDerives next.items rule
-                (subst (λ (l : List ℕ). Contains l rule) (sym t.told) (in_filter (λ r. not (is_told report.origins r)) t.derivation rule now (ap not new))))
+                (subst (λ (l : List ℕ). Contains l rule) (sym t.reported) (in_filter (λ r. not (is_reported report.origins r)) t.derivation rule now (ap not new))))
           ]
         ]),
         (λ either. elim either [
           | inl before ↦ (t.noted rule).1 (inl before)
           | inr h ↦ (let w = map_contains RuleDerives next.items (RuleDerives rule) h in
               let same : w.0 ≡ rule = ap rule_of w.2 in
-              let among = of_filter (λ r. not (is_told report.origins r)) t.derivation w.0 (subst (λ (l : List ℕ). Contains l w.0) t.told w.1) in
+              let among = of_filter (λ r. not (is_reported report.origins r)) t.derivation w.0 (subst (λ (l : List ℕ). Contains l w.0) t.reported w.1) in
               (t.noted rule).1 (inr (subst (Contains t.derivation) same among.0)))
         ]),
       );

@@ -1,5 +1,5 @@
 -- What is known of a run that was retraced up to a fault.
-use Rattle.std.proofs.Common.{◌≡◌, ℕ, ◌-◌, ◌<◌, ◌≤◌, List, [], ◌∷◌, ◌++◌, length, take, Option, None, Some, refl, sym, ◌∙◌, ap, subst, inl, inr, arith}
+use Rattle.std.proofs.Common.{◌≡◌, ℕ, ◌-◌, List, [], ◌∷◌, ◌++◌, length, take, Option, None, Some, refl, sym, ◌∙◌, ap, subst, inl, inr, arith}
 use Rattle.std.proofs.lemmas.List.{append-nil}
 use Rattle.std.proofs.Math.Seq.{take-append_seam}
 use Rattle.sas_core.specs.declared.parts.Parts.{Parts}
@@ -22,7 +22,7 @@ use Rattle.sas_reasons.specs.WhyPlan.{AreCouldBeLines, AreFaultLines, IsWhy}
 use Rattle.sas_why.specs.declared.retraced.Other.{Other}
 use Rattle.sas_why.specs.declared.retraced.Retraced.{Retraced}
 use Rattle.sas_why.specs.Retracing.{IsOtherIfAny, Retraces}
-use Rattle.sas_why.specs.Report.{IsBehind, TellsOnce}
+use Rattle.sas_why.specs.Report.{IsBehind, ReportsOnce}
 
 module _ (p : Parts) (plan : PlanParts) (noted : Retraced) (run : Run) (fault : PlanFault) (r : Retraces p plan noted run) (is : noted.fault ≡ Some fault) where
   pub ends : IsFaultOf p plan fault × (run.steps ≡ steps_before plan fault)
@@ -41,22 +41,22 @@ module _ (p : Parts) (plan : PlanParts) (noted : Retraced) (run : Run) (fault : 
 
   -- ---- why
 
-  pub is_why : (lines : List Line) → TellsOnce lines (AreFaultLines p plan run fault) → (new : List Line)
+  pub is_why : (lines : List Line) → ReportsOnce lines (AreFaultLines p plan run fault) → (new : List Line)
       → ((other : Other) → noted.other ≡ Some other → new ≡ lines ++ line.CouldBe other.step other.operator ∷ [])
       → (noted.other ≡ None → new ≡ lines)
       → IsWhy p plan fault new
-  is_why lines told new some none = at noted.other refl
+  is_why lines reported new some none = at noted.other refl
     where
       why : (others : List Line) → AreCouldBeLines p run others → new ≡ lines ++ others → IsWhy p plan fault new
       why others may is = record {
         run = run;
         went = ends.1;
         through = r.through;
-        reasons = told.0;
-        told = told.1;
+        reasons = reported.0;
+        are = reported.1;
         others = others;
         may = may;
-        whole = is ∙ ap (λ (l : List Line). l ++ others) told.2;
+        whole = is ∙ ap (λ (l : List Line). l ++ others) reported.2;
       }
 
       at : (other : Option Other) → noted.other ≡ other → IsWhy p plan fault new

@@ -18,8 +18,8 @@ use Rattle.sas_reasons.specs.Cause.{is_derived, is_given, actual_fact, since_lin
 use Rattle.sas_why.specs.declared.origins.Origins.{Origins}
 use Rattle.sas_why.specs.declared.retraced.Retraced.{Retraced}
 use Rattle.sas_why.specs.declared.report.Report.{Report}
-use Rattle.sas_why.specs.Origins.{AreOrigins, TellsDerivation}
-use Rattle.sas_why.specs.Report.{IsBehind, lines_of_keepers, is_kept, IsReport, CanTell, Adds}
+use Rattle.sas_why.specs.Origins.{AreOrigins, ReportsDerivation}
+use Rattle.sas_why.specs.Report.{IsBehind, lines_of_keepers, is_kept, IsReportOf, Adds}
 use Rattle.sas_why.proofs.Once.{IsPlain, lines_append, plain_lines}
 use Rattle.sas_why.proofs.Adding.{plain_added, derivation_once, derivation_added, keepers_again, keepers_once, keepers_added}
 
@@ -31,16 +31,16 @@ module _ (p : Parts) (noted : Retraced) where
   plain_then report new more rest plain add =
       ap (λ (l : List Line). with_lines l rest) (add ∙ sym (plain_lines report.lines more plain)) ∙ sym (lines_append report.lines more rest)
 
-  pub plain_can_tell : (report : Report) (new more : List Line) → AllByRecursion IsPlain more → new ≡ report.lines ++ more
-      → CanTell p noted report → CanTell p noted (record report { lines = new })
-  plain_can_tell report new more plain add can = (can.0, can.1, plain_added p noted.last report new more plain add can.2)
+  pub plain_is_report : (report : Report) (new more : List Line) → AllByRecursion IsPlain more → new ≡ report.lines ++ more
+      → IsReportOf p noted report → IsReportOf p noted (record report { lines = new })
+  plain_is_report report new more plain add can = (can.0, can.1, plain_added p noted.last report new more plain add can.2)
 
-  pub more_can_tell : (Tells : Run → List Line → Type 0) (old new : Report) → Adds p noted old new Tells → CanTell p noted old → CanTell p noted new
-  more_can_tell Tells old new adds can = let w = adds can.0 can.1 can.2 in (can.0, can.1, w.3)
+  pub more_is_report : (Are : Run → List Line → Type 0) (old new : Report) → Adds p noted old new Are → IsReportOf p noted old → IsReportOf p noted new
+  more_is_report Are old new adds can = let w = adds can.0 can.1 can.2 in (can.0, can.1, w.3)
 
-  pub line_and_more : (report after : Report) (new : List Line) (l : Line) (Tells : Run → List Line → Type 0) → IsPlain l → new ≡ report.lines ++ l ∷ []
-      → Adds p noted (record report { lines = new }) after Tells → Adds p noted report after (λ run. LineThen l (Tells run))
-  line_and_more report after new l Tells plain add adds run behind is =
+  pub line_and_more : (report after : Report) (new : List Line) (l : Line) (Are : Run → List Line → Type 0) → IsPlain l → new ≡ report.lines ++ l ∷ []
+      → Adds p noted (record report { lines = new }) after Are → Adds p noted report after (λ run. LineThen l (Are run))
+  line_and_more report after new l Are plain add adds run behind is =
       let w = adds run behind (plain_added p noted.last report new (l ∷ []) (plain, tt) add is) in
       (l ∷ w.0, (w.0, w.1, refl), w.2 ∙ plain_then report new (l ∷ []) w.0 (plain, tt) add, w.3)
 
@@ -89,12 +89,12 @@ module _ (p : Parts) (noted : Retraced) where
       ([], subst (λ b. AreDerivationLines b p (last_state run) var []) (sym (ap (λ s. is_given p s var) (sym behind.last) ∙ not_so)) refl, refl, is)
 
   pub some_givers : (report : Report) (new : List Line) (origins : Origins) (next : Vec ℕ Global) (var : ℕ) → is_given p noted.last var ≡ true
-      → ((s : List ℕ) → AreOrigins p s report.origins → TellsDerivation p s var report.origins origins [] next.items)
+      → ((s : List ℕ) → AreOrigins p s report.origins → ReportsDerivation p s var report.origins origins [] next.items)
       → new ≡ report.lines ++ map line.RuleDerives next.items
       → Adds p noted report (record report { lines = new; origins = origins; next = next })
       (λ run. AreDerivationLines (is_given p (last_state run) var) p (last_state run) var)
-  some_givers report new origins next var so tells add run behind is =
-      let t = tells noted.last is.origins in (
+  some_givers report new origins next var so decides add run behind is =
+      let t = decides noted.last is.origins in (
         map line.RuleDerives t.derivation,
         subst (λ b. AreDerivationLines b p (last_state run) var (map line.RuleDerives t.derivation)) (sym (ap (λ s. is_given p s var) (sym behind.last) ∙ so))
             (t.derivation, subst (λ s. IsDerivation p s var t.derivation) behind.last t.is, refl),
@@ -120,15 +120,15 @@ module _ (p : Parts) (noted : Retraced) where
     plain_added p noted.last report new (line.NoRuleDerives ∷ []) (refl, tt) add is,
   )
 
-  pub told_before : (report : Report) (fact : Fact) → can_be_given p fact ≡ true → is_kept report fact.var ≡ true
+  pub reported_before : (report : Report) (fact : Fact) → can_be_given p fact ≡ true → is_kept report fact.var ≡ true
       → Adds p noted report report (λ run lines. lines ≡ keeping_lines p (last_state run) fact)
-  told_before report fact so kept run behind is =
+  reported_before report fact so kept run behind is =
       (lines_of_keepers p noted.last fact.var, keepers_of_last run behind fact so, keepers_again p noted.last report fact.var is kept, is)
 
-  pub told_now : (report : Report) (new : List Line) (fact : Fact) → fact.var < length p.variables → can_be_given p fact ≡ true
+  pub reported_now : (report : Report) (new : List Line) (fact : Fact) → fact.var < length p.variables → can_be_given p fact ≡ true
       → is_kept report fact.var ≡ false → new ≡ report.lines ++ lines_of_keepers p noted.last fact.var
       → Adds p noted report (record report { lines = new; kept = set report.kept fact.var true }) (λ run lines. lines ≡ keeping_lines p (last_state run) fact)
-  told_now report new fact lt so not_kept add run behind is = (
+  reported_now report new fact lt so not_kept add run behind is = (
     lines_of_keepers p noted.last fact.var,
     keepers_of_last run behind fact so,
     keepers_once p noted.last report fact.var is new lt not_kept add,
@@ -136,41 +136,41 @@ module _ (p : Parts) (noted : Retraced) where
   )
 
   -- whether the cause has lines for rules that don't fire
-  abbrev pub asks_for : Fact → Bool
-  asks_for fact = is_derived p fact.var && not (fact.value == default_of p fact.var)
+  abbrev pub has_condition_on : Fact → Bool
+  has_condition_on fact = is_derived p fact.var && not (fact.value == default_of p fact.var)
 
-  pub nothing_missing : (report : Report) (fact : Fact) → asks_for fact ≡ false → Adds p noted report report (λ run lines. lines ≡ missing_lines p (last_state run) fact)
+  pub nothing_missing : (report : Report) (fact : Fact) → has_condition_on fact ≡ false → Adds p noted report report (λ run lines. lines ≡ missing_lines p (last_state run) fact)
   nothing_missing report fact not_so run behind is = ([], sym (ap (λ b. if b then keeping_lines p (last_state run) fact else []) not_so), refl, is)
 
-  pub missing_told : (report after : Report) (fact : Fact) → asks_for fact ≡ true → Adds p noted report after (λ run lines. lines ≡ keeping_lines p (last_state run) fact)
+  pub missing_reported : (report after : Report) (fact : Fact) → has_condition_on fact ≡ true → Adds p noted report after (λ run lines. lines ≡ keeping_lines p (last_state run) fact)
       → Adds p noted report after (λ run lines. lines ≡ missing_lines p (last_state run) fact)
-  missing_told report after fact so adds run behind is =
+  missing_reported report after fact so adds run behind is =
       let w = adds run behind is in
       (w.0, w.1 ∙ sym (ap (λ b. if b then keeping_lines p (last_state run) fact else []) so), w.2, w.3)
 
 -- ---- each of some items
 
-each_more : {A : Type 0} (Tells : A → List Line → Type 0) (items : List A) (item : A) (lines its : List Line)
-    → LinesOfEach Tells items lines → Tells item its → LinesOfEach Tells (items ++ item ∷ []) (lines ++ its)
-each_more Tells [] item lines its none tells = (its, [], tells, refl, ap (λ (l : List Line). l ++ its) none ∙ sym (append-nil its))
-each_more Tells (first ∷ items) item lines its each tells = (
+each_more : {A : Type 0} (Are : A → List Line → Type 0) (items : List A) (item : A) (lines its : List Line)
+    → LinesOfEach Are items lines → Are item its → LinesOfEach Are (items ++ item ∷ []) (lines ++ its)
+each_more Are [] item lines its none decides = (its, [], decides, refl, ap (λ (l : List Line). l ++ its) none ∙ sym (append-nil its))
+each_more Are (first ∷ items) item lines its each decides = (
   each.0,
   each.1 ++ its,
   each.2,
-  each_more Tells items item each.1 its each.3 tells,
+  each_more Are items item each.1 its each.3 decides,
   ap (λ (l : List Line). l ++ its) each.4 ∙ append_assoc each.0 each.1 its,
 )
 
-module _ (p : Parts) (noted : Retraced) {A : Type 0} (Tells : Run → A → List Line → Type 0) where
-  pub none_yet : (report : Report) → Adds p noted report report (λ run. LinesOfEach (Tells run) [])
+module _ (p : Parts) (noted : Retraced) {A : Type 0} (Are : Run → A → List Line → Type 0) where
+  pub none_yet : (report : Report) → Adds p noted report report (λ run. LinesOfEach (Are run) [])
   none_yet report run behind is = ([], refl, refl, is)
 
-  pub one_more : (first old new : Report) (items : List A) (item : A) → Adds p noted first old (λ run. LinesOfEach (Tells run) items)
-      → Adds p noted old new (λ run. Tells run item) → Adds p noted first new (λ run. LinesOfEach (Tells run) (items ++ item ∷ []))
+  pub one_more : (first old new : Report) (items : List A) (item : A) → Adds p noted first old (λ run. LinesOfEach (Are run) items)
+      → Adds p noted old new (λ run. Are run item) → Adds p noted first new (λ run. LinesOfEach (Are run) (items ++ item ∷ []))
   one_more first old new items item before adds run behind is =
       let b = before run behind is in
       let a = adds run behind b.3 in
-      (b.0 ++ a.0, each_more (Tells run) items item b.0 a.0 b.1 a.1, a.2 ∙ (ap (λ (l : List Line). with_lines l a.0) b.2 ∙ sym (lines_append first.lines b.0 a.0)), a.3)
+      (b.0 ++ a.0, each_more (Are run) items item b.0 a.0 b.1 a.1, a.2 ∙ (ap (λ (l : List Line). with_lines l a.0) b.2 ∙ sym (lines_append first.lines b.0 a.0)), a.3)
 
 -- ---- the lines of rules, one rule more
 
@@ -197,6 +197,6 @@ flat_more f first old new shown k items d lt before pushed is =
     ∙ ap (flat_map f) (sym (take_more items k d lt))))))
 
 -- the rules of a variable
-pub rules_of_report : (p : Parts) (noted : Retraced) (report : Report) (var : ℕ) → var < length p.variables → CanTell p noted report
+pub rules_of_report : (p : Parts) (noted : Retraced) (report : Report) (var : ℕ) → var < length p.variables → IsReportOf p noted report
     → get_or report.rules var [] ≡ places (can_give p var) p.rules
 rules_of_report p noted report var lt can = let is = can.2 in is.rules.each var lt

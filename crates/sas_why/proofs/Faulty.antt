@@ -17,15 +17,15 @@ use Rattle.sas_reasons.specs.Likeness.{IsLike}
 use Rattle.sas_reasons.specs.WhyPlan.{AreSimilarNameLines}
 use Rattle.sas_why.specs.declared.retraced.Retraced.{Retraced}
 use Rattle.sas_why.specs.declared.report.Report.{Report}
-use Rattle.sas_why.specs.Report.{IsBehind, IsReport, Adds, TellsOnce}
+use Rattle.sas_why.specs.Report.{IsBehind, IsReport, Adds, ReportsOnce}
 
 -- ---- no operator of the name
 
-pub unknown_told : (p : Parts) (step : ℕ) (name : List ℕ) (like : Option ℕ) (lines : List Line) → IsLike p name like
+pub unknown_reported : (p : Parts) (step : ℕ) (name : List ℕ) (like : Option ℕ) (lines : List Line) → IsLike p name like
     → lines ≡ line.Step step ∷ option_map_or (λ operator. line.SimilarOperator operator ∷ []) like []
-    → TellsOnce lines (LineThen (line.Step step) (AreSimilarNameLines p name))
-unknown_told p step name None lines is are = (line.Step step ∷ [], ([], (None, is, refl), refl), are)
-unknown_told p step name (Some operator) lines is are =
+    → ReportsOnce lines (LineThen (line.Step step) (AreSimilarNameLines p name))
+unknown_reported p step name None lines is are = (line.Step step ∷ [], ([], (None, is, refl), refl), are)
+unknown_reported p step name (Some operator) lines is are =
     (line.Step step ∷ line.SimilarOperator operator ∷ [], (line.SimilarOperator operator ∷ [], (Some operator, is, refl), refl), are)
 
 -- ---- items that fail, one more
@@ -61,19 +61,19 @@ place_holds s k facts d lt e = place_not (fails s) k facts d lt (holds_when s (g
 -- ---- what is reported of the last state
 
 module _ (p : Parts) (noted : Retraced) where
-  pub same_items : {A : Type 0} (Tells : Run → A → List Line → Type 0) (a b : List A) (old new : Report) → a ≡ b
-      → Adds p noted old new (λ run. LinesOfEach (Tells run) a) → Adds p noted old new (λ run. LinesOfEach (Tells run) b)
-  same_items Tells a b old new same adds = subst (λ items. Adds p noted old new (λ run. LinesOfEach (Tells run) items)) same adds
+  pub same_items : {A : Type 0} (Are : Run → A → List Line → Type 0) (a b : List A) (old new : Report) → a ≡ b
+      → Adds p noted old new (λ run. LinesOfEach (Are run) a) → Adds p noted old new (λ run. LinesOfEach (Are run) b)
+  same_items Are a b old new same adds = subst (λ items. Adds p noted old new (λ run. LinesOfEach (Are run) items)) same adds
 
-  pub at_last : {A : Type 0} (Tells : Run → A → List Line → Type 0) (items_of : List ℕ → List A) (old new : Report)
-      → Adds p noted old new (λ run. LinesOfEach (Tells run) (items_of noted.last)) → Adds p noted old new (λ run. LinesOfEach (Tells run) (items_of (last_state run)))
-  at_last Tells items_of old new adds run behind is =
+  pub at_last : {A : Type 0} (Are : Run → A → List Line → Type 0) (items_of : List ℕ → List A) (old new : Report)
+      → Adds p noted old new (λ run. LinesOfEach (Are run) (items_of noted.last)) → Adds p noted old new (λ run. LinesOfEach (Are run) (items_of (last_state run)))
+  at_last Are items_of old new adds run behind is =
       let w = adds run behind is in
-      (w.0, subst (λ s. LinesOfEach (Tells run) (items_of s) w.0) behind.last w.1, w.2, w.3)
+      (w.0, subst (λ s. LinesOfEach (Are run) (items_of s) w.0) behind.last w.1, w.2, w.3)
 
   -- from a report without a line
-  pub all_told : (Tells : Run → List Line → Type 0) (first last : Report) → IsReport p noted.last first → first.lines ≡ [] → Adds p noted first last Tells
-      → (run : Run) → IsBehind p noted run → TellsOnce last.lines (Tells run)
-  all_told Tells first last is none adds run behind =
+  pub all_reported : (Are : Run → List Line → Type 0) (first last : Report) → IsReport p noted.last first → first.lines ≡ [] → Adds p noted first last Are
+      → (run : Run) → IsBehind p noted run → ReportsOnce last.lines (Are run)
+  all_reported Are first last is none adds run behind =
       let w = adds run behind is in
       (w.0, w.1, w.2 ∙ ap (λ (l : List Line). with_lines l w.0) none)

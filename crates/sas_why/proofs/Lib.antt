@@ -10,12 +10,11 @@ pub mod Composing
 pub mod Within
 pub mod Faulty
 pub mod Behind
-pub mod AskingEntries
+pub mod RequiringEntries
 pub mod Reaching
 pub mod Origined
 pub mod RoundSteps
 pub mod RoundEnds
-pub mod TellingSteps
+pub mod ReportingSteps
 pub mod Placing
-pub mod ToldRules
-mod Explaining
+pub mod ReportedRules

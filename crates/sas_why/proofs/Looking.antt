@@ -1,5 +1,5 @@
 -- It is enough to look at the variables that a step may have changed.
-use Rattle.std.proofs.Common.{◌≡◌, ◌≢◌, ◌⊎◌, ℕ, ◌<◌, true, false, IsFalse, List, length, get_or, refl, sym, ◌∙◌, subst, inl, inr, arith}
+use Rattle.std.proofs.Common.{◌≡◌, ◌≢◌, ◌⊎◌, ℕ, ◌<◌, true, false, IsFalse, List, length, get_or, sym, ◌∙◌, subst, inl, inr, arith}
 use Rattle.std.specs.List.{All, Contains}
 use Rattle.std.proofs.lemmas.Bool.{cases_eq, cases_Bool}
 use Rattle.std.proofs.lemmas.List.Elements.{All-contains}
@@ -43,10 +43,6 @@ module _ (step : ℕ) (s : List ℕ) (old mid new : Changes) (var : ℕ) where
   some_then first (inl noted) = inl (noted_then first noted)
   some_then (inl noted) (inr left) = inl (noted_before noted (inr left))
   some_then (inr before) (inr left) = inr (record { value = left.value ∙ before.value; since = left.since ∙ before.since })
-
--- nothing is noted yet
-pub none_noted : (step : ℕ) (s : List ℕ) (old : Changes) → HavePlaces (length s) old → NotesSome step s old old
-none_noted step s old places = record { places = places; each = λ var. inr (record { value = refl; since = refl }) }
 
 -- one variable more is noted
 one_of : (step : ℕ) (s : List ℕ) (mid new : Changes) (v : ℕ) → NotedAt step s mid new v → ((k : ℕ) → k ≢ v → LeftAt mid new k) → (var : ℕ) → NotedAt step s mid new var ⊎ LeftAt mid new var
@@ -95,15 +91,15 @@ all_noted step s old mid new deleted touched cover first of_deleted second of_to
 -- ---- what a step may have changed
 
 module _ (p : Parts) (s s' : List ℕ) (deleted : List Fact) (touched : Touched) (derived : List ℕ) (state : IsState p.variables s')
-    (tells : ListsChanges p s s' deleted touched) (are : AreDerived p derived) where
+    (decides : ListsChanges p s s' deleted touched) (are : AreDerived p derived) where
   within : (vars : List ℕ) → All (IsDerived p.variables) vars → All (λ (var : ℕ). var < length s') vars
   within vars only k d lt = (let one = state.one_each in let in_task = derived_within p (get_or vars k d) (only k d lt) in omega (arith, one, in_task))
 
   covers_by : (vars : List ℕ) → All (IsDerived p.variables) vars → ((var : ℕ) → IsDerived p.variables var → MayHaveChanged touched var → Contains vars var) → CoverChanges s s' deleted vars
   covers_by vars only each = record {
-    facts = λ k d lt. (let one = state.one_each in let in_task = tells.exist k d lt in omega (arith, one, in_task));
+    facts = λ k d lt. (let one = state.one_each in let in_task = decides.exist k d lt in omega (arith, one, in_task));
     variables = within vars only;
-    each = λ var. elim (tells.each var) [
+    each = λ var. elim (decides.each var) [
       | inl same ↦ inl same
       | inr (inl there) ↦ inr (inl there)
       | inr (inr may) ↦ inr (inr (each var may.0 may.1))
@@ -117,5 +113,5 @@ module _ (p : Parts) (s s' : List ℕ) (deleted : List Fact) (touched : Touched)
   pub covers : CoverChanges s s' deleted (looked_at derived touched)
   covers = elim (cases_Bool touched.any) [
     | inl any ↦ rw any (covers_by derived are.only (λ var is may. are.each var is))
-    | inr not ↦ rw not (covers_by touched.vars.items tells.derived (λ var is may. on_list not var may))
+    | inr not ↦ rw not (covers_by touched.vars.items decides.derived (λ var is may. on_list not var may))
   ]

@@ -1,12 +1,11 @@
 -- What is noted of a run, step by step.
-use Rattle.std.proofs.Common.{◌≡◌, ℕ, ◌+◌, ◌<◌, ◌≤◌, List, [], ◌∷◌, ◌++◌, length, get_or, Option, Some, None, sym, ◌∙◌, ap, subst, inl, inr, arith}
+use Rattle.std.proofs.Common.{◌≡◌, ℕ, ◌+◌, ◌<◌, ◌≤◌, List, length, get_or, Option, Some, None, sym, ◌∙◌, ap, subst, inl, inr, arith}
 use Rattle.std.proofs.lemmas.Bool.{cases_eq}
 use Rattle.std.proofs.lemmas.List.{same_lists, get_or_default}
 use Rattle.sas_core.specs.declared.parts.Parts.{Parts}
 use Rattle.sas_core.specs.Grounded.{operator_at}
 use Rattle.sas_core.specs.PlanParts.{PlanParts}
-use Rattle.sas_run.specs.declared.plan_check.PlanFault.{PlanFault}
-use Rattle.sas_run.specs.Executions.{Executed, next_name, next_operator, Executes, IsFound}
+use Rattle.sas_run.specs.Executions.{Executed, next_name, next_operator, Executes}
 use Rattle.sas_run.specs.Running.{IsLaterIfAny}
 use Rattle.sas_run.specs.Runs.{Run, state_at, last_state, StepsSucceed, RunEndsWith}
 use Rattle.sas_run.proofs.Executing.{as_many, executed_fits, name_is}

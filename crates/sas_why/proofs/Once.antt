@@ -3,7 +3,7 @@ use Rattle.std.proofs.Common.{◌≡◌, ◌≢◌, ℕ, suc, Bool, true, false,
 use Rattle.std.proofs.lemmas.List.{append-nil}
 use Rattle.std.specs.Prelude.{◌||◌, ◌&&◌, if◌then◌else◌, bytes_eq, filter}
 use Rattle.std.specs.List.{Contains, AllByRecursion, AllPairs, list_any}
-use Rattle.std.proofs.lemmas.Bool.{cases_Bool, false≢true}
+use Rattle.std.proofs.lemmas.Bool.{cases_Bool}
 use Rattle.std.proofs.lemmas.Bool.Decides.{same_from_decides}
 use Rattle.std.proofs.lemmas.List.Elements.{All-contains}
 use Rattle.sas_meaning.proofs.Members.{contains_head, contains_tail, contains_cases, contains_none}
@@ -12,7 +12,7 @@ use Rattle.sas_output.specs.declared.line.Line.TheVariants.{RuleDerives}
 use Rattle.sas_output.specs.Line.{rule_numbers, is_rule_line, is_same_rule_line}
 use Rattle.sas_output.proofs.RuleLines.{same_is}
 use Rattle.sas_reasons.specs.Lines.{with_line, with_lines}
-use Rattle.sas_reasons.proofs.Telling.{is_among, among_is, is_among_when, line_then, line_else}
+use Rattle.sas_reasons.proofs.Repeats.{is_among, among_is, is_among_when, line_then, line_else}
 
 -- one list behind another
 pub lines_append : (lines a b : List Line) → with_lines lines (a ++ b) ≡ with_lines (with_lines lines a) b
@@ -125,21 +125,21 @@ derived_apart (rule ∷ rules) pairs = (
   derived_apart rules (λ i j d lt within. pairs (suc i) (suc j) d (omega arith) (omega arith)),
 )
 
-module _ (lines : List Line) (is_told : ℕ → Bool) (told : (rule : ℕ) → (is_told rule ≡ true → Contains lines (RuleDerives rule)) × (Contains lines (RuleDerives rule) → is_told rule ≡ true)) where
-  told_is : (rule : ℕ) → is_among lines (RuleDerives rule) ≡ is_told rule
-  told_is rule = same_from_decides _ _ (among_is lines (RuleDerives rule), is_among_when lines (RuleDerives rule) refl) (told rule)
+module _ (lines : List Line) (is_reported : ℕ → Bool) (reported : (rule : ℕ) → (is_reported rule ≡ true → Contains lines (RuleDerives rule)) × (Contains lines (RuleDerives rule) → is_reported rule ≡ true)) where
+  reported_is : (rule : ℕ) → is_among lines (RuleDerives rule) ≡ is_reported rule
+  reported_is rule = same_from_decides _ _ (among_is lines (RuleDerives rule), is_among_when lines (RuleDerives rule) refl) (reported rule)
 
-  untold_lines : (rules : List ℕ) → new_of lines (map RuleDerives rules) ≡ map RuleDerives (filter (λ rule. not (is_told rule)) rules)
-  untold_lines [] = refl
-  untold_lines (rule ∷ rules) = elim (cases_Bool (is_told rule)) [
-    | inl out ↦ ap (λ b. if not b then RuleDerives rule ∷ new_of lines (map RuleDerives rules) else new_of lines (map RuleDerives rules)) (told_is rule ∙ out)
-        ∙ (untold_lines rules
-        ∙ ap (λ b. map RuleDerives (if not b then rule ∷ filter (λ r. not (is_told r)) rules else filter (λ r. not (is_told r)) rules)) (sym out))
-    | inr stays ↦ ap (λ b. if not b then RuleDerives rule ∷ new_of lines (map RuleDerives rules) else new_of lines (map RuleDerives rules)) (told_is rule ∙ stays)
-        ∙ (ap (λ (l : List Line). RuleDerives rule ∷ l) (untold_lines rules)
-        ∙ ap (λ b. map RuleDerives (if not b then rule ∷ filter (λ r. not (is_told r)) rules else filter (λ r. not (is_told r)) rules)) (sym stays))
+  unreported_lines : (rules : List ℕ) → new_of lines (map RuleDerives rules) ≡ map RuleDerives (filter (λ rule. not (is_reported rule)) rules)
+  unreported_lines [] = refl
+  unreported_lines (rule ∷ rules) = elim (cases_Bool (is_reported rule)) [
+    | inl out ↦ ap (λ b. if not b then RuleDerives rule ∷ new_of lines (map RuleDerives rules) else new_of lines (map RuleDerives rules)) (reported_is rule ∙ out)
+        ∙ (unreported_lines rules
+        ∙ ap (λ b. map RuleDerives (if not b then rule ∷ filter (λ r. not (is_reported r)) rules else filter (λ r. not (is_reported r)) rules)) (sym out))
+    | inr stays ↦ ap (λ b. if not b then RuleDerives rule ∷ new_of lines (map RuleDerives rules) else new_of lines (map RuleDerives rules)) (reported_is rule ∙ stays)
+        ∙ (ap (λ (l : List Line). RuleDerives rule ∷ l) (unreported_lines rules)
+        ∙ ap (λ b. map RuleDerives (if not b then rule ∷ filter (λ r. not (is_reported r)) rules else filter (λ r. not (is_reported r)) rules)) (sym stays))
   ]
 
   pub derived_lines : (rules : List ℕ) → AllPairs (λ a b. a ≢ b) rules
-      → with_lines lines (map RuleDerives rules) ≡ lines ++ map RuleDerives (filter (λ rule. not (is_told rule)) rules)
-  derived_lines rules pairs = new_lines lines (map RuleDerives rules) (derived_apart rules pairs) ∙ ap (λ (l : List Line). lines ++ l) (untold_lines rules)
+      → with_lines lines (map RuleDerives rules) ≡ lines ++ map RuleDerives (filter (λ rule. not (is_reported rule)) rules)
+  derived_lines rules pairs = new_lines lines (map RuleDerives rules) (derived_apart rules pairs) ∙ ap (λ (l : List Line). lines ++ l) (unreported_lines rules)

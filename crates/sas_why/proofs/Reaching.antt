@@ -1,4 +1,4 @@
--- What the rounds that are over reach, and what that says of the conditions of rules.
+-- What the rounds that are over reach, and what follows for the conditions of rules.
 use Rattle.std.proofs.Common.{◌≡◌, ◌≢◌, ℕ, zero, suc, ◌<◌, ◌≤◌, ◌⊎◌, true, false, cond, List, [], ◌∷◌, length, get_or, Option, None, Some, refl, sym, ◌∙◌, ap, subst, inl, inr, arith}
 use Rattle.std.specs.Bool.{◌==◌}
 use Rattle.std.specs.Option.{option_eq}
@@ -63,8 +63,8 @@ module _ (p : Parts) (s : List ℕ) (layered : IsLayered p) where
     holds_on layer var c on down holds = elim (layer_tells p layer c.var) [
       | inr w ↦ given_off p layer s (reached p layer s (suc over)) c.var w.0 ∙ (sym (value_off layer c.var w.0) ∙ holds)
       | inl w ↦ elim (cases_Bool (reached p layer s over c.var)) [
-        | inr n ↦ (let asks : c.value ≡ default_of p c.var = sym holds ∙ value_not layer c.var w.0 n in
-            let lt : layer < layer = (down layer layer on w.0).1 asks in
+        | inr n ↦ (let requires : c.value ≡ default_of p c.var = sym holds ∙ value_not layer c.var w.0 n in
+            let lt : layer < layer = (down layer layer on w.0).1 requires in
             absurd (omega arith))
         | inl y ↦ given_on p layer s (reached p layer s (suc over)) c.var w.0
             ∙ (ap (λ b. cond b (new_value_of p c.var) (default_of p c.var)) (reached_more p layer s layered over c.var y)
@@ -91,7 +91,7 @@ module _ (p : Parts) (s : List ℕ) (layered : IsLayered p) where
       ]
     ]
 
-    -- one of these conditions asks for a variable that the round at hand reaches
+    -- one of these conditions is on a variable that the round at hand reaches
     pub record Begins (layer : ℕ) (cs : List Fact) : Type 0 where
       pub condition : Fact
       pub among : Contains cs condition

@@ -16,7 +16,7 @@ use Rattle.sas_reasons.specs.Cause.{is_derived, is_given}
 use Rattle.sas_reasons.proofs.Rounds.{Fires, ReachedBy, reached_by}
 use Rattle.sas_why.specs.declared.rounds.Origin.{Origin}
 use Rattle.sas_why.specs.declared.rounds.Rounds.{Rounds}
-use Rattle.sas_why.specs.Asking.{asking_at}
+use Rattle.sas_why.specs.Requiring.{requiring_at}
 use Rattle.sas_why.specs.Rounds.{origin_at, IsOrigin, HasOrigin, HaveOrigins, IsReached, OriginsUpToRound, HavePassed, ReachesNow, InRound, unreached, ContinuesRound, AreDue, AreAllRules, AreBefore}
 use Rattle.sas_why.proofs.Reaching.{reached_up, reached_in, holds_on, Begins, all_or_begins}
 use Rattle.sas_why.proofs.Origined.{unreached_none}
@@ -102,9 +102,9 @@ module _ (p : Parts) (s : List ℕ) (layered : IsLayered p) (settled : IsSettled
             elim (inside.each b.condition.var w.origin w.at) [
               | inl early ↦ absurd (false≢true (sym b.not_yet
                   ∙ reached_in p s layered r.over r.origins.items inside.at.known m b.condition.var b.on (record { origin = w.origin; at = w.at; earlier = early })))
-              | inr now ↦ All-contains (Contains r.next.items) (asking_at r.asking b.condition.var) rule
+              | inr now ↦ All-contains (Contains r.next.items) (requiring_at r.requiring b.condition.var) rule
                   (inside.next b.condition.var w.origin w.at now.rank)
-                  (inside.at.asking.each rule b.condition.var lt (record { condition = b.condition; among = b.among; on = refl; derived = ap is_some b.on }))
+                  (inside.at.requiring.each rule b.condition.var lt (record { condition = b.condition; among = b.among; on = refl; derived = ap is_some b.on }))
             ]
 
         whole : (m v rule : ℕ) → IsOnLayer p m v → FiresNext p s v m (suc r.over) rule → reached p m s (suc r.over) v ≡ false → Contains r.next.items rule
@@ -117,14 +117,14 @@ module _ (p : Parts) (s : List ℕ) (layered : IsLayered p) (settled : IsSettled
             ]
 
     -- so the next round begins
-    pub next_round : (r' : Rounds) → r'.over ≡ r.over + 1 → r'.origins.items ≡ r.origins.items → r'.passed.items ≡ r.passed.items → r'.asking ≡ r.asking
+    pub next_round : (r' : Rounds) → r'.over ≡ r.over + 1 → r'.origins.items ≡ r.origins.items → r'.passed.items ≡ r.passed.items → r'.requiring ≡ r.requiring
         → r'.next.items ≡ [] → r.over ≤ length p.variables → InRound p s r' []
-    next_round r' over origins passed asking next few = record {
+    next_round r' over origins passed requiring next few = record {
       at = record {
         few = rw over (omega arith);
         known = rw (over, origins, ← one_more r.over) known_next;
         passed = rw (over, passed, ← one_more r.over) passed_next;
-        asking = rw asking inside.at.asking;
+        requiring = rw requiring inside.at.requiring;
       };
       each = λ v o at. inl (elim (inside.each v o (rw origins at at)) [
         | inl early ↦ omega arith
@@ -195,7 +195,7 @@ first_round p s r before = record {
       within = λ rule lt. (let e = none_passed rule lt in omega arith);
       hold = λ layer rule lt on can j d from to. absurd (let e = none_passed rule lt in omega arith);
     };
-    asking = before.asking;
+    requiring = before.requiring;
   };
   each = λ v o at. absurd (no_origin v o at);
   looked = λ layer v rule has. absurd (contains_none rule has);
@@ -235,9 +235,9 @@ module _ (p : Parts) (s : List ℕ) (layered : IsLayered p) (settled : IsSettled
   due_now = subst (λ k. AreDue p s k rules) (sym goes.over) due
 
   -- the next round begins
-  pub begins_next : (n : Rounds) → n.over ≡ r'.over + 1 → n.origins.items ≡ r'.origins.items → n.passed.items ≡ r'.passed.items → n.asking ≡ r'.asking
+  pub begins_next : (n : Rounds) → n.over ≡ r'.over + 1 → n.origins.items ≡ r'.origins.items → n.passed.items ≡ r'.passed.items → n.requiring ≡ r'.requiring
       → n.next.items ≡ [] → InRound p s n []
-  begins_next n over origins passed asking empty = next_round p s layered settled r' rules inside due_now n over origins passed asking empty
+  begins_next n over origins passed requiring empty = next_round p s layered settled r' rules inside due_now n over origins passed requiring empty
       (let m = more some in let e = goes.over in omega arith)
 
   pub due_then : AreDue p s (r'.over + 1) next

@@ -15,11 +15,11 @@ use Rattle.sas_reasons.specs.Derivation.{reached, FiresNext}
 use Rattle.sas_reasons.proofs.Rounds.{Fires, fires_decides, reach}
 use Rattle.sas_why.specs.declared.rounds.Origin.{Origin}
 use Rattle.sas_why.specs.declared.rounds.Rounds.{Rounds}
-use Rattle.sas_why.specs.Asking.{asking_at}
+use Rattle.sas_why.specs.Requiring.{requiring_at}
 use Rattle.sas_why.specs.Rounds.{origin_at, IsOrigin, IsReached, OriginsUpToRound, IsFirstOpen, HavePassed, ReachesNow, HasLower, AreAwaited, InRound, unreached, ContinuesRound, origin_now, origin_with_rule, added, Reaches, value_in_round}
 use Rattle.sas_why.proofs.Origined.{some_same, NotEarlier, with_rule_cases, unreached_fewer, unreached_same}
 
--- what it says that a rule fires in a round
+-- what follows where a rule fires in a round
 pub fires_now : (p : Parts) (s : List ℕ) (var layer over rule : ℕ) → FiresNext p s var layer over rule
     → Fires p layer s (reached p layer s over) var (rule_at p rule)
 fires_now p s var layer over rule f = (fires_decides p layer s (reached p layer s over) var (rule_at p rule)).0 f.fires
@@ -84,18 +84,18 @@ module _ (p : Parts) (s : List ℕ) (layer rule place over : ℕ) (passed : List
                 (first.hold j d new (subst (λ n. j < n) here (subst (λ n. j < get_or (set passed rule place) n 0) e to)))
           ])
 
-pub passed_round : (p : Parts) (s : List ℕ) (r r' : Rounds) (rules : List ℕ) → r'.over ≡ r.over → r'.origins.items ≡ r.origins.items → r'.asking ≡ r.asking
+pub passed_round : (p : Parts) (s : List ℕ) (r r' : Rounds) (rules : List ℕ) → r'.over ≡ r.over → r'.origins.items ≡ r.origins.items → r'.requiring ≡ r.requiring
     → r'.next.items ≡ r.next.items → HavePassed p s r.over r'.passed.items → InRound p s r rules → InRound p s r' rules
-passed_round p s r r' rules over origins asking next passed inside = record {
+passed_round p s r r' rules over origins requiring next passed inside = record {
   at = record {
     few = rw over inside.at.few;
     known = rw (over, origins) inside.at.known;
     passed = rw over passed;
-    asking = rw asking inside.at.asking;
+    requiring = rw requiring inside.at.requiring;
   };
   each = rw (over, origins) inside.each;
   looked = rw (over, origins) inside.looked;
-  next = rw (over, origins, asking, next) inside.next;
+  next = rw (over, origins, requiring, next) inside.next;
   exist = rw next inside.exist;
 }
 
@@ -190,32 +190,32 @@ module _ (p : Parts) (s : List ℕ) (over var rule layer : ℕ) (origins : List 
     | inr st ↦ record { origin = st.origin; at = at_var ∙ st.still; lower = st.lower }
   ]
 
-  module _ (asking : List (List ℕ)) (next : List ℕ) where
+  module _ (requiring : List (List ℕ)) (next : List ℕ) where
     abbrev next_after : List ℕ
-    next_after = next ++ added its (asking_at asking var)
+    next_after = next ++ added its (requiring_at requiring var)
 
     more : (xs : List ℕ) → All (Contains next) xs → All (Contains next_after) xs
-    more xs all = All-weaker (Contains next) (Contains next_after) (λ x h. Contains-append_left next (added its (asking_at asking var)) x h) xs all
+    more xs all = All-weaker (Contains next) (Contains next_after) (λ x h. Contains-append_left next (added its (requiring_at requiring var)) x h) xs all
 
-    set_awaited : AreAwaited over origins asking next → AreAwaited over after asking next_after
+    set_awaited : AreAwaited over origins requiring next → AreAwaited over after requiring next_after
     set_awaited awaited v o at rank = elim (set_cases v o at) [
-      | inr w ↦ more (asking_at asking v) (awaited v o w.1 rank)
-      | inl w ↦ subst (λ x. All (Contains next_after) (asking_at asking x)) (sym w.0) (elim (with_rule_cases over rule its) [
-        | inr st ↦ more (asking_at asking var) (awaited var o (st.at ∙ sym (ap Some (same_at (origin_with_rule over rule its) o st.origin w.1 st.still))) rank)
+      | inr w ↦ more (requiring_at requiring v) (awaited v o w.1 rank)
+      | inl w ↦ subst (λ x. All (Contains next_after) (requiring_at requiring x)) (sym w.0) (elim (with_rule_cases over rule its) [
+        | inr st ↦ more (requiring_at requiring var) (awaited var o (st.at ∙ sym (ap Some (same_at (origin_with_rule over rule its) o st.origin w.1 st.still))) rank)
         | inl n ↦ now its refl n.1
       ])
     ]
       where
-        now : (old : Option Origin) → its ≡ old → NotEarlier over rule its → All (Contains next_after) (asking_at asking var)
-        now None e n = λ k d lt'. Contains-append_right next (added its (asking_at asking var)) (get_or (asking_at asking var) k d)
-            (subst (λ old. Contains (added old (asking_at asking var)) (get_or (asking_at asking var) k d)) (sym e)
-            (Contains-get_or (asking_at asking var) k d lt'))
-        now (Some old) e n = more (asking_at asking var) (awaited var old e (n.now old e).0)
+        now : (old : Option Origin) → its ≡ old → NotEarlier over rule its → All (Contains next_after) (requiring_at requiring var)
+        now None e n = λ k d lt'. Contains-append_right next (added its (requiring_at requiring var)) (get_or (requiring_at requiring var) k d)
+            (subst (λ old. Contains (added old (requiring_at requiring var)) (get_or (requiring_at requiring var) k d)) (sym e)
+            (Contains-get_or (requiring_at requiring var) k d lt'))
+        now (Some old) e n = more (requiring_at requiring var) (awaited var old e (n.now old e).0)
 
-    set_exist : (n : ℕ) → All (λ k. k < n) next → All (λ k. k < n) (asking_at asking var) → All (λ k. k < n) next_after
-    set_exist n all its_all = All-append (λ k. k < n) next (added its (asking_at asking var)) all (of its)
+    set_exist : (n : ℕ) → All (λ k. k < n) next → All (λ k. k < n) (requiring_at requiring var) → All (λ k. k < n) next_after
+    set_exist n all its_all = All-append (λ k. k < n) next (added its (requiring_at requiring var)) all (of its)
       where
-        of : (old : Option Origin) → All (λ k. k < n) (added old (asking_at asking var))
+        of : (old : Option Origin) → All (λ k. k < n) (added old (requiring_at requiring var))
         of None = its_all
         of (Some o) = All-nil (λ k. k < n)
 
@@ -227,12 +227,12 @@ reach_round p s r r' rules layer var rule lt on fires now inside = record {
     few = rw now.over inside.at.few;
     known = rw (now.over, now.origins) (set_known p s r.over var rule layer r.origins.items lt on fires inside.at.known);
     passed = rw (now.over, now.passed) inside.at.passed;
-    asking = rw now.asking inside.at.asking;
+    requiring = rw now.requiring inside.at.requiring;
   };
   each = rw (now.over, now.origins) (set_each p s r.over var rule layer r.origins.items lt on fires inside.at.known inside.each);
   looked = rw (now.over, now.origins) looked;
-  next = rw (now.over, now.origins, now.asking, now.next) (set_awaited p s r.over var rule layer r.origins.items lt on fires r.asking r.next.items inside.next);
-  exist = rw now.next (set_exist p s r.over var rule layer r.origins.items lt on fires r.asking r.next.items (length p.rules) inside.exist (inside.at.asking.only var));
+  next = rw (now.over, now.origins, now.requiring, now.next) (set_awaited p s r.over var rule layer r.origins.items lt on fires r.requiring r.next.items inside.next);
+  exist = rw now.next (set_exist p s r.over var rule layer r.origins.items lt on fires r.requiring r.next.items (length p.rules) inside.exist (inside.at.requiring.only var));
 }
   where
     looked : (m v k : ℕ) → Contains (rules ++ rule ∷ []) k → IsOnLayer p m v → FiresNext p s v m r.over k

@@ -1,4 +1,4 @@
-pub mod Asking
+pub mod Requiring
 pub mod Origins
 pub mod Retracing
 pub mod Noting

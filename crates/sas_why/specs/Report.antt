@@ -1,5 +1,5 @@
 -- The lines of reasons that are reported of a run.
-use Rattle.std.specs.Prelude.{◌≡◌, ℕ, ◌<◌, ◌↔◌, Bool, true, false, IsTrue, List, [], flat_map, length}
+use Rattle.std.specs.Prelude.{◌≡◌, ℕ, ◌↔◌, Bool, true, false, IsTrue, List, [], flat_map, length}
 use Rattle.std.specs.Prelude.{Contains, slice_index_or}
 use Rattle.sas_core.specs.declared.parts.Fact.{Fact}
 use Rattle.sas_core.specs.declared.parts.Parts.{Parts}
@@ -15,7 +15,7 @@ use Rattle.sas_run.specs.Runs.{Run, last_state, StepsSucceed}
 use Rattle.sas_reasons.specs.Cause.{failing_lines}
 use Rattle.sas_why.specs.declared.retraced.Retraced.{Retraced}
 use Rattle.sas_why.specs.declared.report.Report.{Report}
-use Rattle.sas_why.specs.Origins.{is_told, AreOrigins}
+use Rattle.sas_why.specs.Origins.{is_reported, AreOrigins}
 use Rattle.sas_why.specs.Retracing.{HaveSince}
 
 -- the run's last state is noted, and since when its values hold
@@ -39,7 +39,7 @@ pub record IsReport (p : Parts) (s : List ℕ) (report : Report) : Type 0 where
   pub origins : AreOrigins p s report.origins
   -- the rules that are noted so have a line
   pub derived : (rule : ℕ)
-      → IsTrue (is_told report.origins rule) ↔ Contains report.lines (RuleDerives rule)
+      → IsTrue (is_reported report.origins rule) ↔ Contains report.lines (RuleDerives rule)
   pub rules : AreRulesOf p report.rules
   pub one_each : length report.kept ≡ length p.variables
   -- a variable that is noted has all its lines, another one has none
@@ -49,17 +49,17 @@ pub record IsReport (p : Parts) (s : List ℕ) (report : Report) : Type 0 where
       → Contains report.lines (RuleRequires rule condition) → ⊥
 
 -- it is a report of the last state of a run
-abbrev pub CanTell : Parts → Retraced → Report → Type 0
-CanTell p noted report = (run : Run) × IsBehind p noted run × IsReport p noted.last report
+abbrev pub IsReportOf : Parts → Retraced → Report → Type 0
+IsReportOf p noted report = (run : Run) × IsBehind p noted run × IsReport p noted.last report
 
 -- such lines of a run are added, each line of a rule once
 abbrev pub Adds : Parts → Retraced → Report → Report → (Run → List Line → Type 0) → Type 0
-Adds p noted old new Tells = (run : Run) → IsBehind p noted run → IsReport p noted.last old
+Adds p noted old new Are = (run : Run) → IsBehind p noted run → IsReport p noted.last old
     → (more : List Line)
-    × Tells run more
+    × Are run more
     × (new.lines ≡ with_lines old.lines more)
     × IsReport p noted.last new
 
 -- such lines, each line of a rule once
-abbrev pub TellsOnce : List Line → (List Line → Type 0) → Type 0
-TellsOnce lines Tells = (reasons : List Line) × Tells reasons × (lines ≡ with_lines [] reasons)
+abbrev pub ReportsOnce : List Line → (List Line → Type 0) → Type 0
+ReportsOnce lines Are = (reasons : List Line) × Are reasons × (lines ≡ with_lines [] reasons)

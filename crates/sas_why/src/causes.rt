@@ -7,7 +7,7 @@ ghost use Rattle.sas_meaning.specs.Places.{places, can_give};
 ghost use Rattle.sas_run.specs.Runs.{last_state};
 ghost use Rattle.sas_reasons.specs.Cause.{fails, is_derived, is_given, actual_fact, since_line, failing_lines};
 ghost use Rattle.sas_reasons.specs.Cause.{AreDerivationLines, can_be_given, keeping_lines, missing_lines, IsCause};
-ghost use Rattle.sas_why.specs.Report.{CanTell, Adds};
+ghost use Rattle.sas_why.specs.Report.{IsReportOf, Adds};
 
 use crate::report::Report;
 use crate::retraced::Retraced;
@@ -24,7 +24,7 @@ pub fn report_cause<T: Grounded>(
     report: &mut Report,
 ) -> Result<(), AllocError>
     requires fact { fact.var < length task.now.variables }
-    requires report { CanTell task.now noted.now report.old }
+    requires report { IsReportOf task.now noted.now report.old }
     ensures { OnOk result (Adds task.now noted.now report.old report.new
         (λ run. IsCause task.now run fact)) }
 {
@@ -63,7 +63,7 @@ fn report_givers<T: Grounded>(
     report: &mut Report,
 ) -> Result<(), AllocError>
     requires var { var < length task.now.variables }
-    requires report { CanTell task.now noted.now report.old }
+    requires report { IsReportOf task.now noted.now report.old }
     ensures { OnOk result (Adds task.now noted.now report.old report.new
         (λ run. AreDerivationLines
         (is_given task.now (last_state run) var) task.now (last_state run) var)) }
@@ -74,7 +74,9 @@ fn report_givers<T: Grounded>(
         return Ok(());
     }
     report.next.clear();
-    report.origins.tell(task, var, &mut report.next)?;
+    report
+        .origins
+        .report_derivation(task, var, &mut report.next)?;
     push_givers(report.next.as_slice(), &mut report.lines)
 }
 
@@ -107,11 +109,11 @@ fn report_missing<T: Grounded>(
     report: &mut Report,
 ) -> Result<(), AllocError>
     requires fact { fact.var < length task.now.variables }
-    requires report { CanTell task.now noted.now report.old }
+    requires report { IsReportOf task.now noted.now report.old }
     ensures { OnOk result (Adds task.now noted.now report.old report.new
         (λ run lines. lines ≡ missing_lines task.now (last_state run) fact)) }
 {
-    if asks_for_rules(task, fact) {
+    if requires_rules(task, fact) {
         report_keepers(task, noted, fact, report)
     } else {
         Ok(())
@@ -119,7 +121,7 @@ fn report_missing<T: Grounded>(
 }
 
 /// Returns whether the fact's variable is derived and the fact's value isn't its default.
-fn asks_for_rules<T: Grounded>(task: &Layered<T>, fact: Fact) -> bool
+fn requires_rules<T: Grounded>(task: &Layered<T>, fact: Fact) -> bool
     requires { fact.var < length task.now.variables }
     ensures { result
         ≡ (is_derived task.now fact.var && not (fact.value == default_of task.now fact.var)) }
@@ -135,7 +137,7 @@ fn report_keepers<T: Grounded>(
     report: &mut Report,
 ) -> Result<(), AllocError>
     requires fact { fact.var < length task.now.variables }
-    requires report { CanTell task.now noted.now report.old }
+    requires report { IsReportOf task.now noted.now report.old }
     ensures { OnOk result (Adds task.now noted.now report.old report.new
         (λ run lines. lines ≡ keeping_lines task.now (last_state run) fact)) }
 {

@@ -8,7 +8,7 @@ ghost use Rattle.sas_run.specs.Runs.{Run};
 ghost use Rattle.sas_reasons.specs.WhyPlan.{AreSimilarNameLines, AreFailedPreconditionLines, AreOperatorLines, AreConflictLines};
 ghost use Rattle.sas_reasons.specs.WhyPlan.{AreGoalLines, AreFaultLines, IsWhy, cost_lines, cost_lines_sum};
 ghost use Rattle.sas_why.specs.Retracing.{Retraces};
-ghost use Rattle.sas_why.specs.Report.{IsBehind, CanTell, Adds, TellsOnce};
+ghost use Rattle.sas_why.specs.Report.{IsBehind, IsReportOf, Adds, ReportsOnce};
 
 use crate::causes::report_cause;
 use crate::conflicts::conflict;
@@ -55,7 +55,7 @@ fn lines_of_fault<T: Grounded, P: Stepwise>(
     requires fault { noted.now.fault ≡ Some fault }
     ensures { IfOk result (λ lines. (run : Run)
         → Retraces layered.now (P.says plan.now) noted.now run
-        → TellsOnce lines (AreFaultLines layered.now (P.says plan.now) run fault)) }
+        → ReportsOnce lines (AreFaultLines layered.now (P.says plan.now) run fault)) }
 {
     // By its contract the task is well ranged and layered.
     let _ = layered.task();
@@ -81,7 +81,7 @@ fn unknown<T: Grounded>(
     step: usize,
 ) -> Result<Items<Line>, AllocError>
     ensures { IfOk result (λ lines.
-        TellsOnce lines (LineThen (Line.Step step) (AreSimilarNameLines task.now name.now))) }
+        ReportsOnce lines (LineThen (Line.Step step) (AreSimilarNameLines task.now name.now))) }
 {
     let mut lines = Items::new(alloc);
     lines.push(Line::Step { step })?;
@@ -101,7 +101,7 @@ fn blocked<T: Grounded>(
 ) -> Result<Items<Line>, AllocError>
     requires { (run : Run) × IsBehind task.now noted.now run }
     ensures { IfOk result (λ lines. (run : Run) → IsBehind task.now noted.now run
-        → TellsOnce lines (LineThen (Line.Step step) (AreOperatorLines task.now run name.now))) }
+        → ReportsOnce lines (LineThen (Line.Step step) (AreOperatorLines task.now run name.now))) }
 {
     let mut report = Report::new(alloc, task, &noted.last)?;
     match report_blocked(task, noted, name, step, &mut report) {
@@ -121,7 +121,7 @@ fn report_blocked<T: Grounded>(
     step: usize,
     report: &mut Report,
 ) -> Result<(), AllocError>
-    requires { CanTell task.now noted.now report.old }
+    requires { IsReportOf task.now noted.now report.old }
     ensures { OnOk result (Adds task.now noted.now report.old report.new
         (λ run. LineThen (Line.Step step) (AreOperatorLines task.now run name.now))) }
 {
@@ -142,7 +142,7 @@ fn report_inapplicable<T: Grounded>(
     report: &mut Report,
 ) -> Result<(), AllocError>
     requires operator { operator < length task.now.operators }
-    requires report { CanTell task.now noted.now report.old }
+    requires report { IsReportOf task.now noted.now report.old }
     ensures { OnOk result (Adds task.now noted.now report.old report.new
         (λ run. AreFailedPreconditionLines task.now run operator)) }
 {
@@ -169,7 +169,7 @@ fn conflicting<T: Grounded>(
     requires state { IsState task.now.variables state.now }
     requires disagree { Agree state.now (operator_at task.now operator).effects → ⊥ }
     ensures { IfOk result (λ lines.
-        TellsOnce lines (LineThen (Line.Step step)
+        ReportsOnce lines (LineThen (Line.Step step)
         (AreConflictLines task.now state.now operator))) }
 {
     let clash = conflict(alloc, task, operator, state)?;
@@ -195,7 +195,7 @@ fn missed<T: Grounded>(
 ) -> Result<Items<Line>, AllocError>
     requires { (run : Run) × IsBehind task.now noted.now run }
     ensures { IfOk result (λ lines. (run : Run) → IsBehind task.now noted.now run
-        → TellsOnce lines (AreGoalLines task.now run)) }
+        → ReportsOnce lines (AreGoalLines task.now run)) }
 {
     let mut report = Report::new(alloc, task, &noted.last)?;
     match report_missed(task, noted, &mut report) {
@@ -213,7 +213,7 @@ fn report_missed<T: Grounded>(
     noted: &Retraced,
     report: &mut Report,
 ) -> Result<(), AllocError>
-    requires { CanTell task.now noted.now report.old }
+    requires { IsReportOf task.now noted.now report.old }
     ensures { OnOk result (Adds task.now noted.now report.old report.new (AreGoalLines task.now)) }
 {
     // By its contract the task is well ranged and layered.

@@ -2,7 +2,6 @@
 //! written. No file is read.
 #![tactic(auto)]
 
-mod asking;
 mod causes;
 mod changes;
 mod conflicts;
@@ -11,6 +10,7 @@ mod faults;
 mod likeness;
 mod origins;
 mod report;
+mod requiring;
 mod retraced;
 mod rounds;
 mod second_pass;

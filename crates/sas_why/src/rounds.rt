@@ -5,7 +5,7 @@ ghost use Rattle.sas_core.specs.Variables.{IsState};
 ghost use Rattle.sas_meaning.specs.Settled.{IsSettled};
 ghost use Rattle.sas_why.specs.Rounds.{HaveOrigins, value_in_round, IsReached, OriginsUpToRound, IsFirstOpen, AtRound, InRound, ContinuesRound, Reaches, AreAllRules, AreBefore};
 
-use crate::asking::asking_rules;
+use crate::requiring::requiring_rules;
 use sas_core::Grounded;
 use sas_flat::Lists;
 use sas_meaning::{Layered, State};
@@ -30,7 +30,7 @@ struct Rounds {
     /// For each rule, how many of its first conditions are known to hold.
     passed: Vec<usize>,
     /// For each derived variable, the rules that require its values.
-    asking: Lists<u32>,
+    requiring: Lists<u32>,
     /// The rules that are to be looked at in the next round.
     next: Vec<u32>,
 }
@@ -81,7 +81,7 @@ impl Rounds {
             over: 0,
             origins: vec![in alloc; None; task.variables() as usize]?,
             passed: vec![in alloc; 0; task.rules() as usize]?,
-            asking: asking_rules(alloc, task)?,
+            requiring: requiring_rules(alloc, task)?,
             next: Vec::new(alloc),
         })
     }
@@ -201,7 +201,7 @@ impl Rounds {
     fn reach(&mut self, var: u32, rule: u32) -> Result<(), AllocError>
         requires few { self.old.over + 1 < 2 ^ 32 }
         requires var { var < length self.old.origins.items }
-        requires asking { length self.old.asking ≡ length self.old.origins.items }
+        requires requiring { length self.old.requiring ≡ length self.old.origins.items }
         ensures { OnOk result (Reaches var rule self.old self.new) }
     {
         let origin = Origin {
@@ -210,7 +210,8 @@ impl Rounds {
         };
         match self.origins.as_slice()[var as usize] {
             None => {
-                self.next.extend_from_slice(self.asking.get(var as usize))?;
+                self.next
+                    .extend_from_slice(self.requiring.get(var as usize))?;
                 self.origins[var as usize] = Some(origin);
             }
             Some(earlier) => {

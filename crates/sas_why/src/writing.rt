@@ -2,11 +2,10 @@
 ghost use Rattle.std.specs.Prelude.{◌≡◌, ◌⊎◌, ◌↔◌, false, Some};
 ghost use Rattle.std.specs.Prelude.{IfErr, IfOk, IsErrAnd, IsTrue};
 ghost use Rattle.std.specs.Io.KnownBytes.{Appends};
-ghost use Rattle.sas_answers.specs.Answers.{invalid_answer};
-ghost use Rattle.sas_output.specs.Ending.{EndsCounting, IsWrite, output_told};
-ghost use Rattle.sas_reasons.specs.WhyPlan.{IsWhy};
+ghost use Rattle.sas_output.specs.Ending.{EndsCounting, IsWrite};
 ghost use Rattle.sas_run.specs.Executions.{IsFound};
-ghost use Rattle.sas_why.specs.Verdict.{IsExplained};
+ghost use Rattle.sas_run.specs.Verdicts.{IsFaultOf};
+ghost use Rattle.sas_why.specs.Verdict.{IsExplained, MakeAnswer};
 ghost use Rattle.sas_why.specs.Retracing.{IsRetraced};
 
 use crate::faults::reasons;
@@ -40,23 +39,30 @@ pub fn write_explained<W: Write>(
         ⊎ ((e ≡ ToolFault.Memory) × (out.new ≡ out.old))) }
     ensures writes { IsErrAnd result IsWrite ↔ IsTrue out.new.failed }
 {
+    let (verdict, reasons) = explain_plan(alloc, task, plan)?;
+    let named = Named {
+        task: task.task(),
+        plan: Some(plan),
+    };
+    write_reasons(alloc, out, &verdict, &named, reasons.as_slice())
+}
+
+/// Returns the verdict on the plan, and the reasons for it. A valid plan has no reasons.
+fn explain_plan(
+    alloc: Global,
+    task: &Layered<FlatTask>,
+    plan: &FlatPlan,
+) -> Result<(Told, Vec<Line>), AllocError>
+    ensures { IfOk result (λ found. MakeAnswer task.now plan.now found.0 found.1.items) }
+{
     let worklist = Worklist::new(alloc, task)?;
     let mut execution = Execution::new(alloc, task, worklist, plan)?;
     match execution.find_fault() {
         None => {
             drop(execution);
-            let accepted = accept_plan(alloc, plan)?;
-            accepted.write(out)
+            Ok((accept_plan(alloc, plan)?, Vec::new(alloc)))
         }
-        Some(fault) => {
-            let (verdict, reasons) = explain_execution(alloc, task, plan, execution, fault)?;
-            let named = Named {
-                task: task.task(),
-                plan: Some(plan),
-            };
-            let line = verdict.text.as_slice();
-            write_reasons(alloc, out, line, &named, reasons.as_slice())
-        }
+        Some(fault) => explain_execution(alloc, task, plan, execution, fault),
     }
 }
 
@@ -69,9 +75,7 @@ fn explain_execution(
     fault: PlanFault,
 ) -> Result<(Told, Vec<Line>), AllocError>
     requires { IsFound task.now plan.now (Some fault) execution }
-    ensures verdict { IfOk result (λ told.
-        invalid_answer plan.now.cost fault ≡ Some (output_told told.0)) }
-    ensures reasons { IfOk result (λ told. IsWhy task.now plan.now fault told.1.items) }
+    ensures { IfOk result (λ found. MakeAnswer task.now plan.now found.0 found.1.items) }
 {
     let noted = retrace(alloc, execution, fault)?;
     let explained = explain_fault(alloc, task, plan, &noted, fault);
@@ -89,9 +93,8 @@ fn explain_fault(
 ) -> Result<(Told, Vec<Line>), AllocError>
     requires noted { IsRetraced task.now plan.now noted.now }
     requires fault { noted.now.fault ≡ Some fault }
-    ensures verdict { IfOk result (λ told.
-        invalid_answer plan.now.cost fault ≡ Some (output_told told.0)) }
-    ensures reasons { IfOk result (λ told. IsWhy task.now plan.now fault told.1.items) }
+    requires is { IsFaultOf task.now plan.now fault }
+    ensures { IfOk result (λ found. MakeAnswer task.now plan.now found.0 found.1.items) }
 {
     let lines = reasons(alloc, task, plan, noted, fault)?;
     let verdict = refuse_plan(alloc, plan.cost(), fault)?;

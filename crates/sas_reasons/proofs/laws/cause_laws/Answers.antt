@@ -2,7 +2,7 @@
 use Rattle.sas_reasons.proofs.Causes.{default_if_not_given, each_rule_fails}
 use Rattle.sas_reasons.proofs.Conflicts.{some_conflict, one_conflict}
 use Rattle.sas_reasons.proofs.Places.{some_precondition_fails, operators_have_name, first_goal_fact}
-use Rattle.sas_reasons.proofs.Telling.{none_is_lost, rules_told_once}
+use Rattle.sas_reasons.proofs.Repeats.{none_is_lost, rules_stand_once}
 use Rattle.sas_reasons.proofs.laws.cause_laws.Goals as goal
 
 pub returns-clause-default : goal.returns-clause-default
@@ -21,7 +21,7 @@ pub returns-clause-none_lost : goal.returns-clause-none_lost
 returns-clause-none_lost c = none_is_lost
 
 pub returns-clause-rules_once : goal.returns-clause-rules_once
-returns-clause-rules_once c = rules_told_once
+returns-clause-rules_once c = rules_stand_once
 
 pub returns-clause-some_fails : goal.returns-clause-some_fails
 returns-clause-some_fails c = some_precondition_fails

@@ -15,5 +15,5 @@ returns-then-not-some_broken g c =
     (λ place lt. c.some_broken.ensures c.if-not-some_broken.true place Exclusive (subst (λ n. place < n) (sym c.requires.one_each) lt))
     (c.in_ok-reasons.ensures []))
 
-pub tell_breaking-told-requires-clause-so_far : goal.tell_breaking-told-requires-clause-so_far
-tell_breaking-told-requires-clause-so_far g c = c.in_ok-reasons.ensures
+pub report_breaking-ended-requires-clause-so_far : goal.report_breaking-ended-requires-clause-so_far
+report_breaking-ended-requires-clause-so_far g c = c.in_ok-reasons.ensures

@@ -1,7 +1,6 @@
 -- What is pushed in the second pass is the trace.
-use Rattle.std.proofs.Common.{rules, refl, subst, ◌∙◌}
+use Rattle.std.proofs.Common.{rules, subst, ◌∙◌}
 use Rattle.sas_core.specs.declared.parts.Parts.{Parts}
-use Rattle.sas_output.proofs.Pushed.{finish_ends}
 use Rattle.sas_output.proofs.Sent.{ends_counting_as}
 use Rattle.sas_trace.specs.Traced.{IsTraced}
 use Rattle.sas_trace.specs.Tracing.{HasVerdict}
@@ -18,13 +17,8 @@ returns g c =
     let has = subst (λ (q : Parts). HasVerdict q plan w.0 verdict execution) c.requires.execution.task w.1 in
     let run = c.push_run.ensures w.0 (stands_first p plan w.0 verdict execution c.in_ok-tracer.tracer.printed.items has (rw c.state.ensures.now at c.in_ok-tracer.ensures)) in
     let answer = rw c.as_slice.ensures.value at c.push.ensures in
-    let ended = c.finish-ended.ensures in
-    let name = ended.same ∙ (answer.same ∙ (run.same ∙ c.new-sink.ensures.same)) in
-    let start = g.W.Write.contents c.args.out.now.device in
-    record {
-      ends = ends_counting_as (written p verdict w.0) _ (IsTraced p plan) _ (is_traced p plan verdict w.0 execution has)
-          (finish_ends g.W.Write.contents c.finish-ended.new.self start verdict.status c.finish-ended.result c.out-1.given.0 _ _ refl
-          (ended.ends _ _ (answer.text _ _ (run.text _ _ c.new-sink.ensures.text))) (search rules));
-      nothing = search rules;
-      writes = let note = ended.note in search rules;
-    }
+    let ends = ends_counting_as (written p verdict w.0) _ (IsTraced p plan) _ (is_traced p plan verdict w.0 execution has)
+    (c.finish.ensures.ends _ _ (answer.text _ _ (run.text _ _ c.new-sink.ensures.text))) in
+    let name = answer.same ∙ (run.same ∙ c.new-sink.ensures.same) in
+    let note = c.finish.ensures.note in
+    record { ends = search rules; nothing = search rules; writes = search rules }

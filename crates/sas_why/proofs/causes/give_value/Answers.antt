@@ -1,4 +1,4 @@
--- The first rule tells it for all.
+-- All rules derive the value that the first derives.
 use Rattle.std.proofs.Common.{sym, ◌∙◌, ap, subst}
 use Rattle.std.specs.Prelude.{◌==◌}
 use Rattle.std.specs.List.{Contains}

@@ -2,7 +2,7 @@
 use Rattle.std.proofs.Common.{◌≡◌, ℕ, List, ◌++◌, map, sym, ◌∙◌, subst}
 use Rattle.std.proofs.lemmas.Result.{on_ok_weaker}
 use Rattle.sas_output.specs.declared.line.Line.TheVariants.{RuleDerives}
-use Rattle.sas_why.specs.Origins.{TellsDerivation}
+use Rattle.sas_why.specs.Origins.{ReportsDerivation}
 use Rattle.sas_why.proofs.Composing.{no_givers, some_givers}
 use Rattle.sas_why.proofs.causes.report_givers.Goals as goal
 
@@ -14,8 +14,8 @@ returns g c =
     let p = c.args.task.now in
     let report = c.args.report.now in
     on_ok_weaker c.push_givers.result
-    (λ add. some_givers p c.args.noted.now report c.push_givers.new.lines c.tell.new.self c.tell.new.rules c.args.var
+    (λ add. some_givers p c.args.noted.now report c.push_givers.new.lines c.report_derivation.new.self c.report_derivation.new.rules c.args.var
     (sym c.has_givers.ensures ∙ c.if-not-has_givers.false)
-    (λ s are. subst (λ (before : List ℕ). TellsDerivation p s c.args.var report.origins c.tell.new.self before c.tell.new.rules.items) c.clear.ensures.items (c.in_ok-tell.ensures s are))
+    (λ s are. subst (λ (before : List ℕ). ReportsDerivation p s c.args.var report.origins c.report_derivation.new.self before c.report_derivation.new.rules.items) c.clear.ensures.items (c.in_ok-report_derivation.ensures s are))
     (subst (λ (l : List ℕ). c.push_givers.new.lines ≡ report.lines ++ map RuleDerives l) c.as_slice.ensures.value add))
     c.push_givers.ensures

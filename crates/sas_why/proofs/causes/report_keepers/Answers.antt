@@ -9,7 +9,7 @@ use Rattle.sas_meaning.specs.Places.{places, can_give}
 use Rattle.sas_reasons.specs.Cause.{failing_lines, keeping_lines}
 use Rattle.sas_run.specs.Runs.{last_state}
 use Rattle.sas_why.specs.Report.{Adds}
-use Rattle.sas_why.proofs.Composing.{no_rule, told_before, told_now, rules_of_report}
+use Rattle.sas_why.proofs.Composing.{no_rule, reported_before, reported_now, rules_of_report}
 use Rattle.sas_why.proofs.causes.report_keepers.Goals as goal
 
 pub give_value-requires : goal.give_value-requires
@@ -21,7 +21,7 @@ returns-then-not-give_value g c = on_ok_weaker c.push.result
     c.push.ensures.ok
 
 pub returns-then-as_slice-var : goal.returns-then-as_slice-var
-returns-then-as_slice-var g c = told_before c.args.task.now c.args.noted.now c.args.report.now c.args.fact
+returns-then-as_slice-var g c = reported_before c.args.task.now c.args.noted.now c.args.report.now c.args.fact
     (sym c.give_value.ensures ∙ c.if-not-give_value.false)
     (ap (λ (l : List Bool). get_or l c.args.fact.var false) (sym c.as_slice.ensures) ∙ c.if-as_slice-var.true)
 
@@ -43,7 +43,7 @@ returns g c =
     (λ add. subst (λ (kept : List Bool). Adds p c.args.noted.now report
     (record { lines = c.push_keepers.new.lines; origins = report.origins; rules = report.rules; kept = kept; next = report.next })
     (λ run lines. lines ≡ keeping_lines p (last_state run) c.args.fact)) (sym c.set.ensures)
-    (told_now p c.args.noted.now report c.push_keepers.new.lines c.args.fact c.requires.fact
+    (reported_now p c.args.noted.now report c.push_keepers.new.lines c.args.fact c.requires.fact
     (sym c.give_value.ensures ∙ c.if-not-give_value.false)
     (ap (λ (l : List Bool). get_or l c.args.fact.var false) (sym c.as_slice.ensures) ∙ c.if-as_slice-var.false)
     (subst (λ (rules : List ℕ). c.push_keepers.new.lines ≡ report.lines ++ flat_map (failing_lines p c.args.noted.now.last) rules) are add)))

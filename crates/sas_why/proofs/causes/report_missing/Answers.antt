@@ -1,13 +1,13 @@
--- What keeps the rules from firing, if it is asked for.
+-- What keeps the rules from firing, where the required value has to be derived.
 use Rattle.std.proofs.Common.{sym, ◌∙◌}
 use Rattle.std.proofs.lemmas.Result.{on_ok_weaker}
-use Rattle.sas_why.proofs.Composing.{nothing_missing, missing_told}
+use Rattle.sas_why.proofs.Composing.{nothing_missing, missing_reported}
 use Rattle.sas_why.proofs.causes.report_missing.Goals as goal
 
-pub returns-then-asks_for_rules : goal.returns-then-asks_for_rules
-returns-then-asks_for_rules g c = on_ok_weaker c.report_keepers.result
-    (missing_told c.args.task.now c.args.noted.now c.args.report.now c.report_keepers.new.report c.args.fact (sym c.asks_for_rules.ensures ∙ c.if-asks_for_rules.true))
+pub returns-then-requires_rules : goal.returns-then-requires_rules
+returns-then-requires_rules g c = on_ok_weaker c.report_keepers.result
+    (missing_reported c.args.task.now c.args.noted.now c.args.report.now c.report_keepers.new.report c.args.fact (sym c.requires_rules.ensures ∙ c.if-requires_rules.true))
     c.report_keepers.ensures
 
-pub returns-else-asks_for_rules : goal.returns-else-asks_for_rules
-returns-else-asks_for_rules g c = nothing_missing c.args.task.now c.args.noted.now c.args.report.now c.args.fact (sym c.asks_for_rules.ensures ∙ c.if-asks_for_rules.false)
+pub returns-else-requires_rules : goal.returns-else-requires_rules
+returns-else-requires_rules g c = nothing_missing c.args.task.now c.args.noted.now c.args.report.now c.args.fact (sym c.requires_rules.ensures ∙ c.if-requires_rules.false)

@@ -9,7 +9,7 @@ use Rattle.sas_run.specs.declared.plan_check.PlanFault.TheVariants.{Conflict}
 use Rattle.sas_output.specs.declared.line.Line.TheVariants.{Step}
 use Rattle.sas_reasons.specs.Lines.{LineThen}
 use Rattle.sas_reasons.specs.WhyPlan.{AreSimilarNameLines, AreOperatorLines, AreConflictLines, AreFaultLines, cost_lines}
-use Rattle.sas_why.specs.Report.{TellsOnce}
+use Rattle.sas_why.specs.Report.{ReportsOnce}
 use Rattle.sas_run.proofs.Runs.{operators_exist}
 use Rattle.sas_why.proofs.Behind.{ends, behind, conflict_clashes, last_is, operators_are, operators_as_many}
 use Rattle.sas_why.proofs.faults.lines_of_fault.Goals as goal
@@ -52,8 +52,8 @@ returns-in-NoOperator g c =
     let plan = g.P.Stepwise.says c.args.plan.now in
     let step = c.in-NoOperator.step in
     IfOk-weaker c.unknown.result _ _
-    (λ lines told run r. subst (λ (f : PlanFault). TellsOnce lines (AreFaultLines p plan run f)) (sym c.in-NoOperator.is)
-    (subst (λ (name : List ℕ). TellsOnce lines (LineThen (Step step) (AreSimilarNameLines p name))) c.step.ensures told))
+    (λ lines reported run r. subst (λ (f : PlanFault). ReportsOnce lines (AreFaultLines p plan run f)) (sym c.in-NoOperator.is)
+    (subst (λ (name : List ℕ). ReportsOnce lines (LineThen (Step step) (AreSimilarNameLines p name))) c.step.ensures reported))
     c.unknown.ensures
 
 pub returns-in-NotApplicable : goal.returns-in-NotApplicable
@@ -62,9 +62,9 @@ returns-in-NotApplicable g c =
     let plan = g.P.Stepwise.says c.args.plan.now in
     let step = c.in-NotApplicable.step in
     IfOk-weaker c.blocked.result _ _
-    (λ lines told run r. subst (λ (f : PlanFault). TellsOnce lines (AreFaultLines p plan run f)) (sym c.in-NotApplicable.is)
-    (subst (λ (name : List ℕ). TellsOnce lines (LineThen (Step step) (AreOperatorLines p run name))) c.step-in-NotApplicable.ensures
-    (told run (behind p plan c.args.noted.now run c.args.fault r c.requires.fault))))
+    (λ lines reported run r. subst (λ (f : PlanFault). ReportsOnce lines (AreFaultLines p plan run f)) (sym c.in-NotApplicable.is)
+    (subst (λ (name : List ℕ). ReportsOnce lines (LineThen (Step step) (AreOperatorLines p run name))) c.step-in-NotApplicable.ensures
+    (reported run (behind p plan c.args.noted.now run c.args.fault r c.requires.fault))))
     c.blocked.ensures
 
 pub returns-in-Conflict : goal.returns-in-Conflict
@@ -73,8 +73,8 @@ returns-in-Conflict g c =
     let plan = g.P.Stepwise.says c.args.plan.now in
     let step = c.in-Conflict.step in
     IfOk-weaker c.conflicting.result _ _
-    (λ lines told run r. subst (λ (f : PlanFault). TellsOnce lines (AreFaultLines p plan run f)) (sym c.in-Conflict.is)
-    (subst (λ (s : List ℕ). TellsOnce lines (LineThen (Step step) (AreConflictLines p s c.in-Conflict.operator))) (last_is p plan c.args.noted.now run r) told))
+    (λ lines reported run r. subst (λ (f : PlanFault). ReportsOnce lines (AreFaultLines p plan run f)) (sym c.in-Conflict.is)
+    (subst (λ (s : List ℕ). ReportsOnce lines (LineThen (Step step) (AreConflictLines p s c.in-Conflict.operator))) (last_is p plan c.args.noted.now run r) reported))
     c.conflicting.ensures
 
 pub returns-in-GoalMissed : goal.returns-in-GoalMissed
@@ -82,8 +82,8 @@ returns-in-GoalMissed g c =
     let p = c.args.layered.now in
     let plan = g.P.Stepwise.says c.args.plan.now in
     IfOk-weaker c.missed.result _ _
-    (λ lines told run r. subst (λ (f : PlanFault). TellsOnce lines (AreFaultLines p plan run f)) (sym c.in-GoalMissed.is)
-    (told run (behind p plan c.args.noted.now run c.args.fault r c.requires.fault)))
+    (λ lines reported run r. subst (λ (f : PlanFault). ReportsOnce lines (AreFaultLines p plan run f)) (sym c.in-GoalMissed.is)
+    (reported run (behind p plan c.args.noted.now run c.args.fault r c.requires.fault)))
     c.missed.ensures
 
 pub returns-in-CostDiffers : goal.returns-in-CostDiffers
@@ -91,6 +91,6 @@ returns-in-CostDiffers g c =
     let p = c.args.layered.now in
     let plan = g.P.Stepwise.says c.args.plan.now in
     IfOk-weaker c.costs.result _ _
-    (λ lines are run r. subst (λ (f : PlanFault). TellsOnce lines (AreFaultLines p plan run f)) (sym c.in-CostDiffers.is)
+    (λ lines are run r. subst (λ (f : PlanFault). ReportsOnce lines (AreFaultLines p plan run f)) (sym c.in-CostDiffers.is)
     (cost_lines p run, refl, are run (c.as_slice.ensures.value ∙ operators_are p plan c.args.noted.now run r) (operators_as_many p plan c.args.noted.now run r)))
     c.costs.ensures

@@ -7,7 +7,7 @@ use Rattle.sas_reasons.specs.WhyPlan.{operators_of, AreFailedPreconditionLines, 
 use Rattle.sas_output.specs.declared.line.Line.TheVariants.{Step}
 use Rattle.sas_why.specs.declared.report.Report.{Report}
 use Rattle.sas_why.specs.Report.{Adds}
-use Rattle.sas_why.proofs.Composing.{more_can_tell, plain_can_tell, line_and_more, one_more}
+use Rattle.sas_why.proofs.Composing.{more_is_report, plain_is_report, line_and_more, one_more}
 use Rattle.sas_why.proofs.Faulty.{same_items, place_more, place_not}
 use Rattle.sas_why.proofs.faults.report_blocked.Goals as goal
 use Rattle.sas_why.proofs.faults.report_blocked.Goals.{then-eq+in_ok-report_inapplicable, else-eq}
@@ -15,9 +15,9 @@ use Rattle.sas_why.proofs.faults.report_blocked.Goals.{then-eq+in_ok-report_inap
 pub report_inapplicable-requires-clause-report : goal.report_inapplicable-requires-clause-report
 report_inapplicable-requires-clause-report g c =
     let p = c.args.task.now in
-    more_can_tell p c.args.noted.now (λ run. LinesOfEach (AreFailedPreconditionLines p run) (places_to (λ o. bytes_eq o.name c.args.name.now) c.loop-operator.operator p.operators))
+    more_is_report p c.args.noted.now (λ run. LinesOfEach (AreFailedPreconditionLines p run) (places_to (λ o. bytes_eq o.name c.args.name.now) c.loop-operator.operator p.operators))
     _ c.loop-operator.report c.loop-operator.invariant
-    (plain_can_tell p c.args.noted.now c.args.report.now c.push.new.self (Step c.args.step ∷ []) (refl, tt) c.in_ok-push.ensures.ok
+    (plain_is_report p c.args.noted.now c.args.report.now c.push.new.self (Step c.args.step ∷ []) (refl, tt) c.in_ok-push.ensures.ok
     c.requires)
 
 pub loop-operator-preserved : goal.loop-operator-preserved

@@ -1,4 +1,4 @@
--- It is told why the operators so far aren't applicable.
+-- Why the operators so far aren't applicable is reported.
 use Rattle.std.proofs.Common.{bytes_eq}
 use Rattle.sas_core.specs.declared.parts.Operator.{Operator}
 use Rattle.sas_meaning.proofs.Places.{places_to}

@@ -13,7 +13,7 @@ use Rattle.sas_reasons.specs.Cause.{fails, IsCause}
 use Rattle.sas_reasons.specs.WhyPlan.{failing}
 use Rattle.sas_output.specs.declared.line.Line.TheVariants.{Operator}
 use Rattle.sas_why.proofs.Within.{preconditions_have_values}
-use Rattle.sas_why.proofs.Composing.{more_can_tell, plain_can_tell, line_and_more, none_yet, one_more}
+use Rattle.sas_why.proofs.Composing.{more_is_report, plain_is_report, line_and_more, none_yet, one_more}
 use Rattle.sas_why.proofs.Faulty.{one_more_fails, one_more_holds, same_items, at_last}
 use Rattle.sas_why.proofs.faults.report_inapplicable.Goals as goal
 
@@ -44,8 +44,8 @@ pub report_cause-requires-clause-report : goal.report_cause-requires-clause-repo
 report_cause-requires-clause-report g c =
     let p = c.args.task.now in
     let s = c.args.noted.now.last in
-    more_can_tell p c.args.noted.now (λ run. LinesOfEach (IsCause p run) (filter (fails s) c.loop-fact.yielded)) _ c.loop-fact.report c.loop-fact.invariant.reported
-    (plain_can_tell p c.args.noted.now c.args.report.now c.push.new.self (Operator c.args.operator ∷ []) (refl, tt) c.in_ok-push.ensures.ok c.requires.report)
+    more_is_report p c.args.noted.now (λ run. LinesOfEach (IsCause p run) (filter (fails s) c.loop-fact.yielded)) _ c.loop-fact.report c.loop-fact.invariant.reported
+    (plain_is_report p c.args.noted.now c.args.report.now c.push.new.self (Operator c.args.operator ∷ []) (refl, tt) c.in_ok-push.ensures.ok c.requires.report)
 
 pub loop-fact-preserved-in-Continue-branch-2 : goal.loop-fact-preserved-in-Continue-branch-2
 loop-fact-preserved-in-Continue-branch-2 g c =

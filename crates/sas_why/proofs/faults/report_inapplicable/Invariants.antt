@@ -1,4 +1,4 @@
--- The causes of the preconditions so far are told, and the variables of those that are left have values.
+-- The causes of the preconditions so far are reported, and the variables of those that are left have values.
 use Rattle.std.proofs.Common.{◌≡◌, ◌<◌, length, ◌++◌}
 use Rattle.std.specs.Prelude.{filter}
 use Rattle.std.specs.List.{All}

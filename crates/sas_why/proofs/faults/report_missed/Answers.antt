@@ -12,7 +12,7 @@ use Rattle.sas_output.specs.declared.line.Line.TheVariants.{GoalFact}
 use Rattle.sas_why.specs.declared.report.Report.{Report}
 use Rattle.sas_why.specs.Report.{Adds}
 use Rattle.sas_why.proofs.Within.{goal_within}
-use Rattle.sas_why.proofs.Composing.{more_can_tell, plain_can_tell, line_and_more, one_more}
+use Rattle.sas_why.proofs.Composing.{more_is_report, plain_is_report, line_and_more, one_more}
 use Rattle.sas_why.proofs.Faulty.{same_items, at_last, place_fails, place_holds}
 use Rattle.sas_why.proofs.faults.report_missed.Goals as goal
 use Rattle.sas_why.proofs.faults.report_missed.Goals.{then-value-fact+in_ok-push+in_ok-report_cause, else-value-fact}
@@ -34,8 +34,8 @@ pub report_cause-requires-clause-report : goal.report_cause-requires-clause-repo
 report_cause-requires-clause-report g c =
     let p = c.args.task.now in
     let s = c.args.noted.now.last in
-    plain_can_tell p c.args.noted.now c.loop-index.report c.push.new.self (GoalFact c.loop-index.index ∷ []) (refl, tt) c.in_ok-push.ensures.ok
-    (more_can_tell p c.args.noted.now (λ run. LinesOfEach (AreGoalFactLines p run) (places_to (fails s) c.loop-index.index p.goal)) c.args.report.now c.loop-index.report
+    plain_is_report p c.args.noted.now c.loop-index.report c.push.new.self (GoalFact c.loop-index.index ∷ []) (refl, tt) c.in_ok-push.ensures.ok
+    (more_is_report p c.args.noted.now (λ run. LinesOfEach (AreGoalFactLines p run) (places_to (fails s) c.loop-index.index p.goal)) c.args.report.now c.loop-index.report
     c.loop-index.invariant c.requires)
 
 pub loop-index-preserved : goal.loop-index-preserved

@@ -1,4 +1,4 @@
--- The causes of the goal facts so far are told.
+-- The causes of the goal facts so far are reported.
 use Rattle.sas_reasons.specs.Lines.{LinesOfEach}
 use Rattle.sas_reasons.specs.Cause.{fails}
 use Rattle.sas_reasons.specs.WhyPlan.{AreGoalFactLines}

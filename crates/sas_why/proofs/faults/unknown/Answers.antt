@@ -3,7 +3,7 @@ use Rattle.std.proofs.Common.{◌≡◌, List, [], ◌∷◌, ◌++◌, None, So
 use Rattle.sas_output.specs.declared.line.Line.{Line}
 use Rattle.sas_output.specs.declared.line.Line.TheVariants.{Step, SimilarOperator}
 use Rattle.sas_reasons.specs.Likeness.{IsLike}
-use Rattle.sas_why.proofs.Faulty.{unknown_told}
+use Rattle.sas_why.proofs.Faulty.{unknown_reported}
 use Rattle.sas_why.proofs.faults.unknown.Goals as goal
 use Rattle.sas_why.proofs.faults.unknown.Goals.{in-Some+in_ok-push-2, in_default}
 
@@ -13,10 +13,10 @@ returns g c =
     let name = c.args.name.now in
     let begun : c.push.new.self ≡ Step c.args.step ∷ [] = c.in_ok-push.ensures.ok ∙ ap (λ (l : List Line). l ++ Step c.args.step ∷ []) c.new-lines.ensures in
     elim c.match-like.branch [
-      | in-Some+in_ok-push-2 w ↦ unknown_told p c.args.step name (Some w.in-Some.operator) c.match-like.lines
+      | in-Some+in_ok-push-2 w ↦ unknown_reported p c.args.step name (Some w.in-Some.operator) c.match-like.lines
           (subst (IsLike p name) w.in-Some.is c.like.ensures)
           (w.lines-is ∙ (w.in_ok-push-2.ensures.ok ∙ ap (λ (l : List Line). l ++ SimilarOperator w.in-Some.operator ∷ []) begun))
-      | in_default w ↦ unknown_told p c.args.step name None c.match-like.lines
+      | in_default w ↦ unknown_reported p c.args.step name None c.match-like.lines
           (subst (IsLike p name) w.in_default.is c.like.ensures)
           (w.lines-is ∙ begun)
     ]

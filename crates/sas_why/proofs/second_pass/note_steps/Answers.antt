@@ -1,7 +1,6 @@
 -- One step more is noted.
 use Rattle.std.proofs.Common.{◌+◌, ◌<◌, ◌∙◌, length, ap, sym, subst, arith}
 use Rattle.sas_core.specs.declared.parts.Parts.{Parts}
-use Rattle.sas_run.specs.Executions.{Executed}
 use Rattle.sas_meaning.specs.DerivedVariables.{AreDerived}
 use Rattle.sas_why.proofs.Noted.{places, notes_longer}
 use Rattle.sas_why.proofs.second_pass.note_steps.Goals as goal

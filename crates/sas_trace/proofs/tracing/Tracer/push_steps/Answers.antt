@@ -1,9 +1,9 @@
 -- One step more is made, and its lines pushed, as in the run.
-use Rattle.std.proofs.Common.{◌≡◌, ◌+◌, length, ap, subst, ◌∙◌, arith}
+use Rattle.std.proofs.Common.{◌≡◌, ◌+◌, ◌-◌, ◌<◌, length, sym, ap, subst, ◌∙◌, arith}
 use Rattle.sas_output.specs.Sink.{Pushes}
-use Rattle.sas_output.proofs.Pushed.{pushes_then}
+use Rattle.sas_output.proofs.Pushed.{pushes_lost, pushes_then}
 use Rattle.sas_run.specs.Executions.{next_operator}
-use Rattle.sas_trace.proofs.Numbers.{said_more}
+use Rattle.sas_trace.proofs.Numbers.{said_more, said_rest}
 use Rattle.sas_trace.proofs.RunTexts.{step_text, steps_all}
 use Rattle.sas_trace.proofs.Standing.{stands_fits, stands_all, stands_next, step_is}
 use Rattle.sas_trace.proofs.tracing.Tracer.push_steps.Goals as goal
@@ -43,6 +43,17 @@ loop-before-preserved g c =
             subst (Pushes g.W.Write.contents _ _) (said_more (step_text task run) k) (pushes_then _ _ _ _ _ _ so_far.1 (rw is at pushed.pushes)),
           );
     }
+
+-- after a failed write the other lines are lost
+pub returns-then-failed : goal.returns-then-failed
+returns-then-failed g c run first =
+    let task = c.args.task.now in
+    let k = c.loop-before.before in
+    let within : k < length run.steps =
+    omega (arith, c.loop-before-test.true, ap length c.operators-before-end.ensures, stands_all task run c.args.execution.now c.args.self.now.printed.items first) in
+    let (rest, is) = said_rest (step_text task run) k (length run.steps - k) in
+    subst (Pushes g.W.Write.contents _ _) (is ∙ steps_all task run (k + (length run.steps - k)) (omega (arith, within)))
+    (pushes_then _ _ _ _ _ _ (c.loop-before.invariant.so_far run first).1 (pushes_lost _ c.loop-before.sink rest (sym c.failed.ensures ∙ c.if-failed.true)))
 
 pub returns : goal.returns
 returns g c run first =

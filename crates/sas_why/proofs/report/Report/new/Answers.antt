@@ -20,7 +20,7 @@ returns-clause-report g c =
     let empty = λ (z : Line) (h : Contains c.new.result z). contains_none z (subst (λ (l : List Line). Contains l z) c.new.ensures h) in
     record {
       origins = c.in_ok-new.ensures.origins;
-      derived = λ rule. (λ t. absurd (false≢true (sym (c.in_ok-new.ensures.untold rule) ∙ t)), λ h. absurd (empty _ h));
+      derived = λ rule. (λ t. absurd (false≢true (sym (c.in_ok-new.ensures.unreported rule) ∙ t)), λ h. absurd (empty _ h));
       rules = c.in_ok-rules_of_variables.ensures;
       one_each = ap length kept ∙ length-replicate n false ∙ c.variables.ensures.count;
       kept = λ var e line h. absurd (false≢true (sym (ap (λ (l : List Bool). get_or l var false) kept ∙ none_kept n var) ∙ e));

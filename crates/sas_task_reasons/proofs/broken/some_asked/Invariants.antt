@@ -1,7 +1,0 @@
--- None of the groups so far lacks its reason.
-use Rattle.std.proofs.Common.{ℕ, ◌<◌, get_or}
-use Rattle.sas_task_reasons.specs.Telling.{LacksReason}
-use Rattle.sas_task_reasons.proofs.broken.some_asked.Given as goal
-
-abbrev pub invariant-loop-group : goal.invariant-loop-group
-invariant-loop-group l = (k d : ℕ) → k < l.group-index → LacksReason l.operator l.verdicts l.reasons (get_or l.groups k d) → ⊥

@@ -1,0 +1,25 @@
+-- Each turn adds the entries of a rule.
+use Rattle.std.proofs.Common.{◌≡◌, sym, ap, subst, ◌∙◌, arith}
+use Rattle.std.proofs.lemmas.Result.{IfOk-weaker}
+use Rattle.sas_flat.specs.ByKey.{by_key}
+use Rattle.sas_why.specs.Requiring.{IsRequiringIndex}
+use Rattle.sas_why.proofs.RequiringEntries.{requiring_none, requiring_more, requiring_exist, requiring_index}
+use Rattle.sas_why.proofs.requiring.requiring_rules.Goals as goal
+
+pub loop-rule-init : goal.loop-rule-init
+loop-rule-init g c = rw c.new-entries.ensures.items (requiring_none c.args.task.now)
+
+pub loop-rule-preserved : goal.loop-rule-preserved
+loop-rule-preserved g c = requiring_more c.args.task.now c.loop-rule.rule c.loop-rule.entries.items c.push_requiring.new.entries.items c.in_ok-push_requiring.ensures c.loop-rule.invariant
+
+pub by_key-requires : goal.by_key-requires
+by_key-requires g c = rw (c.as_slice.ensures.value, c.variables.ensures.count) (requiring_exist c.args.task.now c.loop-rule.rule c.loop-rule.entries.items c.loop-rule.invariant)
+
+pub returns : goal.returns
+returns g c =
+    let p = c.args.task.now in
+    let es = c.loop-rule.entries.items in
+    IfOk-weaker c.by_key.result (λ lists. lists ≡ by_key c.as_slice.result.now c.variables.result) (IsRequiringIndex p)
+    (λ lists is. subst (IsRequiringIndex p) (sym (is ∙ ap (λ l. by_key l c.variables.result) c.as_slice.ensures.value ∙ ap (λ n. by_key es n) c.variables.ensures.count))
+    (requiring_index p c.loop-rule.rule es (omega arith) c.loop-rule.invariant))
+    c.by_key.ensures
