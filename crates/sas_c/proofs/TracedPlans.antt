@@ -1,9 +1,8 @@
 -- Behind a trace stands, as its last line, whether the plan solves the task.
-use Rattle.std.proofs.Common.{◌≡◌, ℕ, List, [], ◌∷◌, ◌++◌, codes, decimal, refl, sym, ap, subst, ◌∙◌, inl, inr, Option, Some, None, Result, Ok, Err}
+use Rattle.std.proofs.Common.{◌≡◌, ℕ, List, [], ◌∷◌, ◌++◌, codes, decimal, refl, sym, ap, ◌∙◌, Option, Some, None, Result, Ok, Err}
 use Rattle.std.proofs.lemmas.List.{same_from_push}
 use Rattle.sas_core.specs.declared.parts.Parts.{Parts}
 use Rattle.sas_core.specs.FirstFault.{first_fault}
-use Rattle.sas_core.specs.PlanParts.{PlanParts}
 use Rattle.sas_meaning.specs.declared.layered.LayerFault.{LayerFault}
 use Rattle.sas_meaning.specs.LayerChecks.{layer_checks}
 use Rattle.sas_lines.specs.Lines.{lines, text}
@@ -14,12 +13,11 @@ use Rattle.sas_output.specs.Ending.{Output}
 use Rattle.sas_answers.specs.Answers.{VerdictAnswer}
 use Rattle.sas_answers.specs.PlanWords.{valid_line}
 use Rattle.sas_outputs.specs.Headline.{Headline}
-use Rattle.sas_outputs.specs.Output.{IsAnswerOrRefusal, LayersOut, JudgedOut, plain_refusal}
+use Rattle.sas_outputs.specs.Output.{LayersOut, JudgedOut, plain_refusal}
 use Rattle.sas_outputs.proofs.Headlines.{tells_valid, headline_of}
 use Rattle.sas_outputs.proofs.PlanOutputs.{plain_refuses}
-use Rattle.sas_trace.specs.Trace.{run_lines}
-use Rattle.sas_trace.specs.Traced.{EndsWith, TraceVerdict}
 use Rattle.sas_requests.specs.TraceOut.{TraceOut}
+use Rattle.sas_requests.proofs.TraceLaws.{judged_ends}
 use Rattle.sas_plans.proofs.PlanLines.{IsLine, valid_plain, verdict_line, file_refusal, layers_refused}
 use Rattle.sas_c.specs.Telling.{EndsInLine}
 
@@ -53,38 +51,6 @@ layers_line p None c o out = verdict_line p c o out
 judged_line : (r : Result Parts Fault) (c : List ℕ) (o : Output) → JudgedOut VerdictAnswer plain_refusal r c (Some o) → IsLine o.text
 judged_line (Err fault) c o is = let r = file_refusal fault o (sym is) in record { line = r.line; plain = r.plain; is = r.is }
 judged_line (Ok p) c o out = layers_line p (first_fault (layer_checks p)) c o out
-
--- ---- behind a trace stands the output of `plan`
-
--- the output is some lines, and behind them this one, with its status
-record EndsAs (traced plain : Output) : Type 0 where
-  front : List (List ℕ)
-  whole : traced.text ≡ text front ++ plain.text
-  status : traced.status ≡ plain.status
-
-itself : (o : Output) → EndsAs o o
-itself o = record { front = []; whole = refl; status = refl }
-
-module _ (p : Parts) where
-  verdict_of : (plan : PlanParts) (o : Output) (t : TraceVerdict p plan o) → EndsWith p plan t.run t.verdict → VerdictAnswer p plan t.verdict
-  verdict_of plan o t (inl (ends, is)) = inl ((t.run.operators, ends.0), is)
-  verdict_of plan o t (inr (fault, ends, is)) = inr (fault, ends.0, is)
-
-  plan_ends : (r : Result PlanParts Fault) (o : Output) → IsAnswerOrRefusal (codes "plan") (TraceVerdict p) r (Some o)
-      → (plain : Output) × IsAnswerOrRefusal (codes "plan") (VerdictAnswer p) r (Some plain) × EndsAs o plain
-  plan_ends (Ok plan) o (answer, traced, is) =
-      let same : answer ≡ o = cc in
-      let t = subst (λ (x : Output). TraceVerdict p plan x) same traced in
-      (t.verdict, (t.verdict, verdict_of plan o t t.ends, refl), record { front = run_lines p t.run; whole = t.whole; status = t.status })
-  plan_ends (Err fault) o is = (o, is, itself o)
-
-  layers_end : (first : Option LayerFault) (c : List ℕ) (o : Output) → LayersOut TraceVerdict plain_refusal p first c (Some o) → (plain : Output) × LayersOut VerdictAnswer plain_refusal p first c (Some plain) × EndsAs o plain
-  layers_end (Some fault) c o is = (o, is, itself o)
-  layers_end None c o (read, reads, out) = let (plain, its, as_plain) = plan_ends read o out in (plain, (read, reads, its), as_plain)
-
-judged_ends : (r : Result Parts Fault) (c : List ℕ) (o : Output) → JudgedOut TraceVerdict plain_refusal r c (Some o) → (plain : Output) × JudgedOut VerdictAnswer plain_refusal r c (Some plain) × EndsAs o plain
-judged_ends (Err fault) c o is = (o, is, itself o)
-judged_ends (Ok p) c o out = layers_end p (first_fault (layer_checks p)) c o out
 
 -- ---- whether the plan solves the task
 

@@ -1,5 +1,5 @@
 -- Plans whose bytes are all in memory, and the answer about them in a text.
-use Rattle.std.proofs.Common.{◌≡◌, ℕ, List, [], map, length, refl, sym, subst, ◌∙◌, Option, Some, None, Ok, Err}
+use Rattle.std.proofs.Common.{◌≡◌, ℕ, List, [], length, refl, sym, subst, ◌∙◌, Option, Some, None, Ok, Err}
 use Rattle.std.specs.Prelude.{All, slice_index_or}
 use Rattle.std.specs.Io.KnownBytes.{Appends}
 use Rattle.std.proofs.Math.ListN.{get_or-map}
@@ -10,7 +10,6 @@ use Rattle.sas_output.specs.declared.ending.ToolFault.TheVariants as tool_fault
 use Rattle.sas_output.specs.Ending.{Ends, Output}
 use Rattle.sas_plans.specs.declared.slices.PlanBytes.{PlanBytes}
 use Rattle.sas_plans.specs.Inputs.{HaveBytes}
-use Rattle.sas_plans.specs.PlansHeadline.{PlansHeadline}
 use Rattle.sas_plans.specs.Slices.{bytes_of, labels_of}
 
 -- there are as many labels as files

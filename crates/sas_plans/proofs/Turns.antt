@@ -1,5 +1,5 @@
 -- Which plans were opened, one after another, up to the end of a run.
-use Rattle.std.proofs.Common.{◌≡◌, ◌≢◌, ℕ, suc, ◌+◌, ◌<◌, ◌≤◌, List, add-one, refl, sym, subst, arith, inl, Option, Some, None, Result, Ok, Err}
+use Rattle.std.proofs.Common.{◌≡◌, ◌≢◌, ℕ, suc, ◌+◌, ◌<◌, List, add-one, refl, sym, subst, arith, inl, Option, Result, Ok, Err}
 use Rattle.std.specs.Prelude.{IfOk, IfErr}
 use Rattle.sas_output.specs.declared.ending.ToolFault.{ToolFault}
 use Rattle.sas_output.specs.declared.ending.ToolFault.TheVariants as tool_fault
@@ -9,7 +9,7 @@ use Rattle.sas_plans.specs.declared.inputs.JudgeFault.{JudgeFault}
 use Rattle.sas_plans.specs.declared.inputs.JudgeFault.TheVariants.{Tool, Plan}
 use Rattle.sas_plans.specs.Inputs.{tool_fault as fault_of}
 use Rattle.sas_plans.specs.InTurn.{IsRightlyLong, OpensAll, OpensFirst, OpensInTurn, OpensTo}
-use Rattle.sas_plans.specs.Judging.{EndsAt, IsBehindOpening, IsOfPlan, IsOpened, OpensUntil}
+use Rattle.sas_plans.specs.Judging.{EndsAt, IsOfPlan, IsOpened, OpensUntil}
 
 -- ---- the fault of one plan
 

@@ -1,4 +1,4 @@
-//! Many plans of one task: how they are judged, one after another, and what is printed of them.
+//! Plans of one task, which is read once: many that are opened one after another, or each as a caller has its bytes.
 #![tactic(auto)]
 
 mod held;

@@ -10,6 +10,6 @@ mod SameAnswers
 pub mod RefusalReasons
 mod RefusalLaws
 pub mod ReasonedOutputs
-mod TraceLaws
+pub mod TraceLaws
 mod FileEnds
 pub mod RequestEnds

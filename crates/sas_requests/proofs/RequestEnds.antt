@@ -37,7 +37,8 @@ use Rattle.sas_outputs.proofs.PlanOutputs.{first_alone, second_alone, judged_out
 use Rattle.sas_requests.specs.declared.detail.Detail.{Detail}
 use Rattle.sas_requests.specs.declared.detail.Detail.TheVariants.{Plain, Reasons, Trace}
 use Rattle.sas_outputs.specs.EndsFile.{EndsFile}
-use Rattle.sas_requests.specs.Answering.{CheckBy, MutexBy, VerdictBy, UnlayeredBy, layers_by, TaskBy, PlanBy, OutBy, EndsRequest}
+use Rattle.sas_requests.specs.Answering.{CheckBy, MutexBy, VerdictBy, UnlayeredBy, layers_by, TaskBy, PlanBy, OutBy}
+use Rattle.sas_requests.specs.EndsRequest.{EndsRequest}
 use Rattle.sas_requests.specs.FileReasons.{ReadReasons, AreTaskReasons, LayersFileReasons, JudgedFileReasons}
 use Rattle.sas_requests.proofs.FileEnds.{ends_by}
 
@@ -136,10 +137,25 @@ judged_by Reasons p layered b c reads o out = record {
 
 -- ---- how they go out
 
+-- what a run that ends so promises follows from what another promises
+pub ends_as : {T P : Type 0} (left_task : T → Option (List ℕ)) (left_plan : P → Option (List ℕ)) (A B : List ℕ → List ℕ → Type 0) (asked : Request) (old new : Device T) (plan_old plan_new : Device P) (r : Result Status ToolFault)
+    → ((b c : List ℕ) → A b c → B b c) → EndsRequest left_task left_plan A asked old new plan_old plan_new r → EndsRequest left_task left_plan B asked old new plan_old plan_new r
+ends_as left_task left_plan A B asked old new plan_old plan_new r to h = record {
+  output = λ b c inputs. to b c (h.output b c inputs);
+  taken = λ decided. let (b, c, task, plan, ended) = h.taken decided in (b, c, task, plan, to b c ended);
+  task_spared = h.task_spared;
+  plan_spared = h.plan_spared;
+  plan_waits = h.plan_waits;
+  reads = h.reads;
+}
+
 module _ {T P : Type 0} (left_task : T → Option (List ℕ)) (left_plan : P → Option (List ℕ)) (Sent : List ℕ → Type 0) (detail : Detail) where
+  abbrev EndsAsked : Request → Device T → Device T → Device P → Device P → Result Status ToolFault → Type 0
+  EndsAsked asked old new plan_old plan_new r = EndsRequest left_task left_plan (λ b c. EndsCounting (OutBy detail asked b c) Sent r) asked old new plan_old plan_new r
+
   -- a request that read the task alone
   pub of_task : (asked : Request) → IsTrue (reads_task asked) → (FileOutput : List ℕ → Option Output → Type 0) → ((b c : List ℕ) (o : Option Output) → FileOutput b o → OutBy detail asked b c o)
-      → (old new : Device T) (plan : Device P) (r : Result Status ToolFault) → plan.failed ≡ false → EndsFile left_task FileOutput Sent old new r → EndsRequest left_task left_plan Sent detail asked old new plan plan r
+      → (old new : Device T) (plan : Device P) (r : Result Status ToolFault) → plan.failed ≡ false → EndsFile left_task FileOutput Sent old new r → EndsAsked asked old new plan plan r
   of_task asked reading FileOutput to old new plan r working one = record {
     output = λ b c inputs. ends_by Sent (FileOutput b) (OutBy detail asked b c) r (to b c) (one.output b (inputs.0 reading));
     taken = λ decided.
@@ -147,12 +163,12 @@ module _ {T P : Type 0} (left_task : T → Option (List ℕ)) (left_plan : P →
         (b, [], consumed, takes_nothing _, ends_by Sent (FileOutput b) (OutBy detail asked b []) r (to b []) ends);
     task_spared = λ spared. absurd (let apart : true ≡ false = sym reading ∙ spared in cc);
     plan_spared = λ _. refl;
-    waits = λ _ b known none. refl;
+    plan_waits = λ _ b known none. refl;
     reads = (λ e. (first_alone new.failed plan.failed working).1 (one.reads.0 e), λ t. one.reads.1 ((first_alone new.failed plan.failed working).0 t));
   }
 
   -- `steps`, which reads the plan alone
-  pub of_steps : (task : Device T) (old new : Device P) (r : Result Status ToolFault) → task.failed ≡ false → EndsFile left_plan (PlanBy detail (PrintAnswer plan_format)) Sent old new r → EndsRequest left_task left_plan Sent detail request.Steps task task old new r
+  pub of_steps : (task : Device T) (old new : Device P) (r : Result Status ToolFault) → task.failed ≡ false → EndsFile left_plan (PlanBy detail (PrintAnswer plan_format)) Sent old new r → EndsAsked request.Steps task task old new r
   of_steps task old new r working one =
       let Told = PlanBy detail (PrintAnswer plan_format) in
       let alone = second_alone task.failed new.failed (λ t. let apart : true ≡ false = sym t ∙ working in cc) in
@@ -163,13 +179,13 @@ module _ {T P : Type 0} (left_task : T → Option (List ℕ)) (left_plan : P →
             ([], c, takes_nothing _, consumed, ends_by Sent (Told c) (OutBy detail request.Steps [] c) r (steps_by detail [] c) ends);
         task_spared = λ _. refl;
         plan_spared = λ spared. absurd cc;
-        waits = λ is. absurd cc;
+        plan_waits = λ is. absurd cc;
         reads = (λ e. alone.1 (one.reads.0 e), λ t. one.reads.1 (alone.0 t));
       }
 
   -- `plan` of a layered task, which reads both
   pub of_both : (p : Parts) (old new : Device T) → ReadsAll left_task task_format (ValueOf task_format) old new (Ok p) → IsLayered p
-      → (plan_old plan_new : Device P) (r : Result Status ToolFault) → EndsFile left_plan (PlanBy detail (VerdictBy detail p)) Sent plan_old plan_new r → EndsRequest left_task left_plan Sent detail request.Plan old new plan_old plan_new r
+      → (plan_old plan_new : Device P) (r : Result Status ToolFault) → EndsFile left_plan (PlanBy detail (VerdictBy detail p)) Sent plan_old plan_new r → EndsAsked request.Plan old new plan_old plan_new r
   of_both p old new read layered plan_old plan_new r one =
       let Told = PlanBy detail (VerdictBy detail p) in
       let alone = second_alone new.failed plan_new.failed (λ t. read.note.1 t) in
@@ -183,7 +199,7 @@ module _ {T P : Type 0} (left_task : T → Option (List ℕ)) (left_plan : P →
             (b, c, consumed.0, consumed_plan, ends_by Sent (Told c) (OutBy detail request.Plan b c) r (judged_by detail p layered b c value) ends);
         task_spared = λ spared. absurd cc;
         plan_spared = λ spared. absurd cc;
-        waits = λ _ b known none. absurd (none (p, known_answer left_task task_format (ValueOf task_format) old new p b read known, layered));
+        plan_waits = λ _ b known none. absurd (none (p, known_answer left_task task_format (ValueOf task_format) old new p b read known, layered));
         reads = (λ e. alone.1 (one.reads.0 e), λ t. one.reads.1 (alone.0 t));
       }
 

@@ -1,13 +1,10 @@
 -- What the private steps of a run promise.
-use Rattle.std.specs.Prelude.{◌≡◌, ◌↔◌, ◌||◌, ℕ, List, codes, Option, Some, option_map, Result}
-use Rattle.std.specs.Prelude.{IsErrOf, IsFalse, IsTrue}
-use Rattle.std.specs.Io.KnownBytes.{Consumes}
+use Rattle.std.specs.Prelude.{◌≡◌, ℕ, List, codes, Option, Some, option_map}
 use Rattle.sas_core.specs.declared.parts.Parts.{Parts}
 use Rattle.sas_core.specs.FirstFault.{first_fault}
 use Rattle.sas_core.specs.PlanParts.{PlanParts}
 use Rattle.sas_meaning.specs.declared.layered.LayerFault.{LayerFault}
 use Rattle.sas_meaning.specs.LayerChecks.{layer_checks}
-use Rattle.sas_lines.specs.Device.{Device}
 use Rattle.sas_reader.specs.declared.fault.Fault.{Fault}
 use Rattle.sas_reader.specs.declared.fault.Kind.{Kind}
 use Rattle.sas_reader.specs.Format.{Format}
@@ -18,10 +15,7 @@ use Rattle.sas_task_format.specs.TaskFormat.{task_format}
 use Rattle.sas_task_reader.specs.declared.task_refusal.TaskRefusal.{TaskRefusal}
 use Rattle.sas_outputs.specs.FileLine.{FileLine}
 use Rattle.sas_outputs.specs.FileReasons.{task_reasons, plan_reasons, file_text}
-use Rattle.sas_output.specs.declared.ending.Status.{Status}
-use Rattle.sas_output.specs.declared.ending.ToolFault.{ToolFault}
-use Rattle.sas_output.specs.declared.ending.ToolFault.TheVariants as fault
-use Rattle.sas_output.specs.Ending.{Output, EndsCounting, IsDecided}
+use Rattle.sas_output.specs.Ending.{Output}
 use Rattle.sas_answers.specs.Answers.{CheckAnswer, MutexAnswer, VerdictAnswer}
 use Rattle.sas_task_reasons.specs.WhyLayers.{with_reasons, why_refusal, WhyCheckAnswer, WhyMutexAnswer}
 use Rattle.sas_trace.specs.Traced.{TraceVerdict}
@@ -29,7 +23,6 @@ use Rattle.sas_why.specs.Verdict.{WhyVerdict}
 use Rattle.sas_outputs.specs.declared.Request.{Request}
 use Rattle.sas_outputs.specs.declared.Request.TheVariants as requests
 use Rattle.sas_outputs.specs.Output.{Out, FileOut, refusal, plain_refusal}
-use Rattle.sas_outputs.specs.Output.{AreInputs, IsLayeredText, reads_plan, reads_task}
 use Rattle.sas_requests.specs.declared.detail.Detail.{Detail}
 use Rattle.sas_requests.specs.declared.detail.Detail.TheVariants.{Plain, Reasons, Trace}
 use Rattle.sas_requests.specs.FileReasons.{FileReasons, AreTaskReasons, ArePlanReasons}
@@ -105,28 +98,3 @@ OutBy Plain request b c output = Out request b c output
 OutBy Reasons request b c output = OutWhy request b c output
 OutBy Trace requests.Plan b c output = TraceOut b c output
 OutBy Trace request b c output = Out request b c output
-
--- ---- how an output went out
-
--- Of a request. `left_task` and `left_plan` map the devices to the bytes that they have left. `Sent`
--- holds of the bytes that were written.
-module _ {T P : Type 0} (left_task : T → Option (List ℕ)) (left_plan : P → Option (List ℕ))
-    (Sent : List ℕ → Type 0) where
-  pub record EndsRequest (detail : Detail) (request : Request) (old_task new_task : Device T)
-      (old_plan new_plan : Device P) (result : Result Status ToolFault) : Type 0 where
-    -- of inputs whose bytes are known, their output went out
-    pub output : (b c : List ℕ)
-        → AreInputs request (left_task old_task.device) (left_plan old_plan.device) b c
-        → EndsCounting (OutBy detail request b c) Sent result
-    -- and of any inputs, the output for the bytes that were read of them
-    pub taken : IsDecided result → (b c : List ℕ)
-        × Consumes (left_task old_task.device) (left_task new_task.device) b
-        × Consumes (left_plan old_plan.device) (left_plan new_plan.device) c
-        × EndsCounting (OutBy detail request b c) Sent result
-    -- a device that the request doesn't read stays as it was
-    pub task_spared : IsFalse (reads_task request) → new_task ≡ old_task
-    pub plan_spared : IsFalse (reads_plan request) → new_plan ≡ old_plan
-    -- so does the plan where the task isn't a text of a layered one
-    pub waits : request ≡ requests.Plan → (b : List ℕ) → left_task old_task.device ≡ Some b
-        → (IsLayeredText b → ⊥) → new_plan ≡ old_plan
-    pub reads : IsErrOf result fault.Read ↔ IsTrue (new_task.failed || new_plan.failed)

@@ -12,4 +12,5 @@ pub use Rattle.sas_trace.specs.Traced
 pub mod FileReasons
 pub mod Why
 pub mod TraceOut
+pub mod EndsRequest
 pub mod Answering

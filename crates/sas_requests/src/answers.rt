@@ -9,7 +9,8 @@ ghost use Rattle.sas_outputs.specs.Output.{PrintAnswer, ShowAnswer};
 ghost use Rattle.sas_plan_file.specs.PlanFormat.{plan_format};
 ghost use Rattle.sas_task_format.specs.TaskFormat.{task_format};
 ghost use Rattle.sas_outputs.specs.EndsFile.{EndsFile};
-ghost use Rattle.sas_requests.specs.Answering.{CheckBy, EndsRequest, MutexBy, PlanBy, TaskBy};
+ghost use Rattle.sas_requests.specs.Answering.{CheckBy, MutexBy, OutBy, PlanBy, TaskBy};
+ghost use Rattle.sas_requests.specs.EndsRequest.{EndsRequest};
 
 use crate::detail::{Asked, Detail};
 use crate::plans::judge_files;
@@ -40,8 +41,9 @@ pub fn answer<T: Read, P: Read, W: Write>(
     requires plan { plan.old.failed ≡ false }
     requires out { out.old.failed ≡ false }
     ensures ends { EndsRequest T.remaining P.remaining
-        (Appends (W.contents out.old.device) (W.contents out.new.device))
-        asked.detail asked.request task.old task.new plan.old plan.new result }
+        (λ b c. EndsCounting (OutBy asked.detail asked.request b c)
+        (Appends (W.contents out.old.device) (W.contents out.new.device)) result)
+        asked.request task.old task.new plan.old plan.new result }
     ensures nothing { IfErr result (λ e. IsWrite e ⊎ (out.new ≡ out.old)) }
     ensures writes { IsErrAnd result IsWrite ↔ IsTrue out.new.failed }
 {

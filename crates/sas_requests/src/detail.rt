@@ -9,7 +9,7 @@ pub enum Detail {
     Plain,
     /// The answer, and behind a no the reasons for it.
     Reasons,
-    /// The answer, and in front of that about a plan what its steps do.
+    /// The answer, with what the steps of a plan do in front.
     Trace,
 }
 

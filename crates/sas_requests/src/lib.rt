@@ -1,4 +1,4 @@
-//! The requests: what each answers about its inputs, and how it is written.
+//! The requests, but for many plans: what each answers about its inputs, and how it is written.
 #![tactic(auto)]
 
 mod answers;
@@ -8,14 +8,15 @@ mod plans;
 mod refusals;
 mod tasks;
 
-ghost use Rattle.std.specs.Prelude.{◌≡◌, ◌⊎◌, ◌↔◌, ◌||◌, false, List, ℕ, Some};
-ghost use Rattle.std.specs.Prelude.{IfErr, IfOk, IsErrAnd, IsErrOf, IsFalse, IsTrue};
-ghost use Rattle.std.specs.Io.KnownBytes.{Appends, Consumes};
-ghost use Rattle.sas_outputs.specs.Output.{Out, AreInputs, IsLayeredText, reads_plan, reads_task};
+ghost use Rattle.std.specs.Prelude.{◌≡◌, ◌⊎◌, ◌↔◌, false, List, ℕ, Some};
+ghost use Rattle.std.specs.Prelude.{IfErr, IfOk, IsErrAnd, IsTrue};
+ghost use Rattle.std.specs.Io.KnownBytes.{Appends};
+ghost use Rattle.sas_outputs.specs.Output.{Out, AreInputs};
 ghost use Rattle.sas_outputs.specs.Headline.{Headline, Invariants};
+ghost use Rattle.sas_requests.specs.EndsRequest.{EndsRequest};
 ghost use Rattle.sas_requests.specs.Why.{OutWhy, HasNoReasons};
 ghost use Rattle.sas_requests.specs.TraceOut.{TraceOut};
-ghost use Rattle.sas_output.specs.Ending.{Ends, EndsCounting, IsDecided, IsWrite};
+ghost use Rattle.sas_output.specs.Ending.{Ends, EndsCounting, IsWrite};
 
 use answers::answer;
 use detail::{Asked, Detail};
@@ -34,8 +35,8 @@ use std::io::{Read, Write};
 /// `Plan` or `Mutex` finds that the task isn't layered, where the plan isn't valid, and where a group isn't shown to be
 /// exclusive. Not to be called with a device that has failed.
 ///
-/// The theorem, `output`, holds for every reader whose bytes are known, such as one over memory. The code is generic, and so
-/// the same for a file, whose bytes aren't; that a file gives what the disk holds is trusted.
+/// The theorem, `ends`, holds by `EndsRequest.output` for every reader whose bytes are known, such as one over memory. The code is
+/// generic, and so the same for a file, whose bytes aren't; that a file gives what the disk holds is trusted.
 pub fn run<T: Read, P: Read, W: Write>(
     alloc: Global,
     request: Request,
@@ -46,17 +47,12 @@ pub fn run<T: Read, P: Read, W: Write>(
     requires task { task.old.failed ≡ false }
     requires plan { plan.old.failed ≡ false }
     requires out { out.old.failed ≡ false }
-    // Of inputs whose bytes are known, the output went out, or its first bytes, or there is none.
-    ensures output { (b c : List ℕ)
-        → AreInputs request (T.remaining task.old.device) (P.remaining plan.old.device) b c
-        → Ends (Out request b c)
-        (Appends (W.contents out.old.device) (W.contents out.new.device)) result }
-    // And of any inputs, the output for the bytes that were read of them.
-    ensures taken { IsDecided result → (b c : List ℕ)
-        × Consumes (T.remaining task.old.device) (T.remaining task.new.device) b
-        × Consumes (P.remaining plan.old.device) (P.remaining plan.new.device) c
-        × Ends (Out request b c)
-        (Appends (W.contents out.old.device) (W.contents out.new.device)) result }
+    // For inputs whose bytes are known, and else for the bytes that were read: their output went out, or its first bytes, or
+    // there is none. What isn't needed isn't read.
+    ensures ends { EndsRequest T.remaining P.remaining
+        (λ b c. Ends (Out request b c)
+        (Appends (W.contents out.old.device) (W.contents out.new.device)) result)
+        request task.old task.new plan.old plan.new result }
     // Before the answer is known nothing is written.
     ensures nothing { IfErr result (λ e. IsWrite e ⊎ (out.new ≡ out.old)) }
     // `plan valid` is printed exactly if the plan solves the task at the printed cost.
@@ -68,14 +64,6 @@ pub fn run<T: Read, P: Read, W: Write>(
     ensures invariants { IfOk result (λ status. request ≡ Request.Mutex → (b before : List ℕ)
         → T.remaining task.old.device ≡ Some b → W.contents out.old.device ≡ Some before
         → Invariants b (Appends (W.contents out.old.device) (W.contents out.new.device))) }
-    // A device that the request doesn't read stays as it was.
-    ensures task_spared { IsFalse (reads_task request) → task.new ≡ task.old }
-    ensures plan_spared { IsFalse (reads_plan request) → plan.new ≡ plan.old }
-    // So does the plan where the task isn't a text of a layered one.
-    ensures plan_waits { request ≡ Request.Plan → (b : List ℕ)
-        → T.remaining task.old.device ≡ Some b
-        → (IsLayeredText b → ⊥) → plan.new ≡ plan.old }
-    ensures reads { IsErrOf result ToolFault.Read ↔ IsTrue (task.new.failed || plan.new.failed) }
     ensures writes { IsErrAnd result IsWrite ↔ IsTrue out.new.failed }
 {
     let detail = Detail::Plain;
@@ -98,17 +86,12 @@ pub fn explain<T: Read, P: Read, W: Write>(
     requires task { task.old.failed ≡ false }
     requires plan { plan.old.failed ≡ false }
     requires out { out.old.failed ≡ false }
-    // Of inputs whose bytes are known, the output went out, or its first bytes, or there is none.
-    ensures output { (b c : List ℕ)
-        → AreInputs request (T.remaining task.old.device) (P.remaining plan.old.device) b c
-        → EndsCounting (OutWhy request b c)
-        (Appends (W.contents out.old.device) (W.contents out.new.device)) result }
-    // And of any inputs, the output for the bytes that were read of them.
-    ensures taken { IsDecided result → (b c : List ℕ)
-        × Consumes (T.remaining task.old.device) (T.remaining task.new.device) b
-        × Consumes (P.remaining plan.old.device) (P.remaining plan.new.device) c
-        × EndsCounting (OutWhy request b c)
-        (Appends (W.contents out.old.device) (W.contents out.new.device)) result }
+    // For inputs whose bytes are known, and else for the bytes that were read: their output went out, or its first bytes, or
+    // there is none. What isn't needed isn't read.
+    ensures ends { EndsRequest T.remaining P.remaining
+        (λ b c. EndsCounting (OutWhy request b c)
+        (Appends (W.contents out.old.device) (W.contents out.new.device)) result)
+        request task.old task.new plan.old plan.new result }
     // An answer without reasons goes out as that of `run` does.
     ensures plain { (b c : List ℕ)
         → AreInputs request (T.remaining task.old.device) (P.remaining plan.old.device) b c
@@ -126,14 +109,6 @@ pub fn explain<T: Read, P: Read, W: Write>(
     ensures invariants { IfOk result (λ status. request ≡ Request.Mutex → (b before : List ℕ)
         → T.remaining task.old.device ≡ Some b → W.contents out.old.device ≡ Some before
         → Invariants b (Appends (W.contents out.old.device) (W.contents out.new.device))) }
-    // A device that the request doesn't read stays as it was.
-    ensures task_spared { IsFalse (reads_task request) → task.new ≡ task.old }
-    ensures plan_spared { IsFalse (reads_plan request) → plan.new ≡ plan.old }
-    // So does the plan where the task isn't a text of a layered one.
-    ensures plan_waits { request ≡ Request.Plan → (b : List ℕ)
-        → T.remaining task.old.device ≡ Some b
-        → (IsLayeredText b → ⊥) → plan.new ≡ plan.old }
-    ensures reads { IsErrOf result ToolFault.Read ↔ IsTrue (task.new.failed || plan.new.failed) }
     ensures writes { IsErrAnd result IsWrite ↔ IsTrue out.new.failed }
 {
     let detail = Detail::Reasons;
@@ -146,7 +121,7 @@ pub fn explain<T: Read, P: Read, W: Write>(
 /// before. At `Write` the first bytes of the answer were written, and `written` is their number where that is less than 2^64; at
 /// any other fault nothing was. Not to be called with a device that has failed.
 ///
-/// The theorem, `output`, holds for every reader whose bytes are known, as that of `run`.
+/// The theorem, `ends`, is like that of `run`.
 pub fn trace<T: Read, P: Read, W: Write>(
     alloc: Global,
     task: &mut Watched<T>,
@@ -156,23 +131,14 @@ pub fn trace<T: Read, P: Read, W: Write>(
     requires task { task.old.failed ≡ false }
     requires plan { plan.old.failed ≡ false }
     requires out { out.old.failed ≡ false }
-    // Of inputs whose bytes are known, the output went out, or its first bytes, or there is none.
-    ensures output { (b c : List ℕ)
-        → T.remaining task.old.device ≡ Some b → P.remaining plan.old.device ≡ Some c
-        → EndsCounting (TraceOut b c)
-        (Appends (W.contents out.old.device) (W.contents out.new.device)) result }
-    // And of any inputs, the output for the bytes that were read of them.
-    ensures taken { IsDecided result → (b c : List ℕ)
-        × Consumes (T.remaining task.old.device) (T.remaining task.new.device) b
-        × Consumes (P.remaining plan.old.device) (P.remaining plan.new.device) c
-        × EndsCounting (TraceOut b c)
-        (Appends (W.contents out.old.device) (W.contents out.new.device)) result }
+    // For inputs whose bytes are known, and else for the bytes that were read: their output went out, or its first bytes, or
+    // there is none. What isn't needed isn't read.
+    ensures ends { EndsRequest T.remaining P.remaining
+        (λ b c. EndsCounting (TraceOut b c)
+        (Appends (W.contents out.old.device) (W.contents out.new.device)) result)
+        Request.Plan task.old task.new plan.old plan.new result }
     // Before the answer is known nothing is written.
     ensures nothing { IfErr result (λ e. IsWrite e ⊎ (out.new ≡ out.old)) }
-    // The plan stays as it was where the task isn't a text of a layered one.
-    ensures plan_waits { (b : List ℕ) → T.remaining task.old.device ≡ Some b
-        → (IsLayeredText b → ⊥) → plan.new ≡ plan.old }
-    ensures reads { IsErrOf result ToolFault.Read ↔ IsTrue (task.new.failed || plan.new.failed) }
     ensures writes { IsErrAnd result IsWrite ↔ IsTrue out.new.failed }
 {
     let (request, detail) = (Request::Plan, Detail::Trace);

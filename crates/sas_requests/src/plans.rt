@@ -7,7 +7,8 @@ ghost use Rattle.sas_why.specs.Verdict.{WhyVerdict};
 ghost use Rattle.sas_output.specs.Ending.{EndsCounting, IsWrite};
 ghost use Rattle.sas_outputs.specs.Output.{VerdictOut};
 ghost use Rattle.sas_outputs.specs.EndsFile.{EndsFile};
-ghost use Rattle.sas_requests.specs.Answering.{EndsRequest, PlanBy, VerdictBy};
+ghost use Rattle.sas_requests.specs.Answering.{OutBy, PlanBy, VerdictBy};
+ghost use Rattle.sas_requests.specs.EndsRequest.{EndsRequest};
 ghost use Rattle.sas_requests.specs.FileReasons.{PlanFileReasons};
 ghost use Rattle.sas_requests.specs.Why.{WithReasons};
 
@@ -37,8 +38,9 @@ pub fn judge_files<T: Read, P: Read, W: Write>(
     requires plan { plan.old.failed ≡ false }
     requires out { out.old.failed ≡ false }
     ensures ends { EndsRequest T.remaining P.remaining
-        (Appends (W.contents out.old.device) (W.contents out.new.device))
-        detail Request.Plan task.old task.new plan.old plan.new result }
+        (λ b c. EndsCounting (OutBy detail Request.Plan b c)
+        (Appends (W.contents out.old.device) (W.contents out.new.device)) result)
+        Request.Plan task.old task.new plan.old plan.new result }
     ensures nothing { IfErr result (λ e. IsWrite e ⊎ (out.new ≡ out.old)) }
     ensures writes { IsErrAnd result IsWrite ↔ IsTrue out.new.failed }
 {

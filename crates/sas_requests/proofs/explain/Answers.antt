@@ -7,11 +7,8 @@ use Rattle.sas_requests.proofs.ReasonedOutputs.{headline_why, invariants_why}
 use Rattle.sas_requests.proofs.ShortOutputs.{short_output}
 use Rattle.sas_requests.proofs.explain.Goals as goal
 
-pub returns-clause-output : goal.returns-clause-output
-returns-clause-output g c = c.answer.ensures.ends.output
-
-pub returns-clause-taken : goal.returns-clause-taken
-returns-clause-taken g c = c.answer.ensures.ends.taken
+pub returns-clause-ends : goal.returns-clause-ends
+returns-clause-ends g c = c.answer.ensures.ends
 
 pub returns-clause-plain : goal.returns-clause-plain
 returns-clause-plain g c = λ b c' inputs plain.

@@ -4,17 +4,13 @@ use Rattle.sas_outputs.proofs.Headlines.{tells_valid, headline_of}
 use Rattle.sas_outputs.proofs.PlanOutputs.{plain_refuses}
 use Rattle.sas_output.proofs.Sent.{exact_ends}
 use Rattle.sas_requests.proofs.InvariantGroups.{plain_groups, invariants_of}
-use Rattle.sas_requests.proofs.RequestEnds.{headline_told, invariants_told}
+use Rattle.sas_requests.proofs.RequestEnds.{ends_as, headline_told, invariants_told}
 use Rattle.sas_requests.proofs.ShortOutputs.{short_output}
 use Rattle.sas_requests.proofs.run.Goals as goal
 
-pub returns-clause-output : goal.returns-clause-output
-returns-clause-output g c = λ b c' inputs. exact_ends (Out c.args.request b c') _ (short_output c.args.request b c') _ (c.answer.ensures.ends.output b c' inputs)
-
-pub returns-clause-taken : goal.returns-clause-taken
-returns-clause-taken g c = λ decided.
-    let (b, c', task, plan, ends) = c.answer.ensures.ends.taken decided in
-    (b, c', task, plan, exact_ends (Out c.args.request b c') _ (short_output c.args.request b c') _ ends)
+pub returns-clause-ends : goal.returns-clause-ends
+returns-clause-ends g c =
+    ends_as g.T.Read.remaining g.P.Read.remaining _ _ c.args.request _ _ _ _ c.answer.result (λ b c'. exact_ends (Out c.args.request b c') _ (short_output c.args.request b c') c.answer.result) c.answer.ensures.ends
 
 pub returns-clause-headline : goal.returns-clause-headline
 returns-clause-headline g c = headline_told Out c.args.request _ _ _ _ (headline_of VerdictAnswer plain_refusal tells_valid plain_refuses) c.answer.result c.answer.ensures.ends.output

@@ -12,7 +12,7 @@ returns-in-Ok c =
     tells_ended (Out c.args.asked.request c.args.asked.task.now c.args.asked.plan.now) c.new-text.result.device.items c.run.new.out.device.items c.as_slice.result.now c.in-Ok.status _ _ _ _
     (ap (λ (v : Vec ℕ). v.items) c.new-text.ensures.device ∙ c.new.ensures.items)
     (c.as_slice.ensures.value ∙ ap (λ (v : Vec ℕ). v.items) c.into_device.ensures)
-    (c.in-Ok.ensures.output c.args.asked.task.now c.args.asked.plan.now (λ _. ap known c.new-task.ensures.device, λ _. ap known c.new-plan.ensures.device))
+    (c.in-Ok.ensures.ends.output c.args.asked.task.now c.args.asked.plan.now (λ _. ap known c.new-task.ensures.device, λ _. ap known c.new-plan.ensures.device))
     c.tell.ensures
 
 pub returns-in-Err : goal.returns-in-Err
@@ -21,4 +21,4 @@ returns-in-Err c =
     let out = Out c.args.asked.request c.args.asked.task.now c.args.asked.plan.now in
     let sent = Appends (Some c.new-text.result.device.items) (Some c.run.new.out.device.items) in
     ends_fault out _ _ sent c.in-Err.fault _ c.number_without.ensures
-    (counting_ends out sent (Err c.in-Err.fault) (c.in-Err.ensures.output c.args.asked.task.now c.args.asked.plan.now (λ _. ap known c.new-task.ensures.device, λ _. ap known c.new-plan.ensures.device)))
+    (counting_ends out sent (Err c.in-Err.fault) (c.in-Err.ensures.ends.output c.args.asked.task.now c.args.asked.plan.now (λ _. ap known c.new-task.ensures.device, λ _. ap known c.new-plan.ensures.device)))

@@ -11,11 +11,11 @@ returns-in-Ok c =
     tells_ended (TraceOut c.args.task.now c.args.plan.now) c.new-text.result.device.items c.trace.new.out.device.items c.as_slice.result.now c.in-Ok.status _ _ _ _
     (ap (λ (v : Vec ℕ). v.items) c.new-text.ensures.device ∙ c.new.ensures.items)
     (c.as_slice.ensures.value ∙ ap (λ (v : Vec ℕ). v.items) c.into_device.ensures)
-    (c.in-Ok.ensures.output c.args.task.now c.args.plan.now (ap known c.new-task.ensures.device) (ap known c.new-plan.ensures.device))
+    (c.in-Ok.ensures.ends.output c.args.task.now c.args.plan.now (λ _. ap known c.new-task.ensures.device, λ _. ap known c.new-plan.ensures.device))
     c.tell.ensures
 
 pub returns-in-Err : goal.returns-in-Err
 returns-in-Err c =
     let known = λ (s : Bor (List ℕ)). Some s.now in
     ends_fault (TraceOut c.args.task.now c.args.plan.now) _ _ (Appends (Some c.new-text.result.device.items) (Some c.trace.new.out.device.items)) c.in-Err.fault _ c.number_without.ensures
-    (c.in-Err.ensures.output c.args.task.now c.args.plan.now (ap known c.new-task.ensures.device) (ap known c.new-plan.ensures.device))
+    (c.in-Err.ensures.ends.output c.args.task.now c.args.plan.now (λ _. ap known c.new-task.ensures.device, λ _. ap known c.new-plan.ensures.device))

@@ -1,4 +1,4 @@
-use Rattle.std.proofs.Common.{◌≡◌, List, ℕ, [], Bor, ap, Some}
+use Rattle.std.proofs.Common.{List, ℕ, [], Bor, ap, Some}
 use Rattle.std.specs.Io.KnownBytes.{Appends}
 use Rattle.sas_plans.specs.Inputs.{tool_fault}
 use Rattle.sas_plans.specs.Judged.{JudgeOut}

@@ -1,0 +1,36 @@
+-- How the answer to a request is written.
+use Rattle.std.specs.Prelude.{◌≡◌, ◌↔◌, ◌||◌, ℕ, List, Option, Some, Result, IsErrOf, IsFalse, IsTrue}
+use Rattle.std.specs.Io.KnownBytes.{Consumes}
+use Rattle.sas_lines.specs.Device.{Device}
+use Rattle.sas_output.specs.declared.ending.Status.{Status}
+use Rattle.sas_output.specs.declared.ending.ToolFault.{ToolFault}
+use Rattle.sas_output.specs.declared.ending.ToolFault.TheVariants as fault
+use Rattle.sas_output.specs.Ending.{IsDecided}
+use Rattle.sas_outputs.specs.declared.Request.{Request}
+use Rattle.sas_outputs.specs.declared.Request.TheVariants as requests
+use Rattle.sas_outputs.specs.Output.{AreInputs, IsLayeredText, reads_plan, reads_task}
+
+-- How a run ends that answers a request. `left_task` and `left_plan` map the devices to the bytes
+-- that they have left, where these are known. `Ended` says how it ends for bytes of the task and of
+-- the plan.
+module _ {T P : Type 0} (left_task : T → Option (List ℕ)) (left_plan : P → Option (List ℕ))
+    (Ended : List ℕ → List ℕ → Type 0) where
+  pub record EndsRequest (request : Request) (old_task new_task : Device T)
+      (old_plan new_plan : Device P) (result : Result Status ToolFault) : Type 0 where
+    -- of inputs whose bytes are known, it ends so for these
+    pub output : (b c : List ℕ)
+        → AreInputs request (left_task old_task.device) (left_plan old_plan.device) b c
+        → Ended b c
+    -- and of any inputs, for the bytes that were read of them
+    pub taken : IsDecided result → (b c : List ℕ)
+        × Consumes (left_task old_task.device) (left_task new_task.device) b
+        × Consumes (left_plan old_plan.device) (left_plan new_plan.device) c
+        × Ended b c
+    -- a device that the request doesn't read stays as it was
+    pub task_spared : IsFalse (reads_task request) → new_task ≡ old_task
+    pub plan_spared : IsFalse (reads_plan request) → new_plan ≡ old_plan
+    -- so does the plan where the task isn't a text of a layered one
+    pub plan_waits : request ≡ requests.Plan → (b : List ℕ) → left_task old_task.device ≡ Some b
+        → (IsLayeredText b → ⊥) → new_plan ≡ old_plan
+    -- a failed read is reported exactly if a device has failed
+    pub reads : IsErrOf result fault.Read ↔ IsTrue (new_task.failed || new_plan.failed)
