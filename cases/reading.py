@@ -14,7 +14,7 @@ import report
 
 TOP = os.path.dirname(os.path.dirname(os.path.abspath(__file__)))
 READING = f"{TOP}/docs/READING.md"
-STARTS = 9
+STARTS = 10
 # a heading of READING.md; a file that the page names; one with its number of lines; one in bold, with which a section starts
 HEADING = re.compile(r"^## (.*)$", re.MULTILINE)
 FILE = re.compile(r"`(crates/[^`]*)`")
