@@ -1,6 +1,6 @@
 -- Each group that isn't exclusive has exactly one reason; that it exists is stated as a double
 -- negation.
-use Rattle.std.proofs.Common.{◌≡◌, ℕ, ◌<◌, Bool, List, length, get_or, Some, refl, sym, ◌∙◌, ap, subst, inl, inr}
+use Rattle.std.proofs.Common.{◌≡◌, ℕ, ◌<◌, List, length, get_or, Some, refl, sym, ◌∙◌, ap, subst, inl, inr}
 use Rattle.std.proofs.lemmas.Bool.{cases_order}
 use Rattle.std.proofs.lemmas.List.Elements.{All-contains}
 use Rattle.std.proofs.lemmas.Option.{slice_get-get_or, slice_get_within}
@@ -14,13 +14,13 @@ use Rattle.sas_meaning.specs.States.{Holds}
 use Rattle.sas_groups.specs.declared.verdict.Verdict.{Verdict}
 use Rattle.sas_groups.specs.declared.verdict.Verdict.TheVariants.{Exclusive, Derived, Initial, Broken}
 use Rattle.sas_groups.specs.Groups.{IsExclusiveIn}
-use Rattle.sas_groups.specs.Families.{IsGreatest, IsGroupOfOr}
+use Rattle.sas_groups.specs.Families.{IsGroupOfOr}
 use Rattle.sas_groups.specs.Verdicts.{IsJointVerdict}
 use Rattle.sas_groups.proofs.JointVerdicts.{same_or_itself}
 use Rattle.sas_task_reasons.specs.declared.reason.Failure.{Failure}
 use Rattle.sas_task_reasons.specs.declared.reason.Reason.{Reason}
 use Rattle.sas_task_reasons.specs.declared.reason.Reason.TheVariants.{OnDerived, HoldsTwo, Breaks}
-use Rattle.sas_task_reasons.specs.declared.reason.Failure.TheVariants.{SetsTwo, MayStay}
+use Rattle.sas_task_reasons.specs.declared.reason.Failure.TheVariants.{MayStay}
 use Rattle.sas_task_reasons.specs.Failures.{effect_of_failure, IsFirstFailure}
 use Rattle.sas_task_reasons.specs.GroupReasons.{IsFirstSuch, HoldTwo, AreFirstHolding, verdict_of, TrueOfGroup, IsReason}
 use Rattle.sas_task_reasons.specs.Reporting.{HoldsBeside}

@@ -1,6 +1,6 @@
 -- A task has an answer with reasons, and only one; and how the answer comes about.
-use Rattle.std.proofs.Common.{◌≡◌, ℕ, List, [], ◌++◌, refl, sym, ap, subst, ◌∙◌, Option, Some, None, Result, Ok, Err}
-use Rattle.std.specs.Prelude.{option_map, IsSomeAnd}
+use Rattle.std.proofs.Common.{◌≡◌, [], refl, sym, ap, subst, ◌∙◌, Option, Some, None}
+use Rattle.std.specs.Prelude.{option_map}
 use Rattle.std.proofs.lemmas.Option.{none-some}
 use Rattle.sas_core.specs.declared.parts.Parts.{Parts}
 use Rattle.sas_core.specs.FirstFault.{first_fault}
@@ -9,17 +9,10 @@ use Rattle.sas_meaning.specs.declared.layered.LayerFault.TheVariants.{Memory}
 use Rattle.sas_meaning.specs.LayerChecks.{layer_checks}
 use Rattle.sas_meaning.specs.Layers.{IsLayered}
 use Rattle.sas_meaning.proofs.LayerChecksAreRules.{checks_are_rules}
-use Rattle.sas_output.specs.declared.ending.Status.{Status}
-use Rattle.sas_output.specs.declared.ending.Status.TheVariants.{No}
-use Rattle.sas_output.specs.declared.ending.ToolFault.{ToolFault}
-use Rattle.sas_output.specs.declared.ending.ToolFault.TheVariants as tool_fault
-use Rattle.sas_output.specs.declared.told.Told.{Told}
-use Rattle.sas_output.specs.Ending.{Output, output_told, EndsCounting}
+use Rattle.sas_output.specs.Ending.{Output}
 use Rattle.sas_answers.specs.Answers.{layers_refusal, layers_verdict}
-use Rattle.sas_answers.specs.LayerWords.{layer_words, layers_line}
 use Rattle.sas_answers.proofs.AnswerLaws.{OneAnswer, SomeAnswer}
 use Rattle.sas_answers.proofs.CheckAnswers.{some_check_answer}
-use Rattle.sas_output.specs.declared.line.Line.{Line}
 use Rattle.sas_output.specs.Line.{reasons_text}
 use Rattle.sas_task_reasons.specs.LayerReasons.{layer_reasons}
 use Rattle.sas_task_reasons.specs.WhyGroups.{WhyGroupsAnswer}

@@ -42,7 +42,8 @@ impl Changes {
         requires places { HavePlaces (length state.now) self.old }
         requires exist { All (λ (f : Fact). f.var < length state.now) deleted.now }
         ensures some { NotesSome step state.now self.old self.new }
-        ensures noted { All (λ (f : Fact). NotedAt step state.now self.old self.new f.var) deleted.now }
+        ensures noted { All (λ (f : Fact). NotedAt step state.now self.old self.new f.var)
+            deleted.now }
     {
         for fact in deleted {
             self.note_variable(fact.var as usize, step, state);

@@ -1,5 +1,5 @@
 -- What is pushed in the second pass is the trace.
-use Rattle.std.proofs.Common.{rules, subst, ◌∙◌}
+use Rattle.std.proofs.Common.{rules, sym, subst, ◌∙◌}
 use Rattle.sas_core.specs.declared.parts.Parts.{Parts}
 use Rattle.sas_output.proofs.Sent.{ends_counting_as}
 use Rattle.sas_trace.specs.Traced.{IsTraced}
@@ -20,5 +20,5 @@ returns g c =
     let ends = ends_counting_as (written p verdict w.0) _ (IsTraced p plan) _ (is_traced p plan verdict w.0 execution has)
     (c.finish.ensures.ends _ _ (answer.text _ _ (run.text _ _ c.new-sink.ensures.text))) in
     let name = answer.same ∙ (run.same ∙ c.new-sink.ensures.same) in
-    let note = c.finish.ensures.note in
-    record { ends = search rules; nothing = search rules; writes = search rules }
+    let is = c.out-1.given.1 (sym name) in
+    record { ends = rw is ends; nothing = search rules; writes = rw is c.finish.ensures.note }
