@@ -22,8 +22,8 @@ EffectKeepsByBasis p basis kept operator effect = (place : ℕ) → IsIn p (fami
     → KeepsWithItself p basis operator effect place
 
 -- the same for the first `effects` effects of the operator, as far as they have no conditions
-abbrev pub PlainKeepByBasis : Parts → List Bool → List Bool → ℕ → ℕ → Type 0
-PlainKeepByBasis p basis kept operator effects = (effect : ℕ) → effect < effects
+abbrev pub UnconditionalKeepByBasis : Parts → List Bool → List Bool → ℕ → ℕ → Type 0
+UnconditionalKeepByBasis p basis kept operator effects = (effect : ℕ) → effect < effects
     → IsUnconditional p operator effect → EffectKeepsByBasis p basis kept operator effect
 
 -- the same for all effects of the operator
@@ -38,8 +38,8 @@ SetsNone p kept operator effect = (place : ℕ) → IsIn p (family_of kept) plac
     → Contains (group_at p place) (sets (effect_at (operator_at p operator) effect)) → ⊥
 
 -- the same for the first `effects` effects of the operator, as far as they have no conditions
-abbrev pub PlainSetNone : Parts → List Bool → ℕ → ℕ → Type 0
-PlainSetNone p kept operator effects = (effect : ℕ) → effect < effects
+abbrev pub UnconditionalSetNone : Parts → List Bool → ℕ → ℕ → Type 0
+UnconditionalSetNone p kept operator effects = (effect : ℕ) → effect < effects
     → IsUnconditional p operator effect
     → SetsNone p kept operator effect
 

@@ -31,8 +31,8 @@ IsAtRest p kept fell operator = (effect : ℕ) → effect < length (operator_at 
     → IsEffectAtRest p kept fell operator effect
 
 -- the first `effects` effects of the operator are at rest, as far as they have no conditions
-abbrev pub ArePlainAtRest : Parts → List Bool → List ℕ → ℕ → ℕ → Type 0
-ArePlainAtRest p kept fell operator effects = (effect : ℕ) → effect < effects
+abbrev pub AreUnconditionalAtRest : Parts → List Bool → List ℕ → ℕ → ℕ → Type 0
+AreUnconditionalAtRest p kept fell operator effects = (effect : ℕ) → effect < effects
     → IsUnconditional p operator effect → IsEffectAtRest p kept fell operator effect
 
 -- the number of groups in the family

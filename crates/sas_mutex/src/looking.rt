@@ -11,8 +11,8 @@ ghost use Rattle.sas_mutex.specs.Effects.{IsKept, IsUnconditional};
 ghost use Rattle.sas_mutex.specs.Firing.{effect_of};
 ghost use Rattle.sas_mutex.specs.Marks.{IsClean};
 ghost use Rattle.sas_mutex.specs.ByNotes.{AreNoted, IsNotedAt, EffectKeepsGroup, EffectKeepsGroupWithItself};
-ghost use Rattle.sas_mutex.specs.Falling.{FamilyHasRoom, newly, Falls, IsAtRest, IsEffectAtRest, ArePlainAtRest, RestsAt};
-ghost use Rattle.sas_mutex.specs.Basis.{Grows, HasGrown, KeptByBasis, KeepsByBasis, EffectKeepsByBasis, PlainKeepByBasis, PlainSetNone};
+ghost use Rattle.sas_mutex.specs.Falling.{FamilyHasRoom, newly, Falls, IsAtRest, IsEffectAtRest, AreUnconditionalAtRest, RestsAt};
+ghost use Rattle.sas_mutex.specs.Basis.{Grows, HasGrown, KeptByBasis, KeepsByBasis, EffectKeepsByBasis, UnconditionalKeepByBasis, UnconditionalSetNone};
 
 use crate::effects::Firing;
 use crate::family::Family;
@@ -66,10 +66,10 @@ fn look_at_plain<T: Grounded>(
     requires room { FamilyHasRoom indexed.now family.old }
     requires clean { IsClean indexed.now marks.old }
     ensures falls { Falls indexed.now family.old family.new }
-    ensures rest { ArePlainAtRest indexed.now family.new.kept
+    ensures rest { AreUnconditionalAtRest indexed.now family.new.kept
         (newly family.old family.new) operator
         (length (operator_at indexed.now operator).effects) }
-    ensures alone { IsTrue result → PlainKeepByBasis indexed.now family.new.basis family.new.kept
+    ensures alone { IsTrue result → UnconditionalKeepByBasis indexed.now family.new.basis family.new.kept
         operator (length (operator_at indexed.now operator).effects) }
     ensures grows { Grows family.old.basis family.new.basis }
     ensures room { FamilyHasRoom indexed.now family.new }
@@ -98,10 +98,10 @@ fn look_where_plain_fire<T: Grounded>(
     requires room { FamilyHasRoom indexed.now family.old }
     requires clean { IsClean indexed.now marks.old }
     ensures falls { Falls indexed.now family.old family.new }
-    ensures rest { ArePlainAtRest indexed.now family.new.kept
+    ensures rest { AreUnconditionalAtRest indexed.now family.new.kept
         (newly family.old family.new) operator
         (length (operator_at indexed.now operator).effects) }
-    ensures alone { IsTrue result → PlainKeepByBasis indexed.now family.new.basis family.new.kept
+    ensures alone { IsTrue result → UnconditionalKeepByBasis indexed.now family.new.basis family.new.kept
         operator (length (operator_at indexed.now operator).effects) }
     ensures grows { Grows family.old.basis family.new.basis }
     ensures room { FamilyHasRoom indexed.now family.new }
@@ -168,10 +168,10 @@ fn look_at_each_plain<T: Grounded>(
     requires noted { AreNoted indexed.now family.old.kept
         (known (operator_at indexed.now operator) [] []) marks.old }
     ensures falls { Falls indexed.now family.old family.new }
-    ensures rest { ArePlainAtRest indexed.now family.new.kept
+    ensures rest { AreUnconditionalAtRest indexed.now family.new.kept
         (newly family.old family.new) operator
         (length (operator_at indexed.now operator).effects) }
-    ensures alone { IsTrue result → PlainKeepByBasis indexed.now family.new.basis family.new.kept
+    ensures alone { IsTrue result → UnconditionalKeepByBasis indexed.now family.new.basis family.new.kept
         operator (length (operator_at indexed.now operator).effects) }
     ensures grows { Grows family.old.basis family.new.basis }
     ensures room { FamilyHasRoom indexed.now family.new }
@@ -203,7 +203,7 @@ fn plain_sets_one<T: Grounded>(
 ) -> bool
     requires operator { operator < length indexed.now.operators }
     requires one_each { length kept.now ≡ length indexed.now.groups }
-    ensures { IsFalse result → PlainSetNone indexed.now kept.now operator
+    ensures { IsFalse result → UnconditionalSetNone indexed.now kept.now operator
         (length (operator_at indexed.now operator).effects) }
 {
     let effects = indexed.task.effects(operator);

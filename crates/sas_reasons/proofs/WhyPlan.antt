@@ -12,7 +12,7 @@ use Rattle.sas_meaning.specs.Steps.{preconditions}
 use Rattle.sas_meaning.specs.Places.{places}
 use Rattle.sas_run.specs.declared.plan_check.PlanFault.{PlanFault}
 use Rattle.sas_run.specs.declared.plan_check.PlanFault.TheVariants.{Memory, NoOperator, NotApplicable, Conflict, GoalMissed, CostDiffers}
-use Rattle.sas_run.specs.Plans.{GoThrough, LeadsTo}
+use Rattle.sas_run.specs.Plans.{LeadTo, LeadsTo}
 use Rattle.sas_run.specs.Verdicts.{ComesTo, IsFaultOf}
 use Rattle.sas_output.specs.declared.line.Line.{Line}
 use Rattle.sas_output.specs.declared.line.Line.TheVariants as line
@@ -104,7 +104,7 @@ one_why p plan fault a b layered x y = x.whole
 -- ---- at least one list
 
 -- steps lead to settled states
-goes_settled : (p : Parts) (s : List ℕ) (names : List (List ℕ)) (operators last : List ℕ) → IsSettled p s → GoThrough p s names operators last → IsSettled p last
+goes_settled : (p : Parts) (s : List ℕ) (names : List (List ℕ)) (operators last : List ℕ) → IsSettled p s → LeadTo p s names operators last → IsSettled p last
 goes_settled p s [] [] last settled g = subst (IsSettled p) (sym g) settled
 goes_settled p s [] (o ∷ os) last settled g = absurd g
 goes_settled p s (n ∷ ns) [] last settled g = absurd g

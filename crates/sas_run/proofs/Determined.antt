@@ -7,7 +7,7 @@ use Rattle.sas_meaning.specs.Layers.{IsLayered}
 use Rattle.sas_meaning.specs.Steps.{Step}
 use Rattle.sas_meaning.specs.Reachable.{IsInitial}
 use Rattle.sas_meaning.proofs.Unique.{settled_is_one, step_is_one}
-use Rattle.sas_run.specs.Plans.{IsChosen, GoThrough, LeadsTo}
+use Rattle.sas_run.specs.Plans.{IsChosen, LeadTo, LeadsTo}
 use Rattle.sas_run.specs.Verdicts.{ComesTo}
 
 -- there is at most one chosen operator
@@ -31,12 +31,12 @@ pub record GoesOn (p : Parts) (s name : List ℕ) : Type 0 where
 pub record Passes (p : Parts) (s : List ℕ) (before : List (List ℕ)) (name : List ℕ) : Type 0 where
   pub operators : List ℕ
   pub there : List ℕ
-  pub goes : GoThrough p s before operators there
+  pub goes : LeadTo p s before operators there
   pub on : GoesOn p there name
 
 -- executable steps have a step at each of their names
 pub passes : (p : Parts) (s : List ℕ) (before : List (List ℕ)) (name : List ℕ) (behind : List (List ℕ)) (operators last : List ℕ)
-    → GoThrough p s (before ++ name ∷ behind) operators last → Passes p s before name
+    → LeadTo p s (before ++ name ∷ behind) operators last → Passes p s before name
 passes p s [] name behind [] last g = absurd g
 passes p s [] name behind (o ∷ os) last g =
     record { operators = []; there = s; goes = refl; on = record { operator = o; chosen = g.1; next = g.0; step = g.2 } }
@@ -69,7 +69,7 @@ split_same (b ∷ bs) behind (y ∷ ys) behind' x x' e same =
 
 module _ (p : Parts) (layered : IsLayered p) where
   -- the same steps from the same state have the same operators and lead to the same state
-  pub goes_one_way : (s : List ℕ) (names : List (List ℕ)) (a b x y : List ℕ) → GoThrough p s names a x → GoThrough p s names b y → (a ≡ b) × (x ≡ y)
+  pub goes_one_way : (s : List ℕ) (names : List (List ℕ)) (a b x y : List ℕ) → LeadTo p s names a x → LeadTo p s names b y → (a ≡ b) × (x ≡ y)
   goes_one_way s [] [] [] x y g h = (refl, g ∙ sym h)
   goes_one_way s [] [] (q ∷ b) x y g h = absurd h
   goes_one_way s [] (o ∷ a) b x y g h = absurd g
@@ -78,12 +78,12 @@ module _ (p : Parts) (layered : IsLayered p) where
   goes_one_way s (n ∷ ns) (o ∷ a) (q ∷ b) x y g h =
       let same : o ≡ q = chosen_is_one p s n o q g.1 h.1 in
       let next : g.0 ≡ h.0 = step_is_one p s (operator_at p o) g.0 h.0 layered g.2 (subst (λ k. Step p s (operator_at p k) h.0) (sym same) h.2) in
-      let r = goes_one_way g.0 ns a b x y g.3 (subst (λ z. GoThrough p z ns b y) (sym next) h.3) in
+      let r = goes_one_way g.0 ns a b x y g.3 (subst (λ z. LeadTo p z ns b y) (sym next) h.3) in
       (ap (λ k. k ∷ a) same ∙ ap (λ ks. q ∷ ks) r.0, r.1)
 
   -- executable steps have a step at each of their names
   pub goes_on : (s : List ℕ) (before : List (List ℕ)) (name : List ℕ) (behind : List (List ℕ)) (operators last first there : List ℕ)
-      → GoThrough p s (before ++ name ∷ behind) operators last → GoThrough p s before first there → GoesOn p there name
+      → LeadTo p s (before ++ name ∷ behind) operators last → LeadTo p s before first there → GoesOn p there name
   goes_on s before name behind operators last first there g h =
       let r = passes p s before name behind operators last g in
       subst (λ z. GoesOn p z name) (goes_one_way s before r.operators first r.there there r.goes h).1 r.on
@@ -95,13 +95,13 @@ module _ (p : Parts) (layered : IsLayered p) where
   pub leads_one_way : (steps : List (List ℕ)) (a b x y : List ℕ) → LeadsTo p steps a x → LeadsTo p steps b y → (a ≡ b) × (x ≡ y)
   leads_one_way steps a b x y g h =
       goes_one_way g.initial steps a b x y g.goes
-      (subst (λ z. GoThrough p z steps b y) (initial_is_one h.initial g.initial h.starts g.starts) h.goes)
+      (subst (λ z. LeadTo p z steps b y) (initial_is_one h.initial g.initial h.starts g.starts) h.goes)
 
   pub leads_on : (before : List (List ℕ)) (name : List ℕ) (behind : List (List ℕ)) (operators last first there : List ℕ)
       → LeadsTo p (before ++ name ∷ behind) operators last → LeadsTo p before first there → GoesOn p there name
   leads_on before name behind operators last first there g h =
       goes_on g.initial before name behind operators last first there g.goes
-      (subst (λ z. GoThrough p z before first there) (initial_is_one h.initial g.initial h.starts g.starts) h.goes)
+      (subst (λ z. LeadTo p z before first there) (initial_is_one h.initial g.initial h.starts g.starts) h.goes)
 
   -- executable steps from the initial state have a step at each of their names
   pub comes_on : (steps : List (List ℕ)) (step : ℕ) (s name operators last : List ℕ) → LeadsTo p steps operators last → ComesTo p steps step s name → GoesOn p s name

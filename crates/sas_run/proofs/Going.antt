@@ -5,11 +5,11 @@ use Rattle.std.proofs.lemmas.Grind.{common_steps}
 use Rattle.sas_core.specs.declared.parts.Parts.{Parts}
 use Rattle.sas_core.specs.Grounded.{operator_at}
 use Rattle.sas_meaning.specs.Steps.{Step}
-use Rattle.sas_run.specs.Plans.{IsChosen, GoThrough, LeadsTo}
+use Rattle.sas_run.specs.Plans.{IsChosen, LeadTo, LeadsTo}
 use Rattle.sas_run.specs.Running.{MakesStep}
 
 pub goes_one_more : (p : Parts) (s : List ℕ) (names : List (List ℕ)) (operators mid : List ℕ) (name : List ℕ) (operator : ℕ) (next : List ℕ)
-    → GoThrough p s names operators mid → MakesStep p mid name operator next → GoThrough p s (names ++ name ∷ []) (operators ++ operator ∷ []) next
+    → LeadTo p s names operators mid → MakesStep p mid name operator next → LeadTo p s (names ++ name ∷ []) (operators ++ operator ∷ []) next
 goes_one_more p s [] [] mid name operator next goes on = (
   next,
   subst (λ (x : List ℕ). IsChosen p x name operator) goes on.chosen,

@@ -7,11 +7,11 @@ use Rattle.sas_core.specs.Grounded.{operator_at}
 use Rattle.sas_core.specs.Variables.{IsState}
 use Rattle.sas_meaning.specs.Reachable.{Reachable, Initial, Next}
 use Rattle.sas_meaning.specs.Settled.{IsSettled}
-use Rattle.sas_run.specs.Plans.{GoThrough, LeadsTo}
+use Rattle.sas_run.specs.Plans.{LeadTo, LeadsTo}
 use Rattle.sas_run.specs.Laws.{LeadsToReachable, LastIsReachable}
 
 -- from a reachable state steps lead to reachable ones
-go_on : (p : Parts) (s : List ℕ) (names : List (List ℕ)) (operators last : List ℕ) → Reachable p s → GoThrough p s names operators last
+go_on : (p : Parts) (s : List ℕ) (names : List (List ℕ)) (operators last : List ℕ) → Reachable p s → LeadTo p s names operators last
     → Reachable p last
 go_on p s [] [] last reach goes = subst (Reachable p) (sym goes) reach
 go_on p s [] (operator ∷ operators) last reach goes = absurd goes
@@ -35,7 +35,7 @@ pub leads_to_rest : (p : Parts) (steps : List (List ℕ)) (operators last : List
 leads_to_rest p steps operators last leads = rests p last (leads_to_reachable p steps operators last leads)
 
 -- the operators of executable steps exist
-goes_by : (p : Parts) (s : List ℕ) (names : List (List ℕ)) (operators last : List ℕ) → GoThrough p s names operators last
+goes_by : (p : Parts) (s : List ℕ) (names : List (List ℕ)) (operators last : List ℕ) → LeadTo p s names operators last
     → All (λ (o : ℕ). o < length p.operators) operators
 goes_by p s [] [] last goes = All-nil (λ (o : ℕ). o < length p.operators)
 goes_by p s [] (operator ∷ operators) last goes = absurd goes

@@ -15,7 +15,7 @@ use Rattle.sas_names.specs.Named.{IsNamed}
 use Rattle.sas_run.specs.declared.plan_check.PlanFault.{PlanFault}
 use Rattle.sas_run.specs.declared.plan_check.PlanFault.TheVariants.{Memory, NoOperator, NotApplicable, Conflict, GoalMissed, CostDiffers}
 use Rattle.sas_run.specs.Laws.{SomeVerdict, ValidHasNoFault, ValidIsOne, FaultIsOne}
-use Rattle.sas_run.specs.Plans.{NoneApplicable, IsChosen, GoThrough, LeadsTo, cost_of_all, IsValid}
+use Rattle.sas_run.specs.Plans.{NoneApplicable, IsChosen, LeadTo, LeadsTo, cost_of_all, IsValid}
 use Rattle.sas_run.specs.Verdicts.{ComesTo, IsFirstMissed, IsFaultOf}
 use Rattle.sas_run.proofs.Choosing.{named_or_none, chosen_or_none, hold_or_missed, first_missed_is_one, none_missed}
 use Rattle.sas_run.proofs.Determined.{chosen_is_one, GoesOn, leads_one_way, comes_on, comes_past, comes_one_way}
@@ -153,7 +153,7 @@ valid_has_no_fault p plan operators fault layered x f = elim (stuck_or_ended p p
 record Went (p : Parts) (s : List ℕ) (steps : List (List ℕ)) : Type 0 where
   operators : List ℕ
   last : List ℕ
-  goes : GoThrough p s steps operators last
+  goes : LeadTo p s steps operators last
 
 -- or there is a first step that fails, whatever its number
 record Halted (p : Parts) (s : List ℕ) (steps : List (List ℕ)) : Type 0 where
@@ -163,7 +163,7 @@ record Halted (p : Parts) (s : List ℕ) (steps : List (List ℕ)) : Type 0 wher
   whole : steps ≡ before ++ name ∷ behind
   operators : List ℕ
   there : List ℕ
-  goes : GoThrough p s before operators there
+  goes : LeadTo p s before operators there
   hinders : (step : ℕ) → (fault : PlanFault) × Hinders p there name step fault
 
 module _ (p : Parts) (ranged : WellRanged p) (layered : IsLayered p) where

@@ -9,7 +9,7 @@ use Rattle.sas_core.specs.Variables.{IsState}
 use Rattle.sas_meaning.specs.Layers.{IsLayered}
 use Rattle.sas_meaning.specs.Reachable.{IsInitial}
 use Rattle.sas_meaning.specs.Settled.{IsSettled}
-use Rattle.sas_run.specs.Plans.{GoThrough, LeadsTo}
+use Rattle.sas_run.specs.Plans.{LeadTo, LeadsTo}
 use Rattle.sas_run.specs.Running.{MakesStep}
 use Rattle.sas_run.proofs.Determined.{leads_on, leads_one_way, initial_is_one}
 use Rattle.sas_run.proofs.Going.{leads_one_more, length_of_take}
@@ -24,11 +24,11 @@ use Rattle.sas_run.specs.Laws.{SomeRun, OneRun}
 record Came (p : Parts) (s : List ℕ) (names : List (List ℕ)) (operators last : List ℕ) : Type 0 where
   states : List (List ℕ)
   one_more : length states ≡ length names + 1
-  each : (k : ℕ) → k ≤ length names → GoThrough p s (take k names) (take k operators) (get_or states k [])
+  each : (k : ℕ) → k ≤ length names → LeadTo p s (take k names) (take k operators) (get_or states k [])
   ends : get_or states (length names) [] ≡ last
   as_many : length operators ≡ length names
 
-came : (p : Parts) (s : List ℕ) (names : List (List ℕ)) (operators last : List ℕ) → GoThrough p s names operators last → Came p s names operators last
+came : (p : Parts) (s : List ℕ) (names : List (List ℕ)) (operators last : List ℕ) → LeadTo p s names operators last → Came p s names operators last
 came p s [] [] last g = record {
   states = s ∷ [];
   one_more = refl;
@@ -37,7 +37,7 @@ came p s [] [] last g = record {
   as_many = refl;
 }
   where
-    at : (k : ℕ) → k ≡ 0 → GoThrough p s (take k []) (take k []) (get_or (s ∷ []) k [])
+    at : (k : ℕ) → k ≡ 0 → LeadTo p s (take k []) (take k []) (get_or (s ∷ []) k [])
     at zero e = refl
     at (suc k) e = absurd (omega arith)
 came p s [] (o ∷ os) last g = absurd g
@@ -53,7 +53,7 @@ came p s (n ∷ ns) (o ∷ os) last g = more (came p g.0 ns os last g.3)
       as_many = (let e = c.as_many in omega arith);
     }
       where
-        at : (k : ℕ) → k ≤ length (n ∷ ns) → GoThrough p s (take k (n ∷ ns)) (take k (o ∷ os)) (get_or (s ∷ c.states) k [])
+        at : (k : ℕ) → k ≤ length (n ∷ ns) → LeadTo p s (take k (n ∷ ns)) (take k (o ∷ os)) (get_or (s ∷ c.states) k [])
         at zero le = refl
         at (suc k) le = (g.0, g.1, g.2, c.each k (omega arith))
 

@@ -20,10 +20,10 @@ ParsesLine slot test said line (Err kind) = IsOfLine kind
     × IsRejected task_format TaskLineFits slot test line kind
 
 -- like `ParsesLine`, but may also be out of memory
-abbrev pub ParsesLineInMemory : {A : Type 0} → TaskSlot
+abbrev pub ParsesLineOrMemory : {A : Type 0} → TaskSlot
     → (TaskLine → Bool) → (A → TaskLine) → List ℕ
     → Result A Kind → Type 0
-ParsesLineInMemory slot test said line (Ok a) =
+ParsesLineOrMemory slot test said line (Ok a) =
     IsAllowed task_format TaskLineFits slot test (said a) × (task_line_bytes (said a) ≡ line)
-ParsesLineInMemory slot test said line (Err kind) =
+ParsesLineOrMemory slot test said line (Err kind) =
     IsOfBytes kind × (kind ≢ kinds.Memory → IsRejected task_format TaskLineFits slot test line kind)

@@ -5,7 +5,7 @@ ghost use Rattle.sas_core.specs.Names.{is_name};
 ghost use Rattle.sas_task_format.specs.TaskFormat as format;
 ghost use Rattle.sas_task_format.specs.TaskProcess.{any, positive, name_in, number_in, fact_in, effect_in, head_in};
 ghost use Rattle.sas_task_line.specs.TaskRanges.{value_in, change_in_ranges, fact_in_ranges, effect_in_ranges, head_in_ranges};
-ghost use Rattle.sas_task_line.specs.TaskLine.{ParsesLine, ParsesLineInMemory};
+ghost use Rattle.sas_task_line.specs.TaskLine.{ParsesLine, ParsesLineOrMemory};
 ghost use Rattle.sas_task_line.specs.TaskWords.{Spells, TakesNumber, TakesSigned, TakesFact, TakesFacts, TakesHead};
 
 use sas_core::{Change, Effect, Fact, Items, is_name};
@@ -292,7 +292,7 @@ pub fn fact_at(ranges: &Items<u32>, line: &[u8]) -> Result<Fact, Kind>
 /// Reads the effect on the line into `effect`, and reuses its memory. Returns the kind of fault: `Shape`, `Value` if a fact doesn't exist,
 /// or `Memory` if out of memory.
 pub fn effect_at(effect: &mut Effect, ranges: &Items<u32>, line: &[u8]) -> Result<(), Kind>
-    ensures { ParsesLineInMemory format.effect_slot (λ i. effect_in_ranges ranges.now (effect_in i))
+    ensures { ParsesLineOrMemory format.effect_slot (λ i. effect_in_ranges ranges.now (effect_in i))
         (λ _. format.effect effect.exit.now) line.now result }
 {
     // The whole line is read before any fact is checked, since a wrong shape takes precedence over a fact that doesn't exist.

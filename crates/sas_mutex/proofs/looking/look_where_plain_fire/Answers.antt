@@ -13,7 +13,7 @@ use Rattle.sas_mutex.specs.declared.marks.Marks.{Marks}
 use Rattle.sas_mutex.specs.Marks.{IsClean, IsNotedFrom}
 use Rattle.sas_mutex.specs.ByNotes.{AreNoted}
 use Rattle.sas_mutex.specs.Falling.{FamilyHasRoom}
-use Rattle.sas_mutex.specs.Basis.{PlainKeepByBasis, PlainSetNone}
+use Rattle.sas_mutex.specs.Basis.{UnconditionalKeepByBasis, UnconditionalSetNone}
 use Rattle.sas_mutex.proofs.FallingGroups.{none_fell}
 use Rattle.sas_mutex.proofs.ToldByNotes.{clash_keeps}
 use Rattle.sas_mutex.proofs.Supporting.{grown_falls, grown_room}
@@ -48,14 +48,14 @@ returns-then-not-plain_sets_one-clause-falls g c = none_fell c.args.indexed.now 
 pub returns-then-not-plain_sets_one-clause-rest : goal.returns-then-not-plain_sets_one-clause-rest
 returns-then-not-plain_sets_one-clause-rest g c =
     let p = c.args.indexed.now in
-    let none = subst (λ (kept : List Bool). PlainSetNone p kept c.args.operator (length (operator_at p c.args.operator).effects)) c.as_slice.ensures
+    let none = subst (λ (kept : List Bool). UnconditionalSetNone p kept c.args.operator (length (operator_at p c.args.operator).effects)) c.as_slice.ensures
     (c.plain_sets_one.ensures c.if-not-plain_sets_one.true) in
     λ effect lt plain _ place in_family has. absurd (none effect lt plain place in_family has)
 
 pub returns-then-not-plain_sets_one-clause-alone : goal.returns-then-not-plain_sets_one-clause-alone
 returns-then-not-plain_sets_one-clause-alone g c =
     let p = c.args.indexed.now in
-    let none = subst (λ (kept : List Bool). PlainSetNone p kept c.args.operator (length (operator_at p c.args.operator).effects)) c.as_slice.ensures
+    let none = subst (λ (kept : List Bool). UnconditionalSetNone p kept c.args.operator (length (operator_at p c.args.operator).effects)) c.as_slice.ensures
     (c.plain_sets_one.ensures c.if-not-plain_sets_one.true) in
     λ _ effect lt plain place in_family has. absurd (none effect lt plain place in_family has)
 
@@ -117,7 +117,7 @@ pub returns-clause-alone : goal.returns-clause-alone
 returns-clause-alone g c =
     let p = c.args.indexed.now in
     let Alone : Family → Bool → Type 0 = λ family alone. IsTrue alone
-    → PlainKeepByBasis p family.basis family.kept c.args.operator (length (operator_at p c.args.operator).effects) in
+    → UnconditionalKeepByBasis p family.basis family.kept c.args.operator (length (operator_at p c.args.operator).effects) in
     elim c.if-not-note_known.branch [
       | then-not-note_known w ↦ subst (λ (family : Family). Alone family c.if-not-note_known.alone) (sym w.family-is)
           (subst (Alone w.look_at_each_plain-alone.new.family) (sym w.alone-is) w.look_at_each_plain-alone.ensures.alone)
