@@ -28,7 +28,7 @@ use Rattle.sas_outputs.specs.declared.Request.TheVariants.{Plan}
 use Rattle.sas_outputs.specs.Output.{Out, VerdictOut, LayersOut, plain_refusal, IsAnswerOrRefusal, IsLayeredText, refusal_line, word_of}
 use Rattle.sas_outputs.proofs.Outputs.{one_file_output, some_file_output}
 use Rattle.sas_outputs.proofs.PlanOutputs.{plain_refuses, judged_out, no_plan_output}
-use Rattle.sas_outputs.proofs.WordedLines.{worded}
+use Rattle.sas_answers.proofs.WordedLines.{worded}
 use Rattle.sas_plans.specs.Judged.{Judged, HasCost, IsJudged, PlansAnswer, PlansOut, JudgedLayers, JudgedTask, JudgeOut, is_valid, labelled}
 use Rattle.sas_plans.specs.Laws.{OneJudgeOutput, SomeJudgeOutput, EachIsThatOfPlan, RefusesAsPlan, NoneJudgeIsLong}
 use Rattle.sas_plans.proofs.BestPlans.{one_summary, some_summary}

@@ -26,7 +26,7 @@ use Rattle.sas_answers.specs.LayerWords.{layer_words, layers_line}
 use Rattle.sas_outputs.specs.Output.{CheckOut, VerdictOut, refusal}
 use Rattle.sas_outputs.proofs.Outputs.{refused_kind, too_long_else, reading_of_refusal, file_refused, file_too_long}
 use Rattle.sas_outputs.proofs.PlanOutputs.{told_fault}
-use Rattle.sas_outputs.proofs.WordedLines.{worded}
+use Rattle.sas_answers.proofs.WordedLines.{worded}
 use Rattle.sas_plans.specs.declared.held.Opening.{Opening}
 use Rattle.sas_plans.specs.declared.held.Opening.TheVariants.{Ready, Refused}
 use Rattle.sas_plans.specs.Opened.{Opens, OpensAs, OpensDevice}

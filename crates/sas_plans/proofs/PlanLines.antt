@@ -19,7 +19,7 @@ use Rattle.sas_answers.specs.PlanWords.{fault_words, invalid_line}
 use Rattle.sas_output.specs.declared.ending.Status.TheVariants.{No}
 use Rattle.sas_outputs.specs.Output.{VerdictOut, IsAnswerOrRefusal, refusal, refusal_line, word_of}
 use Rattle.sas_outputs.proofs.PlainLines.{file_words, file_plain, kind_plain, layer_plain, invalid_plain}
-use Rattle.sas_outputs.proofs.WordedLines.{worded}
+use Rattle.sas_answers.proofs.WordedLines.{worded}
 use Rattle.sas_plans.specs.Inputs.{IsLabel}
 use Rattle.sas_plans.specs.Judged.{Judged, labelled}
 use Rattle.sas_plans.specs.Judging.{unjudged}

@@ -20,7 +20,7 @@ use Rattle.sas_output.specs.Ending.{Output, IsWrite}
 use Rattle.sas_answers.specs.Answers.{VerdictAnswer}
 use Rattle.sas_outputs.specs.Output.{refusal, refusal_line, word_of}
 use Rattle.sas_outputs.proofs.Outputs.{refused_kind, too_long_else, reading_of_refusal, file_refused, file_too_long}
-use Rattle.sas_outputs.proofs.WordedLines.{worded}
+use Rattle.sas_answers.proofs.WordedLines.{worded}
 use Rattle.sas_plans.specs.declared.verdicts.Verdict.{Verdict}
 use Rattle.sas_plans.specs.Judged.{HasCost}
 use Rattle.sas_plans.specs.Judging.{KnownBeginsWith, IsVerdictOnRefusal, IsVerdict, IsVerdictOnPlan, cost_if, Judges}

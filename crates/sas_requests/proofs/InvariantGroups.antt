@@ -44,7 +44,7 @@ use Rattle.sas_requests.proofs.ReasonLines.{IsReason, AreReasons, lines_tell}
 use Rattle.sas_requests.proofs.GroupLines.{any_tells, behind, lines_of_groups}
 use Rattle.sas_outputs.proofs.PlainLines.{file_words, file_plain, kind_plain}
 use Rattle.sas_requests.proofs.ToldLines.{IsTold, plain_told as plain_line, lines_of_first, layer_told, group_told}
-use Rattle.sas_outputs.proofs.WordedLines.{worded}
+use Rattle.sas_answers.proofs.WordedLines.{worded}
 use Rattle.sas_requests.proofs.WhyAnswers.{why_is}
 
 -- ---- the lines of verdicts

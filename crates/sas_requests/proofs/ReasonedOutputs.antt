@@ -31,7 +31,7 @@ use Rattle.sas_requests.proofs.RefusalLaws.{one_reasons, some_reasons}
 use Rattle.sas_requests.proofs.SameAnswers.{same_of_read}
 use Rattle.sas_outputs.proofs.PlainLines.{file_words, file_plain, kind_plain}
 use Rattle.sas_requests.proofs.ToldLines.{IsTold, stays, first_stays, lines_of_first}
-use Rattle.sas_outputs.proofs.WordedLines.{worded}
+use Rattle.sas_answers.proofs.WordedLines.{worded}
 use Rattle.sas_requests.proofs.WhyAnswers.{why_tells_valid, why_refuses}
 use Rattle.sas_requests.proofs.WhyLaws.{one_of_read, some_of_read, long_of_read}
 

@@ -27,7 +27,7 @@ use Rattle.sas_answers.specs.LayerWords.{layer_words, layers_line}
 use Rattle.sas_answers.specs.PlanWords.{fault_words, invalid_line}
 use Rattle.sas_task_reasons.specs.LayerReasons.{layer_reasons}
 use Rattle.sas_task_reasons.specs.WhyGroups.{why_lines}
-use Rattle.sas_task_reasons.specs.WhyLayers.{why_refusal, why_verdict, WhyCheckAnswer, WhyLayeredGroups, WhyMutexAnswer}
+use Rattle.sas_task_reasons.specs.WhyLayers.{why_refusal, why_layers_verdict, WhyCheckAnswer, WhyLayeredGroups, WhyMutexAnswer}
 use Rattle.sas_output.specs.Line.{line_bytes, reasons_text}
 use Rattle.sas_why.specs.Verdict.{WhyVerdict, Explains}
 use Rattle.sas_outputs.specs.declared.Request.{Request}
@@ -37,7 +37,7 @@ use Rattle.sas_requests.specs.Why.{without_reasons, IsSameAnswer, OutOfRead}
 use Rattle.sas_requests.proofs.ReasonLines.{lines_tell}
 use Rattle.sas_requests.proofs.GroupLines.{groups_kept, all_exclusive}
 use Rattle.sas_requests.proofs.ToldLines.{IsToldText, stays, first_stays, AreRefusalsTold, task_refusals_told, plan_refusals_told, layer_told, layers_told, verdict_told}
-use Rattle.sas_outputs.proofs.WordedLines.{worded}
+use Rattle.sas_answers.proofs.WordedLines.{worded}
 use Rattle.sas_requests.proofs.WhyAnswers.{why_is}
 
 -- ---- an output is the same answer as itself
@@ -97,7 +97,7 @@ refused_same p fault o ranged told =
       },
     )
 
-check_same : (p : Parts) (first : Option LayerFault) (o : Output) → WellRanged p → why_verdict p first ≡ Some o → (plain : Output) × (layers_verdict first ≡ Some plain) × IsSameAnswer plain o
+check_same : (p : Parts) (first : Option LayerFault) (o : Output) → WellRanged p → why_layers_verdict p first ≡ Some o → (plain : Output) × (layers_verdict first ≡ Some plain) × IsSameAnswer plain o
 check_same p None o ranged is = (o, is, itself o (layers_stay None o is))
 check_same p (Some fault) o ranged is = refused_same p fault o ranged is
 

@@ -22,7 +22,7 @@ use Rattle.sas_outputs.specs.Output.{word_of, refusal, refusal_line}
 use Rattle.sas_outputs.proofs.PlainLines.{file_words, file_plain, kind_plain, layer_plain, invalid_plain}
 use Rattle.sas_requests.specs.Why.{is_reason, without_reasons}
 use Rattle.sas_requests.proofs.ReasonLines.{IsReason, AreReasons}
-use Rattle.sas_outputs.proofs.WordedLines.{worded}
+use Rattle.sas_answers.proofs.WordedLines.{worded}
 
 -- ---- lines without and with reasons
 

@@ -26,7 +26,7 @@ use Rattle.sas_reasons.proofs.WhyPlan.{one_why, some_why}
 use Rattle.sas_why.specs.Verdict.{WhyVerdict, Explains}
 use Rattle.sas_outputs.proofs.Headlines.{TellsValid}
 use Rattle.sas_outputs.proofs.PlanOutputs.{OneVerdictAnswer, SomeVerdictAnswer, IsRefusal, Refuses}
-use Rattle.sas_outputs.proofs.WordedLines.{worded}
+use Rattle.sas_answers.proofs.WordedLines.{worded}
 
 -- ---- the verdict on a plan is the text's first line
 
