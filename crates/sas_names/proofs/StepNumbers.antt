@@ -1,13 +1,10 @@
 -- The numbers of steps' names, after one more name is numbered.
-use Rattle.std.proofs.Common.{◌≡◌, ℕ, ◌<◌, ◌⊎◌, Bool, true, false, List, [], ◌∷◌, ◌++◌, length, nat_eq, get_or, Option, None, Some, refl, sym, ap, subst, ◌∙◌, inl, inr, if◌then◌else◌, arith}
+use Rattle.std.proofs.Common.{◌≡◌, ℕ, ◌<◌, ◌⊎◌, Bool, true, false, List, length, nat_eq, Option, None, Some, refl, sym, ap, subst, ◌∙◌, inl, inr, if◌then◌else◌, arith}
 use Rattle.std.specs.Cmp.Lexicographic.{pointwise, bytes_decides}
-use Rattle.std.proofs.Math.ListN.{get_or-append, length-append}
-use Rattle.std.proofs.Math.Seq.{get_or-append_seam}
-use Rattle.std.proofs.lemmas.Bool.{cases_lt}
 use Rattle.std.proofs.lemmas.Option.{none-some, same_Some}
 use Rattle.sas_names.specs.declared.name_table.NameTable.{NameTable}
 use Rattle.sas_names.specs.NameTable.{IsEmptyTable, Exist, PutsName, value_of}
-use Rattle.sas_names.specs.StepNames.{AreStepsOf, HaveNumbers, Numbers, step_names}
+use Rattle.sas_names.specs.StepNames.{AreStepsOf, Numbers, step_names}
 use Rattle.sas_names.proofs.TablePuts.{Exist-empty, value_of-empty}
 
 -- no step has a number yet
@@ -73,14 +70,3 @@ module _ (steps : List (List ℕ)) (m n : NameTable ℕ) (step : ℕ) (within : 
       ];
     };
   }
-
--- the next step has its number as well
-pub numbers_one_more : (steps : List (List ℕ)) (m n : NameTable ℕ) (of_steps : List ℕ) (number : ℕ) → HaveNumbers steps m of_steps
-    → Numbers steps (get_or steps (length of_steps) []) number m n → HaveNumbers steps n (of_steps ++ number ∷ [])
-numbers_one_more steps m n of_steps number each next step lt = elim (cases_lt step (length of_steps)) [
-  | inl before ↦ next.kept (get_or steps step []) (get_or of_steps step 0) (each step before) ∙ ap Some (sym (get_or-append of_steps (number ∷ []) 0 step before))
-  | inr late ↦
-      let same : length of_steps ≡ step = omega (arith, length-append of_steps (number ∷ [])) in
-      subst (λ i. value_of (step_names steps) n (get_or steps i []) ≡ Some (get_or (of_steps ++ number ∷ []) i 0)) same
-      (next.is ∙ ap Some (sym (get_or-append_seam of_steps number [] 0)))
-]
