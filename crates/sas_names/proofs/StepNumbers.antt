@@ -1,13 +1,10 @@
 -- The numbers of steps' names, after one more name is numbered.
-use Rattle.std.proofs.Common.{◌≡◌, ℕ, ◌<◌, ◌⊎◌, Bool, true, false, List, [], ◌∷◌, ◌++◌, length, nat_eq, get_or, Option, None, Some, refl, sym, ap, subst, ◌∙◌, inl, inr, if◌then◌else◌, arith}
+use Rattle.std.proofs.Common.{◌≡◌, ℕ, ◌<◌, ◌⊎◌, Bool, true, false, List, length, nat_eq, Option, None, Some, refl, sym, ap, subst, ◌∙◌, inl, inr, if◌then◌else◌, arith}
 use Rattle.std.specs.Cmp.Lexicographic.{pointwise, bytes_decides}
-use Rattle.std.proofs.Math.ListN.{get_or-append, length-append}
-use Rattle.std.proofs.Math.Seq.{get_or-append_seam}
-use Rattle.std.proofs.lemmas.Bool.{cases_lt}
 use Rattle.std.proofs.lemmas.Option.{none-some, same_Some}
 use Rattle.sas_names.specs.declared.name_table.NameTable.{NameTable}
 use Rattle.sas_names.specs.NameTable.{IsEmptyTable, Exist, PutsName, value_of}
-use Rattle.sas_names.specs.StepNames.{AreStepsOf, HaveNumbers, Numbers, step_names}
+use Rattle.sas_names.specs.StepNames.{AreStepsOf, Numbers, step_names}
 use Rattle.sas_names.proofs.TablePuts.{Exist-empty, value_of-empty}
 
 -- no step has a number yet
