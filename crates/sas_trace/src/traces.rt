@@ -65,7 +65,11 @@ fn write_execution<W: Write, E: Settle<FlatTask> + Drop>(
     let mut sink = Sink::new(&mut pieces, out);
     tracer.push_run(&mut sink, task, execution);
     sink.push(verdict.text.as_slice());
-    sink.finish(verdict.status)
+    let ended = sink.finish(verdict.status);
+    drop(pieces);
+    drop(tracer);
+    drop(verdict);
+    ended
 }
 
 /// Returns the answer about the plan. Its execution then knows which steps go through, and is at its start.
