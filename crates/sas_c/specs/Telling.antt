@@ -24,7 +24,7 @@ number_of_fault (Write written) = 3
 -- `before` and now holds `room`. `Out` holds of the right output, or of none if there is none.
 pub record Returns (Out : Option Output → Type 0) (before room : List ℕ) (size number : ℕ)
     : Type 0 where
-  -- 0 and 1: the output's text stands at the front of the room, and the number is its status
+  -- 0 and 1: the output's text is at the front of the room, and the number is its status
   pub told : (status : Status) → number ≡ number_of_status status → (output : Output)
       × Out (Some output)
       × (output.status ≡ status)
@@ -43,7 +43,7 @@ pub record Returns (Out : Option Output → Type 0) (before room : List ℕ) (si
   pub same : 2 ≤ number → room ≡ before
   pub as_long : length room ≡ length before
 
--- If an answer about the bytes b of the task and c of the plan is written, `plan valid` stands in
+-- If an answer about the bytes b of the task and c of the plan is written, `plan valid` is in
 -- the room exactly if the plan solves the task at that cost, and exactly then the answer is yes.
 abbrev pub ReturnsHeadline : List ℕ → List ℕ → List ℕ → ℕ → ℕ → Type 0
 ReturnsHeadline b c room size number = (status : Status) → number ≡ number_of_status status

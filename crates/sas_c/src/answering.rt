@@ -62,7 +62,7 @@ pub fn answer_why(alloc: Global, asked: Asked<'_>, room: &mut [u8], size: &mut u
     }
 }
 
-/// Writes the answer about the plan, behind its trace.
+/// Writes the trace of the plan, and then the answer about it.
 pub fn answer_trace(
     alloc: Global,
     task: &[u8],

@@ -143,7 +143,7 @@ fn explain(
     }
 }
 
-/// Writes whether the plan solves the task, behind its trace.
+/// Writes the trace of the plan, and then whether it solves the task.
 fn trace(alloc: Global, prepared: &Prepared, plan: &[u8], room: &mut [u8], size: &mut usize) -> u32
     ensures { Returns (VerdictOut TraceVerdict prepared.now.held plan.now)
         room.old room.new size.new result }

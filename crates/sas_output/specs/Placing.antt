@@ -1,4 +1,4 @@
--- Bytes that are placed into others, over what stands there.
+-- Bytes that are written over a part of others.
 use Rattle.std.specs.Prelude.{◌≡◌, ℕ, ◌≤◌, List, ◌++◌, length, take, Option, MatchOption}
 
 -- The first bytes, up to `at`, stay, these follow them, and end here.

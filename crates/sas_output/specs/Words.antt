@@ -9,7 +9,7 @@ use Rattle.sas_output.specs.declared.words.Words.{Words}
 use Rattle.sas_output.specs.declared.words.Numbered.{Numbered}
 
 -- A line: this many spaces, then words with one space between each two. A number is a word; a name
--- stands last, since it may hold spaces.
+-- comes last, since it may contain spaces.
 abbrev pub line : ℕ → List (List ℕ) → List ℕ
 line spaces words = replicate spaces 32 ++ joined words
 
@@ -22,7 +22,7 @@ word_bytes (Number n) = decimal n
 abbrev pub behind_space : Word → List ℕ
 behind_space word = 32 ∷ word_bytes word
 
--- how many spaces stand in front
+-- how many spaces a line begins with
 abbrev pub spaces_of : Indent → ℕ
 spaces_of indent.None = 0
 spaces_of indent.Two = 2

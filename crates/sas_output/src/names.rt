@@ -29,7 +29,7 @@ impl<'n> Named<'n> {
     }
 }
 
-/// Returns the name of the plan's step, counted from 0; behind the last step, no bytes.
+/// Returns the name of the plan's step, counted from 0; past the last step, no bytes.
 fn name_of(plan: &FlatPlan, before: usize) -> &[u8]
     ensures { result.now ≡ slice_index_or plan.now.steps before [] }
 {
@@ -40,7 +40,7 @@ fn name_of(plan: &FlatPlan, before: usize) -> &[u8]
     }
 }
 
-/// Returns the operator's name; behind the last operator, no bytes.
+/// Returns the operator's name; past the last operator, no bytes.
 pub fn operator_name(task: &FlatTask, operator: u32) -> &[u8]
     ensures { result.now ≡ (operator_at task.now operator).name }
 {
@@ -61,7 +61,7 @@ pub fn value_name(task: &FlatTask, fact: Fact) -> &[u8]
     }
 }
 
-/// Returns the fact that the rule gives; behind the last rule, that variable 0 has value 0.
+/// Returns the fact that the rule sets; past the last rule, that variable 0 has value 0.
 pub fn given_by(task: &FlatTask, rule: u32) -> Fact
     ensures { result ≡ fact_of_rule (rule_at task.now rule) }
 {
@@ -72,7 +72,7 @@ pub fn given_by(task: &FlatTask, rule: u32) -> Fact
     }
 }
 
-/// Returns the fact that the operator's effect sets; behind the last one, that variable 0 has value 0.
+/// Returns the fact that the operator's effect sets; past the last one, that variable 0 has value 0.
 pub fn set_by(task: &FlatTask, operator: u32, effect: u32) -> Fact
     ensures { result ≡ fact_of_effect (effect_at (operator_at task.now operator) effect) }
 {

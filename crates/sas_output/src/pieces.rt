@@ -48,7 +48,7 @@ impl Pieces {
         })
     }
 
-    /// Adds the bytes to the text. If there is no room for them behind what is held, this is written first. If they are
+    /// Adds the bytes to the text. If there is no room for them after what is held, that is written first. If they are
     /// longer than a piece, they are then written themselves, without a copy. Not to be called after a failure.
     pub(crate) fn push<W: Write>(&mut self, out: &mut Watched<W>, bytes: &[u8]) -> Result<(), Short>
         requires { out.old.failed ≡ false }
@@ -131,7 +131,7 @@ impl Pieces {
         }
     }
 
-    /// Holds this line and its end, LF, in the same way.
+    /// `hold_line` for a line that ends with a number.
     #[inline(always)]
     pub(crate) fn hold_numbered(&mut self, line: Numbered<'_>) -> bool
         ensures yes { IsTrue result

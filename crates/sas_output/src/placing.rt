@@ -1,6 +1,5 @@
-// A line of words that is placed into a piece, if there is room for it. This is the fast way, for most lines: nothing is written to
-// a device in between, so that only too little room can end it early. It is compiled into its callers, which know the first word
-// and how many there are.
+// Writes a line of words into a piece, if there is room for it. Most lines go this fast way: nothing is written to a device in between,
+// so only a lack of room can end it early. It is compiled into its callers, which know the first word and how many words there are.
 ghost use Rattle.std.specs.Prelude.{◌≡◌, ◌<◌, ◌≤◌, ◌+◌, ◌/◌, ◌%◌, [], ◌∷◌, ◌++◌};
 ghost use Rattle.std.specs.Prelude.{decimal, flat_map, length, replicate};
 ghost use Rattle.sas_output.specs.Placing.{PlacesOrLeaves};
@@ -9,7 +8,7 @@ ghost use Rattle.sas_output.specs.Words.{behind_space, numbered_line, spaces_of,
 use crate::words::{Indent, Numbered, Word, Words};
 use itoa::Buffer;
 
-/// Places the bytes behind the first `at` of the piece. Returns where they end, or `None` if there is no room for them.
+/// Writes the bytes at `at` of the piece. Returns their end, or `None` if there is no room.
 #[inline(always)]
 pub(crate) fn place(piece: &mut [u8], at: usize, bytes: &[u8]) -> Option<usize>
     requires { at ≤ length piece.old }
@@ -24,7 +23,7 @@ pub(crate) fn place(piece: &mut [u8], at: usize, bytes: &[u8]) -> Option<usize>
     Some(end)
 }
 
-/// Places one byte in the same way.
+/// Writes a byte at `at`. Returns its end, or `None` if there is no room.
 #[inline(always)]
 fn place_byte(piece: &mut [u8], at: usize, byte: u8) -> Option<usize>
     requires { at ≤ length piece.old }
@@ -38,7 +37,7 @@ fn place_byte(piece: &mut [u8], at: usize, byte: u8) -> Option<usize>
     Some(at + 1)
 }
 
-/// Places a space and the bytes in the same way.
+/// Writes a space and the bytes at `at`. Returns their end, or `None` if there is no room.
 #[inline(always)]
 fn place_behind_space(piece: &mut [u8], at: usize, bytes: &[u8]) -> Option<usize>
     requires { at ≤ length piece.old }
@@ -51,7 +50,7 @@ fn place_behind_space(piece: &mut [u8], at: usize, bytes: &[u8]) -> Option<usize
     place(piece, behind_space, bytes)
 }
 
-/// Places a space and the number, which has one digit or two, in the same way.
+/// Writes a space and a number below 100 at `at`. Returns its end, or `None` if there is no room.
 #[inline(always)]
 fn place_short(piece: &mut [u8], at: usize, number: u64) -> Option<usize>
     requires at { at ≤ length piece.old }
@@ -72,7 +71,7 @@ fn place_short(piece: &mut [u8], at: usize, number: u64) -> Option<usize>
     Some(at + 3)
 }
 
-/// Places the two digits of a number below 100 in the same way.
+/// Writes the two digits of a number below 100 at `at`. Returns their end, or `None` if there is no room.
 #[inline(always)]
 fn place_pair(piece: &mut [u8], at: usize, number: u64) -> Option<usize>
     requires at { at ≤ length piece.old }
@@ -89,7 +88,7 @@ fn place_pair(piece: &mut [u8], at: usize, number: u64) -> Option<usize>
     Some(at + 2)
 }
 
-/// Places a space and the number, which may have many digits, in the same way.
+/// Writes a space and a number of any size at `at`. Returns its end, or `None` if there is no room.
 fn place_long(piece: &mut [u8], at: usize, number: u64) -> Option<usize>
     requires { at ≤ length piece.old }
     ensures length { length piece.new ≡ length piece.old }
@@ -100,7 +99,7 @@ fn place_long(piece: &mut [u8], at: usize, number: u64) -> Option<usize>
     place_behind_space(piece, at, digits)
 }
 
-/// Places a space and the number, which has at most four digits, in the same way.
+/// Writes a space and a number below 10,000 at `at`. Returns its end, or `None` if there is no room.
 #[inline(always)]
 fn place_small(piece: &mut [u8], at: usize, number: u64) -> Option<usize>
     requires at { at ≤ length piece.old }
@@ -117,7 +116,7 @@ fn place_small(piece: &mut [u8], at: usize, number: u64) -> Option<usize>
     place_pair(piece, behind_hundreds, number % 100)
 }
 
-/// Places a space and the number, which has five to eight digits, in the same way.
+/// Writes a space and a number of five to eight digits at `at`. Returns its end, or `None` if there is no room.
 fn place_middle(piece: &mut [u8], at: usize, number: u64) -> Option<usize>
     requires at { at ≤ length piece.old }
     requires large { 10000 ≤ number }
@@ -135,7 +134,7 @@ fn place_middle(piece: &mut [u8], at: usize, number: u64) -> Option<usize>
     place_pair(piece, behind_hundreds, number % 100)
 }
 
-/// Places a space and the number in the same way. Most numbers have at most four digits, and these are written at once.
+/// Writes a space and a number at `at`. Most numbers are below 10,000, and these are written at once. Returns its end, or `None` if there is no room.
 #[inline(always)]
 fn place_number(piece: &mut [u8], at: usize, number: u64) -> Option<usize>
     requires { at ≤ length piece.old }
@@ -151,7 +150,7 @@ fn place_number(piece: &mut [u8], at: usize, number: u64) -> Option<usize>
     place_long(piece, at, number)
 }
 
-/// Places a space and the word in the same way.
+/// Writes a space and a word at `at`. Returns its end, or `None` if there is no room.
 #[inline(always)]
 fn place_word(piece: &mut [u8], at: usize, word: Word<'_>) -> Option<usize>
     requires { at ≤ length piece.old }
@@ -164,7 +163,7 @@ fn place_word(piece: &mut [u8], at: usize, word: Word<'_>) -> Option<usize>
     }
 }
 
-/// Places these words in the same way, with a space in front of each.
+/// Writes the words at `at`, each after a space. Returns their end, or `None` if there is no room.
 #[inline(always)]
 fn place_rest(piece: &mut [u8], at: usize, words: &[Word<'_>]) -> Option<usize>
     requires { at ≤ length piece.old }

@@ -23,7 +23,7 @@ use sas_lines::Watched;
 use std::alloc::Global;
 use std::io::Write;
 
-/// Writes the verdict and, behind it, the lines of the reasons for it. Returns the verdict's status. The text goes out in pieces. If an
+/// Writes the verdict, and after it the lines of its reasons. Returns the verdict's status. The text goes out in pieces. If an
 /// `Err` isn't a failed write, it is `Memory`, and nothing was written. Not to be called after a failure.
 pub fn write_reasons<W: Write>(
     alloc: Global,
@@ -92,7 +92,7 @@ fn push_rest<W: Write>(sink: &mut Sink<'_, W>, named: &Named<'_>, start: Start, 
     }
 }
 
-/// Adds the line with these words behind its first ones, and its end.
+/// Adds the line, with these words after its first ones, and its end.
 fn push_words<W: Write>(sink: &mut Sink<'_, W>, start: Start, words: &[Word<'_>])
     ensures { Pushes W.contents sink.old sink.new
         (line_with start (map word_bytes words.now) ++ 10 ∷ []) }

@@ -16,7 +16,7 @@ pub struct Start {
 }
 
 impl Start {
-    /// Returns that a line begins with these words, behind two spaces.
+    /// Returns that a line begins with two spaces and these words.
     pub fn two(words: &'static [u8]) -> Start
         ensures { result ≡ record { indent = Indent.Two; words = words.entry } }
     {
@@ -26,7 +26,7 @@ impl Start {
         }
     }
 
-    /// Returns that a line begins with these words, behind four spaces.
+    /// Returns that a line begins with four spaces and these words.
     pub fn four(words: &'static [u8]) -> Start
         ensures { result ≡ record { indent = Indent.Four; words = words.entry } }
     {
@@ -71,7 +71,7 @@ pub enum Part {
     Requires(u32, Fact),
 }
 
-/// Returns the line in its parts: how many spaces stand in front, its first words, and what follows.
+/// Returns the parts of the line: how many spaces it begins with, its first words, and what follows.
 pub fn wording(line: Line) -> (Indent, &'static [u8], Rest)
     ensures { (p : Parts) (steps : List (List ℕ))
         → worded p steps result.0 result.1 result.2 ≡ line_bytes p steps line }

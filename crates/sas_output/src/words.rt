@@ -18,7 +18,7 @@ pub enum Word<'w> {
     Number(u64),
 }
 
-/// How many spaces stand in front of a line.
+/// How many spaces a line begins with.
 #[derive(Clone, Copy, Debug, PartialEq, Eq)]
 pub enum Indent {
     None,

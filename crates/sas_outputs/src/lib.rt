@@ -1,6 +1,6 @@
 //! The outputs: what is printed for one task and one plan, as definitions. The summary of a task, written in pieces as it is made. The
-//! refusal of a file, and the lines that `--why` prints behind it: where in a task the line stands, what is expected there, which number
-//! may not stand there, and what was found. No file is read.
+//! refusal of a file, and the lines that `--why` prints after it: where in a task the line is, what is expected there, which number isn't
+//! allowed there, and what was found. No file is read.
 #![tactic(auto)]
 
 mod dues;

@@ -21,7 +21,7 @@ use sas_run::Held;
 use std::alloc::Global;
 use std::io::{Read, Write};
 
-/// Judges many plans of one task, and answers with a line for each, its label in front, and a line behind them that says how
+/// Judges many plans of one task, and answers with a line for each, its label in front, and a last line that says how
 /// many are valid, and which of these cost least. A task that is refused has its line alone, and then no plan is opened. The
 /// task is read once, its layers are checked once, its names are looked up in one table, and one evaluator serves all plans.
 /// The status is `Yes` if all plans are valid. A plan file that is refused is one line, and no fault of the run. Nothing is

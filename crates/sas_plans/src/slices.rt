@@ -61,7 +61,7 @@ pub fn judge_slices(alloc: Global, task: &[u8], plans: &[PlanBytes<'_>]) -> Resu
         (bytes_of plans.now) (Some (output_told told))) }
     ensures long { IfErr result (λ e. tool_fault e ≡ ToolFault.TooLong
         → JudgeOut (labels_of plans.now) task.now (bytes_of plans.now) None) }
-    // `LABEL: plan valid` stands in the text exactly if the plan solves the task at that cost.
+    // `LABEL: plan valid` is in the text exactly if the plan solves the task at that cost.
     ensures headline { IfOk result (λ told. PlansHeadline (labels_of plans.now) task.now
         (bytes_of plans.now) (λ text. told.text.items ≡ text) told.status) }
 {

@@ -104,7 +104,7 @@ fn tell_plan<S: PlanInputs>(
     Ok(cost)
 }
 
-/// Adds the label, and the line behind it.
+/// Adds the label, and then the line.
 fn push_labelled(text: &mut Vec<u8>, label: &[u8], line: &[u8]) -> Result<(), AllocError>
     ensures { OnOk result (text.new.items
         ≡ text.old.items ++ (label.now ++ codes ": " ++ line.now)) }

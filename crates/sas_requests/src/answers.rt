@@ -29,7 +29,7 @@ use sas_task_reasons::{groups_answer, write_groups};
 use std::alloc::Global;
 use std::io::{Read, Write};
 
-/// Answers what is asked about the inputs.
+/// Answers the request about the inputs.
 pub fn answer<T: Read, P: Read, W: Write>(
     alloc: Global,
     asked: Asked,

@@ -7,7 +7,7 @@ use crate::Request;
 pub enum Detail {
     /// The answer alone.
     Plain,
-    /// The answer, and behind a no the reasons for it.
+    /// The answer, and after a no the reasons for it.
     Reasons,
     /// The answer, with what the steps of a plan do in front.
     Trace,

@@ -91,8 +91,8 @@ pub fn trace_bytes<W: Write>(
     judge_plan_file(alloc, Detail::Trace, layered, &mut device, out)
 }
 
-/// Answers whether the plan solves a layered task that was read. The frame of this call is large, and isn't to stand below the reader of
-/// the task.
+/// Answers whether the plan solves a layered task that was read. The stack frame of this call is large, so it isn't
+/// inlined where a task is read.
 #[inline(never)]
 fn judge_plan_file<P: Read, W: Write>(
     alloc: Global,

@@ -24,7 +24,7 @@ use sas_output::{Indent, Line, Named, Pieces, Sink, Status, ToolFault, Word, Wor
 use std::alloc::Global;
 use std::io::Write;
 
-/// Writes the answer about the mutex groups of a layered task: the verdict on each, with the reason behind it where the group isn't
+/// Writes the answer about the mutex groups of a layered task: the verdict on each, followed by the reason where the group isn't
 /// exclusive. Returns `Yes` if all are. The names in the reasons are looked up as they go out, in pieces: they may make the answer far
 /// longer than the task. If an `Err` isn't a failed write, it is `Memory`, and nothing was written: all memory is allocated before the
 /// first byte. Not to be called after a failure.

@@ -6,3 +6,4 @@ pub mod Conflicts
 pub mod Report
 pub mod Rounds
 pub mod Verdict
+pub mod Explained

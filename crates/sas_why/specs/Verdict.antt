@@ -1,12 +1,11 @@
 -- The answers about plans with the reasons for a no.
-use Rattle.std.specs.Prelude.{◌≡◌, ◌⊎◌, ℕ, List, ◌++◌, Option, Some, IsSomeAnd}
+use Rattle.std.specs.Prelude.{◌≡◌, ◌⊎◌, ℕ, List, ◌++◌, Some}
 use Rattle.sas_core.specs.declared.parts.Parts.{Parts}
 use Rattle.sas_core.specs.PlanParts.{PlanParts}
 use Rattle.sas_run.specs.declared.plan_check.PlanFault.{PlanFault}
 use Rattle.sas_run.specs.Plans.{IsValid}
 use Rattle.sas_run.specs.Verdicts.{IsFaultOf}
 use Rattle.sas_output.specs.declared.ending.Status.TheVariants.{No}
-use Rattle.sas_output.specs.declared.told.Told.{Told}
 use Rattle.sas_output.specs.Ending.{Output}
 use Rattle.sas_answers.specs.Answers.{valid_answer, invalid_answer}
 use Rattle.sas_output.specs.declared.line.Line.{Line}
@@ -28,14 +27,3 @@ WhyVerdict p plan output =
     (((operators : List ℕ) × IsValid p plan operators) × (output ≡ valid_answer plan))
     ⊎ ((fault : PlanFault) × IsFaultOf p plan fault × Explains p plan fault output.text
     × (output.status ≡ No))
-
--- the output is such an answer
-abbrev pub IsExplained : Parts → PlanParts → Option Output → Type 0
-IsExplained p plan output = IsSomeAnd output (WhyVerdict p plan)
-
--- the verdict and these lines of reasons behind it are such an answer
-abbrev pub MakeAnswer : Parts → PlanParts → Told → List Line → Type 0
-MakeAnswer p plan verdict lines = WhyVerdict p plan (record {
-  text = verdict.text.items ++ reasons_text p plan.steps lines;
-  status = verdict.status;
-})

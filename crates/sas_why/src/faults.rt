@@ -21,7 +21,7 @@ use sas_output::Line;
 use sas_run::PlanFault;
 use std::alloc::{AllocError, Global};
 
-/// Returns why the plan isn't valid: the lines of reasons behind its verdict.
+/// Returns why the plan isn't valid: the lines of reasons that follow its verdict.
 pub fn reasons<T: Grounded, P: Stepwise>(
     alloc: Global,
     layered: &Layered<T>,
