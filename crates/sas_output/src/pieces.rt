@@ -131,7 +131,7 @@ impl Pieces {
         }
     }
 
-    /// `hold_line` for a line that ends with a number.
+    /// `hold_line` for a line of a word, three numbers and a name.
     #[inline(always)]
     pub(crate) fn hold_numbered(&mut self, line: Numbered<'_>) -> bool
         ensures yes { IsTrue result

@@ -134,7 +134,8 @@ fn place_middle(piece: &mut [u8], at: usize, number: u64) -> Option<usize>
     place_pair(piece, behind_hundreds, number % 100)
 }
 
-/// Writes a space and a number at `at`. Most numbers are below 10,000, and these are written at once. Returns its end, or `None` if there is no room.
+/// Writes a space and a number at `at`. Most numbers are below 10,000, and these are written at once. Returns its end, or `None` if there
+/// is no room.
 #[inline(always)]
 fn place_number(piece: &mut [u8], at: usize, number: u64) -> Option<usize>
     requires { at ≤ length piece.old }
