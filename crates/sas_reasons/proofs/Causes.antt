@@ -21,7 +21,7 @@ use Rattle.sas_meaning.specs.Places.{can_give}
 use Rattle.sas_output.specs.declared.line.Line.{Line}
 use Rattle.sas_output.specs.declared.line.Line.TheVariants as line
 use Rattle.sas_run.specs.Runs.{Run, last_state}
-use Rattle.sas_reasons.specs.Cause.{fails, is_derived, is_given, AreDerivationLines, actual_fact, since_line, missing_lines, IsCause}
+use Rattle.sas_reasons.specs.Cause.{fails, is_derived, is_given, AreDerivationLines, since_line, missing_lines, IsCause}
 use Rattle.sas_reasons.specs.Laws.{DefaultIfNotGiven, EachRuleFails}
 use Rattle.sas_reasons.proofs.Derivation.{value_is}
 use Rattle.sas_reasons.proofs.Listing.{some_derivation}
@@ -88,7 +88,7 @@ givers_one true p s var x y f g = f.2 ∙ (ap (λ (rules : List ℕ). map line.R
 -- the lines of a cause
 abbrev lines_of : Parts → Run → Fact → ℕ → List Line → List Line
 lines_of p run fact since givers =
-    line.Requires fact ∷ line.Actual (actual_fact (last_state run) fact.var) ∷ since_line since ∷ givers ++ missing_lines p (last_state run) fact
+    line.Requires fact ∷ line.Actual (record { var = fact.var; value = slice_index (last_state run) fact.var }) ∷ since_line since ∷ givers ++ missing_lines p (last_state run) fact
 
 pub one_cause : (p : Parts) (run : Run) (fact : Fact) (a b : List Line) → IsCause p run fact a → IsCause p run fact b → a ≡ b
 one_cause p run fact a b x y = x.whole

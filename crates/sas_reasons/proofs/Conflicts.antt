@@ -7,13 +7,12 @@ use Rattle.sas_core.specs.declared.parts.Operator.{Operator}
 use Rattle.sas_core.specs.Grounded.{effect_at}
 use Rattle.sas_meaning.specs.Steps.{Fires, Agree}
 use Rattle.sas_meaning.proofs.Facts.{hold_or_not}
-use Rattle.sas_reasons.specs.Lowest.{IsLowest}
-use Rattle.sas_reasons.specs.Conflicts.{ConflictsWith, ConflictsWithEarlier, IsConflict}
+use Rattle.sas_reasons.specs.WhyPlan.{ConflictsWith}
 use Rattle.sas_reasons.specs.Laws.{SomeConflict, OneConflict}
-use Rattle.sas_reasons.proofs.Lowest.{lowest_is_one, lowest_below}
+use Rattle.sas_reasons.proofs.Lowest.{are_lowest_one, some_are_lowest}
 
 module _ (s : List ℕ) (o : Operator) where
-  contradicts_or_not : (e d : ℕ) → ConflictsWith s o d e ⊎ (ConflictsWith s o d e → ⊥)
+  contradicts_or_not : (e d : ℕ) → ConflictsWith s o e d ⊎ (ConflictsWith s o e d → ⊥)
   contradicts_or_not e d = elim (cases_lt d e) [
     | inr ge ↦ inr (λ c. let lt = c.before in omega arith)
     | inl before ↦ elim (cases_lt e (length o.effects)) [
@@ -34,19 +33,13 @@ module _ (s : List ℕ) (o : Operator) where
     ]
   ]
 
-  contradicted_or_not : (e : ℕ) → ConflictsWithEarlier s o e ⊎ (ConflictsWithEarlier s o e → ⊥)
-  contradicted_or_not e = elim (lowest_below (λ d. ConflictsWith s o d e) (contradicts_or_not e) e) [
-    | inl w ↦ inl (w.0, w.2.has)
-    | inr none ↦ inr (λ w. none w.0 w.1.before w.1)
-  ]
-
   -- the effects agree if none is contradicted
-  module _ (none : (e : ℕ) → ConflictsWithEarlier s o e → ⊥) where
+  module _ (none : (e d : ℕ) → ConflictsWith s o e d → ⊥) where
     later_agrees : (d e : ℕ) → d < e → e < length o.effects → Fires s (effect_at o d) → Fires s (effect_at o e)
         → (effect_at o d).var ≡ (effect_at o e).var → (effect_at o d).new ≡ (effect_at o e).new
     later_agrees d e before exists fires fires' var = elim (cases_eq (effect_at o d).new (effect_at o e).new) [
       | inl same ↦ same
-      | inr other ↦ absurd (none e (d, record { before = before; exists = exists; fires = fires; fires' = fires'; var = var; other = other }))
+      | inr other ↦ absurd (none e d (record { before = before; exists = exists; fires = fires; fires' = fires'; var = var; other = other }))
     ]
 
     agrees_at : (d e : ℕ) → d < length o.effects → e < length o.effects → Fires s (effect_at o d) → Fires s (effect_at o e)
@@ -71,19 +64,10 @@ module _ (s : List ℕ) (o : Operator) where
         (subst (λ b. Fires s (effect_at o i) → Fires s b → (effect_at o i).var ≡ b.var → (effect_at o i).new ≡ b.new) f (agrees_at i j lt lt'))
 
 pub some_conflict : SomeConflict
-some_conflict s o clash = elim (lowest_below (ConflictsWithEarlier s o) (contradicted_or_not s o) (length o.effects)) [
-  | inr none ↦ absurd (clash (agrees s o (λ e w. none e w.1.exists w)))
-  | inl w ↦ from w.0 w.2 (lowest_below (λ d. ConflictsWith s o d w.0) (contradicts_or_not s o w.0) w.0)
+some_conflict s o clash = elim (some_are_lowest (ConflictsWith s o) (contradicts_or_not s o) (length o.effects) (length o.effects) (λ e d c. (c.exists, let lt = c.exists in let before = c.before in omega arith))) [
+  | inl w ↦ w
+  | inr none ↦ absurd (clash (agrees s o none))
 ]
-  where
-    from : (e : ℕ) → IsLowest (ConflictsWithEarlier s o) e
-        → ((d : ℕ) × (d < e) × IsLowest (λ d. ConflictsWith s o d e) d) ⊎ ((d : ℕ) → d < e → ConflictsWith s o d e → ⊥)
-        → (d e : ℕ) × IsConflict s o d e
-    from e first (inl w) = (w.0, e, record { first = first; lowest = w.2 })
-    from e first (inr none) = absurd (let h = first.has in none h.0 h.1.before h.1)
 
 pub one_conflict : OneConflict
-one_conflict s o d e d' e' x y = (lowest_is_one (λ k. ConflictsWith s o k e') d d' (subst (λ f. IsLowest (λ k. ConflictsWith s o k f) d) same x.lowest) y.lowest, same)
-  where
-    same : e ≡ e'
-    same = lowest_is_one (ConflictsWithEarlier s o) e e' x.first y.first
+one_conflict s o = are_lowest_one (ConflictsWith s o)

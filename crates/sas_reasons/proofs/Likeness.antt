@@ -1,14 +1,28 @@
 -- Folded names, and the operator with a similar name.
-use Rattle.std.proofs.Common.{◌≡◌, ℕ, ◌+◌, ◌<◌, ◌≤◌, ◌⊎◌, false, cond, List, [], ◌∷◌, ◌++◌, map, length, bytes_eq, refl, sym, ◌∙◌, ap, inl, inr, arith}
-use Rattle.std.specs.Prelude.{◌==◌, ◌&&◌, nat_le}
-use Rattle.std.proofs.lemmas.Bool.{cases_lt, cases_Bool}
+use Rattle.std.proofs.Common.{◌≡◌, ℕ, suc, ◌+◌, ◌<◌, ◌≤◌, Bool, false, cond, List, [], ◌∷◌, ◌++◌, map, length, bytes_eq, refl, sym, ◌∙◌, ap, subst, inl, inr, arith, Option, Some, None}
+use Rattle.std.specs.Prelude.{◌==◌, ◌&&◌, nat_lt}
+use Rattle.std.specs.Char.{to_ascii_lowercase}
+use Rattle.std.specs.List.{list_all, position_or_len}
+use Rattle.std.proofs.lemmas.Bool.{true≢false, lt-ltb, ltb-true, cases_lt, cases_Bool}
 use Rattle.std.proofs.lemmas.Bool.Decides.{eqb_tells, leb_tells}
+use Rattle.std.specs.Bool.{Decides}
+use Rattle.std.proofs.lemmas.List.Sums.{fails_before_first, passes_at_first}
 use Rattle.std.proofs.lemmas.Slice.Eq.{bytes_eq-Decides}
+use Rattle.sas_core.specs.declared.parts.Operator.{Operator}
 use Rattle.sas_core.specs.declared.parts.Parts.{Parts}
 use Rattle.sas_core.specs.Grounded.{operator_at}
-use Rattle.sas_reasons.specs.Likeness.{is_blank, trimmed, small, folded, IsAlike}
-use Rattle.sas_reasons.specs.Laws.{SpaceFolds, FoldsOnce, SomeLike, OneLike}
-use Rattle.sas_reasons.proofs.Lowest.{lowest_if_any, lowest_if_any_is_one}
+use Rattle.sas_reasons.specs.MayMean.{trimmed, folded, similar_operator}
+use Rattle.sas_reasons.specs.Laws.{SpaceFolds, FoldsOnce, IsAlike, IsLowestIfAny}
+use Rattle.sas_reasons.proofs.Lowest.{lowest_if_any_is_one}
+
+-- ---- folded names
+
+-- whether all bytes are spaces
+abbrev pub is_blank : List ℕ → Bool
+is_blank bytes = list_all (λ byte. byte == 32) bytes
+
+abbrev small : ℕ → ℕ
+small byte = to_ascii_lowercase byte
 
 space_is_blank : (bytes : List ℕ) → is_blank (bytes ++ 32 ∷ []) ≡ is_blank bytes
 space_is_blank [] = refl
@@ -25,33 +39,30 @@ space_folds name = ap (map small) (space_is_trimmed name)
 
 -- a lower-case letter is unchanged, and a byte is a space exactly if it is one in lower case
 small_twice : (b : ℕ) → small (small b) ≡ small b
-small_twice b = elim (leb_tells 65 b) [
-  | inr x ↦ same (ap (λ t. cond (t && nat_le b 90) (b + 32) b) x.0)
-  | inl x ↦ elim (leb_tells b 90) [
-    | inr y ↦ same (rw (x.0, y.0) refl)
-    | inl y ↦ large x.1 y.1 (rw (x.0, y.0) refl)
+small_twice b = elim (leb_tells (suc b) 65) [
+  | inl x ↦ ap small (let e : small b ≡ b = rw x.0 refl in e)
+  | inr x ↦ elim (leb_tells (suc b) 91) [
+    | inr y ↦ ap small (let e : small b ≡ b = rw (x.0, y.0) refl in e)
+    | inl y ↦ large (omega (arith, x.1)) (rw (x.0, y.0) refl)
   ]
 ]
   where
-    same : small b ≡ b → small (small b) ≡ small b
-    same e = ap small e
-
-    large : 65 ≤ b → b ≤ 90 → small b ≡ b + 32 → small (small b) ≡ small b
-    large low high e = ap small e ∙ (past ∙ sym e)
+    large : 65 ≤ b → small b ≡ b + 32 → small (small b) ≡ small b
+    large low e = ap small e ∙ (past ∙ sym e)
       where
         past : small (b + 32) ≡ b + 32
-        past = elim (leb_tells (b + 32) 90) [
+        past = elim (leb_tells (suc (b + 32)) 91) [
           | inl z ↦ absurd (omega (arith, z.1))
-          | inr z ↦ elim (leb_tells 65 (b + 32)) [
-            | inl t ↦ rw (t.0, z.0) refl
-            | inr t ↦ rw t.0 refl
+          | inr z ↦ elim (leb_tells (suc (b + 32)) 65) [
+            | inl t ↦ rw t.0 refl
+            | inr t ↦ rw (t.0, z.0) refl
           ]
         ]
 
 small_space : (b : ℕ) → (small b == 32) ≡ (b == 32)
-small_space b = elim (leb_tells 65 b) [
-  | inr x ↦ ap (λ c. c == 32) (ap (λ t. cond (t && nat_le b 90) (b + 32) b) x.0)
-  | inl x ↦ elim (leb_tells b 90) [
+small_space b = elim (leb_tells (suc b) 65) [
+  | inl x ↦ ap (λ c. c == 32) (let e : small b ≡ b = rw x.0 refl in e)
+  | inr x ↦ elim (leb_tells (suc b) 91) [
     | inr y ↦ ap (λ c. c == 32) (let e : small b ≡ b = rw (x.0, y.0) refl in e)
     | inl y ↦ ap (λ c. c == 32) (let e : small b ≡ b + 32 = rw (x.0, y.0) refl in e) ∙ (no_space (b + 32) (omega (arith, x.1)) ∙ sym (no_space b (omega (arith, x.1))))
   ]
@@ -92,17 +103,41 @@ all_small (b ∷ bs) = ap (λ x. x ∷ map small (map small bs)) (small_twice b)
 pub folds_once : FoldsOnce
 folds_once name = ap (map small) (trimmed_once name) ∙ all_small (trimmed name)
 
-alike_or_not : (p : Parts) (name : List ℕ) (operator : ℕ) → IsAlike p name operator ⊎ (IsAlike p name operator → ⊥)
-alike_or_not p name operator = elim (cases_lt operator (length p.operators)) [
-  | inr ge ↦ inr (λ is. let lt = is.exists in omega arith)
-  | inl lt ↦ elim (cases_Bool (bytes_eq (folded (operator_at p operator).name) (folded name))) [
-    | inl y ↦ inl (record { exists = lt; alike = (bytes_eq-Decides (folded (operator_at p operator).name) (folded name)).0 y })
-    | inr n ↦ inr (λ is. let e = (bytes_eq-Decides (folded (operator_at p operator).name) (folded name)).1 is.alike in cc)
+-- ---- the operator with a similar name
+
+module _ (p : Parts) (name : List ℕ) where
+  abbrev is_alike : Operator → Bool
+  is_alike o = bytes_eq (folded o.name) (folded name)
+
+  abbrev first : ℕ
+  first = position_or_len is_alike p.operators
+
+  abbrev no_operator : Operator
+  no_operator = record { name = []; prevail = []; effects = []; cost = 0 }
+
+  tells : (operator : ℕ) → Decides (is_alike (operator_at p operator)) (folded (operator_at p operator).name ≡ folded name)
+  tells operator = bytes_eq-Decides (folded (operator_at p operator).name) (folded name)
+
+  none_before : (operator : ℕ) → operator < first → IsAlike p name operator → ⊥
+  none_before operator lt is = true≢false (sym ((tells operator).1 is.alike) ∙ fails_before_first is_alike p.operators operator no_operator lt)
+
+  pub lowest_like : IsLowestIfAny (IsAlike p name) (similar_operator p name)
+  lowest_like = elim (cases_Bool (nat_lt first (length p.operators))) [
+    | inl is ↦
+        let lt = ltb-true first (length p.operators) is in
+        subst (IsLowestIfAny (IsAlike p name)) (sym (ap (λ (b : Bool). cond b (Some first) None) is)) (record {
+          has = record { exists = lt; alike = (tells first).0 (passes_at_first is_alike p.operators no_operator lt) };
+          first = none_before;
+        })
+    | inr isnt ↦ subst (IsLowestIfAny (IsAlike p name)) (sym (ap (λ (b : Bool). cond b (Some first) None) isnt)) (λ operator is. none_before operator (past isnt operator is.exists) is)
   ]
-]
+    where
+      past : nat_lt first (length p.operators) ≡ false → (operator : ℕ) → operator < length p.operators → operator < first
+      past isnt operator lt = elim (cases_lt operator first) [
+        | inl before ↦ before
+        | inr ge ↦ absurd (true≢false (sym (lt-ltb first (length p.operators) (omega (arith, ge, lt))) ∙ isnt))
+      ]
 
-pub some_like : SomeLike
-some_like p name = lowest_if_any (IsAlike p name) (alike_or_not p name) (length p.operators) (λ n is. is.exists)
-
-pub one_like : OneLike
-one_like p name a b x y = lowest_if_any_is_one (IsAlike p name) a b x y
+  -- it is the only lowest one
+  pub like_is : (like : Option ℕ) → IsLowestIfAny (IsAlike p name) like → like ≡ similar_operator p name
+  like_is like is = lowest_if_any_is_one (IsAlike p name) like (similar_operator p name) is lowest_like

@@ -1,7 +1,8 @@
 -- The lowest number with a property is unique. It can be found if the property is decidable.
 use Rattle.std.proofs.Common.{◌≡◌, ℕ, zero, suc, ◌<◌, ◌⊎◌, Option, Some, None, refl, ap, subst, inl, inr, arith}
 use Rattle.std.proofs.lemmas.Bool.{cases_eq, cases_lt}
-use Rattle.sas_reasons.specs.Lowest.{IsLowest, IsLowestIfAny}
+use Rattle.sas_reasons.specs.Lowest.{IsLowest, AreLowest}
+use Rattle.sas_reasons.specs.Laws.{IsLowestIfAny}
 
 pub lowest_is_one : (Has : ℕ → Type 0) (a b : ℕ) → IsLowest Has a → IsLowest Has b → a ≡ b
 lowest_is_one Has a b x y = elim (cases_lt a b) [
@@ -33,16 +34,32 @@ module _ (Has : ℕ → Type 0) (tell : (n : ℕ) → Has n ⊎ (Has n → ⊥))
     ]
   ]
 
-  -- the case that all numbers with the property are below a bound
-  pub lowest_if_any : (bound : ℕ) → ((n : ℕ) → Has n → n < bound) → (o : Option ℕ) × IsLowestIfAny Has o
-  lowest_if_any bound within = elim (lowest_below bound) [
-    | inl w ↦ (Some w.0, w.2)
-    | inr none ↦ (None, λ n has. none n (within n has) has)
-  ]
-
   -- the case that some number has the property
   pub lowest_from : (n : ℕ) → Has n → (k : ℕ) × IsLowest Has k
   lowest_from n has = elim (lowest_below (suc n)) [
     | inl w ↦ (w.0, w.2)
     | inr none ↦ absurd (none n (omega arith) has)
+  ]
+
+-- two numbers are the lowest that are related, or no two are related
+pub are_lowest_one : (R : ℕ → ℕ → Type 0) (m n m' n' : ℕ) → AreLowest R m n → AreLowest R m' n' → (m ≡ m') × (n ≡ n')
+are_lowest_one R m n m' n' x y = (same, lowest_is_one (R m') n n' (subst (λ k. IsLowest (R k) n) same x.lowest) y.lowest)
+  where
+    same : m ≡ m'
+    same = lowest_is_one (λ k. (l : ℕ) × R k l) m m' x.first y.first
+
+module _ (R : ℕ → ℕ → Type 0) (tell : (m n : ℕ) → R m n ⊎ (R m n → ⊥)) (bound bound' : ℕ) (within : (m n : ℕ) → R m n → (m < bound) × (n < bound')) where
+  related_or_not : (m : ℕ) → ((n : ℕ) × R m n) ⊎ ((n : ℕ) × R m n → ⊥)
+  related_or_not m = elim (lowest_below (R m) (tell m) bound') [
+    | inl w ↦ inl (w.0, w.2.has)
+    | inr none ↦ inr (λ h. none h.0 (within m h.0 h.1).1 h.1)
+  ]
+
+  pub some_are_lowest : ((m n : ℕ) × AreLowest R m n) ⊎ ((m n : ℕ) → R m n → ⊥)
+  some_are_lowest = elim (lowest_below (λ m. (n : ℕ) × R m n) related_or_not bound) [
+    | inr none ↦ inr (λ m n r. none m (within m n r).0 (n, r))
+    | inl w ↦ elim (lowest_below (R w.0) (tell w.0) bound') [
+      | inl v ↦ inl (w.0, v.0, record { first = w.2; lowest = v.2 })
+      | inr none ↦ absurd (let h = w.2.has in none h.0 (within w.0 h.0 h.1).1 h.1)
+    ]
   ]

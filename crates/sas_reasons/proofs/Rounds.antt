@@ -3,7 +3,7 @@
 use Rattle.std.proofs.Common.{◌≡◌, ℕ, zero, suc, ◌+◌, ◌<◌, ◌≤◌, ◌⊎◌, Bool, true, false, cond, List, length, get_or, refl, sym, ◌∙◌, ap, subst, inl, inr, arith}
 use Rattle.std.specs.Prelude.{◌==◌}
 use Rattle.std.specs.Bool.{Decides}
-use Rattle.std.specs.List.{list_any, HoldsAt}
+use Rattle.std.specs.List.{list_all, list_any, HoldsAt}
 use Rattle.std.proofs.lemmas.Bool.{cases_eq, cases_Bool, false≢true, and_from, and_parts}
 use Rattle.std.proofs.lemmas.Bool.Decides.{Decides-eqb, Decides-not, Decides-and, Decides-like, Decides-by_and, Decides-by_or}
 use Rattle.std.proofs.lemmas.List.{get_or_default}
@@ -17,9 +17,13 @@ use Rattle.sas_meaning.specs.Layers.{IsOnLayer, default_of, CanFire, can_fire, I
 use Rattle.sas_meaning.specs.Settled.{is_on_layer, new_value_of, value_with, IsClosed, differs, IsSettledAt}
 use Rattle.sas_meaning.proofs.Layers.{layer_tells, given_on, given_off, on_layer_within}
 use Rattle.sas_meaning.specs.Places.{can_give}
-use Rattle.sas_reasons.specs.Derivation.{all_hold, fires_with, reached}
+use Rattle.sas_reasons.specs.Derivation.{fires_with, reached}
 
 -- ---- the meaning of the tests
+
+-- whether facts hold
+abbrev all_hold : (ℕ → ℕ) → List Fact → Bool
+all_hold value facts = list_all (λ (f : Fact). value f.var == f.value) facts
 
 pub hold_decides : (value : ℕ → ℕ) (facts : List Fact) → Decides (all_hold value facts) (AllHold value facts)
 hold_decides value facts = Decides-by_and (λ (f : Fact). value f.var == f.value) (Holds value) (all_hold value) (λ f. Decides-eqb (value f.var) f.value) refl (λ _ _. refl) facts

@@ -2,7 +2,7 @@
 use Rattle.std.proofs.Common.{◌≡◌, ◌≢◌, ℕ, zero, suc, ◌+◌, ◌-◌, ◌<◌, ◌≤◌, length, refl, sym, ◌∙◌, ap, subst, inl, inr, arith}
 use Rattle.std.proofs.lemmas.Bool.{cases_eq, cases_lt}
 use Rattle.sas_run.specs.Runs.{Run}
-use Rattle.sas_reasons.specs.Since.{value_at, IsSince}
+use Rattle.sas_reasons.specs.Cause.{value_at, IsSince}
 use Rattle.sas_reasons.specs.Laws.{SomeSince, OneSince, SameSince}
 
 module _ (run : Run) (var : ℕ) where

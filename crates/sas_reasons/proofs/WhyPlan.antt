@@ -1,7 +1,8 @@
 -- The fault of a plan has exactly one list of reasons.
-use Rattle.std.proofs.Common.{◌≡◌, ℕ, ◌-◌, ◌<◌, List, [], ◌∷◌, ◌++◌, length, take, Option, refl, sym, ◌∙◌, ap, subst, inl, inr, arith}
-use Rattle.std.specs.Option.{option_map_or}
+use Rattle.std.proofs.Common.{◌≡◌, ℕ, ◌-◌, ◌<◌, List, [], ◌∷◌, ◌++◌, length, take, refl, sym, ◌∙◌, ap, subst, inl, inr, arith}
 use Rattle.std.proofs.Math.Seq.{take-append_seam}
+use Rattle.std.specs.Prelude.{filter, bytes_eq}
+use Rattle.sas_core.specs.declared.parts.Operator.{Operator}
 use Rattle.sas_core.specs.declared.parts.Parts.{Parts}
 use Rattle.sas_core.specs.PlanParts.{PlanParts}
 use Rattle.sas_core.specs.Stepwise.{step_at}
@@ -19,10 +20,9 @@ use Rattle.sas_output.specs.declared.line.Line.TheVariants as line
 use Rattle.sas_reasons.specs.Lines.{with_lines, LineThen, LinesOfEach}
 use Rattle.sas_run.specs.Runs.{Run, last_state, StepsSucceed, steps_before}
 use Rattle.sas_reasons.specs.Cause.{fails, IsCause}
-use Rattle.sas_reasons.specs.WhyPlan.{AreSimilarNameLines, failing, operators_of, AreFailedPreconditionLines, AreConflictLines, goal_fact_at, AreGoalFactLines, cost_lines, AreCouldBeLines, AreFaultLines, IsWhy}
+use Rattle.sas_reasons.specs.WhyPlan.{AreFailedPreconditionLines, AreConflictLines, goal_fact_at, AreGoalFactLines, cost_lines, AreCouldBeLines, AreFaultLines, IsWhy}
 use Rattle.sas_reasons.specs.Laws.{SomeWhy, OneWhy}
 use Rattle.sas_run.proofs.Runs.{some_run, one_run}
-use Rattle.sas_reasons.proofs.Likeness.{some_like, one_like}
 use Rattle.sas_reasons.proofs.MayMean.{some_may_mean, one_may_mean}
 use Rattle.sas_reasons.proofs.Causes.{some_cause, one_cause}
 use Rattle.sas_reasons.proofs.Conflicts.{some_conflict, one_conflict}
@@ -52,7 +52,7 @@ behind_one first Tells one a b x y = x.2 ∙ (ap (λ (behind : List Line). first
 
 module _ (p : Parts) (run : Run) where
   inapplicable_one : (operator : ℕ) (a b : List Line) → AreFailedPreconditionLines p run operator a → AreFailedPreconditionLines p run operator b → a ≡ b
-  inapplicable_one operator = behind_one (line.Operator operator) _ (each_one (IsCause p run) (one_cause p run) (failing (last_state run) (operator_at p operator)))
+  inapplicable_one operator = behind_one (line.Operator operator) _ (each_one (IsCause p run) (one_cause p run) (filter (fails (last_state run)) (preconditions (operator_at p operator))))
 
   goal_fact_one : (index : ℕ) (a b : List Line) → AreGoalFactLines p run index a → AreGoalFactLines p run index b → a ≡ b
   goal_fact_one index = behind_one (line.GoalFact index) _ (one_cause p run (goal_fact_at p index))
@@ -62,26 +62,21 @@ module _ (p : Parts) (run : Run) where
       let same = one_may_mean p run x.0 x.1 y.0 y.1 x.2 y.2 in
       x.3 ∙ (ap (λ (step : ℕ). line.CouldBe step x.1 ∷ []) same.0
       ∙ (ap (λ (operator : ℕ). line.CouldBe y.0 operator ∷ []) same.1 ∙ sym y.3))
-  other_one a b (inl x) (inr y) = absurd (let w = x.2 in y.0 w.before w.first.has)
-  other_one a b (inr x) (inl y) = absurd (let w = y.2 in x.0 w.before w.first.has)
+  other_one a b (inl x) (inr y) = absurd (let (k, at, w) = x.2 in y.0 k x.1 w.lowest.has)
+  other_one a b (inr x) (inl y) = absurd (let (k, at, w) = y.2 in x.0 k y.1 w.lowest.has)
   other_one a b (inr x) (inr y) = x.1 ∙ sym y.1
-
-like_one : (p : Parts) (name : List ℕ) (a b : List Line) → AreSimilarNameLines p name a → AreSimilarNameLines p name b → a ≡ b
-like_one p name a b x y = x.2
-    ∙ (ap (λ (like : Option ℕ). option_map_or (λ operator. line.SimilarOperator operator ∷ []) like [])
-    (one_like p name x.0 y.0 x.1 y.1) ∙ sym y.2)
 
 conflict_one : (p : Parts) (s : List ℕ) (operator : ℕ) (a b : List Line) → AreConflictLines p s operator a → AreConflictLines p s operator b → a ≡ b
 conflict_one p s operator a b x y =
     let same = one_conflict s (operator_at p operator) x.0 x.1 y.0 y.1 x.2 y.2 in
-    x.3 ∙ (ap (λ d. line.Operator operator ∷ line.ConflictingEffect operator d ∷ line.ConflictingEffect operator x.1 ∷ []) same.0
-    ∙ (ap (λ e. line.Operator operator ∷ line.ConflictingEffect operator y.0 ∷ line.ConflictingEffect operator e ∷ []) same.1 ∙ sym y.3))
+    x.3 ∙ (ap (λ e. line.Operator operator ∷ line.ConflictingEffect operator x.1 ∷ line.ConflictingEffect operator e ∷ []) same.0
+    ∙ (ap (λ d. line.Operator operator ∷ line.ConflictingEffect operator d ∷ line.ConflictingEffect operator y.0 ∷ []) same.1 ∙ sym y.3))
 
 fault_lines_one : (p : Parts) (plan : PlanParts) (run : Run) (fault : PlanFault) (a b : List Line)
     → AreFaultLines p plan run fault a → AreFaultLines p plan run fault b → a ≡ b
-fault_lines_one p plan run (NoOperator step) a b x y = behind_one (line.Step step) _ (like_one p (step_at plan (step - 1))) a b x y
+fault_lines_one p plan run (NoOperator step) a b x y = x ∙ sym y
 fault_lines_one p plan run (NotApplicable step) a b x y =
-    behind_one (line.Step step) _ (each_one (AreFailedPreconditionLines p run) (inapplicable_one p run) (operators_of p (step_at plan (step - 1)))) a b x y
+    behind_one (line.Step step) _ (each_one (AreFailedPreconditionLines p run) (inapplicable_one p run) (places (λ (o : Operator). bytes_eq o.name (step_at plan (step - 1))) p.operators)) a b x y
 fault_lines_one p plan run (Conflict step operator) a b x y = behind_one (line.Step step) _ (conflict_one p (last_state run) operator) a b x y
 fault_lines_one p plan run (GoalMissed index) a b x y = each_one (AreGoalFactLines p run) (goal_fact_one p run) (places (fails (last_state run)) p.goal) a b x y
 fault_lines_one p plan run (CostDiffers sum) a b x y = x ∙ sym y
@@ -157,7 +152,7 @@ module _ (p : Parts) (plan : PlanParts) (layered : IsLayered p) where
 
   some_inapplicable : (run : Run) → IsSettled p (last_state run) → 0 < length run.states → (operator : ℕ) → (lines : List Line) × AreFailedPreconditionLines p run operator lines
   some_inapplicable run settled some operator =
-      let causes = some_each (IsCause p run) (λ fact. some_cause p run fact layered settled some) (failing (last_state run) (operator_at p operator)) in
+      let causes = some_each (IsCause p run) (λ fact. some_cause p run fact layered settled some) (filter (fails (last_state run)) (preconditions (operator_at p operator))) in
       (line.Operator operator ∷ causes.0, (causes.0, causes.1, refl))
 
   some_goal_fact : (run : Run) → IsSettled p (last_state run) → 0 < length run.states → (index : ℕ) → (lines : List Line) × AreGoalFactLines p run index lines
@@ -169,11 +164,10 @@ module _ (p : Parts) (plan : PlanParts) (layered : IsLayered p) where
   some_why_of Memory f = absurd f
   some_why_of (NoOperator step) f =
       let l = led_to_step step f.0 f.1 f.2 in
-      let like = some_like p (step_at plan (step - 1)) in
-      from_run (NoOperator step) l.run l.went l.through (_, (_, (like.0, like.1, refl), refl))
+      from_run (NoOperator step) l.run l.went l.through (_, refl)
   some_why_of (NotApplicable step) f =
       let l = led_to_step step f.0 f.1 f.2 in
-      let w = some_each (AreFailedPreconditionLines p l.run) (some_inapplicable l.run l.settled l.some) (operators_of p (step_at plan (step - 1))) in
+      let w = some_each (AreFailedPreconditionLines p l.run) (some_inapplicable l.run l.settled l.some) (places (λ (o : Operator). bytes_eq o.name (step_at plan (step - 1))) p.operators) in
       from_run (NotApplicable step) l.run l.went l.through (line.Step step ∷ w.0, (w.0, w.1, refl))
   some_why_of (Conflict step operator) f =
       let l = led_to_step step f.0 f.1 f.2 in

@@ -1,6 +1,6 @@
 -- The cause of a fact that doesn't hold in the last state of a run.
-use Rattle.std.specs.Prelude.{◌≡◌, ℕ, zero, suc, ◌==◌, ◌&&◌, Bool, true, false, not, if◌then◌else◌, is_some}
-use Rattle.std.specs.Prelude.{List, [], ◌∷◌, ◌++◌, map, flat_map, find, slice_index}
+use Rattle.std.specs.Prelude.{◌≡◌, ◌≢◌, ℕ, zero, suc, ◌+◌, ◌<◌, ◌≤◌, ◌==◌, ◌&&◌, Bool, true, false, not, if◌then◌else◌, is_some}
+use Rattle.std.specs.Prelude.{List, [], ◌∷◌, ◌++◌, map, flat_map, find, length, slice_index}
 use Rattle.std.specs.List.{list_any}
 use Rattle.std.specs.Option.{option_map_or}
 use Rattle.sas_core.specs.declared.parts.Fact.{Fact}
@@ -13,8 +13,7 @@ use Rattle.sas_meaning.specs.Settled.{differs}
 use Rattle.sas_meaning.specs.Places.{places, can_give}
 use Rattle.sas_output.specs.declared.line.Line.{Line}
 use Rattle.sas_output.specs.declared.line.Line.TheVariants as line
-use Rattle.sas_run.specs.Runs.{Run, last_state}
-use Rattle.sas_reasons.specs.Since.{IsSince}
+use Rattle.sas_run.specs.Runs.{Run, state_at, last_state}
 use Rattle.sas_reasons.specs.Derivation.{IsDerivation}
 
 -- whether the fact doesn't hold
@@ -25,11 +24,22 @@ fails s fact = not (slice_index s fact.var == fact.value)
 abbrev pub is_derived : Parts → ℕ → Bool
 is_derived p var = is_some (layer_of p.variables var)
 
--- the fact that the variable has its value in a state
-abbrev pub actual_fact : List ℕ → ℕ → Fact
-actual_fact s var = record { var = var; value = slice_index s var }
+-- ---- since when the variable has its value
 
--- the line with the step since which the variable has its value; 0 is the initial state
+-- the variable's value in the state with this number
+abbrev pub value_at : Run → ℕ → ℕ → ℕ
+value_at run number var = slice_index (state_at run number) var
+
+-- the last step that changed the variable's value, or 0 (the initial state) if none did; a step
+-- that sets a variable to the value that it has already doesn't change it
+pub record IsSince (run : Run) (var since : ℕ) : Type 0 where
+  pub exists : since < length run.states
+  pub changed : (before : ℕ) → since ≡ before + 1
+      → value_at run before var ≢ value_at run since var
+  pub unchanged : (later : ℕ) → since ≤ later → later + 1 < length run.states
+      → value_at run later var ≡ value_at run (later + 1) var
+
+-- the line with this step; 0 is the initial state
 abbrev pub since_line : ℕ → Line
 since_line zero = line.SinceInitialState
 since_line (suc before) = line.SinceStep (suc before)
@@ -81,7 +91,7 @@ pub record IsCause (p : Parts) (run : Run) (fact : Fact) (lines : List Line) : T
       (last_state run) fact.var givers
   pub whole : lines
       ≡ line.Requires fact
-      ∷ line.Actual (actual_fact (last_state run) fact.var)
+      ∷ line.Actual (record { var = fact.var; value = slice_index (last_state run) fact.var })
       ∷ since_line since
       ∷ givers
       ++ missing_lines p (last_state run) fact

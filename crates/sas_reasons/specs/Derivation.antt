@@ -16,14 +16,10 @@ use Rattle.sas_meaning.specs.Settled.{is_on_layer, value_with}
 use Rattle.sas_meaning.specs.Places.{can_give}
 use Rattle.sas_reasons.specs.Lowest.{IsLowest}
 
--- whether facts hold
-abbrev pub all_hold : (ℕ → ℕ) → List Fact → Bool
-all_hold value facts = list_all (λ (f : Fact). value f.var == f.value) facts
-
 -- whether a rule of the variable can fire, and its conditions hold with these members of the layer
 abbrev pub fires_with : Parts → ℕ → List ℕ → (ℕ → Bool) → ℕ → Rule → Bool
-fires_with p layer s members var rule =
-    can_give p var rule && all_hold (value_with p layer s members) rule.conditions
+fires_with p layer s members var rule = can_give p var rule
+    && list_all (λ (f : Fact). value_with p layer s members f.var == f.value) rule.conditions
 
 -- whether a variable of the layer is reached in this many rounds: 0 rounds reach none, and one more
 -- round reaches each variable with a rule that fires with those reached before

@@ -1,32 +1,30 @@
 -- What follows from the definitions: each reason exists, is unique, and isn't circular.
 use Rattle.std.specs.Prelude.{◌≡◌, ◌≢◌, ◌⊎◌, ◌↔◌, ℕ, ◌<◌, ◌≤◌, IsTrue, List, [], ◌∷◌, ◌++◌}
-use Rattle.std.specs.Prelude.{length, Option, Some, find, All, AllPairs, Contains, slice_index}
+use Rattle.std.specs.Prelude.{length, Option, Some, None, bytes_eq, filter, find, All, AllPairs, Contains, slice_index}
 use Rattle.sas_core.specs.declared.parts.Operator.{Operator}
 use Rattle.sas_core.specs.declared.parts.Parts.{Parts}
 use Rattle.sas_core.specs.PlanParts.{PlanParts}
 use Rattle.sas_core.specs.Variables.{IsDerived}
 use Rattle.sas_core.specs.declared.parts.Fact.{Fact}
-use Rattle.sas_core.specs.Grounded.{rule_at}
+use Rattle.sas_core.specs.Grounded.{operator_at, rule_at}
 use Rattle.sas_meaning.specs.States.{AllHold}
 use Rattle.sas_meaning.specs.Layers.{IsBasic, IsOnLayer, default_of, CanFire, IsLayered}
 use Rattle.sas_meaning.specs.Settled.{differs, IsSettled}
-use Rattle.sas_meaning.specs.Steps.{Agree}
+use Rattle.sas_meaning.specs.Steps.{preconditions, Agree}
 use Rattle.sas_meaning.specs.Places.{places}
 use Rattle.sas_names.specs.Named.{IsNamed}
 use Rattle.sas_run.specs.declared.plan_check.PlanFault.{PlanFault}
 use Rattle.sas_run.specs.Plans.{IsApplicable}
 use Rattle.sas_run.specs.Verdicts.{IsFirstMissed, IsFaultOf}
 use Rattle.sas_run.specs.Runs.{Run}
-use Rattle.sas_reasons.specs.Since.{value_at, IsSince}
-use Rattle.sas_reasons.specs.Likeness.{folded, IsLike}
-use Rattle.sas_reasons.specs.MayMean.{HasOther, MayMean}
+use Rattle.sas_reasons.specs.Lowest.{IsLowest, AreLowest}
+use Rattle.sas_reasons.specs.MayMean.{folded, similar_operator, IsOther, MayMean}
 use Rattle.sas_reasons.specs.Derivation.{IsRank, IsGivenBy, InDerivation, ComesBefore, IsDerivation}
 use Rattle.sas_output.specs.declared.line.Line.{Line}
 use Rattle.sas_output.specs.Line.{is_rule_line}
 use Rattle.sas_reasons.specs.Lines.{with_lines}
-use Rattle.sas_reasons.specs.Cause.{fails, can_be_given}
-use Rattle.sas_reasons.specs.Conflicts.{IsConflict}
-use Rattle.sas_reasons.specs.WhyPlan.{failing, operators_of, IsWhy}
+use Rattle.sas_reasons.specs.Cause.{value_at, IsSince, fails, can_be_given}
+use Rattle.sas_reasons.specs.WhyPlan.{ConflictsWith, IsWhy}
 
 -- ---- since when a variable has its value
 
@@ -52,19 +50,26 @@ SpaceFolds = (name : List ℕ) → folded (name ++ 32 ∷ []) ≡ folded name
 abbrev pub FoldsOnce : Type 0
 FoldsOnce = (name : List ℕ) → folded (folded name) ≡ folded name
 
--- there is a lowest operator with a similar name, or none; it is unique
-abbrev pub SomeLike : Type 0
-SomeLike = (p : Parts) (name : List ℕ) → (like : Option ℕ) × IsLike p name like
+-- the operator has a similar name: both names have the same folded name
+pub record IsAlike (p : Parts) (name : List ℕ) (operator : ℕ) : Type 0 where
+  pub exists : operator < length p.operators
+  pub alike : folded (operator_at p operator).name ≡ folded name
 
-abbrev pub OneLike : Type 0
-OneLike = (p : Parts) (name : List ℕ) (a b : Option ℕ) → IsLike p name a → IsLike p name b → a ≡ b
+-- the lowest number with the property, or `None` if no number has it
+abbrev pub IsLowestIfAny : (ℕ → Type 0) → Option ℕ → Type 0
+IsLowestIfAny Has (Some n) = IsLowest Has n
+IsLowestIfAny Has None = (n : ℕ) → Has n → ⊥
+
+-- the lowest operator with a similar name is reported, if there is one
+abbrev pub LowestLike : Type 0
+LowestLike = (p : Parts) (name : List ℕ) → IsLowestIfAny (IsAlike p name) (similar_operator p name)
 
 -- ---- which other operator a step may mean
 
 -- some step of a run may mean another operator, or no step may
 abbrev pub SomeMayMean : Type 0
 SomeMayMean = (p : Parts) (run : Run) → ((step operator : ℕ) × MayMean p run step operator)
-    ⊎ ((k : ℕ) → HasOther p run k → ⊥)
+    ⊎ ((k operator : ℕ) → IsOther p run k operator → ⊥)
 
 -- the first such step is unique, and so is its operator
 abbrev pub OneMayMean : Type 0
@@ -170,12 +175,14 @@ EachRuleFails = (p : Parts) (s : List ℕ) (rule : ℕ) → IsLayered p → IsSe
 
 -- an operator is applicable if all its preconditions hold
 abbrev pub SomePreconditionFails : Type 0
-SomePreconditionFails = (s : List ℕ) (o : Operator) → failing s o ≡ [] → IsApplicable s o
+SomePreconditionFails = (s : List ℕ) (o : Operator) → filter (fails s) (preconditions o) ≡ []
+    → IsApplicable s o
 
 -- the operators of a name are those with exactly this name
 abbrev pub OperatorsHaveName : Type 0
 OperatorsHaveName = (p : Parts) (name : List ℕ) (operator : ℕ)
-    → Contains (operators_of p name) operator ↔ IsNamed p name operator
+    → Contains (places (λ (o : Operator). bytes_eq o.name name) p.operators) operator
+    ↔ IsNamed p name operator
 
 -- the first goal fact that doesn't hold is reported first
 abbrev pub FirstGoalFact : Type 0
@@ -187,12 +194,12 @@ FirstGoalFact = (p : Parts) (s : List ℕ) (index : ℕ) → IsFirstMissed (slic
 -- if the effects of an operator that fire don't agree, two of them conflict
 abbrev pub SomeConflict : Type 0
 SomeConflict = (s : List ℕ) (o : Operator) → (Agree s o.effects → ⊥)
-    → (d e : ℕ) × IsConflict s o d e
+    → (e d : ℕ) × AreLowest (ConflictsWith s o) e d
 
 -- only one pair is the first to conflict
 abbrev pub OneConflict : Type 0
-OneConflict = (s : List ℕ) (o : Operator) (d e d' e' : ℕ) → IsConflict s o d e
-    → IsConflict s o d' e' → (d ≡ d') × (e ≡ e')
+OneConflict = (s : List ℕ) (o : Operator) (e d e' d' : ℕ) → AreLowest (ConflictsWith s o) e d
+    → AreLowest (ConflictsWith s o) e' d' → (e ≡ e') × (d ≡ d')
 
 -- ---- lines of rules
 

@@ -1,10 +1,7 @@
 pub mod Lowest
-pub mod Since
-pub mod Likeness
 pub mod MayMean
 pub mod Derivation
 pub mod Lines
 pub mod Cause
-pub mod Conflicts
 pub mod WhyPlan
 pub mod Laws

@@ -1,14 +1,14 @@
 -- Why a plan isn't valid: the lines of reasons after its verdict.
-use Rattle.std.specs.Prelude.{◌≡◌, ◌⊎◌, ℕ, ◌-◌, List, [], ◌∷◌, ◌++◌, length}
-use Rattle.std.specs.Prelude.{filter, sum_by, slice_index_or, bytes_eq, Option}
+use Rattle.std.specs.Prelude.{◌≡◌, ◌≢◌, ◌⊎◌, ℕ, ◌-◌, ◌<◌, List, [], ◌∷◌, ◌++◌, length}
+use Rattle.std.specs.Prelude.{filter, sum_by, slice_index_or, bytes_eq}
 use Rattle.std.specs.Option.{option_map_or}
 use Rattle.sas_core.specs.declared.parts.Fact.{Fact}
 use Rattle.sas_core.specs.declared.parts.Operator.{Operator}
 use Rattle.sas_core.specs.declared.parts.Parts.{Parts}
 use Rattle.sas_core.specs.PlanParts.{PlanParts}
 use Rattle.sas_core.specs.Stepwise.{step_at}
-use Rattle.sas_core.specs.Grounded.{operator_at}
-use Rattle.sas_meaning.specs.Steps.{preconditions}
+use Rattle.sas_core.specs.Grounded.{operator_at, effect_at}
+use Rattle.sas_meaning.specs.Steps.{preconditions, Fires}
 use Rattle.sas_meaning.specs.Places.{places}
 use Rattle.sas_run.specs.declared.plan_check.PlanFault.{PlanFault}
 use Rattle.sas_run.specs.declared.plan_check.PlanFault.TheVariants.{Memory, NoOperator, NotApplicable}
@@ -17,48 +17,47 @@ use Rattle.sas_output.specs.declared.line.Line.{Line}
 use Rattle.sas_output.specs.declared.line.Line.TheVariants as line
 use Rattle.sas_reasons.specs.Lines.{with_lines, LineThen, LinesOfEach}
 use Rattle.sas_run.specs.Runs.{Run, last_state, StepsSucceed, steps_before}
-use Rattle.sas_reasons.specs.Likeness.{IsLike}
-use Rattle.sas_reasons.specs.MayMean.{HasOther, MayMean}
+use Rattle.sas_reasons.specs.Lowest.{AreLowest}
+use Rattle.sas_reasons.specs.MayMean.{similar_operator, IsOther, MayMean}
 use Rattle.sas_reasons.specs.Cause.{fails, IsCause}
-use Rattle.sas_reasons.specs.Conflicts.{IsConflict}
 
 -- ---- no operator of that name
 
 -- a line for the lowest operator with a similar name, if any
-abbrev pub AreSimilarNameLines : Parts → List ℕ → List Line → Type 0
-AreSimilarNameLines p name lines = (like : Option ℕ)
-    × IsLike p name like
-    × (lines ≡ option_map_or (λ operator. line.SimilarOperator operator ∷ []) like [])
+abbrev pub similar_name_lines : Parts → List ℕ → List Line
+similar_name_lines p name =
+    option_map_or (λ operator. line.SimilarOperator operator ∷ []) (similar_operator p name) []
 
 -- ---- not applicable
-
--- the preconditions of an operator that don't hold in a state
-abbrev pub failing : List ℕ → Operator → List Fact
-failing s o = filter (fails s) (preconditions o)
 
 -- the lines of an operator that isn't applicable: it, and the cause of each failing precondition
 abbrev pub AreFailedPreconditionLines : Parts → Run → ℕ → List Line → Type 0
 AreFailedPreconditionLines p run operator lines = LineThen (line.Operator operator)
-    (LinesOfEach (IsCause p run) (failing (last_state run) (operator_at p operator))) lines
+    (LinesOfEach (IsCause p run) (filter (fails (last_state run)) (preconditions (operator_at p operator)))) lines
 
--- the operators of a name, ascending
-abbrev pub operators_of : Parts → List ℕ → List ℕ
-operators_of p name = places (λ (o : Operator). bytes_eq o.name name) p.operators
-
--- these lines for each operator of the name
+-- these lines for each operator of the name, ascending
 abbrev pub AreOperatorLines : Parts → Run → List ℕ → List Line → Type 0
 AreOperatorLines p run name lines = LinesOfEach
-    (AreFailedPreconditionLines p run) (operators_of p name) lines
+    (AreFailedPreconditionLines p run) (places (λ (o : Operator). bytes_eq o.name name) p.operators) lines
 
 -- ---- conflicting effects
 
--- the operator, and two of its effects that conflict
+-- an effect and an earlier one fire in the state and set one variable to different values
+pub record ConflictsWith (s : List ℕ) (o : Operator) (effect earlier : ℕ) : Type 0 where
+  pub before : earlier < effect
+  pub exists : effect < length o.effects
+  pub fires : Fires s (effect_at o earlier)
+  pub fires' : Fires s (effect_at o effect)
+  pub var : (effect_at o earlier).var ≡ (effect_at o effect).var
+  pub other : (effect_at o earlier).new ≢ (effect_at o effect).new
+
+-- the operator, the first effect that conflicts with an earlier one, and the lowest such one
 abbrev pub AreConflictLines : Parts → List ℕ → ℕ → List Line → Type 0
-AreConflictLines p s operator lines = (d e : ℕ)
-    × IsConflict s (operator_at p operator) d e
+AreConflictLines p s operator lines = (effect earlier : ℕ)
+    × AreLowest (ConflictsWith s (operator_at p operator)) effect earlier
     × (lines ≡ line.Operator operator
-    ∷ line.ConflictingEffect operator d
-    ∷ line.ConflictingEffect operator e
+    ∷ line.ConflictingEffect operator earlier
+    ∷ line.ConflictingEffect operator effect
     ∷ [])
 
 -- ---- goal fact not reached
@@ -94,14 +93,14 @@ cost_lines p run =
 abbrev pub AreCouldBeLines : Parts → Run → List Line → Type 0
 AreCouldBeLines p run lines =
     ((step operator : ℕ) × MayMean p run step operator × (lines ≡ line.CouldBe step operator ∷ []))
-    ⊎ (((k : ℕ) → HasOther p run k → ⊥) × (lines ≡ []))
+    ⊎ (((k operator : ℕ) → IsOther p run k operator → ⊥) × (lines ≡ []))
 
 -- ---- why
 
 -- the lines for this fault, after a run of the steps before it (`Memory` is no fault of a plan)
 abbrev pub AreFaultLines : Parts → PlanParts → Run → PlanFault → List Line → Type 0
 AreFaultLines p plan run (NoOperator step) lines =
-    LineThen (line.Step step) (AreSimilarNameLines p (step_at plan (step - 1))) lines
+    lines ≡ line.Step step ∷ similar_name_lines p (step_at plan (step - 1))
 AreFaultLines p plan run (NotApplicable step) lines =
     LineThen (line.Step step) (AreOperatorLines p run (step_at plan (step - 1))) lines
 AreFaultLines p plan run (Conflict step operator) lines =

@@ -1,6 +1,6 @@
 // Laws of reasons.
 ghost use Rattle.sas_reasons.specs.Laws.{SomeSince, OneSince, SameSince};
-ghost use Rattle.sas_reasons.specs.Laws.{SpaceFolds, FoldsOnce, SomeLike, OneLike, SomeMayMean, OneMayMean};
+ghost use Rattle.sas_reasons.specs.Laws.{SpaceFolds, FoldsOnce, LowestLike, SomeMayMean, OneMayMean};
 ghost use Rattle.sas_reasons.specs.Laws.{RankIfDiffers, OneRank, SomeGiver, OneGiver, GiverFires, GiverLooksDown};
 ghost use Rattle.sas_reasons.specs.Laws.{ItselfIsLast, NoCircle, AllDiffer, SomeDerivation, OneDerivation, OwnRuleIsLast};
 ghost use Rattle.sas_reasons.specs.Laws.{DefaultIfNotGiven, EachRuleFails, SomePreconditionFails, OperatorsHaveName};
@@ -13,14 +13,13 @@ pub fn since_laws()
     ensures same_since { SameSince }
 {}
 
-/// Ensures the laws of similar names. Folding ignores spaces at the end of a name, and folding a folded name changes nothing. Either no
-/// operator has a similar name, or exactly one is the lowest. Either no step could also mean another operator, or exactly one is the first,
+/// Ensures the laws of similar names. Folding ignores spaces at the end of a name, and folding a folded name changes nothing. The
+/// operator that is found is the lowest with a similar name, or there is none. Either no step could also mean another operator, or exactly one is the first,
 /// and the lowest such operator is unique.
 pub fn name_laws()
     ensures space { SpaceFolds }
     ensures once { FoldsOnce }
-    ensures some_like { SomeLike }
-    ensures one_like { OneLike }
+    ensures lowest_like { LowestLike }
     ensures some_other { SomeMayMean }
     ensures one_other { OneMayMean }
 {}

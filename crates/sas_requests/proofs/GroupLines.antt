@@ -14,7 +14,7 @@ use Rattle.sas_task_reasons.specs.declared.reason.Reason.{Reason}
 use Rattle.sas_task_reasons.specs.GroupReasons.{IsReasonIfAny, reason_at}
 use Rattle.sas_output.specs.declared.ending.Status.TheVariants.{Yes}
 use Rattle.sas_answers.specs.GroupWords.{group_line, verdict_lines_from, verdict_lines, groups_status}
-use Rattle.sas_task_reasons.specs.WhyGroups.{reason_lines, why_group, explained_group_lines, why_lines_from, why_lines}
+use Rattle.sas_task_reasons.specs.WhyGroups.{reason_lines, explained_group_lines, why_lines_from, why_lines}
 use Rattle.sas_task_reasons.proofs.GroupAnswers.{no_reason}
 use Rattle.sas_requests.specs.Why.{is_reason, without_reasons}
 use Rattle.sas_requests.proofs.ReasonLines.{IsReason, AreReasons, lines_tell}
@@ -38,12 +38,15 @@ none_if_exclusive p group None is = refl
 none_if_exclusive p group (Some reason) is = absurd (no_reason reason is.told)
 
 module _ (p : Parts) (ranged : WellRanged p) where
-  pub any_tells : (group : ℕ) (found : Option Reason) → AreReasons (why_group p group found)
+  abbrev why_group : ℕ → Option Reason → List (List ℕ)
+  why_group group found = map (line_bytes p []) (option_map_or (reason_lines p group) found [])
+
+  pub any_tells : (group : ℕ) (found : Option Reason) → AreReasons (why_group group found)
   any_tells group found = lines_tell p [] ranged tt (option_map_or (reason_lines p group) found [])
 
   module _ (reasons : List (Option Reason)) where
     abbrev pub behind : ℕ → List (List ℕ)
-    behind group = why_group p group (reason_at reasons group)
+    behind group = why_group group (reason_at reasons group)
 
     -- ---- the lines of the text
 

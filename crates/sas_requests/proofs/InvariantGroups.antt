@@ -33,9 +33,8 @@ use Rattle.sas_answers.specs.GroupWords.{verdict_words, group_line, verdict_line
 use Rattle.sas_answers.specs.LayerWords.{layer_words, layers_line}
 use Rattle.sas_answers.specs.Answers.{layers_refusal, GroupsAnswer, LayeredGroupsAnswer, MutexAnswer}
 use Rattle.sas_output.specs.Line.{line_bytes}
-use Rattle.sas_task_reasons.specs.LayerReasons.{layer_reasons}
 use Rattle.sas_task_reasons.specs.WhyGroups.{why_lines_from, why_lines, WhyGroupsAnswer}
-use Rattle.sas_task_reasons.specs.WhyLayers.{why_refusal, WhyLayeredGroups, WhyMutexAnswer}
+use Rattle.sas_task_reasons.specs.WhyLayers.{layer_reasons, why_refusal, WhyAnswer, WhyMutexAnswer}
 use Rattle.sas_output.specs.Ending.{Output}
 use Rattle.sas_outputs.specs.Output.{word_of, refusal, refusal_line, IsAnswerOrRefusal, FileOut}
 use Rattle.sas_requests.specs.Why.{is_reason}
@@ -214,7 +213,7 @@ plain_told p None o ranged layered answer = inl (layered refl, plain_verdicts p 
 pub plain_groups : TellsGroups MutexAnswer
 plain_groups p o ranged answer = plain_told p (first_fault (layer_checks p)) o ranged (checks_are_rules p).0 answer
 
-why_told : (p : Parts) (first : Option LayerFault) (o : Output) → WellRanged p → (first ≡ None → IsLayered p) → WhyLayeredGroups p first o → (IsLayered p × TellsVerdicts p o.text) ⊎ SaysNone o.text
+why_told : (p : Parts) (first : Option LayerFault) (o : Output) → WellRanged p → (first ≡ None → IsLayered p) → WhyAnswer p (WhyGroupsAnswer p) first o → (IsLayered p × TellsVerdicts p o.text) ⊎ SaysNone o.text
 why_told p (Some fault) o ranged layered refused = inr (why_says_none p fault o ranged refused)
 why_told p None o ranged layered answer = inl (layered refl, why_verdicts p o ranged answer)
 

@@ -25,9 +25,8 @@ use Rattle.sas_answers.specs.Answers.{layers_refusal, layers_verdict, LayeredGro
 use Rattle.sas_answers.specs.GroupWords.{verdict_lines, groups_status}
 use Rattle.sas_answers.specs.LayerWords.{layer_words, layers_line}
 use Rattle.sas_answers.specs.PlanWords.{fault_words, invalid_line}
-use Rattle.sas_task_reasons.specs.LayerReasons.{layer_reasons}
-use Rattle.sas_task_reasons.specs.WhyGroups.{why_lines}
-use Rattle.sas_task_reasons.specs.WhyLayers.{why_refusal, why_layers_verdict, WhyCheckAnswer, WhyLayeredGroups, WhyMutexAnswer}
+use Rattle.sas_task_reasons.specs.WhyGroups.{why_lines, WhyGroupsAnswer}
+use Rattle.sas_task_reasons.specs.WhyLayers.{layer_reasons, why_refusal, WhyAnswer, WhyCheckAnswer, WhyMutexAnswer}
 use Rattle.sas_output.specs.Line.{line_bytes, reasons_text}
 use Rattle.sas_why.specs.Verdict.{WhyVerdict, Explains}
 use Rattle.sas_outputs.specs.declared.Request.{Request}
@@ -97,7 +96,7 @@ refused_same p fault o ranged told =
       },
     )
 
-check_same : (p : Parts) (first : Option LayerFault) (o : Output) → WellRanged p → why_layers_verdict p first ≡ Some o → (plain : Output) × (layers_verdict first ≡ Some plain) × IsSameAnswer plain o
+check_same : (p : Parts) (first : Option LayerFault) (o : Output) → WellRanged p → WhyAnswer p (λ output. layers_verdict None ≡ Some output) first o → (plain : Output) × (layers_verdict first ≡ Some plain) × IsSameAnswer plain o
 check_same p None o ranged is = (o, is, itself o (layers_stay None o is))
 check_same p (Some fault) o ranged is = refused_same p fault o ranged is
 
@@ -108,7 +107,7 @@ reasons_from p verdicts reasons joint are k lt =
     let same : k ≡ 0 + k = omega arith in
     subst (λ (m : ℕ). IsReasonIfAny p m (get_or verdicts k Exclusive) (reason_at reasons m)) same (are.are k (omega (arith, lt, joint.one_each)))
 
-mutex_same : (p : Parts) (first : Option LayerFault) (o : Output) → WellRanged p → WhyLayeredGroups p first o → (plain : Output) × LayeredGroupsAnswer p first plain × IsSameAnswer plain o
+mutex_same : (p : Parts) (first : Option LayerFault) (o : Output) → WellRanged p → WhyAnswer p (WhyGroupsAnswer p) first o → (plain : Output) × LayeredGroupsAnswer p first plain × IsSameAnswer plain o
 mutex_same p None o ranged (verdicts, reasons, joint, are, is) =
     let plain : Output = record { text = text (verdict_lines verdicts); status = groups_status verdicts } in
     let whole : o.text ≡ text (why_lines p verdicts reasons) = ap (λ (x : Output). x.text) is in (

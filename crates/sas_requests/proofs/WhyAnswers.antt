@@ -17,8 +17,7 @@ use Rattle.sas_output.specs.declared.ending.Status.TheVariants.{No}
 use Rattle.sas_output.specs.Ending.{Output}
 use Rattle.sas_answers.specs.Answers.{layers_refusal, valid_answer, invalid_answer}
 use Rattle.sas_answers.specs.PlanWords.{valid_line, fault_words, invalid_line}
-use Rattle.sas_task_reasons.specs.LayerReasons.{layer_reasons}
-use Rattle.sas_task_reasons.specs.WhyLayers.{with_reasons, why_refusal}
+use Rattle.sas_task_reasons.specs.WhyLayers.{layer_reasons, with_reasons, why_refusal}
 use Rattle.sas_task_reasons.proofs.TaskAnswers.{refused_why}
 use Rattle.sas_output.specs.declared.line.Line.{Line}
 use Rattle.sas_output.specs.Line.{reasons_text}

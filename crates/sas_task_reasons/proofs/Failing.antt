@@ -1,7 +1,7 @@
 -- An operator doesn't preserve a group if and only if it has a failure. Then it has exactly one
 -- first failure.
-use Rattle.std.proofs.Common.{◌≡◌, ℕ, ◌<◌, ◌⊎◌, List, [], ◌∷◌, length, Some, refl, sym, ◌∙◌, ap, subst, inl, inr}
-use Rattle.std.proofs.lemmas.Bool.{cases_order}
+use Rattle.std.proofs.Common.{◌≡◌, ℕ, ◌<◌, ◌≤◌, ◌⊎◌, List, [], ◌∷◌, length, Some, refl, sym, ◌∙◌, ap, subst, inl, inr, arith}
+use Rattle.std.proofs.lemmas.Bool.{cases_eq, cases_lt, cases_order}
 use Rattle.std.proofs.lemmas.Option.{slice_get-get_or}
 use Rattle.std.specs.List.{Contains}
 use Rattle.std.specs.Prelude.{slice_get}
@@ -16,32 +16,42 @@ use Rattle.sas_mutex.specs.Effects.{EffectKeeps}
 use Rattle.sas_mutex.proofs.Keeping.{keeps_from_effects, effect_of_keeps}
 use Rattle.sas_task_reasons.specs.declared.reason.Failure.{Failure}
 use Rattle.sas_task_reasons.specs.declared.reason.Failure.TheVariants.{SetsTwo, MayStay}
-use Rattle.sas_task_reasons.specs.Failures.{effect_of_failure, FailsSo, IsFailure, IsEarlier, IsEarlierFailure, IsFirstFailure}
-use Rattle.sas_task_reasons.specs.Lowest.{IsFirstOfEffect}
+use Rattle.sas_task_reasons.specs.Failures.{IsFailure, IsEarlier, IsFirstFailure}
+use Rattle.sas_task_reasons.specs.Lowest.{effect_of_failure, IsFirstOfEffect}
 use Rattle.sas_task_reasons.proofs.Least.{all_below, IsLeast, none_at_all, has_or_not, item_at}
+
+-- a failure that comes before another is of no later effect
+no_later : (a b : Failure) → IsEarlier a b → effect_of_failure a ≤ effect_of_failure b
+no_later (SetsTwo effect other) (SetsTwo effect' other') (inl lower) = omega (arith, lower)
+no_later (SetsTwo effect other) (SetsTwo effect' other') (inr (same, lt)) = omega (arith, same)
+no_later (SetsTwo effect other) (MayStay effect' place') le = le
+no_later (MayStay effect place) (SetsTwo effect' other') lower = omega (arith, lower)
+no_later (MayStay effect place) (MayStay effect' place') (inl lower) = omega (arith, lower)
+no_later (MayStay effect place) (MayStay effect' place') (inr (same, lt)) = omega (arith, same)
 
 module _ (Counts : List Fact → Type 0) (o : Operator) (group : List Fact) where
   -- ---- what is kept doesn't fail
 
   -- an effect that keeps the group has no failure
-  kept_so : (failure : Failure) → EffectKeeps Counts o group (effect_at o (effect_of_failure failure)) → FailsSo Counts o group failure → ⊥
-  kept_so (SetsTwo effect other) keeps (within, two) = two.no_clash (keeps.single other within two.sets_other two.differ)
-  kept_so (MayStay effect place) keeps (fact, here, lets) = elim (keeps.others fact (item_at group place fact here) lets.differ) [
+  pub kept_never_fails : (failure : Failure) → EffectKeeps Counts o group (effect_at o (effect_of_failure failure)) → IsFailure Counts o group failure → ⊥
+  kept_never_fails (SetsTwo effect other) keeps (exists, within, two) = two.no_clash (keeps.single other within two.sets_other two.differ)
+  kept_never_fails (MayStay effect place) keeps (exists, fact, here, lets) = elim (keeps.others fact (item_at group place fact here) lets.differ) [
     | inl clash ↦ lets.no_clash clash
     | inr removed ↦ lets.stays removed
   ]
 
-  -- the effect of a failure sets a fact of the group
-  pub sets_one : (failure : Failure) → FailsSo Counts o group failure → Contains group (sets (effect_at o (effect_of_failure failure)))
-  sets_one (SetsTwo effect other) (within, two) = two.sets_one
-  sets_one (MayStay effect place) (fact, here, lets) = lets.sets_one
+  -- the effect of a failure exists, and sets a fact of the group
+  effect_exists : (failure : Failure) → IsFailure Counts o group failure → effect_of_failure failure < length o.effects
+  effect_exists (SetsTwo effect other) fails = fails.0
+  effect_exists (MayStay effect place) fails = fails.0
 
-  pub kept_never_fails : (failure : Failure) → EffectKeeps Counts o group (effect_at o (effect_of_failure failure)) → IsFailure Counts o group failure → ⊥
-  kept_never_fails failure keeps fails = kept_so failure keeps fails.so
+  pub sets_one : (failure : Failure) → IsFailure Counts o group failure → Contains group (sets (effect_at o (effect_of_failure failure)))
+  sets_one (SetsTwo effect other) (exists, within, two) = two.sets_one
+  sets_one (MayStay effect place) (exists, fact, here, lets) = lets.sets_one
 
   pub fails_not_kept : (failure : Failure) → IsFailure Counts o group failure → Keeps Counts o group → ⊥
   fails_not_kept failure fails keeps = kept_never_fails failure
-      (effect_of_keeps Counts o group keeps (effect_of_failure failure) fails.exists (sets_one failure fails.so)) fails
+      (effect_of_keeps Counts o group keeps (effect_of_failure failure) (effect_exists failure fails) (sets_one failure fails)) fails
 
   -- ---- what isn't kept fails
 
@@ -49,20 +59,19 @@ module _ (Counts : List Fact → Type 0) (o : Operator) (group : List Fact) wher
   pub two_fails : (effect other : ℕ) → effect < length o.effects → other < length o.effects → Contains group (sets (effect_at o effect))
       → (NotBoth Counts o group (effect_at o effect) (effect_at o other) → ⊥) → IsFailure Counts o group (SetsTwo effect other)
   two_fails effect other lt lt' has may = elim (has_or_not group (sets (effect_at o other))) [
-    | inl has' ↦ record {
-      exists = lt;
-      so = (lt', record { sets_one = has; sets_other = has'; differ = λ same. may (λ h ne. absurd (ne same)); no_clash = λ clash. may (λ h ne. clash) });
-    }
+    | inl has' ↦ (lt, lt', record { sets_one = has; sets_other = has'; differ = λ same. may (λ h ne. absurd (ne same)); no_clash = λ clash. may (λ h ne. clash) })
     | inr none ↦ absurd (may (λ h ne. absurd (none h)))
   ]
 
   -- a fact that may stay
   pub stay_fails : (effect place : ℕ) (fact : Fact) → effect < length o.effects → Contains group (sets (effect_at o effect)) → slice_get group place ≡ Some fact
       → (IsGone Counts o (effect_at o effect) fact → ⊥) → IsFailure Counts o group (MayStay effect place)
-  stay_fails effect place fact lt has here stays = record {
-    exists = lt;
-    so = (fact, here, record { sets_one = has; differ = λ same. stays (λ ne. absurd (ne same)); no_clash = λ clash. stays (λ ne. inl clash); stays = λ removed. stays (λ ne. inr removed) });
-  }
+  stay_fails effect place fact lt has here stays = (
+    lt,
+    fact,
+    here,
+    record { sets_one = has; differ = λ same. stays (λ ne. absurd (ne same)); no_clash = λ clash. stays (λ ne. inl clash); stays = λ removed. stays (λ ne. inr removed) },
+  )
 
   module _ (none : (failure : Failure) → IsFailure Counts o group failure → ⊥) where
     -- then an effect that sets a fact of the group can't but keep it
@@ -102,31 +111,36 @@ module _ (Counts : List Fact → Type 0) (o : Operator) (group : List Fact) wher
 
   module _ (no_first : (failure : Failure) → IsFirstFailure Counts o group failure → ⊥) where
     module _ (effect : ℕ) (none_below : (lower : ℕ) → lower < effect → Of lower → ⊥) where
-      no_two : (other : ℕ) → IsFailure Counts o group (SetsTwo effect other) → ⊥
-      no_two = none_at_all (λ other. IsFailure Counts o group (SetsTwo effect other)) (λ other least.
-          no_first (SetsTwo effect other) (record { fails = least.has; first = λ x before fails. earlier other least x before fails }))
+      -- of this effect, as of those below, there is none with another effect
+      no_two : (n : ℕ) → n ≡ effect → (other : ℕ) → IsFailure Counts o group (SetsTwo n other) → ⊥
+      no_two n is = none_at_all (λ other. IsFailure Counts o group (SetsTwo n other)) (λ other least.
+          no_first (SetsTwo n other) (record { fails = least.has; first = λ x before fails. earlier other least x before fails }))
         where
-          earlier : (other : ℕ) → IsLeast (λ n. IsFailure Counts o group (SetsTwo effect n)) other → (x : Failure) → IsEarlierFailure x (SetsTwo effect other)
+          earlier : (other : ℕ) → IsLeast (λ other. IsFailure Counts o group (SetsTwo n other)) other → (x : Failure) → IsEarlier x (SetsTwo n other)
               → IsFailure Counts o group x → ⊥
-          earlier other least x (inl lower) fails = none_below (effect_of_failure x) lower (x, refl, fails)
-          earlier other least (SetsTwo effect' other') (inr (same, lt)) fails =
-              least.none_below other' lt (subst (λ n. IsFailure Counts o group (SetsTwo n other')) same fails)
-          earlier other least (MayStay effect' place) (inr (same, never)) fails = never
+          earlier other least (SetsTwo n' other') (inl lower) fails = none_below n' (omega (arith, lower, is)) (SetsTwo n' other', refl, fails)
+          earlier other least (SetsTwo n' other') (inr (same, lt)) fails =
+              least.none_below other' lt (subst (λ m. IsFailure Counts o group (SetsTwo m other')) same fails)
+          earlier other least (MayStay n' place) lower fails = none_below n' (omega (arith, lower, is)) (MayStay n' place, refl, fails)
 
-      no_stay : (place : ℕ) → IsFailure Counts o group (MayStay effect place) → ⊥
-      no_stay = none_at_all (λ place. IsFailure Counts o group (MayStay effect place)) (λ place least.
-          no_first (MayStay effect place) (record { fails = least.has; first = λ x before fails. earlier place least x before fails }))
+      -- and none with a fact
+      no_stay : (n : ℕ) → n ≡ effect → (place : ℕ) → IsFailure Counts o group (MayStay n place) → ⊥
+      no_stay n is = none_at_all (λ place. IsFailure Counts o group (MayStay n place)) (λ place least.
+          no_first (MayStay n place) (record { fails = least.has; first = λ x before fails. earlier place least x before fails }))
         where
-          earlier : (place : ℕ) → IsLeast (λ n. IsFailure Counts o group (MayStay effect n)) place → (x : Failure) → IsEarlierFailure x (MayStay effect place)
+          earlier : (place : ℕ) → IsLeast (λ place. IsFailure Counts o group (MayStay n place)) place → (x : Failure) → IsEarlier x (MayStay n place)
               → IsFailure Counts o group x → ⊥
-          earlier place least x (inl lower) fails = none_below (effect_of_failure x) lower (x, refl, fails)
-          earlier place least (SetsTwo effect' other) (inr (same, first)) fails = no_two other (subst (λ n. IsFailure Counts o group (SetsTwo n other)) same fails)
-          earlier place least (MayStay effect' place') (inr (same, lt)) fails =
-              least.none_below place' lt (subst (λ n. IsFailure Counts o group (MayStay n place')) same fails)
+          earlier place least (SetsTwo n' other) no_later fails = elim (cases_lt n' effect) [
+            | inl lower ↦ none_below n' lower (SetsTwo n' other, refl, fails)
+            | inr past ↦ no_two n' (omega (arith, no_later, past, is)) other fails
+          ]
+          earlier place least (MayStay n' place') (inl lower) fails = none_below n' (omega (arith, lower, is)) (MayStay n' place', refl, fails)
+          earlier place least (MayStay n' place') (inr (same, lt)) fails =
+              least.none_below place' lt (subst (λ m. IsFailure Counts o group (MayStay m place')) same fails)
 
       none_of : (failure : Failure) → effect_of_failure failure ≡ effect → IsFailure Counts o group failure → ⊥
-      none_of (SetsTwo effect' other) same fails = no_two other (subst (λ n. IsFailure Counts o group (SetsTwo n other)) same fails)
-      none_of (MayStay effect' place) same fails = no_stay place (subst (λ n. IsFailure Counts o group (MayStay n place)) same fails)
+      none_of (SetsTwo n other) is fails = no_two n is other fails
+      none_of (MayStay n place) is fails = no_stay n is place fails
 
     none_fails : (failure : Failure) → IsFailure Counts o group failure → ⊥
     none_fails failure fails = none_at_all Of (λ effect least. none_of effect least.none_below least.has.0 least.has.1 least.has.2)
@@ -137,9 +151,9 @@ module _ (Counts : List Fact → Type 0) (o : Operator) (group : List Fact) wher
       → ((other : Failure) → effect_of_failure other < effect → IsFailure Counts o group other → ⊥) → IsFirstFailure Counts o group failure
   first_of_all effect failure first none = record {
     fails = first.fails;
-    first = λ other before fails. elim before [
-      | inl lower ↦ none other (subst (λ n. effect_of_failure other < n) first.of lower) fails
-      | inr (same, earlier) ↦ first.first other (same ∙ first.of) earlier fails
+    first = λ other before fails. elim (cases_eq (effect_of_failure other) effect) [
+      | inl same ↦ first.first other same before fails
+      | inr differ ↦ none other (let le = no_later other failure before in omega (arith, le, differ, first.of)) fails
     ];
   }
 
@@ -152,32 +166,26 @@ module _ (Counts : List Fact → Type 0) (o : Operator) (group : List Fact) wher
 
 -- ---- one comes before the other
 
--- of one effect
-compare_of : (a b : Failure) → effect_of_failure a ≡ effect_of_failure b → (a ≡ b) ⊎ (IsEarlier a b ⊎ IsEarlier b a)
-compare_of (SetsTwo effect other) (SetsTwo effect' other') same = elim (cases_order other other') [
-  | inl is ↦ inl (ap (λ (n : ℕ). SetsTwo n other) same ∙ ap (λ (n : ℕ). SetsTwo effect' n) is)
-  | inr differ ↦ inr differ
-]
-compare_of (SetsTwo effect other) (MayStay effect' place) same = inr (inl tt)
-compare_of (MayStay effect place) (SetsTwo effect' other) same = inr (inr tt)
-compare_of (MayStay effect place) (MayStay effect' place') same = elim (cases_order place place') [
-  | inl is ↦ inl (ap (λ (n : ℕ). MayStay n place) same ∙ ap (λ (n : ℕ). MayStay effect' n) is)
-  | inr differ ↦ inr differ
-]
-
-compare : (a b : Failure) → (a ≡ b) ⊎ (IsEarlierFailure a b ⊎ IsEarlierFailure b a)
-compare a b = elim (cases_order (effect_of_failure a) (effect_of_failure b)) [
-  | inl same ↦ elim (compare_of a b same) [
-    | inl is ↦ inl is
-    | inr differ ↦ elim differ [
-      | inl earlier ↦ inr (inl (inr (same, earlier)))
-      | inr later ↦ inr (inr (inr (sym same, later)))
-    ]
+compare : (a b : Failure) → (a ≡ b) ⊎ (IsEarlier a b ⊎ IsEarlier b a)
+compare (SetsTwo effect other) (SetsTwo effect' other') = elim (cases_order effect effect') [
+  | inl same ↦ elim (cases_order other other') [
+    | inl is ↦ inl (ap (λ (n : ℕ). SetsTwo n other) same ∙ ap (λ (n : ℕ). SetsTwo effect' n) is)
+    | inr (inl lower) ↦ inr (inl (inr (same, lower)))
+    | inr (inr higher) ↦ inr (inr (inr (sym same, higher)))
   ]
-  | inr differ ↦ elim differ [
-    | inl lower ↦ inr (inl (inl lower))
-    | inr higher ↦ inr (inr (inl higher))
+  | inr (inl lower) ↦ inr (inl (inl lower))
+  | inr (inr higher) ↦ inr (inr (inl higher))
+]
+compare (SetsTwo effect other) (MayStay effect' place') = elim (cases_lt effect' effect) [ inl higher ↦ inr (inr higher) | inr no_later ↦ inr (inl (omega (arith, no_later))) ]
+compare (MayStay effect place) (SetsTwo effect' other') = elim (cases_lt effect effect') [ inl lower ↦ inr (inl lower) | inr no_earlier ↦ inr (inr (omega (arith, no_earlier))) ]
+compare (MayStay effect place) (MayStay effect' place') = elim (cases_order effect effect') [
+  | inl same ↦ elim (cases_order place place') [
+    | inl is ↦ inl (ap (λ (n : ℕ). MayStay n place) same ∙ ap (λ (n : ℕ). MayStay effect' n) is)
+    | inr (inl lower) ↦ inr (inl (inr (same, lower)))
+    | inr (inr higher) ↦ inr (inr (inr (sym same, higher)))
   ]
+  | inr (inl lower) ↦ inr (inl (inl lower))
+  | inr (inr higher) ↦ inr (inr (inl higher))
 ]
 
 pub one_first : (Counts : List Fact → Type 0) (o : Operator) (group : List Fact) (a b : Failure)
@@ -193,8 +201,9 @@ one_first Counts o group a b first first' = elim (compare a b) [
 -- ---- where the same groups count, the same failures are there
 
 module _ (Counts Others : List Fact → Type 0) (o : Operator) (group : List Fact) (fewer : (g : List Fact) → Others g → Counts g) where
-  fails_so_too : (failure : Failure) → FailsSo Counts o group failure → FailsSo Others o group failure
-  fails_so_too (SetsTwo effect other) (within, two) = (
+  pub fails_too : (failure : Failure) → IsFailure Counts o group failure → IsFailure Others o group failure
+  fails_too (SetsTwo effect other) (exists, within, two) = (
+    exists,
     within,
     record {
       sets_one = two.sets_one;
@@ -203,7 +212,8 @@ module _ (Counts Others : List Fact → Type 0) (o : Operator) (group : List Fac
       no_clash = λ clash. two.no_clash (clash_more Others Counts (known o (effect_at o effect).conditions (effect_at o other).conditions) fewer clash);
     },
   )
-  fails_so_too (MayStay effect place) (fact, here, lets) = (
+  fails_too (MayStay effect place) (exists, fact, here, lets) = (
+    exists,
     fact,
     here,
     record {
@@ -213,9 +223,6 @@ module _ (Counts Others : List Fact → Type 0) (o : Operator) (group : List Fac
       stays = lets.stays;
     },
   )
-
-  pub fails_too : (failure : Failure) → IsFailure Counts o group failure → IsFailure Others o group failure
-  fails_too failure fails = record { exists = fails.exists; so = fails_so_too failure fails.so }
 
 module _ (Counts Others : List Fact → Type 0) (o : Operator) (group : List Fact)
     (more : (g : List Fact) → Counts g → Others g) (fewer : (g : List Fact) → Others g → Counts g) where

@@ -12,8 +12,8 @@ use Rattle.sas_mutex.specs.Firing.{EffectPlace, operator_of}
 use Rattle.sas_mutex.specs.ByNotes.{NotBothAt, IsGoneAt, EffectKeepsGroup}
 use Rattle.sas_task_reasons.specs.declared.reason.Failure.{Failure}
 use Rattle.sas_task_reasons.specs.declared.reason.Failure.TheVariants.{SetsTwo, MayStay}
-use Rattle.sas_task_reasons.specs.Failures.{effect_of_failure, IsFailure, IsEarlier}
-use Rattle.sas_task_reasons.specs.Lowest.{IsLowestPartner, IsAny, IsFirstStaying, IsFirstOfEffect}
+use Rattle.sas_task_reasons.specs.Failures.{IsFailure, IsEarlier}
+use Rattle.sas_task_reasons.specs.Lowest.{effect_of_failure, IsLowestPartner, IsAny, IsFirstStaying, IsFirstOfEffect}
 use Rattle.sas_task_reasons.proofs.Least.{item_at, stands_at}
 use Rattle.sas_task_reasons.proofs.Failing.{two_fails, stay_fails}
 
@@ -56,10 +56,11 @@ module _ (f : EffectPlace) (kept : List Bool) (place : ℕ) where
     }
       where
         earlier : (x : Failure) → effect_of_failure x ≡ f.effect → IsEarlier x (SetsTwo f.effect other) → IsFailure (IsKept f.task kept) (operator_of f) (group_at f.task place) x → ⊥
-        earlier (SetsTwo effect other') same lower fails =
+        earlier (SetsTwo effect other') same (inl before) fails = absurd (omega (arith, same, before))
+        earlier (SetsTwo effect other') same (inr (is, lower)) fails =
             let it = subst (λ n. IsFailure (IsKept f.task kept) (operator_of f) (group_at f.task place) (SetsTwo n other')) same fails in
-            it.so.1.no_clash (lowest.below other' lower tt it.so.1.sets_other it.so.1.differ)
-        earlier (MayStay effect place') same never fails = never
+            it.2.no_clash (lowest.below other' lower tt it.2.sets_other it.2.differ)
+        earlier (MayStay effect place') same before fails = absurd (omega (arith, same, before))
 
     pub stay_first : (n : ℕ) → ((other : ℕ) → other < length (operator_of f).effects → NotBothAt f kept other place)
         → IsFirstStaying f kept (group_at f.task place) n → n < length (group_at f.task place)
@@ -79,12 +80,13 @@ module _ (f : EffectPlace) (kept : List Bool) (place : ℕ) where
         earlier : (x : Failure) → effect_of_failure x ≡ f.effect → IsEarlier x (MayStay f.effect n) → IsFailure (IsKept f.task kept) (operator_of f) (group_at f.task place) x → ⊥
         earlier (SetsTwo effect other') same before fails =
             let it = subst (λ m. IsFailure (IsKept f.task kept) (operator_of f) (group_at f.task place) (SetsTwo m other')) same fails in
-            it.so.1.no_clash (single other' it.so.0 it.so.1.sets_other it.so.1.differ)
-        earlier (MayStay effect place') same lower fails =
+            it.2.no_clash (single other' it.1 it.2.sets_other it.2.differ)
+        earlier (MayStay effect place') same (inl before) fails = absurd (omega (arith, same, before))
+        earlier (MayStay effect place') same (inr (is, lower)) fails =
             let it = subst (λ m. IsFailure (IsKept f.task kept) (operator_of f) (group_at f.task place) (MayStay m place')) same fails in
-            elim (first.below place' it.so.0 lower it.so.1 it.so.2.differ) [
-              | inl clash ↦ it.so.2.no_clash clash
-              | inr removed ↦ it.so.2.stays removed
+            elim (first.below place' it.1 lower it.2 it.3.differ) [
+              | inl clash ↦ it.3.no_clash clash
+              | inr removed ↦ it.3.stays removed
             ]
 
   pub keeps_group : (n : ℕ) → ((other : ℕ) → other < length (operator_of f).effects → NotBothAt f kept other place)

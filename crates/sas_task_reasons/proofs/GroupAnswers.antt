@@ -13,7 +13,10 @@ use Rattle.sas_task_reasons.specs.declared.reason.Reason.TheVariants.{OnDerived,
 use Rattle.sas_task_reasons.specs.GroupReasons.{verdict_of, IsReasonIfAny, reason_at, AreReasons}
 use Rattle.sas_task_reasons.proofs.GroupReasons.{one_reason, some_reason}
 use Rattle.sas_answers.proofs.AnswerLaws.{OneAnswer, SomeAnswer}
-use Rattle.sas_task_reasons.specs.WhyGroups.{groups_output, WhyGroupsAnswer}
+use Rattle.sas_lines.specs.Lines.{text}
+use Rattle.sas_answers.specs.GroupWords.{groups_status}
+use Rattle.sas_output.specs.Ending.{Output}
+use Rattle.sas_task_reasons.specs.WhyGroups.{why_lines, WhyGroupsAnswer}
 
 -- ---- one reason
 
@@ -74,6 +77,9 @@ module _ (p : Parts) (verdicts : List Verdict) (joint : AreJointVerdicts p verdi
       none reasons (record { one_each = below.one_each; are = below.are }))
 
 -- ---- one answer, and some
+
+abbrev groups_output : Parts → List Verdict → List (Option Reason) → Output
+groups_output p verdicts reasons = record { text = text (why_lines p verdicts reasons); status = groups_status verdicts }
 
 pub one_groups_answer : OneAnswer WhyGroupsAnswer
 one_groups_answer p a b is_a is_b =

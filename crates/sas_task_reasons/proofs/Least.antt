@@ -1,7 +1,7 @@
 -- Double negations: if each of some properties can't fail, they can't all fail together, and a
 -- nonempty set of numbers can't lack a least one. Also items of lists and their indexes.
 use Rattle.std.proofs.Common.{◌≡◌, ℕ, zero, suc, ◌<◌, ◌≤◌, ◌⊎◌, List, length, get_or, sym, ◌∙◌, ap, subst, inl, inr, arith, Some}
-use Rattle.std.proofs.lemmas.Bool.{cases_eq, cases_order}
+use Rattle.std.proofs.lemmas.Bool.{cases_eq}
 use Rattle.std.proofs.lemmas.Option.{slice_get-get_or, get_or_from_slice_get, slice_get_within}
 use Rattle.std.specs.List.{Contains}
 use Rattle.std.specs.Prelude.{slice_get}
@@ -30,16 +30,6 @@ module _ (P : ℕ → Type 0) (no_least : (n : ℕ) → IsLeast P n → ⊥) whe
   -- where there is no lowest, there is none
   pub none_at_all : (n : ℕ) → P n → ⊥
   none_at_all n = none_before (suc n) n (omega arith)
-
--- two lowest numbers are one
-pub least_is_one : (P : ℕ → Type 0) (a b : ℕ) → IsLeast P a → IsLeast P b → a ≡ b
-least_is_one P a b la lb = elim (cases_order a b) [
-  | inl is ↦ is
-  | inr differ ↦ elim differ [
-    | inl lower ↦ absurd (lb.none_below a lower la.has)
-    | inr higher ↦ absurd (la.none_below b higher lb.has)
-  ]
-]
 
 -- two facts are one, or differ
 pub facts_same : (f g : Fact) → (f ≡ g) ⊎ (f ≡ g → ⊥)

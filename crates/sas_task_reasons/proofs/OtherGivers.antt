@@ -10,13 +10,16 @@ use Rattle.sas_core.specs.Grounded.{rule_at}
 use Rattle.sas_meaning.specs.Layers.{CanFire, can_fire}
 use Rattle.sas_meaning.specs.LayerChecks.{agrees_with}
 use Rattle.sas_meaning.proofs.RuleTests.{fires, agrees_with_earlier}
-use Rattle.sas_task_reasons.specs.LayerReasons.{gives_other}
 use Rattle.sas_task_reasons.specs.LayerLaws.{IsOtherGiver, IsReportedOther}
 
 abbrev none : Rule
 none = record { conditions = []; var = 0; old = None; new = 0 }
 
 -- ---- the test
+
+-- whether the other rule is of the same variable, can fire, and has another new value
+abbrev pub gives_other : Parts → Rule → Rule → Bool
+gives_other p rule other = (other.var == rule.var) && (can_fire p other && not (other.new == rule.new))
 
 all_true : (a b c : Bool) → (a && (b && not c)) ≡ true → (a ≡ true) × (b ≡ true) × (c ≡ false)
 all_true true true true e = absurd cc

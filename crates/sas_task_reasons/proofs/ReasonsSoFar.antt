@@ -19,8 +19,7 @@ use Rattle.sas_mutex.proofs.Keeping.{keeps_from_effects}
 use Rattle.sas_task_reasons.specs.declared.reason.Failure.{Failure}
 use Rattle.sas_task_reasons.specs.declared.reason.Reason.{Reason}
 use Rattle.sas_task_reasons.specs.declared.reason.Reason.TheVariants.{Breaks}
-use Rattle.sas_task_reasons.specs.Failures.{effect_of_failure}
-use Rattle.sas_task_reasons.specs.Lowest.{IsFirstOfEffect}
+use Rattle.sas_task_reasons.specs.Lowest.{effect_of_failure, IsFirstOfEffect}
 use Rattle.sas_task_reasons.specs.GroupReasons.{IsReason, IsReasonIfAny, reason_at, AreReasons}
 use Rattle.sas_task_reasons.specs.Reporting.{KeptBelow, IsPending, IsReasonSoFar, AreReasonsSoFar, LacksReason, IsBroken}
 use Rattle.sas_task_reasons.proofs.Least.{has_or_not}
@@ -150,7 +149,7 @@ module _ (p : Parts) (kept : List Bool) where
       greatest,
       first_of_all (IsGroupOfOr p (family_of kept) (group_at p place)) (operator_at p operator) (group_at p place) effect failure first
           (λ other lower fails. kept_never_fails (IsGroupOfOr p (family_of kept) (group_at p place)) (operator_at p operator) (group_at p place) other
-          (below.keeps (effect_of_failure other) lower (sets_one (IsGroupOfOr p (family_of kept) (group_at p place)) (operator_at p operator) (group_at p place) other fails.so)) fails),
+          (below.keeps (effect_of_failure other) lower (sets_one (IsGroupOfOr p (family_of kept) (group_at p place)) (operator_at p operator) (group_at p place) other fails)) fails),
     );
   }
 

@@ -1,5 +1,5 @@
 -- A task has an answer with reasons, and only one; and how the answer comes about.
-use Rattle.std.proofs.Common.{◌≡◌, [], refl, sym, ap, subst, ◌∙◌, Option, Some, None}
+use Rattle.std.proofs.Common.{◌≡◌, [], refl, sym, ap, subst, Option, Some, None}
 use Rattle.std.specs.Prelude.{option_map}
 use Rattle.std.proofs.lemmas.Option.{none-some}
 use Rattle.sas_core.specs.declared.parts.Parts.{Parts}
@@ -14,61 +14,67 @@ use Rattle.sas_answers.specs.Answers.{layers_refusal, layers_verdict}
 use Rattle.sas_answers.proofs.AnswerLaws.{OneAnswer, SomeAnswer}
 use Rattle.sas_answers.proofs.CheckAnswers.{some_check_answer}
 use Rattle.sas_output.specs.Line.{reasons_text}
-use Rattle.sas_task_reasons.specs.LayerReasons.{layer_reasons}
 use Rattle.sas_task_reasons.specs.WhyGroups.{WhyGroupsAnswer}
-use Rattle.sas_task_reasons.specs.WhyLayers.{with_reasons, why_refusal, why_layers_verdict, WhyCheckAnswer, WhyLayeredGroups, WhyMutexAnswer}
+use Rattle.sas_task_reasons.specs.WhyLayers.{layer_reasons, with_reasons, why_refusal, WhyAnswer, WhyCheckAnswer, WhyMutexAnswer}
 use Rattle.sas_task_reasons.proofs.GroupAnswers.{one_groups_answer, some_groups_answer}
-
--- ---- the layers
 
 -- the same refusal, with reasons behind
 pub refused_why : (p : Parts) (fault : LayerFault) (o : Output) → layers_refusal fault ≡ Some o → why_refusal p fault ≡ Some (with_reasons (reasons_text p [] (layer_reasons p fault)) o)
 refused_why p fault o is = ap (option_map (with_reasons (reasons_text p [] (layer_reasons p fault)))) is
 
-verdict_why : (p : Parts) (first : Option LayerFault) (o : Output) → layers_verdict first ≡ Some o → (q : Output) × (why_layers_verdict p first ≡ Some q)
-verdict_why p None o is = (o, is)
-verdict_why p (Some fault) o is = (_, refused_why p fault o is)
+module _ (p : Parts) (IsAnswer : Output → Type 0) where
+  one_by : ((a b : Output) → IsAnswer a → IsAnswer b → a ≡ b) → (first : Option LayerFault) (a b : Output) → WhyAnswer p IsAnswer first a → WhyAnswer p IsAnswer first b → a ≡ b
+  one_by one (Some fault) a b is_a is_b = cc
+  one_by one None a b is_a is_b = one a b is_a is_b
+
+  some_by : (((o : Output) → IsAnswer o → ⊥) → ⊥) → (first : Option LayerFault) → first_fault (layer_checks p) ≡ first → ((o : Output) → WhyAnswer p IsAnswer first o → ⊥) → ⊥
+  some_by some (Some fault) is none =
+      some_check_answer p (λ o is_answer.
+      let refused = subst (λ (f : Option LayerFault). layers_verdict f ≡ Some o) is is_answer in none _ (refused_why p fault o refused))
+  some_by some None is none = some none
+
+abbrev IsLayeredAnswer : Output → Type 0
+IsLayeredAnswer o = layers_verdict None ≡ Some o
+
+one_layered : (a b : Output) → IsLayeredAnswer a → IsLayeredAnswer b → a ≡ b
+one_layered a b is_a is_b = cc
 
 pub one_why_check : OneAnswer WhyCheckAnswer
-one_why_check p a b is_a is_b = cc
+one_why_check p = one_by p IsLayeredAnswer one_layered (first_fault (layer_checks p))
 
 pub some_why_check : SomeAnswer WhyCheckAnswer
-some_why_check p none = some_check_answer p (λ o is_answer. let why = verdict_why p (first_fault (layer_checks p)) o is_answer in none why.0 why.1)
+some_why_check p = some_by p IsLayeredAnswer (λ none. none _ refl) (first_fault (layer_checks p)) refl
 
 -- ---- the mutex groups
 
-one_groups : (p : Parts) (first : Option LayerFault) (a b : Output) → WhyLayeredGroups p first a → WhyLayeredGroups p first b → a ≡ b
-one_groups p (Some fault) a b is_a is_b = cc
-one_groups p None a b is_a is_b = one_groups_answer p a b is_a is_b
-
 pub one_why_mutex : OneAnswer WhyMutexAnswer
-one_why_mutex p a b = one_groups p (first_fault (layer_checks p)) a b
-
-some_groups : (p : Parts) (first : Option LayerFault) → first_fault (layer_checks p) ≡ first → ((o : Output) → WhyLayeredGroups p first o → ⊥) → ⊥
-some_groups p (Some fault) is none =
-    some_check_answer p (λ o is_answer.
-    let refused = subst (λ (f : Option LayerFault). layers_verdict f ≡ Some o) is is_answer in none _ (refused_why p fault o refused))
-some_groups p None is none = some_groups_answer p none
+one_why_mutex p = one_by p (WhyGroupsAnswer p) (one_groups_answer p) (first_fault (layer_checks p))
 
 pub some_why_mutex : SomeAnswer WhyMutexAnswer
-some_why_mutex p = some_groups p (first_fault (layer_checks p)) refl
+some_why_mutex p = some_by p (WhyGroupsAnswer p) (some_groups_answer p) (first_fault (layer_checks p)) refl
 
 -- ---- how the answers come about
 
 module _ (p : Parts) (o : Output) where
+  of_layered : (IsAnswer : Output → Type 0) → IsLayered p → IsAnswer o → WhyAnswer p IsAnswer (first_fault (layer_checks p)) o
+  of_layered IsAnswer layered is = subst (λ (first : Option LayerFault). WhyAnswer p IsAnswer first o) (sym ((checks_are_rules p).1 layered)) is
+
   pub check_layered : IsLayered p → layers_verdict None ≡ Some o → WhyCheckAnswer p o
-  check_layered layered is_answer = ap (why_layers_verdict p) ((checks_are_rules p).1 layered) ∙ is_answer
+  check_layered = of_layered IsLayeredAnswer
 
   pub groups_layered : IsLayered p → WhyGroupsAnswer p o → WhyMutexAnswer p o
-  groups_layered layered is_answer = subst (λ (first : Option LayerFault). WhyLayeredGroups p first o) (sym ((checks_are_rules p).1 layered)) is_answer
+  groups_layered = of_layered (WhyGroupsAnswer p)
 
   module _ (fault : LayerFault) (is_answer : why_refusal p fault ≡ Some o) where
     -- it is a fault of the task
     pub not_memory : fault ≡ Memory → ⊥
     not_memory is = none-some o (subst (λ (f : LayerFault). why_refusal p f ≡ Some o) is is_answer)
 
+    of_fault : (IsAnswer : Output → Type 0) → first_fault (layer_checks p) ≡ Some fault → WhyAnswer p IsAnswer (first_fault (layer_checks p)) o
+    of_fault IsAnswer first = subst (λ (f : Option LayerFault). WhyAnswer p IsAnswer f o) (sym first) is_answer
+
     pub check_refused : first_fault (layer_checks p) ≡ Some fault → WhyCheckAnswer p o
-    check_refused first = ap (why_layers_verdict p) first ∙ is_answer
+    check_refused = of_fault IsLayeredAnswer
 
     pub groups_refused : first_fault (layer_checks p) ≡ Some fault → WhyMutexAnswer p o
-    groups_refused first = subst (λ (f : Option LayerFault). WhyLayeredGroups p f o) (sym first) is_answer
+    groups_refused = of_fault (WhyGroupsAnswer p)

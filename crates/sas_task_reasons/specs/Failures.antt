@@ -1,6 +1,6 @@
 -- How an operator fails to preserve a group of facts. The predicate `Counts` selects the groups
 -- that are assumed to be exclusive: facts that clash under this assumption don't hold together.
-use Rattle.std.specs.Prelude.{◌≡◌, ◌≢◌, ◌⊎◌, ℕ, ◌<◌, List, [], ◌∷◌, ◌++◌, length, Some, Contains, slice_get}
+use Rattle.std.specs.Prelude.{◌≡◌, ◌≢◌, ◌⊎◌, ◌<◌, ◌≤◌, List, [], ◌∷◌, ◌++◌, length, Some, Contains, slice_get}
 use Rattle.sas_core.specs.declared.parts.Fact.{Fact}
 use Rattle.sas_core.specs.declared.parts.Effect.{Effect}
 use Rattle.sas_core.specs.declared.parts.Operator.{Operator}
@@ -28,40 +28,28 @@ pub record LetsStay (Counts : List Fact → Type 0) (o : Operator) (group : List
   pub no_clash : Clash Counts (preconditions o ++ e.conditions ++ other ∷ []) → ⊥
   pub stays : IsRemoved o (preconditions o ++ e.conditions ++ other ∷ []) other → ⊥
 
--- the effect of a failure
-abbrev pub effect_of_failure : Failure → ℕ
-effect_of_failure (SetsTwo effect other) = effect
-effect_of_failure (MayStay effect place) = effect
-
--- the condition of a failure, except that its effect exists
-abbrev pub FailsSo : (List Fact → Type 0) → Operator → List Fact → Failure → Type 0
-FailsSo Counts o group (SetsTwo effect other) = (other < length o.effects)
+-- the operator fails to preserve the group in this way
+abbrev pub IsFailure : (List Fact → Type 0) → Operator → List Fact → Failure → Type 0
+IsFailure Counts o group (SetsTwo effect other) = (effect < length o.effects)
+    × (other < length o.effects)
     × SetTwo Counts o group (effect_at o effect) (effect_at o other)
-FailsSo Counts o group (MayStay effect place) = (fact : Fact)
+IsFailure Counts o group (MayStay effect place) = (effect < length o.effects)
+    × (fact : Fact)
     × (slice_get group place ≡ Some fact)
     × LetsStay Counts o group (effect_at o effect) fact
 
--- the operator fails to preserve the group in this way
-pub record IsFailure (Counts : List Fact → Type 0) (o : Operator) (group : List Fact)
-    (failure : Failure) : Type 0 where
-  pub exists : effect_of_failure failure < length o.effects
-  pub so : FailsSo Counts o group failure
-
--- the order of the failures of one effect: those with another effect come first, by its index; then
--- those with a fact, by its index in the group
+-- the order of failures: those of lower effects come first; of one effect, those with another
+-- effect, by its index; then those with a fact, by its index in the group
 abbrev pub IsEarlier : Failure → Failure → Type 0
-IsEarlier (SetsTwo effect other) (SetsTwo effect' other') = other < other'
-IsEarlier (SetsTwo effect other) (MayStay effect' place) = Unit {0}
-IsEarlier (MayStay effect place) (SetsTwo effect' other) = ⊥
-IsEarlier (MayStay effect place) (MayStay effect' place') = place < place'
-
--- the order of all failures: by their effects, then by the order above
-abbrev pub IsEarlierFailure : Failure → Failure → Type 0
-IsEarlierFailure a b = (effect_of_failure a < effect_of_failure b)
-    ⊎ ((effect_of_failure a ≡ effect_of_failure b) × IsEarlier a b)
+IsEarlier (SetsTwo effect other) (SetsTwo effect' other') = (effect < effect')
+    ⊎ ((effect ≡ effect') × (other < other'))
+IsEarlier (SetsTwo effect other) (MayStay effect' place') = effect ≤ effect'
+IsEarlier (MayStay effect place) (SetsTwo effect' other') = effect < effect'
+IsEarlier (MayStay effect place) (MayStay effect' place') = (effect < effect')
+    ⊎ ((effect ≡ effect') × (place < place'))
 
 -- the first failure of the operator
 pub record IsFirstFailure (Counts : List Fact → Type 0) (o : Operator) (group : List Fact)
     (failure : Failure) : Type 0 where
   pub fails : IsFailure Counts o group failure
-  pub first : (other : Failure) → IsEarlierFailure other failure → IsFailure Counts o group other → ⊥
+  pub first : (other : Failure) → IsEarlier other failure → IsFailure Counts o group other → ⊥

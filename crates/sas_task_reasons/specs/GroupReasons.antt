@@ -1,10 +1,10 @@
 -- The reason why a group isn't shown to be exclusive.
-use Rattle.std.specs.Prelude.{◌≡◌, ◌≢◌, ℕ, ◌<◌, Bool, List, length, Option, None, Some, slice_get, slice_index, slice_index_or}
+use Rattle.std.specs.Prelude.{◌≡◌, ℕ, ◌<◌, ◌==◌, ◌&&◌, Bool, not, is_some, List, length, Option, None, Some}
+use Rattle.std.specs.Prelude.{find, slice_index, slice_index_or}
 use Rattle.sas_core.specs.declared.parts.Fact.{Fact}
 use Rattle.sas_core.specs.declared.parts.Parts.{Parts}
 use Rattle.sas_core.specs.Grounded.{operator_at, group_at}
-use Rattle.sas_meaning.specs.Layers.{IsBasic}
-use Rattle.sas_meaning.specs.States.{Holds}
+use Rattle.sas_core.specs.Variables.{layer_of}
 use Rattle.sas_groups.specs.declared.verdict.Verdict.{Verdict}
 use Rattle.sas_groups.specs.declared.verdict.Verdict.TheVariants.{Exclusive, Derived, Initial, Broken}
 use Rattle.sas_groups.specs.Families.{IsGreatest, IsGroupOfOr}
@@ -13,36 +13,9 @@ use Rattle.sas_task_reasons.specs.declared.reason.Reason.{Reason}
 use Rattle.sas_task_reasons.specs.declared.reason.Reason.TheVariants.{OnDerived, HoldsTwo, Breaks}
 use Rattle.sas_task_reasons.specs.Failures.{IsFirstFailure}
 
--- the first of the facts that has the property
-pub record IsFirstSuch (P : Fact → Type 0) (facts : List Fact) (fact : Fact) : Type 0 where
-  pub place : ℕ
-  pub here : slice_get facts place ≡ Some fact
-  pub such : P fact
-  pub first : (lower : ℕ) (other : Fact) → lower < place → slice_get facts lower ≡ Some other
-      → P other → ⊥
-
--- two different facts of the group, at these indexes, hold in the state; the second one comes after
--- the first
-pub record HoldTwo (s : List ℕ) (group : List Fact) (place place' : ℕ) : Type 0 where
-  pub fact : Fact
-  pub other : Fact
-  pub here : slice_get group place ≡ Some fact
-  pub there : slice_get group place' ≡ Some other
-  pub behind : place < place'
-  pub differ : fact ≢ other
-  pub holds : Holds (slice_index s) fact
-  pub other_holds : Holds (slice_index s) other
-
--- the first fact of the group that holds in the state and is followed by a different one that does,
--- and the first such one
-pub record AreFirstHolding (s : List ℕ) (group : List Fact) (fact other : Fact) : Type 0 where
-  pub place : ℕ
-  pub place' : ℕ
-  pub here : slice_get group place ≡ Some fact
-  pub there : slice_get group place' ≡ Some other
-  pub hold : HoldTwo s group place place'
-  pub first : (lower behind : ℕ) → lower < place → HoldTwo s group lower behind → ⊥
-  pub nearest : (lower : ℕ) → lower < place' → HoldTwo s group place lower → ⊥
+-- whether the fact holds in the state
+abbrev pub holds : List ℕ → Fact → Bool
+holds s fact = slice_index s fact.var == fact.value
 
 -- the verdict for which this is a reason
 abbrev pub verdict_of : Reason → Verdict
@@ -50,12 +23,16 @@ verdict_of (OnDerived fact) = Derived
 verdict_of (HoldsTwo first second) = Initial
 verdict_of (Breaks operator failure) = Broken operator
 
--- What the reason states holds of the group. The failure of an operator is its first, assuming the
--- groups of the greatest family and the group itself.
+-- what the reason states holds of the group
 abbrev pub TrueOfGroup : Parts → ℕ → Reason → Type 0
+-- the first fact of the group on a derived variable
 TrueOfGroup p place (OnDerived fact) =
-    IsFirstSuch (λ (f : Fact). IsBasic p f.var → ⊥) (group_at p place) fact
-TrueOfGroup p place (HoldsTwo first second) = AreFirstHolding p.init (group_at p place) first second
+    find (λ (f : Fact). is_some (layer_of p.variables f.var)) (group_at p place) ≡ Some fact
+-- the first fact of the group that holds in the state section, and the first on another variable
+TrueOfGroup p place (HoldsTwo first second) =
+    (find (holds p.init) (group_at p place) ≡ Some first)
+    × (find (λ f. holds p.init f && not (f.var == first.var)) (group_at p place) ≡ Some second)
+-- the first failure of the operator, assuming the groups of the greatest family and the group
 TrueOfGroup p place (Breaks operator failure) = (family : ℕ → Bool)
     × IsGreatest p family
     × IsFirstFailure (IsGroupOfOr p family (group_at p place)) (operator_at p operator)

@@ -11,7 +11,8 @@ use Rattle.sas_meaning.specs.declared.layered.LayerFault.TheVariants.{OldValue, 
 use Rattle.sas_meaning.specs.declared.layered.LayerFault.TheVariants.{LayerOrder, Memory}
 use Rattle.sas_meaning.specs.LayerChecks.{layer_checks}
 use Rattle.sas_meaning.specs.Layers.{CanFire, IsBasic, default_of}
-use Rattle.sas_task_reasons.specs.LayerReasons.{condition_at, other_giver}
+use Rattle.sas_task_reasons.specs.WhyLayers.{other_giver}
+use Rattle.sas_task_reasons.specs.WhyGroups.{fact_at}
 
 -- a rule is of the same variable as this one, can fire, and has another new value
 pub record IsOtherGiver (p : Parts) (rule other : Rule) : Type 0 where
@@ -46,7 +47,7 @@ IsWhole p (LayerOrder rule condition) =
     (rule < length p.rules)
     × (condition < length (rule_at p rule).conditions)
     × IsDerived p.variables (rule_at p rule).var
-    × IsDerived p.variables (condition_at (rule_at p rule) condition).var
+    × IsDerived p.variables (fact_at (rule_at p rule).conditions condition).var
 IsWhole p Memory = ⊥
 
 -- so it is of the first fault of a task

@@ -4,7 +4,6 @@ pub mod GroupReasons
 pub mod GroupLaws
 pub mod Lowest
 pub mod Reporting
-pub mod LayerReasons
 pub mod WhyGroups
 pub mod WhyLayers
 pub mod LayerLaws

@@ -7,7 +7,8 @@ use Rattle.sas_mutex.specs.Firing.{EffectPlace, operator_of}
 use Rattle.sas_mutex.specs.ByNotes.{NotBothAt, IsGoneAt}
 use Rattle.sas_groups.specs.ByVariable.{variable_of}
 use Rattle.sas_task_reasons.specs.declared.reason.Failure.{Failure}
-use Rattle.sas_task_reasons.specs.Failures.{IsFailure, effect_of_failure, IsEarlier}
+use Rattle.sas_task_reasons.specs.declared.reason.Failure.TheVariants.{SetsTwo, MayStay}
+use Rattle.sas_task_reasons.specs.Failures.{IsFailure, IsEarlier}
 
 -- The lowest effect, among those that were checked, that may set a fact of the group on another
 -- variable in the same step; the number of all effects if there is none.
@@ -55,6 +56,11 @@ pub record IsFirstStaying (f : EffectPlace) (kept : List Bool) (group : List Fac
   pub stays : (fact : Fact) → slice_get group first ≡ Some fact → IsGoneAt f kept fact → ⊥
   pub below : (lower : ℕ) (fact : Fact) → lower < first → slice_get group lower ≡ Some fact
       → IsGoneAt f kept fact
+
+-- the effect of a failure
+abbrev pub effect_of_failure : Failure → ℕ
+effect_of_failure (SetsTwo effect other) = effect
+effect_of_failure (MayStay effect place) = effect
 
 -- the first failure of this effect
 pub record IsFirstOfEffect (Counts : List Fact → Type 0) (o : Operator) (group : List Fact)

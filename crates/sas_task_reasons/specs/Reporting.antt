@@ -1,9 +1,7 @@
 -- How the reasons of all groups are found, operator by operator.
-use Rattle.std.specs.Prelude.{◌≡◌, ◌≢◌, ℕ, ◌<◌, ◌≤◌, Bool, IsTrue, List, length, Option, None, Some, Contains, slice_index}
-use Rattle.sas_core.specs.declared.parts.Fact.{Fact}
+use Rattle.std.specs.Prelude.{◌≡◌, ℕ, ◌<◌, ◌≤◌, Bool, IsTrue, List, length, Option, None, Some, Contains}
 use Rattle.sas_core.specs.declared.parts.Parts.{Parts}
 use Rattle.sas_core.specs.Grounded.{operator_at, effect_at, group_at}
-use Rattle.sas_meaning.specs.States.{Holds}
 use Rattle.sas_groups.specs.declared.verdict.Verdict.{Verdict}
 use Rattle.sas_groups.specs.declared.verdict.Verdict.TheVariants.{Exclusive, Derived, Initial, Broken}
 use Rattle.sas_groups.specs.Clashes.{sets}
@@ -12,11 +10,6 @@ use Rattle.sas_mutex.specs.Effects.{KeepsWithItself}
 use Rattle.sas_groups.specs.Joint.{verdict_at}
 use Rattle.sas_task_reasons.specs.declared.reason.Reason.{Reason}
 use Rattle.sas_task_reasons.specs.GroupReasons.{IsReason, reason_at}
-
--- the fact holds in the state and differs from this one
-pub record HoldsBeside (s : List ℕ) (fact other : Fact) : Type 0 where
-  pub differ : fact ≢ other
-  pub holds : Holds (slice_index s) other
 
 -- the effects of the operator before `effect` preserve the group, assuming the family and the group
 -- itself

@@ -18,36 +18,28 @@ use Rattle.sas_output.specs.declared.line.Line.{Line}
 use Rattle.sas_output.specs.declared.line.Line.TheVariants as line
 use Rattle.sas_output.specs.Line.{line_bytes}
 
--- the fact at this place of a group; behind the last one, that variable 0 has value 0
-abbrev pub member_at : Parts → ℕ → ℕ → Fact
-member_at p group place = slice_index_or (group_at p group) place (record { var = 0; value = 0 })
+-- the fact at this place of a list; behind the last one, that variable 0 has value 0
+abbrev pub fact_at : List Fact → ℕ → Fact
+fact_at facts place = slice_index_or facts place (record { var = 0; value = 0 })
 
--- what the effect of the operator clashes with: another effect, or a fact of the group
+-- the effect of the operator, and what it clashes with: another effect, or a fact of the group
 abbrev pub failure_lines : Parts → ℕ → ℕ → Failure → List Line
 failure_lines p group operator (SetsTwo effect other) =
-    line.NamedOperator operator
-    ∷ line.EffectSets operator effect
-    ∷ line.EffectSets operator other
-    ∷ []
+    line.EffectSets operator effect ∷ line.EffectSets operator other ∷ []
 failure_lines p group operator (MayStay effect place) =
-    line.NamedOperator operator
-    ∷ line.EffectSets operator effect
-    ∷ line.MayRemain (member_at p group place)
-    ∷ []
+    line.EffectSets operator effect ∷ line.MayRemain (fact_at (group_at p group) place) ∷ []
 
 -- the lines of the reason why the group at this place isn't shown to be exclusive
 abbrev pub reason_lines : Parts → ℕ → Reason → List Line
 reason_lines p group (OnDerived fact) = line.Derived fact ∷ []
 reason_lines p group (HoldsTwo first second) = line.Holds first ∷ line.Holds second ∷ []
-reason_lines p group (Breaks operator failure) = failure_lines p group operator failure
-
--- the lines of the reason, if there is one, in their bytes
-abbrev pub why_group : Parts → ℕ → Option Reason → List (List ℕ)
-why_group p group reason = map (line_bytes p []) (option_map_or (reason_lines p group) reason [])
+reason_lines p group (Breaks operator failure) =
+    line.NamedOperator operator ∷ failure_lines p group operator failure
 
 -- the verdict on the group at this place, and behind it the reason, if there is one
 abbrev pub explained_group_lines : Parts → ℕ → Verdict → Option Reason → List (List ℕ)
-explained_group_lines p group verdict reason = group_line group verdict ∷ why_group p group reason
+explained_group_lines p group verdict reason = group_line group verdict
+    ∷ map (line_bytes p []) (option_map_or (reason_lines p group) reason [])
 
 -- the lines of each group, the first of which has this place
 abbrev pub why_lines_from : Parts → List (Option Reason) → ℕ → List Verdict → List (List ℕ)
@@ -60,16 +52,14 @@ why_lines_from p reasons group (verdict ∷ verdicts) =
 abbrev pub why_lines : Parts → List Verdict → List (Option Reason) → List (List ℕ)
 why_lines p verdicts reasons = why_lines_from p reasons 0 verdicts
 
--- these lines, each ended by LF, and yes if all groups are exclusive
-abbrev pub groups_output : Parts → List Verdict → List (Option Reason) → Output
-groups_output p verdicts reasons =
-    record { text = text (why_lines p verdicts reasons); status = groups_status verdicts }
-
--- the answer about the mutex groups of a layered task: the joint verdict on each, and the reason
--- behind it where the group isn't shown to be exclusive
+-- The answer about the mutex groups of a layered task: the joint verdict on each, and the reason
+-- behind it where the group isn't shown to be exclusive. It is yes if all are.
 abbrev pub WhyGroupsAnswer : Parts → Output → Type 0
 WhyGroupsAnswer p output = (verdicts : List Verdict)
     × (reasons : List (Option Reason))
     × AreJointVerdicts p verdicts
     × AreReasons p verdicts reasons
-    × (output ≡ groups_output p verdicts reasons)
+    × (output ≡ record {
+      text = text (why_lines p verdicts reasons);
+      status = groups_status verdicts;
+    })

@@ -1,15 +1,15 @@
 // The reasons that don't involve operators.
-ghost use Rattle.std.specs.Prelude.{◌<◌, ◌↔◌, length, All, IsTrue, IfSome, IfNone, IfOk, List, Bool, slice_index};
+ghost use Rattle.std.specs.Prelude.{◌≡◌, ◌<◌, ◌==◌, ◌&&◌, not, is_some, find, length, All, IfSome, IfNone, IfOk, List, Bool};
 ghost use Rattle.sas_core.specs.Grounded.{group_at};
-ghost use Rattle.sas_meaning.specs.Layers.{IsBasic};
-ghost use Rattle.sas_meaning.specs.States.{Holds};
+ghost use Rattle.sas_core.specs.Variables.{layer_of};
 ghost use Rattle.sas_groups.specs.Groups.{IsExclusiveIn};
 ghost use Rattle.sas_groups.specs.Families.{IsOnBasic};
 ghost use Rattle.sas_groups.specs.Verdicts.{IsJointVerdict};
 ghost use Rattle.sas_groups.specs.declared.verdict.Verdict.TheVariants.{Derived, Initial};
 ghost use Rattle.sas_groups.specs.Joint.{AreJointVerdicts};
-ghost use Rattle.sas_task_reasons.specs.GroupReasons.{IsFirstSuch, AreFirstHolding, IsReason};
-ghost use Rattle.sas_task_reasons.specs.Reporting.{HoldsBeside, IsReasonSoFar, AreReasonsSoFar};
+ghost use Rattle.sas_task_reasons.specs.GroupReasons as spec;
+ghost use Rattle.sas_task_reasons.specs.GroupReasons.{IsReason};
+ghost use Rattle.sas_task_reasons.specs.Reporting.{IsReasonSoFar, AreReasonsSoFar};
 
 use crate::reason::Reason;
 use sas_core::{Fact, Grounded, Items};
@@ -66,19 +66,16 @@ fn on_derived<T: Grounded>(task: &Layered<T>, group: u32) -> Option<Reason>
 /// Returns the first of the facts on a derived variable.
 fn first_derived<T: Grounded>(task: &Layered<T>, facts: &[Fact]) -> Option<Fact>
     requires { All (λ f. f.var < length task.now.variables) facts.now }
-    ensures some { IfSome result (IsFirstSuch (λ f. IsBasic task.now f.var → ⊥) facts.now) }
-    ensures none { IfNone result (IsOnBasic task.now facts.now) }
+    ensures { result
+        ≡ find (λ (f : Fact). is_some (layer_of task.now.variables f.var)) facts.now }
 {
-    for fact in facts {
-        if task.layer(fact.var).is_some() {
-            return Some(*fact);
-        }
-    }
-    None
+    facts
+        .iter()
+        .copied()
+        .find(|fact| task.layer(fact.var).is_some())
 }
 
-/// Returns, as a reason, the first fact of the group that holds in the state section and is followed by a different one that does, and the
-/// first such one.
+/// Returns, as a reason, the first fact of the group that holds in the state section, and the first on another variable.
 fn holds_two<T: Grounded>(task: &Layered<T>, group: u32) -> Option<Reason>
     requires { group < length task.now.groups }
     ensures some { IfSome result (IsReason task.now group Initial) }
@@ -90,7 +87,7 @@ fn holds_two<T: Grounded>(task: &Layered<T>, group: u32) -> Option<Reason>
     let Some(first) = first_holding(task, facts) else {
         return None;
     };
-    match first_beside(task, facts, first) {
+    match first_beside(task, facts, first.var) {
         Some(second) => Some(Reason::HoldsTwo { first, second }),
         None => None,
     }
@@ -99,35 +96,26 @@ fn holds_two<T: Grounded>(task: &Layered<T>, group: u32) -> Option<Reason>
 /// Returns the first of the facts that holds in the state section.
 fn first_holding<T: Grounded>(task: &Layered<T>, facts: &[Fact]) -> Option<Fact>
     requires { All (λ f. f.var < length task.now.variables) facts.now }
-    ensures some { IfSome result (IsFirstSuch (Holds (slice_index task.now.init)) facts.now) }
-    ensures none { IfNone result (All (λ f. Holds (slice_index task.now.init) f → ⊥) facts.now) }
+    ensures { result ≡ find (spec.holds task.now.init) facts.now }
 {
-    for fact in facts {
-        if holds(task, *fact) {
-            return Some(*fact);
-        }
-    }
-    None
+    facts.iter().copied().find(|fact| holds(task, *fact))
 }
 
-/// Returns the first of the facts that differs from `fact` and holds in the state section.
-fn first_beside<T: Grounded>(task: &Layered<T>, facts: &[Fact], fact: Fact) -> Option<Fact>
+/// Returns the first of the facts that holds in the state section and is on another variable.
+fn first_beside<T: Grounded>(task: &Layered<T>, facts: &[Fact], var: u32) -> Option<Fact>
     requires { All (λ f. f.var < length task.now.variables) facts.now }
-    ensures some { IfSome result (IsFirstSuch (HoldsBeside task.now.init fact) facts.now) }
-    ensures none { IfNone result (All (λ f. HoldsBeside task.now.init fact f → ⊥) facts.now) }
+    ensures { result ≡ find (λ (f : Fact). spec.holds task.now.init f && not (f.var == var)) facts.now }
 {
-    for other in facts {
-        if fact != *other && holds(task, *other) {
-            return Some(*other);
-        }
-    }
-    None
+    facts
+        .iter()
+        .copied()
+        .find(|fact| holds(task, *fact) && fact.var != var)
 }
 
 /// Returns whether the fact holds in the state section.
 fn holds<T: Grounded>(task: &Layered<T>, fact: Fact) -> bool
     requires { fact.var < length task.now.variables }
-    ensures { IsTrue result ↔ Holds (slice_index task.now.init) fact }
+    ensures { result ≡ spec.holds task.now.init fact }
 {
     task.initial_value(fact.var) == fact.value
 }

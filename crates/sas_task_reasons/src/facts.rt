@@ -1,11 +1,10 @@
 // Parts of a task, by number. A number of no part stands for none, or for the fact that variable 0 has value 0.
 ghost use Rattle.std.specs.Prelude.{◌≡◌};
 ghost use Rattle.sas_core.specs.Changes as spec;
-ghost use Rattle.sas_core.specs.Grounded.{rule_at};
+ghost use Rattle.sas_core.specs.Grounded.{rule_at, group_at};
 ghost use Rattle.sas_core.specs.Variables as variables;
-ghost use Rattle.sas_task_reasons.specs.LayerReasons as layers;
-ghost use Rattle.sas_task_reasons.specs.LayerReasons.{condition_at};
-ghost use Rattle.sas_task_reasons.specs.WhyGroups.{member_at};
+ghost use Rattle.sas_meaning.specs.Layers.{default_of};
+ghost use Rattle.sas_task_reasons.specs.WhyGroups.{fact_at};
 
 use sas_core::{Change, Fact, Grounded};
 use sas_flat::FlatTask;
@@ -23,7 +22,7 @@ pub fn layer_of(task: &FlatTask, var: u32) -> Option<u32>
 
 /// Returns the fact that the variable has its default.
 pub fn default_fact(task: &FlatTask, var: u32) -> Fact
-    ensures { result ≡ layers.default_fact task.now var }
+    ensures { result ≡ record { var = var; value = default_of task.now var } }
 {
     if var < task.variables() {
         Fact {
@@ -52,7 +51,7 @@ pub fn change_by(task: &FlatTask, rule: u32) -> Change
 
 /// Returns the condition of the rule at this place.
 pub fn condition_of(task: &FlatTask, rule: u32, condition: u32) -> Fact
-    ensures { result ≡ condition_at (rule_at task.now rule) condition }
+    ensures { result ≡ fact_at (rule_at task.now rule).conditions condition }
 {
     let none = Fact { var: 0, value: 0 };
     if rule < task.rules() {
@@ -65,7 +64,7 @@ pub fn condition_of(task: &FlatTask, rule: u32, condition: u32) -> Fact
 
 /// Returns the fact at this place of the mutex group.
 pub fn member_of(task: &FlatTask, group: usize, place: usize) -> Fact
-    ensures { result ≡ member_at task.now group place }
+    ensures { result ≡ fact_at (group_at task.now group) place }
 {
     let none = Fact { var: 0, value: 0 };
     if group < task.groups() as usize {

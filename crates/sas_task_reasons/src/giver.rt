@@ -2,7 +2,7 @@
 ghost use Rattle.std.specs.Prelude.{◌≡◌, ◌<◌, ◌==◌, ◌&&◌, not, length};
 ghost use Rattle.sas_core.specs.Grounded.{rule_at};
 ghost use Rattle.sas_meaning.specs.Layers.{can_fire};
-ghost use Rattle.sas_task_reasons.specs.LayerReasons as spec;
+ghost use Rattle.sas_task_reasons.specs.WhyLayers as spec;
 
 use crate::facts::{change_by, default_fact};
 use sas_core::{Change, Grounded};

@@ -147,7 +147,8 @@ fn push_why<W: Write>(sink: &mut Sink<'_, W>, task: &FlatTask, group: usize, rea
 
 /// Returns the lines of how the operator fails to keep the group at this place.
 fn failure_lines(task: &FlatTask, group: usize, operator: u32, failure: Failure) -> [Line; 3]
-    ensures { result ≡ spec.failure_lines task.now group operator failure }
+    ensures { result ≡ Line.NamedOperator operator
+        ∷ spec.failure_lines task.now group operator failure }
 {
     match failure {
         Failure::SetsTwo { effect, other } => [

@@ -1,7 +1,7 @@
 // Why a task isn't layered, as lines of numbers.
 ghost use Rattle.std.specs.Prelude.{◌≡◌, [], ◌∷◌, ◌++◌, IfOk, OnOk};
 ghost use Rattle.sas_meaning.specs.declared.layered.LayerFault.TheVariants as fault;
-ghost use Rattle.sas_task_reasons.specs.LayerReasons as spec;
+ghost use Rattle.sas_task_reasons.specs.WhyLayers as spec;
 
 use crate::facts::{change_by, condition_of, default_fact, layer_of};
 use crate::giver::other_giver;

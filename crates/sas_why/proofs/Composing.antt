@@ -14,7 +14,7 @@ use Rattle.sas_output.specs.declared.line.Line.TheVariants as line
 use Rattle.sas_reasons.specs.Lines.{with_lines, LineThen, LinesOfEach}
 use Rattle.sas_run.specs.Runs.{Run, last_state}
 use Rattle.sas_reasons.specs.Derivation.{IsDerivation}
-use Rattle.sas_reasons.specs.Cause.{is_derived, is_given, actual_fact, since_line, AreDerivationLines, can_be_given, keeping_lines, missing_lines, IsCause}
+use Rattle.sas_reasons.specs.Cause.{is_derived, is_given, since_line, AreDerivationLines, can_be_given, keeping_lines, missing_lines, IsCause}
 use Rattle.sas_why.specs.declared.origins.Origins.{Origins}
 use Rattle.sas_why.specs.declared.retraced.Retraced.{Retraced}
 use Rattle.sas_why.specs.declared.report.Report.{Report}
@@ -22,6 +22,10 @@ use Rattle.sas_why.specs.Origins.{AreOrigins, ReportsDerivation}
 use Rattle.sas_why.specs.Report.{IsBehind, lines_of_keepers, is_kept, IsReportOf, Adds}
 use Rattle.sas_why.proofs.Once.{IsPlain, lines_append, plain_lines}
 use Rattle.sas_why.proofs.Adding.{plain_added, derivation_once, derivation_added, keepers_again, keepers_once, keepers_added}
+
+-- the fact that the variable has its value in a state
+abbrev pub actual_fact : List ℕ → ℕ → Fact
+actual_fact s var = record { var = var; value = slice_index s var }
 
 module _ (p : Parts) (noted : Retraced) where
   -- ---- lines of no rule

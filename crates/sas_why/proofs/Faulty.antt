@@ -10,23 +10,26 @@ use Rattle.sas_core.specs.declared.parts.Parts.{Parts}
 use Rattle.sas_meaning.proofs.Places.{places_to, places_one_more}
 use Rattle.sas_output.specs.declared.line.Line.{Line}
 use Rattle.sas_output.specs.declared.line.Line.TheVariants as line
-use Rattle.sas_reasons.specs.Lines.{with_lines, LineThen, LinesOfEach}
+use Rattle.sas_reasons.specs.Lines.{with_lines, LinesOfEach}
 use Rattle.sas_run.specs.Runs.{Run, last_state}
 use Rattle.sas_reasons.specs.Cause.{fails}
-use Rattle.sas_reasons.specs.Likeness.{IsLike}
-use Rattle.sas_reasons.specs.WhyPlan.{AreSimilarNameLines}
+use Rattle.sas_reasons.specs.MayMean.{similar_operator}
+use Rattle.sas_reasons.specs.WhyPlan.{similar_name_lines}
 use Rattle.sas_why.specs.declared.retraced.Retraced.{Retraced}
 use Rattle.sas_why.specs.declared.report.Report.{Report}
 use Rattle.sas_why.specs.Report.{IsBehind, IsReport, Adds, ReportsOnce}
 
 -- ---- no operator of the name
 
-pub unknown_reported : (p : Parts) (step : ℕ) (name : List ℕ) (like : Option ℕ) (lines : List Line) → IsLike p name like
+pub unknown_reported : (p : Parts) (step : ℕ) (name : List ℕ) (like : Option ℕ) (lines : List Line) → like ≡ similar_operator p name
     → lines ≡ line.Step step ∷ option_map_or (λ operator. line.SimilarOperator operator ∷ []) like []
-    → ReportsOnce lines (LineThen (line.Step step) (AreSimilarNameLines p name))
-unknown_reported p step name None lines is are = (line.Step step ∷ [], ([], (None, is, refl), refl), are)
-unknown_reported p step name (Some operator) lines is are =
-    (line.Step step ∷ line.SimilarOperator operator ∷ [], (line.SimilarOperator operator ∷ [], (Some operator, is, refl), refl), are)
+    → ReportsOnce lines (λ its. its ≡ line.Step step ∷ similar_name_lines p name)
+unknown_reported p step name like lines is are = (_, ap (λ (o : Option ℕ). line.Step step ∷ option_map_or (λ operator. line.SimilarOperator operator ∷ []) o []) is, are ∙ once like)
+  where
+    once : (like : Option ℕ) → line.Step step ∷ option_map_or (λ operator. line.SimilarOperator operator ∷ []) like []
+        ≡ with_lines [] (line.Step step ∷ option_map_or (λ operator. line.SimilarOperator operator ∷ []) like [])
+    once None = refl
+    once (Some operator) = refl
 
 -- ---- items that fail, one more
 

@@ -7,8 +7,8 @@ use Rattle.sas_core.specs.declared.parts.Parts.{Parts}
 use Rattle.sas_core.specs.Grounded.{effect_at}
 use Rattle.sas_meaning.specs.Steps.{Fires, Agree}
 use Rattle.sas_run.proofs.Giving.{same_inside, not_both}
-use Rattle.sas_reasons.specs.Lowest.{IsLowest}
-use Rattle.sas_reasons.specs.Conflicts.{ConflictsWith, ConflictsWithEarlier, IsConflict}
+use Rattle.sas_reasons.specs.Lowest.{IsLowest, AreLowest}
+use Rattle.sas_reasons.specs.WhyPlan.{ConflictsWith}
 use Rattle.sas_reasons.proofs.Conflicts.{some_conflict}
 use Rattle.sas_why.specs.Conflicts.{first_on, AgreesWithFirst, AreFirstEffects}
 
@@ -87,7 +87,7 @@ module _ (p : Parts) (s : List ℕ) (o : Operator) where
 
     -- one more that fires and doesn't agree is contradicted
     pub contradicted : n < length o.effects → Fires s (effect_at o n) → (first : ℕ) → first_on firsts (effect_at o n).var ≡ Some first
-        → (effect_at o first).new ≢ (effect_at o n).new → IsLowest (λ k. ConflictsWith s o k n) first
+        → (effect_at o first).new ≢ (effect_at o n).new → IsLowest (ConflictsWith s o n) first
     contradicted exists fires first is other =
         let w = are.only (effect_at o n).var first is in
         record {
@@ -98,18 +98,18 @@ module _ (p : Parts) (s : List ℕ) (o : Operator) where
         }
 
     -- none before it is
-    pub none_before : (e : ℕ) → e < n → ConflictsWithEarlier s o e → ⊥
+    pub none_before : (e : ℕ) → e < n → (d : ℕ) × ConflictsWith s o e d → ⊥
     none_before e lt (d, c) =
         let v = are.each d (let b = c.before in omega arith) c.fires in
         let w = are.each e lt c.fires' in
         let same : v.0 ≡ w.0 = same_inside v.0 w.0 (sym v.1.is ∙ (ap (first_on firsts) c.var ∙ w.1.is)) in
         c.other (sym v.1.same ∙ (ap (λ k. (effect_at o k).new) same ∙ w.1.same))
 
-    pub is_conflict : (d : ℕ) → IsLowest (λ k. ConflictsWith s o k n) d → IsConflict s o d n
+    pub is_conflict : (d : ℕ) → IsLowest (ConflictsWith s o n) d → AreLowest (ConflictsWith s o) n d
     is_conflict d lowest = record { first = record { has = (d, lowest.has); first = none_before }; lowest = lowest }
 
     -- if there is no more effect, they agree
     pub agree : length o.effects ≤ n → (Agree s o.effects → ⊥) → ⊥
     agree all clash = let w = some_conflict s o clash in
         let c = w.2.first.has.1 in
-        none_before w.1 (let lt = c.exists in omega arith) w.2.first.has
+        none_before w.0 (let lt = c.exists in omega arith) w.2.first.has

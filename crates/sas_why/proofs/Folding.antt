@@ -1,38 +1,10 @@
--- Trimming a name from its end, and small letters.
-use Rattle.std.proofs.Common.{◌≡◌, ◌≢◌, ℕ, suc, ◌+◌, ◌≤◌, false, cond, List, [], ◌∷◌, ◌++◌, map, length, get_or, take, refl, sym, ◌∙◌, ap, inl, inr, arith}
-use Rattle.std.specs.Prelude.{◌==◌, ◌&&◌, nat_le, nat_lt}
-use Rattle.std.specs.Char.{to_ascii_lowercase}
+-- Trimming a name from its end.
+use Rattle.std.proofs.Common.{◌≡◌, ◌≢◌, ℕ, suc, ◌+◌, ◌≤◌, false, cond, List, [], ◌∷◌, ◌++◌, length, get_or, take, refl, sym, ◌∙◌, ap, arith}
+use Rattle.std.specs.Prelude.{◌==◌, ◌&&◌}
 use Rattle.std.proofs.lemmas.Bool.{ne_eqb}
-use Rattle.std.proofs.lemmas.Bool.Decides.{leb_tells}
 use Rattle.std.proofs.Math.Seq.{take-suc}
-use Rattle.sas_reasons.specs.Likeness.{is_blank, trimmed, small}
-use Rattle.sas_reasons.proofs.Likeness.{space_is_trimmed}
-
--- a letter is made small as std makes it
-pub small_is : (b : ℕ) → small b ≡ to_ascii_lowercase b
-small_is b = elim (leb_tells 65 b) [
-  | inr x ↦ elim (leb_tells (suc b) 65) [
-    | inl z ↦ rw (x.0, z.0) refl
-    | inr z ↦ absurd (omega (arith, x.1, z.1))
-  ]
-  | inl x ↦ elim (leb_tells (suc b) 65) [
-    | inl z ↦ absurd (omega (arith, x.1, z.1))
-    | inr z ↦ elim (leb_tells b 90) [
-      | inl y ↦ elim (leb_tells (suc b) 91) [
-        | inl w ↦ rw (x.0, y.0, z.0, w.0) refl
-        | inr w ↦ absurd (omega (arith, y.1, w.1))
-      ]
-      | inr y ↦ elim (leb_tells (suc b) 91) [
-        | inl w ↦ absurd (omega (arith, y.1, w.1))
-        | inr w ↦ rw (x.0, y.0, z.0, w.0) refl
-      ]
-    ]
-  ]
-]
-
-pub all_small : (bytes : List ℕ) → map small bytes ≡ map to_ascii_lowercase bytes
-all_small [] = refl
-all_small (b ∷ bs) = ap (λ x. x ∷ map small bs) (small_is b) ∙ ap (λ x. to_ascii_lowercase b ∷ x) (all_small bs)
+use Rattle.sas_reasons.specs.MayMean.{trimmed}
+use Rattle.sas_reasons.proofs.Likeness.{is_blank, space_is_trimmed}
 
 -- bytes that end in no space are not blank
 not_blank : (bytes : List ℕ) (b : ℕ) → b ≢ 32 → is_blank (bytes ++ b ∷ []) ≡ false

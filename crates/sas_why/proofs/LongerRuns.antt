@@ -10,8 +10,8 @@ use Rattle.sas_names.specs.Named.{IsNamed}
 use Rattle.sas_run.specs.Plans.{LeadsTo, IsApplicable}
 use Rattle.sas_run.specs.Running.{IsLater}
 use Rattle.sas_run.specs.Runs.{Run, state_at, last_state, StepsSucceed}
-use Rattle.sas_reasons.specs.Since.{value_at, IsSince}
-use Rattle.sas_reasons.specs.MayMean.{IsOther, HasOther, MayMean}
+use Rattle.sas_reasons.specs.Cause.{value_at, IsSince}
+use Rattle.sas_reasons.specs.MayMean.{IsOther, MayMean}
 use Rattle.sas_why.specs.Retracing.{first_steps}
 
 abbrev run_of : List (List ℕ) → List ℕ → List (List ℕ) → Run
@@ -144,20 +144,20 @@ module _ (p : Parts) (run : Run) (through : StepsSucceed p run) (name : List ℕ
   }
 
   pub may_mean_longer : (step other : ℕ) → MayMean p run step other → MayMean p longer step other
-  may_mean_longer step other may =
-      let within : may.before < length run.steps = may.first.has.1.exists in
-      record {
-        before = may.before;
-        place = may.place;
-        first = record {
-          has = (may.first.has.0, other_longer may.before may.first.has.0 may.first.has.1);
-          first = λ lower lt h. may.first.first lower lt (h.0, other_shorter lower h.0 (omega arith) h.1);
-        };
-        lowest = record {
-          has = other_longer may.before other may.lowest.has;
-          first = λ lower lt h. may.lowest.first lower lt (other_shorter may.before lower within h);
-        };
-      }
+  may_mean_longer step other (k, at, may) = (
+    k,
+    at,
+    record {
+      first = record {
+        has = (may.first.has.0, other_longer k may.first.has.0 may.first.has.1);
+        first = λ lower lt h. may.first.first lower lt (h.0, other_shorter lower h.0 (let within = may.lowest.has.exists in omega arith) h.1);
+      };
+      lowest = record {
+        has = other_longer k other may.lowest.has;
+        first = λ lower lt h. may.lowest.first lower lt (other_shorter k lower may.lowest.has.exists h);
+      };
+    },
+  )
 
   module _ (chosen : (operator_at p operator).name ≡ name) where
     place_of_operator : get_or longer.operators (length run.steps) 0 ≡ operator
@@ -182,29 +182,31 @@ module _ (p : Parts) (run : Run) (through : StepsSucceed p run) (name : List ℕ
       applicable = subst (λ s. IsApplicable s (operator_at p other)) (same_state (length run.steps) (omega arith)) is.applicable;
     }
 
-    module _ (none : (k : ℕ) → HasOther p run k → ⊥) where
+    module _ (none : (k other : ℕ) → IsOther p run k other → ⊥) where
       none_before : (k other : ℕ) → k < length run.steps → IsOther p longer k other → ⊥
-      none_before k other lt is = none k (other, other_shorter k other lt is)
+      none_before k other lt is = none k other (other_shorter k other lt is)
 
-      pub still_none : ((later : ℕ) → IsLater p (last_state run) operator later → ⊥) → (k : ℕ) → HasOther p longer k → ⊥
-      still_none not k h = elim (cases_lt k (length run.steps)) [
-        | inl lt ↦ none_before k h.0 lt h.1
+      pub still_none : ((later : ℕ) → IsLater p (last_state run) operator later → ⊥) → (k other : ℕ) → IsOther p longer k other → ⊥
+      still_none not k other is = elim (cases_lt k (length run.steps)) [
+        | inl lt ↦ none_before k other lt is
         | inr ge ↦
-            let last : k ≡ length run.steps = (let lt = h.1.exists in omega (arith, one_step_more)) in
-            not h.0 (other_is_later h.0 (subst (λ j. IsOther p longer j h.0) last h.1))
+            let last : k ≡ length run.steps = (let lt = is.exists in omega (arith, one_step_more)) in
+            not other (other_is_later other (subst (λ j. IsOther p longer j other) last is))
       ]
 
       pub may_mean_now : (other : ℕ) → IsLater p (last_state run) operator other
           → ((lower : ℕ) → lower < other → IsLater p (last_state run) operator lower → ⊥) → MayMean p longer (length run.steps + 1) other
-      may_mean_now other is first = record {
-        before = length run.steps;
-        place = refl;
-        first = record {
-          has = (other, later_is_other other is);
-          first = λ lower lt h. none_before lower h.0 lt h.1;
-        };
-        lowest = record {
-          has = later_is_other other is;
-          first = λ lower lt h. first lower lt (other_is_later lower h);
-        };
-      }
+      may_mean_now other is first = (
+        length run.steps,
+        refl,
+        record {
+          first = record {
+            has = (other, later_is_other other is);
+            first = λ lower lt h. none_before lower h.0 lt h.1;
+          };
+          lowest = record {
+            has = later_is_other other is;
+            first = λ lower lt h. first lower lt (other_is_later lower h);
+          };
+        },
+      )

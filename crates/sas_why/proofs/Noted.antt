@@ -9,7 +9,7 @@ use Rattle.sas_run.specs.Executions.{Executed, next_name, next_operator, Execute
 use Rattle.sas_run.specs.Running.{IsLaterIfAny}
 use Rattle.sas_run.specs.Runs.{Run, state_at, last_state, StepsSucceed, RunEndsWith}
 use Rattle.sas_run.proofs.Executing.{as_many, executed_fits, name_is}
-use Rattle.sas_reasons.specs.Since.{IsSince}
+use Rattle.sas_reasons.specs.Cause.{IsSince}
 use Rattle.sas_reasons.specs.MayMean.{MayMean}
 use Rattle.sas_why.specs.declared.changes.Changes.{Changes}
 use Rattle.sas_why.specs.declared.retraced.Other.{Other}
@@ -29,7 +29,7 @@ notes_start run e changes executes made first = record {
     one_each = first.one_each ∙ (executed_fits run e executes).one_each;
     each = λ var lt. subst (IsSince (first_steps run e.made) var) (sym (first.since var)) (none_since (first_steps run e.made) var (omega (arith, goes.states, many, made)));
   };
-  other = λ k h. let lt = h.1.exists in absurd (omega (arith, many, made));
+  other = λ k other is. let lt = is.exists in absurd (omega (arith, many, made));
 }
   where
     within : e.made ≤ length run.steps

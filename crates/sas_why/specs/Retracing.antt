@@ -4,8 +4,8 @@ use Rattle.sas_core.specs.declared.parts.Parts.{Parts}
 use Rattle.sas_core.specs.PlanParts.{PlanParts}
 use Rattle.sas_run.specs.Executions.{Executed, Executes}
 use Rattle.sas_run.specs.Runs.{Run, last_state, StepsSucceed, RunEndsWith}
-use Rattle.sas_reasons.specs.Since.{IsSince}
-use Rattle.sas_reasons.specs.MayMean.{HasOther, MayMean}
+use Rattle.sas_reasons.specs.Cause.{IsSince}
+use Rattle.sas_reasons.specs.MayMean.{IsOther, MayMean}
 use Rattle.sas_why.specs.declared.second_pass.Notes.{Notes}
 use Rattle.sas_why.specs.declared.retraced.Other.{Other}
 use Rattle.sas_why.specs.declared.retraced.Retraced.{Retraced}
@@ -14,7 +14,7 @@ use Rattle.sas_why.specs.declared.retraced.Retraced.{Retraced}
 -- none may
 abbrev pub IsOtherIfAny : Parts → Run → Option Other → Type 0
 IsOtherIfAny p run (Some other) = MayMean p run other.step other.operator
-IsOtherIfAny p run None = (k : ℕ) → HasOther p run k → ⊥
+IsOtherIfAny p run None = (k operator : ℕ) → IsOther p run k operator → ⊥
 
 -- for each variable of the task, since when it has its value in the last state of the run
 pub record HaveSince (p : Parts) (run : Run) (since : List ℕ) : Type 0 where

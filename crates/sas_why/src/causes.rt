@@ -5,7 +5,7 @@ ghost use Rattle.sas_core.specs.Variables.{IsState};
 ghost use Rattle.sas_meaning.specs.Layers.{default_of};
 ghost use Rattle.sas_meaning.specs.Places.{places, can_give};
 ghost use Rattle.sas_run.specs.Runs.{last_state};
-ghost use Rattle.sas_reasons.specs.Cause.{fails, is_derived, is_given, actual_fact, since_line, failing_lines};
+ghost use Rattle.sas_reasons.specs.Cause.{fails, is_derived, is_given, since_line, failing_lines};
 ghost use Rattle.sas_reasons.specs.Cause.{AreDerivationLines, can_be_given, keeping_lines, missing_lines, IsCause};
 ghost use Rattle.sas_why.specs.Report.{IsReportOf, Adds};
 
@@ -38,7 +38,7 @@ fn report_values(noted: &Retraced, fact: Fact, lines: &mut Items<Line>) -> Resul
     requires state { fact.var < length noted.now.last }
     requires since { fact.var < length noted.now.since.items }
     ensures { OnOk result (lines.new ≡ lines.old
-        ++ (Line.Requires fact ∷ Line.Actual (actual_fact noted.now.last fact.var)
+        ++ (Line.Requires fact ∷ Line.Actual (record { var = fact.var; value = slice_index noted.now.last fact.var })
         ∷ since_line (slice_index noted.now.since.items fact.var) ∷ [])) }
 {
     let var = fact.var;

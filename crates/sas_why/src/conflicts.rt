@@ -3,8 +3,8 @@ ghost use Rattle.std.specs.Prelude.{◌≡◌, ◌<◌, ◌+◌, length, IfOk, I
 ghost use Rattle.sas_core.specs.Grounded.{operator_at};
 ghost use Rattle.sas_core.specs.Variables.{IsState};
 ghost use Rattle.sas_meaning.specs.Steps.{Agree};
-ghost use Rattle.sas_reasons.specs.Lowest.{IsLowest};
-ghost use Rattle.sas_reasons.specs.Conflicts.{ConflictsWith, IsConflict};
+ghost use Rattle.sas_reasons.specs.Lowest.{IsLowest, AreLowest};
+ghost use Rattle.sas_reasons.specs.WhyPlan.{ConflictsWith};
 ghost use Rattle.sas_why.specs.Conflicts.{AreFirstEffects};
 
 use sas_core::{Grounded, Items};
@@ -30,7 +30,7 @@ pub fn conflict<T: Grounded>(
     requires state { IsState task.now.variables state.now }
     requires disagree { Agree state.now (operator_at task.now operator).effects → ⊥ }
     ensures { IfOk result (λ clash.
-        IsConflict state.now (operator_at task.now operator) clash.earlier clash.later) }
+        AreLowest (ConflictsWith state.now (operator_at task.now operator)) clash.later clash.earlier) }
 {
     let mut firsts = Items::from_vec(vec![in alloc; None; task.variables() as usize]?);
     for later in 0..task.effects(operator) {
@@ -56,7 +56,7 @@ fn contradicting<T: Grounded>(
     requires firsts { AreFirstEffects task.now state.now (operator_at task.now operator)
         effect firsts.old }
     ensures some { IfSome result
-        (IsLowest (λ k. ConflictsWith state.now (operator_at task.now operator) k effect)) }
+        (IsLowest (ConflictsWith state.now (operator_at task.now operator) effect)) }
     ensures none { IfNone result
         (AreFirstEffects task.now state.now
         (operator_at task.now operator) (effect + 1) firsts.new) }

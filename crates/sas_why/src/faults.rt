@@ -1,11 +1,11 @@
 // Why a plan isn't valid.
-ghost use Rattle.std.specs.Prelude.{◌≡◌, ◌<◌, ◌-◌, ℕ, [], length, All, IfOk, OnOk, Some};
+ghost use Rattle.std.specs.Prelude.{◌≡◌, ◌<◌, ◌-◌, ◌∷◌, ℕ, [], length, All, IfOk, OnOk, Some};
 ghost use Rattle.sas_core.specs.Grounded.{operator_at};
 ghost use Rattle.sas_core.specs.Variables.{IsState};
 ghost use Rattle.sas_meaning.specs.Steps.{Agree};
 ghost use Rattle.sas_reasons.specs.Lines.{LineThen};
 ghost use Rattle.sas_run.specs.Runs.{Run};
-ghost use Rattle.sas_reasons.specs.WhyPlan.{AreSimilarNameLines, AreFailedPreconditionLines, AreOperatorLines, AreConflictLines};
+ghost use Rattle.sas_reasons.specs.WhyPlan.{similar_name_lines, AreFailedPreconditionLines, AreOperatorLines, AreConflictLines};
 ghost use Rattle.sas_reasons.specs.WhyPlan.{AreGoalLines, AreFaultLines, IsWhy, cost_lines, cost_lines_sum};
 ghost use Rattle.sas_why.specs.Retracing.{Retraces};
 ghost use Rattle.sas_why.specs.Report.{IsBehind, IsReportOf, Adds, ReportsOnce};
@@ -81,7 +81,8 @@ fn unknown<T: Grounded>(
     step: usize,
 ) -> Result<Items<Line>, AllocError>
     ensures { IfOk result (λ lines.
-        ReportsOnce lines (LineThen (Line.Step step) (AreSimilarNameLines task.now name.now))) }
+        ReportsOnce lines (λ its.
+        its ≡ Line.Step step ∷ similar_name_lines task.now name.now)) }
 {
     let mut lines = Items::new(alloc);
     lines.push(Line::Step { step })?;

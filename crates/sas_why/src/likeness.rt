@@ -1,12 +1,12 @@
 // The operator whose name is nearly a given one.
 ghost use Rattle.std.specs.Prelude.{◌≡◌, ◌↔◌, IsTrue};
-ghost use Rattle.sas_reasons.specs.Likeness.{trimmed, folded, IsLike};
+ghost use Rattle.sas_reasons.specs.MayMean.{trimmed, folded, similar_operator};
 
 use sas_core::Grounded;
 
 /// Returns the lowest operator that has this name but for capital letters and spaces at the end, if there is one.
 pub fn like<T: Grounded>(task: &T, name: &[u8]) -> Option<u32>
-    ensures { IsLike (T.says task.now) name.now result }
+    ensures { result ≡ similar_operator (T.says task.now) name.now }
 {
     for operator in 0..task.operators() {
         if are_alike(task.name(operator), name) {

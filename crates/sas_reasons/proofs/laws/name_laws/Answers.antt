@@ -1,5 +1,5 @@
 -- Each law is proved as a lemma.
-use Rattle.sas_reasons.proofs.Likeness.{space_folds, folds_once, some_like, one_like}
+use Rattle.sas_reasons.proofs.Likeness.{space_folds, folds_once, lowest_like}
 use Rattle.sas_reasons.proofs.MayMean.{some_may_mean, one_may_mean}
 use Rattle.sas_reasons.proofs.laws.name_laws.Goals as goal
 
@@ -9,11 +9,8 @@ returns-clause-space c = space_folds
 pub returns-clause-once : goal.returns-clause-once
 returns-clause-once c = folds_once
 
-pub returns-clause-some_like : goal.returns-clause-some_like
-returns-clause-some_like c = some_like
-
-pub returns-clause-one_like : goal.returns-clause-one_like
-returns-clause-one_like c = one_like
+pub returns-clause-lowest_like : goal.returns-clause-lowest_like
+returns-clause-lowest_like c = lowest_like
 
 pub returns-clause-some_other : goal.returns-clause-some_other
 returns-clause-some_other c = some_may_mean

@@ -1,7 +1,7 @@
 -- No lower rule gives another value.
 use Rattle.std.proofs.Common.{◌≡◌, ℕ, ◌<◌, false}
 use Rattle.sas_core.specs.Grounded.{rule_at}
-use Rattle.sas_task_reasons.specs.LayerReasons.{gives_other}
+use Rattle.sas_task_reasons.proofs.OtherGivers.{gives_other}
 use Rattle.sas_task_reasons.proofs.giver.other_giver.Given as goal
 
 abbrev pub invariant-loop-other : goal.invariant-loop-other

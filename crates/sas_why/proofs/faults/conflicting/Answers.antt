@@ -10,7 +10,7 @@ returns g c =
     let operator = c.args.operator in
     let behind : List Line = Operator operator ∷ ConflictingEffect operator clash.earlier ∷ ConflictingEffect operator clash.later ∷ [] in (
       Step c.args.step ∷ behind,
-      (behind, (clash.earlier, clash.later, c.in_ok-clash.ensures, refl), refl),
+      (behind, (clash.later, clash.earlier, c.in_ok-clash.ensures, refl), refl),
       c.in_ok-push-4.ensures.ok ∙ ap (λ (l : List Line). l ++ ConflictingEffect operator clash.later ∷ [])
           (c.in_ok-push-3.ensures.ok ∙ ap (λ (l : List Line). l ++ ConflictingEffect operator clash.earlier ∷ [])
           (c.in_ok-push-2.ensures.ok ∙ ap (λ (l : List Line). l ++ Operator operator ∷ [])

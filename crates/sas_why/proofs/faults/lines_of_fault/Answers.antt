@@ -1,5 +1,5 @@
 -- What each fault gives is known of the run.
-use Rattle.std.proofs.Common.{◌<◌, ℕ, List, length, Some, refl, sym, ◌∙◌, ap, subst}
+use Rattle.std.proofs.Common.{◌≡◌, ◌<◌, ℕ, ◌∷◌, List, length, Some, refl, sym, ◌∙◌, ap, subst}
 use Rattle.std.specs.List.{All}
 use Rattle.std.proofs.lemmas.Result.{IfOk-weaker}
 use Rattle.sas_core.specs.Grounded.{operator_at}
@@ -8,7 +8,7 @@ use Rattle.sas_run.specs.declared.plan_check.PlanFault.{PlanFault}
 use Rattle.sas_run.specs.declared.plan_check.PlanFault.TheVariants.{Conflict}
 use Rattle.sas_output.specs.declared.line.Line.TheVariants.{Step}
 use Rattle.sas_reasons.specs.Lines.{LineThen}
-use Rattle.sas_reasons.specs.WhyPlan.{AreSimilarNameLines, AreOperatorLines, AreConflictLines, AreFaultLines, cost_lines}
+use Rattle.sas_reasons.specs.WhyPlan.{similar_name_lines, AreOperatorLines, AreConflictLines, AreFaultLines, cost_lines}
 use Rattle.sas_why.specs.Report.{ReportsOnce}
 use Rattle.sas_run.proofs.Runs.{operators_exist}
 use Rattle.sas_why.proofs.Behind.{ends, behind, conflict_clashes, last_is, operators_are, operators_as_many}
@@ -53,7 +53,7 @@ returns-in-NoOperator g c =
     let step = c.in-NoOperator.step in
     IfOk-weaker c.unknown.result _ _
     (λ lines reported run r. subst (λ (f : PlanFault). ReportsOnce lines (AreFaultLines p plan run f)) (sym c.in-NoOperator.is)
-    (subst (λ (name : List ℕ). ReportsOnce lines (LineThen (Step step) (AreSimilarNameLines p name))) c.step.ensures reported))
+    (subst (λ (name : List ℕ). ReportsOnce lines (λ its. its ≡ Step step ∷ similar_name_lines p name)) c.step.ensures reported))
     c.unknown.ensures
 
 pub returns-in-NotApplicable : goal.returns-in-NotApplicable

@@ -1,9 +1,10 @@
 -- The step, and then each operator of its name.
 use Rattle.std.proofs.Common.{◌≡◌, ◌<◌, ℕ, ◌+◌, List, [], ◌∷◌, ◌++◌, length, bytes_eq, refl, sym, ◌∙◌, ap, subst, arith}
 use Rattle.sas_core.specs.Grounded.{operator_at}
+use Rattle.sas_meaning.specs.Places.{places}
 use Rattle.sas_meaning.proofs.Places.{places_to, places_all}
 use Rattle.sas_reasons.specs.Lines.{LinesOfEach}
-use Rattle.sas_reasons.specs.WhyPlan.{operators_of, AreFailedPreconditionLines, AreOperatorLines}
+use Rattle.sas_reasons.specs.WhyPlan.{AreFailedPreconditionLines, AreOperatorLines}
 use Rattle.sas_output.specs.declared.line.Line.TheVariants.{Step}
 use Rattle.sas_why.specs.declared.report.Report.{Report}
 use Rattle.sas_why.specs.Report.{Adds}
@@ -49,6 +50,6 @@ returns g c =
     let p = c.args.task.now in
     let name = c.args.name.now in
     line_and_more p c.args.noted.now c.args.report.now c.loop-operator.report c.push.new.self (Step c.args.step) (λ run. AreOperatorLines p run name) refl c.in_ok-push.ensures.ok
-    (same_items p c.args.noted.now (λ r. AreFailedPreconditionLines p r) _ (operators_of p name) _ c.loop-operator.report
+    (same_items p c.args.noted.now (λ r. AreFailedPreconditionLines p r) _ (places (λ o. bytes_eq o.name name) p.operators) _ c.loop-operator.report
     (places_all (λ o. bytes_eq o.name name) c.loop-operator.operator p.operators (omega (arith, c.operators-operator-end.ensures, c.loop-operator-test.false)))
     c.loop-operator.invariant)

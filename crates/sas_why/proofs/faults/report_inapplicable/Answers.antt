@@ -10,7 +10,6 @@ use Rattle.sas_meaning.specs.Steps.{preconditions}
 use Rattle.sas_reasons.specs.Lines.{LinesOfEach}
 use Rattle.sas_run.specs.Runs.{last_state}
 use Rattle.sas_reasons.specs.Cause.{fails, IsCause}
-use Rattle.sas_reasons.specs.WhyPlan.{failing}
 use Rattle.sas_output.specs.declared.line.Line.TheVariants.{Operator}
 use Rattle.sas_why.proofs.Within.{preconditions_have_values}
 use Rattle.sas_why.proofs.Composing.{more_is_report, plain_is_report, line_and_more, none_yet, one_more}
@@ -86,6 +85,6 @@ returns g c =
     let all : c.loop-fact.yielded ≡ preconditions o =
     sym (c.loop-fact.invariant.left ∙ (ap (λ (fs : List Fact). c.loop-fact.yielded ++ fs) c.in-None.ensures.steps.0 ∙ append-nil c.loop-fact.yielded)) in
     line_and_more p c.args.noted.now c.args.report.now c.loop-fact.report c.push.new.self (Operator c.args.operator)
-    (λ run. LinesOfEach (IsCause p run) (failing (last_state run) o)) refl c.in_ok-push.ensures.ok
-    (at_last p c.args.noted.now (λ run. IsCause p run) (λ t. failing t o) _ c.loop-fact.report
-    (same_items p c.args.noted.now (λ run. IsCause p run) (filter (fails s) c.loop-fact.yielded) (failing s o) _ c.loop-fact.report (ap (filter (fails s)) all) c.loop-fact.invariant.reported))
+    (λ run. LinesOfEach (IsCause p run) (filter (fails (last_state run)) (preconditions o))) refl c.in_ok-push.ensures.ok
+    (at_last p c.args.noted.now (λ run. IsCause p run) (λ t. filter (fails t) (preconditions o)) _ c.loop-fact.report
+    (same_items p c.args.noted.now (λ run. IsCause p run) (filter (fails s) c.loop-fact.yielded) (filter (fails s) (preconditions o)) _ c.loop-fact.report (ap (filter (fails s)) all) c.loop-fact.invariant.reported))

@@ -1,8 +1,7 @@
 -- The operator of nearly that name, if there is one.
-use Rattle.std.proofs.Common.{◌≡◌, List, [], ◌∷◌, ◌++◌, None, Some, ◌∙◌, ap, subst}
+use Rattle.std.proofs.Common.{◌≡◌, List, [], ◌∷◌, ◌++◌, None, Some, ◌∙◌, ap, sym}
 use Rattle.sas_output.specs.declared.line.Line.{Line}
 use Rattle.sas_output.specs.declared.line.Line.TheVariants.{Step, SimilarOperator}
-use Rattle.sas_reasons.specs.Likeness.{IsLike}
 use Rattle.sas_why.proofs.Faulty.{unknown_reported}
 use Rattle.sas_why.proofs.faults.unknown.Goals as goal
 use Rattle.sas_why.proofs.faults.unknown.Goals.{in-Some+in_ok-push-2, in_default}
@@ -14,9 +13,9 @@ returns g c =
     let begun : c.push.new.self ≡ Step c.args.step ∷ [] = c.in_ok-push.ensures.ok ∙ ap (λ (l : List Line). l ++ Step c.args.step ∷ []) c.new-lines.ensures in
     elim c.match-like.branch [
       | in-Some+in_ok-push-2 w ↦ unknown_reported p c.args.step name (Some w.in-Some.operator) c.match-like.lines
-          (subst (IsLike p name) w.in-Some.is c.like.ensures)
+          (sym w.in-Some.is ∙ c.like.ensures)
           (w.lines-is ∙ (w.in_ok-push-2.ensures.ok ∙ ap (λ (l : List Line). l ++ SimilarOperator w.in-Some.operator ∷ []) begun))
       | in_default w ↦ unknown_reported p c.args.step name None c.match-like.lines
-          (subst (IsLike p name) w.in_default.is c.like.ensures)
+          (sym w.in_default.is ∙ c.like.ensures)
           (w.lines-is ∙ begun)
     ]

@@ -1,15 +1,11 @@
 -- The names trimmed are the same in small letters.
 use Rattle.std.proofs.Common.{◌∙◌, map, sym, ap}
 use Rattle.std.specs.Char.{to_ascii_lowercase}
-use Rattle.sas_reasons.specs.Likeness.{trimmed}
-use Rattle.sas_why.proofs.Folding.{all_small}
 use Rattle.sas_why.proofs.likeness.are_alike.Goals as goal
 
 pub returns : goal.returns
 returns c =
-    let a = c.args.name.now in
-    let b = c.args.other.now in
     let test = c.eq_ignore_ascii_case.ensures.test in
-    let a_is = ap (map to_ascii_lowercase) c.trim_spaces.ensures ∙ sym (all_small (trimmed a)) in
-    let b_is = ap (map to_ascii_lowercase) c.trim_spaces-2.ensures ∙ sym (all_small (trimmed b)) in
+    let a_is = ap (map to_ascii_lowercase) c.trim_spaces.ensures in
+    let b_is = ap (map to_ascii_lowercase) c.trim_spaces-2.ensures in
     ((λ yes. sym a_is ∙ (test.0 yes ∙ b_is)), (λ same. test.1 (a_is ∙ (same ∙ sym b_is))))

@@ -1,0 +1,13 @@
+-- Where no fact is on a derived variable, all are on basic ones.
+use Rattle.std.proofs.Common.{◌≡◌, None, List, sym, subst, ◌∙◌}
+use Rattle.std.specs.Prelude.{find, is_some}
+use Rattle.sas_core.specs.declared.parts.Fact.{Fact}
+use Rattle.sas_core.specs.Variables.{layer_of}
+use Rattle.sas_task_reasons.proofs.GroupReasons.{all_basic}
+use Rattle.sas_task_reasons.proofs.before_operators.on_derived.Goals as goal
+
+pub returns-in-None-clause-none : goal.returns-in-None-clause-none
+returns-in-None-clause-none g c =
+    let p = c.args.task.now in
+    all_basic p _ (subst (λ (facts : List Fact). find (λ (f : Fact). is_some (layer_of p.variables f.var)) facts ≡ None) c.group.ensures
+    (sym c.first_derived.ensures ∙ c.in-None.is))
