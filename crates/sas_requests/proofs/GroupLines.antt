@@ -1,5 +1,5 @@
 -- Each line behind that of a group tells a reason; and what is left of the lines of groups when reasons are taken away.
-use Rattle.std.proofs.Common.{◌≡◌, ℕ, suc, ◌+◌, ◌<◌, List, [], ◌∷◌, ◌++◌, length, get_or, refl, ap, subst, ◌∙◌, arith, Bool, Option, Some, None}
+use Rattle.std.proofs.Common.{map, ◌≡◌, ℕ, suc, ◌+◌, ◌<◌, List, [], ◌∷◌, ◌++◌, length, get_or, refl, ap, subst, ◌∙◌, arith, Bool, Option, Some, None}
 use Rattle.std.specs.Prelude.{not, filter, if◌then◌else◌}
 use Rattle.std.specs.List.{AllByRecursion}
 use Rattle.std.specs.Option.{option_map_or}
@@ -10,6 +10,7 @@ use Rattle.sas_lines.proofs.Splitting.{Plain, lines-text}
 use Rattle.sas_task_format.proofs.TaskSections.{all_map}
 use Rattle.sas_groups.specs.declared.verdict.Verdict.{Verdict}
 use Rattle.sas_groups.specs.declared.verdict.Verdict.TheVariants.{Exclusive, Derived, Initial, Broken}
+use Rattle.sas_output.specs.Line.{line_bytes}
 use Rattle.sas_task_reasons.specs.declared.reason.Reason.{Reason}
 use Rattle.sas_task_reasons.specs.GroupReasons.{IsReasonIfAny, reason_at}
 use Rattle.sas_output.specs.declared.ending.Status.TheVariants.{Yes}
