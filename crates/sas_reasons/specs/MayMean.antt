@@ -11,8 +11,6 @@ use Rattle.sas_run.specs.Plans.{IsApplicable}
 use Rattle.sas_run.specs.Runs.{Run, state_at}
 use Rattle.sas_reasons.specs.Lowest.{AreLowest}
 
--- ---- similar names
-
 -- a name without the spaces at its end
 abbrev pub trimmed : List ℕ → List ℕ
 trimmed [] = []
@@ -27,8 +25,6 @@ folded name = map to_ascii_lowercase (trimmed name)
 abbrev pub similar_operator : Parts → List ℕ → Option ℕ
 similar_operator p name =
     position (λ (o : Operator). bytes_eq (folded o.name) (folded name)) p.operators
-
--- ---- another operator of the name
 
 -- A step means the lowest applicable operator of its name. This operator is above that of step
 -- k + 1, has the same name, and is applicable in the state before the step, too.

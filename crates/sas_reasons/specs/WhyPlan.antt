@@ -33,12 +33,13 @@ similar_name_lines p name =
 -- the lines of an operator that isn't applicable: it, and the cause of each failing precondition
 abbrev pub AreFailedPreconditionLines : Parts → Run → ℕ → List Line → Type 0
 AreFailedPreconditionLines p run operator lines = LineThen (line.Operator operator)
-    (LinesOfEach (IsCause p run) (filter (fails (last_state run)) (preconditions (operator_at p operator)))) lines
+    (LinesOfEach (IsCause p run) (filter (fails (last_state run))
+    (preconditions (operator_at p operator)))) lines
 
 -- these lines for each operator of the name, ascending
 abbrev pub AreOperatorLines : Parts → Run → List ℕ → List Line → Type 0
-AreOperatorLines p run name lines = LinesOfEach
-    (AreFailedPreconditionLines p run) (places (λ (o : Operator). bytes_eq o.name name) p.operators) lines
+AreOperatorLines p run name lines = LinesOfEach (AreFailedPreconditionLines p run)
+    (places (λ (o : Operator). bytes_eq o.name name) p.operators) lines
 
 -- ---- conflicting effects
 

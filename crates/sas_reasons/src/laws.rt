@@ -13,9 +13,9 @@ pub fn since_laws()
     ensures same_since { SameSince }
 {}
 
-/// Ensures the laws of similar names. Folding ignores spaces at the end of a name, and folding a folded name changes nothing. The
-/// operator that is found is the lowest with a similar name, or there is none. Either no step could also mean another operator, or exactly one is the first,
-/// and the lowest such operator is unique.
+/// Ensures the laws of similar names. Folding ignores spaces at the end of a name, and folding a folded name changes nothing. The operator
+/// that is reported is the lowest with a similar name, or there is none. Either no step could also mean another operator, or exactly one is
+/// the first, and the lowest such operator is unique.
 pub fn name_laws()
     ensures space { SpaceFolds }
     ensures once { FoldsOnce }

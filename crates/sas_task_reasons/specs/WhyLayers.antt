@@ -45,10 +45,10 @@ layer_reasons p (OldValue rule) = let r = rule_at p rule in
     ++ line.DefaultValue (record { var = r.var; value = default_of p r.var }) ∷ [])
 layer_reasons p (TwoValues rule) = line.Rule rule
     ∷ option_map_or (λ other. line.Rule other ∷ []) (other_giver p (rule_at p rule)) []
-layer_reasons p (LayerOrder rule condition) = let c = fact_at (rule_at p rule).conditions condition in
+layer_reasons p (LayerOrder rule place) = let c = fact_at (rule_at p rule).conditions place in
     line.Rule rule
     ∷ (layer_lines p (rule_at p rule).var
-    ++ line.ConditionRequires condition c ∷ layer_lines p c.var)
+    ++ line.ConditionRequires place c ∷ layer_lines p c.var)
 layer_reasons p Memory = []
 
 -- ---- the answers

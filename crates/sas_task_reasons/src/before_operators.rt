@@ -104,7 +104,8 @@ fn first_holding<T: Grounded>(task: &Layered<T>, facts: &[Fact]) -> Option<Fact>
 /// Returns the first of the facts that holds in the state section and is on another variable.
 fn first_beside<T: Grounded>(task: &Layered<T>, facts: &[Fact], var: u32) -> Option<Fact>
     requires { All (λ f. f.var < length task.now.variables) facts.now }
-    ensures { result ≡ find (λ (f : Fact). spec.holds task.now.init f && not (f.var == var)) facts.now }
+    ensures { result
+        ≡ find (λ (f : Fact). spec.holds task.now.init f && not (f.var == var)) facts.now }
 {
     facts
         .iter()

@@ -16,8 +16,7 @@ pub enum Failure {
 pub enum Reason {
     /// The first fact of the group on a derived variable.
     OnDerived { fact: Fact },
-    /// Two different facts of the group that hold in the state section: the first one that is followed by a different one, and the first
-    /// such one.
+    /// The first fact of the group that holds in the state section, and the first one on another variable.
     HoldsTwo { first: Fact, second: Fact },
     /// The operator doesn't preserve the group. This is its first failure.
     Breaks { operator: u32, failure: Failure },
