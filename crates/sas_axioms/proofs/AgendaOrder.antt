@@ -1,16 +1,8 @@
 -- The first noted rule is on the lowest layer, and what changes of the agenda preserve.
-use Rattle.std.proofs.Common.{◌≡◌, ◌⊎◌, ℕ, zero, suc, ◌+◌, ◌≤◌, false, List, [], ◌∷◌, ◌++◌, length, get_or, refl, sym, ◌∙◌, ap, subst, inl, inr, arith}
-use Rattle.std.specs.List.{All, Contains}
-use Rattle.std.specs.List.Sorted.{IsPermutation}
-use Rattle.std.specs.Ordering.{is_lt}
-use Rattle.std.specs.BinaryHeap.{heap_items, IsUpperBound}
-use Rattle.std.proofs.lemmas.Bool.Decides.{leb_tells}
-use Rattle.std.proofs.lemmas.List.Elements.{All-nil, All-cons, Contains-get_or, Contains-append_left, Contains-push, Contains-push_cases}
-use Rattle.std.proofs.lemmas.List.Sorted.{Contains-permutation, IsPermutation-sym, length_permutation}
-use Rattle.std.specs.declared.cmp.Reverse.{Reverse}
+use Rattle.sas_axioms.proofs.Imports.{◌≡◌, ◌⊎◌, ℕ, zero, suc, ◌+◌, ◌≤◌, false, List, [], ◌∷◌, ◌++◌, length, get_or, refl, sym, ◌∙◌, ap, subst, inl, inr, arith, All, Contains, IsPermutation, is_lt, heap_items, IsUpperBound, leb_tells, All-nil, All-cons, Contains-get_or, Contains-append_left, Contains-push, Contains-push_cases, Contains-permutation, IsPermutation-sym, length_permutation, Reverse}
+use Rattle.sas_axioms.proofs.Imports.{Parts}
 use Rattle.sas_axioms.specs.declared.agenda.Agenda.{Agenda}
 use Rattle.sas_axioms.specs.declared.layer_rules.LayerRule.{LayerRule}
-use Rattle.sas_core.specs.declared.parts.Parts.{Parts}
 use Rattle.sas_axioms.specs.Agenda.{layer_cmp, entry_for, IsOnAgenda, AddsToAgenda, work_left}
 use Rattle.sas_axioms.specs.Following.{NotesMore}
 use Rattle.sas_axioms.specs.LayerRules.{IsRuleOn}

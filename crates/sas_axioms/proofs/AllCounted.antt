@@ -1,13 +1,5 @@
 -- After all layers are settled, the counters of all rules are right.
-use Rattle.std.proofs.Common.{◌≡◌, ℕ, ◌+◌, ◌<◌, ◌≤◌, List, length, get_or, sym, ◌∙◌, subst, inl, inr, arith}
-use Rattle.std.proofs.lemmas.Bool.{cases_eq, cases_lt}
-use Rattle.sas_core.specs.declared.parts.Parts.{Parts}
-use Rattle.sas_core.specs.Grounded.{rule_at}
-use Rattle.sas_core.specs.Variables.{IsState}
-use Rattle.sas_meaning.specs.Layers.{IsLayered}
-use Rattle.sas_meaning.specs.Settled.{IsSettled}
-use Rattle.sas_meaning.specs.Forced.{SameOff, AtDefault}
-use Rattle.sas_meaning.proofs.Layers.{looks_down}
+use Rattle.sas_axioms.proofs.Imports.{◌≡◌, ℕ, ◌+◌, ◌<◌, ◌≤◌, List, length, get_or, sym, ◌∙◌, subst, inl, inr, arith, cases_eq, cases_lt, Parts, rule_at, IsState, IsLayered, IsSettled, SameOff, AtDefault, looks_down, default_off}
 use Rattle.sas_axioms.specs.declared.firing.Firing.{Firing}
 use Rattle.sas_axioms.specs.declared.firing.Work.{Work}
 use Rattle.sas_axioms.specs.ByLayers.{IsIdle}
@@ -18,7 +10,6 @@ use Rattle.sas_axioms.specs.Resting.{IsResting}
 use Rattle.sas_axioms.specs.Sources.{AreGiven, SameSourcesOff}
 use Rattle.sas_axioms.specs.Worklist.{AreAtRest, AreCountedOn, SameCountsOff}
 use Rattle.sas_axioms.proofs.Sources.{no_rule, given_off, given_at_default}
-use Rattle.sas_meaning.proofs.Settling.{default_off}
 use Rattle.sas_axioms.proofs.LayerStart.{open_alike, begins_as_kept}
 
 -- where a layer is settled, the rules of lower ones have as many open conditions as before

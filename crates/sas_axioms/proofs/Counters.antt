@@ -1,20 +1,6 @@
 -- The counters of a worklist.
-use Rattle.std.proofs.Common.{◌≡◌, ◌≢◌, ℕ, ◌+◌, ◌-◌, ◌<◌, ◌≤◌, ◌==◌, ◌&&◌, ◌⊎◌, true, cond, List, [], ◌∷◌, ◌++◌, length, get_or, set, refl, sym, ◌∙◌, ap, subst, inl, inr, arith}
-use Rattle.std.proofs.lemmas.Bool.{cases_eq, eq-eqb}
-use Rattle.std.proofs.lemmas.Bool.Decides.{eqb_tells}
-use Rattle.std.proofs.lemmas.List.{get_or-set_same, get_or-set_other, length-set, get_or_default}
-use Rattle.std.proofs.Math.ListN.{length-append}
-use Rattle.std.specs.Prelude.{vec_capacity}
-use Rattle.sas_core.specs.declared.parts.Fact.{Fact}
-use Rattle.sas_core.specs.declared.parts.Rule.{Rule}
-use Rattle.sas_core.specs.declared.parts.Parts.{Parts}
-use Rattle.sas_core.specs.Grounded.{rule_at}
-use Rattle.sas_core.specs.Variables.{IsState}
-use Rattle.sas_core.specs.WellRanged.{WellRanged}
-use Rattle.sas_meaning.specs.States.{Holds, AllHold}
-use Rattle.sas_meaning.specs.Layers.{IsOnLayer, default_of, IsLayered}
-use Rattle.sas_meaning.specs.Settled.{differs, IsSettledAt}
-use Rattle.sas_meaning.specs.Forced.{OnlyForced, HasFired, SameOff, AtDefault, equal_places}
+use Rattle.sas_axioms.proofs.Imports.{◌≡◌, ◌≢◌, ℕ, ◌+◌, ◌-◌, ◌<◌, ◌≤◌, ◌==◌, ◌&&◌, ◌⊎◌, true, cond, List, [], ◌∷◌, ◌++◌, length, get_or, set, refl, sym, ◌∙◌, ap, subst, inl, inr, arith, cases_eq, eq-eqb, eqb_tells, get_or-set_same, get_or-set_other, length-set, get_or_default, length-append, vec_capacity, Fact, Rule, Parts, rule_at, IsState, WellRanged, Holds, AllHold, IsOnLayer, default_of}
+use Rattle.sas_axioms.proofs.Imports.{IsLayered, differs, IsSettledAt, OnlyForced, HasFired, SameOff, AtDefault, equal_places, All, All-nil, All-cons, All-head, All-tail, Fired, fired_there, rule_new, differs_true, differs_not, fact_within, new_value_is, forced_at_default, settled_when_fired, differs_decides}
 use Rattle.sas_axioms.specs.LayerRules.{IsRuleOn}
 use Rattle.sas_axioms.specs.Sources.{AreGiven}
 use Rattle.sas_axioms.specs.Waiting.{occurrences, asking}
@@ -23,12 +9,6 @@ use Rattle.sas_axioms.specs.declared.firing.Work.{Work}
 use Rattle.sas_axioms.proofs.OneLayer.{one_layer}
 use Rattle.sas_axioms.proofs.Sources.{no_rule}
 use Rattle.sas_axioms.specs.Worklist.{SameCountsOff, value_seen, IsRunning, AreCountedWithStack, HaveFired, IsAtWork, WorkGoesOn, FiresRule}
-use Rattle.std.specs.List.{All}
-use Rattle.std.proofs.lemmas.List.Elements.{All-nil, All-cons, All-head, All-tail}
-use Rattle.sas_meaning.proofs.Forced.{Fired, fired_there, rule_new, differs_true, differs_not, fact_within}
-use Rattle.sas_meaning.proofs.Rules.{new_value_is}
-use Rattle.sas_meaning.proofs.Settling.{forced_at_default, settled_when_fired}
-use Rattle.sas_meaning.proofs.Unique.{differs_tells}
 
 pub occurrences-append : (n : ℕ) (xs ys : List ℕ) → occurrences n (xs ++ ys) ≡ occurrences n xs + occurrences n ys
 occurrences-append n [] ys = omega arith
@@ -41,8 +21,8 @@ occurrences_pushed n v xs = elim (eqb_tells v n) [
   | inr w ↦ inr (w.1, occurrences-append n xs (v ∷ []) ∙ rw w.0 (omega arith))
 ]
 
-pub seen_tells : (t : Parts) (s stack : List ℕ) (v : ℕ) → ((occurrences v stack ≡ 0) × (value_seen t s stack v ≡ get_or s v 0)) ⊎ ((0 < occurrences v stack) × (value_seen t s stack v ≡ default_of t v))
-seen_tells t s stack v = elim (eqb_tells (occurrences v stack) 0) [
+pub seen_shows : (t : Parts) (s stack : List ℕ) (v : ℕ) → ((occurrences v stack ≡ 0) × (value_seen t s stack v ≡ get_or s v 0)) ⊎ ((0 < occurrences v stack) × (value_seen t s stack v ≡ default_of t v))
+seen_shows t s stack v = elim (eqb_tells (occurrences v stack) 0) [
   | inl w ↦ inl (w.1, rw w.0 refl)
   | inr w ↦ (let ne : occurrences v stack ≢ 0 = w.1 in inr (omega arith, rw w.0 refl))
 ]
@@ -62,7 +42,7 @@ rule_within t s k ranged state lt =
     let len = state.one_each in omega arith
 
 pub was_default : (t : Parts) (layer : ℕ) (s : List ℕ) (k : ℕ) → IsLayered t → OnlyForced t layer s → IsRuleOn t layer k → get_or s (rule_at t k).var 0 ≢ (rule_at t k).new → get_or s (rule_at t k).var 0 ≡ default_of t (rule_at t k).var
-was_default t layer s k layered forced on changes = elim (differs_tells t s (rule_at t k).var) [
+was_default t layer s k layered forced on changes = elim (differs_decides t s (rule_at t k).var) [
   | inl p ↦ p.0
   | inr p ↦ absurd (changes (forced.new (rule_at t k).var on.on p.1 ∙ new_value_is t k no_rule layered on.exists on.can))
 ]
@@ -96,7 +76,7 @@ pushed t layer s stack k ranged layered run on_k hold changes = record {
     kept v d = other v (λ e. differs_not t s v d (subst (λ x. get_or s x 0 ≡ default_of t x) (sym e) default))
 
     not_yet : occurrences (rule_at t k).var stack ≡ 0
-    not_yet = elim (seen_tells t s stack (rule_at t k).var) [ inl w ↦ w.0 | inr w ↦ absurd (differs_not t s (rule_at t k).var (run.fired (rule_at t k).var w.0).1 default) ]
+    not_yet = elim (seen_shows t s stack (rule_at t k).var) [ inl w ↦ w.0 | inr w ↦ absurd (differs_not t s (rule_at t k).var (run.fired (rule_at t k).var w.0).1 default) ]
 
     fired : (v : ℕ) → 0 < occurrences v (stack ++ (rule_at t k).var ∷ []) → IsOnLayer t layer v × (differs t (set s (rule_at t k).var (rule_at t k).new) v ≡ true)
     fired v lt = elim (occurrences_pushed v (rule_at t k).var stack) [
@@ -120,10 +100,10 @@ pushed t layer s stack k ranged layered run on_k hold changes = record {
 
     seen_same : (v : ℕ) → value_seen t (set s (rule_at t k).var (rule_at t k).new) (stack ++ (rule_at t k).var ∷ []) v ≡ value_seen t s stack v
     seen_same v = elim (occurrences_pushed v (rule_at t k).var stack) [
-      | inl w ↦ elim (seen_tells t (set s (rule_at t k).var (rule_at t k).new) (stack ++ (rule_at t k).var ∷ []) v) [
+      | inl w ↦ elim (seen_shows t (set s (rule_at t k).var (rule_at t k).new) (stack ++ (rule_at t k).var ∷ []) v) [
         | inl a ↦ (let x = w.1 in let y = a.0 in absurd (omega arith))
         | inr a ↦ a.1 ∙ (subst (λ x. default_of t x ≡ value_seen t s stack x) w.0
-            (elim (seen_tells t s stack (rule_at t k).var) [ inl b ↦ sym (b.1 ∙ default) | inr b ↦ sym b.1 ]))
+            (elim (seen_shows t s stack (rule_at t k).var) [ inl b ↦ sym (b.1 ∙ default) | inr b ↦ sym b.1 ]))
       ]
       | inr w ↦ ap (λ n. cond (n == 0) (get_or (set s (rule_at t k).var (rule_at t k).new) v 0) (default_of t v)) w.1
           ∙ ap (λ x. cond (occurrences v stack == 0) x (default_of t v)) (other v (λ e. w.0 (sym e)))
@@ -221,7 +201,7 @@ open_popped value value' v x (c ∷ cs) same new asks = by_cases (open_popped va
 pub ready : (t : Parts) (layer : ℕ) (s stack counters left : List ℕ) (k : ℕ) → IsLayered t → IsRunning t layer s stack → AreCountedWithStack t layer s stack counters left → IsRuleOn t layer k
     → get_or counters k 0 ≡ 0 → AllHold (λ v. get_or s v 0) (rule_at t k).conditions
 ready t layer s stack counters left k layered run counts on nil j e lt' =
-    elim (seen_tells t s stack (get_or (rule_at t k).conditions j e).var) [
+    elim (seen_shows t s stack (get_or (rule_at t k).conditions j e).var) [
       | inl w ↦ sym w.1 ∙ holds
       | inr w ↦ (let down = (layered.rules k no_rule on.exists on.can).order j e lt' in
           let z : layer < layer = (down layer layer on.on (run.fired (get_or (rule_at t k).conditions j e).var w.0).0).1 (sym holds ∙ w.1) in absurd (omega arith))
@@ -295,10 +275,10 @@ popped_counts t layer s rest counters left v layered run each counts k on =
     gone = elim (occurrences_pushed v v rest) [ inl w ↦ (let e = w.1 in let le = run.once v in omega arith) | inr w ↦ absurd (w.0 refl) ]
 
     now : value_seen t s rest v ≡ get_or s v 0
-    now = elim (seen_tells t s rest v) [ inl w ↦ w.1 | inr w ↦ (let z = gone in let p = w.0 in absurd (omega arith)) ]
+    now = elim (seen_shows t s rest v) [ inl w ↦ w.1 | inr w ↦ (let z = gone in let p = w.0 in absurd (omega arith)) ]
 
     default : value_seen t s (rest ++ v ∷ []) v ≡ default_of t v
-    default = elim (seen_tells t s (rest ++ v ∷ []) v) [ inl w ↦ (let z = w.0 in let e = occurrences_pushed v v rest in absurd (elim e [ inl p ↦ (let q = p.1 in omega arith) | inr p ↦ p.0 refl ])) | inr w ↦ w.1 ]
+    default = elim (seen_shows t s (rest ++ v ∷ []) v) [ inl w ↦ (let z = w.0 in let e = occurrences_pushed v v rest in absurd (elim e [ inl p ↦ (let q = p.1 in omega arith) | inr p ↦ p.0 refl ])) | inr w ↦ w.1 ]
 
     others : (u : ℕ) → u ≢ v → value_seen t s (rest ++ v ∷ []) u ≡ value_seen t s rest u
     others u ne = elim (occurrences_pushed u v rest) [

@@ -1,19 +1,6 @@
 -- The number of entries for a fact, as entries are appended and grouped.
-use Rattle.std.proofs.Common.{◌≡◌, ◌≢◌, ℕ, ◌+◌, ◌<◌, ◌≤◌, ◌==◌, ◌&&◌, ◌⊎◌, true, false, cond, List, [], ◌∷◌, ◌++◌, length, get_or, Option, None, Some, refl, sym, ◌∙◌, ap, subst, inl, inr, arith}
-use Rattle.std.specs.List.{All}
-use Rattle.std.specs.Option.{option_eq}
-use Rattle.std.proofs.lemmas.Bool.{cases_eq, eq-eqb}
-use Rattle.std.proofs.lemmas.Bool.Decides.{eqb_tells}
-use Rattle.std.proofs.lemmas.List.Elements.{All-nil, All-push, All-weaker}
-use Rattle.sas_core.specs.declared.parts.Fact.{Fact}
-use Rattle.sas_core.specs.declared.parts.Parts.{Parts}
-use Rattle.sas_core.specs.Grounded.{rule_at}
-use Rattle.sas_flat.specs.declared.by_key.Entry.{Entry}
-use Rattle.sas_flat.specs.ByKey.{items_of, by_key}
-use Rattle.sas_flat.proofs.Tables.{length-table}
-use Rattle.sas_flat.proofs.ByKey.{items_none, items_cons, under_key, all_items}
-use Rattle.sas_meaning.specs.Layers.{IsOnLayer}
-use Rattle.sas_meaning.proofs.Layers.{layer_tells, on_layer_within}
+use Rattle.sas_axioms.proofs.Imports.{◌≡◌, ◌≢◌, ℕ, ◌+◌, ◌<◌, ◌≤◌, ◌==◌, ◌&&◌, ◌⊎◌, true, false, cond, List, [], ◌∷◌, ◌++◌, length, get_or, Option, None, Some, refl, sym, ◌∙◌, ap, subst, inl, inr, arith, All, option_eq, cases_eq, eq-eqb, eqb_tells, All-nil, All-push, All-weaker, Fact, Parts, rule_at, Entry, items_of, by_key, length-table, items_none, items_cons, under_key, all_items, IsOnLayer}
+use Rattle.sas_axioms.proofs.Imports.{layer_decides, on_layer_within}
 use Rattle.sas_axioms.specs.declared.waiting.Waiting.{Waiting}
 use Rattle.sas_axioms.specs.LayerRules.{IsRuleOn}
 use Rattle.sas_axioms.specs.Waiting.{asking, waiting_entry, waits, released, occurrences, IsOfOneLayer, IsWaiting, AddsWaiting, IsIndex}
@@ -147,7 +134,7 @@ waiting_skip p k ws not up = record {
 -- a rule's entries change nothing of what other rules wait for
 kept_others : (p : Parts) (k layer : ℕ) (ws ws' : List (Entry Waiting)) → AddsWaiting p layer k ws ws' → (other var value : ℕ) → other ≢ k
     → waits other var value ws' ≡ waits other var value ws
-kept_others p k layer ws ws' adds other var value ne = elim (layer_tells p layer var) [
+kept_others p k layer ws ws' adds other var value ne = elim (layer_decides p layer var) [
   | inr a ↦ adds.off other var value a.0
   | inl a ↦ elim (eqb_tells other k) [
     | inl e ↦ absurd (ne e.1)

@@ -1,23 +1,9 @@
 -- Resetting the variables of a layer one by one, and the rules that depend on them.
-use Rattle.std.proofs.Common.{◌≡◌, ◌≢◌, ◌⊎◌, ℕ, ◌+◌, ◌<◌, ◌≤◌, true, List, [], ◌∷◌, length, get_or, set, sym, ◌∙◌, ap, subst, inl, inr, arith}
-use Rattle.std.specs.List.{All, Contains}
-use Rattle.std.proofs.lemmas.Bool.{cases_eq}
-use Rattle.std.proofs.lemmas.List.{get_or-set_same, get_or-set_other}
-use Rattle.std.proofs.lemmas.List.Elements.{All-nil, All-cons, Contains-append_left, Contains-append_right, Contains-push, All-contains}
-use Rattle.std.specs.declared.cmp.Reverse.{Reverse}
-use Rattle.sas_core.specs.declared.parts.Parts.{Parts}
-use Rattle.sas_core.specs.declared.grounded.Change.{Change}
-use Rattle.sas_core.specs.Changes.{rule_change}
-use Rattle.sas_core.specs.WellRanged.{WellRanged}
-use Rattle.sas_core.specs.Grounded.{rule_at}
-use Rattle.sas_core.specs.Variables.{IsState}
-use Rattle.sas_meaning.specs.Layers.{IsOnLayer, default_of, IsLayered}
-use Rattle.sas_meaning.specs.Settled.{differs, IsSettled}
-use Rattle.sas_meaning.proofs.Forced.{state_set, differs_true, differs_not}
+use Rattle.sas_axioms.proofs.Imports.{◌≡◌, ◌≢◌, ◌⊎◌, ℕ, ◌+◌, ◌<◌, ◌≤◌, true, List, [], ◌∷◌, length, get_or, set, sym, ◌∙◌, ap, subst, inl, inr, arith, All, Contains, cases_eq, get_or-set_same, get_or-set_other, All-nil, All-cons, Contains-append_left, Contains-append_right, Contains-push, All-contains, Reverse, Parts, Change, rule_change, WellRanged, rule_at, IsState, IsOnLayer, default_of}
+use Rattle.sas_axioms.proofs.Imports.{IsLayered, differs, IsSettled, state_set, differs_true, differs_not, heap_items}
 use Rattle.sas_axioms.specs.declared.agenda.Agenda.{Agenda}
 use Rattle.sas_axioms.specs.declared.firing.Work.{Work}
 use Rattle.sas_axioms.specs.declared.layer_rules.LayerRule.{LayerRule}
-use Rattle.std.specs.BinaryHeap.{heap_items}
 use Rattle.sas_axioms.specs.Agenda.{entry_for, IsOnAgenda, IsAwaited, AreBehind, RemovesFromAgenda, IsMadeReady, AreMadeReady, work_left}
 use Rattle.sas_axioms.specs.Following.{SameFrom, ChangesAreNoted, SameWork, CountsChange, IsOnTrack, IsFalling, IsRising}
 use Rattle.sas_axioms.specs.Sources.{IsHolding, HaveSources, SourcesHold}

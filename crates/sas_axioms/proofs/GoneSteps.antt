@@ -1,19 +1,6 @@
 -- Updating the counters for the basic variables that changed, one at a time.
-use Rattle.std.proofs.Common.{◌≡◌, ◌≢◌, ℕ, zero, suc, ◌<◌, List, [], ◌∷◌, length, get_or, set, refl, sym, ◌∙◌, ap, subst, inl, inr, arith}
-use Rattle.std.specs.List.{All, AllPairs}
-use Rattle.std.specs.BinaryHeap.{heap_items}
-use Rattle.std.proofs.lemmas.Bool.{cases_eq}
-use Rattle.std.proofs.lemmas.List.{get_or-set_same, get_or-set_other}
-use Rattle.std.proofs.lemmas.List.Elements.{All-nil, All-cons, All-head, All-tail, All-contains}
-use Rattle.std.specs.declared.cmp.Reverse.{Reverse}
-use Rattle.sas_core.specs.declared.parts.Fact.{Fact}
-use Rattle.sas_core.specs.declared.parts.Parts.{Parts}
-use Rattle.sas_core.specs.Grounded.{rule_at}
-use Rattle.sas_core.specs.Variables.{IsState}
-use Rattle.sas_meaning.specs.Following.{HaveGone}
-use Rattle.sas_meaning.specs.Layers.{IsBasic, IsOnLayer, IsLayered}
-use Rattle.sas_meaning.specs.Settled.{IsSettledAt, Settles}
-use Rattle.sas_meaning.specs.States.{Holds}
+use Rattle.sas_axioms.proofs.Imports.{◌≡◌, ◌≢◌, ℕ, zero, suc, ◌<◌, List, [], ◌∷◌, length, get_or, set, refl, sym, ◌∙◌, ap, subst, inl, inr, arith, All, AllPairs, heap_items, cases_eq, get_or-set_same, get_or-set_other, All-nil, All-cons, All-head, All-tail, All-contains, Reverse, Fact, Parts, rule_at, IsState, HaveGone, IsBasic, IsOnLayer, IsLayered, IsSettledAt, Settles, Holds, differs_true}
+use Rattle.sas_axioms.proofs.Imports.{differs_not}
 use Rattle.sas_axioms.specs.declared.firing.Work.{Work}
 use Rattle.sas_axioms.specs.declared.layer_rules.LayerRule.{LayerRule}
 use Rattle.sas_axioms.specs.Agenda.{IsEmpty}
@@ -23,7 +10,6 @@ use Rattle.sas_axioms.specs.LayerRules.{IsRuleOn}
 use Rattle.sas_axioms.proofs.Counters.{open_same}
 use Rattle.sas_axioms.proofs.FallingSteps.{noted_moved}
 use Rattle.sas_axioms.proofs.Sources.{sources_same, settled_when_given}
-use Rattle.sas_meaning.proofs.Forced.{differs_true, differs_not}
 
 -- ---- the facts that are gone
 

@@ -1,17 +1,5 @@
 -- The counters before a layer is settled.
-use Rattle.std.proofs.Common.{◌≡◌, ℕ, ◌+◌, ◌<◌, ◌↔◌, Bool, true, false, List, [], ◌∷◌, ◌++◌, length, get_or, set, refl, sym, ◌∙◌, subst, inl, inr, arith}
-use Rattle.std.specs.List.{All}
-use Rattle.std.proofs.lemmas.Bool.{cases_eq}
-use Rattle.std.proofs.lemmas.List.{get_or-set_other, get_or_push, get_or_append_left, length_push}
-use Rattle.std.proofs.lemmas.List.Elements.{All-head, All-tail}
-use Rattle.sas_core.specs.declared.parts.Fact.{Fact}
-use Rattle.sas_core.specs.declared.parts.Parts.{Parts}
-use Rattle.sas_core.specs.Grounded.{rule_at}
-use Rattle.sas_meaning.specs.States.{AllHold}
-use Rattle.sas_meaning.specs.Layers.{IsBasic, IsOnLayer, IsLayered}
-use Rattle.sas_meaning.specs.Forced.{AtDefault}
-use Rattle.sas_meaning.proofs.Layers.{layer_cases}
-use Rattle.sas_meaning.proofs.Forced.{differs_not}
+use Rattle.sas_axioms.proofs.Imports.{◌≡◌, ℕ, ◌+◌, ◌<◌, ◌↔◌, Bool, true, false, List, [], ◌∷◌, ◌++◌, length, get_or, set, refl, sym, ◌∙◌, subst, inl, inr, arith, All, cases_eq, get_or-set_other, get_or_push, get_or_append_left, length_push, All-head, All-tail, Fact, Parts, rule_at, AllHold, IsBasic, IsOnLayer, IsLayered, AtDefault, layer_cases, differs_not}
 use Rattle.sas_axioms.specs.LayerRules.{IsRuleOn, StaysOn, IsLate}
 use Rattle.sas_axioms.specs.Conditions.{open_conditions, SameRequired}
 use Rattle.sas_axioms.specs.Resting.{AreLooks}
@@ -56,18 +44,18 @@ pub record LooksUpTo (p : Parts) (k : ℕ) (below : List Bool) : Type 0 where
   pub one_each : length below ≡ k
   pub each : (layer rule : ℕ) (d : Bool) → rule < k → IsRuleOn p layer rule → (get_or below rule d ≡ false) ↔ StaysOn p layer rule
 
--- what a test tells of a rule
-pub looks_told : (p : Parts) (k layer : ℕ) (looks : Bool) → (looks ≡ true → StaysOn p layer k → ⊥) → (looks ≡ false → StaysOn p layer k) → (looks ≡ false) ↔ StaysOn p layer k
-looks_told p k layer true low stays = ((λ e. cc), (λ s. absurd (low refl s)))
-looks_told p k layer false low stays = (stays, (λ s. refl))
+-- what a test shows of a rule
+pub looks_covered : (p : Parts) (k layer : ℕ) (looks : Bool) → (looks ≡ true → StaysOn p layer k → ⊥) → (looks ≡ false → StaysOn p layer k) → (looks ≡ false) ↔ StaysOn p layer k
+looks_covered p k layer true low stays = ((λ e. cc), (λ s. absurd (low refl s)))
+looks_covered p k layer false low stays = (stays, (λ s. refl))
 
 pub looks_more : (p : Parts) (k : ℕ) (below : List Bool) (looks : Bool) → ((layer : ℕ) → IsRuleOn p layer k → (looks ≡ false) ↔ StaysOn p layer k)
     → LooksUpTo p k below → LooksUpTo p (k + 1) (below ++ looks ∷ [])
-looks_more p k below looks tells up = record {
+looks_more p k below looks covers up = record {
   one_each = omega (arith, length_push below looks, up.one_each);
   each = λ layer rule d lt is. elim (cases_eq rule k) [
     | inl e ↦ subst (λ (b : Bool). (b ≡ false) ↔ StaysOn p layer rule) (sym (get_or_push below looks d rule (up.one_each ∙ sym e)))
-        (subst (λ i. (looks ≡ false) ↔ StaysOn p layer i) (sym e) (tells layer (subst (λ i. IsRuleOn p layer i) e is)))
+        (subst (λ i. (looks ≡ false) ↔ StaysOn p layer i) (sym e) (covers layer (subst (λ i. IsRuleOn p layer i) e is)))
     | inr ne ↦ subst (λ (b : Bool). (b ≡ false) ↔ StaysOn p layer rule) (sym (get_or_append_left below (looks ∷ []) d rule (let l = up.one_each in omega arith)))
         (up.each layer rule d (omega arith) is)
   ];

@@ -1,14 +1,5 @@
 -- From a settled layer to the next one on which a rule can fire.
-use Rattle.std.proofs.Common.{ℕ, ◌+◌, ◌<◌, ◌≤◌, List, length, sym, subst, inl, inr, arith}
-use Rattle.std.proofs.lemmas.Bool.{cases_eq, cases_lt}
-use Rattle.std.proofs.lemmas.List.{get_or_default}
-use Rattle.sas_core.specs.declared.parts.Rule.{Rule}
-use Rattle.sas_core.specs.declared.parts.Parts.{Parts}
-use Rattle.sas_core.specs.Grounded.{rule_at}
-use Rattle.sas_meaning.specs.Layers.{IsLayered}
-use Rattle.sas_meaning.specs.Settled.{IsSettledAt, IsSettled}
-use Rattle.sas_meaning.specs.Forced.{AtDefault, HasFired, Occurs}
-use Rattle.sas_meaning.proofs.Settling.{default_off, settled_off, forced_at_default, settled_when_fired}
+use Rattle.sas_axioms.proofs.Imports.{ℕ, ◌+◌, ◌<◌, ◌≤◌, List, length, sym, subst, inl, inr, arith, cases_eq, cases_lt, get_or_default, Rule, Parts, rule_at, IsLayered, IsSettledAt, IsSettled, AtDefault, HasFired, Occurs, default_off, settled_off, forced_at_default, settled_when_fired}
 use Rattle.sas_axioms.specs.ByLayers.{IsIdle, SettlesNext}
 use Rattle.sas_axioms.specs.LayerRules.{IsRuleOn}
 use Rattle.sas_axioms.proofs.LayerStart.{late_waits}

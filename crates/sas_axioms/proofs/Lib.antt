@@ -19,3 +19,4 @@ pub mod AgendaOrder
 pub mod Recounting
 pub mod CountingEntries
 pub mod RulesOf
+mod Imports

@@ -1,18 +1,6 @@
 -- The rules of a layer that hold set their variables, one by one.
-use Rattle.std.proofs.Common.{◌≡◌, ◌≢◌, ◌⊎◌, ◌↔◌, ℕ, ◌+◌, ◌<◌, ◌≤◌, true, List, [], length, get_or, set, sym, ◌∙◌, ap, subst, inl, inr, arith}
-use Rattle.std.specs.BinaryHeap.{heap_items}
-use Rattle.std.proofs.lemmas.Bool.{cases_eq, cases_lt}
-use Rattle.std.proofs.lemmas.List.{get_or-set_same, get_or-set_other, length-set}
-use Rattle.std.proofs.lemmas.List.Elements.{All-nil, All-contains}
-use Rattle.std.specs.declared.cmp.Reverse.{Reverse}
-use Rattle.sas_core.specs.declared.parts.Parts.{Parts}
-use Rattle.sas_core.specs.Grounded.{rule_at}
-use Rattle.sas_core.specs.WellRanged.{WellRanged}
-use Rattle.sas_meaning.specs.Layers.{IsOnLayer, IsLayered}
-use Rattle.sas_meaning.specs.Settled.{differs, IsSettledAt, IsSettled}
-use Rattle.sas_meaning.specs.Forced.{SameOff}
-use Rattle.sas_meaning.proofs.Forced.{Fired, fired_there, differs_true, differs_not}
-use Rattle.sas_meaning.proofs.Settling.{settled_off}
+use Rattle.sas_axioms.proofs.Imports.{◌≡◌, ◌≢◌, ◌⊎◌, ◌↔◌, ℕ, ◌+◌, ◌<◌, ◌≤◌, true, List, [], length, get_or, set, sym, ◌∙◌, ap, subst, inl, inr, arith, heap_items, cases_eq, cases_lt, get_or-set_same, get_or-set_other, length-set, All-nil, All-contains, Reverse, Parts, rule_at, WellRanged, IsOnLayer, IsLayered, differs, IsSettledAt, IsSettled, SameOff, Fired, fired_there, differs_true, differs_not}
+use Rattle.sas_axioms.proofs.Imports.{settled_off}
 use Rattle.sas_axioms.specs.declared.firing.Work.{Work}
 use Rattle.sas_axioms.specs.declared.agenda.Agenda.{Agenda}
 use Rattle.sas_axioms.specs.declared.layer_rules.LayerRule.{LayerRule}

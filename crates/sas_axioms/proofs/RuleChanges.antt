@@ -1,19 +1,5 @@
 -- The variables and values in a rule of a task exist.
-use Rattle.std.proofs.Common.{◌≡◌, ℕ, ◌<◌, ◌^◌, not, nat_eq, List, length, refl, sym, subst}
-use Rattle.std.specs.Prelude.{slice_index}
-use Rattle.std.specs.List.{All}
-use Rattle.std.proofs.lemmas.List.Elements.{All-weaker, All-from_recursion}
-use Rattle.sas_core.specs.declared.parts.Fact.{Fact}
-use Rattle.sas_core.specs.declared.parts.Parts.{Parts}
-use Rattle.sas_core.specs.declared.grounded.Change.{Change}
-use Rattle.sas_core.specs.Changes.{rule_change}
-use Rattle.sas_core.specs.Grounded.{rule_at}
-use Rattle.sas_core.specs.Variables.{FactExists}
-use Rattle.sas_core.specs.WellRanged.{WellRanged, RuleFits}
-use Rattle.sas_core.proofs.Places.{holds_at}
-use Rattle.sas_meaning.specs.Layers.{default_of}
-use Rattle.sas_meaning.specs.Settled.{differs}
-use Rattle.sas_meaning.proofs.Forced.{fact_within}
+use Rattle.sas_axioms.proofs.Imports.{◌≡◌, ℕ, ◌<◌, ◌^◌, not, nat_eq, List, length, refl, sym, subst, slice_index, All, All-weaker, All-from_recursion, Fact, Parts, Change, rule_change, rule_at, FactExists, WellRanged, RuleFits, holds_at, default_of, differs, fact_within}
 use Rattle.sas_axioms.proofs.Sources.{no_rule}
 
 module _ (p : Parts) (ranged : WellRanged p) (rule : ℕ) (exists : rule < length p.rules) where
@@ -36,7 +22,7 @@ module _ (p : Parts) (ranged : WellRanged p) (rule : ℕ) (exists : rule < lengt
   pub conditions_few : (conditions : List Fact) → conditions ≡ (rule_at p rule).conditions → length conditions < 2 ^ 31
   conditions_few conditions are = subst (λ (cs : List Fact). length cs < 2 ^ 31) (sym are) rule_fits.conditions.count
 
--- what was read tells whether the variable of the rule differs from its default
+-- what was read shows whether the variable of the rule differs from its default
 pub differs_read : (p : Parts) (s : List ℕ) (rule value default : ℕ) (change : Change) → change ≡ rule_change (rule_at p rule)
     → value ≡ slice_index s change.var → default ≡ default_of p change.var → not (nat_eq value default) ≡ differs p s (rule_at p rule).var
 differs_read p s rule value default change of_rule is is_default = rw (is, is_default, of_rule) refl

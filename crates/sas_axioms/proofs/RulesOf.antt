@@ -1,22 +1,6 @@
 -- The rules of each variable that can fire, one rule more.
-use Rattle.std.proofs.Common.{◌≡◌, ◌≢◌, ℕ, ◌+◌, ◌<◌, ◌≤◌, Bool, true, false, List, [], ◌∷◌, ◌++◌, length, get_or, refl, sym, ◌∙◌, ap, subst, inl, inr, arith}
-use Rattle.std.specs.Prelude.{◌==◌, ◌&&◌, not, if◌then◌else◌}
-use Rattle.std.specs.List.{All, Contains}
-use Rattle.std.proofs.lemmas.Bool.{eqb-true, eq-eqb, ne_eqb, and_parts, and_from}
-use Rattle.std.proofs.lemmas.Bool.Decides.{eqb_tells, Decides-eqb, Decides-not}
-use Rattle.std.proofs.lemmas.List.{append-nil}
-use Rattle.std.proofs.lemmas.List.Elements.{All-nil, All-push, Contains-get_or}
-use Rattle.sas_core.specs.declared.parts.Rule.{Rule}
-use Rattle.sas_core.specs.declared.parts.Parts.{Parts}
-use Rattle.sas_core.specs.Grounded.{rule_at}
-use Rattle.sas_flat.specs.declared.by_key.Entry.{Entry}
-use Rattle.sas_flat.specs.ByKey.{items_of, by_key}
-use Rattle.sas_flat.proofs.Tables.{length-table}
-use Rattle.sas_flat.proofs.ByKey.{item_if, items_none, items_append, items_cons, under_key}
-use Rattle.sas_meaning.specs.Layers.{IsOnLayer, default_of, CanFire, can_fire}
-use Rattle.sas_meaning.specs.Places.{places, can_give}
-use Rattle.sas_meaning.proofs.Layers.{on_layer_within}
-use Rattle.sas_meaning.proofs.Places.{places_to, places_one_more, places_all, place_is, is_place}
+use Rattle.sas_axioms.proofs.Imports.{◌≡◌, ◌≢◌, ℕ, ◌+◌, ◌<◌, ◌≤◌, Bool, true, false, List, [], ◌∷◌, ◌++◌, length, get_or, refl, sym, ◌∙◌, ap, subst, inl, inr, arith, ◌==◌, ◌&&◌, not, if◌then◌else◌, All, Contains, eqb-true, eq-eqb, ne_eqb, and_parts, and_from, eqb_tells, Decides-eqb, Decides-not, append-nil, All-nil, All-push, Contains-get_or, Rule, Parts, rule_at, Entry, items_of, by_key}
+use Rattle.sas_axioms.proofs.Imports.{length-table, item_if, items_none, items_append, items_cons, under_key, IsOnLayer, default_of, CanFire, can_fire, places, can_give, on_layer_within, places_to, places_one_more, places_all, place_is, is_place}
 use Rattle.sas_axioms.specs.LayerRules.{IsRuleOn, AreRulesOf}
 
 module _ (p : Parts) where

@@ -1,20 +1,7 @@
 -- Variables set by sources are forced, and a rule that fires is a source.
-use Rattle.std.proofs.Common.{◌≡◌, ◌≢◌, ℕ, zero, suc, ◌+◌, ◌<◌, ◌==◌, Bool, true, cond, List, [], ◌∷◌, length, get_or, set, None, refl, sym, ◌∙◌, ap, subst, inl, inr, arith}
-use Rattle.std.proofs.lemmas.Bool.{cases_eq, eq-eqb}
-use Rattle.std.proofs.lemmas.Bool.Decides.{eqb_tells}
-use Rattle.std.proofs.lemmas.List.{get_or_default, get_or-set_same, get_or-set_other}
-use Rattle.sas_core.specs.declared.parts.Fact.{Fact}
-use Rattle.sas_core.specs.declared.parts.Rule.{Rule}
-use Rattle.sas_core.specs.declared.parts.Parts.{Parts}
-use Rattle.sas_core.specs.Grounded.{rule_at}
-use Rattle.sas_meaning.specs.Layers.{IsOnLayer, default_of, IsLayered}
-use Rattle.sas_meaning.specs.Settled.{new_value_of, value_with, IsClosed, differs, IsSettledAt}
-use Rattle.sas_meaning.specs.Forced.{OnlyForced, HasFired, AtDefault, SameOff}
-use Rattle.sas_meaning.proofs.Forced.{differs_true, differs_not}
-use Rattle.sas_meaning.proofs.Layers.{layer_tells, given_on, given_off as value_off, looks_down}
-use Rattle.sas_meaning.proofs.Rules.{new_value_is}
-use Rattle.sas_meaning.proofs.Settling.{settled_when_fired}
-use Rattle.sas_meaning.proofs.Unique.{differs_tells}
+use Rattle.sas_axioms.proofs.Imports.{◌≡◌, ◌≢◌, ℕ, zero, suc, ◌+◌, ◌<◌, ◌==◌, Bool, true, cond, List, [], ◌∷◌, length, get_or, set, None, refl, sym, ◌∙◌, ap, subst, inl, inr, arith, cases_eq, eq-eqb, eqb_tells, get_or_default, get_or-set_same, get_or-set_other, Fact, Rule, Parts, rule_at, IsOnLayer, default_of, IsLayered, new_value_of, value_with, IsClosed, differs, IsSettledAt, OnlyForced}
+use Rattle.sas_axioms.proofs.Imports.{HasFired, AtDefault, SameOff, differs_true, differs_not, layer_decides, given_on, looks_down, new_value_is, settled_when_fired, differs_decides}
+use Rattle.sas_meaning.proofs.Layers.{given_off as value_off}
 use Rattle.sas_axioms.specs.LayerRules.{IsRuleOn}
 use Rattle.sas_axioms.specs.Sources.{IsHolding, IsSourceOf, HaveSources, AreGiven}
 
@@ -36,7 +23,7 @@ module _ (p : Parts) (layer : ℕ) (s sources : List ℕ) (layered : IsLayered p
         → ((u : ℕ) → given.have.rank u < given.have.rank v → IsOnLayer p layer u → differs p s u ≡ true → set u ≡ true)
         → (j : ℕ) (e : Fact) → j < length (rule_at p (get_or sources v 0)).conditions
         → value_with p layer s set (get_or (rule_at p (get_or sources v 0)).conditions j e).var ≡ (get_or (rule_at p (get_or sources v 0)).conditions j e).value
-    condition_holds v on d lower j e within = elim (layer_tells p layer (get_or (rule_at p (get_or sources v 0)).conditions j e).var) [
+    condition_holds v on d lower j e within = elim (layer_decides p layer (get_or (rule_at p (get_or sources v 0)).conditions j e).var) [
       | inr w ↦ value_off p layer s set (get_or (rule_at p (get_or sources v 0)).conditions j e).var w.0 ∙ given.hold v on d j e within
       | inl w ↦ (let c : Fact = get_or (rule_at p (get_or sources v 0)).conditions j e in
           let source = given.have.source v on d in
@@ -216,9 +203,9 @@ module _ (p : Parts) (layer rule : ℕ) (s sources : List ℕ) (layered : IsLaye
 
 -- on a settled layer, a variable's value with those that differ is its value
 settled_value : (p : Parts) (layer : ℕ) (s : List ℕ) → IsSettledAt p layer s → (v : ℕ) → value_with p layer s (differs p s) v ≡ get_or s v 0
-settled_value p layer s settled v = elim (layer_tells p layer v) [
+settled_value p layer s settled v = elim (layer_decides p layer v) [
   | inr w ↦ value_off p layer s (differs p s) v w.0
-  | inl w ↦ given_on p layer s (differs p s) v w.0 ∙ elim (differs_tells p s v) [
+  | inl w ↦ given_on p layer s (differs p s) v w.0 ∙ elim (differs_decides p s v) [
     | inl d ↦ ap (λ b. cond b (new_value_of p v) (default_of p v)) d.1 ∙ sym d.0
     | inr d ↦ ap (λ b. cond b (new_value_of p v) (default_of p v)) d.1 ∙ sym (settled.new v w.0 d.1)
   ]

@@ -1,8 +1,5 @@
 -- Where the layers of a worklist begin and end.
-use Rattle.std.proofs.Common.{◌≡◌, ◌≢◌, ℕ, ◌+◌, ◌-◌, ◌<◌, ◌≤◌, List, length, get_or, take, drop, ap, inl, inr, arith}
-use Rattle.std.proofs.lemmas.Bool.{cases_lt}
-use Rattle.std.specs.List.{Contains}
-use Rattle.sas_core.specs.declared.parts.Parts.{Parts}
+use Rattle.sas_axioms.proofs.Imports.{◌≡◌, ◌≢◌, ℕ, ◌+◌, ◌-◌, ◌<◌, ◌≤◌, List, length, get_or, take, drop, ap, inl, inr, arith, cases_lt, Contains, Parts}
 use Rattle.sas_axioms.specs.declared.layer_rules.LayerRule.{LayerRule}
 use Rattle.sas_axioms.specs.ByLayers.{IsIdle}
 use Rattle.sas_axioms.specs.LayerRules.{AreLayerRules, IsLayerSpan, AreRulesOn}

@@ -1,25 +1,11 @@
 -- What is counted and noted goes on to fit the state.
-use Rattle.std.proofs.Common.{◌≡◌, ℕ, ◌≤◌, List, ◌++◌, length, get_or, set, is_some, sym, ap, ◌∙◌, subst, inl, inr}
-use Rattle.std.specs.List.{All, Contains}
-use Rattle.std.specs.BinaryHeap.{heap_items}
-use Rattle.std.proofs.lemmas.List.Elements.{All-contains, All-append}
-use Rattle.std.specs.declared.cmp.Reverse.{Reverse}
-use Rattle.sas_core.specs.declared.parts.Parts.{Parts}
-use Rattle.sas_core.specs.Grounded.{rule_at}
-use Rattle.sas_core.specs.Variables.{IsState}
-use Rattle.sas_meaning.specs.Layers.{IsOnLayer, IsLayered, LooksDown}
-use Rattle.sas_meaning.specs.declared.touched.Touched.{Touched}
-use Rattle.sas_meaning.specs.Touched.{AddsTouched, StillTells}
-use Rattle.sas_meaning.proofs.Layers.{looks_down}
-use Rattle.sas_meaning.proofs.Telling.{tells_set}
+use Rattle.sas_axioms.proofs.Imports.{◌≡◌, ℕ, ◌≤◌, List, ◌++◌, length, get_or, set, is_some, sym, ap, ◌∙◌, subst, inl, inr, All, Contains, heap_items, All-contains, All-append, Reverse, Parts, rule_at, IsState, IsOnLayer, IsLayered, LooksDown, Touched, AddsTouched, StillCovers, looks_down, covers_set, SameOff, get_or-set_other}
 use Rattle.sas_axioms.specs.declared.agenda.Agenda.{Agenda}
 use Rattle.sas_axioms.specs.declared.firing.Work.{Work}
 use Rattle.sas_axioms.specs.declared.layer_rules.LayerRule.{LayerRule}
 use Rattle.sas_axioms.specs.Agenda.{IsAwaited, RemovesFromAgenda}
 use Rattle.sas_axioms.specs.Conditions.{AreCounted}
 use Rattle.sas_axioms.specs.Sources.{IsHolding}
-use Rattle.sas_meaning.specs.Forced.{SameOff}
-use Rattle.std.proofs.lemmas.List.{get_or-set_other}
 use Rattle.sas_axioms.specs.Following.{AsksAbout, CountsChange, IsOnTrack, SameWork, KeepsRoom}
 use Rattle.sas_axioms.specs.LayerRules.{IsRuleOn}
 use Rattle.sas_axioms.proofs.Counters.{all_hold_when_none_open, none_open_when_all_hold}
@@ -114,10 +100,10 @@ pub off_step : (p : Parts) (layer at : ℕ) (s0 s s' : List ℕ) (var value : �
 off_step p layer at s0 s s' var value same so_far on is v off = so_far v off ∙ rw is (sym (get_or-set_other s var v value 0 (λ e.
     off (subst (λ n. IsOnLayer p n v) same (subst (λ u. IsOnLayer p at u) (sym e) on)))))
 
--- ---- what is told of it
+-- ---- what is known of it
 
-pub told_step : (p : Parts) (layer : ℕ) (s0 s s' : List ℕ) (var value : ℕ) (t0 t t' : Touched) → StillTells p s0 t0 s t → IsOnLayer p layer var → s' ≡ set s var value → AddsTouched var t t' → StillTells p s0 t0 s' t'
-told_step p layer s0 s s' var value t0 t t' so_far on is notes before tells = tells_set p s s' var value t t' (ap is_some on) is notes before (so_far before tells)
+pub covered_step : (p : Parts) (layer : ℕ) (s0 s s' : List ℕ) (var value : ℕ) (t0 t t' : Touched) → StillCovers p s0 t0 s t → IsOnLayer p layer var → s' ≡ set s var value → AddsTouched var t t' → StillCovers p s0 t0 s' t'
+covered_step p layer s0 s s' var value t0 t t' so_far on is notes before covers = covers_set p s s' var value t t' (ap is_some on) is notes before (so_far before covers)
 
 pub same_more : (w w' w'' : Work) → SameWork w w' → SameWork w' w'' → SameWork w w''
 same_more w w' w'' a b = record { layer = b.layer ∙ a.layer; stack = b.stack ∙ a.stack; one_each = b.one_each ∙ a.one_each; sources = b.sources ∙ a.sources }

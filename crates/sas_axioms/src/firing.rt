@@ -6,7 +6,7 @@ ghost use Rattle.sas_meaning.specs.States.{AllHold};
 ghost use Rattle.sas_meaning.specs.Forced.{AtDefault};
 ghost use Rattle.sas_meaning.specs.Following.{HaveGone};
 ghost use Rattle.sas_meaning.specs.Settled.{SameBasic};
-ghost use Rattle.sas_meaning.specs.Touched.{StillTells};
+ghost use Rattle.sas_meaning.specs.Touched.{StillCovers};
 ghost use Rattle.sas_axioms.specs.declared.waiting.Waiting.{Waiting};
 ghost use Rattle.sas_axioms.specs.ByLayers.{SettlesLayer};
 ghost use Rattle.sas_axioms.specs.LayerRules.{IsRuleOn, AreRulesOn};
@@ -189,7 +189,7 @@ impl Firing {
         ensures prepared { IsFiringReady task.now self.new }
         ensures state { IsState task.now.variables state.new }
         ensures basic { SameBasic task.now state.old state.new }
-        ensures told { StillTells task.now state.old touched.old state.new touched.new }
+        ensures covered { StillCovers task.now state.old touched.old state.new touched.new }
         ensures followed { OnOk result (IsFollowed task.now state.new self.new.work) }
     {
         self.work.agenda.begin();
@@ -214,7 +214,7 @@ impl Firing {
         ensures prepared { IsFiringReady task.now self.new }
         ensures state { IsState task.now.variables state.new }
         ensures basic { SameBasic task.now state.old state.new }
-        ensures told { StillTells task.now state.old touched.old state.new touched.new }
+        ensures covered { StillCovers task.now state.old touched.old state.new touched.new }
         ensures followed { OnOk result (IsFollowed task.now state.new self.new.work) }
     {
         let index = &self.resting.counted.index;

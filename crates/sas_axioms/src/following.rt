@@ -11,7 +11,7 @@ ghost use Rattle.sas_core.specs.Variables.{IsDerived, IsState};
 ghost use Rattle.sas_meaning.specs.Following.{HaveGone};
 ghost use Rattle.sas_meaning.specs.Forced.{SameOff};
 ghost use Rattle.sas_meaning.specs.Settled.{SameBasic, differs};
-ghost use Rattle.sas_meaning.specs.Touched.{AddsTouched, StillTells};
+ghost use Rattle.sas_meaning.specs.Touched.{AddsTouched, StillCovers};
 ghost use Rattle.sas_axioms.specs.declared.waiting.Waiting.{Waiting};
 ghost use Rattle.sas_axioms.specs.Agenda.{IsEmpty, IsOnAgenda, IsOrdered, AreMadeReady, work_left};
 ghost use Rattle.sas_axioms.specs.Conditions.{AreCounted, IsFullIndex};
@@ -81,7 +81,7 @@ pub fn settle_noted<T: Grounded>(
     requires between { (s : List ℕ) × IsBetween task.now s 0 state.old work.old }
     ensures state { IsState task.now.variables state.new }
     ensures basic { SameBasic task.now state.old state.new }
-    ensures told { StillTells task.now state.old touched.old state.new touched.new }
+    ensures covered { StillCovers task.now state.old touched.old state.new touched.new }
     ensures stack { work.new.stack ≡ work.old.stack }
     ensures one_each { length work.new.counters ≡ length work.old.counters }
     ensures sources { length work.new.sources ≡ length work.old.sources }
@@ -113,7 +113,7 @@ fn fall<T: Grounded>(
     ensures same { SameWork work.old work.new }
     ensures state { IsState task.now.variables state.new }
     ensures off { SameOff task.now work.old.layer state.old state.new }
-    ensures told { StillTells task.now state.old touched.old state.new touched.new }
+    ensures covered { StillCovers task.now state.old touched.old state.new touched.new }
     ensures rising { OnOk result ((s : List ℕ) → IsFalling task.now s state.old work.old
         → IsRising task.now s state.new work.new) }
     ensures left { OnOk result (work_left work.new.agenda < work_left work.old.agenda) }
@@ -180,7 +180,7 @@ fn rise<T: Grounded>(
     ensures stands { KeepsRoom work.old work.new }
     ensures state { IsState task.now.variables state.new }
     ensures off { SameOff task.now work.old.layer state.old state.new }
-    ensures told { StillTells task.now state.old touched.old state.new touched.new }
+    ensures covered { StillCovers task.now state.old touched.old state.new touched.new }
     ensures risen { OnOk result ((s : List ℕ) → IsRising task.now s state.old work.old
         → HasRisen task.now s state.new work.new) }
     ensures sources { SameSourcesOff task.now work.old.layer work.old.sources work.new.sources }

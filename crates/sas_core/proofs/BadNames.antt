@@ -1,9 +1,5 @@
 -- The first step that isn't a name: it exists only if not every step is a name.
-use Rattle.std.proofs.Common.{◌≡◌, ℕ, suc, ◌+◌, ◌<◌, Bool, false, List, [], ◌∷◌, ◌++◌, length, length-take, take, drop, get_or, sym, ◌∙◌, ap, subst, arith}
-use Rattle.std.specs.List.{AllByRecursion}
-use Rattle.std.proofs.lemmas.Bool.{false≢true}
-use Rattle.std.proofs.lemmas.List.{take-append-drop}
-use Rattle.std.proofs.Math.Seq.{drop-cons}
+use Rattle.sas_core.proofs.Imports.{◌≡◌, ℕ, suc, ◌+◌, ◌<◌, Bool, false, List, [], ◌∷◌, ◌++◌, length, length-take, take, drop, get_or, sym, ◌∙◌, ap, subst, arith, AllByRecursion, false≢true, take-append-drop, drop-cons}
 use Rattle.sas_core.specs.Names.{IsName, is_name}
 use Rattle.sas_core.specs.Plans.{IsFirstBadName}
 

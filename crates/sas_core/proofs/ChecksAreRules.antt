@@ -1,10 +1,6 @@
 -- All checks of a task pass if and only if its parts are well ranged: each section's checks are
 -- equivalent to its rules.
-use Rattle.std.proofs.Common.{◌≡◌, ℕ, zero, suc, ◌^◌, ◌<◌, Bool, true, false, not, ◌==◌, nat_lt, if◌then◌else◌, ◌↔◌, List, [], ◌∷◌, ◌++◌, length, flat_map, slice_index, Option, Some, None, refl, arith, ltb-true, lt-ltb, eqb-true, eq-eqb}
-use Rattle.std.specs.List.{AllByRecursion}
-use Rattle.std.proofs.lemmas.Bool.Decides.{nat_tests}
-use Rattle.std.specs.Cmp.{first_so, second_so}
-use Rattle.std.specs.Cmp.Derive.{both_true}
+use Rattle.sas_core.proofs.Imports.{◌≡◌, ℕ, zero, suc, ◌^◌, ◌<◌, Bool, true, false, not, ◌==◌, nat_lt, if◌then◌else◌, ◌↔◌, List, [], ◌∷◌, ◌++◌, length, flat_map, slice_index, Option, Some, None, refl, arith, ltb-true, lt-ltb, eqb-true, eq-eqb, AllByRecursion, nat_tests, first_so, second_so, both_true}
 use Rattle.sas_core.specs.declared.checks.PartsFault.{PartsFault}
 use Rattle.sas_core.specs.declared.checks.PartsFault.TheVariants.{NoVariable, TooMany, BadName, BadNumber, BadRange, BadFact, InitLength}
 use Rattle.sas_core.specs.declared.parts.Fact.{Fact}

@@ -1,7 +1,5 @@
 -- The first fault of a sequence of checks, and of a list with its length.
-use Rattle.std.proofs.Common.{◌≡◌, ℕ, ◌+◌, ◌<◌, ◌≤◌, Bool, true, false, if◌then◌else◌, List, [], ◌∷◌, ◌++◌, length, flat_map, drop, get_or, Option, Some, None, refl, sym, ◌∙◌, ap, add-one}
-use Rattle.std.proofs.Math.Seq.{drop-cons}
-use Rattle.std.proofs.lemmas.List.{drop_all}
+use Rattle.sas_core.proofs.Imports.{◌≡◌, ℕ, ◌+◌, ◌<◌, ◌≤◌, Bool, true, false, if◌then◌else◌, List, [], ◌∷◌, ◌++◌, length, flat_map, drop, get_or, Option, Some, None, refl, sym, ◌∙◌, ap, add-one, drop-cons, drop_all}
 use Rattle.sas_core.specs.declared.checks.PartsFault.{PartsFault}
 use Rattle.sas_core.specs.declared.checks.PartsFault.TheVariants.{TooMany}
 use Rattle.sas_core.specs.Numbers.{is_number}

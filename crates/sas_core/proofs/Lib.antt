@@ -5,3 +5,4 @@ pub mod Passing
 pub mod ChecksAreRules
 pub mod SameParts
 pub mod Places
+mod Imports

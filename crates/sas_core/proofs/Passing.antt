@@ -1,6 +1,6 @@
 -- When a sequence of checks passes: a single check and its rule, and two sequences one after the
 -- other.
-use Rattle.std.proofs.Common.{◌≡◌, ◌↔◌, Bool, true, false, if◌then◌else◌, List, [], ◌∷◌, ◌++◌, Option, Some, None, refl}
+use Rattle.sas_core.proofs.Imports.{◌≡◌, ◌↔◌, Bool, true, false, if◌then◌else◌, List, [], ◌∷◌, ◌++◌, Option, Some, None, refl}
 use Rattle.sas_core.specs.FirstFault.{Check, first_fault, check}
 
 -- no check of these fails

@@ -1,11 +1,5 @@
 -- What the result of a search for LF and CR means for the bytes.
-use Rattle.std.proofs.Common.{◌≡◌, ℕ, Bool, true, false, not, ◌&&◌, ◌||◌, ◌==◌, List, Option, Some, None, get_or, refl, sym, ◌∙◌, ap, arith}
-use Rattle.std.specs.List.{list_all}
-use Rattle.std.specs.Option.{is_some}
-use Rattle.std.proofs.lemmas.List.Folds.{list_all_at}
-use Rattle.std.proofs.lemmas.List.Elements.{All-from_get_or}
-use Rattle.std.proofs.lemmas.List.Sums.{list_all-from_AllPass}
-use Rattle.memchr.specs.Find.{IsFirstByte, is_byte2}
+use Rattle.sas_core.proofs.Imports.{◌≡◌, ℕ, Bool, true, false, not, ◌&&◌, ◌||◌, ◌==◌, List, Option, Some, None, get_or, refl, sym, ◌∙◌, ap, arith, list_all, is_some, list_all_at, All-from_get_or, list_all-from_AllPass, IsFirstByte, is_byte2}
 use Rattle.sas_core.specs.Names.{is_plain}
 
 neither : (a b : Bool) → (not a && not b) ≡ not (a || b)

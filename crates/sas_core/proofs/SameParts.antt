@@ -1,11 +1,5 @@
 -- The equality of each type of parts, and of a whole task, decides whether the values are the same.
-use Rattle.std.proofs.Common.{◌≡◌, ℕ, Bool, ◌&&◌, Option, Some, None, refl, ap, nat_eq, List}
-use Rattle.std.specs.Bool.{Decides, beq}
-use Rattle.std.specs.Option.{option_eq}
-use Rattle.std.specs.Cmp.{first_so, second_so, unsigned_Decides, booleans_Decides}
-use Rattle.std.specs.Cmp.Derive.{both_true}
-use Rattle.std.specs.Cmp.Lexicographic.{pointwise, pointwise_decides}
-use Rattle.std.proofs.lemmas.Bool.{false≢true}
+use Rattle.sas_core.proofs.Imports.{◌≡◌, ℕ, Bool, ◌&&◌, Option, Some, None, refl, ap, nat_eq, List, Decides, beq, option_eq, first_so, second_so, unsigned_Decides, booleans_Decides, both_true, pointwise, pointwise_decides, false≢true}
 use Rattle.sas_core.specs.declared.parts.Fact.{Fact}
 use Rattle.sas_core.specs.declared.parts.Variable.{Variable}
 use Rattle.sas_core.specs.declared.parts.Effect.{Effect}

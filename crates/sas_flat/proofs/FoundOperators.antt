@@ -1,11 +1,5 @@
 -- The operator at an index of the columns, and appending an operator.
-use Rattle.std.proofs.Common.{◌≡◌, ℕ, zero, suc, ◌+◌, ◌-◌, ◌<◌, ◌≤◌, List, [], ◌∷◌, ◌++◌, length, map, get_or, refl, sym, ap, ◌∙◌, arith, length-append}
-use Rattle.std.specs.Prelude.{slice_index}
-use Rattle.std.proofs.lemmas.List.{length-map, map-append, get_or-map}
-use Rattle.std.proofs.Math.ListN.{get_or-append}
-use Rattle.sas_core.specs.declared.parts.Fact.{Fact}
-use Rattle.sas_core.specs.declared.parts.Effect.{Effect}
-use Rattle.sas_core.specs.declared.parts.Operator.{Operator}
+use Rattle.sas_flat.proofs.Imports.{◌≡◌, ℕ, zero, suc, ◌+◌, ◌-◌, ◌<◌, ◌≤◌, List, [], ◌∷◌, ◌++◌, length, map, get_or, refl, sym, ap, ◌∙◌, arith, length-append, slice_index, length-map, map-append, get_or-map, get_or-append, Fact, Effect, Operator}
 use Rattle.sas_flat.specs.declared.operators.Head.{Head}
 use Rattle.sas_flat.specs.declared.operators.Columns.{Columns}
 use Rattle.sas_flat.specs.Effects.{effect_in_list}

@@ -1,9 +1,5 @@
 -- The variable at an index of the columns.
-use Rattle.std.proofs.Common.{◌≡◌, ℕ, ◌+◌, ◌<◌, ◌≤◌, List, [], ◌∷◌, ◌++◌, length, get_or, sym, ap, ◌∙◌, arith}
-use Rattle.std.specs.Prelude.{slice_index, slice_get, None, Some, option_map}
-use Rattle.std.proofs.lemmas.Option.{slice_get-get_or}
-use Rattle.sas_core.specs.declared.parts.Variable.{Variable}
-use Rattle.sas_core.specs.Variables.{range_of, layer_of, value_name}
+use Rattle.sas_flat.proofs.Imports.{◌≡◌, ℕ, ◌+◌, ◌<◌, ◌≤◌, List, [], ◌∷◌, ◌++◌, length, get_or, sym, ap, ◌∙◌, arith, slice_index, slice_get, None, Some, option_map, slice_get-get_or, Variable, range_of, layer_of, value_name}
 use Rattle.sas_flat.specs.declared.variables.Columns.{Columns}
 use Rattle.sas_flat.specs.Lists.{start_of, list_at, lists_of}
 use Rattle.sas_flat.specs.Variables.{variables_in, variables_from, AreAligned, OneMore}

@@ -1,13 +1,6 @@
 -- Columns to which items were only appended, and truncating them to what they were.
-use Rattle.std.proofs.Common.{◌≡◌, ℕ, ◌≤◌, List, [], ◌++◌, length, take, sym, ap, ◌∙◌, ◌+◌, refl, arith, length-append, Result, Ok, Err}
-use Rattle.std.specs.Prelude.{OnOk, OnErr, IsErr, slice_index}
-use Rattle.std.proofs.lemmas.Bool.{false≢true}
+use Rattle.sas_flat.proofs.Imports.{◌≡◌, ℕ, ◌≤◌, List, [], ◌++◌, length, take, sym, ap, ◌∙◌, ◌+◌, refl, arith, length-append, Result, Ok, Err, OnOk, OnErr, IsErr, slice_index, false≢true, take-append_seam, Effect, Fact, Operator, Variable}
 use Rattle.std.proofs.lemmas.List.{append-nil}
-use Rattle.std.proofs.Math.Seq.{take-append_seam}
-use Rattle.sas_core.specs.declared.parts.Effect.{Effect}
-use Rattle.sas_core.specs.declared.parts.Fact.{Fact}
-use Rattle.sas_core.specs.declared.parts.Operator.{Operator}
-use Rattle.sas_core.specs.declared.parts.Variable.{Variable}
 use Rattle.sas_flat.specs.Lists.{list_at, lists_of}
 use Rattle.sas_flat.specs.Table.{table}
 use Rattle.sas_flat.proofs.Blocks.{ends_more}

@@ -8,3 +8,4 @@ mod Rows
 mod FoundOperators
 mod FoundVariables
 mod Grown
+mod Imports

@@ -1,12 +1,5 @@
 -- Variables in columns: the variable at an index, and appending a variable.
-use Rattle.std.proofs.Common.{◌≡◌, ℕ, ◌<◌, ◌≤◌, List, [], ◌∷◌, ◌++◌, length, get_or, refl, sym, ap, ◌∙◌, arith, length-append}
-use Rattle.std.proofs.lemmas.Option.{slice_get_past}
-use Rattle.std.specs.Prelude.{slice_get, Option, Some, None, option_map, option_and_then}
-use Rattle.std.specs.Option.{option_map_or}
-use Rattle.std.proofs.Math.ListN.{get_or-append}
-use Rattle.std.proofs.Math.Seq.{get_or-append_seam}
-use Rattle.sas_core.specs.declared.parts.Variable.{Variable}
-use Rattle.sas_core.specs.Variables.{range_of, layer_of, value_name}
+use Rattle.sas_flat.proofs.Imports.{◌≡◌, ℕ, ◌<◌, ◌≤◌, List, [], ◌∷◌, ◌++◌, length, get_or, refl, sym, ap, ◌∙◌, arith, length-append, slice_get_past, slice_get, Option, Some, None, option_map, option_and_then, option_map_or, get_or-append, get_or-append_seam, Variable, range_of, layer_of, value_name}
 use Rattle.sas_flat.specs.Variables.{variable, variables_from}
 use Rattle.sas_flat.proofs.Tables.{length-table, table_none, table_more, slice_get-table}
 

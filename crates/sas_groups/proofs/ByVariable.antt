@@ -1,13 +1,5 @@
 -- The entries of the effects of large operators.
-use Rattle.std.proofs.Common.{◌≡◌, ℕ, ◌+◌, ◌<◌, List, [], ◌∷◌, ◌++◌, length, get_or, sym, subst, inl, inr, arith}
-use Rattle.std.specs.List.{All, Contains}
-use Rattle.std.proofs.lemmas.Bool.{cases_eq}
-use Rattle.std.proofs.lemmas.List.Elements.{Contains-append_left, Contains-push}
-use Rattle.sas_core.specs.declared.parts.Parts.{Parts}
-use Rattle.sas_core.specs.Grounded.{operator_at}
-use Rattle.sas_flat.specs.declared.by_key.Entry.{Entry}
-use Rattle.sas_flat.specs.ByKey.{by_key}
-use Rattle.sas_flat.proofs.ByKey.{under_holds}
+use Rattle.sas_groups.proofs.Imports.{◌≡◌, ℕ, ◌+◌, ◌<◌, List, [], ◌∷◌, ◌++◌, length, get_or, sym, subst, inl, inr, arith, All, Contains, cases_eq, Contains-append_left, Contains-push, Parts, operator_at, Entry, by_key, under_holds}
 use Rattle.sas_groups.specs.ByVariable.{IsLarge, effect_entry, AreEntered, AreByVariable, place_of}
 
 -- one effect more

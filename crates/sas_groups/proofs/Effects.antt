@@ -1,16 +1,6 @@
 -- Properties of all effects as properties of the effect at each index, and when an operator
 -- preserves a group.
-use Rattle.std.proofs.Common.{◌≡◌, ℕ, ◌<◌, [], length, get_or, None, ◌∙◌, ap, subst}
-use Rattle.std.proofs.lemmas.List.{get_or_default}
-use Rattle.std.proofs.lemmas.List.Elements.{All-contains, Contains-get_or}
-use Rattle.std.specs.List.{Contains}
-use Rattle.std.specs.Prelude.{List}
-use Rattle.sas_core.specs.declared.grounded.Change.{Change}
-use Rattle.sas_core.specs.declared.parts.Fact.{Fact}
-use Rattle.sas_core.specs.declared.parts.Effect.{Effect}
-use Rattle.sas_core.specs.declared.parts.Operator.{Operator}
-use Rattle.sas_core.specs.Grounded.{effect_at}
-use Rattle.sas_core.specs.Changes.{effect_change}
+use Rattle.sas_groups.proofs.Imports.{◌≡◌, ℕ, ◌<◌, [], length, get_or, None, ◌∙◌, ap, subst, get_or_default, All-contains, Contains-get_or, Contains, List, Change, Fact, Effect, Operator, effect_at, effect_change}
 use Rattle.sas_groups.specs.Clashes.{Keeps, IsRemoved, sets}
 use Rattle.sas_groups.specs.Checks.{Alone, Removes, OfEffects, NotBoth, IsGone, IsSingle, RemovesAll}
 use Rattle.sas_groups.specs.Lists.{known}

@@ -1,20 +1,6 @@
 -- The entries of groups by the numbers of their facts.
-use Rattle.std.proofs.Common.{◌≡◌, ℕ, ◌+◌, ◌-◌, ◌<◌, ◌≤◌, ◌↔◌, List, [], ◌++◌, length, get_or, refl, sym, ap, subst, ◌∙◌, inl, inr, arith}
-use Rattle.std.specs.List.{All, Contains}
-use Rattle.std.specs.List.Sorted.{IsNonDecreasingBy}
-use Rattle.std.proofs.lemmas.Bool.{cases_eq, cases_lt}
-use Rattle.std.proofs.lemmas.List.{get_or_append_left, get_or-append_right, length-append}
-use Rattle.std.proofs.lemmas.List.Elements.{Contains-get_or, Contains-append_left, Contains-append_right, Contains-append_cases}
-use Rattle.sas_core.specs.declared.parts.Fact.{Fact}
-use Rattle.sas_core.specs.declared.parts.Parts.{Parts}
-use Rattle.sas_core.specs.Grounded.{group_at}
-use Rattle.sas_core.specs.Variables.{FactExists}
-use Rattle.sas_core.specs.WellRanged.{WellRanged, Listed}
-use Rattle.sas_core.proofs.Places.{holds_at}
-use Rattle.sas_flat.specs.declared.by_key.Entry.{Entry}
-use Rattle.sas_flat.specs.ByKey.{by_key}
-use Rattle.sas_flat.proofs.ByKey.{under_holds, under_ascends}
-use Rattle.sas_meaning.proofs.Forced.{fact_within}
+use Rattle.sas_groups.proofs.Imports.{◌≡◌, ℕ, ◌+◌, ◌-◌, ◌<◌, ◌≤◌, ◌↔◌, List, [], ◌++◌, length, get_or, refl, sym, ap, subst, ◌∙◌, inl, inr, arith, All, Contains, IsNonDecreasingBy, cases_eq, cases_lt, get_or_append_left, get_or-append_right, length-append, Contains-get_or, Contains-append_left, Contains-append_right, Contains-append_cases, Fact, Parts, group_at, FactExists, WellRanged, Listed}
+use Rattle.sas_groups.proofs.Imports.{holds_at, Entry, by_key, under_holds, under_ascends, fact_within}
 use Rattle.sas_groups.specs.Distinct.{facts_at, AreOwnLists}
 use Rattle.sas_groups.specs.Index.{facts_below, number, entries_of, AreFirstNumbers, AreByFact, HasFact, under}
 use Rattle.sas_groups.proofs.InLists.{in_map, from_map}

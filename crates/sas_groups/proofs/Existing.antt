@@ -1,10 +1,5 @@
 -- If a fact exists, so do its variable and the groups that contain it.
-use Rattle.std.proofs.Common.{◌≡◌, ℕ, ◌<◌, length, get_or, subst, sym}
-use Rattle.std.proofs.lemmas.List.Elements.{Contains-get_or}
-use Rattle.sas_core.specs.declared.parts.Fact.{Fact}
-use Rattle.sas_core.specs.declared.parts.Parts.{Parts}
-use Rattle.sas_core.specs.Variables.{FactExists}
-use Rattle.sas_meaning.proofs.Forced.{fact_within}
+use Rattle.sas_groups.proofs.Imports.{◌≡◌, ℕ, ◌<◌, length, get_or, subst, sym, Contains-get_or, Fact, Parts, FactExists, fact_within}
 use Rattle.sas_groups.specs.declared.index.Index.{Index}
 use Rattle.sas_groups.specs.Index.{IsIndexOf, groups_of}
 use Rattle.sas_groups.specs.Noting.{AreBelow}

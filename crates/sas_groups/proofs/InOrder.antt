@@ -1,21 +1,6 @@
 -- A sorted list without duplicates contains the same facts as the original list.
-use Rattle.std.proofs.Common.{replicate, ◌-◌, Ordering, Less, Equal, Greater, ◌≡◌, ◌≢◌, ℕ, zero, suc, get_or, ap, ◌+◌, ◌<◌, ◌≤◌, Bool, true, List, [], ◌∷◌, ◌++◌, length, refl, sym, ◌∙◌, subst, inl, inr, arith}
-use Rattle.std.specs.Cmp.{IsEquivalence, IsTotalOrder}
-use Rattle.std.specs.Ordering.{eq_by_cmp, nat_cmp, ordering_reverse, ordering_then}
-use Rattle.std.specs.List.{Contains}
-use Rattle.std.specs.List.Retain.{IsFiltered, DiffersFromLast}
-use Rattle.std.specs.List.Sorted.{IsPermutation, IsSorted, IsStrictlySortedBy}
-use Rattle.std.proofs.lemmas.Bool.{cases_eq, cases_lt}
-use Rattle.std.proofs.lemmas.List.{get_or_append_left, get_or-append_right, get_or_push, get_or-replicate, length-append, length-replicate, length_push}
-use Rattle.std.proofs.Math.ListN.{get_or-eq_default}
-use Rattle.std.proofs.lemmas.List.Filters.{dedup_is}
-use Rattle.std.proofs.lemmas.List.Kept.{Contains-dedup, Contains-from_dedup, IsStrictlySortedBy-dedup}
-use Rattle.std.proofs.lemmas.Map.Keys.{Less-from_sorted}
-use Rattle.std.proofs.lemmas.List.Elements.{Contains-get_or}
-use Rattle.std.proofs.lemmas.List.Sorted.{Contains-permutation, IsPermutation-sym, length_permutation}
-use Rattle.sas_core.specs.declared.parts.Fact.{Fact}
-use Rattle.sas_core.specs.declared.parts.Parts.{Parts}
-use Rattle.sas_core.specs.Grounded.{group_at}
+use Rattle.sas_groups.proofs.Imports.{replicate, ◌-◌, Ordering, Less, Equal, Greater, ◌≡◌, ◌≢◌, ℕ, zero, suc, get_or, ap, ◌+◌, ◌<◌, ◌≤◌, Bool, true, List, [], ◌∷◌, ◌++◌, length, refl, sym, ◌∙◌, subst, inl, inr, arith, IsEquivalence, IsTotalOrder, eq_by_cmp, nat_cmp, ordering_reverse, ordering_then, Contains, IsFiltered, DiffersFromLast, IsPermutation, IsSorted, IsStrictlySortedBy, cases_eq}
+use Rattle.sas_groups.proofs.Imports.{cases_lt, get_or_append_left, get_or-append_right, get_or_push, get_or-replicate, length-append, length-replicate, length_push, get_or-eq_default, dedup_is, Contains-dedup, Contains-from_dedup, IsStrictlySortedBy-dedup, Less-from_sorted, Contains-get_or, Contains-permutation, IsPermutation-sym, length_permutation, Fact, Parts, group_at}
 use Rattle.sas_groups.specs.Distinct.{own_or, facts_at, AreDistinct, IsBelow}
 
 -- facts of which each is below the next one

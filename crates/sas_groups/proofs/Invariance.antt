@@ -1,19 +1,6 @@
 -- Groups that every operator preserves stay exclusive, by induction over the reachable states, for
 -- any set of assumed groups.
-use Rattle.std.proofs.Common.{◌≡◌, ◌≢◌, ℕ, Bool, List, [], ◌∷◌, ◌++◌, get_or, refl, sym, ◌∙◌, ap, subst, inl, inr}
-use Rattle.std.proofs.lemmas.Bool.{cases_eq}
-use Rattle.std.proofs.lemmas.List.Elements.{All-nil, All-cons, All-append, All-contains}
-use Rattle.std.specs.List.{All, Contains}
-use Rattle.sas_core.specs.declared.parts.Fact.{Fact}
-use Rattle.sas_core.specs.declared.parts.Effect.{Effect}
-use Rattle.sas_core.specs.declared.parts.Operator.{Operator}
-use Rattle.sas_core.specs.declared.parts.Parts.{Parts}
-use Rattle.sas_core.specs.Grounded.{group_at}
-use Rattle.sas_meaning.specs.States.{Holds, AllHold}
-use Rattle.sas_meaning.specs.Layers.{IsBasic}
-use Rattle.sas_meaning.specs.Steps.{preconditions, Fires, Step}
-use Rattle.sas_meaning.specs.Reachable.{IsInitial, Reachable, Initial, Next}
-use Rattle.sas_meaning.proofs.Facts.{SetBy, Untouched, set_or_kept}
+use Rattle.sas_groups.proofs.Imports.{◌≡◌, ◌≢◌, ℕ, Bool, List, [], ◌∷◌, ◌++◌, get_or, refl, sym, ◌∙◌, ap, subst, inl, inr, cases_eq, All-nil, All-cons, All-append, All-contains, All, Contains, Fact, Effect, Operator, Parts, group_at, Holds, AllHold, IsBasic, preconditions, Fires, Step, IsInitial, Reachable, Initial, Next, SetBy, Untouched, set_or_kept}
 use Rattle.sas_groups.specs.Clashes.{Clash, sets, Keeps}
 use Rattle.sas_groups.specs.Groups.{IsExclusiveIn}
 use Rattle.sas_groups.specs.Families.{MayBeExclusive}

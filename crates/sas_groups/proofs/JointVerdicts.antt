@@ -1,12 +1,6 @@
 -- Each group has exactly one joint verdict; that it exists is stated as a double negation, like
 -- each step of the proof.
-use Rattle.std.proofs.Common.{◌≡◌, ℕ, zero, suc, ◌<◌, ◌≤◌, Bool, false, List, length, refl, sym, ap, subst, inl, inr, arith}
-use Rattle.std.specs.Prelude.{◌||◌}
-use Rattle.std.proofs.lemmas.Bool.{cases_eq, cases_order, false≢true}
-use Rattle.std.proofs.lemmas.List.{get_or_default}
-use Rattle.sas_core.specs.declared.parts.Fact.{Fact}
-use Rattle.sas_core.specs.declared.parts.Parts.{Parts}
-use Rattle.sas_core.specs.Grounded.{operator_at, group_at}
+use Rattle.sas_groups.proofs.Imports.{◌≡◌, ℕ, zero, suc, ◌<◌, ◌≤◌, Bool, false, List, length, refl, sym, ap, subst, inl, inr, arith, ◌||◌, cases_eq, cases_order, false≢true, get_or_default, Fact, Parts, operator_at, group_at}
 use Rattle.sas_groups.specs.declared.verdict.Verdict.TheVariants.{Exclusive, Derived, Initial, Broken}
 use Rattle.sas_groups.specs.Clashes.{Keeps}
 use Rattle.sas_groups.specs.Families.{IsIn, AllKeep, IsKeptJointly, IsGreatest, IsGroupOfOr}

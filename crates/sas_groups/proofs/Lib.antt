@@ -12,3 +12,4 @@ pub mod Turns
 pub mod Effects
 pub mod JointVerdicts
 pub mod JointLists
+mod Imports

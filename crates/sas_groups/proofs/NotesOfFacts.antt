@@ -1,12 +1,5 @@
 -- The notes after one more fact is recorded or removed.
-use Rattle.std.proofs.Common.{◌≡◌, ◌≢◌, ◌⊎◌, ℕ, ◌<◌, Bool, IsTrue, length, set, List, Option, None, Some, subst, refl, sym, ap, ◌∙◌, inl, inr, arith}
-use Rattle.std.specs.List.{All, Contains}
-use Rattle.std.proofs.lemmas.Bool.{cases_eq}
-use Rattle.std.proofs.lemmas.List.{get_or-set_same, get_or-set_other, length-set}
-use Rattle.std.proofs.lemmas.List.Elements.{All-contains}
-use Rattle.sas_core.specs.declared.parts.Fact.{Fact}
-use Rattle.sas_core.specs.declared.parts.Parts.{Parts}
-use Rattle.sas_core.specs.Variables.{FactExists}
+use Rattle.sas_groups.proofs.Imports.{◌≡◌, ◌≢◌, ◌⊎◌, ℕ, ◌<◌, Bool, IsTrue, length, set, List, Option, None, Some, subst, refl, sym, ap, ◌∙◌, inl, inr, arith, All, Contains, cases_eq, get_or-set_same, get_or-set_other, length-set, All-contains, Fact, Parts, FactExists}
 use Rattle.sas_groups.specs.declared.index.Index.{Index}
 use Rattle.sas_groups.specs.declared.notes.Notes.{Notes}
 use Rattle.sas_groups.specs.declared.notes.Noted.{Noted}
@@ -115,26 +108,26 @@ module _ (groups : List ℕ) (kept : List Bool) (fact : Fact) (before now : List
       ];
     }
 
--- what the notes tell of the facts, and when they are the notes of facts
-pub value_note_tells : (facts : List Fact) (var value : ℕ) (noted : Option ℕ) → IsValueNote facts var noted → noted ≡ Some value
+-- what the notes say of the facts, and when they are the notes of facts
+pub value_note_shows : (facts : List Fact) (var value : ℕ) (noted : Option ℕ) → IsValueNote facts var noted → noted ≡ Some value
     → Contains facts (record { var = var; value = value })
-value_note_tells facts var value noted is at = (let some = subst (λ n. IsValueNote facts var n) at is in some.some)
+value_note_shows facts var value noted is at = (let some = subst (λ n. IsValueNote facts var n) at is in some.some)
 
-pub no_value_note_tells : (facts : List Fact) (var : ℕ) (noted : Option ℕ) → IsValueNote facts var noted → noted ≡ None
+pub no_value_note_shows : (facts : List Fact) (var : ℕ) (noted : Option ℕ) → IsValueNote facts var noted → noted ≡ None
     → (f : Fact) → Contains facts f → f.var ≢ var
-no_value_note_tells facts var noted is at = (let none = subst (λ n. IsValueNote facts var n) at is in none.none)
+no_value_note_shows facts var noted is at = (let none = subst (λ n. IsValueNote facts var n) at is in none.none)
 
-pub one_note_tells : (p : Parts) (facts : List Fact) (place : ℕ) (f : Fact) (noted : Noted) → IsGroupNote p facts place noted → noted ≡ One f
+pub one_note_shows : (p : Parts) (facts : List Fact) (place : ℕ) (f : Fact) (noted : Noted) → IsGroupNote p facts place noted → noted ≡ One f
     → IsOfGroup p facts place f × ((other : Fact) → IsOfGroup p facts place other → other ≡ f)
-one_note_tells p facts place f noted is at = subst (IsGroupNote p facts place) at is
+one_note_shows p facts place f noted is at = subst (IsGroupNote p facts place) at is
 
-pub no_note_tells : (Are : Fact → Type 0) (noted : Noted) → IsNoteOf Are noted → noted ≡ Nothing → (f : Fact) → Are f → ⊥
-no_note_tells Are noted is at = subst (IsNoteOf Are) at is
+pub no_note_shows : (Are : Fact → Type 0) (noted : Noted) → IsNoteOf Are noted → noted ≡ Nothing → (f : Fact) → Are f → ⊥
+no_note_shows Are noted is at = subst (IsNoteOf Are) at is
 
-pub some_note_tells : (Are : Fact → Type 0) (noted : Noted) → IsNoteOf Are noted → noted ≢ Nothing → (f : Fact) × Are f
-some_note_tells Are Nothing is some = absurd (some refl)
-some_note_tells Are (One f) is some = (f, is.0)
-some_note_tells Are Several is some = (is.0, is.2)
+pub some_note_shows : (Are : Fact → Type 0) (noted : Noted) → IsNoteOf Are noted → noted ≢ Nothing → (f : Fact) × Are f
+some_note_shows Are Nothing is some = absurd (some refl)
+some_note_shows Are (One f) is some = (f, is.0)
+some_note_shows Are Several is some = (is.0, is.2)
 
 -- where not several facts are noted, two that are known are one
 pub at_most_one : (p : Parts) (facts : List Fact) (place : ℕ) (noted : Noted) → IsGroupNote p facts place noted → noted ≢ Several

@@ -1,13 +1,5 @@
 -- Different facts have different numbers.
-use Rattle.std.proofs.Common.{◌≡◌, ℕ, zero, suc, ◌+◌, ◌*◌, ◌^◌, ◌<◌, ◌≤◌, List, [], ◌∷◌, length, ◌∙◌, ap, subst, inl, inr, arith}
-use Rattle.std.specs.List.{AllByRecursion}
-use Rattle.std.proofs.lemmas.Bool.{cases_lt}
-use Rattle.sas_core.specs.declared.parts.Fact.{Fact}
-use Rattle.sas_core.specs.declared.parts.Parts.{Parts}
-use Rattle.sas_core.specs.declared.parts.Variable.{Variable}
-use Rattle.sas_core.specs.Variables.{FactExists, range_of}
-use Rattle.sas_core.specs.WellRanged.{WellRanged, VariableFits}
-use Rattle.sas_meaning.proofs.Forced.{fact_within}
+use Rattle.sas_groups.proofs.Imports.{◌≡◌, ℕ, zero, suc, ◌+◌, ◌*◌, ◌^◌, ◌<◌, ◌≤◌, List, [], ◌∷◌, length, ◌∙◌, ap, subst, inl, inr, arith, AllByRecursion, cases_lt, Fact, Parts, Variable, FactExists, range_of, WellRanged, VariableFits, fact_within}
 use Rattle.sas_groups.specs.Index.{facts_below, number, AreFirstNumbers}
 
 -- a variable has fewer than 2^31 values

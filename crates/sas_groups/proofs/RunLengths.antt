@@ -1,9 +1,5 @@
 -- Splitting facts into runs, one by one.
-use Rattle.std.proofs.Common.{◌≡◌, ℕ, ◌+◌, ◌<◌, ◌≤◌, length, get_or, take, drop, List, [], ◌∷◌, ◌++◌, sym, ap, subst, ◌∙◌, append_assoc, arith}
-use Rattle.std.specs.List.{All}
-use Rattle.std.proofs.lemmas.List.{take_more, take_all, take-append-drop, drop_all, length-append, take-append-le, drop-append-le}
-use Rattle.std.proofs.lemmas.List.Elements.{All-nil, All-cons, All-append}
-use Rattle.sas_core.specs.declared.parts.Fact.{Fact}
+use Rattle.sas_groups.proofs.Imports.{◌≡◌, ℕ, ◌+◌, ◌<◌, ◌≤◌, length, get_or, take, drop, List, [], ◌∷◌, ◌++◌, sym, ap, subst, ◌∙◌, append_assoc, arith, All, take_more, take_all, take-append-drop, drop_all, length-append, take-append-le, drop-append-le, All-nil, All-cons, All-append, Fact}
 use Rattle.sas_groups.specs.Runs.{AreOnOne, AreRuns}
 
 -- one fact more is on the variable

@@ -1,7 +1,5 @@
 -- Properties of all items of a loop, from those processed and those that remain.
-use Rattle.std.proofs.Common.{◌≡◌, List, [], ◌∷◌, ◌++◌, refl, sym, ◌∙◌, ap, subst, append_assoc, arith}
-use Rattle.std.specs.List.{All, Contains}
-use Rattle.std.proofs.lemmas.List.Elements.{All-nil, All-cons, All-append, Contains-append_right}
+use Rattle.sas_groups.proofs.Imports.{◌≡◌, List, [], ◌∷◌, ◌++◌, refl, sym, ◌∙◌, ap, subst, append_assoc, arith, All, Contains, All-nil, All-cons, All-append, Contains-append_right}
 
 module _ {A : Type 0} (all before left : List A) (is : all ≡ before ++ left) where
   -- the item that comes is one of them

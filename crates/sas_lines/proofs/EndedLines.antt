@@ -1,7 +1,5 @@
 -- Any bytes are their lines, each with a line end, followed by the rest.
-use Rattle.std.proofs.Common.{◌≡◌, ℕ, Bool, true, false, eqb, List, [], ◌∷◌, ◌++◌, refl, sym, ap, subst, ◌∙◌, append_assoc, ◌⊎◌, inl, inr}
-use Rattle.std.specs.Prelude.{if◌then◌else◌, ◌==◌}
-use Rattle.std.proofs.lemmas.Bool.{eqb-true}
+use Rattle.sas_lines.proofs.Imports.{◌≡◌, ℕ, Bool, true, false, eqb, List, [], ◌∷◌, ◌++◌, refl, sym, ap, subst, ◌∙◌, append_assoc, ◌⊎◌, inl, inr, if◌then◌else◌, ◌==◌, eqb-true}
 use Rattle.sas_lines.specs.Parts.{parts, onto_first}
 use Rattle.sas_lines.specs.Lines.{without_return, lines_among, rest_among, lines, unfinished, EndedLines}
 

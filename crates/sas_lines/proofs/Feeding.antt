@@ -1,6 +1,5 @@
 -- How a feed combines the pending bytes with those that it takes.
-use Rattle.std.proofs.Common.{◌≡◌, ℕ, ◌+◌, ◌≤◌, Bool, true, false, List, [], ◌∷◌, ◌++◌, length, take, drop, sym, arith, ap, subst, ◌∙◌, append_assoc, if◌then◌else◌}
-use Rattle.std.proofs.lemmas.List.{take_all, length-take}
+use Rattle.sas_lines.proofs.Imports.{◌≡◌, ℕ, ◌+◌, ◌≤◌, Bool, true, false, List, [], ◌∷◌, ◌++◌, length, take, drop, sym, arith, ap, subst, ◌∙◌, append_assoc, if◌then◌else◌, take_all, length-take}
 use Rattle.sas_lines.specs.Parts.{StandsFirst}
 use Rattle.sas_lines.specs.Lines.{without_return, lines, unfinished, NoEnd}
 use Rattle.sas_lines.specs.FirstLines.{TakesLine}

@@ -1,9 +1,5 @@
 -- Where a search for a separator stops, and a CR before LF.
-use Rattle.std.proofs.Common.{◌≡◌, ℕ, zero, suc, ◌+◌, ◌<◌, ◌≢◌, List, [], ◌∷◌, ◌++◌, length, get_or, take, drop, refl, sym, ap, ◌∙◌, arith, inl, inr}
-use Rattle.std.proofs.lemmas.Bool.{eq-eqb, ne_eqb, eqb-true}
-use Rattle.std.proofs.lemmas.Bool.Decides.{eqb_tells}
-use Rattle.std.proofs.lemmas.List.{length-take, get_or-take, take-append-drop, drop_more, take_more}
-use Rattle.memchr.specs.Find.{Nowhere, NoneBefore, Passes, is_byte}
+use Rattle.sas_lines.proofs.Imports.{◌≡◌, ℕ, zero, suc, ◌+◌, ◌<◌, ◌≢◌, List, [], ◌∷◌, ◌++◌, length, get_or, take, drop, refl, sym, ap, ◌∙◌, arith, inl, inr, eq-eqb, ne_eqb, eqb-true, eqb_tells, length-take, get_or-take, take-append-drop, drop_more, take_more, Nowhere, NoneBefore, Passes, is_byte}
 use Rattle.sas_lines.specs.Lines.{without_return}
 use Rattle.sas_lines.specs.Parts.{Without, StandsFirst}
 

@@ -7,3 +7,4 @@ pub mod Splitting
 pub mod EndedLines
 pub mod Words
 pub mod Beginnings
+mod Imports

@@ -1,9 +1,5 @@
 -- The bytes that two writes sent.
-use Rattle.std.proofs.Common.{◌+◌, ◌-◌, ℕ, List, ◌++◌, length, take, drop, Option, sym, ap, subst, ◌∙◌}
-use Rattle.std.proofs.Math.Seq.{take-add}
-use Rattle.std.proofs.lemmas.List.{take_rest}
-use Rattle.std.specs.Io.KnownBytes.{Appends}
-use Rattle.std.proofs.KnownBytes.{Appends-trans}
+use Rattle.sas_lines.proofs.Imports.{◌+◌, ◌-◌, ℕ, List, ◌++◌, length, take, drop, Option, sym, ap, subst, ◌∙◌, take-add, take_rest, Appends, Appends-trans}
 
 pub sent_more : (before between after : Option (List ℕ)) (bytes : List ℕ) (written n : ℕ) → Appends before between (take written bytes) → Appends between after (take n (take (length bytes - written) (drop written bytes))) → Appends before after (take (written + n) bytes)
 sent_more before between after bytes written n first second =

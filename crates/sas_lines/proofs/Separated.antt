@@ -1,6 +1,5 @@
 -- The parts of bytes between separators, derived from the last part.
-use Rattle.std.proofs.Common.{◌≡◌, ℕ, Bool, true, false, cond, eqb, List, [], ◌∷◌, ◌++◌, refl, sym, ap, subst, ◌∙◌}
-use Rattle.std.proofs.lemmas.Bool.{ne_eqb, eq-eqb, eqb-false}
+use Rattle.sas_lines.proofs.Imports.{◌≡◌, ℕ, Bool, true, false, cond, eqb, List, [], ◌∷◌, ◌++◌, refl, sym, ap, subst, ◌∙◌, ne_eqb, eq-eqb, eqb-false}
 use Rattle.sas_lines.specs.Parts.{Without, onto_first, parts}
 use Rattle.sas_lines.specs.Lines.{rest_among}
 

@@ -1,14 +1,7 @@
 -- Splitting at single spaces is the inverse of joining; a decimal contains no space.
-use Rattle.std.proofs.Common.{◌≡◌, ℕ, zero, suc, ◌+◌, ◌<◌, ◌≤◌, ◌^◌, ◌≢◌, Bool, true, false, cond, eqb, List, [], ◌∷◌, ◌++◌, length, refl, sym, ap, ◌∙◌, arith, Option, Some, None, inl, inr}
-use Rattle.std.specs.List.{AllByRecursion}
-use Rattle.std.specs.Prelude.{◌/◌, ◌%◌, nat_lt}
-use Rattle.std.specs.Fmt.{decimal, digits, digits_onto, digit_glyph}
-use Rattle.std.specs.Str.Parse.{AllDigits, digits_value}
-use Rattle.std.proofs.lemmas.Bool.{eqb-true, ne_eqb, cases_lt}
-use Rattle.std.proofs.lemmas.Fmt.{digits_decimal, decimal_injective, decimal_is_IsNumeral, decimal_is_IsNumeral_wide, length-decimal-le}
-use Rattle.std.proofs.lemmas.Str.Parse.{digit_from_value}
+use Rattle.sas_lines.proofs.Imports.{◌≡◌, ℕ, zero, suc, ◌+◌, ◌<◌, ◌≤◌, ◌^◌, ◌≢◌, Bool, true, false, cond, eqb, List, [], ◌∷◌, ◌++◌, length, refl, sym, ap, ◌∙◌, arith, Option, Some, None, inl, inr, AllByRecursion, ◌/◌, ◌%◌, nat_lt, decimal, digits, digits_onto, digit_glyph, AllDigits, digits_value, eqb-true, ne_eqb, cases_lt, digits_decimal, decimal_injective, decimal_is_IsNumeral}
+use Rattle.sas_lines.proofs.Imports.{decimal_is_IsNumeral_wide, length-decimal-le, digit_from_value, IfSome}
 use Rattle.sas_lines.specs.Parts.{Without, onto_first, parts}
-use Rattle.std.specs.Prelude.{IfSome}
 use Rattle.sas_lines.specs.Spelling.{signed_decimal, joined}
 use Rattle.sas_lines.proofs.Separated.{parts-first, parts-only, parts-some}
 use Rattle.sas_lines.proofs.Digits.{own}
@@ -26,7 +19,7 @@ pub words-joined : (w : List ℕ) (ws : List (List ℕ)) → NoSpace w → AllBy
 words-joined w [] h g = words-only w h
 words-joined w (v ∷ ws) h g = words-first w (joined (v ∷ ws)) h ∙ ap (λ (l : List (List ℕ)). w ∷ l) (words-joined v ws g.0 g.1)
 
--- words without a space are told from what they are joined to
+-- words without a space can be separated again from what they are joined to
 pub same_words : (w v : List ℕ) (ws vs : List (List ℕ)) → NoSpace w → AllByRecursion NoSpace ws → NoSpace v → AllByRecursion NoSpace vs → joined (w ∷ ws) ≡ joined (v ∷ vs) → w ∷ ws ≡ v ∷ vs
 same_words w v ws vs h g i j e = sym (words-joined w ws h g) ∙ ap (parts 32) e ∙ words-joined v vs i j
 

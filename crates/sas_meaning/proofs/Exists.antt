@@ -1,25 +1,16 @@
 -- For all values of the basic variables there is a settled state.
-use Rattle.std.proofs.Common.{◌≡◌, ℕ, zero, suc, ◌+◌, ◌<◌, ◌≤◌, ◌⊎◌, List, [], ◌∷◌, length, get_or, set, Option, None, Some, refl, sym, ◌∙◌, subst, inl, inr, arith}
-use Rattle.std.proofs.lemmas.Bool.{cases_eq}
-use Rattle.std.proofs.lemmas.List.{get_or-set_same, get_or-set_other, get_or_default}
-use Rattle.std.specs.List.{slice_get}
-use Rattle.std.specs.Option.{option_and_then}
-use Rattle.sas_core.specs.declared.parts.Rule.{Rule}
-use Rattle.sas_core.specs.declared.parts.Variable.{Variable}
-use Rattle.sas_core.specs.declared.parts.Parts.{Parts}
-use Rattle.sas_core.specs.Variables.{IsState}
-use Rattle.sas_core.specs.WellRanged.{WellRanged}
+use Rattle.sas_meaning.proofs.Imports.{◌≡◌, ℕ, zero, suc, ◌+◌, ◌<◌, ◌≤◌, ◌⊎◌, List, [], ◌∷◌, length, get_or, set, Option, None, Some, refl, sym, ◌∙◌, subst, inl, inr, arith, cases_eq, get_or-set_same, get_or-set_other, get_or_default, slice_get, option_and_then, Rule, Variable, Parts, IsState, WellRanged}
 use Rattle.sas_meaning.specs.Laws.{SettledExists, InitialExists}
 use Rattle.sas_meaning.specs.Layers.{IsBasic, IsOnLayer, default_of, IsLayered}
 use Rattle.sas_meaning.specs.Settled.{IsSettledAt, SameBasic}
 use Rattle.sas_meaning.specs.Forced.{OnlyForced, HasFired, Changes, SameOff, AtDefault, equal_places}
-use Rattle.sas_meaning.proofs.Layers.{layer_tells, layer_cases, on_layer_within}
+use Rattle.sas_meaning.proofs.Layers.{layer_decides, layer_cases, on_layer_within}
 use Rattle.sas_meaning.proofs.Forced.{Fired, fired_there, state_set}
 use Rattle.sas_meaning.proofs.Facts.{hold_or_not}
 use Rattle.sas_meaning.proofs.Settling.{forced_at_default, settled_when_fired, basic_off, default_off, settled_off, all_settled}
 
 changes_or_fired : (t : Parts) (layer : ℕ) (s : List ℕ) (rule : Rule) → Changes t layer s rule ⊎ HasFired t layer s rule
-changes_or_fired t layer s rule = elim (layer_tells t layer rule.var) [
+changes_or_fired t layer s rule = elim (layer_decides t layer rule.var) [
   | inr a ↦ inr (λ on can hold. absurd (a.0 on))
   | inl a ↦ elim (cases_eq rule.new (default_of t rule.var)) [
     | inl b ↦ inr (λ on can hold. absurd (can b))

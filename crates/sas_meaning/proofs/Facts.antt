@@ -1,14 +1,9 @@
 -- Whether facts hold and whether an effect sets a variable is decidable.
-use Rattle.std.proofs.Common.{◌≡◌, ◌≢◌, ℕ, ◌⊎◌, List, [], ◌∷◌, get_or, refl, inl, inr, arith}
-use Rattle.std.proofs.lemmas.Bool.{cases_eq}
-use Rattle.std.specs.List.{All, Contains}
-use Rattle.std.proofs.lemmas.List.Elements.{All-nil, All-cons, All-head, All-tail, Contains-append_right}
-use Rattle.sas_core.specs.declared.parts.Fact.{Fact}
-use Rattle.sas_core.specs.declared.parts.Effect.{Effect}
+use Rattle.sas_meaning.proofs.Imports.{◌≡◌, ◌≢◌, ℕ, ◌⊎◌, List, [], ◌∷◌, get_or, refl, inl, inr, arith, cases_eq, All, Contains, All-nil, All-cons, All-head, All-tail, Contains-append_right, Fact, Effect}
 use Rattle.sas_meaning.specs.States.{Holds, AllHold}
 use Rattle.sas_meaning.specs.Steps.{Fires}
 
--- whether all facts hold can be told
+-- whether all facts hold can be decided
 pub hold_or_not : (value : ℕ → ℕ) (facts : List Fact) → AllHold value facts ⊎ (AllHold value facts → ⊥)
 hold_or_not value [] = inl (All-nil (Holds value))
 hold_or_not value (f ∷ fs) = elim (cases_eq (value f.var) f.value) [

@@ -1,15 +1,5 @@
 -- A rule that can fire: the tests of it by what is known of the rules before it, and which of its checks is the first to fail.
-use Rattle.std.proofs.Common.{◌≡◌, ◌∙◌, ℕ, ◌+◌, ◌<◌, ◌==◌, Bool, true, false, List, ◌++◌, length, take, slice_index, slice_index_or, slice_set, Option, Some, None, refl, sym, ap, subst, arith}
-use Rattle.std.specs.Option.{option_map_or}
-use Rattle.sas_core.specs.declared.grounded.Change.{Change}
-use Rattle.sas_core.specs.declared.parts.Rule.{Rule}
-use Rattle.sas_core.specs.declared.parts.Parts.{Parts}
-use Rattle.sas_core.specs.FirstFault.{Check, first_fault, check}
-use Rattle.sas_core.specs.Grounded.{rule_at}
-use Rattle.sas_core.specs.Changes.{rule_change}
-use Rattle.sas_core.specs.WellRanged.{RuleFits, WellRanged}
-use Rattle.sas_core.proofs.FirstFaults.{fails_before, decides_after}
-use Rattle.sas_core.proofs.Places.{holds_at}
+use Rattle.sas_meaning.proofs.Imports.{◌≡◌, ◌∙◌, ℕ, ◌+◌, ◌<◌, ◌==◌, Bool, true, false, List, ◌++◌, length, take, slice_index, slice_index_or, slice_set, Option, Some, None, refl, sym, ap, subst, arith, option_map_or, Change, Rule, Parts, Check, first_fault, check, rule_at, rule_change, RuleFits, WellRanged, fails_before, decides_after, holds_at}
 use Rattle.sas_meaning.specs.declared.layered.LayerFault.{LayerFault}
 use Rattle.sas_meaning.specs.declared.layered.LayerFault.TheVariants.{OldValue, TwoValues, LayerOrder}
 use Rattle.sas_meaning.specs.Layers.{CanFire, default_of}

@@ -1,31 +1,18 @@
 -- When one rule fires, all variables that differ from their default are still forced.
-use Rattle.std.proofs.Common.{◌≡◌, ◌≢◌, ℕ, zero, suc, ◌<◌, Bool, true, cond, List, [], ◌∷◌, length, get_or, set, sym, ◌∙◌, ap, subst, inl, inr, arith}
-use Rattle.std.proofs.lemmas.Bool.{cases_eq}
-use Rattle.std.proofs.lemmas.Bool.Decides.{eqb_tells}
-use Rattle.std.proofs.lemmas.List.{get_or-set_same, get_or-set_other, length-set}
-use Rattle.std.specs.List.{slice_get}
-use Rattle.std.specs.Option.{option_map_or}
-use Rattle.sas_core.specs.declared.parts.Fact.{Fact}
-use Rattle.sas_core.specs.declared.parts.Variable.{Variable}
-use Rattle.sas_core.specs.declared.parts.Rule.{Rule}
-use Rattle.sas_core.specs.declared.parts.Parts.{Parts}
-use Rattle.sas_core.specs.Grounded.{rule_at}
-use Rattle.sas_core.specs.Variables.{range_of, HasValue, FactExists, IsState}
-use Rattle.sas_core.specs.WellRanged.{WellRanged, RuleFits}
-use Rattle.sas_core.proofs.Places.{holds_at}
+use Rattle.sas_meaning.proofs.Imports.{◌≡◌, ◌≢◌, ℕ, zero, suc, ◌<◌, Bool, true, cond, List, [], ◌∷◌, length, get_or, set, sym, ◌∙◌, ap, subst, inl, inr, arith, cases_eq, eqb_tells, get_or-set_same, get_or-set_other, length-set, slice_get, option_map_or, Fact, Variable, Rule, Parts, rule_at, range_of, HasValue, FactExists, IsState, WellRanged, RuleFits, holds_at}
 use Rattle.sas_meaning.specs.States.{AllHold}
 use Rattle.sas_meaning.specs.Layers.{IsOnLayer, default_of, CanFire, LooksDown, IsLayered}
 use Rattle.sas_meaning.specs.Settled.{new_value_of, value_with, IsClosed, differs}
 use Rattle.sas_meaning.specs.Forced.{OnlyForced, HasFired, Changes, SameOff, equal_places}
-use Rattle.sas_meaning.proofs.Layers.{AgreeBelow, agree_sym, closed_agrees, layer_tells, given_on, given_off}
+use Rattle.sas_meaning.proofs.Layers.{AgreeBelow, agree_sym, closed_agrees, layer_decides, given_on, given_off}
 use Rattle.sas_meaning.proofs.Rules.{new_value_is}
-use Rattle.sas_meaning.proofs.Unique.{differs_tells}
+use Rattle.sas_meaning.proofs.Unique.{differs_decides}
 
 pub differs_true : (t : Parts) (s : List ℕ) (v : ℕ) → get_or s v 0 ≢ default_of t v → differs t s v ≡ true
-differs_true t s v ne = elim (differs_tells t s v) [ inl p ↦ absurd (ne p.0) | inr p ↦ p.1 ]
+differs_true t s v ne = elim (differs_decides t s v) [ inl p ↦ absurd (ne p.0) | inr p ↦ p.1 ]
 
 pub differs_not : (t : Parts) (s : List ℕ) (v : ℕ) → differs t s v ≡ true → get_or s v 0 ≢ default_of t v
-differs_not t s v d = elim (differs_tells t s v) [ inl p ↦ (let e = p.1 in absurd cc) | inr p ↦ p.0 ]
+differs_not t s v d = elim (differs_decides t s v) [ inl p ↦ (let e = p.1 in absurd cc) | inr p ↦ p.0 ]
 
 -- states that are the same off the layer agree below it
 pub agree_off : (t : Parts) (layer : ℕ) (s s' : List ℕ) → SameOff t layer s s' → AgreeBelow t layer s s'
@@ -39,7 +26,7 @@ module _ (t : Parts) (layer : ℕ) (layered : IsLayered t) (k : ℕ) (d : Rule) 
   condition_given : (s : List ℕ) (set : ℕ → Bool) (c : Fact) → OnlyForced t layer s → IsClosed t layer s set
       → IsOnLayer t layer (get_or t.rules k d).var → LooksDown t (get_or t.rules k d).var c
       → get_or s c.var 0 ≡ c.value → value_with t layer s set c.var ≡ c.value
-  condition_given s set c forced closed on down hold = elim (layer_tells t layer c.var) [
+  condition_given s set c forced closed on down hold = elim (layer_decides t layer c.var) [
     | inr w ↦ given_off t layer s set c.var w.0 ∙ hold
     | inl w ↦ (let ne : c.value ≢ default_of t c.var = λ e. (let z : layer < layer = (down layer layer on w.0).1 e in omega arith) in
         let df : differs t s c.var ≡ true = differs_true t s c.var (λ e. ne (sym hold ∙ e)) in
@@ -87,9 +74,9 @@ closed_when_fired t layer s forced done k d lt on fire hold =
     differs_true t s (get_or t.rules k d).var (λ e. fire (sym (done k d lt on fire (λ j f lt'. sym (is_value (get_or (get_or t.rules k d).conditions j f).var) ∙ hold j f lt')) ∙ e))
   where
     is_value : (v : ℕ) → value_with t layer s (differs t s) v ≡ get_or s v 0
-    is_value v = elim (layer_tells t layer v) [
+    is_value v = elim (layer_decides t layer v) [
       | inr w ↦ given_off t layer s (differs t s) v w.0
-      | inl w ↦ given_on t layer s (differs t s) v w.0 ∙ elim (differs_tells t s v) [
+      | inl w ↦ given_on t layer s (differs t s) v w.0 ∙ elim (differs_decides t s v) [
         | inl p ↦ ap (λ b. cond b (new_value_of t v) (default_of t v)) p.1 ∙ sym p.0
         | inr p ↦ ap (λ b. cond b (new_value_of t v) (default_of t v)) p.1 ∙ sym (forced.new v w.0 p.1)
       ]
@@ -157,7 +144,7 @@ fired_there t layer s k d ranged layered state forced lt ch = record {
     within = fact_within t (get_or t.rules k d).var (get_or t.rules k d).new (rule_new t ranged k d lt)
 
     same : get_or s (get_or t.rules k d).var 0 ≡ default_of t (get_or t.rules k d).var
-    same = elim (differs_tells t s (get_or t.rules k d).var) [
+    same = elim (differs_decides t s (get_or t.rules k d).var) [
       | inl p ↦ p.0
       | inr p ↦ absurd (ch.new (forced.new (get_or t.rules k d).var ch.on p.1 ∙ new_value_is t k d layered lt ch.can))
     ]

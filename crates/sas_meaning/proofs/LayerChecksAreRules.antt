@@ -1,17 +1,7 @@
 -- All layer checks pass if and only if the task is layered: each check is equivalent to its rule.
-use Rattle.std.proofs.Common.{◌≡◌, ℕ, zero, suc, ◌+◌, ◌<◌, ◌≤◌, ◌==◌, ◌↔◌, Bool, true, false, nat_lt, nat_le, if◌then◌else◌, List, [], ◌∷◌, ◌++◌, length, take, flat_map, get_or, ◌⊎◌, inl, inr, not, Option, Some, None, All, refl, sym, ap, ◌∙◌, subst, arith, eqb-true, eq-eqb, ltb-true, lt-ltb, leb-true, le-leb}
-use Rattle.std.proofs.lemmas.List.{get_or_default}
-use Rattle.std.proofs.lemmas.Bool.Decides.{nat_tests}
-use Rattle.std.specs.List.{enumerate_from}
-use Rattle.std.specs.Option.{option_map_or, is_some}
-use Rattle.sas_core.specs.declared.parts.Effect.{Effect}
-use Rattle.sas_core.specs.declared.parts.Operator.{Operator}
-use Rattle.sas_core.specs.declared.parts.Rule.{Rule}
-use Rattle.sas_core.specs.declared.parts.Parts.{Parts}
-use Rattle.sas_core.proofs.Passing.{Pass, by_test, split_row, join_row, and_then}
-use Rattle.sas_core.specs.FirstFault.{Check, first_fault, check}
-use Rattle.sas_core.specs.Grounded.{rule_at}
-use Rattle.sas_core.specs.Variables.{layer_of, IsDerived}
+use Rattle.sas_meaning.proofs.Imports.{◌≡◌, ℕ, zero, suc, ◌+◌, ◌<◌, ◌≤◌, ◌==◌, ◌↔◌, Bool, true, false, nat_lt, nat_le, if◌then◌else◌, List, [], ◌∷◌, ◌++◌, length, take, flat_map, get_or, ◌⊎◌, inl, inr, not, Option, Some, None, refl, sym, ap, ◌∙◌, subst, arith, eqb-true, eq-eqb, ltb-true, lt-ltb, leb-true, le-leb, get_or_default, nat_tests, enumerate_from, option_map_or, is_some, Effect, Operator}
+use Rattle.sas_meaning.proofs.Imports.{Rule, Parts, Pass, by_test, split_row, join_row, and_then, Check, first_fault, check, rule_at, layer_of, IsDerived}
+use Rattle.std.proofs.Common.{All}
 use Rattle.sas_meaning.specs.declared.layered.LayerFault.{LayerFault}
 use Rattle.sas_meaning.specs.declared.layered.LayerFault.TheVariants.{EffectOnDerived, RuleOnBasic, OldValue, TwoValues, LayerOrder}
 use Rattle.sas_meaning.specs.Layers.{IsBasic, default_of, CanFire, can_fire, LooksDown, IsLayeredRule, IsLayered}

@@ -1,29 +1,21 @@
 -- Which variables the conditions of a layer's rules may mention.
-use Rattle.std.proofs.Common.{◌≡◌, ◌≢◌, ℕ, zero, suc, ◌<◌, ◌≤◌, ◌==◌, ◌⊎◌, Bool, true, false, cond, List, [], ◌∷◌, length, get_or, Option, None, Some, refl, sym, ◌∙◌, ap, subst, inl, inr, arith}
-use Rattle.std.proofs.lemmas.Bool.Decides.{eqb_tells}
-use Rattle.std.specs.List.{slice_get}
-use Rattle.std.specs.Option.{option_map_or, option_and_then}
-use Rattle.sas_core.specs.declared.parts.Variable.{Variable}
-use Rattle.sas_core.specs.declared.parts.Fact.{Fact}
-use Rattle.sas_core.specs.declared.parts.Rule.{Rule}
-use Rattle.sas_core.specs.declared.parts.Parts.{Parts}
-use Rattle.sas_core.specs.Variables.{layer_of}
+use Rattle.sas_meaning.proofs.Imports.{◌≡◌, ◌≢◌, ℕ, zero, suc, ◌<◌, ◌≤◌, ◌==◌, ◌⊎◌, Bool, true, false, cond, List, [], ◌∷◌, length, get_or, Option, None, Some, refl, sym, ◌∙◌, ap, subst, inl, inr, arith, eqb_tells, slice_get, option_map_or, option_and_then, Variable, Fact, Rule, Parts, layer_of}
 use Rattle.sas_meaning.specs.Layers.{IsBasic, IsOnLayer, default_of, LooksDown, IsLayered}
 use Rattle.sas_meaning.specs.Settled.{is_on_layer, new_value_of, value_with, IsClosed, SameBasic}
 
--- a variable is on the layer or off it, and the test tells which
-option_tells : (o : Option ℕ) (layer : ℕ) → ((o ≡ Some layer) × (option_map_or (λ m. m == layer) o false ≡ true)) ⊎ ((o ≢ Some layer) × (option_map_or (λ m. m == layer) o false ≡ false))
-option_tells None layer = inr ((λ e. cc), refl)
-option_tells (Some m) layer = elim (eqb_tells m layer) [ inl w ↦ inl (ap Some w.1, w.0) | inr w ↦ inr ((λ e. let f : m ≡ layer = cc in w.1 f), w.0) ]
+-- a variable is on the layer or off it, and the test shows which
+option_shows : (o : Option ℕ) (layer : ℕ) → ((o ≡ Some layer) × (option_map_or (λ m. m == layer) o false ≡ true)) ⊎ ((o ≢ Some layer) × (option_map_or (λ m. m == layer) o false ≡ false))
+option_shows None layer = inr ((λ e. cc), refl)
+option_shows (Some m) layer = elim (eqb_tells m layer) [ inl w ↦ inl (ap Some w.1, w.0) | inr w ↦ inr ((λ e. let f : m ≡ layer = cc in w.1 f), w.0) ]
 
-pub layer_tells : (t : Parts) (layer v : ℕ) → (IsOnLayer t layer v × (is_on_layer t layer v ≡ true)) ⊎ ((IsOnLayer t layer v → ⊥) × (is_on_layer t layer v ≡ false))
-layer_tells t layer v = option_tells (layer_of t.variables v) layer
+pub layer_decides : (t : Parts) (layer v : ℕ) → (IsOnLayer t layer v × (is_on_layer t layer v ≡ true)) ⊎ ((IsOnLayer t layer v → ⊥) × (is_on_layer t layer v ≡ false))
+layer_decides t layer v = option_shows (layer_of t.variables v) layer
 
 pub given_on : (t : Parts) (layer : ℕ) (s : List ℕ) (set : ℕ → Bool) (v : ℕ) → IsOnLayer t layer v → value_with t layer s set v ≡ cond (set v) (new_value_of t v) (default_of t v)
-given_on t layer s set v on = elim (layer_tells t layer v) [ inl w ↦ rw w.1 | inr w ↦ absurd (w.0 on) ]
+given_on t layer s set v on = elim (layer_decides t layer v) [ inl w ↦ rw w.1 | inr w ↦ absurd (w.0 on) ]
 
 pub given_off : (t : Parts) (layer : ℕ) (s : List ℕ) (set : ℕ → Bool) (v : ℕ) → (IsOnLayer t layer v → ⊥) → value_with t layer s set v ≡ get_or s v 0
-given_off t layer s set v off = elim (layer_tells t layer v) [ inl w ↦ absurd (off w.0) | inr w ↦ rw w.1 ]
+given_off t layer s set v off = elim (layer_decides t layer v) [ inl w ↦ absurd (off w.0) | inr w ↦ rw w.1 ]
 
 -- a variable is basic or on some layer
 option_cases : (o : Option ℕ) → (o ≡ None) ⊎ ((m : ℕ) × (o ≡ Some m))
@@ -50,7 +42,7 @@ looks_down t rule c below here h b r = (h here below r b).0
 -- layers below alone
 given_agrees : (t : Parts) (layer : ℕ) (s s' : List ℕ) (set : ℕ → Bool) (rule : Rule) (c : Fact) → AgreeBelow t layer s s' → IsOnLayer t layer rule.var → LooksDown t rule.var c
     → value_with t layer s set c.var ≡ value_with t layer s' set c.var
-given_agrees t layer s s' set rule c agree on down = elim (layer_tells t layer c.var) [
+given_agrees t layer s s' set rule c agree on down = elim (layer_decides t layer c.var) [
   | inl w ↦ given_on t layer s set c.var w.0 ∙ sym (given_on t layer s' set c.var w.0)
   | inr w ↦ given_off t layer s set c.var w.0 ∙ (same w.0 ∙ sym (given_off t layer s' set c.var w.0))
 ]

@@ -3,7 +3,7 @@ pub mod Layers
 pub mod Rules
 pub mod Forced
 pub mod Settling
-pub mod Telling
+pub mod Covering
 pub mod Unique
 pub mod Exists
 pub mod NumberedChecks
@@ -14,3 +14,4 @@ pub mod FiringRules
 pub mod DerivedVariables
 pub mod Members
 pub mod Places
+mod Imports

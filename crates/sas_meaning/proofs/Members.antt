@@ -1,6 +1,5 @@
 -- The members of a list.
-use Rattle.std.proofs.Common.{◌≡◌, zero, suc, ◌⊎◌, List, [], ◌∷◌, refl, inl, inr, arith}
-use Rattle.std.specs.List.{Contains}
+use Rattle.sas_meaning.proofs.Imports.{◌≡◌, zero, suc, ◌⊎◌, List, [], ◌∷◌, refl, inl, inr, arith, Contains}
 
 pub contains_head : {A : Type 0} (x : A) (xs : List A) → Contains (x ∷ xs) x
 contains_head x xs = (0, omega arith, refl)

@@ -1,11 +1,5 @@
 -- The first fault among the checks of the items of a list.
-use Rattle.std.proofs.Common.{◌≡◌, ℕ, ◌+◌, ◌<◌, ◌≤◌, Bool, List, ◌∷◌, length, flat_map, drop, get_or, Option, Some, None, refl, sym, ◌∙◌, ap, add-one, arith}
-use Rattle.std.proofs.Math.Seq.{drop-cons}
-use Rattle.std.proofs.lemmas.List.{drop_all}
-use Rattle.std.proofs.lemmas.List.FromFn.{get_or-enumerate_from, length-enumerate_from}
-use Rattle.std.specs.List.{enumerate_from}
-use Rattle.sas_core.specs.FirstFault.{Check, first_fault, check}
-use Rattle.sas_core.proofs.FirstFaults.{fails_before, decides_after}
+use Rattle.sas_meaning.proofs.Imports.{◌≡◌, ℕ, ◌+◌, ◌<◌, ◌≤◌, Bool, List, ◌∷◌, length, flat_map, drop, get_or, Option, Some, None, refl, sym, ◌∙◌, ap, add-one, arith, drop-cons, drop_all, get_or-enumerate_from, length-enumerate_from, enumerate_from, Check, first_fault, check, fails_before, decides_after}
 use Rattle.sas_meaning.specs.declared.layered.LayerFault.{LayerFault}
 use Rattle.sas_meaning.specs.LayerChecks.{numbered_checks}
 

@@ -1,11 +1,5 @@
 -- The new value of the rules of a variable.
-use Rattle.std.proofs.Common.{◌≡◌, ℕ, zero, suc, ◌<◌, ◌==◌, ◌&&◌, Bool, true, false, List, [], ◌∷◌, length, get_or, Option, Some, refl, sym, ◌∙◌, ap, subst, inl, inr, arith}
-use Rattle.std.proofs.lemmas.Bool.{cases_Bool}
-use Rattle.std.proofs.lemmas.Bool.Decides.{eqb_tells}
-use Rattle.std.specs.List.{find}
-use Rattle.std.specs.Option.{option_map_or}
-use Rattle.sas_core.specs.declared.parts.Rule.{Rule}
-use Rattle.sas_core.specs.declared.parts.Parts.{Parts}
+use Rattle.sas_meaning.proofs.Imports.{◌≡◌, ℕ, zero, suc, ◌<◌, ◌==◌, ◌&&◌, Bool, true, false, List, [], ◌∷◌, length, get_or, Option, Some, refl, sym, ◌∙◌, ap, subst, inl, inr, arith, cases_Bool, eqb_tells, find, option_map_or, Rule, Parts}
 use Rattle.sas_meaning.specs.Layers.{default_of, CanFire, can_fire, IsLayered}
 use Rattle.sas_meaning.specs.Settled.{new_value_of}
 
@@ -46,8 +40,8 @@ new_value_is t k d layered lt fire = from (find_passing test t.rules k d lt (pas
       | inr a ↦ absurd (a.1 e)
     ]
 
-    told : (rule : Rule) → test rule ≡ true → (rule.var ≡ (get_or t.rules k d).var) × CanFire t rule
-    told rule e = elim (eqb_tells rule.var (get_or t.rules k d).var) [
+    covered : (rule : Rule) → test rule ≡ true → (rule.var ≡ (get_or t.rules k d).var) × CanFire t rule
+    covered rule e = elim (eqb_tells rule.var (get_or t.rules k d).var) [
       | inl a ↦ elim (eqb_tells rule.new (default_of t rule.var)) [
         | inl b ↦ (let f = rw (a.0, b.0) at e in absurd (let g : false ≡ true = f in cc))
         | inr b ↦ (a.1, b.1)
@@ -56,7 +50,7 @@ new_value_is t k d layered lt fire = from (find_passing test t.rules k d lt (pas
     ]
 
     from : Found test t.rules d → new_value_of t (get_or t.rules k d).var ≡ (get_or t.rules k d).new
-    from f = let w = told f.it f.passes in
+    from f = let w = covered f.it f.passes in
         let e : (get_or t.rules f.place d).new ≡ (get_or t.rules k d).new =
         (layered.rules k d lt fire).one_value f.place d f.within (subst (λ r. CanFire t r) (sym f.there) w.1) (ap (λ (r : Rule). r.var) f.there ∙ w.0) in
         ap (λ (o : Option Rule). option_map_or (λ (r : Rule). r.new) o (default_of t (get_or t.rules k d).var)) f.found ∙ (sym (ap (λ (r : Rule). r.new) f.there) ∙ e)

@@ -1,12 +1,9 @@
 -- From a layer to all layers.
-use Rattle.std.proofs.Common.{◌≡◌, ◌≢◌, ℕ, suc, ◌+◌, ◌<◌, ◌≤◌, ◌==◌, Bool, true, not, cond, List, length, get_or, sym, ◌∙◌, ap, subst, inl, inr, arith}
-use Rattle.std.proofs.lemmas.Bool.{cases_eq, cases_lt}
-use Rattle.sas_core.specs.declared.parts.Rule.{Rule}
-use Rattle.sas_core.specs.declared.parts.Parts.{Parts}
+use Rattle.sas_meaning.proofs.Imports.{◌≡◌, ◌≢◌, ℕ, suc, ◌+◌, ◌<◌, ◌≤◌, ◌==◌, Bool, true, not, cond, List, length, get_or, sym, ◌∙◌, ap, subst, inl, inr, arith, cases_eq, cases_lt, Rule, Parts}
 use Rattle.sas_meaning.specs.Layers.{IsOnLayer, default_of, IsLayered}
 use Rattle.sas_meaning.specs.Settled.{new_value_of, value_with, IsClosed, differs, IsSettledAt, IsSettled, SameBasic}
 use Rattle.sas_meaning.specs.Forced.{OnlyForced, HasFired, SameOff, AtDefault, Occurs}
-use Rattle.sas_meaning.proofs.Layers.{AgreeBelow, agree_sym, closed_agrees, layer_tells, given_on, given_off}
+use Rattle.sas_meaning.proofs.Layers.{AgreeBelow, agree_sym, closed_agrees, layer_decides, given_on, given_off}
 use Rattle.sas_meaning.proofs.Forced.{closed_when_fired, differs_not}
 
 -- where all is at its default, nothing is forced yet
@@ -33,7 +30,7 @@ closed_same_set t layer s a b same closed k d lt on fire hold =
     sym (same (get_or t.rules k d).var on) ∙ closed k d lt on fire (λ j e lt'. given_same (get_or (get_or t.rules k d).conditions j e).var ∙ hold j e lt')
   where
     given_same : (v : ℕ) → value_with t layer s a v ≡ value_with t layer s b v
-    given_same v = elim (layer_tells t layer v) [
+    given_same v = elim (layer_decides t layer v) [
       | inr w ↦ given_off t layer s a v w.0 ∙ sym (given_off t layer s b v w.0)
       | inl w ↦ given_on t layer s a v w.0 ∙ (ap (λ x. cond x (new_value_of t v) (default_of t v)) (same v w.0) ∙ sym (given_on t layer s b v w.0))
     ]

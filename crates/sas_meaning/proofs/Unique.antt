@@ -1,21 +1,15 @@
 -- Two settled states with the same basic values are equal, layer by layer.
-use Rattle.std.proofs.Common.{◌≡◌, ◌≢◌, ℕ, zero, suc, ◌<◌, ◌⊎◌, true, false, not, List, get_or, refl, sym, ◌∙◌, ap, subst, inl, inr, arith}
-use Rattle.std.proofs.lemmas.Bool.Decides.{eqb_tells}
-use Rattle.std.proofs.lemmas.Grind.{same_number_lists}
-use Rattle.sas_core.specs.declared.parts.Parts.{Parts}
+use Rattle.sas_meaning.proofs.Imports.{◌≡◌, ◌≢◌, ℕ, zero, suc, ◌<◌, ◌⊎◌, true, false, not, List, get_or, refl, sym, ◌∙◌, ap, subst, inl, inr, arith, eqb_tells, same_number_lists, Parts, Effect, Operator, All-contains}
 use Rattle.sas_meaning.specs.Laws.{SettledIsOne, StepIsOne}
 use Rattle.sas_meaning.specs.Steps.{Fires, Step}
-use Rattle.sas_core.specs.declared.parts.Effect.{Effect}
-use Rattle.sas_core.specs.declared.parts.Operator.{Operator}
-use Rattle.std.proofs.lemmas.List.Elements.{All-contains}
 use Rattle.sas_meaning.proofs.Facts.{set_or_kept}
 use Rattle.sas_meaning.specs.Layers.{IsOnLayer, default_of, IsLayered}
 use Rattle.sas_meaning.specs.Settled.{differs, IsSettledAt, IsSettled, SameBasic}
 use Rattle.sas_meaning.proofs.Layers.{AgreeBelow, agree_sym, closed_agrees, layer_cases}
 
--- the test tells whether a variable differs from its default
-pub differs_tells : (t : Parts) (s : List ℕ) (v : ℕ) → ((get_or s v 0 ≡ default_of t v) × (differs t s v ≡ false)) ⊎ ((get_or s v 0 ≢ default_of t v) × (differs t s v ≡ true))
-differs_tells t s v = elim (eqb_tells (get_or s v 0) (default_of t v)) [ inl w ↦ inl (w.1, ap not w.0) | inr w ↦ inr (w.1, ap not w.0) ]
+-- the test shows whether a variable differs from its default
+pub differs_decides : (t : Parts) (s : List ℕ) (v : ℕ) → ((get_or s v 0 ≡ default_of t v) × (differs t s v ≡ false)) ⊎ ((get_or s v 0 ≢ default_of t v) × (differs t s v ≡ true))
+differs_decides t s v = elim (eqb_tells (get_or s v 0) (default_of t v)) [ inl w ↦ inl (w.1, ap not w.0) | inr w ↦ inr (w.1, ap not w.0) ]
 
 module _ (t : Parts) (layered : IsLayered t) where
   -- where two states agree below a layer on which both are settled, a variable that differs in one
@@ -27,8 +21,8 @@ module _ (t : Parts) (layered : IsLayered t) where
 
   same_at : (layer : ℕ) (s s' : List ℕ) → AgreeBelow t layer s s' → IsSettledAt t layer s → IsSettledAt t layer s'
       → (v : ℕ) → IsOnLayer t layer v → get_or s v 0 ≡ get_or s' v 0
-  same_at layer s s' agree a b v on = elim (differs_tells t s v) [
-    | inl p ↦ elim (differs_tells t s' v) [
+  same_at layer s s' agree a b v on = elim (differs_decides t s v) [
+    | inl p ↦ elim (differs_decides t s' v) [
       | inl q ↦ p.0 ∙ sym q.0
       | inr q ↦ (let e = both_differ layer s' s (agree_sym t layer s s' agree) b a v on q.1 in let f = p.1 in cc)
     ]

@@ -23,11 +23,11 @@ pub record AddsTouched (var : ℕ) (t t' : Touched) : Type 0 where
 
 -- `t` covers the changes from s to s': the list contains only derived variables, and each derived
 -- variable has the same value in both states or may have changed
-pub record TellsChanges (p : Parts) (s s' : List ℕ) (t : Touched) : Type 0 where
+pub record CoversChanges (p : Parts) (s s' : List ℕ) (t : Touched) : Type 0 where
   pub only : All (IsDerived p.variables) t.vars.items
   pub each : (var : ℕ) → IsDerived p.variables var
       → (slice_index s' var ≡ slice_index s var) ⊎ MayHaveChanged t var
 
 -- any changes up to s that t covers are covered by t' up to s'
-abbrev pub StillTells : Parts → List ℕ → Touched → List ℕ → Touched → Type 0
-StillTells p s t s' t' = (before : List ℕ) → TellsChanges p before s t → TellsChanges p before s' t'
+abbrev pub StillCovers : Parts → List ℕ → Touched → List ℕ → Touched → Type 0
+StillCovers p s t s' t' = (before : List ℕ) → CoversChanges p before s t → CoversChanges p before s' t'

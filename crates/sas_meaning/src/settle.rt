@@ -11,7 +11,7 @@ pub trait Settle<T: Grounded> {
     ghost use Rattle.sas_core.specs.Variables.{IsState};
     ghost use Rattle.sas_meaning.specs.Settled.{Settles};
     ghost use Rattle.sas_meaning.specs.Following.{HaveGone};
-    ghost use Rattle.sas_meaning.specs.Touched.{TellsChanges};
+    ghost use Rattle.sas_meaning.specs.Touched.{CoversChanges};
 
     /// The evaluator can settle states of this task.
     ghost ready: { Self → Parts → Type 0 };
@@ -45,9 +45,9 @@ pub trait Settle<T: Grounded> {
         ensures ready { ready self.new layered.now }
         ensures follows { follows self.new layered.now state.new }
         ensures settles { Settles layered.now state.old state.new }
-        ensures told { (s : List ℕ) → follows self.old layered.now s
+        ensures covered { (s : List ℕ) → follows self.old layered.now s
             → HaveGone layered.now gone.now s state.old
-            → TellsChanges layered.now s state.new touched.new }
+            → CoversChanges layered.now s state.new touched.new }
     {
         touched.clear();
         touched.note_any();

@@ -7,3 +7,4 @@ mod WordLines
 mod LineTexts
 pub mod PlainLines
 pub mod RuleLines
+mod Imports

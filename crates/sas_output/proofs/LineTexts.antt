@@ -1,7 +1,5 @@
 -- The text of lines, line by line.
-use Rattle.std.proofs.Common.{◌≡◌, ℕ, List, [], ◌∷◌, ◌++◌, length, flat_map, take, ◌≤◌, refl, ap, ◌∙◌}
-use Rattle.std.proofs.lemmas.List.{take_all}
-use Rattle.sas_core.specs.declared.parts.Parts.{Parts}
+use Rattle.sas_output.proofs.Imports.{◌≡◌, ℕ, List, [], ◌∷◌, ◌++◌, length, flat_map, take, ◌≤◌, refl, ap, ◌∙◌, take_all, Parts}
 use Rattle.sas_output.specs.declared.line.Line.{Line}
 use Rattle.sas_output.specs.Line.{line_bytes, reasons_text}
 

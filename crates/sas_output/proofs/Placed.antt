@@ -1,10 +1,5 @@
 -- Bytes that are placed behind others, call after call.
-use Rattle.std.proofs.Common.{◌≡◌, ℕ, ◌+◌, ◌/◌, ◌%◌, ◌≤◌, ◌<◌, List, [], ◌∷◌, ◌++◌, length, take, set, append_assoc, length-append, arith, refl, sym, ap, subst, ◌∙◌, Option, Some, None}
-use Rattle.std.specs.Fmt.{decimal}
-use Rattle.std.proofs.lemmas.Fmt.{decimal_digit, decimal_step}
-use Rattle.std.proofs.lemmas.Grind.{take-set_at}
-use Rattle.std.proofs.lemmas.List.{length-take-le, take-take, take-append-le}
-use Rattle.std.proofs.Math.ListN.{length-set}
+use Rattle.sas_output.proofs.Imports.{◌≡◌, ℕ, ◌+◌, ◌/◌, ◌%◌, ◌≤◌, ◌<◌, List, [], ◌∷◌, ◌++◌, length, take, set, append_assoc, length-append, arith, refl, sym, ap, subst, ◌∙◌, Option, Some, None, decimal, decimal_digit, decimal_step, take-set_at, length-take-le, take-take, take-append-le, length-set}
 use Rattle.sas_output.specs.Placing.{Places, PlacesOrLeaves}
 
 -- two bytes, and three, that were written one by one

@@ -1,20 +1,6 @@
 -- Each line begins with two spaces, and holds neither LF nor CR.
-use Rattle.std.proofs.Common.{ℕ, zero, suc, ◌-◌, List, [], ◌∷◌, ◌++◌, get_or, refl, ap, arith, IsTrue, not}
-use Rattle.std.specs.Prelude.{◌==◌, length, if◌then◌else◌, codes, decimal, slice_get}
-use Rattle.std.specs.List.{AllByRecursion, list_all}
-use Rattle.std.specs.Option.{unwrap_or}
-use Rattle.std.proofs.lemmas.Bool.{and_parts, and_from, ne_eqb}
-use Rattle.sas_core.specs.declared.parts.Fact.{Fact}
-use Rattle.sas_core.specs.declared.parts.Operator.{Operator}
-use Rattle.sas_core.specs.declared.parts.Variable.{Variable}
-use Rattle.sas_core.specs.declared.parts.Parts.{Parts}
-use Rattle.sas_core.specs.Grounded.{operator_at, effect_at, rule_at}
-use Rattle.sas_core.specs.Names.{is_plain, IsName}
-use Rattle.sas_core.specs.Variables.{value_name}
-use Rattle.sas_core.specs.WellRanged.{VariableFits, OperatorFits, WellRanged}
-use Rattle.sas_lines.specs.Parts.{Without}
-use Rattle.sas_lines.specs.Spelling.{joined}
-use Rattle.sas_lines.proofs.Words.{Without-decimal}
+use Rattle.sas_output.proofs.Imports.{ℕ, zero, suc, ◌-◌, List, [], ◌∷◌, ◌++◌, get_or, refl, ap, arith, IsTrue, not, ◌==◌, length, if◌then◌else◌, codes, slice_get, AllByRecursion, list_all, unwrap_or, and_parts, and_from, ne_eqb, Fact, Operator, Variable, Parts, operator_at, effect_at, rule_at, is_plain, IsName, value_name, VariableFits, OperatorFits, WellRanged, Without, joined, Without-decimal}
+use Rattle.std.specs.Prelude.{decimal}
 use Rattle.sas_output.specs.declared.line.Line.{Line}
 use Rattle.sas_output.specs.declared.line.Line.TheVariants.{Step, SimilarOperator, Operator as TheOperator, NamedOperator, GoalFact, Requires, Actual, SinceInitialState, SinceStep, RuleDerives, NoRuleDerives, RuleRequires, ConflictingEffect, Metric, Steps, CostLines, CouldBe, EffectSets, Rule, ConditionRequires, OldValue, DefaultValue, OnLayer, Derived, Holds, MayRemain}
 use Rattle.sas_output.specs.Facts.{fact_of_effect, fact_of_rule}

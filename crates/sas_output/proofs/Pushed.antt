@@ -1,6 +1,5 @@
 -- Bytes that are pushed, call after call.
-use Rattle.std.proofs.Common.{◌≡◌, ℕ, ◌+◌, ◌<◌, List, [], ◌++◌, append_assoc, append-nil, take, get_or, flat_map, length, refl, sym, subst, ◌∙◌, Option, true, false}
-use Rattle.sas_lines.specs.declared.devices.Short.{Short}
+use Rattle.sas_output.proofs.Imports.{◌≡◌, ℕ, ◌+◌, ◌<◌, List, [], ◌++◌, append_assoc, append-nil, take, get_or, flat_map, length, refl, sym, subst, ◌∙◌, Option, true, false, Short}
 use Rattle.sas_output.specs.declared.sink.Sink.{Sink}
 use Rattle.sas_output.specs.Pieces.{Piece, Puts, Breaks}
 use Rattle.sas_output.specs.Sink.{empty_piece, Pushed, PushedBy, Pushes}

@@ -1,11 +1,5 @@
 -- Bytes that are put behind others, call after call.
-use Rattle.std.proofs.Common.{◌≡◌, ℕ, ◌+◌, ◌-◌, ◌^◌, ◌<◌, List, [], ◌∷◌, ◌++◌, length, take, drop, get_or, flat_map, min, append_assoc, append-nil, length-append, arith, refl, sym, ap, subst, ◌∙◌, Bool, true, false, Option, Result, Ok, Err}
-use Rattle.std.specs.Prelude.{⊤, ◌↔◌, IsTrue}
-use Rattle.std.specs.Io.KnownBytes.{Appends}
-use Rattle.std.proofs.KnownBytes.{Appends-trans}
-use Rattle.std.proofs.lemmas.Grind.{flat_map-append}
-use Rattle.std.proofs.lemmas.List.{take_more, take-append-drop, length-drop, length-take}
-use Rattle.sas_lines.specs.declared.devices.Short.{Short}
+use Rattle.sas_output.proofs.Imports.{◌≡◌, ℕ, ◌+◌, ◌-◌, ◌^◌, ◌<◌, List, [], ◌∷◌, ◌++◌, length, take, drop, get_or, flat_map, min, append_assoc, append-nil, length-append, arith, refl, sym, ap, subst, ◌∙◌, Bool, true, false, Option, Result, Ok, Err, ⊤, ◌↔◌, IsTrue, Appends, Appends-trans, flat_map-append, take_more, take-append-drop, length-drop, length-take, Short}
 use Rattle.sas_output.specs.Pieces.{Piece, CountsOn, Puts, Breaks, PutsOrBreaks}
 
 -- after a call that came through the device hasn't failed
@@ -73,8 +67,8 @@ module _ (a b : Option (List ℕ)) (p q : Piece) (x : List ℕ) where
   breaks_within whole rest short e broken = subst (λ (l : List ℕ). Breaks a b p l short) (sym e) (breaks_with_more rest short broken)
 
 -- the first bytes went out, and not all
-pub breaks_at : (a b : Option (List ℕ)) (written count told : ℕ) (bytes : List ℕ) → (count < length bytes) × Appends a b (take count bytes) → told ≡ min (written + count) (2 ^ 64 - 1) → Breaks a b (record { held = []; written = written }) bytes (record { written = told })
-breaks_at a b written count told bytes (within, sent) counted = record {
+pub breaks_at : (a b : Option (List ℕ)) (written count reported : ℕ) (bytes : List ℕ) → (count < length bytes) × Appends a b (take count bytes) → reported ≡ min (written + count) (2 ^ 64 - 1) → Breaks a b (record { held = []; written = written }) bytes (record { written = reported })
+breaks_at a b written count reported bytes (within, sent) counted = record {
   gone = take count bytes;
   rest = drop count bytes;
   sent = sent;

@@ -1,17 +1,6 @@
 -- The bytes of a line of a rule are those of no other line.
-use Rattle.std.proofs.Common.{◌≡◌, ℕ, ◌<◌, ◌^◌, true, false, List, [], ◌∷◌, ◌++◌, length, drop, get_or, refl, sym, ap, subst, ◌∙◌, arith}
-use Rattle.std.specs.Prelude.{◌==◌, not, bytes_eq, codes, decimal}
-use Rattle.std.specs.List.{AllByRecursion, list_all}
-use Rattle.std.proofs.lemmas.Bool.{and_parts, and_from, eq-eqb, false≢true}
-use Rattle.std.proofs.lemmas.Slice.Eq.{bytes_eq-Decides}
-use Rattle.std.specs.Option.{unwrap_or}
-use Rattle.sas_core.specs.declared.parts.Fact.{Fact}
-use Rattle.sas_core.specs.declared.parts.Parts.{Parts}
-use Rattle.sas_core.specs.Grounded.{rule_at}
-use Rattle.sas_core.specs.Variables.{value_name}
-use Rattle.sas_lines.specs.Parts.{parts}
-use Rattle.sas_lines.specs.Spelling.{joined}
-use Rattle.sas_lines.proofs.Words.{NoSpace, words-first, same_first, NoSpace-decimal, own_decimal}
+use Rattle.sas_output.proofs.Imports.{◌≡◌, ℕ, ◌<◌, ◌^◌, true, false, List, [], ◌∷◌, ◌++◌, length, drop, get_or, refl, sym, ap, subst, ◌∙◌, arith, ◌==◌, not, bytes_eq, codes, AllByRecursion, list_all, and_parts, and_from, eq-eqb, false≢true, bytes_eq-Decides, unwrap_or, Fact, Parts, rule_at, value_name, parts, joined, NoSpace, words-first, same_first, NoSpace-decimal, own_decimal}
+use Rattle.std.specs.Prelude.{decimal}
 use Rattle.sas_output.specs.Words.{line}
 use Rattle.sas_output.specs.declared.line.Line.{Line}
 use Rattle.sas_output.specs.declared.line.Line.TheVariants.{Step, SimilarOperator, Operator, NamedOperator, GoalFact, Requires, Actual, SinceInitialState, SinceStep, RuleDerives, NoRuleDerives, RuleRequires, ConflictingEffect, Metric, Steps, CostLines, CouldBe, EffectSets, Rule, ConditionRequires, OldValue, DefaultValue, OnLayer, Derived, Holds, MayRemain}
@@ -54,7 +43,7 @@ rule_cases (Derived f) e = absurd cc
 rule_cases (Holds f) e = absurd cc
 rule_cases (MayRemain f) e = absurd cc
 
--- it is told from all others by its second letter, which is the sixth byte
+-- it differs from all others in its second letter, which is the sixth byte
 abbrev sixth : List ℕ → ℕ
 sixth bytes = get_or bytes 5 0
 

@@ -1,7 +1,5 @@
 -- The text of lines, part by part.
-use Rattle.std.proofs.Common.{◌≡◌, ℕ, List, [], ◌∷◌, ◌++◌, flat_map, refl, ap, ◌∙◌}
-use Rattle.std.proofs.lemmas.Grind.{flat_map-append}
-use Rattle.sas_lines.specs.Lines.{text}
+use Rattle.sas_output.proofs.Imports.{◌≡◌, ℕ, List, [], ◌∷◌, ◌++◌, flat_map, refl, ap, ◌∙◌, flat_map-append, text}
 
 -- lines in a row
 pub text_of_both : (a b : List (List ℕ)) → text (a ++ b) ≡ text a ++ text b

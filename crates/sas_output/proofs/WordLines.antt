@@ -1,8 +1,5 @@
 -- The bytes of a line of words, one word after another.
-use Rattle.std.proofs.Common.{◌≡◌, ℕ, List, [], ◌∷◌, ◌++◌, map, flat_map, append-nil, append_assoc, ap, subst, ◌∙◌, Option, Result}
-use Rattle.std.specs.Prelude.{⊤, replicate}
-use Rattle.sas_lines.specs.Spelling.{joined}
-use Rattle.sas_lines.specs.declared.devices.Short.{Short}
+use Rattle.sas_output.proofs.Imports.{◌≡◌, ℕ, List, [], ◌∷◌, ◌++◌, map, flat_map, append-nil, append_assoc, ap, subst, ◌∙◌, Option, Result, ⊤, replicate, joined, Short}
 use Rattle.sas_output.specs.Pieces.{Piece, Breaks, PutsOrBreaks}
 use Rattle.sas_output.specs.declared.words.Word.{Word}
 use Rattle.sas_output.specs.Words.{line, word_bytes, behind_space}

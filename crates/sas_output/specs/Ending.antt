@@ -3,7 +3,7 @@ use Rattle.std.specs.Prelude.{◌≡◌, ℕ, ◌<◌, ◌^◌, List, length, ta
 use Rattle.sas_output.specs.declared.ending.Status.{Status}
 use Rattle.sas_output.specs.declared.ending.ToolFault.{ToolFault}
 use Rattle.sas_output.specs.declared.ending.ToolFault.TheVariants.{Memory, Read, TooLong, Write}
-use Rattle.sas_output.specs.declared.told.Told.{Told}
+use Rattle.sas_output.specs.declared.answer.Answer.{Answer}
 
 -- what is printed, and the status
 pub record Output : Type 0 where
@@ -11,8 +11,8 @@ pub record Output : Type 0 where
   pub status : Status
 
 -- a text that is at hand, as such an output
-abbrev pub output_told : Told → Output
-output_told told = record { text = told.text.items; status = told.status }
+abbrev pub output_of : Answer → Output
+output_of answer = record { text = answer.text.items; status = answer.status }
 
 -- a write failed
 abbrev pub IsWrite : ToolFault → Type 0

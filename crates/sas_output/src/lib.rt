@@ -2,6 +2,7 @@
 //! worded: lines of words, numbers and names of a task, which needn't be layered.
 #![tactic(auto)]
 
+mod answer;
 mod ending;
 mod laws;
 mod line;
@@ -10,10 +11,10 @@ mod pieces;
 mod placing;
 mod pushing;
 mod sink;
-mod told;
 mod wording;
 mod words;
 
+pub use answer::Answer;
 pub use ending::{Status, ToolFault};
 pub use laws::line_laws;
 pub use line::Line;
@@ -21,5 +22,4 @@ pub use names::{Named, given_by, operator_name, set_by, value_name};
 pub use pieces::Pieces;
 pub use pushing::{push_lines, write_reasons};
 pub use sink::Sink;
-pub use told::Told;
 pub use words::{Indent, Numbered, Word, Words};

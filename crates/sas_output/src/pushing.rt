@@ -8,12 +8,12 @@ ghost use Rattle.sas_output.specs.Words.{word_bytes};
 ghost use Rattle.sas_output.specs.Line.{words_of, line_bytes, reasons_text};
 ghost use Rattle.sas_output.specs.Wording.{steps_of, verb_words, part_words, could_be_words, rest_words, line_with};
 
+use crate::answer::Answer;
 use crate::ending::{Status, ToolFault};
 use crate::line::Line;
 use crate::names::{Named, given_by, operator_name, set_by, value_name};
 use crate::pieces::Pieces;
 use crate::sink::Sink;
-use crate::told::Told;
 use crate::wording::{Part, Rest, Start, wording};
 use crate::words::{Word, Words};
 use itoa::Buffer;
@@ -28,7 +28,7 @@ use std::io::Write;
 pub fn write_reasons<W: Write>(
     alloc: Global,
     out: &mut Watched<W>,
-    verdict: &Told,
+    verdict: &Answer,
     named: &Named<'_>,
     lines: &[Line],
 ) -> Result<Status, ToolFault>

@@ -1,34 +1,11 @@
-use Rattle.std.proofs.Common.{◌≡◌, ◌≤◌, ◌+◌, ◌^◌, ◌∙◌, arith}
-use Rattle.sas_meaning.specs.Settled.{IsSettledAt}
-use Rattle.sas_meaning.proofs.Settling.{basic_off, default_off}
+use Rattle.sas_axioms.proofs.Imports.{◌≡◌, ◌≤◌, ◌+◌, ◌^◌, ◌∙◌, arith, IsSettledAt, basic_off, default_off}
 use Rattle.sas_axioms.proofs.Layering.{settled_to_next, settled_in_the_end}
 use Rattle.sas_axioms.proofs.by_layers.settle_by_layers.Goals as goal
-
-pub begin-requires-clause-ready : goal.begin-requires-clause-ready
-begin-requires-clause-ready g c = c.requires.ready
-
-pub begin-requires-clause-state : goal.begin-requires-clause-state
-begin-requires-clause-state g c = c.requires.state
 
 pub loop-layer-init : goal.loop-layer-init
 loop-layer-init g c =
     let begun = c.begin.ensures in
     record { stands = begun.stands; state = begun.state; basic = begun.basic; below = λ m lt. absurd {A = IsSettledAt c.args.layered.now m c.begin.new.state} (omega arith); above = λ m le. begun.default m; bound = omega arith }
-
-pub settle_next-requires-clause-stands : goal.settle_next-requires-clause-stands
-settle_next-requires-clause-stands g c = c.loop-layer.invariant.stands
-
-pub settle_next-requires-clause-state : goal.settle_next-requires-clause-state
-settle_next-requires-clause-state g c = c.loop-layer.invariant.state
-
-pub settle_next-requires-clause-default : goal.settle_next-requires-clause-default
-settle_next-requires-clause-default g c = c.loop-layer.invariant.above
-
-pub overflow_add-from : goal.overflow_add-from
-overflow_add-from g c = omega arith
-
-pub loop-layer-smaller : goal.loop-layer-smaller
-loop-layer-smaller g c = let from_on = c.in-Some.ensures.settles.from_on in omega arith
 
 pub loop-layer-preserved : goal.loop-layer-preserved
 loop-layer-preserved g c =
@@ -67,6 +44,3 @@ returns-clause-follows g c =
     let inv = c.loop-layer.invariant in
     let same = c.in_default.ensures.same in
     c.in_default.ensures.follows (rw same (settled_in_the_end c.args.layered.now c.loop-layer.from c.loop-layer.state c.task.ensures.layered inv.below inv.above c.in_default.ensures.idle))
-
-pub returns-clause-ready : goal.returns-clause-ready
-returns-clause-ready g c = c.in_default.ensures.ready

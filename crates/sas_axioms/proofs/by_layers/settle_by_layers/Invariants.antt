@@ -1,7 +1,4 @@
-use Rattle.std.proofs.Common.{ℕ, ◌-◌, ◌^◌, ◌<◌, ◌≤◌}
-use Rattle.sas_core.specs.Variables.{IsState}
-use Rattle.sas_meaning.specs.Settled.{IsSettledAt, SameBasic}
-use Rattle.sas_meaning.specs.Forced.{AtDefault}
+use Rattle.sas_axioms.proofs.Imports.{ℕ, ◌-◌, ◌^◌, ◌<◌, ◌≤◌, IsState, IsSettledAt, SameBasic, AtDefault}
 use Rattle.sas_axioms.proofs.by_layers.settle_by_layers.Given as goal
 
 abbrev pub invariant-loop-layer : goal.invariant-loop-layer

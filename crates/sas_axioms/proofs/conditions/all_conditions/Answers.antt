@@ -1,5 +1,5 @@
 -- Each iteration appends the conditions of a rule that can fire, or skips a rule that can't.
-use Rattle.std.proofs.Common.{arith}
+use Rattle.sas_axioms.proofs.Imports.{arith}
 use Rattle.sas_axioms.proofs.AllConditions.{conditions_more, conditions_skip, conditions_all}
 use Rattle.sas_axioms.proofs.conditions.all_conditions.Goals as goal
 use Rattle.sas_axioms.proofs.conditions.all_conditions.Goals.{in-Some+in_ok-push_conditions, in_default}

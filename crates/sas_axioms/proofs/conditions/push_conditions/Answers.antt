@@ -1,10 +1,6 @@
 -- The entry of one more condition is appended.
-use Rattle.std.proofs.Common.{◌≡◌, ℕ, ◌+◌, ◌<◌, ◌≤◌, List, [], ◌∷◌, ◌++◌, length, get_or, drop, refl, sym, ap, ◌∙◌, arith, append-nil}
-use Rattle.std.proofs.Math.Seq.{append_snoc}
-use Rattle.std.proofs.lemmas.List.{drop_all, drop_more}
-use Rattle.sas_core.specs.declared.parts.Fact.{Fact}
-use Rattle.sas_core.specs.Grounded.{rule_at}
-use Rattle.sas_flat.specs.declared.by_key.Entry.{Entry}
+use Rattle.sas_axioms.proofs.Imports.{◌≡◌, ℕ, ◌+◌, ◌<◌, ◌≤◌, List, [], ◌∷◌, ◌++◌, length, get_or, drop, sym, ap, ◌∙◌, arith, append_snoc, drop_all, drop_more, Fact, rule_at, Entry}
+use Rattle.std.proofs.Common.{append-nil}
 use Rattle.sas_axioms.specs.declared.waiting.Waiting.{Waiting}
 use Rattle.sas_axioms.specs.Conditions.{entries}
 use Rattle.sas_axioms.specs.Waiting.{waiting_entry}
@@ -14,9 +10,6 @@ use Rattle.sas_axioms.proofs.conditions.push_conditions.Goals as goal
 one_more : (rule : ℕ) (cs : List Fact) (i : ℕ) (d : Fact) → i < length cs → (es : List (Entry Waiting))
     → (es ++ waiting_entry (get_or cs i d) rule ∷ []) ++ entries rule (drop (i + 1) cs) ≡ es ++ entries rule (drop i cs)
 one_more rule cs i d lt es = append_snoc es (waiting_entry (get_or cs i d) rule) (entries rule (drop (i + 1) cs)) ∙ ap (λ (fs : List Fact). es ++ entries rule fs) (sym (drop_more cs i d lt))
-
-pub loop-condition-init : goal.loop-condition-init
-loop-condition-init g c = refl
 
 pub loop-condition-preserved : goal.loop-condition-preserved
 loop-condition-preserved g c =

@@ -1,11 +1,8 @@
 -- One more entry is counted.
-use Rattle.std.proofs.Common.{List, ℕ, ◌+◌, length, get_or, ap, arith}
-use Rattle.sas_axioms.proofs.CountingEntries.{no_entry, counters_before, counters_after, counters_passed, value_waits, former_fits, one_more, one_less}
+use Rattle.sas_axioms.proofs.Imports.{List, ℕ, ◌+◌, length, get_or, ap, arith}
+use Rattle.sas_axioms.proofs.CountingEntries.{no_entry, counters_after, counters_passed, value_waits, former_fits, one_more, one_less}
 use Rattle.sas_axioms.proofs.counting.count_change.Goals as goal
 use Rattle.sas_axioms.proofs.counting.count_change.Goals.{then-entry-former, else-entry-former+then-entry-value, else-entry-former+else-entry-value}
-
-pub loop-entry-init : goal.loop-entry-init
-loop-entry-init c = counters_before c.args.former c.args.value c.args.waiting.now c.args.counters.now
 
 pub bounds-as_slice-rule : goal.bounds-as_slice-rule
 bounds-as_slice-rule c =
@@ -14,12 +11,6 @@ bounds-as_slice-rule c =
 pub bounds-as_slice-rule-then-entry-value : goal.bounds-as_slice-rule-then-entry-value
 bounds-as_slice-rule-then-entry-value c =
     omega (arith, c.requires.exist c.loop-entry.entry-index no_entry c.loop-entry-test.true, c.loop-entry.invariant.one_each, ap length c.as_slice-then-entry-value.ensures)
-
-pub set-requires : goal.set-requires
-set-requires c = omega (arith, c.requires.exist c.loop-entry.entry-index no_entry c.loop-entry-test.true, c.loop-entry.invariant.one_each)
-
-pub set-requires-then-entry-value : goal.set-requires-then-entry-value
-set-requires-then-entry-value c = omega (arith, c.requires.exist c.loop-entry.entry-index no_entry c.loop-entry-test.true, c.loop-entry.invariant.one_each)
 
 pub overflow_add-more : goal.overflow_add-more
 overflow_add-more c =
@@ -67,9 +58,6 @@ loop-entry-preserved c =
       | else-entry-former+else-entry-value w ↦ rw w.counters-is
           (counters_passed former value ws i cs0 cs lt inv w.if-entry-former.false w.if-entry-value.false)
     ]
-
-pub returns-clause-one_each : goal.returns-clause-one_each
-returns-clause-one_each c = c.loop-entry.invariant.one_each
 
 pub returns-clause-counts : goal.returns-clause-counts
 returns-clause-counts c =

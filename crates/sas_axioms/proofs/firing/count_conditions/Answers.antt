@@ -1,11 +1,8 @@
 -- Each rule of the layer is among the given rules, or begins with what is kept.
-use Rattle.std.proofs.Common.{◌≡◌, ◌⊎◌, ◌<◌, length, ap, sym, subst, get_or, ◌∙◌, inl, inr, arith}
-use Rattle.std.proofs.lemmas.Bool.{cases_eq}
-use Rattle.std.proofs.lemmas.List.{get_or_default, get_or-set_same, get_or-set_other, length-set}
+use Rattle.sas_axioms.proofs.Imports.{◌≡◌, ◌⊎◌, ◌<◌, length, ap, sym, subst, get_or, ◌∙◌, inl, inr, arith, cases_eq, get_or_default, get_or-set_same, get_or-set_other, length-set, rule_at}
 use Rattle.sas_axioms.specs.LayerRules.{IsRuleOn}
 use Rattle.sas_axioms.proofs.Counters.{counts_set_off}
 use Rattle.sas_axioms.proofs.LayerStart.{begins_as_kept}
-use Rattle.sas_core.specs.Grounded.{rule_at}
 use Rattle.sas_axioms.specs.declared.layer_rules.LayerRule.{LayerRule}
 use Rattle.sas_axioms.specs.Conditions.{open_conditions}
 use Rattle.sas_axioms.proofs.firing.count_conditions.Goals as goal

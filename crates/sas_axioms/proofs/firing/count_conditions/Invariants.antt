@@ -1,7 +1,5 @@
 -- The counters of the rules so far are set.
-use Rattle.std.proofs.Common.{◌≡◌, ◌⊎◌, ℕ, ◌<◌, length, get_or}
-use Rattle.std.specs.Prelude.{slice_index}
-use Rattle.sas_core.specs.Grounded.{rule_at}
+use Rattle.sas_axioms.proofs.Imports.{◌≡◌, ◌⊎◌, ℕ, ◌<◌, length, get_or, slice_index, rule_at}
 use Rattle.sas_axioms.specs.declared.layer_rules.LayerRule.{LayerRule}
 use Rattle.sas_axioms.specs.Conditions.{open_conditions}
 use Rattle.sas_axioms.specs.LayerRules.{IsRuleOn}

@@ -1,6 +1,5 @@
 -- The counter of the rule was decremented.
-use Rattle.std.proofs.Common.{◌≡◌, ℕ, ◌-◌, ◌<◌, List, length, get_or, set, sym, ap, ◌∙◌, arith}
-use Rattle.std.proofs.lemmas.List.{get_or-set_same, length-set}
+use Rattle.sas_axioms.proofs.Imports.{◌≡◌, ℕ, ◌-◌, ◌<◌, List, length, get_or, set, sym, ap, ◌∙◌, arith, get_or-set_same, length-set}
 use Rattle.sas_axioms.proofs.Counters.{ready, counted_down, waits, goes_on_counted, goes_on_more, at_work_fired, at_work_counted}
 use Rattle.sas_axioms.proofs.firing.count_down.Goals as goal
 
@@ -22,12 +21,6 @@ returns-then-open-eq0-clause-at_work g c left work =
     let within : c.args.rule < length w.counters = omega (arith, work.room.one_each, c.requires.rule.exists) in
     let is : c.set.new.self ≡ set w.counters c.args.rule (get_or w.counters c.args.rule 0 - 1) = c.set.ensures ∙ ap (λ (xs : List ℕ). set w.counters c.args.rule (get_or xs c.args.rule 0 - 1)) c.as_slice.ensures in
     at_work_fired c.args.task.now c.args.state.now w c.fire.new.state c.fire.new.work c.set.new.self left c.args.rule within work is c.fire.ensures
-
-pub bounds-as_slice-rule : goal.bounds-as_slice-rule
-bounds-as_slice-rule g c = omega (arith, c.requires.waits.1.room.one_each, c.requires.rule.exists, ap length c.as_slice.ensures)
-
-pub set-requires : goal.set-requires
-set-requires g c = omega (arith, c.requires.waits.1.room.one_each, c.requires.rule.exists)
 
 pub overflow_sub-open : goal.overflow_sub-open
 overflow_sub-open g c =

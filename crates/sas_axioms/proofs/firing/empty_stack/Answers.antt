@@ -1,9 +1,5 @@
 -- A variable is popped, and the rules that wait for it are counted down.
-use Rattle.std.proofs.Common.{rules, ◌≡◌, ℕ, ◌<◌, List, [], ◌∷◌, ◌++◌, length, get_or, sym, subst, ap, ◌∙◌, arith}
-use Rattle.std.specs.List.{All}
-use Rattle.sas_core.specs.Grounded.{rule_at}
-use Rattle.sas_meaning.specs.Layers.{IsOnLayer}
-use Rattle.sas_meaning.proofs.Layers.{on_layer_within}
+use Rattle.sas_axioms.proofs.Imports.{rules, ◌≡◌, ℕ, ◌<◌, List, [], ◌∷◌, ◌++◌, length, get_or, sym, subst, ap, ◌∙◌, arith, All, rule_at, IsOnLayer, on_layer_within}
 use Rattle.sas_axioms.specs.declared.waiting.Waiting.{Waiting}
 use Rattle.sas_axioms.specs.LayerRules.{IsRuleOn}
 use Rattle.sas_axioms.specs.Waiting.{released, occurrences, asking}
@@ -70,9 +66,6 @@ loop-var-preserved g c =
       others = λ m rule ne on. more.counts m rule (λ e. ne (e ∙ inv.layer)) on ∙ inv.others m rule ne on;
       off = λ v off. inv.off v off ∙ more.off v (subst (λ n. IsOnLayer c.args.task.now n v → ⊥) (sym inv.layer) off);
     }
-
-pub returns-clause-given : goal.returns-clause-given
-returns-clause-given g c = let inv = c.loop-var.invariant in rw (sym inv.layer) inv.at_work.given
 
 pub returns-clause-counts : goal.returns-clause-counts
 returns-clause-counts g c rule on =

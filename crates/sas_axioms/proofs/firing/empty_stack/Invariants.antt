@@ -1,6 +1,5 @@
 -- The remaining work is on the stack.
-use Rattle.std.proofs.Common.{◌≡◌, []}
-use Rattle.sas_meaning.specs.Forced.{SameOff}
+use Rattle.sas_axioms.proofs.Imports.{◌≡◌, [], SameOff}
 use Rattle.sas_axioms.specs.Worklist.{IsAtWork, SameCountsOff, left_to_do}
 use Rattle.sas_axioms.specs.Sources.{SameSourcesOff}
 use Rattle.sas_axioms.proofs.firing.empty_stack.Given as goal

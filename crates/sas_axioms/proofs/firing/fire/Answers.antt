@@ -1,8 +1,5 @@
 -- Setting the variable and its source.
-use Rattle.std.proofs.Common.{◌≡◌, ◌≢◌, true, [], ◌∷◌, ◌++◌, get_or, set, refl, sym, ap, subst, ◌∙◌, arith}
-use Rattle.std.specs.Result.{is_ok}
-use Rattle.sas_core.specs.declared.grounded.Change.{Change}
-use Rattle.sas_core.specs.Grounded.{rule_at}
+use Rattle.sas_axioms.proofs.Imports.{◌≡◌, ◌≢◌, true, [], ◌∷◌, ◌++◌, get_or, set, refl, sym, ap, subst, ◌∙◌, arith, is_ok, Change, rule_at}
 use Rattle.sas_axioms.proofs.Counters.{Pushed, pushed, fires_by, fires_nothing, rule_within, was_default}
 use Rattle.sas_axioms.proofs.RuleChanges.{change_within}
 use Rattle.sas_axioms.proofs.Sources.{given_when_fired}
@@ -44,9 +41,6 @@ returns-then-value-change g c =
     (c.set.ensures ∙ ap (λ (x : Change). set c.args.state.now x.var x.new) e)
     ((rw (succeeds g a) at c.push.ensures.items) ∙ ap (λ (x : Change). w.stack.items ++ x.var ∷ []) e)
     refl refl (omega arith)
-
-pub rule_change-change-requires : goal.rule_change-change-requires
-rule_change-change-requires g c = c.requires.rule.exists
 
 pub value-requires : goal.value-requires
 value-requires g c =

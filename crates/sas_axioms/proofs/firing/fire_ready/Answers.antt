@@ -1,9 +1,5 @@
 -- One more rule without open conditions has fired.
-use Rattle.std.proofs.Common.{◌≡◌, ℕ, List, [], length, get_or, sym, subst, ap, ◌∙◌, inl, inr, arith}
-use Rattle.std.proofs.lemmas.Bool.{cases_eq}
-use Rattle.std.proofs.lemmas.List.{get_or_default}
-use Rattle.sas_core.specs.Grounded.{rule_at}
-use Rattle.sas_meaning.proofs.Forced.{differs_true}
+use Rattle.sas_axioms.proofs.Imports.{◌≡◌, ℕ, List, [], length, get_or, sym, subst, ap, ◌∙◌, inl, inr, arith, cases_eq, get_or_default, rule_at, differs_true}
 use Rattle.sas_axioms.specs.declared.layer_rules.LayerRule.{LayerRule}
 use Rattle.sas_axioms.specs.LayerRules.{IsRuleOn}
 use Rattle.sas_axioms.proofs.LayerStart.{late_waits}
@@ -13,12 +9,6 @@ use Rattle.sas_axioms.proofs.firing.fire_ready.Goals.{then-as_slice-entry-eq0, e
 
 abbrev no_entry : LayerRule
 no_entry = record { layer = 0; rule = 0 }
-
-pub fire-requires-clause-rule : goal.fire-requires-clause-rule
-fire-requires-clause-rule g c = rw c.loop-entry.invariant.goes_on.layer (c.requires.rules.only c.loop-entry.entry-index no_entry c.loop-entry-test.true)
-
-pub fire-requires-clause-running : goal.fire-requires-clause-running
-fire-requires-clause-running g c = rw c.loop-entry.invariant.goes_on.layer c.loop-entry.invariant.running
 
 pub fire-requires-clause-hold : goal.fire-requires-clause-hold
 fire-requires-clause-hold g c =

@@ -1,6 +1,5 @@
 -- The rules so far that have no open conditions have fired.
-use Rattle.std.proofs.Common.{◌≡◌, ℕ, ◌<◌, [], get_or}
-use Rattle.sas_core.specs.Grounded.{rule_at}
+use Rattle.sas_axioms.proofs.Imports.{◌≡◌, ℕ, ◌<◌, [], get_or, rule_at}
 use Rattle.sas_axioms.specs.declared.layer_rules.LayerRule.{LayerRule}
 use Rattle.sas_axioms.specs.Worklist.{IsRunning, AreCountedWithStack, HasRoom, WorkGoesOn}
 use Rattle.sas_axioms.specs.Sources.{AreGiven}

@@ -1,12 +1,9 @@
 -- One more entry is processed.
-use Rattle.std.proofs.Common.{◌≡◌, ℕ, ◌+◌, ◌<◌, List, ◌∷◌, length, get_or, drop, subst, ap, refl, ◌∙◌, inl, inr, arith}
-use Rattle.std.proofs.lemmas.Bool.{eq-eqb}
-use Rattle.std.proofs.lemmas.Bool.Decides.{eqb_tells}
-use Rattle.std.proofs.lemmas.List.{drop_more, at_drop_all}
+use Rattle.sas_axioms.proofs.Imports.{◌≡◌, ℕ, ◌+◌, ◌<◌, List, ◌∷◌, length, get_or, drop, subst, ap, refl, ◌∙◌, inl, inr, arith, eq-eqb, eqb_tells, drop_more, at_drop_all}
 use Rattle.sas_axioms.specs.declared.waiting.Waiting.{Waiting}
 use Rattle.sas_axioms.specs.Waiting.{released}
 use Rattle.sas_axioms.specs.Worklist.{IsAtWork}
-use Rattle.sas_axioms.proofs.Counters.{goes_on_still, goes_on_more}
+use Rattle.sas_axioms.proofs.Counters.{goes_on_more}
 use Rattle.sas_axioms.proofs.firing.release.Goals as goal
 use Rattle.sas_axioms.proofs.firing.release.Goals.{then-entry-value, else-entry-value}
 
@@ -27,12 +24,6 @@ released_next value ws i lt e = ap (released value) (drop_more ws i no_entry lt)
 passed_next : (value : ℕ) (ws : List Waiting) (i : ℕ) → i < length ws → ((get_or ws i no_entry).value ≡ value → ⊥)
     → released value (drop i ws) ≡ released value (drop (i + 1) ws)
 passed_next value ws i lt ne = ap (released value) (drop_more ws i no_entry lt) ∙ released_none value (get_or ws i no_entry) (drop (i + 1) ws) ne
-
-pub loop-entry-init : goal.loop-entry-init
-loop-entry-init g c = record { at_work = c.requires.at_work; goes_on = goes_on_still c.args.task.now c.args.state.now c.args.work.now }
-
-pub count_down-requires-clause-rule : goal.count_down-requires-clause-rule
-count_down-requires-clause-rule g c = rw c.loop-entry.invariant.goes_on.layer (c.requires.waiting c.loop-entry.entry-index no_entry c.loop-entry-test.true)
 
 pub count_down-requires-clause-waits : goal.count_down-requires-clause-waits
 count_down-requires-clause-waits g c =
@@ -68,6 +59,3 @@ loop-entry-preserved g c =
 pub returns-clause-at_work : goal.returns-clause-at_work
 returns-clause-at_work g c = subst (λ (left : List ℕ). IsAtWork c.args.task.now c.loop-entry.state c.loop-entry.work left)
     (at_drop_all (released c.args.value) c.args.waiting.now c.loop-entry.entry-index (omega arith)) c.loop-entry.invariant.at_work
-
-pub returns-clause-goes_on : goal.returns-clause-goes_on
-returns-clause-goes_on g c = c.loop-entry.invariant.goes_on

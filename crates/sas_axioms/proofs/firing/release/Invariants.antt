@@ -1,5 +1,5 @@
 -- The entries so far are processed.
-use Rattle.std.proofs.Common.{drop}
+use Rattle.sas_axioms.proofs.Imports.{drop}
 use Rattle.sas_axioms.specs.Waiting.{released}
 use Rattle.sas_axioms.specs.Worklist.{IsAtWork, WorkGoesOn}
 use Rattle.sas_axioms.proofs.firing.release.Given as goal

@@ -1,12 +1,5 @@
 -- The facts are processed one by one.
-use Rattle.std.proofs.Common.{◌≡◌, ℕ, ◌+◌, ◌<◌, List, ◌∷◌, length, get_or, set, drop, refl, subst, ◌∙◌, arith}
-use Rattle.std.proofs.lemmas.List.{drop_more, at_drop_all}
-use Rattle.std.proofs.lemmas.List.Elements.{All-head}
-use Rattle.sas_core.specs.declared.parts.Fact.{Fact}
-use Rattle.sas_core.specs.declared.parts.Parts.{Parts}
-use Rattle.sas_meaning.specs.Following.{HaveGone}
-use Rattle.sas_meaning.specs.States.{Holds}
-use Rattle.sas_meaning.specs.Layers.{IsBasic}
+use Rattle.sas_axioms.proofs.Imports.{◌≡◌, ℕ, ◌+◌, ◌<◌, List, ◌∷◌, length, get_or, set, drop, refl, subst, ◌∙◌, arith, drop_more, at_drop_all, All-head, Fact, Parts, HaveGone, Holds, IsBasic}
 use Rattle.sas_axioms.proofs.Tracking.{same_more}
 use Rattle.sas_axioms.proofs.GoneSteps.{counted_nothing, counted_more, gone_one, gone_same, between_begins}
 use Rattle.sas_axioms.proofs.following.count_gone.Goals as goal
@@ -84,15 +77,3 @@ pub recount-requires-clause-exists : goal.recount-requires-clause-exists
 recount-requires-clause-exists g c =
     let so_far = c.loop-fact.invariant.so_far c.requires.follows.0 c.requires.follows.1 c.requires.follows.2 in
     exists_here c.args.task.now c.args.gone.now c.loop-fact.fact-index c.loop-fact-test.true so_far.0 c.args.state.now so_far.1
-
-pub recount-requires-clause-differ : goal.recount-requires-clause-differ
-recount-requires-clause-differ g c = c.if-moved.true
-
-pub recount-requires-clause-ordered : goal.recount-requires-clause-ordered
-recount-requires-clause-ordered g c = (c.loop-fact.invariant.so_far c.requires.follows.0 c.requires.follows.1 c.requires.follows.2).2.ordered
-
-pub returns-in_err-recount-clause-same : goal.returns-in_err-recount-clause-same
-returns-in_err-recount-clause-same g c = same_more c.args.work.now c.loop-fact.work c.recount.new.work c.loop-fact.invariant.same c.recount.ensures.same
-
-pub returns-clause-same : goal.returns-clause-same
-returns-clause-same g c = c.loop-fact.invariant.same

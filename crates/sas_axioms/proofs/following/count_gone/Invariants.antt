@@ -1,6 +1,5 @@
 -- The facts so far are processed.
-use Rattle.std.proofs.Common.{ℕ, List, drop}
-use Rattle.sas_meaning.specs.Following.{HaveGone}
+use Rattle.sas_axioms.proofs.Imports.{ℕ, List, drop, HaveGone}
 use Rattle.sas_axioms.specs.Following.{SameWork, IsFollowed, CountedSoFar}
 use Rattle.sas_axioms.proofs.following.count_gone.Given as goal
 

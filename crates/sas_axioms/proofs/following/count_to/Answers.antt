@@ -1,13 +1,6 @@
 -- The counter is set, and the rule is noted.
-use Rattle.std.proofs.Common.{length, refl, ap, inl, ◌∙◌, arith}
-use Rattle.std.proofs.lemmas.List.{length-set}
+use Rattle.sas_axioms.proofs.Imports.{length, refl, ap, inl, ◌∙◌, length-set}
 use Rattle.sas_axioms.proofs.following.count_to.Goals as goal
-
-pub bounds-as_slice-rule : goal.bounds-as_slice-rule
-bounds-as_slice-rule g c = omega (arith, c.requires.exists, c.requires.counters, ap length c.as_slice.ensures)
-
-pub set-requires : goal.set-requires
-set-requires g c = omega (arith, c.requires.exists, c.requires.counters)
 
 pub returns-in_err-note-clause-same : goal.returns-in_err-note-clause-same
 returns-in_err-note-clause-same g c = record {

@@ -1,15 +1,5 @@
 -- The rules are removed one by one: each resets its variable or becomes ready.
-use Rattle.std.proofs.Common.{◌≡◌, ◌⊎◌, ℕ, ◌<◌, true, List, ◌∷◌, [], length, get_or, set, is_some, refl, sym, ap, subst, ◌∙◌, inl, inr, arith}
-use Rattle.std.specs.List.{All, Contains}
-use Rattle.std.specs.BinaryHeap.{heap_items}
-use Rattle.std.proofs.Math.ListN.{length-append}
-use Rattle.sas_core.specs.declared.grounded.Change.{Change}
-use Rattle.sas_core.specs.Grounded.{rule_at}
-use Rattle.sas_core.specs.Variables.{IsState}
-use Rattle.sas_meaning.specs.Layers.{IsOnLayer, default_of}
-use Rattle.sas_meaning.specs.Settled.{differs}
-use Rattle.sas_meaning.proofs.Layers.{on_layer_within}
-use Rattle.sas_meaning.proofs.Forced.{state_set, differs_not}
+use Rattle.sas_axioms.proofs.Imports.{◌≡◌, ◌⊎◌, ℕ, ◌<◌, true, List, ◌∷◌, [], length, get_or, set, is_some, refl, sym, ap, subst, ◌∙◌, inl, inr, arith, All, Contains, heap_items, length-append, Change, rule_at, IsState, IsOnLayer, default_of, differs, on_layer_within, state_set, differs_not}
 use Rattle.sas_axioms.specs.declared.agenda.Agenda.{Agenda}
 use Rattle.sas_axioms.specs.declared.firing.Work.{Work}
 use Rattle.sas_axioms.specs.Agenda.{IsOnAgenda, work_left}
@@ -18,7 +8,7 @@ use Rattle.sas_axioms.specs.LayerRules.{IsRuleOn}
 use Rattle.sas_axioms.specs.Sources.{IsHolding}
 use Rattle.sas_axioms.proofs.RulesOf.{rules_on, rule_under}
 use Rattle.sas_axioms.proofs.FallingSteps.{FallingBut, falling_taken, falling_passed, falling_fell, risen_from_fallen, fallen_is, fallen_state, less_in_the_end}
-use Rattle.sas_axioms.proofs.Tracking.{holding_when_zero, off_step, told_step, same_more, same_but}
+use Rattle.sas_axioms.proofs.Tracking.{holding_when_zero, off_step, covered_step, same_more, same_but}
 use Rattle.sas_axioms.proofs.following.fall.Goals as goal
 use Rattle.sas_axioms.proofs.following.fall.Given.{Over}
 use Rattle.sas_axioms.proofs.following.fall.Goals.{In-Some, After-rule_change-var}
@@ -45,15 +35,6 @@ within g c = on_layer_within c.args.task.now c.loop-rule.work.layer (rule_at c.a
 pub has_lost-requires-clause-rule : goal.has_lost-requires-clause-rule
 has_lost-requires-clause-rule g c = (c.loop-rule.work.layer, (some g c).is)
 
-pub has_lost-requires-clause-state : goal.has_lost-requires-clause-state
-has_lost-requires-clause-state g c = (some g c).track.state
-
-pub has_lost-requires-clause-counters : goal.has_lost-requires-clause-counters
-has_lost-requires-clause-counters g c = (some g c).track.counts.one_each
-
-pub has_lost-requires-clause-places : goal.has_lost-requires-clause-places
-has_lost-requires-clause-places g c = (some g c).track.places
-
 pub rule_change-var-requires : goal.rule_change-var-requires
 rule_change-var-requires g c = (some g (goal.at.rule_change-var-requires g c).In-Some).is.exists
 
@@ -62,9 +43,6 @@ initial_value-value-requires g c = rw (ap (λ (x : Change). x.var) c.rule_change
 
 pub set_to-requires-clause-counts : goal.set_to-requires-clause-counts
 set_to-requires-clause-counts g c = (some g (goal.at.set_to-requires-clause-counts g c).In-Some).track.counts
-
-pub set_to-requires-clause-ordered : goal.set_to-requires-clause-ordered
-set_to-requires-clause-ordered g c = (some g (goal.at.set_to-requires-clause-ordered g c).In-Some).track.ordered
 
 pub set_to-requires-clause-derived : goal.set_to-requires-clause-derived
 set_to-requires-clause-derived g c = rw (ap (λ (x : Change). x.var) c.rule_change-var.ensures) (ap is_some (some g (goal.at.set_to-requires-clause-derived g c).In-Some).is.on)
@@ -103,21 +81,21 @@ returns-in_err-make_ready-clause-off g c =
     off_step p c.args.work.now.layer c.loop-rule.work.layer c.args.state.now c.loop-rule.state c.set_to.new.state _ _ inv.same.layer inv.off
     (subst (λ v. IsOnLayer p c.loop-rule.work.layer v) (sym e) (some g i).is.on) c.set_to.ensures.state
 
-pub returns-in_err-set_to-clause-told : goal.returns-in_err-set_to-clause-told
-returns-in_err-set_to-clause-told g c =
+pub returns-in_err-set_to-clause-covered : goal.returns-in_err-set_to-clause-covered
+returns-in_err-set_to-clause-covered g c =
     let p = c.args.task.now in
-    let i = (goal.at.returns-in_err-set_to-clause-told g c).In-Some in
+    let i = (goal.at.returns-in_err-set_to-clause-covered g c).In-Some in
     let e = ap (λ (x : Change). x.var) c.rule_change-var.ensures in
-    told_step p c.loop-rule.work.layer c.args.state.now c.loop-rule.state c.set_to.new.state _ _ c.args.touched.now c.loop-rule.touched c.set_to.new.touched
-    c.loop-rule.invariant.told (subst (λ v. IsOnLayer p c.loop-rule.work.layer v) (sym e) (some g i).is.on) c.set_to.ensures.state c.set_to.ensures.noted
+    covered_step p c.loop-rule.work.layer c.args.state.now c.loop-rule.state c.set_to.new.state _ _ c.args.touched.now c.loop-rule.touched c.set_to.new.touched
+    c.loop-rule.invariant.covered (subst (λ v. IsOnLayer p c.loop-rule.work.layer v) (sym e) (some g i).is.on) c.set_to.ensures.state c.set_to.ensures.noted
 
-pub returns-in_err-make_ready-clause-told : goal.returns-in_err-make_ready-clause-told
-returns-in_err-make_ready-clause-told g c =
+pub returns-in_err-make_ready-clause-covered : goal.returns-in_err-make_ready-clause-covered
+returns-in_err-make_ready-clause-covered g c =
     let p = c.args.task.now in
-    let i = (goal.at.returns-in_err-make_ready-clause-told g c).In-Some in
+    let i = (goal.at.returns-in_err-make_ready-clause-covered g c).In-Some in
     let e = ap (λ (x : Change). x.var) c.rule_change-var.ensures in
-    told_step p c.loop-rule.work.layer c.args.state.now c.loop-rule.state c.set_to.new.state _ _ c.args.touched.now c.loop-rule.touched c.set_to.new.touched
-    c.loop-rule.invariant.told (subst (λ v. IsOnLayer p c.loop-rule.work.layer v) (sym e) (some g i).is.on) c.set_to.ensures.state c.set_to.ensures.noted
+    covered_step p c.loop-rule.work.layer c.args.state.now c.loop-rule.state c.set_to.new.state _ _ c.args.touched.now c.loop-rule.touched c.set_to.new.touched
+    c.loop-rule.invariant.covered (subst (λ v. IsOnLayer p c.loop-rule.work.layer v) (sym e) (some g i).is.on) c.set_to.ensures.state c.set_to.ensures.noted
 
 pub returns-clause-rising : goal.returns-clause-rising
 returns-clause-rising g c s falling =
@@ -152,8 +130,8 @@ loop-rule-preserved-in-Continue-branch-2 g c =
       };
       state = state;
       off = off_step p c.args.work.now.layer work.layer c.args.state.now s (set s (rule_at p rule).var (default_of p (rule_at p rule).var)) (rule_at p rule).var (default_of p (rule_at p rule).var) inv.same.layer inv.off b.is.on refl;
-      told = told_step p work.layer c.args.state.now s (set s (rule_at p rule).var (default_of p (rule_at p rule).var)) (rule_at p rule).var (default_of p (rule_at p rule).var)
-          c.args.touched.now c.loop-rule.touched c.set_to.new.touched inv.told b.is.on refl (rw var_is at c.set_to.ensures.noted);
+      covered = covered_step p work.layer c.args.state.now s (set s (rule_at p rule).var (default_of p (rule_at p rule).var)) (rule_at p rule).var (default_of p (rule_at p rule).var)
+          c.args.touched.now c.loop-rule.touched c.set_to.new.touched inv.covered b.is.on refl (rw var_is at c.set_to.ensures.noted);
       falling = λ s0 falling. falling_fell p s0 s rule taken c.set_to.new.work c.make_ready.new.agenda c.get.result.now c.task.ensures.layered (but g i s0 falling)
           (omega (arith, within g i, b.track.state.one_each)) state c.set_to.ensures.same moves all each c.in_ok-make_ready.ensures;
       left = inl (less work.agenda c.args.work.now.agenda c.make_ready.new.agenda inv.left (let a = c.in-Some.ensures.left in let d = moves.left in let e = c.in_ok-make_ready.ensures.left in omega arith));
@@ -174,7 +152,7 @@ loop-rule-preserved g c =
       same = record { layer = inv.same.layer; stack = inv.same.stack; one_each = inv.same.one_each; sources = inv.same.sources };
       state = inv.state;
       off = inv.off;
-      told = inv.told;
+      covered = inv.covered;
       falling = λ s0 falling. falling_passed p s0 s rule _ _ (but g i s0 falling) holds c.in_ok-make_ready-2.ensures;
       left = inl (less work.agenda c.args.work.now.agenda c.make_ready-else-has_lost.new.self inv.left
           (let a = c.in-Some.ensures.left in let made = c.in_ok-make_ready-2.ensures in
@@ -186,7 +164,7 @@ loop-rule-init g c = record {
   same = record { layer = refl; stack = refl; one_each = refl; sources = refl };
   state = c.requires.falling.1.track.state;
   off = λ v _. refl;
-  told = λ before tells. tells;
+  covered = λ before covers. covers;
   falling = λ s falling. falling;
   left = inr refl;
 }
@@ -200,12 +178,6 @@ returns-in_err-make_ready-clause-same g c =
     same_but c.args.work.now c.set_to.new.work c.make_ready.new.agenda
     (same_more c.args.work.now _ c.set_to.new.work (same_but c.args.work.now c.loop-rule.work c.take.new.self c.loop-rule.invariant.same) c.set_to.ensures.same)
 
-pub returns-in_err-make_ready-2-clause-same : goal.returns-in_err-make_ready-2-clause-same
-returns-in_err-make_ready-2-clause-same g c = same_but c.args.work.now c.loop-rule.work c.make_ready-else-has_lost.new.self c.loop-rule.invariant.same
-
-pub returns-clause-same : goal.returns-clause-same
-returns-clause-same g c = same_but c.args.work.now c.loop-rule.work c.take.new.self c.loop-rule.invariant.same
-
 pub returns-in_err-set_to-clause-state : goal.returns-in_err-set_to-clause-state
 returns-in_err-set_to-clause-state g c =
     fallen_state c.args.task.now c.loop-rule.state c.set_to.new.state c.in-Some.rule c.initial_value-value.result c.rule_change-var.result
@@ -217,18 +189,6 @@ returns-in_err-make_ready-clause-state g c =
     fallen_state c.args.task.now c.loop-rule.state c.set_to.new.state c.in-Some.rule c.initial_value-value.result c.rule_change-var.result
     c.rule_change-var.ensures c.initial_value-value.ensures c.set_to.ensures.state c.task.ensures.well_ranged
     (within g (goal.at.returns-in_err-make_ready-clause-state g c).In-Some) c.loop-rule.invariant.state
-
-pub returns-in_err-make_ready-2-clause-off : goal.returns-in_err-make_ready-2-clause-off
-returns-in_err-make_ready-2-clause-off g c = c.loop-rule.invariant.off
-
-pub returns-in_err-make_ready-2-clause-told : goal.returns-in_err-make_ready-2-clause-told
-returns-in_err-make_ready-2-clause-told g c = c.loop-rule.invariant.told
-
-pub returns-clause-off : goal.returns-clause-off
-returns-clause-off g c = c.loop-rule.invariant.off
-
-pub returns-clause-told : goal.returns-clause-told
-returns-clause-told g c = c.loop-rule.invariant.told
 
 pub returns-clause-left : goal.returns-clause-left
 returns-clause-left g c =

@@ -1,8 +1,5 @@
 -- The variables so far are reset.
-use Rattle.std.proofs.Common.{◌≡◌, ◌⊎◌, ℕ, ◌<◌, List}
-use Rattle.sas_core.specs.Variables.{IsState}
-use Rattle.sas_meaning.specs.Forced.{SameOff}
-use Rattle.sas_meaning.specs.Touched.{StillTells}
+use Rattle.sas_axioms.proofs.Imports.{◌≡◌, ◌⊎◌, ℕ, ◌<◌, List, IsState, SameOff, StillCovers}
 use Rattle.sas_axioms.specs.Agenda.{work_left}
 use Rattle.sas_axioms.specs.Following.{SameWork, IsFalling}
 use Rattle.sas_axioms.proofs.following.fall.Given as goal
@@ -12,7 +9,7 @@ invariant-loop-rule g l = record {
   same : SameWork l.fn.work l.work;
   state : IsState l.task.variables l.state;
   off : SameOff l.task l.fn.work.layer l.fn.state l.state;
-  told : StillTells l.task l.fn.state l.fn.touched l.state l.touched;
+  covered : StillCovers l.task l.fn.state l.fn.touched l.state l.touched;
   falling : (s : List ℕ) → IsFalling l.task s l.fn.state l.fn.work → IsFalling l.task s l.state l.work;
   left : (work_left l.work.agenda < work_left l.fn.work.agenda) ⊎ (l.work.agenda ≡ l.fn.work.agenda);
 }

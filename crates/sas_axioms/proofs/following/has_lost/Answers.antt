@@ -1,13 +1,7 @@
 -- The variable of the rule exists.
-use Rattle.std.proofs.Common.{length, sym, ap, ◌∙◌, arith}
+use Rattle.sas_axioms.proofs.Imports.{length, sym, ap, ◌∙◌, arith}
 use Rattle.sas_axioms.proofs.RuleChanges.{change_within, differs_read}
 use Rattle.sas_axioms.proofs.following.has_lost.Goals as goal
-
-pub rule_change-var-requires : goal.rule_change-var-requires
-rule_change-var-requires g c = c.requires.rule.1.exists
-
-pub bounds-as_slice-rule : goal.bounds-as_slice-rule
-bounds-as_slice-rule g c = omega (arith, c.requires.rule.1.exists, c.requires.counters, ap length c.as_slice.ensures)
 
 pub bounds-as_slice-var : goal.bounds-as_slice-var
 bounds-as_slice-var g c =

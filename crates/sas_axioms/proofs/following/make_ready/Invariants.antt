@@ -1,5 +1,5 @@
 -- The rules so far are ready.
-use Rattle.std.proofs.Common.{◌≡◌, ◌+◌, ◌*◌, ◌≤◌, ◌++◌, length, take}
+use Rattle.sas_axioms.proofs.Imports.{◌≡◌, ◌+◌, ◌*◌, ◌≤◌, ◌++◌, length, take}
 use Rattle.sas_axioms.specs.Agenda.{work_left}
 use Rattle.sas_axioms.proofs.following.make_ready.Given as goal
 

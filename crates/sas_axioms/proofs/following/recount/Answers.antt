@@ -1,6 +1,5 @@
 -- The counters of the rules with conditions on the variable are updated.
-use Rattle.std.proofs.Common.{sym, ◌∙◌}
-use Rattle.std.proofs.lemmas.Result.{on_ok_weaker}
+use Rattle.sas_axioms.proofs.Imports.{sym, ◌∙◌, on_ok_weaker}
 use Rattle.sas_axioms.proofs.AllConditions.{counters_exist, small, enough}
 use Rattle.sas_axioms.proofs.Recounting.{moved_when_recounted}
 use Rattle.sas_axioms.proofs.following.recount.Goals as goal

@@ -1,5 +1,5 @@
 -- One more entry is counted.
-use Rattle.std.proofs.Common.{ℕ, ◌+◌, ◌∙◌, List, length, get_or, refl, ap, arith}
+use Rattle.sas_axioms.proofs.Imports.{ℕ, ◌+◌, List, length, get_or, ap, arith}
 use Rattle.sas_axioms.proofs.CountingEntries.{no_entry, counted_none, counted_all, value_waits, former_fits, entry_of_former, entry_of_value, entry_passed}
 use Rattle.sas_axioms.proofs.Tracking.{same_more}
 use Rattle.sas_axioms.proofs.following.recount_waiting.Goals as goal
@@ -28,9 +28,6 @@ loop-entry-preserved g c =
       | else-entry-moved+else-entry-moved-2 w ↦ rw w.work-is
           (entry_passed p former value ws i w0 work lt inv w.if-entry-moved.false w.if-entry-moved-2.false)
     ]
-
-pub returns-in_err-pay-clause-same : goal.returns-in_err-pay-clause-same
-returns-in_err-pay-clause-same g c = record { layer = refl; stack = refl; one_each = refl; sources = refl }
 
 pub loop-entry-init : goal.loop-entry-init
 loop-entry-init g c =
@@ -65,24 +62,9 @@ overflow_sub-open g c =
       ap (λ (xs : List ℕ). get_or xs rule 0) c.as_slice.ensures,
     )
 
-pub count_to-requires-clause-exists : goal.count_to-requires-clause-exists
-count_to-requires-clause-exists g c = omega (arith, c.requires.exist c.loop-entry.entry-index no_entry c.loop-entry-test.true, c.requires.counters)
-
-pub count_to-requires-clause-counters : goal.count_to-requires-clause-counters
-count_to-requires-clause-counters g c = c.loop-entry.invariant.same.one_each ∙ c.requires.counters
-
-pub count_to-requires-clause-ordered : goal.count_to-requires-clause-ordered
-count_to-requires-clause-ordered g c = c.loop-entry.invariant.notes.ordered
-
-pub returns-in_err-count_to-clause-same : goal.returns-in_err-count_to-clause-same
-returns-in_err-count_to-clause-same g c = same_more c.args.work.now c.loop-entry.work c.count_to.new.work c.loop-entry.invariant.same c.count_to.ensures.same
-
 pub returns-in_err-count_to-2-clause-same : goal.returns-in_err-count_to-2-clause-same
 returns-in_err-count_to-2-clause-same g c =
     same_more c.args.work.now c.loop-entry.work c.count_to-then-entry-moved-2.new.work c.loop-entry.invariant.same c.count_to-then-entry-moved-2.ensures.same
-
-pub returns-clause-same : goal.returns-clause-same
-returns-clause-same g c = c.loop-entry.invariant.same
 
 pub returns-clause-recounts : goal.returns-clause-recounts
 returns-clause-recounts g c =

@@ -1,17 +1,10 @@
 -- The rules are removed one by one: each sets its variable, or needs not.
-use Rattle.std.proofs.Common.{◌≡◌, ℕ, ◌<◌, true, List, length, get_or, set, is_some, refl, sym, ap, subst, ◌∙◌, arith}
-use Rattle.sas_core.specs.declared.grounded.Change.{Change}
-use Rattle.sas_core.specs.Grounded.{rule_at}
-use Rattle.sas_meaning.specs.Layers.{IsOnLayer}
-use Rattle.sas_meaning.proofs.Layers.{on_layer_within}
+use Rattle.sas_axioms.proofs.Imports.{◌≡◌, ℕ, ◌<◌, true, List, length, get_or, set, is_some, refl, sym, ap, subst, ◌∙◌, arith, Change, rule_at, IsOnLayer, on_layer_within, length-set, get_or-set_other, differs, differs_true}
 use Rattle.sas_axioms.specs.declared.firing.Work.{Work}
 use Rattle.sas_axioms.specs.Following.{IsRising}
-use Rattle.std.proofs.lemmas.List.{length-set, get_or-set_other}
-use Rattle.sas_meaning.specs.Settled.{differs}
-use Rattle.sas_meaning.proofs.Forced.{differs_true}
 use Rattle.sas_axioms.specs.Sources.{IsHolding}
 use Rattle.sas_axioms.proofs.RisingSteps.{RisingBut, rising_taken, rising_passed, rising_set, fires, risen_in_the_end}
-use Rattle.sas_axioms.proofs.Tracking.{holding_when_zero, zero_when_holding, off_step, told_step, room_same, room_but, room_more}
+use Rattle.sas_axioms.proofs.Tracking.{holding_when_zero, zero_when_holding, off_step, covered_step, room_same, room_but, room_more}
 use Rattle.sas_axioms.proofs.following.rise.Goals as goal
 use Rattle.sas_axioms.proofs.following.rise.Given.{Over}
 use Rattle.sas_axioms.proofs.following.rise.Goals.{In-Some}
@@ -37,12 +30,6 @@ within g c = on_layer_within c.args.task.now c.loop-rule.work.layer (rule_at c.a
 
 pub has_to_set-requires-clause-rule : goal.has_to_set-requires-clause-rule
 has_to_set-requires-clause-rule g c = (c.loop-rule.work.layer, (some g c).is)
-
-pub has_to_set-requires-clause-state : goal.has_to_set-requires-clause-state
-has_to_set-requires-clause-state g c = (some g c).track.state
-
-pub has_to_set-requires-clause-counters : goal.has_to_set-requires-clause-counters
-has_to_set-requires-clause-counters g c = (some g c).track.counts.one_each
 
 pub rule_change-change-requires : goal.rule_change-change-requires
 rule_change-change-requires g c = (some g (goal.at.rule_change-change-requires g c).In-Some).is.exists
@@ -73,13 +60,13 @@ returns-in_err-set_to-clause-off g c =
     let state_is : c.set_to.new.state ≡ set c.loop-rule.state (rule_at p c.in-Some.rule).var (rule_at p c.in-Some.rule).new = c.set_to.ensures.state ∙ ap (λ (x : Change). set c.loop-rule.state x.var x.new) c.rule_change-change.ensures in
     off_step p c.args.work.now.layer c.loop-rule.work.layer c.args.state.now c.loop-rule.state c.set_to.new.state _ _ inv.room.layer inv.off (some g i).is.on state_is
 
-pub returns-in_err-set_to-clause-told : goal.returns-in_err-set_to-clause-told
-returns-in_err-set_to-clause-told g c =
+pub returns-in_err-set_to-clause-covered : goal.returns-in_err-set_to-clause-covered
+returns-in_err-set_to-clause-covered g c =
     let p = c.args.task.now in
-    let i = (goal.at.returns-in_err-set_to-clause-told g c).In-Some in
+    let i = (goal.at.returns-in_err-set_to-clause-covered g c).In-Some in
     let e = ap (λ (x : Change). x.var) c.rule_change-change.ensures in
-    told_step p c.loop-rule.work.layer c.args.state.now c.loop-rule.state c.set_to.new.state _ _ c.args.touched.now c.loop-rule.touched c.set_to.new.touched
-    c.loop-rule.invariant.told (subst (λ v. IsOnLayer p c.loop-rule.work.layer v) (sym e) (some g i).is.on) c.set_to.ensures.state c.set_to.ensures.noted
+    covered_step p c.loop-rule.work.layer c.args.state.now c.loop-rule.state c.set_to.new.state _ _ c.args.touched.now c.loop-rule.touched c.set_to.new.touched
+    c.loop-rule.invariant.covered (subst (λ v. IsOnLayer p c.loop-rule.work.layer v) (sym e) (some g i).is.on) c.set_to.ensures.state c.set_to.ensures.noted
 
 pub set-requires : goal.set-requires
 set-requires g c =
@@ -109,8 +96,8 @@ loop-rule-preserved-then-has_to_set g c =
           ∙ (ap (λ (xs : List ℕ). get_or xs v 0) same.sources ∙ inv.sources v off);
       state = (fires p c.requires.rising.0 s rule taken c.task.ensures.well_ranged c.task.ensures.layered b hold ne).state;
       off = off_step p c.args.work.now.layer work.layer c.args.state.now s (set s (rule_at p rule).var (rule_at p rule).new) (rule_at p rule).var (rule_at p rule).new inv.room.layer inv.off b.is.on refl;
-      told = told_step p work.layer c.args.state.now s (set s (rule_at p rule).var (rule_at p rule).new) (rule_at p rule).var (rule_at p rule).new
-          c.args.touched.now c.loop-rule.touched c.set_to.new.touched inv.told b.is.on refl (rw (ap (λ (x : Change). x.var) e) at c.set_to.ensures.noted);
+      covered = covered_step p work.layer c.args.state.now s (set s (rule_at p rule).var (rule_at p rule).new) (rule_at p rule).var (rule_at p rule).new
+          c.args.touched.now c.loop-rule.touched c.set_to.new.touched inv.covered b.is.on refl (rw (ap (λ (x : Change). x.var) e) at c.set_to.ensures.noted);
       rising = λ s0 r. rising_set p s0 s rule taken c.task.ensures.well_ranged c.task.ensures.layered (but g i s0 r) hold ne c.set_to.new.work
           (omega (arith, within g i, b.track.state.one_each)) (omega (arith, within g i, b.track.places)) same moves;
       left = let a = inv.left in let d = c.in-Some.ensures.some.left in let f = moves.left in omega arith;
@@ -132,7 +119,7 @@ loop-rule-preserved g c =
       sources = inv.sources;
       state = inv.state;
       off = inv.off;
-      told = inv.told;
+      covered = inv.covered;
       rising = λ s0 r. rising_passed p s0 s rule _ (but g i s0 r) done;
       left = let a = inv.left in let d = c.in-Some.ensures.some.left in omega arith;
     }
@@ -148,13 +135,10 @@ loop-rule-init g c = record {
   sources = λ v off. refl;
   state = c.requires.rising.1.track.state;
   off = λ v off. refl;
-  told = λ before tells. tells;
+  covered = λ before covers. covers;
   rising = λ s rising. rising;
   left = omega arith;
 }
-
-pub set_to-requires-clause-ordered : goal.set_to-requires-clause-ordered
-set_to-requires-clause-ordered g c = (some g (goal.at.set_to-requires-clause-ordered g c).In-Some).track.ordered
 
 pub set_to-requires-clause-other : goal.set_to-requires-clause-other
 set_to-requires-clause-other g c = λ same.
@@ -164,21 +148,3 @@ pub returns-in_err-set_to-clause-stands : goal.returns-in_err-set_to-clause-stan
 returns-in_err-set_to-clause-stands g c =
     room_more c.args.work.now _ c.set_to.new.work (room_but c.args.work.now c.loop-rule.work c.next.new.self c.loop-rule.invariant.room)
     (room_same _ c.set_to.new.work c.set_to.ensures.same)
-
-pub returns-in_err-set_to-clause-sources : goal.returns-in_err-set_to-clause-sources
-returns-in_err-set_to-clause-sources g c = λ v off. ap (λ (xs : List ℕ). get_or xs v 0) c.set_to.ensures.same.sources ∙ c.loop-rule.invariant.sources v off
-
-pub returns-clause-stands : goal.returns-clause-stands
-returns-clause-stands g c = room_but c.args.work.now c.loop-rule.work c.next.new.self c.loop-rule.invariant.room
-
-pub returns-clause-off : goal.returns-clause-off
-returns-clause-off g c = c.loop-rule.invariant.off
-
-pub returns-clause-told : goal.returns-clause-told
-returns-clause-told g c = c.loop-rule.invariant.told
-
-pub returns-clause-sources : goal.returns-clause-sources
-returns-clause-sources g c = c.loop-rule.invariant.sources
-
-pub returns-clause-left : goal.returns-clause-left
-returns-clause-left g c = rw c.in_default.ensures.same c.loop-rule.invariant.left

@@ -1,8 +1,5 @@
 -- The rules so far have set their variables.
-use Rattle.std.proofs.Common.{ℕ, ◌≤◌, List}
-use Rattle.sas_core.specs.Variables.{IsState}
-use Rattle.sas_meaning.specs.Forced.{SameOff}
-use Rattle.sas_meaning.specs.Touched.{StillTells}
+use Rattle.sas_axioms.proofs.Imports.{ℕ, ◌≤◌, List, IsState, SameOff, StillCovers}
 use Rattle.sas_axioms.specs.Agenda.{work_left}
 use Rattle.sas_axioms.specs.Following.{KeepsRoom, IsRising}
 use Rattle.sas_axioms.specs.Sources.{SameSourcesOff}
@@ -14,7 +11,7 @@ invariant-loop-rule g l = record {
   sources : SameSourcesOff l.task l.fn.work.layer l.fn.work.sources l.work.sources;
   state : IsState l.task.variables l.state;
   off : SameOff l.task l.fn.work.layer l.fn.state l.state;
-  told : StillTells l.task l.fn.state l.fn.touched l.state l.touched;
+  covered : StillCovers l.task l.fn.state l.fn.touched l.state l.touched;
   rising : (s : List ℕ) → IsRising l.task s l.fn.state l.fn.work → IsRising l.task s l.state l.work;
   left : work_left l.work.agenda ≤ work_left l.fn.work.agenda;
 }

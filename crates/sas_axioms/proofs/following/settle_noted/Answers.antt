@@ -1,11 +1,5 @@
 -- The layers are settled one by one.
-use Rattle.std.proofs.Common.{ℕ, ◌+◌, ◌≤◌, List, length, get_or, refl, sym, ap, subst, ◌∙◌}
-use Rattle.std.specs.BinaryHeap.{heap_items}
-use Rattle.std.specs.declared.cmp.Reverse.{Reverse}
-use Rattle.std.proofs.lemmas.List.Elements.{All-contains}
-use Rattle.sas_meaning.specs.Layers.{IsOnLayer}
-use Rattle.sas_meaning.specs.Forced.{SameOff}
-use Rattle.sas_meaning.proofs.Settling.{basic_off}
+use Rattle.sas_axioms.proofs.Imports.{ℕ, ◌+◌, ◌≤◌, List, length, get_or, refl, sym, ap, subst, ◌∙◌, heap_items, Reverse, All-contains, IsOnLayer, SameOff, basic_off}
 use Rattle.sas_axioms.specs.declared.layer_rules.LayerRule.{LayerRule}
 use Rattle.sas_axioms.specs.Agenda.{entry_for}
 use Rattle.sas_axioms.specs.Following.{IsBetween, IsFalling}
@@ -35,11 +29,11 @@ fall-requires-clause-falling g c = (c.requires.between.0, begins g (goal.at.fall
 pub rise-requires-clause-rising : goal.rise-requires-clause-rising
 rise-requires-clause-rising g c = (c.requires.between.0, c.in_ok-fall.ensures.rising c.requires.between.0 (begins g (goal.at.rise-requires-clause-rising g c).In-Some c.requires.between.0 c.requires.between.1))
 
-pub returns-in_err-fall-clause-told : goal.returns-in_err-fall-clause-told
-returns-in_err-fall-clause-told g c before tells = c.fall.ensures.told before (c.loop-layer.invariant.told before tells)
+pub returns-in_err-fall-clause-covered : goal.returns-in_err-fall-clause-covered
+returns-in_err-fall-clause-covered g c before covers = c.fall.ensures.covered before (c.loop-layer.invariant.covered before covers)
 
-pub returns-in_err-rise-clause-told : goal.returns-in_err-rise-clause-told
-returns-in_err-rise-clause-told g c before tells = c.rise.ensures.told before (c.fall.ensures.told before (c.loop-layer.invariant.told before tells))
+pub returns-in_err-rise-clause-covered : goal.returns-in_err-rise-clause-covered
+returns-in_err-rise-clause-covered g c before covers = c.rise.ensures.covered before (c.fall.ensures.covered before (c.loop-layer.invariant.covered before covers))
 
 pub returns-clause-followed : goal.returns-clause-followed
 returns-clause-followed g c =
@@ -59,7 +53,7 @@ loop-layer-preserved g c =
       sources = c.rise.ensures.stands.sources ∙ (ap length c.fall.ensures.same.sources ∙ inv.sources);
       state = c.rise.ensures.state;
       basic = λ v b. inv.basic v b ∙ basic_off p layer c.loop-layer.state c.rise.new.state c.task.ensures.layered off v b;
-      told = λ before tells. c.rise.ensures.told before (c.fall.ensures.told before (inv.told before tells));
+      covered = λ before covers. c.rise.ensures.covered before (c.fall.ensures.covered before (inv.covered before covers));
       between = λ s0 start.
           (let b = inv.between s0 start in (
             layer + 1,
@@ -77,25 +71,13 @@ loop-layer-init g c = record {
   sources = refl;
   state = c.requires.between.1.track.state;
   basic = λ v basic. refl;
-  told = λ before tells. tells;
+  covered = λ before covers. covers;
   between = λ s between. (0, between);
 }
-
-pub fall-requires-clause-noted : goal.fall-requires-clause-noted
-fall-requires-clause-noted g c = c.in-Some.ensures.some.noted
 
 pub returns-in_err-fall-clause-basic : goal.returns-in_err-fall-clause-basic
 returns-in_err-fall-clause-basic g c = λ v basic.
     c.loop-layer.invariant.basic v basic ∙ basic_off c.args.task.now c.in-Some.layer c.loop-layer.state c.fall.new.state c.task.ensures.layered c.fall.ensures.off v basic
-
-pub returns-in_err-fall-clause-stack : goal.returns-in_err-fall-clause-stack
-returns-in_err-fall-clause-stack g c = c.fall.ensures.same.stack ∙ c.loop-layer.invariant.stack
-
-pub returns-in_err-fall-clause-one_each : goal.returns-in_err-fall-clause-one_each
-returns-in_err-fall-clause-one_each g c = c.fall.ensures.same.one_each ∙ c.loop-layer.invariant.one_each
-
-pub returns-in_err-fall-clause-sources : goal.returns-in_err-fall-clause-sources
-returns-in_err-fall-clause-sources g c = ap length c.fall.ensures.same.sources ∙ c.loop-layer.invariant.sources
 
 pub returns-in_err-rise-clause-basic : goal.returns-in_err-rise-clause-basic
 returns-in_err-rise-clause-basic g c = λ v basic.
@@ -103,18 +85,3 @@ returns-in_err-rise-clause-basic g c = λ v basic.
     let layer = c.in-Some.layer in
     let off : SameOff p layer c.loop-layer.state c.rise.new.state = λ v not. c.fall.ensures.off v not ∙ c.rise.ensures.off v (subst (λ n. IsOnLayer p n v → ⊥) (sym c.fall.ensures.same.layer) not) in
     c.loop-layer.invariant.basic v basic ∙ basic_off p layer c.loop-layer.state c.rise.new.state c.task.ensures.layered off v basic
-
-pub returns-in_err-rise-clause-stack : goal.returns-in_err-rise-clause-stack
-returns-in_err-rise-clause-stack g c = c.rise.ensures.stands.stack ∙ (c.fall.ensures.same.stack ∙ c.loop-layer.invariant.stack)
-
-pub returns-in_err-rise-clause-one_each : goal.returns-in_err-rise-clause-one_each
-returns-in_err-rise-clause-one_each g c = c.rise.ensures.stands.one_each ∙ (c.fall.ensures.same.one_each ∙ c.loop-layer.invariant.one_each)
-
-pub returns-in_err-rise-clause-sources : goal.returns-in_err-rise-clause-sources
-returns-in_err-rise-clause-sources g c = c.rise.ensures.stands.sources ∙ (ap length c.fall.ensures.same.sources ∙ c.loop-layer.invariant.sources)
-
-pub returns-clause-basic : goal.returns-clause-basic
-returns-clause-basic g c = c.loop-layer.invariant.basic
-
-pub returns-clause-told : goal.returns-clause-told
-returns-clause-told g c = c.loop-layer.invariant.told

@@ -1,8 +1,5 @@
 -- The layers so far are settled.
-use Rattle.std.proofs.Common.{◌≡◌, ℕ, List, length}
-use Rattle.sas_core.specs.Variables.{IsState}
-use Rattle.sas_meaning.specs.Settled.{SameBasic}
-use Rattle.sas_meaning.specs.Touched.{StillTells}
+use Rattle.sas_axioms.proofs.Imports.{◌≡◌, ℕ, List, length, IsState, SameBasic, StillCovers}
 use Rattle.sas_axioms.specs.Agenda.{work_left}
 use Rattle.sas_axioms.specs.Following.{IsBetween}
 use Rattle.sas_axioms.proofs.following.settle_noted.Given as goal
@@ -14,7 +11,7 @@ invariant-loop-layer g l = record {
   sources : length l.work.sources ≡ length l.fn.work.sources;
   state : IsState l.task.variables l.state;
   basic : SameBasic l.task l.fn.state l.state;
-  told : StillTells l.task l.fn.state l.fn.touched l.state l.touched;
+  covered : StillCovers l.task l.fn.state l.fn.touched l.state l.touched;
   between : (s : List ℕ) → IsBetween l.task s 0 l.fn.state l.fn.work → (from : ℕ) × IsBetween l.task s from l.state l.work;
 }
 

@@ -1,11 +1,8 @@
 -- Each iteration appends a rule, or skips one that can't fire or is late.
-use Rattle.std.proofs.Common.{◌≡◌, ◌∷◌, [], ◌++◌, arith}
-use Rattle.sas_axioms.proofs.OneLayer.{one_layer, first_none, first_more, first_skip, first_all}
+use Rattle.sas_axioms.proofs.Imports.{◌≡◌, ◌∷◌, [], ◌++◌, arith}
+use Rattle.sas_axioms.proofs.OneLayer.{one_layer, first_more, first_skip, first_all}
 use Rattle.sas_axioms.proofs.layer_rules.first_rules.Goals as goal
 use Rattle.sas_axioms.proofs.layer_rules.first_rules.Goals.{in-Some+then-not-is_late+in_ok-push, in-Some+else-not-is_late, in_default}
-
-pub loop-rule-init : goal.loop-rule-init
-loop-rule-init g c = rw c.new-rules.ensures.items (first_none c.args.task.now)
 
 pub loop-rule-preserved : goal.loop-rule-preserved
 loop-rule-preserved g c =

@@ -1,9 +1,5 @@
 -- The conditions so far aren't on lower layers, and whether one is on the layer.
-use Rattle.std.proofs.Common.{◌≡◌, ℕ, ◌<◌, true, get_or}
-use Rattle.std.specs.List.{Contains}
-use Rattle.sas_core.specs.declared.parts.Fact.{Fact}
-use Rattle.sas_core.specs.Grounded.{rule_at}
-use Rattle.sas_meaning.specs.Layers.{IsOnLayer}
+use Rattle.sas_axioms.proofs.Imports.{◌≡◌, ℕ, ◌<◌, true, get_or, Contains, Fact, rule_at, IsOnLayer}
 use Rattle.sas_axioms.proofs.layer_rules.is_late.Given as goal
 
 abbrev pub invariant-loop-condition : goal.invariant-loop-condition

@@ -1,6 +1,5 @@
 -- Sorting preserves the rules and puts them in order.
-use Rattle.std.proofs.Common.{rules, inl, inr}
-use Rattle.std.proofs.lemmas.List.Sorted.{IsNonDecreasingBy-from_sort_by_key, All-permutation, Contains-permutation}
+use Rattle.sas_axioms.proofs.Imports.{rules, inl, inr, IsNonDecreasingBy-from_sort_by_key, All-permutation, Contains-permutation}
 use Rattle.sas_axioms.specs.declared.layer_rules.LayerRule.{LayerRule}
 use Rattle.sas_axioms.specs.LayerRules.{IsRuleOn, AreFirstRules}
 use Rattle.sas_axioms.proofs.layer_rules.ranked_rules.Goals as goal

@@ -1,11 +1,5 @@
 -- Each turn adds the entry of a rule that can fire, or passes one that can't.
-use Rattle.std.proofs.Common.{◌≡◌, ◌<◌, length, sym, ap, subst, ◌∙◌, arith}
-use Rattle.std.proofs.lemmas.Result.{IfOk-weaker}
-use Rattle.sas_core.specs.declared.grounded.Change.{Change}
-use Rattle.sas_core.specs.Grounded.{rule_at}
-use Rattle.sas_flat.specs.ByKey.{by_key}
-use Rattle.sas_meaning.specs.Layers.{default_of}
-use Rattle.sas_meaning.proofs.Forced.{fact_within, rule_new}
+use Rattle.sas_axioms.proofs.Imports.{◌≡◌, ◌<◌, length, sym, ap, subst, ◌∙◌, arith, IfOk-weaker, Change, rule_at, by_key, default_of, fact_within, rule_new}
 use Rattle.sas_axioms.specs.LayerRules.{AreRulesOf}
 use Rattle.sas_axioms.proofs.RulesOf.{RulesTo, rules_none, rules_skip, rules_more, rules_index}
 use Rattle.sas_axioms.proofs.layer_rules.rules_of_variables.Goals as goal
@@ -39,9 +33,6 @@ loop-rule-preserved g c =
       | else-change-initial_value w ↦
           rw w.entries-is (rules_skip p k entries lt (sym new ∙ (w.if-change-initial_value.false ∙ default)) c.loop-rule.invariant)
     ]
-
-pub by_key-requires : goal.by_key-requires
-by_key-requires g c = rw (c.as_slice.ensures.value, c.variables.ensures.count) c.loop-rule.invariant.exist
 
 pub returns : goal.returns
 returns g c =

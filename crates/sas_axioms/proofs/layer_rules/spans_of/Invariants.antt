@@ -1,5 +1,5 @@
 -- The layers so far.
-use Rattle.std.proofs.Common.{◌-◌, ◌≤◌, length}
+use Rattle.sas_axioms.proofs.Imports.{◌-◌, ◌≤◌, length}
 use Rattle.sas_axioms.specs.LayerRules.{AreSpans}
 use Rattle.sas_axioms.proofs.layer_rules.spans_of.Given as goal
 

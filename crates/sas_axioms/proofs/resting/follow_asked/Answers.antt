@@ -1,8 +1,5 @@
 -- One more variable: its counters are updated if its value differs.
-use Rattle.std.proofs.Common.{◌≡◌, ◌<◌, length, get_or, set, sym, subst, ap, ◌∙◌, inl, inr, arith}
-use Rattle.std.proofs.lemmas.Bool.{cases_eq}
-use Rattle.std.proofs.lemmas.List.{get_or_default, get_or-set_same, get_or-set_other}
-use Rattle.sas_meaning.specs.Layers.{IsBasic}
+use Rattle.sas_axioms.proofs.Imports.{◌≡◌, ◌<◌, length, get_or, set, sym, subst, ap, ◌∙◌, inl, inr, arith, cases_eq, get_or_default, get_or-set_same, get_or-set_other, IsBasic}
 use Rattle.sas_axioms.proofs.LayerStart.{still_default}
 use Rattle.sas_axioms.proofs.resting.follow_asked.Goals as goal
 use Rattle.sas_axioms.proofs.resting.follow_asked.Goals.{then-value, else-value}

@@ -1,6 +1,5 @@
 -- The counters use the state's values of the variables so far.
-use Rattle.std.proofs.Common.{◌≡◌, ℕ, ◌<◌, get_or}
-use Rattle.sas_meaning.specs.Forced.{AtDefault}
+use Rattle.sas_axioms.proofs.Imports.{◌≡◌, ℕ, ◌<◌, get_or, AtDefault}
 use Rattle.sas_axioms.specs.Conditions.{IsCounted}
 use Rattle.sas_axioms.proofs.resting.follow_asked.Given as goal
 

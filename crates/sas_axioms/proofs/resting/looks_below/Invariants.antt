@@ -1,8 +1,5 @@
 -- The conditions so far aren't on lower layers.
-use Rattle.std.proofs.Common.{◌≡◌, ℕ, ◌<◌, get_or}
-use Rattle.sas_core.specs.declared.parts.Fact.{Fact}
-use Rattle.sas_core.specs.Grounded.{rule_at}
-use Rattle.sas_meaning.specs.Layers.{IsOnLayer}
+use Rattle.sas_axioms.proofs.Imports.{◌≡◌, ℕ, ◌<◌, get_or, Fact, rule_at, IsOnLayer}
 use Rattle.sas_axioms.proofs.resting.looks_below.Given as goal
 
 abbrev pub invariant-loop-condition : goal.invariant-loop-condition

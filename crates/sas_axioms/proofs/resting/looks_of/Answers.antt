@@ -1,7 +1,7 @@
 -- One more rule.
-use Rattle.std.proofs.Common.{◌≡◌, ◌∷◌, [], ◌++◌, arith}
+use Rattle.sas_axioms.proofs.Imports.{◌≡◌, ◌∷◌, [], ◌++◌, arith}
 use Rattle.sas_axioms.proofs.OneLayer.{one_layer}
-use Rattle.sas_axioms.proofs.LayerStart.{looks_told, looks_more, looks_all}
+use Rattle.sas_axioms.proofs.LayerStart.{looks_covered, looks_more, looks_all}
 use Rattle.sas_axioms.proofs.resting.looks_of.Goals as goal
 use Rattle.sas_axioms.proofs.resting.looks_of.Goals.{in-Some, in-None}
 
@@ -13,7 +13,7 @@ loop-rule-preserved g c =
     let pushed : c.push.new.self.items ≡ below ++ c.match-firing_layer.looks ∷ [] = c.in_ok-push.ensures.items in
     rw pushed (looks_more p k below c.match-firing_layer.looks (λ layer is. elim c.match-firing_layer.branch [
       | in-Some w ↦ rw (w.looks-is, one_layer p layer w.in-Some.layer k is w.in-Some.ensures.some)
-          (looks_told p k w.in-Some.layer w.looks_below-looks.result w.looks_below-looks.ensures.yes w.looks_below-looks.ensures.no)
+          (looks_covered p k w.in-Some.layer w.looks_below-looks.result w.looks_below-looks.ensures.yes w.looks_below-looks.ensures.no)
       | in-None w ↦ absurd (w.in-None.ensures.none layer is)
     ]) c.loop-rule.invariant)
 

@@ -1,5 +1,5 @@
 -- The variables and values in the rule exist.
-use Rattle.std.proofs.Common.{arith, rules}
+use Rattle.sas_axioms.proofs.Imports.{arith}
 use Rattle.sas_axioms.proofs.RuleChanges.{change_within, conditions_within}
 use Rattle.sas_axioms.proofs.rounds.changes.Goals as goal
 
@@ -23,6 +23,3 @@ pub holds_all-requires : goal.holds_all-requires
 holds_all-requires g c =
     conditions_within c.args.task.now c.task.ensures.well_ranged c.args.rule c.requires.rule c.args.state.now c.requires.state.one_each
     c.rule_conditions.result.now c.rule_conditions.ensures
-
-pub returns-then-change-value-clause-yes : goal.returns-then-change-value-clause-yes
-returns-then-change-value-clause-yes g c = search rules

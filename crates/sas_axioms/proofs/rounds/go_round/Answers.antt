@@ -1,10 +1,4 @@
-use Rattle.std.proofs.Common.{◌≡◌, ◌<◌, [], None, length, get_or, set, sym, ◌∙◌, subst, inl, inr, arith, rules}
-use Rattle.std.proofs.lemmas.Bool.{cases_eq}
-use Rattle.std.proofs.lemmas.List.{get_or_default}
-use Rattle.sas_core.specs.declared.parts.Rule.{Rule}
-use Rattle.sas_core.specs.Grounded.{rule_at}
-use Rattle.sas_meaning.specs.Forced.{HasFired}
-use Rattle.sas_meaning.proofs.Forced.{Fired, fired_there}
+use Rattle.sas_axioms.proofs.Imports.{◌≡◌, ◌<◌, [], None, length, get_or, set, sym, ◌∙◌, subst, inl, inr, arith, rules, cases_eq, get_or_default, Rule, rule_at, HasFired, Fired, fired_there}
 use Rattle.sas_axioms.proofs.rounds.go_round.Goals as goal
 use Rattle.sas_axioms.proofs.rounds.go_round.Goals.{then-changes, else-changes}
 

@@ -1,7 +1,4 @@
-use Rattle.std.proofs.Common.{ℕ, ◌<◌, ◌≤◌, get_or, IsTrue, IsFalse}
-use Rattle.sas_core.specs.declared.parts.Rule.{Rule}
-use Rattle.sas_core.specs.Variables.{IsState}
-use Rattle.sas_meaning.specs.Forced.{OnlyForced, equal_places, HasFired, SameOff}
+use Rattle.sas_axioms.proofs.Imports.{ℕ, ◌<◌, ◌≤◌, get_or, IsTrue, IsFalse, Rule, IsState, OnlyForced, equal_places, HasFired, SameOff}
 use Rattle.sas_axioms.proofs.rounds.go_round.Given as goal
 
 abbrev pub invariant-loop-rule : goal.invariant-loop-rule

@@ -1,6 +1,4 @@
-use Rattle.std.proofs.Common.{ℕ, ◌<◌, ◌≤◌, IfSome, IfNone}
-use Rattle.sas_meaning.specs.Layers.{IsOnLayer}
-use Rattle.sas_meaning.specs.Forced.{Occurs}
+use Rattle.sas_axioms.proofs.Imports.{ℕ, ◌<◌, ◌≤◌, IfSome, IfNone, IsOnLayer, Occurs}
 use Rattle.sas_axioms.proofs.rounds.next_layer.Given as goal
 
 abbrev pub invariant-loop-var : goal.invariant-loop-var

@@ -1,7 +1,4 @@
-use Rattle.std.proofs.Common.{◌≡◌, ℕ, ◌<◌, slice_index}
-use Rattle.sas_core.specs.Variables.{IsState}
-use Rattle.sas_meaning.specs.Layers.{IsOnLayer, default_of}
-use Rattle.sas_meaning.specs.Settled.{SameBasic}
+use Rattle.sas_axioms.proofs.Imports.{◌≡◌, ℕ, ◌<◌, slice_index, IsState, IsOnLayer, default_of, SameBasic}
 use Rattle.sas_axioms.proofs.rounds.set_defaults.Given as goal
 
 abbrev pub invariant-loop-var : goal.invariant-loop-var

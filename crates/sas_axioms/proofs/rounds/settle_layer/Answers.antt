@@ -1,5 +1,4 @@
-use Rattle.std.proofs.Common.{◌∙◌}
-use Rattle.sas_meaning.proofs.Settling.{settled_when_fired}
+use Rattle.sas_axioms.proofs.Imports.{◌∙◌, settled_when_fired}
 use Rattle.sas_axioms.proofs.rounds.settle_layer.Goals as goal
 
 pub returns : goal.returns

@@ -1,5 +1,4 @@
-use Rattle.sas_core.specs.Variables.{IsState}
-use Rattle.sas_meaning.specs.Forced.{OnlyForced, SameOff, equal_places}
+use Rattle.sas_axioms.proofs.Imports.{IsState, OnlyForced, SameOff, equal_places}
 use Rattle.sas_axioms.proofs.rounds.settle_layer.Given as goal
 
 abbrev pub invariant-loop : goal.invariant-loop

@@ -1,11 +1,7 @@
 -- Each iteration appends the entries of a rule that can fire, or skips a rule that can't.
-use Rattle.std.proofs.Common.{arith}
-use Rattle.sas_axioms.proofs.Entries.{waiting_none, waiting_more, waiting_skip, waiting_all}
+use Rattle.sas_axioms.proofs.Entries.{waiting_more, waiting_skip}
 use Rattle.sas_axioms.proofs.waiting.all_waiting.Goals as goal
 use Rattle.sas_axioms.proofs.waiting.all_waiting.Goals.{in-Some+in_ok-push_waiting, in_default}
-
-pub loop-rule-init : goal.loop-rule-init
-loop-rule-init g c = rw c.new-waiting.ensures.items (waiting_none c.args.task.now)
 
 pub loop-rule-preserved : goal.loop-rule-preserved
 loop-rule-preserved g c =
@@ -16,6 +12,3 @@ loop-rule-preserved g c =
           rw w.waiting-is (waiting_more p c.loop-rule.rule w.in-Some.layer waiting w.push_waiting.new.waiting.items w.in-Some.ensures.some w.in_ok-push_waiting.ensures c.loop-rule.invariant)
       | in_default w ↦ rw w.waiting-is (waiting_skip p c.loop-rule.rule waiting w.in_default.ensures.none c.loop-rule.invariant)
     ]
-
-pub returns : goal.returns
-returns g c = waiting_all c.args.task.now c.loop-rule.rule c.loop-rule.waiting.items (omega arith) c.loop-rule.invariant

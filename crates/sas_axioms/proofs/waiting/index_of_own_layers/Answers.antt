@@ -1,7 +1,5 @@
 -- Grouped by variable, the entries form an index.
-use Rattle.std.proofs.Common.{◌≡◌, sym, ap, subst, ◌∙◌}
-use Rattle.std.proofs.lemmas.Result.{IfOk-weaker}
-use Rattle.sas_flat.specs.ByKey.{by_key}
+use Rattle.sas_axioms.proofs.Imports.{◌≡◌, sym, ap, subst, ◌∙◌, IfOk-weaker, by_key}
 use Rattle.sas_axioms.specs.Waiting.{IsIndex}
 use Rattle.sas_axioms.proofs.Entries.{waiting_exist, waiting_index}
 use Rattle.sas_axioms.proofs.waiting.index_of_own_layers.Goals as goal

@@ -1,13 +1,5 @@
 -- Each iteration appends the entry of a condition on the layer, or skips another condition.
-use Rattle.std.proofs.Common.{◌≡◌, ◌<◌, ◌≤◌, ◌+◌, ◌==◌, ℕ, List, ◌∷◌, [], ◌++◌, length, get_or, drop, Option, Some, true, false, inl, inr, ap, sym, ◌∙◌, subst, arith}
-use Rattle.std.proofs.lemmas.List.{drop_more, drop_all}
-use Rattle.std.specs.Option.{option_eq}
-use Rattle.sas_core.specs.declared.parts.Fact.{Fact}
-use Rattle.sas_core.specs.Grounded.{rule_at}
-use Rattle.sas_core.specs.Variables.{layer_of}
-use Rattle.sas_flat.specs.declared.by_key.Entry.{Entry}
-use Rattle.sas_meaning.specs.Layers.{IsOnLayer}
-use Rattle.sas_meaning.proofs.Forced.{condition_within}
+use Rattle.sas_axioms.proofs.Imports.{◌≡◌, ◌<◌, ◌≤◌, ◌+◌, ◌==◌, ℕ, List, ◌∷◌, [], ◌++◌, length, get_or, drop, Option, Some, true, false, inl, inr, ap, sym, ◌∙◌, subst, arith, drop_more, drop_all, option_eq, Fact, rule_at, layer_of, Entry, IsOnLayer, condition_within}
 use Rattle.sas_axioms.specs.declared.waiting.Waiting.{Waiting}
 use Rattle.sas_axioms.specs.Waiting.{waiting_entry}
 use Rattle.sas_axioms.proofs.Entries.{AddsUpTo, adds_none, adds_more, adds_skip, adds_all, same_option}
@@ -39,8 +31,8 @@ loop-condition-preserved g c =
     let within : place < length conditions = let lt = c.loop-condition-test.true in omega (arith, ap length same) in
     let so_far : AddsUpTo p c.args.layer c.args.rule conditions (condition ∷ left) before waiting =
     subst (λ (cs : List Fact). AddsUpTo p c.args.layer c.args.rule conditions cs before waiting) (drop_more conditions place (record { var = 0; value = 0 }) within) c.loop-condition.invariant in
-    let told : c.layer.result ≡ layer_of p.variables condition.var = c.layer.ensures ∙ ap (λ (cs : List Fact). layer_of p.variables (get_or cs place (record { var = 0; value = 0 })).var) same in
-    let tested : c.eq.result ≡ option_eq ◌==◌ (layer_of p.variables condition.var) (Some c.args.layer) = c.eq.ensures ∙ ap (λ (o : Option ℕ). option_eq ◌==◌ o (Some c.args.layer)) told in
+    let covered : c.layer.result ≡ layer_of p.variables condition.var = c.layer.ensures ∙ ap (λ (cs : List Fact). layer_of p.variables (get_or cs place (record { var = 0; value = 0 })).var) same in
+    let tested : c.eq.result ≡ option_eq ◌==◌ (layer_of p.variables condition.var) (Some c.args.layer) = c.eq.ensures ∙ ap (λ (o : Option ℕ). option_eq ◌==◌ o (Some c.args.layer)) covered in
     elim c.if-eq.branch [
       | then-eq+in_ok-push w ↦
           (let on : IsOnLayer p c.args.layer condition.var = elim (same_option (layer_of p.variables condition.var) c.args.layer) [

@@ -1,6 +1,5 @@
 -- The entries of the conditions so far.
-use Rattle.std.proofs.Common.{drop}
-use Rattle.sas_core.specs.Grounded.{rule_at}
+use Rattle.sas_axioms.proofs.Imports.{drop, rule_at}
 use Rattle.sas_axioms.proofs.Entries.{AddsUpTo}
 use Rattle.sas_axioms.proofs.waiting.push_waiting.Given as goal
 

@@ -1,11 +1,6 @@
 -- One more variable has its default.
-use Rattle.std.proofs.Common.{◌≡◌, refl, get_or, set, sym, subst, ap, ◌∙◌, inl, inr, arith}
+use Rattle.sas_axioms.proofs.Imports.{◌≡◌, get_or, set, sym, subst, ap, ◌∙◌, inl, inr, arith, cases_eq, get_or_default, get_or-set_same, get_or-set_other, default_of, state_set, not_basic, derived_within}
 use Rattle.std.specs.Option.{is_some}
-use Rattle.std.proofs.lemmas.Bool.{cases_eq}
-use Rattle.std.proofs.lemmas.List.{get_or_default, get_or-set_same, get_or-set_other}
-use Rattle.sas_meaning.specs.Layers.{default_of}
-use Rattle.sas_meaning.proofs.Forced.{state_set}
-use Rattle.sas_meaning.proofs.DerivedVariables.{not_basic, derived_within}
 use Rattle.sas_axioms.proofs.worklist.set_defaults.Goals as goal
 
 pub loop-var-preserved : goal.loop-var-preserved
@@ -31,18 +26,6 @@ loop-var-preserved g c =
         ]
       ];
     }
-
-pub loop-var-init : goal.loop-var-init
-loop-var-init g c = record { state = c.requires.state; basic = λ w b. refl; default = λ j d lt. absurd (omega arith) }
-
-pub returns-clause-state : goal.returns-clause-state
-returns-clause-state g c = c.loop-var.invariant.state
-
-pub returns-clause-basic : goal.returns-clause-basic
-returns-clause-basic g c = c.loop-var.invariant.basic
-
-pub initial_value-requires : goal.initial_value-requires
-initial_value-requires g c = derived_within c.args.task.now (get_or c.args.derived.now c.loop-var.var-index 0) (c.requires.derived.only c.loop-var.var-index 0 c.loop-var-test.true)
 
 pub set-requires : goal.set-requires
 set-requires g c =

@@ -1,8 +1,5 @@
 -- The variables so far have their default.
-use Rattle.std.proofs.Common.{◌≡◌, ℕ, ◌<◌, get_or}
-use Rattle.sas_core.specs.Variables.{IsState}
-use Rattle.sas_meaning.specs.Layers.{default_of}
-use Rattle.sas_meaning.specs.Settled.{SameBasic}
+use Rattle.sas_axioms.proofs.Imports.{◌≡◌, ℕ, ◌<◌, get_or, IsState, default_of, SameBasic}
 use Rattle.sas_axioms.proofs.worklist.set_defaults.Given as goal
 
 abbrev pub invariant-loop-var : goal.invariant-loop-var

@@ -1,6 +1,5 @@
 -- The first section that fails determines the fault.
-use Rattle.std.proofs.Common.{rules, ◌≡◌, ◌∙◌, Some}
-use Rattle.std.specs.Result.{result_err}
+use Rattle.sas_core.proofs.Imports.{rules, ◌≡◌, ◌∙◌, Some, result_err}
 use Rattle.sas_core.specs.Checks.{checks}
 use Rattle.sas_core.specs.FirstFault.{first_fault}
 use Rattle.sas_core.proofs.FirstFaults.{fails_before, decides_after}
@@ -41,6 +40,3 @@ returns-in_err-check_list-4 c =
     let same : result_err c.from_residual-in_err-check_list-4.result ≡ Some c.in_err-check_list-4.field-0.0 = search rules in
     let first : Some c.in_err-check_list-4.field-0.0 ≡ first_fault (checks c.args.parts.now) = search (rules, fails_before, decides_after, c.in_ok-check_some.ensures, c.in_ok-check_list.ensures, c.in_ok-check_list-2.ensures, c.in_ok-check_state.ensures, c.in_ok-check_list-3.ensures, c.in_err-check_list-4.ensures) depth 12 in
     same ∙ first
-
-pub returns : goal.returns
-returns c = search (rules, decides_after, c.in_ok-check_some.ensures, c.in_ok-check_list.ensures, c.in_ok-check_list-2.ensures, c.in_ok-check_state.ensures, c.in_ok-check_list-3.ensures, c.in_ok-check_list-4.ensures, c.check_list-5.ensures) depth 12

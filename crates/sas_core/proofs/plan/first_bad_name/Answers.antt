@@ -1,5 +1,5 @@
 -- The steps before this one are names, and the check shows that this one isn't.
-use Rattle.std.proofs.Common.{arith}
+use Rattle.sas_core.proofs.Imports.{arith}
 use Rattle.sas_core.proofs.BadNames.{first_bad}
 use Rattle.sas_core.proofs.plan.first_bad_name.Goals as goal
 

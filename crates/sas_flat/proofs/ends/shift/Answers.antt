@@ -1,6 +1,4 @@
-use Rattle.std.proofs.Common.{◌+◌, arith}
-use Rattle.std.proofs.lemmas.List.{get_or_default}
-use Rattle.std.proofs.lemmas.List.Edits.{map_over_more}
+use Rattle.sas_flat.proofs.Imports.{◌+◌, arith, get_or_default, map_over_more}
 use Rattle.sas_flat.proofs.ends.shift.Goals as goal
 
 pub loop-place-preserved : goal.loop-place-preserved

@@ -1,4 +1,4 @@
-use Rattle.std.proofs.Common.{◌≡◌, ◌+◌, ◌++◌, take, drop, map}
+use Rattle.sas_flat.proofs.Imports.{◌≡◌, ◌+◌, ◌++◌, take, drop, map}
 use Rattle.sas_flat.proofs.ends.shift.Given as goal
 
 abbrev pub invariant-loop-place : goal.invariant-loop-place

@@ -1,11 +1,7 @@
 -- Each iteration adds a group. The numbers of facts, which are the keys, are below the number of
 -- facts.
-use Rattle.std.proofs.Common.{◌≡◌, ◌<◌, ◌++◌, List, length, sym, ap, subst, ◌∙◌, arith}
-use Rattle.std.specs.List.{All}
-use Rattle.std.proofs.lemmas.Result.{IfOk-weaker}
-use Rattle.sas_core.specs.declared.parts.Fact.{Fact}
+use Rattle.sas_groups.proofs.Imports.{◌≡◌, ◌<◌, ◌++◌, List, length, sym, ap, subst, ◌∙◌, arith, All, IfOk-weaker, Fact, by_key}
 use Rattle.sas_groups.specs.Distinct.{facts_at}
-use Rattle.sas_flat.specs.ByKey.{by_key}
 use Rattle.sas_groups.specs.Index.{facts_below, entries_of, AreByFact}
 use Rattle.sas_groups.proofs.Entering.{EnteredUpTo, group_numbered, group_facts_exist, group_has, entered_more, entered_low, entered_by_fact}
 use Rattle.sas_groups.proofs.by_fact.groups_by_fact.Goals as goal

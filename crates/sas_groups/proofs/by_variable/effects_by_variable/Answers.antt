@@ -1,8 +1,5 @@
 -- One more operator is processed. In the end all large operators have entries.
-use Rattle.std.proofs.Common.{◌≡◌, length, sym, ap, subst, ◌∙◌, arith}
-use Rattle.std.proofs.lemmas.Result.{IfOk-weaker}
-use Rattle.sas_flat.specs.ByKey.{by_key}
-use Rattle.sas_flat.proofs.Tables.{length-table}
+use Rattle.sas_groups.proofs.Imports.{◌≡◌, length, sym, ap, subst, ◌∙◌, arith, IfOk-weaker, by_key, length-table}
 use Rattle.sas_groups.specs.ByVariable.{AreByVariable}
 use Rattle.sas_groups.proofs.ByVariable.{AreLargeEntered, large_entered, small_passed, large_by_variable}
 use Rattle.sas_groups.proofs.by_variable.effects_by_variable.Goals as goal
@@ -26,9 +23,6 @@ loop-operator-preserved g c =
         entered = small_passed p places operator before inv.entered (λ large. absurd (let few = w.if-effects-gt-FEW_EFFECTS.false in omega (arith, count)));
       }
     ]
-
-pub by_key-requires : goal.by_key-requires
-by_key-requires g c = rw c.as_slice.ensures.value c.loop-operator.invariant.low
 
 pub returns : goal.returns
 returns g c =

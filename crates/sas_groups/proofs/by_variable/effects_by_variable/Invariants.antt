@@ -1,7 +1,5 @@
 -- The large operators so far have entries.
-use Rattle.std.proofs.Common.{ℕ, ◌<◌}
-use Rattle.std.specs.List.{All}
-use Rattle.sas_flat.specs.declared.by_key.Entry.{Entry}
+use Rattle.sas_groups.proofs.Imports.{ℕ, ◌<◌, All, Entry}
 use Rattle.sas_groups.proofs.ByVariable.{AreLargeEntered}
 use Rattle.sas_groups.proofs.by_variable.effects_by_variable.Given as goal
 

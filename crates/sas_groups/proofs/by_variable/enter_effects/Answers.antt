@@ -1,9 +1,5 @@
 -- One more effect has an entry.
-use Rattle.std.proofs.Common.{◌≡◌, ℕ, ◌<◌, [], ◌∷◌, ◌++◌, sym, ap, subst, ◌∙◌}
-use Rattle.std.specs.List.{All}
-use Rattle.std.proofs.lemmas.List.Elements.{All-nil, All-cons, All-append}
-use Rattle.sas_core.specs.declared.grounded.Change.{Change}
-use Rattle.sas_flat.specs.declared.by_key.Entry.{Entry}
+use Rattle.sas_groups.proofs.Imports.{◌≡◌, ℕ, ◌<◌, [], ◌∷◌, ◌++◌, sym, ap, subst, ◌∙◌, All, All-nil, All-cons, All-append, Change, Entry}
 use Rattle.sas_groups.specs.ByVariable.{place_of, variable_of, effect_entry}
 use Rattle.sas_groups.proofs.ByVariable.{effect_entered}
 use Rattle.sas_groups.proofs.by_variable.enter_effects.Goals as goal

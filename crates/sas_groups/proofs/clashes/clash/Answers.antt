@@ -1,7 +1,5 @@
 -- One more fact is processed.
-use Rattle.std.specs.List.{All}
-use Rattle.std.proofs.lemmas.List.Elements.{All-contains}
-use Rattle.sas_core.specs.declared.parts.Fact.{Fact}
+use Rattle.sas_groups.proofs.Imports.{All, All-contains, Fact}
 use Rattle.sas_groups.specs.Clashes.{Contradict}
 use Rattle.sas_groups.specs.Checks.{Alone}
 use Rattle.sas_groups.specs.Lists.{known_on, known_left}

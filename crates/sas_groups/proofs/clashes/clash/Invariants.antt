@@ -1,6 +1,5 @@
 -- The facts so far contradict no known fact.
-use Rattle.std.proofs.Common.{◌≡◌, ◌++◌}
-use Rattle.std.specs.List.{All}
+use Rattle.sas_groups.proofs.Imports.{◌≡◌, ◌++◌, All}
 use Rattle.sas_groups.specs.Clashes.{Contradict}
 use Rattle.sas_groups.specs.Checks.{Alone}
 use Rattle.sas_groups.specs.Lists.{known_on, known_left}

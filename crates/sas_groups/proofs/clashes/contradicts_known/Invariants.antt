@@ -1,6 +1,5 @@
 -- The fact contradicts none of the facts so far.
-use Rattle.std.proofs.Common.{◌≡◌, ◌++◌}
-use Rattle.std.specs.List.{All}
+use Rattle.sas_groups.proofs.Imports.{◌≡◌, ◌++◌, All}
 use Rattle.sas_groups.specs.Clashes.{Contradict}
 use Rattle.sas_groups.specs.Checks.{Alone}
 use Rattle.sas_groups.specs.Lists.{known_on, known_left}

@@ -1,8 +1,5 @@
 -- A nonempty own list replaces the list in the task.
-use Rattle.std.proofs.Common.{◌≡◌, ◌<◌, List, [], length, get_or, rules, ap, subst, ◌∙◌, arith}
-use Rattle.std.proofs.Math.ListN.{get_or-eq_default}
-use Rattle.sas_core.specs.declared.parts.Fact.{Fact}
-use Rattle.sas_core.specs.Grounded.{group_at}
+use Rattle.sas_groups.proofs.Imports.{◌≡◌, ◌<◌, List, [], length, get_or, rules, ap, subst, ◌∙◌, arith, get_or-eq_default, Fact, group_at}
 use Rattle.sas_groups.proofs.InOrder.{own_empty, own_some}
 use Rattle.sas_groups.proofs.distinct.facts_of.Goals as goal
 use Rattle.sas_groups.proofs.distinct.facts_of.Goals.{else-place-len-via-then-place-len+else-not-is_empty, else-place-len-via-else-place-len}

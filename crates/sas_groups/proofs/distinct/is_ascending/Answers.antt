@@ -1,5 +1,5 @@
 -- In the end each fact is below the next one.
-use Rattle.std.proofs.Common.{arith}
+use Rattle.sas_groups.proofs.Imports.{arith}
 use Rattle.sas_groups.proofs.InOrder.{ascending_once}
 use Rattle.sas_groups.proofs.distinct.is_ascending.Goals as goal
 

@@ -1,5 +1,5 @@
 -- Sorting a list and removing duplicates preserves its facts.
-use Rattle.std.proofs.Common.{rules}
+use Rattle.sas_groups.proofs.Imports.{rules}
 use Rattle.sas_groups.proofs.InOrder.{none_own, own_once, in_order_once, fact_order}
 use Rattle.sas_groups.specs.Distinct.{AreDistinct}
 use Rattle.sas_groups.proofs.distinct.own_list.Goals as goal

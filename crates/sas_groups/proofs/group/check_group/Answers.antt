@@ -1,7 +1,5 @@
 -- The verdict is the first reason against the group.
-use Rattle.std.proofs.Common.{◌≡◌, List, refl}
-use Rattle.sas_core.specs.declared.parts.Fact.{Fact}
-use Rattle.sas_core.specs.declared.parts.Parts.{Parts}
+use Rattle.sas_groups.proofs.Imports.{◌≡◌, List, refl, Fact, Parts}
 use Rattle.sas_groups.specs.declared.verdict.Verdict.{Verdict}
 use Rattle.sas_groups.specs.declared.verdict.Verdict.TheVariants.{Exclusive, Derived, Initial, Broken}
 use Rattle.sas_groups.specs.Verdicts.{IsVerdictAlone}
@@ -16,12 +14,6 @@ first_is_last p group Derived not h = h
 first_is_last p group Initial not h = h
 first_is_last p group (Broken operator) not h = elim h [ ]
 
-pub returns-in-Some-clause-verdict : goal.returns-in-Some-clause-verdict
-returns-in-Some-clause-verdict g c = (c.in-Exclusive.ensures.basic, c.in-Exclusive.ensures.initial, c.in-Some.ensures.some)
-
-pub returns-in-None-clause-verdict : goal.returns-in-None-clause-verdict
-returns-in-None-clause-verdict g c = (c.in-Exclusive.ensures.basic, c.in-Exclusive.ensures.initial, c.in-None.ensures.none)
-
 pub returns-in-None-clause-invariant : goal.returns-in-None-clause-invariant
 returns-in-None-clause-invariant g c = λ e. exclusive_alone_is_invariant c.args.layered.now c.args.group.now
     (c.in-Exclusive.ensures.basic, c.in-Exclusive.ensures.initial, c.in-None.ensures.none)
@@ -29,6 +21,3 @@ returns-in-None-clause-invariant g c = λ e. exclusive_alone_is_invariant c.args
 pub returns-in_default-clause-verdict : goal.returns-in_default-clause-verdict
 returns-in_default-clause-verdict g c = first_is_last c.args.layered.now c.args.group.now c.before_operators.result
     c.in_default.not-Exclusive c.before_operators.ensures
-
-pub returns-in_default-clause-invariant : goal.returns-in_default-clause-invariant
-returns-in_default-clause-invariant g c = λ e. absurd (c.in_default.not-Exclusive e)

@@ -1,9 +1,5 @@
 -- One more operator preserves the group.
-use Rattle.std.proofs.Common.{ℕ, [], sym, subst, inl, inr, arith, rules}
-use Rattle.std.proofs.lemmas.Bool.{cases_eq}
-use Rattle.std.proofs.lemmas.List.Elements.{All-from_get_or}
-use Rattle.sas_core.specs.declared.parts.Operator.{Operator}
-use Rattle.sas_core.specs.Grounded.{operator_at}
+use Rattle.sas_groups.proofs.Imports.{ℕ, [], sym, subst, inl, inr, arith, cases_eq, All-from_get_or, Operator, operator_at}
 use Rattle.sas_groups.specs.Clashes.{Keeps}
 use Rattle.sas_groups.specs.Checks.{Alone}
 use Rattle.sas_groups.proofs.group.first_breaking.Goals as goal
@@ -23,6 +19,3 @@ returns-clause-none g c =
     let group = c.args.group.now in
     All-from_get_or (λ (o : Operator). Keeps (Alone group) o group) p.operators (record { name = []; prevail = []; effects = []; cost = 0 })
     (λ k lt. c.loop-operator.invariant k (omega arith))
-
-pub loop-operator-init : goal.loop-operator-init
-loop-operator-init g c = search rules

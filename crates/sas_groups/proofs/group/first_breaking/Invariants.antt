@@ -1,6 +1,5 @@
 -- The operators so far preserve the group.
-use Rattle.std.proofs.Common.{ℕ, ◌<◌}
-use Rattle.sas_core.specs.Grounded.{operator_at}
+use Rattle.sas_groups.proofs.Imports.{ℕ, ◌<◌, operator_at}
 use Rattle.sas_groups.specs.Clashes.{Keeps}
 use Rattle.sas_groups.specs.Checks.{Alone}
 use Rattle.sas_groups.proofs.group.first_breaking.Given as goal

@@ -1,8 +1,5 @@
 -- None of the facts so far holds.
-use Rattle.std.proofs.Common.{ℕ, ◌<◌, get_or}
-use Rattle.std.specs.Prelude.{slice_index}
-use Rattle.sas_core.specs.declared.parts.Fact.{Fact}
-use Rattle.sas_meaning.specs.States.{Holds}
+use Rattle.sas_groups.proofs.Imports.{ℕ, ◌<◌, get_or, slice_index, Fact, Holds}
 use Rattle.sas_groups.proofs.group.first_holding.Given as goal
 
 abbrev pub invariant-loop-fact : goal.invariant-loop-fact

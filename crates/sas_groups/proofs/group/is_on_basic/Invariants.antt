@@ -1,7 +1,5 @@
 -- The facts so far are on basic variables.
-use Rattle.std.proofs.Common.{ℕ, ◌<◌, get_or}
-use Rattle.sas_core.specs.declared.parts.Fact.{Fact}
-use Rattle.sas_meaning.specs.Layers.{IsBasic}
+use Rattle.sas_groups.proofs.Imports.{ℕ, ◌<◌, get_or, Fact, IsBasic}
 use Rattle.sas_groups.proofs.group.is_on_basic.Given as goal
 
 abbrev pub invariant-loop-fact : goal.invariant-loop-fact

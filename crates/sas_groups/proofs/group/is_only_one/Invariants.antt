@@ -1,6 +1,5 @@
 -- No other fact so far holds.
-use Rattle.std.proofs.Common.{ℕ, ◌<◌, get_or}
-use Rattle.sas_core.specs.declared.parts.Fact.{Fact}
+use Rattle.sas_groups.proofs.Imports.{ℕ, ◌<◌, get_or, Fact}
 use Rattle.sas_groups.specs.Checks.{IsOnlyOne}
 use Rattle.sas_groups.proofs.group.is_only_one.Given as goal
 

@@ -1,7 +1,5 @@
 -- A task has so few facts that their numbers don't overflow.
-use Rattle.std.proofs.Common.{◌≡◌, ℕ, ◌+◌, ◌^◌, ◌<◌, ◌≤◌, List, [], ◌∷◌, length, get_or, refl, sym, ap, ◌∙◌, subst, inl, inr, arith}
-use Rattle.std.proofs.lemmas.Bool.{cases_eq}
-use Rattle.std.proofs.lemmas.List.{get_or_default, get_or_append_left, get_or_push, length_push}
+use Rattle.sas_groups.proofs.Imports.{◌≡◌, ℕ, ◌+◌, ◌^◌, ◌<◌, ◌≤◌, List, [], ◌∷◌, length, get_or, refl, sym, ap, ◌∙◌, subst, inl, inr, arith, cases_eq, get_or_default, get_or_append_left, get_or_push, length_push}
 use Rattle.sas_groups.specs.Index.{facts_below}
 use Rattle.sas_groups.proofs.Numbering.{below_more, below_low}
 use Rattle.sas_groups.proofs.index.number_facts.Goals as goal
@@ -34,9 +32,6 @@ loop-var-init g c = record {
   facts = refl;
 }
 
-pub range-requires : goal.range-requires
-range-requires g c = subst (λ n. c.loop-var.var < n) c.variables-var-end.ensures.count c.loop-var-test.true
-
 pub loop-var-preserved : goal.loop-var-preserved
 loop-var-preserved g c =
     let p = c.args.task.now in
@@ -66,6 +61,3 @@ returns-clause-firsts g c = record {
   one_each = c.loop-var.invariant.so_far ∙ all g c;
   are = λ v lt. c.loop-var.invariant.are v (subst (λ n. v < n) (sym (all g c)) lt);
 }
-
-pub returns-clause-all : goal.returns-clause-all
-returns-clause-all g c = c.loop-var.invariant.facts ∙ ap (facts_below c.args.task.now) (all g c)

@@ -1,5 +1,5 @@
 -- The first numbers of the variables so far.
-use Rattle.std.proofs.Common.{◌≡◌, ℕ, ◌<◌, length, get_or}
+use Rattle.sas_groups.proofs.Imports.{◌≡◌, ℕ, ◌<◌, length, get_or}
 use Rattle.sas_groups.specs.Index.{facts_below}
 use Rattle.sas_groups.proofs.index.number_facts.Given as goal
 

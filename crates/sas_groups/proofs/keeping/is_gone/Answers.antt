@@ -1,8 +1,5 @@
 -- The fact would remain.
-use Rattle.std.proofs.Common.{List, sym, ◌∙◌, ap, subst, inl, inr}
-use Rattle.sas_core.specs.declared.grounded.Change.{Change}
-use Rattle.sas_core.specs.declared.parts.Fact.{Fact}
-use Rattle.sas_core.specs.Grounded.{operator_at, effect_at}
+use Rattle.sas_groups.proofs.Imports.{List, sym, ◌∙◌, ap, subst, inl, inr, Change, Fact, operator_at, effect_at}
 use Rattle.sas_groups.specs.Clashes.{Clash, IsRemoved}
 use Rattle.sas_groups.specs.Checks.{Alone}
 use Rattle.sas_groups.proofs.Effects.{known_same}

@@ -1,8 +1,5 @@
 -- The other effect may set a second fact of the group.
-use Rattle.std.proofs.Common.{sym, subst, inl, inr, arith}
-use Rattle.std.proofs.lemmas.Bool.{cases_eq}
-use Rattle.std.specs.List.{Contains}
-use Rattle.sas_core.specs.Grounded.{operator_at, effect_at}
+use Rattle.sas_groups.proofs.Imports.{sym, subst, inl, inr, arith, cases_eq, Contains, operator_at, effect_at}
 use Rattle.sas_groups.specs.Checks.{Alone, NotBoth}
 use Rattle.sas_groups.proofs.Effects.{set_is}
 use Rattle.sas_groups.proofs.keeping.is_single.Goals as goal
@@ -13,9 +10,6 @@ returns-then-not-not_both-clause-no g c =
     let here = subst (Contains c.args.group.now) (set_is e c.effect_change.result c.fact.result c.effect_change.ensures c.fact.ensures)
     (c.contains.ensures.0 c.if-not-contains.false) in
     λ t single. c.not_both.ensures.no c.if-not-not_both.true (single here c.loop-other.other (omega arith))
-
-pub loop-other-init : goal.loop-other-init
-loop-other-init g c = λ k lt. absurd (omega arith)
 
 pub loop-other-preserved : goal.loop-other-preserved
 loop-other-preserved g c = λ k lt.
@@ -33,6 +27,3 @@ returns-then-not-contains-clause-yes g c = λ t here.
     let there = c.contains.ensures.1 (subst (Contains c.args.group.now) (sym (set_is e c.effect_change.result c.fact.result c.effect_change.ensures c.fact.ensures)) here) in
     let not = c.if-not-contains.true in
     absurd cc
-
-pub returns-clause-yes : goal.returns-clause-yes
-returns-clause-yes g c = λ t here effect lt. c.loop-other.invariant effect (omega arith)

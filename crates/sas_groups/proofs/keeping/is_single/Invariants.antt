@@ -1,6 +1,5 @@
 -- None of the effects so far sets another fact of the group.
-use Rattle.std.proofs.Common.{ℕ, ◌<◌}
-use Rattle.sas_core.specs.Grounded.{operator_at, effect_at}
+use Rattle.sas_groups.proofs.Imports.{ℕ, ◌<◌, operator_at, effect_at}
 use Rattle.sas_groups.specs.Checks.{Alone, NotBoth}
 use Rattle.sas_groups.proofs.keeping.is_single.Given as goal
 

@@ -1,5 +1,5 @@
 -- An operator preserves the group if and only if both parts hold.
-use Rattle.sas_core.specs.Grounded.{operator_at}
+use Rattle.sas_groups.proofs.Imports.{operator_at}
 use Rattle.sas_groups.proofs.Effects.{keeps_from}
 use Rattle.sas_groups.proofs.keeping.keeps.Goals as goal
 

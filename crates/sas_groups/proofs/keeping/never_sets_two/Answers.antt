@@ -1,5 +1,5 @@
 -- Some effect isn't single.
-use Rattle.std.proofs.Common.{arith}
+use Rattle.sas_groups.proofs.Imports.{arith}
 use Rattle.sas_groups.proofs.keeping.never_sets_two.Goals as goal
 
 pub returns-then-not-is_single-clause-no : goal.returns-then-not-is_single-clause-no

@@ -1,6 +1,5 @@
 -- The effects so far are single.
-use Rattle.std.proofs.Common.{ℕ, ◌<◌}
-use Rattle.sas_core.specs.Grounded.{operator_at, effect_at}
+use Rattle.sas_groups.proofs.Imports.{ℕ, ◌<◌, operator_at, effect_at}
 use Rattle.sas_groups.specs.Checks.{Alone, IsSingle}
 use Rattle.sas_groups.proofs.keeping.never_sets_two.Given as goal
 

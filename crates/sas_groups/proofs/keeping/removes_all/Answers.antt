@@ -1,10 +1,7 @@
 -- One more fact doesn't remain.
-use Rattle.std.proofs.Common.{sym, subst, arith}
-use Rattle.std.specs.List.{Contains}
-use Rattle.sas_core.specs.Grounded.{operator_at, effect_at}
+use Rattle.sas_groups.proofs.Imports.{sym, subst, Contains, operator_at, effect_at, each_more}
 use Rattle.sas_groups.specs.Checks.{Alone, IsGone}
 use Rattle.sas_groups.proofs.Effects.{set_is}
-use Rattle.sas_core.proofs.Places.{each_more}
 use Rattle.sas_groups.proofs.keeping.removes_all.Goals as goal
 
 pub loop-fact-preserved : goal.loop-fact-preserved
@@ -20,6 +17,3 @@ returns-then-not-contains-clause-yes g c = λ t here.
     let there = c.contains.ensures.1 (subst (Contains c.args.group.now) (sym (set_is e c.effect_change.result c.fact.result c.effect_change.ensures c.fact.ensures)) here) in
     let not = c.if-not-contains.true in
     absurd cc
-
-pub returns-clause-yes : goal.returns-clause-yes
-returns-clause-yes g c = λ t here k d lt. c.loop-fact.invariant k d (omega arith)

@@ -1,7 +1,5 @@
 -- None of the facts so far remains.
-use Rattle.std.proofs.Common.{ℕ, ◌<◌, get_or}
-use Rattle.sas_core.specs.declared.parts.Fact.{Fact}
-use Rattle.sas_core.specs.Grounded.{operator_at, effect_at}
+use Rattle.sas_groups.proofs.Imports.{ℕ, ◌<◌, get_or, Fact, operator_at, effect_at}
 use Rattle.sas_groups.specs.Checks.{Alone, IsGone}
 use Rattle.sas_groups.proofs.keeping.removes_all.Given as goal
 

@@ -1,6 +1,5 @@
 -- The effects so far remove the other facts.
-use Rattle.std.proofs.Common.{ℕ, ◌<◌}
-use Rattle.sas_core.specs.Grounded.{operator_at, effect_at}
+use Rattle.sas_groups.proofs.Imports.{ℕ, ◌<◌, operator_at, effect_at}
 use Rattle.sas_groups.specs.Checks.{Alone, RemovesAll}
 use Rattle.sas_groups.proofs.keeping.removes_others.Given as goal
 

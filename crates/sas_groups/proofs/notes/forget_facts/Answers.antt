@@ -1,9 +1,6 @@
 -- One more fact is removed; in the end all are.
-use Rattle.std.proofs.Common.{length, get_or, refl, subst, arith}
-use Rattle.sas_core.specs.declared.parts.Fact.{Fact}
-use Rattle.sas_core.specs.declared.parts.Parts.{Parts}
+use Rattle.sas_groups.proofs.Imports.{length, get_or, refl, subst, arith, Fact, Parts, each_more}
 use Rattle.sas_groups.specs.Index.{IsIndexOf}
-use Rattle.sas_core.proofs.Places.{each_more}
 use Rattle.sas_groups.specs.Noting.{IsForgotten}
 use Rattle.sas_groups.proofs.Existing.{groups_below}
 use Rattle.sas_groups.proofs.NotesOfFacts.{noted_less, forgotten_now, forgotten_still, blank_in_the_end}

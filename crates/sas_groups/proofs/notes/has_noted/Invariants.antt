@@ -1,5 +1,5 @@
 -- No fact is recorded for the groups so far that are in the family.
-use Rattle.std.proofs.Common.{◌≡◌, ℕ, ◌<◌, get_or, IsTrue}
+use Rattle.sas_groups.proofs.Imports.{◌≡◌, ℕ, ◌<◌, get_or, IsTrue}
 use Rattle.sas_groups.specs.declared.notes.Noted.TheVariants.{Nothing}
 use Rattle.sas_groups.specs.Kept.{family_of}
 use Rattle.sas_groups.specs.Notes.{group_note}

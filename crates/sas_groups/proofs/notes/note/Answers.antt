@@ -1,14 +1,8 @@
 -- Only the records of the fact's variable and groups change.
-use Rattle.std.proofs.Common.{ℕ, ◌≡◌, List, Option, None, Some, length, refl, sym, ap, subst, ◌∙◌, inl, inr, rules}
-use Rattle.std.specs.List.{Contains}
-use Rattle.std.proofs.lemmas.Bool.{true≢false, cases_eq, eqb-false}
-use Rattle.std.proofs.lemmas.List.{length-set, get_or-set_other}
+use Rattle.sas_groups.proofs.Imports.{ℕ, ◌≡◌, List, Option, None, Some, length, refl, ap, subst, ◌∙◌, inl, inr, Contains, cases_eq, eqb-false, length-set, get_or-set_other}
 use Rattle.sas_groups.specs.Notes.{value_note}
 use Rattle.sas_groups.specs.Noting.{IsExcluded, TakenBySome, TakenByAll}
 use Rattle.sas_groups.proofs.notes.note.Goals as goal
-
-pub returns-then-shares_apart-clause-yes : goal.returns-then-shares_apart-clause-yes
-returns-then-shares_apart-clause-yes c = λ t. absurd (true≢false (sym t))
 
 pub returns-then-shares_apart-clause-no : goal.returns-then-shares_apart-clause-no
 returns-then-shares_apart-clause-no c = λ f. inr (inr (
@@ -24,9 +18,6 @@ returns-then-shares_apart-clause-changes c = record {
   by_group = λ place. inl refl;
   same_apart = refl;
 }
-
-pub returns-in-Some-clause-yes : goal.returns-in-Some-clause-yes
-returns-in-Some-clause-yes c = search rules
 
 pub returns-in-Some-clause-no : goal.returns-in-Some-clause-no
 returns-in-Some-clause-no c = λ f. inl (

@@ -1,8 +1,5 @@
 -- The fact is recorded for one more group.
-use Rattle.std.proofs.Common.{◌≢◌, ◌<◌, List, length, get_or, IsTrue, subst, sym, ◌∙◌, arith}
-use Rattle.std.proofs.lemmas.Bool.{both_ways}
-use Rattle.std.proofs.lemmas.List.Elements.{Contains-get_or}
-use Rattle.sas_core.proofs.Places.{each_more}
+use Rattle.sas_groups.proofs.Imports.{◌≢◌, ◌<◌, List, length, get_or, IsTrue, subst, sym, ◌∙◌, arith, both_ways, Contains-get_or, each_more}
 use Rattle.sas_groups.specs.declared.notes.Noted.{Noted}
 use Rattle.sas_groups.specs.declared.notes.Noted.TheVariants.{Several}
 use Rattle.sas_groups.specs.Kept.{family_of}

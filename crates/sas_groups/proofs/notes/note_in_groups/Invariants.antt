@@ -1,5 +1,5 @@
 -- The fact is recorded for the groups so far.
-use Rattle.std.proofs.Common.{ℕ, ◌<◌, get_or}
+use Rattle.sas_groups.proofs.Imports.{ℕ, ◌<◌, get_or}
 use Rattle.sas_groups.specs.Noting.{TakenBySome, NotesForGroup}
 use Rattle.sas_groups.proofs.notes.note_in_groups.Given as goal
 

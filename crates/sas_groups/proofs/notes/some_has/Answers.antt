@@ -1,22 +1,9 @@
 -- A group of the one fact that is in the family contains the other fact, or doesn't.
-use Rattle.std.proofs.Common.{ℕ, List, length, get_or, sym, ap, subst, ◌∙◌, below_more, arith, IsTrue}
-use Rattle.std.specs.List.{Contains}
-use Rattle.std.proofs.lemmas.Bool.{true≢false}
-use Rattle.std.proofs.lemmas.List.{get_or_default}
-use Rattle.std.proofs.lemmas.List.Elements.{Contains-get_or}
+use Rattle.sas_groups.proofs.Imports.{ℕ, List, length, get_or, sym, ap, subst, ◌∙◌, below_more, arith, IsTrue, Contains, true≢false, get_or_default, Contains-get_or}
 use Rattle.sas_groups.specs.Index.{groups_of}
 use Rattle.sas_groups.specs.Kept.{family_of}
 use Rattle.sas_groups.proofs.notes.some_has.Goals as goal
 use Rattle.sas_groups.proofs.notes.some_has.Goals.{else-is_kept-via-then-is_kept+else-has, else-is_kept-via-else-is_kept}
-
-pub loop-group-init : goal.loop-group-init
-loop-group-init c = λ k d lt. absurd (omega arith)
-
-pub has-requires-clause-low : goal.has-requires-clause-low
-has-requires-clause-low c = c.requires.low
-
-pub has-requires-clause-ascending : goal.has-requires-clause-ascending
-has-requires-clause-ascending c = c.requires.ascending c.args.other
 
 pub returns-then-has-clause-yes : goal.returns-then-has-clause-yes
 returns-then-has-clause-yes c =
@@ -28,9 +15,6 @@ returns-then-has-clause-yes c =
       second = c.has.ensures.0 c.if-has.true;
       kept_there = sym c.is_kept.ensures ∙ c.if-is_kept.true;
     }
-
-pub returns-then-has-clause-no : goal.returns-then-has-clause-no
-returns-then-has-clause-no c = λ t. absurd (true≢false t)
 
 pub loop-group-preserved : goal.loop-group-preserved
 loop-group-preserved c =
@@ -47,9 +31,6 @@ loop-group-preserved c =
     (subst Out
     (ap (λ (xs : List ℕ). get_or xs i 0) c.groups_of-group-items.ensures ∙ get_or_default groups i 0 d (omega (arith, c.loop-group-test.true, ap length c.groups_of-group-items.ensures)))
     here) k lt
-
-pub returns-clause-yes : goal.returns-clause-yes
-returns-clause-yes c = λ t. absurd (true≢false (sym t))
 
 pub returns-clause-no : goal.returns-clause-no
 returns-clause-no c =

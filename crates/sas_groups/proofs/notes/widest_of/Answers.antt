@@ -1,9 +1,5 @@
 -- This fact is chosen, or the previous choice.
-use Rattle.std.proofs.Common.{sym, subst, inl, inr}
-use Rattle.std.specs.List.{Contains}
-use Rattle.std.specs.Prelude.{IfSome, Option}
-use Rattle.std.proofs.lemmas.List.Elements.{Contains-get_or}
-use Rattle.sas_core.specs.declared.parts.Fact.{Fact}
+use Rattle.sas_groups.proofs.Imports.{sym, subst, inl, inr, Contains, IfSome, Option, Contains-get_or, Fact}
 use Rattle.sas_groups.proofs.notes.widest_of.Goals as goal
 
 pub loop-fact-preserved : goal.loop-fact-preserved

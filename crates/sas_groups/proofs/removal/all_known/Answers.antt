@@ -1,7 +1,6 @@
 -- One more condition is known.
-use Rattle.std.specs.List.{Contains}
+use Rattle.sas_groups.proofs.Imports.{Contains, each_more}
 use Rattle.sas_groups.specs.Lists.{known_on}
-use Rattle.sas_core.proofs.Places.{each_more}
 use Rattle.sas_groups.proofs.removal.all_known.Goals as goal
 
 pub loop-condition-preserved : goal.loop-condition-preserved

@@ -1,7 +1,5 @@
 -- The conditions so far are known.
-use Rattle.std.proofs.Common.{ℕ, ◌<◌, get_or}
-use Rattle.std.specs.List.{Contains}
-use Rattle.sas_core.specs.declared.parts.Fact.{Fact}
+use Rattle.sas_groups.proofs.Imports.{ℕ, ◌<◌, get_or, Contains, Fact}
 use Rattle.sas_groups.specs.Lists.{known_on}
 use Rattle.sas_groups.proofs.removal.all_known.Given as goal
 

@@ -1,10 +1,5 @@
 -- One more fact is processed.
-use Rattle.std.proofs.Common.{◌≡◌, ◌==◌, ◌&&◌, true, false, refl, sym, ap, ◌∙◌, inl, inr, subst}
-use Rattle.std.specs.List.{Contains}
-use Rattle.std.proofs.lemmas.Bool.{eq-eqb}
-use Rattle.std.proofs.lemmas.Bool.Decides.{eqb_tells}
-use Rattle.std.proofs.lemmas.List.Elements.{All-nil, All-contains}
-use Rattle.sas_core.specs.declared.parts.Fact.{Fact}
+use Rattle.sas_groups.proofs.Imports.{◌≡◌, ◌==◌, ◌&&◌, true, false, refl, sym, ap, ◌∙◌, inl, inr, subst, Contains, eq-eqb, eqb_tells, All-nil, All-contains, Fact}
 use Rattle.sas_groups.specs.Lists.{known_on, known_left}
 use Rattle.sas_groups.proofs.Turns.{turn_has, turn_left, turns_end, turn_more}
 use Rattle.sas_groups.proofs.removal.is_known.Goals as goal
@@ -54,9 +49,3 @@ loop-g-init g c =
       left = rw c.into_iter-g-iterator.ensures.into_iter_gives (sym c.new-g-items.ensures);
       none = All-nil (λ (x : Fact). x ≡ c.args.fact → ⊥);
     }
-
-pub returns-then-eq-clause-no : goal.returns-then-eq-clause-no
-returns-then-eq-clause-no g c is = absurd cc
-
-pub returns-clause-yes : goal.returns-clause-yes
-returns-clause-yes g c is = absurd cc

@@ -1,6 +1,5 @@
 -- The fact is none of the known facts so far.
-use Rattle.std.proofs.Common.{◌≡◌, ◌++◌}
-use Rattle.std.specs.List.{All}
+use Rattle.sas_groups.proofs.Imports.{◌≡◌, ◌++◌, All}
 use Rattle.sas_groups.specs.Lists.{known_on, known_left}
 use Rattle.sas_groups.proofs.removal.is_known.Given as goal
 

@@ -1,7 +1,5 @@
 -- No effect removes the fact.
-use Rattle.std.proofs.lemmas.Grind.{common_steps}
-use Rattle.std.proofs.Common.{arith}
-use Rattle.sas_core.specs.Grounded.{operator_at}
+use Rattle.sas_groups.proofs.Imports.{arith, operator_at}
 use Rattle.sas_groups.specs.Lists.{known_on}
 use Rattle.sas_groups.proofs.Effects.{never_removed}
 use Rattle.sas_groups.proofs.removal.is_removed.Goals as goal
@@ -11,6 +9,3 @@ returns-clause-no g c =
     let o = operator_at c.args.task.now c.args.premises.now.operator in
     let all = known_on c.args.task.now c.args.premises.now in
     λ t. never_removed o all c.args.fact (λ k lt. c.loop-effect.invariant k (omega arith))
-
-pub returns-then-removes-clause-yes : goal.returns-then-removes-clause-yes
-returns-then-removes-clause-yes g c = grind (arith, common_steps)

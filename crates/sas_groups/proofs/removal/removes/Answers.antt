@@ -1,7 +1,5 @@
 -- The change is that of the effect.
-use Rattle.std.proofs.Common.{sym, ◌∙◌, ap, subst}
-use Rattle.std.specs.List.{All, Contains}
-use Rattle.sas_core.specs.declared.grounded.Change.{Change}
+use Rattle.sas_groups.proofs.Imports.{sym, ◌∙◌, ap, subst, All, Contains, Change}
 use Rattle.sas_groups.specs.Lists.{known_on}
 use Rattle.sas_groups.proofs.removal.removes.Goals as goal
 

@@ -1,10 +1,5 @@
 -- One more group has its runs.
-use Rattle.std.proofs.Common.{ℕ, ◌<◌, ◌+◌, List, [], length, get_or, sym, ap, subst, ◌∙◌, below_more, arith}
-use Rattle.std.proofs.lemmas.List.{get_or_append_left, get_or_push, length_push}
-use Rattle.sas_core.specs.declared.parts.Fact.{Fact}
-use Rattle.sas_core.specs.Variables.{FactExists}
-use Rattle.sas_core.specs.WellRanged.{Listed}
-use Rattle.sas_core.proofs.Places.{holds_at}
+use Rattle.sas_groups.proofs.Imports.{ℕ, ◌<◌, ◌+◌, List, [], length, get_or, sym, ap, subst, ◌∙◌, below_more, arith, get_or_append_left, get_or_push, length_push, Fact, FactExists, Listed, holds_at}
 use Rattle.sas_groups.specs.Distinct.{facts_at}
 use Rattle.sas_groups.specs.Runs.{AreRuns}
 use Rattle.sas_groups.proofs.runs.runs_of_groups.Goals as goal
@@ -14,9 +9,6 @@ loop-group-init g c = record {
   one_each = ap length (c.from_vec-runs.ensures ∙ c.in_ok-with_capacity.ensures.items);
   are = λ place lt. absurd (omega arith);
 }
-
-pub facts_of-requires : goal.facts_of-requires
-facts_of-requires g c = subst (λ n. c.loop-group.group < n) c.groups-group-end.ensures c.loop-group-test.true
 
 pub runs_in-requires : goal.runs_in-requires
 runs_in-requires g c =

@@ -1,5 +1,5 @@
 -- The runs of the groups so far.
-use Rattle.std.proofs.Common.{◌≡◌, ℕ, ◌<◌, length}
+use Rattle.sas_groups.proofs.Imports.{◌≡◌, ℕ, ◌<◌, length}
 use Rattle.sas_groups.specs.Distinct.{facts_at}
 use Rattle.sas_groups.specs.Runs.{AreRuns, runs_at}
 use Rattle.sas_groups.proofs.runs.runs_of_groups.Given as goal

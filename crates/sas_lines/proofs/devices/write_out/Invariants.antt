@@ -1,5 +1,4 @@
-use Rattle.std.proofs.Common.{length, ◌-◌, ◌≡◌, ◌≤◌, [], take, false}
-use Rattle.std.specs.Io.KnownBytes.{Appends}
+use Rattle.sas_lines.proofs.Imports.{length, ◌-◌, ◌≡◌, ◌≤◌, [], take, false, Appends}
 use Rattle.sas_lines.proofs.devices.write_out.Given as goal
 
 -- the first `written` bytes went out, and no write has failed

@@ -1,4 +1,4 @@
-use Rattle.std.proofs.Common.{◌∷◌, List, ℕ, [], ap, ◌∙◌, sym}
+use Rattle.sas_lines.proofs.Imports.{◌∷◌, List, ℕ, [], ap, ◌∙◌, sym}
 use Rattle.sas_lines.proofs.Feeding.{takes_line, lines_of_end, unfinished_of_end}
 use Rattle.sas_lines.proofs.lines.first_line.Goals as goal
 

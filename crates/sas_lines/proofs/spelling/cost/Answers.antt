@@ -1,7 +1,4 @@
-use Rattle.std.proofs.Common.{arith, ◌≡◌, ◌<◌, ◌≤◌, ◌^◌, ◌/◌, ℕ, List, length, take, Option, Some, None}
-use Rattle.std.specs.Fmt.{decimal}
-use Rattle.std.specs.Option.{IfNone}
-use Rattle.std.proofs.lemmas.Bool.{MatchBool-at_true, MatchBool-at_false}
+use Rattle.sas_lines.proofs.Imports.{arith, ◌≡◌, ◌<◌, ◌≤◌, ◌^◌, ◌/◌, ℕ, List, length, take, Option, Some, None, decimal, IfNone, MatchBool-at_true, MatchBool-at_false}
 use Rattle.sas_lines.proofs.Digits.{is_short, is_below, is_digit, same_value, in_two, put_together}
 use Rattle.sas_lines.proofs.spelling.cost.Goals as goal
 

@@ -1,4 +1,4 @@
-use Rattle.std.proofs.Common.{arith}
+use Rattle.sas_lines.proofs.Imports.{arith}
 use Rattle.sas_lines.proofs.Digits.{is_short, same_value}
 use Rattle.sas_lines.proofs.spelling.number.Goals as goal
 

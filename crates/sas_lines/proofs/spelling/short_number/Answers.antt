@@ -1,7 +1,4 @@
-use Rattle.std.proofs.Common.{arith, length, ◌<◌, ◌≡◌, get_or, refl}
-use Rattle.std.proofs.lemmas.Int.Digits.{digits_more, digits_value_more}
-use Rattle.std.proofs.lemmas.Bool.{iff_false, MatchBool-at_true, MatchBool-at_false}
-use Rattle.std.proofs.lemmas.Bool.Decides.{nat_tests}
+use Rattle.sas_lines.proofs.Imports.{arith, length, ◌<◌, ◌≡◌, get_or, refl, digits_more, digits_value_more, iff_false, MatchBool-at_true, MatchBool-at_false, nat_tests}
 use Rattle.sas_lines.proofs.Digits.{is_not_empty, is_zero, is_digit, so_far_below, digit_in, is_read}
 use Rattle.sas_lines.proofs.spelling.short_number.Goals as goal
 

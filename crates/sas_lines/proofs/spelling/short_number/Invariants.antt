@@ -1,5 +1,4 @@
-use Rattle.std.proofs.Common.{◌≡◌, take}
-use Rattle.std.specs.Str.Parse.{AllDigits, digits_value}
+use Rattle.sas_lines.proofs.Imports.{◌≡◌, take, AllDigits, digits_value}
 use Rattle.sas_lines.proofs.spelling.short_number.Given as goal
 
 abbrev pub invariant-loop-digit : goal.invariant-loop-digit

@@ -1,5 +1,4 @@
-use Rattle.std.proofs.Common.{arith}
-use Rattle.std.proofs.lemmas.Fmt.{decimal_digit, decimal_step_wide}
+use Rattle.sas_lines.proofs.Imports.{arith, decimal_digit, decimal_step_wide}
 use Rattle.sas_lines.proofs.spelling.spelling_is_decimal.Goals as goal
 
 pub returns : goal.returns

@@ -1,8 +1,5 @@
 -- Each iteration appends a derived variable, or skips a basic one.
-use Rattle.std.proofs.Common.{◌≡◌, ◌++◌, ◌∷◌, [], true, false, sym, ap, ◌∙◌, arith}
-use Rattle.std.specs.Option.{is_some}
-use Rattle.std.proofs.lemmas.Result.{IfOk-from_err}
-use Rattle.sas_core.specs.Variables.{IsDerived}
+use Rattle.sas_meaning.proofs.Imports.{◌≡◌, ◌++◌, ◌∷◌, [], true, false, sym, ap, ◌∙◌, arith, is_some, IfOk-from_err, IsDerived}
 use Rattle.sas_meaning.proofs.DerivedVariables.{derived_none, derived_more, derived_skip, derived_all}
 use Rattle.sas_meaning.proofs.derived.derived_variables.Goals as goal
 use Rattle.sas_meaning.proofs.derived.derived_variables.Goals.{then-is_some+in_ok-push, else-is_some}

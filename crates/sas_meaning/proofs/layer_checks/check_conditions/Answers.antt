@@ -1,10 +1,5 @@
 -- The first condition that fails determines the fault.
-use Rattle.std.proofs.Common.{rules, ◌≡◌, ◌∙◌, ℕ, Bool, List, length, get_or, Option, Some, None, ap, arith}
-use Rattle.std.specs.Result.{result_err}
-use Rattle.sas_core.specs.declared.parts.Fact.{Fact}
-use Rattle.sas_core.specs.declared.parts.Parts.{Parts}
-use Rattle.sas_core.specs.FirstFault.{Check, first_fault, check}
-use Rattle.sas_core.specs.Grounded.{rule_at}
+use Rattle.sas_meaning.proofs.Imports.{rules, ◌≡◌, ◌∙◌, ℕ, Bool, List, length, get_or, Option, Some, None, ap, arith, result_err, Fact, Parts, Check, first_fault, check, rule_at}
 use Rattle.sas_meaning.specs.declared.layered.LayerFault.{LayerFault}
 use Rattle.sas_meaning.specs.declared.layered.LayerFault.TheVariants.{LayerOrder}
 use Rattle.sas_meaning.specs.LayerChecks.{looks_down}

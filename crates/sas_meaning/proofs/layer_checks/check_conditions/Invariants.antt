@@ -1,6 +1,5 @@
 -- All conditions so far pass.
-use Rattle.sas_core.specs.FirstFault.{check}
-use Rattle.sas_core.specs.Grounded.{rule_at}
+use Rattle.sas_meaning.proofs.Imports.{check, rule_at}
 use Rattle.sas_meaning.specs.declared.layered.LayerFault.TheVariants.{LayerOrder}
 use Rattle.sas_meaning.specs.LayerChecks.{looks_down}
 use Rattle.sas_meaning.proofs.NumberedChecks.{PassBefore}

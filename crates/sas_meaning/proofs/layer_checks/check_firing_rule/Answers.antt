@@ -1,7 +1,6 @@
 -- The checks in order: the old value, the new value of earlier rules of the variable, then the
 -- conditions.
-use Rattle.std.proofs.Common.{rules, ◌≡◌, ◌∙◌, Some, Result, Ok, Err, arith}
-use Rattle.std.specs.Result.{result_err, IfOk}
+use Rattle.sas_meaning.proofs.Imports.{rules, ◌≡◌, ◌∙◌, Some, Result, Ok, Err, arith, result_err, IfOk}
 use Rattle.sas_meaning.proofs.FiringRules.{var_exists, others_fail, conditions_decide, known_then}
 use Rattle.sas_meaning.proofs.layer_checks.check_firing_rule.Goals as goal
 

@@ -1,7 +1,5 @@
 -- The checks of the operators come first, then those of the rules.
-use Rattle.std.proofs.Common.{rules, ◌≡◌, ◌∙◌, Some}
-use Rattle.std.specs.Result.{result_err}
-use Rattle.sas_core.proofs.FirstFaults.{fails_before, decides_after}
+use Rattle.sas_meaning.proofs.Imports.{rules, ◌≡◌, ◌∙◌, Some, result_err, fails_before, decides_after}
 use Rattle.sas_meaning.specs.LayerChecks.{numbered_checks, operator_layer_checks, rule_layer_checks}
 use Rattle.sas_meaning.proofs.layer_checks.check_layers.Goals as goal
 

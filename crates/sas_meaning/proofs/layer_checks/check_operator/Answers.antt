@@ -1,13 +1,5 @@
 -- The first effect that fails determines the fault.
-use Rattle.std.proofs.Common.{rules, ◌≡◌, ◌∙◌, ℕ, Bool, true, false, not, Option, Some, None, refl, ap, arith}
-use Rattle.std.specs.Option.{is_some}
-use Rattle.std.specs.Result.{result_err}
-use Rattle.sas_core.specs.declared.grounded.Change.{Change}
-use Rattle.sas_core.specs.declared.parts.Parts.{Parts}
-use Rattle.sas_core.specs.FirstFault.{first_fault, check}
-use Rattle.sas_core.specs.Grounded.{operator_at, effect_at}
-use Rattle.sas_core.specs.Changes.{effect_change}
-use Rattle.sas_core.specs.Variables.{layer_of}
+use Rattle.sas_meaning.proofs.Imports.{rules, ◌≡◌, ◌∙◌, ℕ, Bool, true, false, not, Option, Some, None, refl, ap, arith, is_some, result_err, Change, Parts, first_fault, check, operator_at, effect_at, effect_change, layer_of}
 use Rattle.sas_meaning.specs.declared.layered.LayerFault.{LayerFault}
 use Rattle.sas_meaning.specs.declared.layered.LayerFault.TheVariants.{EffectOnDerived}
 use Rattle.sas_meaning.specs.LayerChecks.{effect_layer_checks}

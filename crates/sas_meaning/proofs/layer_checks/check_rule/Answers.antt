@@ -1,5 +1,4 @@
-use Rattle.std.proofs.Common.{rules}
-use Rattle.std.proofs.lemmas.Result.{IfOk-from_err}
+use Rattle.sas_meaning.proofs.Imports.{rules, IfOk-from_err}
 use Rattle.sas_meaning.proofs.FiringRules.{var_exists}
 use Rattle.sas_meaning.proofs.layer_checks.check_rule.Goals as goal
 

@@ -1,4 +1,4 @@
-use Rattle.std.proofs.Common.{rules}
+use Rattle.sas_meaning.proofs.Imports.{rules}
 use Rattle.sas_meaning.proofs.layer_checks.looks_down.Goals as goal
 
 pub returns-then-condition-initial_value : goal.returns-then-condition-initial_value

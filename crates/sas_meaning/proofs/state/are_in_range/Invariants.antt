@@ -1,6 +1,5 @@
 -- The values so far are in range.
-use Rattle.std.proofs.Common.{ℕ, ◌<◌, get_or}
-use Rattle.sas_core.specs.Variables.{range_of}
+use Rattle.sas_meaning.proofs.Imports.{ℕ, ◌<◌, get_or, range_of}
 use Rattle.sas_meaning.proofs.state.are_in_range.Given as goal
 
 abbrev pub invariant-loop-var : goal.invariant-loop-var

@@ -1,4 +1,4 @@
-use Rattle.std.proofs.Common.{List, ℕ, [], ◌∷◌, ◌++◌, ap}
+use Rattle.sas_output.proofs.Imports.{List, ℕ, [], ◌∷◌, ◌++◌, ap}
 use Rattle.sas_output.specs.Words.{spaces_of}
 use Rattle.sas_output.proofs.Placed.{places_as, places_then, places_then_either, leaves_then}
 use Rattle.sas_output.proofs.WordLines.{line_is}

@@ -1,7 +1,5 @@
 -- The ten thousands, two digits behind them, and two more.
-use Rattle.std.proofs.Common.{List, ℕ, ◌∷◌, ◌++◌, ◌≡◌, ◌/◌, ◌%◌, arith, sym, ap, ◌∙◌}
-use Rattle.std.specs.Fmt.{decimal}
-use Rattle.itoa.proofs.Decimal.{decimal_pair, pair}
+use Rattle.sas_output.proofs.Imports.{List, ℕ, ◌∷◌, ◌++◌, ◌≡◌, ◌/◌, ◌%◌, arith, sym, ap, ◌∙◌, decimal, decimal_pair, pair}
 use Rattle.sas_output.proofs.Placed.{places_as, places_then, places_then_either}
 use Rattle.sas_output.proofs.placing.place_middle.Goals as goal
 

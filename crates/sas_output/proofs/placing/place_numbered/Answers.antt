@@ -1,6 +1,5 @@
 -- The word, the numbers, the name and the line's end stand one behind the other.
-use Rattle.std.proofs.Common.{List, ℕ, [], ◌∷◌, ◌++◌, ap}
-use Rattle.std.specs.Fmt.{decimal}
+use Rattle.sas_output.proofs.Imports.{List, ℕ, [], ◌∷◌, ◌++◌, ap, decimal}
 use Rattle.sas_output.proofs.Placed.{places_as, places_then, places_then_either, leaves_then}
 use Rattle.sas_output.proofs.WordLines.{numbered_is}
 use Rattle.sas_output.proofs.placing.place_numbered.Goals as goal

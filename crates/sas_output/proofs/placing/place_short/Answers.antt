@@ -1,4 +1,4 @@
-use Rattle.std.proofs.Common.{arith}
+use Rattle.sas_output.proofs.Imports.{arith}
 use Rattle.sas_output.proofs.Placed.{one_digit_placed, two_digits_placed}
 use Rattle.sas_output.proofs.placing.place_short.Goals as goal
 

@@ -1,5 +1,4 @@
-use Rattle.std.proofs.Common.{List, ℕ, ◌∷◌, arith, sym, ap}
-use Rattle.itoa.proofs.Decimal.{decimal_pair}
+use Rattle.sas_output.proofs.Imports.{List, ℕ, ◌∷◌, arith, sym, ap, decimal_pair}
 use Rattle.sas_output.proofs.Placed.{places_as, places_then_either}
 use Rattle.sas_output.proofs.placing.place_small.Goals as goal
 

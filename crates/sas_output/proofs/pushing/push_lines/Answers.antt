@@ -1,4 +1,4 @@
-use Rattle.std.proofs.Common.{arith, subst}
+use Rattle.sas_output.proofs.Imports.{arith, subst}
 use Rattle.sas_output.specs.Sink.{Pushes}
 use Rattle.sas_output.proofs.Pushed.{pushes_item}
 use Rattle.sas_output.specs.declared.line.Line.{Line}

@@ -1,4 +1,4 @@
-use Rattle.std.proofs.Common.{take, flat_map}
+use Rattle.sas_output.proofs.Imports.{take, flat_map}
 use Rattle.sas_output.specs.Sink.{Pushes}
 use Rattle.sas_output.specs.Wording.{steps_of}
 use Rattle.sas_output.proofs.LineTexts.{ended}

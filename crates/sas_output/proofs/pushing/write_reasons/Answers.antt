@@ -1,4 +1,4 @@
-use Rattle.std.proofs.Common.{rules, ◌∙◌}
+use Rattle.sas_output.proofs.Imports.{rules, ◌∙◌}
 use Rattle.sas_output.proofs.pushing.write_reasons.Goals as goal
 
 pub returns-clause-ends : goal.returns-clause-ends

@@ -1,8 +1,5 @@
 -- The last ready rule, or else a noted one.
-use Rattle.std.proofs.Common.{◌≡◌, ◌∷◌, ◌++◌, [], length, arith, inl, inr, ap}
-use Rattle.std.proofs.Math.ListN.{length-append}
-use Rattle.std.specs.BinaryHeap.{heap_items}
-use Rattle.std.proofs.lemmas.List.Elements.{Contains-get_or}
+use Rattle.sas_axioms.proofs.Imports.{◌≡◌, ◌∷◌, ◌++◌, [], length, arith, inl, inr, ap, length-append, heap_items, Contains-get_or}
 use Rattle.sas_axioms.proofs.AgendaOrder.{popped_cases, popped_still, popped_there}
 use Rattle.sas_axioms.proofs.agenda.Agenda.next.Goals as goal
 

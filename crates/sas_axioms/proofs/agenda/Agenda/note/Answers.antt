@@ -1,7 +1,5 @@
 -- Subtracting the work doesn't change which rules are noted.
-use Rattle.std.proofs.Common.{ap}
-use Rattle.std.specs.BinaryHeap.{heap_items}
-use Rattle.std.proofs.lemmas.Result.{on_ok_weaker}
+use Rattle.sas_axioms.proofs.Imports.{ap, heap_items, on_ok_weaker}
 use Rattle.sas_axioms.proofs.AgendaOrder.{notes_paid}
 use Rattle.sas_axioms.proofs.agenda.Agenda.note.Goals as goal
 

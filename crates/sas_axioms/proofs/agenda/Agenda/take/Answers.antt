@@ -1,11 +1,5 @@
 -- The first noted rule is on this layer.
-use Rattle.std.proofs.Common.{rules, ◌≡◌, ◌≤◌, ◌∷◌, sym, ap, subst, inl, inr, arith}
-use Rattle.std.specs.List.{Contains}
-use Rattle.std.specs.List.Sorted.{IsPermutation}
-use Rattle.std.specs.BinaryHeap.{heap_items}
-use Rattle.std.specs.declared.cmp.Reverse.{Reverse}
-use Rattle.std.proofs.lemmas.List.Elements.{All-contains, Contains-get_or}
-use Rattle.std.proofs.lemmas.List.Sorted.{length_permutation}
+use Rattle.sas_axioms.proofs.Imports.{rules, ◌≡◌, ◌≤◌, ◌∷◌, sym, ap, subst, inl, inr, arith, Contains, IsPermutation, heap_items, Reverse, All-contains, Contains-get_or, length_permutation}
 use Rattle.sas_axioms.specs.declared.layer_rules.LayerRule.{LayerRule}
 use Rattle.sas_axioms.specs.Agenda.{entry_for, Lowest}
 use Rattle.sas_axioms.proofs.AgendaOrder.{lowest_first, taken_cases, rest_still, head_there}

@@ -1,6 +1,6 @@
 -- Counters of conditions that become open are incremented, those of conditions that become true
 -- decremented.
-use Rattle.std.proofs.Common.{◌<◌, length, sym, ◌∙◌, arith}
+use Rattle.sas_axioms.proofs.Imports.{◌<◌, length, sym, ◌∙◌, arith}
 use Rattle.sas_axioms.proofs.AllConditions.{counters_exist, small, enough, recounted, same_counts}
 use Rattle.sas_axioms.proofs.counting.Counted.recount.Goals as goal
 use Rattle.sas_axioms.proofs.counting.Counted.recount.Goals.{then-former-fact, else-former-fact}

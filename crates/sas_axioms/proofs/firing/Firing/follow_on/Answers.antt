@@ -1,5 +1,5 @@
 -- The data for settling layers stay valid.
-use Rattle.std.proofs.Common.{length, ap, ◌∙◌}
+use Rattle.sas_axioms.proofs.Imports.{length, ap, ◌∙◌}
 use Rattle.sas_axioms.proofs.firing.Firing.follow_on.Goals as goal
 
 pub returns-in_err-count_gone-clause-prepared : goal.returns-in_err-count_gone-clause-prepared
@@ -34,9 +34,3 @@ returns-clause-prepared g c =
       };
       empty = rw (settled.stack, same.stack) was.empty;
     }
-
-pub returns-clause-told : goal.returns-clause-told
-returns-clause-told g c = c.settle_noted.ensures.told
-
-pub returns-clause-followed : goal.returns-clause-followed
-returns-clause-followed g c = c.settle_noted.ensures.followed

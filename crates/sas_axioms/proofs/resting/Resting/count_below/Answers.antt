@@ -1,6 +1,5 @@
 -- A rule without conditions on lower layers has the stored count.
-use Rattle.std.proofs.Common.{◌≡◌, List, true, rules, arith, sym, ap, ◌∙◌, get_or}
-use Rattle.sas_core.specs.declared.parts.Fact.{Fact}
+use Rattle.sas_axioms.proofs.Imports.{◌≡◌, List, true, rules, sym, ap, ◌∙◌, get_or, Fact}
 use Rattle.sas_axioms.specs.Conditions.{open_conditions}
 use Rattle.sas_axioms.proofs.LayerStart.{begins_as_kept}
 use Rattle.sas_axioms.proofs.RuleChanges.{conditions_within, conditions_few}
@@ -10,13 +9,10 @@ pub returns-else-index-clause-none : goal.returns-else-index-clause-none
 returns-else-index-clause-none g c =
     let p = c.args.task.now in
     let resting = c.requires.resting in
-    let told : c.index.result.now ≡ get_or c.args.self.now.looks_below.items c.args.rule true = search rules in
+    let covered : c.index.result.now ≡ get_or c.args.self.now.looks_below.items c.args.rule true = search rules in
     resting.counted.counts.exact c.args.layer c.args.rule c.requires.rule
     ∙ begins_as_kept p c.args.layer c.args.rule c.args.state.now c.args.self.now.counted.values c.requires.rule
-    ((resting.looks.each c.args.layer c.args.rule true c.requires.rule).0 (sym told ∙ c.if-index.false)) c.requires.follows c.requires.default resting.default
-
-pub index-requires : goal.index-requires
-index-requires g c = omega (arith, c.requires.rule.exists, c.requires.resting.looks.one_each)
+    ((resting.looks.each c.args.layer c.args.rule true c.requires.rule).0 (sym covered ∙ c.if-index.false)) c.requires.follows c.requires.default resting.default
 
 pub open_of-requires-clause-exist : goal.open_of-requires-clause-exist
 open_of-requires-clause-exist g c =

@@ -1,4 +1,4 @@
-use Rattle.std.proofs.Common.{◌≤◌, ℕ, arith, rules}
+use Rattle.sas_axioms.proofs.Imports.{◌≤◌, ℕ, arith, rules}
 use Rattle.sas_axioms.specs.ByLayers.{IsIdle}
 use Rattle.sas_axioms.proofs.Layering.{idle_where_empty}
 use Rattle.sas_axioms.proofs.rounds.RoundsByLayers.settle_next.Goals as goal

@@ -1,6 +1,5 @@
 -- The next layer on which a rule can fire.
-use Rattle.std.proofs.Common.{rules, ◌≡◌, ◌+◌, ◌≤◌, ◌<◌, length, get_or, drop, refl, sym, subst, ap, ◌∙◌, arith}
-use Rattle.sas_meaning.proofs.Settling.{basic_off}
+use Rattle.sas_axioms.proofs.Imports.{rules, ◌≡◌, ◌+◌, ◌≤◌, ◌<◌, length, get_or, drop, sym, subst, ap, ◌∙◌, arith, basic_off}
 use Rattle.sas_axioms.specs.declared.layer_rules.LayerSpan.{LayerSpan}
 use Rattle.sas_axioms.specs.declared.resting.Resting.{Resting}
 use Rattle.sas_axioms.specs.ByLayers.{SettlesLayer}
@@ -87,15 +86,6 @@ returns-clause-settles g c =
       settles = c.settle_layer.ensures.settles;
     }
 
-pub returns-in_default-clause-stands : goal.returns-in_default-clause-stands
-returns-in_default-clause-stands g c = tt
-
-pub returns-in_default-clause-settles : goal.returns-in_default-clause-settles
-returns-in_default-clause-settles g c = tt
-
-pub returns-in_default-clause-ready : goal.returns-in_default-clause-ready
-returns-in_default-clause-ready g c = c.requires.stands.ready
-
 pub returns-in_default-clause-follows : goal.returns-in_default-clause-follows
 returns-in_default-clause-follows g c settled =
     let all = c.args.self.now.rules.items in
@@ -105,29 +95,8 @@ returns-in_default-clause-follows g c settled =
     (λ m le. counted_where_idle c.args.layered.now m c.args.state.now c.args.self.now.firing c.requires.stands.ready.firing.resting c.requires.stands.follows (c.requires.stands.rest m le) (c.requires.default m le)
     (idle_in_the_end c.args.layered.now all c.args._from c.args.self.now.start c.requires.stands.ready.rules c.requires.stands.stands (omega (arith, done)) m le)) c.requires.stands.counts c.requires.stands.given c.requires.default settled
 
-pub returns-clause-follows : goal.returns-clause-follows
-returns-clause-follows g c = tt
-
-pub returns-in_default-clause-same : goal.returns-in_default-clause-same
-returns-in_default-clause-same g c = refl
-
 pub settle_layer-requires-clause-rest : goal.settle_layer-requires-clause-rest
 settle_layer-requires-clause-rest g c =
     let some = (goal.at.settle_layer-requires-clause-rest g c).In-Some in
     c.requires.stands.rest c.in-Some.span.now.layer
     (from_on c.args.layered.now c.args.self.now.rules.items c.args._from c.args.self.now.start c.requires.stands.ready.rules c.requires.stands.stands c.in-Some.span.now.layer c.in-Some.span.now.end (span g some))
-
-pub settle_layer-requires-clause-follows : goal.settle_layer-requires-clause-follows
-settle_layer-requires-clause-follows g c = c.requires.stands.follows
-
-pub settle_layer-requires-clause-state : goal.settle_layer-requires-clause-state
-settle_layer-requires-clause-state g c = c.requires.state
-
-pub returns-clause-ready : goal.returns-clause-ready
-returns-clause-ready g c = tt
-
-pub returns-clause-same : goal.returns-clause-same
-returns-clause-same g c = tt
-
-pub returns-clause-idle : goal.returns-clause-idle
-returns-clause-idle g c = tt

@@ -1,6 +1,5 @@
 -- A state that was updated is settled.
-use Rattle.std.proofs.Common.{rules, ℕ}
-use Rattle.sas_meaning.proofs.Telling.{tells_gone, tells_any}
+use Rattle.sas_axioms.proofs.Imports.{rules, ℕ, covers_gone, covers_any}
 use Rattle.sas_axioms.specs.Following.{IsFollowed}
 use Rattle.sas_axioms.specs.LayerRules.{IsRuleOn}
 use Rattle.sas_axioms.proofs.GoneSteps.{idle_followed, idle_settles}
@@ -24,15 +23,11 @@ returns-else-is_err-clause-settles g c =
     let followed : IsFollowed c.args.layered.now c.follow.new.state c.follow.new.self.work = search rules in
     record { state = c.follow.ensures.state; basic = c.follow.ensures.basic; settled = followed.settled }
 
--- the facts that have gone are on basic variables, so no derived one had changed
-pub returns-then-not-self-clause-told : goal.returns-then-not-self-clause-told
-returns-then-not-self-clause-told g c s followed have = tells_gone c.args.layered.now c.args.gone.now s c.args.state.now c.clear.new.self have c.clear.ensures.cleared
+pub returns-then-is_err-clause-covered : goal.returns-then-is_err-clause-covered
+returns-then-is_err-clause-covered g c s followed have =
+    let covered = c.follow.ensures.covered s (covers_gone c.args.layered.now c.args.gone.now s c.args.state.now c.clear.new.self have c.clear.ensures.cleared) in
+    covers_any c.args.layered.now s c.settle_by_layers.new.state c.note_any.new.self (rw c.note_any.ensures.same covered.only) c.note_any.ensures.any
 
-pub returns-then-is_err-clause-told : goal.returns-then-is_err-clause-told
-returns-then-is_err-clause-told g c s followed have =
-    let told = c.follow.ensures.told s (tells_gone c.args.layered.now c.args.gone.now s c.args.state.now c.clear.new.self have c.clear.ensures.cleared) in
-    tells_any c.args.layered.now s c.settle_by_layers.new.state c.note_any.new.self (rw c.note_any.ensures.same told.only) c.note_any.ensures.any
-
-pub returns-else-is_err-clause-told : goal.returns-else-is_err-clause-told
-returns-else-is_err-clause-told g c s followed have =
-    c.follow.ensures.told s (tells_gone c.args.layered.now c.args.gone.now s c.args.state.now c.clear.new.self have c.clear.ensures.cleared)
+pub returns-else-is_err-clause-covered : goal.returns-else-is_err-clause-covered
+returns-else-is_err-clause-covered g c s followed have =
+    c.follow.ensures.covered s (covers_gone c.args.layered.now c.args.gone.now s c.args.state.now c.clear.new.self have c.clear.ensures.cleared)

@@ -1,6 +1,5 @@
 -- The first part that fails determines the fault.
-use Rattle.std.proofs.Common.{rules, ◌≡◌, ◌∙◌, Some}
-use Rattle.std.specs.Result.{result_err}
+use Rattle.sas_core.proofs.Imports.{rules, ◌≡◌, ◌∙◌, Some, result_err}
 use Rattle.sas_core.specs.Checks.{operator_checks}
 use Rattle.sas_core.specs.FirstFault.{first_fault}
 use Rattle.sas_core.proofs.FirstFaults.{fails_before, decides_after}
@@ -23,6 +22,3 @@ returns-in_err-check_list-2 c =
     let same : result_err c.from_residual-in_err-check_list-2.result ≡ Some c.in_err-check_list-2.field-0.0 = search rules in
     let first : Some c.in_err-check_list-2.field-0.0 ≡ first_fault (operator_checks c.args.variables.now c.args.self.now) = search (rules, fails_before, decides_after, c.in_ok-check_among.ensures, c.in_ok-check_list.ensures, c.in_err-check_list-2.ensures) in
     same ∙ first
-
-pub returns : goal.returns
-returns c = search (rules, decides_after, c.in_ok-check_among.ensures, c.in_ok-check_list.ensures, c.in_ok-check_list-2.ensures, c.check_number.ensures)

@@ -1,6 +1,5 @@
 -- All checks pass if and only if the parts are well ranged.
-use Rattle.std.proofs.Common.{◌≡◌, Some, None, refl, sym, ◌∙◌, rules}
-use Rattle.std.proofs.lemmas.Bool.{false≢true}
+use Rattle.sas_core.proofs.Imports.{◌≡◌, Some, None, refl, sym, ◌∙◌, false≢true}
 use Rattle.sas_core.proofs.ChecksAreRules.{checks_are_the_rules}
 use Rattle.sas_core.proofs.task.Task.new.Goals as goal
 
@@ -17,6 +16,3 @@ returns-in-Err-clause-well_ranged c = (
 
 pub returns-in-Ok-clause-well_ranged : goal.returns-in-Ok-clause-well_ranged
 returns-in-Ok-clause-well_ranged c = (λ ok. (checks_are_the_rules c.args.parts).0 (sym c.in-Ok.ensures), λ fit. refl)
-
-pub returns-in-Err-clause-handed_back : goal.returns-in-Err-clause-handed_back
-returns-in-Err-clause-handed_back g c = search rules

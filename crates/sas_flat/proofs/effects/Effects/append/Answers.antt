@@ -1,8 +1,6 @@
-use Rattle.std.proofs.Common.{◌-◌, ◌++◌, length, ap, ◌∙◌, arith}
-use Rattle.std.proofs.lemmas.List.{nil_from_length}
+use Rattle.sas_flat.proofs.Imports.{◌-◌, ◌++◌, length, ap, ◌∙◌, arith, nil_from_length}
 use Rattle.sas_flat.specs.Effects.{effects_of}
 use Rattle.sas_flat.proofs.EffectRows.{effects_filled, filled_append, bare_append, on_any_error}
-use Rattle.sas_flat.proofs.Kept.{not_ok}
 use Rattle.sas_flat.proofs.effects.Effects.append.Goals as goal
 use Rattle.sas_flat.proofs.effects.Effects.append.Goals.{then-len-gt0+in_ok-fill+in_ok-append, else-len-gt0}
 
@@ -27,32 +25,8 @@ returns-clause-ok c =
           (nil_from_length c.more.inside.conditions (omega (arith, w.if-len-gt0.false, c.len-2.ensures))) ∙ behind)
     ]
 
-pub invariant_of-self : goal.invariant_of-self
-invariant_of-self c = rw c.reserve.ensures.items c.self.invariant
-
-pub returns-in_err-reserve-clause-ok : goal.returns-in_err-reserve-clause-ok
-returns-in_err-reserve-clause-ok c = not_ok _ c.from_residual.result c.from_residual.ensures.0
-
-pub returns-in_err-reserve-clause-err : goal.returns-in_err-reserve-clause-err
-returns-in_err-reserve-clause-err c = on_any_error c.from_residual.result (ap (λ l. effects_of l c.self.inside.conditions) c.reserve.ensures.items ∙ c.self.view_is)
-
-pub invariant_of-self-in_err-fill : goal.invariant_of-self-in_err-fill
-invariant_of-self-in_err-fill c = rw (c.reserve.ensures.items, c.in_err-fill.ensures.err) c.self.invariant
-
-pub returns-in_err-fill-clause-ok : goal.returns-in_err-fill-clause-ok
-returns-in_err-fill-clause-ok c = not_ok _ c.from_residual-in_err-fill.result c.from_residual-in_err-fill.ensures.0
-
 pub returns-in_err-fill-clause-err : goal.returns-in_err-fill-clause-err
 returns-in_err-fill-clause-err c =
     on_any_error c.from_residual-in_err-fill.result
     (ap (λ l. effects_of l c.fill.new.self) c.reserve.ensures.items
     ∙ ap (λ l. effects_of c.self.inside.changes.items l) c.in_err-fill.ensures.err ∙ c.self.view_is)
-
-pub returns-in_err-append-clause-ok : goal.returns-in_err-append-clause-ok
-returns-in_err-append-clause-ok c = not_ok _ c.from_residual-in_err-append.result c.from_residual-in_err-append.ensures.0
-
-pub returns-in_err-extend_from_slice-clause-ok : goal.returns-in_err-extend_from_slice-clause-ok
-returns-in_err-extend_from_slice-clause-ok c = not_ok _ c.from_residual-in_err-extend_from_slice.result c.from_residual-in_err-extend_from_slice.ensures.0
-
-pub returns-clause-err : goal.returns-clause-err
-returns-clause-err c = tt

@@ -1,5 +1,4 @@
-use Rattle.std.proofs.Common.{◌++◌, ap, ◌∙◌}
-use Rattle.sas_core.specs.Changes.{plain_effects}
+use Rattle.sas_flat.proofs.Imports.{◌++◌, ap, ◌∙◌, plain_effects}
 use Rattle.sas_flat.proofs.EffectRows.{plain_more}
 use Rattle.sas_flat.proofs.effects.Effects.append_plain.Goals as goal
 

@@ -1,5 +1,4 @@
-use Rattle.std.proofs.Common.{[], sym, ap, ◌∙◌, arith}
-use Rattle.sas_core.specs.declared.parts.Effect.{Effect}
+use Rattle.sas_flat.proofs.Imports.{[], sym, ap, ◌∙◌, arith, Effect}
 use Rattle.sas_flat.proofs.EffectRows.{effect_at_place, none_behind}
 use Rattle.sas_flat.proofs.effects.Effects.conditions.Goals as goal
 

@@ -1,4 +1,4 @@
-use Rattle.std.proofs.Common.{◌∙◌}
+use Rattle.sas_flat.proofs.Imports.{◌∙◌}
 use Rattle.sas_flat.proofs.EffectRows.{effect_count}
 use Rattle.sas_flat.proofs.effects.Effects.len.Goals as goal
 

@@ -1,5 +1,4 @@
-use Rattle.std.proofs.Common.{◌≤◌, length, sym, ap, ◌∙◌, arith}
-use Rattle.std.specs.Prelude.{slice_range}
+use Rattle.sas_flat.proofs.Imports.{◌≤◌, length, sym, ap, ◌∙◌, arith, slice_range}
 use Rattle.sas_flat.proofs.EffectRows.{effect_count, plain_range}
 use Rattle.sas_flat.proofs.effects.Effects.plain.Goals as goal
 

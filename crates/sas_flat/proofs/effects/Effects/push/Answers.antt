@@ -1,6 +1,4 @@
-use Rattle.std.proofs.lemmas.Bool.{eqb-true}
-use Rattle.std.proofs.lemmas.List.{nil_from_length}
-use Rattle.std.proofs.Common.{◌≡◌, ◌-◌, [], ◌∷◌, ◌++◌, length, sym, ap, ◌∙◌, rules}
+use Rattle.sas_flat.proofs.Imports.{eqb-true, nil_from_length, ◌≡◌, ◌-◌, [], ◌∷◌, ◌++◌, length, sym, ap, ◌∙◌}
 use Rattle.sas_flat.specs.Effects.{effect, effects_of}
 use Rattle.sas_flat.proofs.EffectRows.{effects_filled, filled_more, plain_more, on_any_error}
 use Rattle.sas_flat.proofs.effects.Effects.push.Goals as goal
@@ -26,9 +24,3 @@ returns-clause-ok c =
           (plain_more (c.args.change ∷ []) c.self.inside.changes.items c.self.inside.conditions c.self.invariant
           ∙ ap (λ d. effects_of c.self.inside.changes.items c.self.inside.conditions ++ effect c.args.change d ∷ []) none ∙ behind))
     ]
-
-pub invariant_of-self-in_err-push-2 : goal.invariant_of-self-in_err-push-2
-invariant_of-self-in_err-push-2 c = search rules
-
-pub returns-in_err-push-2-clause-err : goal.returns-in_err-push-2-clause-err
-returns-in_err-push-2-clause-err c = search rules

@@ -1,4 +1,4 @@
-use Rattle.std.proofs.Common.{take, ap, ◌∙◌, arith}
+use Rattle.sas_flat.proofs.Imports.{take, ap, ◌∙◌, arith}
 use Rattle.sas_flat.proofs.EffectRows.{effect_count, effects_taken, effects_cut}
 use Rattle.sas_flat.proofs.effects.Effects.truncate.Goals as goal
 

@@ -1,4 +1,4 @@
-use Rattle.std.proofs.Common.{arith, ◌<◌, length}
+use Rattle.sas_flat.proofs.Imports.{arith, ◌<◌, length}
 use Rattle.sas_flat.proofs.Blocks.{count_of, list_of}
 use Rattle.sas_flat.proofs.lists.Lists.get.Goals as goal
 

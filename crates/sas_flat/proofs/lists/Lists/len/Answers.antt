@@ -1,4 +1,4 @@
-use Rattle.std.proofs.Common.{◌∙◌}
+use Rattle.sas_flat.proofs.Imports.{◌∙◌}
 use Rattle.sas_flat.proofs.Blocks.{count_of}
 use Rattle.sas_flat.proofs.lists.Lists.len.Goals as goal
 

@@ -1,4 +1,4 @@
-use Rattle.std.proofs.Common.{◌≤◌, take, length, ap, ◌∙◌, arith}
+use Rattle.sas_flat.proofs.Imports.{◌≤◌, take, length, ap, ◌∙◌, arith}
 use Rattle.sas_flat.proofs.Blocks.{count_of, ends_taken, lists_taken}
 use Rattle.sas_flat.proofs.lists.Lists.truncate.Goals as goal
 

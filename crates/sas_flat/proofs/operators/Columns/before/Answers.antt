@@ -1,4 +1,4 @@
-use Rattle.std.proofs.Common.{arith}
+use Rattle.sas_flat.proofs.Imports.{arith}
 use Rattle.sas_flat.specs.declared.operators.Head.{Head}
 use Rattle.sas_flat.proofs.FoundOperators.{start_is}
 use Rattle.sas_flat.proofs.operators.Columns.before.Goals as goal

@@ -1,5 +1,4 @@
-use Rattle.std.proofs.Common.{◌+◌, sym, ap, ◌∙◌, arith}
-use Rattle.sas_core.specs.declared.parts.Effect.{Effect}
+use Rattle.sas_flat.proofs.Imports.{◌+◌, sym, ap, ◌∙◌, arith, Effect}
 use Rattle.sas_flat.specs.Effects.{effect_in_list}
 use Rattle.sas_flat.proofs.FoundOperators.{as_many, effect_within, effect_found}
 use Rattle.sas_flat.proofs.operators.Operators.conditions.Goals as goal

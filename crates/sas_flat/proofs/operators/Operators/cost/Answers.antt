@@ -1,5 +1,4 @@
-use Rattle.std.proofs.Common.{sym, ap, ◌∙◌, arith}
-use Rattle.sas_core.specs.declared.parts.Operator.{Operator}
+use Rattle.sas_flat.proofs.Imports.{sym, ap, ◌∙◌, arith, Operator}
 use Rattle.sas_flat.specs.declared.operators.Head.{Head}
 use Rattle.sas_flat.proofs.FoundOperators.{as_many, found, end_is}
 use Rattle.sas_flat.proofs.operators.Operators.cost.Goals as goal

@@ -1,4 +1,4 @@
-use Rattle.std.proofs.Common.{length, ap}
+use Rattle.sas_flat.proofs.Imports.{length, ap}
 use Rattle.sas_flat.proofs.Tables.{table_none}
 use Rattle.sas_flat.proofs.operators.Operators.new.Goals as goal
 

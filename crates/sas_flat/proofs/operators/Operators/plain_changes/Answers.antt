@@ -1,9 +1,5 @@
-use Rattle.std.proofs.Common.{◌≡◌, List, sym, ap, subst, ◌∙◌, arith}
-use Rattle.std.specs.Prelude.{slice_index, slice_range, IfSome}
+use Rattle.sas_flat.proofs.Imports.{◌≡◌, List, sym, ap, subst, ◌∙◌, arith, slice_index, slice_range, IfSome, plain_effects, Operator, Effect}
 use Rattle.sas_flat.specs.Operators.{effect_ends}
-use Rattle.sas_core.specs.Changes.{plain_effects}
-use Rattle.sas_core.specs.declared.parts.Operator.{Operator}
-use Rattle.sas_core.specs.declared.parts.Effect.{Effect}
 use Rattle.sas_flat.specs.declared.operators.Head.{Head}
 use Rattle.sas_flat.proofs.FoundOperators.{as_many, found, end_is, ordered, within}
 use Rattle.sas_flat.proofs.operators.Operators.plain_changes.Goals as goal

@@ -1,12 +1,9 @@
-use Rattle.std.proofs.Common.{◌∷◌, [], ◌++◌, refl, ap, ◌∙◌}
-use Rattle.sas_core.specs.Changes.{plain_effects}
+use Rattle.sas_flat.proofs.Imports.{◌∷◌, [], ◌++◌, ap, ◌∙◌, plain_effects}
 use Rattle.sas_flat.specs.Operators.{operator}
 use Rattle.sas_flat.proofs.FoundOperators.{one_more}
 use Rattle.sas_flat.proofs.FoundOperators as found
 use Rattle.sas_flat.specs.declared.operators.Head.{Head}
-use Rattle.sas_flat.proofs.EffectRows.{on_any_error}
-use Rattle.sas_flat.proofs.Kept.{not_ok}
-use Rattle.sas_flat.proofs.Grown.{kept_more, kept_long, kept_front, still_aligned, same_effects, same_operators}
+use Rattle.sas_flat.proofs.Grown.{kept_more, kept_front, still_aligned, same_operators}
 use Rattle.sas_flat.proofs.operators.Operators.push_plain.Goals as goal
 
 pub invariant_of-self-in-Ok : goal.invariant_of-self-in-Ok
@@ -16,18 +13,6 @@ pub returns-in-Ok-clause-ok : goal.returns-in-Ok-clause-ok
 returns-in-Ok-clause-ok c =
     one_more c.self.inside.columns c.push.new.self (operator c.args.name.now c.args.prevail.now (plain_effects c.args.changes.now) c.args.cost) c.self.invariant c.in-Ok.ensures.name_ok c.in-Ok.ensures.prevail_ok (c.in-Ok.ensures.effects ∙ c.in_ok-append_plain.ensures.ok) c.in-Ok.ensures.head_ok
     ∙ ap (λ l. l ++ operator c.args.name.now c.args.prevail.now (plain_effects c.args.changes.now) c.args.cost ∷ []) c.self.view_is
-
-pub invariant_of-self : goal.invariant_of-self
-invariant_of-self c = still_aligned c.self.inside.columns _ refl refl c.in_err-append_plain.ensures.err refl c.self.invariant
-
-pub returns-in_err-append_plain-clause-ok : goal.returns-in_err-append_plain-clause-ok
-returns-in_err-append_plain-clause-ok c = not_ok _ c.from_residual.result c.from_residual.ensures.0
-
-pub returns-in_err-append_plain-clause-err : goal.returns-in_err-append_plain-clause-err
-returns-in_err-append_plain-clause-err c = on_any_error c.from_residual.result (same_effects c.self.inside.columns c.append_plain.new.self c.in_err-append_plain.ensures.err ∙ c.self.view_is)
-
-pub truncate-requires : goal.truncate-requires
-truncate-requires c = kept_long _ c.self.inside.columns.effects _ (ap (λ (h : Head). h.effects) c.end-end.ensures) (kept_more _ _ _ (c.in-Err.ensures.effects ∙ c.in_ok-append_plain.ensures.ok))
 
 pub invariant_of-self-in-Err : goal.invariant_of-self-in-Err
 invariant_of-self-in-Err c =
@@ -54,9 +39,3 @@ returns-in-Err-clause-err c =
     (kept_front _ old.effects _ _ (ap (λ (h : Head). h.effects) head) (kept_more _ _ _ (kept.effects ∙ c.in_ok-append_plain.ensures.ok)) cut.effects)
     (cut.heads ∙ kept.head_err)
     ∙ c.self.view_is
-
-pub returns-in-Ok-clause-err : goal.returns-in-Ok-clause-err
-returns-in-Ok-clause-err c = tt
-
-pub returns-in-Err-clause-ok : goal.returns-in-Err-clause-ok
-returns-in-Err-clause-ok c = tt

@@ -1,5 +1,4 @@
-use Rattle.std.proofs.Common.{◌<◌, length, sym, ap, ◌∙◌, arith, get_or}
-use Rattle.std.specs.Prelude.{None}
+use Rattle.sas_flat.proofs.Imports.{◌<◌, length, sym, ap, ◌∙◌, arith, get_or, None}
 use Rattle.sas_flat.proofs.FoundVariables.{as_many, layer_found}
 use Rattle.sas_flat.proofs.variables.Variables.layer.Goals as goal
 

@@ -1,4 +1,4 @@
-use Rattle.std.proofs.Common.{◌∙◌}
+use Rattle.sas_flat.proofs.Imports.{◌∙◌}
 use Rattle.sas_flat.proofs.FoundVariables.{as_many}
 use Rattle.sas_flat.proofs.variables.Variables.len.Goals as goal
 

@@ -1,5 +1,4 @@
-use Rattle.std.proofs.Common.{sym, ap, ◌∙◌, arith}
-use Rattle.std.specs.Prelude.{Some}
+use Rattle.sas_flat.proofs.Imports.{sym, ap, ◌∙◌, arith, Some}
 use Rattle.sas_flat.proofs.FoundVariables.{as_many, name_found}
 use Rattle.sas_flat.proofs.Rows.{no_name}
 use Rattle.sas_flat.proofs.variables.Variables.name.Goals as goal

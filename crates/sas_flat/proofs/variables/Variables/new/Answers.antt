@@ -1,4 +1,4 @@
-use Rattle.std.proofs.Common.{length, ap, ◌∙◌}
+use Rattle.sas_flat.proofs.Imports.{length, ap, ◌∙◌}
 use Rattle.sas_flat.proofs.Tables.{length-table}
 use Rattle.sas_flat.proofs.Rows.{no_variable}
 use Rattle.sas_flat.proofs.variables.Variables.new.Goals as goal

@@ -1,4 +1,4 @@
-use Rattle.std.proofs.Common.{arith}
+use Rattle.sas_flat.proofs.Imports.{arith}
 use Rattle.sas_flat.proofs.FoundVariables.{as_many, values_ordered, value_number}
 use Rattle.sas_flat.proofs.variables.Variables.range.Goals as goal
 

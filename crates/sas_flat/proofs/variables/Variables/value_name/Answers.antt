@@ -1,6 +1,4 @@
-use Rattle.std.proofs.Common.{◌<◌, ◌+◌, length, [], get_or, sym, ap, ◌∙◌, arith}
-use Rattle.std.specs.Prelude.{Some}
-use Rattle.sas_core.specs.Variables.{range_of}
+use Rattle.sas_flat.proofs.Imports.{◌<◌, ◌+◌, length, [], get_or, sym, ap, ◌∙◌, arith, Some, range_of}
 use Rattle.sas_flat.proofs.FoundVariables.{as_many, values_ordered, value_number, value_found}
 use Rattle.sas_flat.proofs.Rows.{no_value}
 use Rattle.sas_flat.proofs.variables.Variables.value_name.Goals as goal

@@ -1,10 +1,5 @@
 -- A group that isn't found is above those before the index and below those after it.
-use Rattle.std.proofs.Common.{◌≡◌, ℕ, ◌<◌, ◌≤◌, ◌↔◌, List, length, get_or, Result, Ok, Err, true, false, refl, ◌∙◌, inl, inr, arith}
-use Rattle.std.specs.List.{Contains}
-use Rattle.std.specs.Result.{MatchResult, is_ok}
-use Rattle.std.proofs.lemmas.Bool.{cases_lt}
-use Rattle.std.proofs.lemmas.List.{get_or_default}
-use Rattle.std.proofs.lemmas.List.Sorted.{searched}
+use Rattle.sas_groups.proofs.Imports.{◌≡◌, ℕ, ◌<◌, ◌≤◌, ◌↔◌, List, length, get_or, Result, Ok, Err, true, false, refl, ◌∙◌, inl, inr, arith, Contains, MatchResult, is_ok, cases_lt, get_or_default, searched}
 use Rattle.sas_groups.specs.Index.{groups_of}
 use Rattle.sas_groups.proofs.index.Index.has.Goals as goal
 

@@ -1,5 +1,5 @@
 -- Each field has the contract of the call that returned it.
-use Rattle.std.proofs.Common.{ℕ, List, subst}
+use Rattle.sas_groups.proofs.Imports.{ℕ, List, subst}
 use Rattle.sas_groups.specs.Index.{number, AreByFact}
 use Rattle.sas_groups.proofs.index.Index.new.Goals as goal
 

@@ -1,6 +1,5 @@
 -- Nothing is recorded at any index.
-use Rattle.std.proofs.Common.{ℕ, ◌≡◌, ◌<◌, List, Option, None, length, replicate, refl, sym, ap, subst, ◌∙◌, rules}
-use Rattle.std.proofs.lemmas.List.{length-replicate, get_or-replicate}
+use Rattle.sas_groups.proofs.Imports.{ℕ, ◌≡◌, ◌<◌, List, Option, None, length, replicate, refl, sym, ap, subst, ◌∙◌, rules, length-replicate, get_or-replicate}
 use Rattle.sas_groups.specs.declared.notes.Noted.{Noted}
 use Rattle.sas_groups.specs.declared.notes.Noted.TheVariants.{Nothing}
 use Rattle.sas_groups.specs.Notes.{value_note, group_note}

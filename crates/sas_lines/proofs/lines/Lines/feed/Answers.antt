@@ -1,4 +1,4 @@
-use Rattle.std.proofs.Common.{◌≡◌, [], ◌∷◌, ◌++◌, length, take, refl, sym, ap, subst, ◌∙◌, arith, rules}
+use Rattle.sas_lines.proofs.Imports.{◌≡◌, [], ◌∷◌, ◌++◌, length, take, refl, sym, ap, subst, ◌∙◌, arith}
 use Rattle.sas_lines.specs.Lines.{NoEnd, without_return}
 use Rattle.sas_lines.proofs.Feeding.{begun, takes_line, lines_of_part, unfinished_of_part, lines_of_end, unfinished_of_end, plain_line}
 use Rattle.sas_lines.proofs.Separated.{Without-append}
@@ -6,18 +6,6 @@ use Rattle.sas_lines.proofs.lines.Lines.feed.Goals as goal
 
 pub returns-clause-taken : goal.returns-clause-taken
 returns-clause-taken c = takes_line c.args.piece.now c.in-Some.end c.in-Some.ensures
-
-pub returns-in_err-extend_from_slice-clause-refused : goal.returns-in_err-extend_from_slice-clause-refused
-returns-in_err-extend_from_slice-clause-refused c = search rules
-
-pub returns-in_default-clause-incomplete : goal.returns-in_default-clause-incomplete
-returns-in_default-clause-incomplete g c = search rules
-
-pub returns-in_err-extend_from_slice-2-clause-refused : goal.returns-in_err-extend_from_slice-2-clause-refused
-returns-in_err-extend_from_slice-2-clause-refused c = search rules
-
-pub returns-clause-complete : goal.returns-clause-complete
-returns-clause-complete g c = search rules
 
 pub invariant_of-self : goal.invariant_of-self
 invariant_of-self c =

@@ -1,5 +1,5 @@
 -- If all layer checks pass, the task is layered.
-use Rattle.std.proofs.Common.{sym, rules}
+use Rattle.sas_meaning.proofs.Imports.{sym, rules}
 use Rattle.sas_meaning.proofs.LayerChecksAreRules.{checks_are_rules}
 use Rattle.sas_meaning.proofs.layered.Layered.new.Goals as goal
 

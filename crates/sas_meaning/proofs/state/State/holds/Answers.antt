@@ -1,5 +1,4 @@
-use Rattle.std.proofs.Common.{arith}
-use Rattle.std.proofs.lemmas.Grind.{elements}
+use Rattle.sas_meaning.proofs.Imports.{arith, elements}
 use Rattle.sas_meaning.proofs.state.State.holds.Goals as goal
 
 pub returns-in-None : goal.returns-in-None

@@ -1,4 +1,4 @@
-use Rattle.std.proofs.Common.{rules}
+use Rattle.sas_meaning.proofs.Imports.{rules}
 use Rattle.sas_meaning.proofs.state.State.of.Goals as goal
 
 pub returns-clause-values : goal.returns-clause-values

@@ -1,5 +1,5 @@
 -- The values of the variables so far.
-use Rattle.std.proofs.Common.{◌≡◌, take}
+use Rattle.sas_meaning.proofs.Imports.{◌≡◌, take}
 use Rattle.sas_meaning.proofs.state.State.of_section.Given as goal
 
 abbrev pub invariant-loop-var : goal.invariant-loop-var

@@ -1,4 +1,4 @@
-use Rattle.std.proofs.Common.{rules}
+use Rattle.sas_output.proofs.Imports.{rules}
 use Rattle.sas_output.proofs.ending.ToolFaultFromAllocError.from.Goals as goal
 
 pub returns : goal.returns

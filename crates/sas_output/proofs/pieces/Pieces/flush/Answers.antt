@@ -1,4 +1,4 @@
-use Rattle.std.proofs.Common.{rules}
+use Rattle.sas_output.proofs.Imports.{rules}
 use Rattle.sas_output.proofs.pieces.Pieces.flush.Goals as goal
 
 pub returns-clause-puts : goal.returns-clause-puts

@@ -1,5 +1,4 @@
-use Rattle.std.proofs.Common.{◌≡◌, []}
-use Rattle.std.proofs.lemmas.Result.{err_from_is_err_and}
+use Rattle.sas_output.proofs.Imports.{◌≡◌, [], err_from_is_err_and}
 use Rattle.sas_output.proofs.Putting.{breaks_with_more, puts_then_either}
 use Rattle.sas_output.proofs.pieces.Pieces.push.Goals as goal
 

@@ -1,5 +1,4 @@
-use Rattle.std.proofs.Common.{Bor, List, ℕ, []}
-use Rattle.std.proofs.lemmas.Result.{err_from_is_err_and}
+use Rattle.sas_output.proofs.Imports.{Bor, List, ℕ, [], err_from_is_err_and}
 use Rattle.sas_output.proofs.Putting.{item_puts, item_breaks, no_failure}
 use Rattle.sas_output.proofs.pieces.Pieces.push_all.Goals as goal
 

@@ -1,5 +1,4 @@
-use Rattle.std.proofs.Common.{[]}
-use Rattle.std.proofs.lemmas.Result.{err_from_is_err_and}
+use Rattle.sas_output.proofs.Imports.{[], err_from_is_err_and}
 use Rattle.sas_output.specs.declared.words.Word.{Word}
 use Rattle.sas_output.specs.declared.words.Word.TheVariants.{Text}
 use Rattle.sas_output.specs.Words.{behind_space}

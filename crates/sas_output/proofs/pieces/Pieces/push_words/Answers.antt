@@ -1,5 +1,4 @@
-use Rattle.std.proofs.Common.{List, ℕ, [], ◌∷◌, ◌++◌, ap}
-use Rattle.std.proofs.lemmas.Result.{err_from_is_err_and}
+use Rattle.sas_output.proofs.Imports.{List, ℕ, [], ◌∷◌, ◌++◌, ap, err_from_is_err_and}
 use Rattle.sas_output.specs.Words.{spaces_of}
 use Rattle.sas_output.proofs.Putting.{breaks_with_more, puts_then, puts_then_breaks, puts_then_either}
 use Rattle.sas_output.proofs.WordLines.{line_is, breaks_as, puts_as}

@@ -1,5 +1,4 @@
-use Rattle.std.proofs.Common.{◌≡◌, sym, ◌∙◌, refl, subst, Option, Some}
-use Rattle.std.specs.Io.KnownBytes.{Appends}
+use Rattle.sas_output.proofs.Imports.{◌≡◌, sym, ◌∙◌, refl, subst, Option, Some, Appends}
 use Rattle.sas_output.specs.Ending.{Output, EndsCounting}
 use Rattle.sas_output.specs.Sink.{PushedBy}
 use Rattle.sas_output.proofs.Sent.{all_sent, first_counted}

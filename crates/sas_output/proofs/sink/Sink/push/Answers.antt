@@ -1,4 +1,4 @@
-use Rattle.std.proofs.Common.{sym, ◌∙◌, refl}
+use Rattle.sas_output.proofs.Imports.{sym, ◌∙◌, refl}
 use Rattle.sas_output.proofs.Putting.{no_failure}
 use Rattle.sas_output.proofs.Pushed.{pushes_lost, pushes_put, pushes_broken}
 use Rattle.sas_output.proofs.sink.Sink.push.Goals as goal

@@ -1,0 +1,53 @@
+-- What the proofs use of other crates.
+pub use Rattle.std.proofs.Common.{◌≡◌, ◌⊎◌, ℕ, zero, suc, ◌+◌, ◌≤◌, false, List, [], ◌∷◌, ◌++◌, length, get_or, refl, sym, ◌∙◌, ap, subst, inl, inr}
+pub use Rattle.std.proofs.Common.{arith, ◌≢◌, ◌<◌, ◌==◌, ◌&&◌, ◌^◌, Bool, true, cond, set, None, not, ◌-◌, vec_capacity, ◌↔◌, ◌*◌, Vec, Global, drop}
+pub use Rattle.std.proofs.Common.{Option, Some, take, slice_index_or, nat_eq, slice_index, if◌then◌else◌, is_some, rules, IsTrue, IsFalse, IfSome}
+pub use Rattle.std.proofs.Common.{IfNone}
+pub use Rattle.std.proofs.Math.ListN.{length-append}
+pub use Rattle.std.proofs.Math.Seq.{append_snoc}
+pub use Rattle.std.proofs.lemmas.Bool.{cases_eq, eq-eqb, cases_lt, eqb-true, ne_eqb, and_parts, and_from}
+pub use Rattle.std.proofs.lemmas.Bool.Decides.{leb_tells, eqb_tells, Decides-eqb, Decides-not}
+pub use Rattle.std.proofs.lemmas.List.{get_or-set_same, get_or-set_other, length-set, get_or_default, drop_all, drop_more, get_or-take, get_or-drop}
+pub use Rattle.std.proofs.lemmas.List.{length-take, length-drop, get_or_push, get_or_append_left, length_push, append-nil, at_drop_all}
+pub use Rattle.std.proofs.lemmas.List.Elements.{All-nil, All-cons, Contains-get_or, Contains-append_left, Contains-push, Contains-push_cases}
+pub use Rattle.std.proofs.lemmas.List.Elements.{All-tail, All-append, All-weaker, All-push, All-head, All-contains, Contains-append_right}
+pub use Rattle.std.proofs.lemmas.List.Elements.{All-from_recursion}
+pub use Rattle.std.proofs.lemmas.List.Sorted.{Contains-permutation, IsPermutation-sym, length_permutation, IsNonDecreasingBy-from_sort_by_key}
+pub use Rattle.std.proofs.lemmas.List.Sorted.{All-permutation}
+pub use Rattle.std.proofs.lemmas.Result.{on_ok_weaker, IfOk-weaker}
+pub use Rattle.std.specs.BinaryHeap.{heap_items, IsUpperBound}
+pub use Rattle.std.specs.List.{All, Contains, AllPairs}
+pub use Rattle.std.specs.List.Sorted.{IsPermutation}
+pub use Rattle.std.specs.Option.{option_eq}
+pub use Rattle.std.specs.Ordering.{is_lt}
+pub use Rattle.std.specs.Result.{is_ok}
+pub use Rattle.std.specs.declared.cmp.Reverse.{Reverse}
+pub use Rattle.sas_core.proofs.Places.{holds_at}
+pub use Rattle.sas_core.specs.Changes.{rule_change}
+pub use Rattle.sas_core.specs.Grounded.{rule_at}
+pub use Rattle.sas_core.specs.Variables.{IsState, FactExists, layer_of}
+pub use Rattle.sas_core.specs.WellRanged.{WellRanged, RuleFits}
+pub use Rattle.sas_core.specs.declared.grounded.Change.{Change}
+pub use Rattle.sas_core.specs.declared.parts.Fact.{Fact}
+pub use Rattle.sas_core.specs.declared.parts.Parts.{Parts}
+pub use Rattle.sas_core.specs.declared.parts.Rule.{Rule}
+pub use Rattle.sas_flat.proofs.ByKey.{under_key, all_items, items_none, items_cons, item_if, items_append}
+pub use Rattle.sas_flat.proofs.Tables.{length-table}
+pub use Rattle.sas_flat.specs.ByKey.{items_of, by_key}
+pub use Rattle.sas_flat.specs.declared.by_key.Entry.{Entry}
+pub use Rattle.sas_meaning.proofs.DerivedVariables.{not_basic, derived_within}
+pub use Rattle.sas_meaning.proofs.Forced.{condition_within, Fired, fired_there, rule_new, differs_true, differs_not, fact_within, state_set}
+pub use Rattle.sas_meaning.proofs.Layers.{looks_down, layer_decides, on_layer_within, layer_cases, given_on}
+pub use Rattle.sas_meaning.proofs.Places.{places_to, places_one_more, places_all, place_is, is_place}
+pub use Rattle.sas_meaning.proofs.Rules.{new_value_is}
+pub use Rattle.sas_meaning.proofs.Settling.{default_off, forced_at_default, settled_when_fired, settled_off, basic_off}
+pub use Rattle.sas_meaning.proofs.Covering.{covers_set, covers_gone, covers_any}
+pub use Rattle.sas_meaning.proofs.Unique.{differs_decides}
+pub use Rattle.sas_meaning.specs.Following.{HaveGone}
+pub use Rattle.sas_meaning.specs.Forced.{SameOff, AtDefault, OnlyForced, HasFired, equal_places, Occurs}
+pub use Rattle.sas_meaning.specs.Layers.{IsLayered, IsBasic, IsOnLayer, default_of, CanFire, can_fire, LooksDown}
+pub use Rattle.sas_meaning.specs.Places.{places, can_give}
+pub use Rattle.sas_meaning.specs.Settled.{IsSettled, differs, IsSettledAt, Settles, new_value_of, value_with, IsClosed, SameBasic}
+pub use Rattle.sas_meaning.specs.States.{Holds, AllHold}
+pub use Rattle.sas_meaning.specs.Touched.{AddsTouched, StillCovers}
+pub use Rattle.sas_meaning.specs.declared.touched.Touched.{Touched}

@@ -1,6 +1,0 @@
-use Rattle.std.proofs.Common.{arith}
-use Rattle.std.proofs.lemmas.Grind.{elements}
-use Rattle.sas_core.proofs.task.Task.derived.Goals as goal
-
-pub returns : goal.returns
-returns c = grind (arith, elements)

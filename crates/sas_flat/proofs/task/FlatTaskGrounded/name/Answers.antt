@@ -1,5 +1,0 @@
-use Rattle.std.proofs.Common.{rules}
-use Rattle.sas_flat.proofs.task.FlatTaskGrounded.name.Goals as goal
-
-pub returns : goal.returns
-returns c = search rules
