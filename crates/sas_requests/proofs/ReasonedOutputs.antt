@@ -16,42 +16,50 @@ use Rattle.sas_output.specs.declared.ending.Status.TheVariants.{Yes, No}
 use Rattle.sas_output.specs.Ending.{Output}
 use Rattle.sas_answers.specs.GroupWords.{group_line}
 use Rattle.sas_answers.specs.PlanWords.{valid_line}
-use Rattle.sas_task_reasons.specs.WhyLayers.{with_reasons, why_refusal, WhyMutexAnswer}
+use Rattle.sas_task_reasons.specs.WhyLayers.{with_reasons, why_refusal, WhyCheckAnswer, WhyMutexAnswer}
+use Rattle.sas_task_reasons.proofs.TaskAnswers.{one_why_check, some_why_check, one_why_mutex, some_why_mutex}
 use Rattle.sas_why.specs.Verdict.{WhyVerdict}
 use Rattle.sas_outputs.specs.declared.Request.{Request}
 use Rattle.sas_outputs.specs.declared.Request.TheVariants.{Plan, Mutex}
 use Rattle.sas_outputs.specs.Headline.{Solves, Headline, Invariants}
-use Rattle.sas_outputs.specs.Output.{word_of, refusal, refusal_line}
-use Rattle.sas_requests.specs.Why.{is_reason, without_reasons, OutOfRead, OutWhy, IsSameAnswer, SameAnswer, OneWhyOutput, SomeWhyOutput, NoneWhyIsLong}
+use Rattle.sas_outputs.specs.Output.{word_of, refusal, refusal_line, HasOneOutput, IsLong}
+use Rattle.sas_requests.specs.Why.{is_reason, without_reasons, OutOfRead, OutWhy, WithReasons, IsSameAnswer, SameAnswer}
+use Rattle.sas_requests.specs.FileReasons.{RefusalReasons}
 use Rattle.sas_outputs.proofs.Headlines.{sent_same, headline_of}
+use Rattle.sas_outputs.proofs.PlanOutputs.{output_of}
 use Rattle.sas_requests.proofs.InvariantGroups.{why_groups, invariants_of, reasons_apart}
 use Rattle.sas_requests.proofs.ReasonLines.{AreReasons, file_lines_tell}
 use Rattle.sas_requests.proofs.RefusalReasons.{no_reasons, none_of, some_of, IsFileRefusal, stand_behind}
-use Rattle.sas_requests.proofs.RefusalLaws.{one_reasons, some_reasons}
+use Rattle.sas_requests.proofs.RefusalLaws.{HasOneList, reasons_of}
 use Rattle.sas_requests.proofs.SameAnswers.{same_of_read}
 use Rattle.sas_outputs.proofs.PlainLines.{file_words, file_plain, kind_plain}
 use Rattle.sas_requests.proofs.ToldLines.{IsTold, stays, first_stays, lines_of_first}
 use Rattle.sas_answers.proofs.WordedLines.{worded}
-use Rattle.sas_requests.proofs.WhyAnswers.{why_tells_valid, why_refuses}
-use Rattle.sas_requests.proofs.WhyLaws.{one_of_read, some_of_read, long_of_read}
+use Rattle.sas_requests.proofs.WhyAnswers.{one_why_verdict, some_why_verdict, why_tells_valid, why_refuses}
 
 -- ---- one output, always some, and none only where an input is too long
 
-pub one_why : OneWhyOutput
-one_why request b c o p x y =
-    let reasons = one_reasons request b c x.reasons y.reasons x.are_reasons y.are_reasons in
-    let read = one_of_read request b c x.of_read y.of_read x.is_out y.is_out in
-    x.whole
-    ∙ (ap (λ (r : List FileLine). option_map (with_reasons (file_text r)) x.of_read) reasons
-    ∙ (ap (λ (q : Option Output). option_map (with_reasons (file_text y.reasons)) q) read ∙ sym y.whole))
+module _ (IsOut : Option Output → Type 0) (Long : Type 0) (AreReasons : List FileLine → Type 0) (output : HasOneOutput IsOut Long) (list : HasOneList AreReasons) where
+  one_reasoned : (o p : Option Output) → WithReasons IsOut AreReasons o → WithReasons IsOut AreReasons p → o ≡ p
+  one_reasoned o p x y =
+      let reasons = list.one x.reasons y.reasons x.are_reasons y.are_reasons in
+      let read = output.one x.of_read y.of_read x.is_out y.is_out in
+      x.whole
+      ∙ (ap (λ (r : List FileLine). option_map (with_reasons (file_text r)) x.of_read) reasons
+      ∙ (ap (λ (q : Option Output). option_map (with_reasons (file_text y.reasons)) q) read ∙ sym y.whole))
 
-pub some_why : SomeWhyOutput
-some_why request b c none =
-    some_of_read request b c (λ q out. some_reasons request b c (λ reasons why.
-    none (option_map (with_reasons (file_text reasons)) q) (record { of_read = q; reasons = reasons; is_out = out; are_reasons = why; whole = refl })))
+  reasoned_output : HasOneOutput (WithReasons IsOut AreReasons) Long
+  reasoned_output = record {
+    one = one_reasoned;
+    some = λ none. output.some (λ q out. list.some (λ reasons why.
+        none (option_map (with_reasons (file_text reasons)) q) (record { of_read = q; reasons = reasons; is_out = out; are_reasons = why; whole = refl })));
+    long = λ out. output.long (subst IsOut (none_of (file_text out.reasons) out.of_read out.whole) out.is_out);
+  }
 
-pub long_why : NoneWhyIsLong
-long_why request b c out = long_of_read request b c (subst (OutOfRead request b c) (none_of (file_text out.reasons) out.of_read out.whole) out.is_out)
+pub why_output : (request : Request) (b c : List ℕ) → HasOneOutput (OutWhy request b c) (IsLong request b c)
+why_output request b c =
+    let output = output_of WhyVerdict one_why_verdict some_why_verdict WhyCheckAnswer WhyMutexAnswer one_why_check some_why_check one_why_mutex some_why_mutex why_refusal why_refuses request b c in
+    reasoned_output (OutOfRead request b c) (IsLong request b c) (RefusalReasons request b c) output (reasons_of request b c)
 
 -- ---- the refusal of a file is one line
 

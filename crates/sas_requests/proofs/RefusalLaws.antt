@@ -1,10 +1,6 @@
 -- Why a file is refused: one list of reasons, and always some.
-use Rattle.std.proofs.Common.{◌≡◌, ◌≢◌, ℕ, List, [], ◌∷◌, length, take, refl, sym, ap, subst, ◌∙◌, inl, inr, Option, Some, None, Result, Ok, Err}
+use Rattle.std.proofs.Common.{◌≡◌, ◌≢◌, ℕ, List, [], ◌∷◌, length, take, refl, sym, ap, subst, ◌∙◌, inl, inr, Option, Result, Ok, Err}
 use Rattle.std.specs.Prelude.{nat_lt}
-use Rattle.sas_core.specs.declared.parts.Parts.{Parts}
-use Rattle.sas_core.specs.FirstFault.{first_fault}
-use Rattle.sas_meaning.specs.declared.layered.LayerFault.{LayerFault}
-use Rattle.sas_meaning.specs.LayerChecks.{layer_checks}
 use Rattle.sas_lines.specs.Lines.{lines, unfinished}
 use Rattle.sas_reader.specs.declared.fault.Fault.{Fault}
 use Rattle.sas_reader.specs.declared.fault.Kind.{Kind}
@@ -31,7 +27,8 @@ use Rattle.sas_outputs.specs.FileLine.{FileLine}
 use Rattle.sas_outputs.specs.FileReasons.{task_reasons}
 use Rattle.sas_outputs.specs.declared.Request.{Request}
 use Rattle.sas_outputs.specs.declared.Request.TheVariants.{Show, Print, Steps, Check, Plan, Mutex}
-use Rattle.sas_requests.specs.FileReasons.{FaultReasons, told, past_limit, ReadReasons, FileReasons, AreTaskReasons, ArePlanReasons, LayersFileReasons, JudgedFileReasons, FilesReasons, RefusalReasons}
+use Rattle.sas_requests.specs.FileReasons.{FaultReasons, told, past_limit, ReadReasons, FileReasons, AreTaskReasons, ArePlanReasons, TaskFileReasons, PlanFileReasons, RefusalReasons}
+use Rattle.sas_outputs.specs.Output.{IsLayeredText}
 use Rattle.sas_outputs.proofs.Outputs.{Worded, plan_worded, task_worded}
 
 pub task_telling : AboutLaws task_format
@@ -110,57 +107,38 @@ some_task_telling bytes f begun found h =
 
 -- ---- the files of a request
 
-worded_plan : Worded plan_format
-worded_plan s line k = plan_worded line k
+-- exactly one list of reasons has this property
+pub record HasOneList (AreReasons : List FileLine → Type 0) : Type 0 where
+  pub one : (r s : List FileLine) → AreReasons r → AreReasons s → r ≡ s
+  pub some : ((r : List FileLine) → AreReasons r → ⊥) → ⊥
 
-one_task : (b : List ℕ) (r s : List FileLine) → FileReasons task_format AreTaskReasons b r → FileReasons task_format AreTaskReasons b s → r ≡ s
-one_task = one_file task_format AreTaskReasons task_laws_hold task_telling task_worded one_task_telling
+of_task : (b : List ℕ) → HasOneList (TaskFileReasons b)
+of_task b = record {
+  one = one_file task_format AreTaskReasons task_laws_hold task_telling task_worded one_task_telling b;
+  some = some_file task_format AreTaskReasons task_laws_hold task_telling task_worded some_task_telling b;
+}
 
-one_plan : (c : List ℕ) (r s : List FileLine) → FileReasons plan_format ArePlanReasons c r → FileReasons plan_format ArePlanReasons c s → r ≡ s
-one_plan = one_file plan_format ArePlanReasons plan_laws_hold plan_telling worded_plan (λ kind begun found r s x y. x ∙ sym y)
+of_plan : (c : List ℕ) → HasOneList (PlanFileReasons c)
+of_plan c = record {
+  one = one_file plan_format ArePlanReasons plan_laws_hold plan_telling plan_worded (λ kind begun found r s x y. x ∙ sym y) c;
+  some = some_file plan_format ArePlanReasons plan_laws_hold plan_telling plan_worded (λ bytes f begun found h. (_, refl)) c;
+}
 
-one_layers : (first : Option LayerFault) (c : List ℕ) (r s : List FileLine) → LayersFileReasons first c r → LayersFileReasons first c s → r ≡ s
-one_layers (Some fault) c r s x y = x ∙ sym y
-one_layers None c r s x y = one_plan c r s x y
+one_of_both : (b c : List ℕ) (r s : List FileLine) → RefusalReasons Plan b c r → RefusalReasons Plan b c s → r ≡ s
+one_of_both b c r s (inl x) (inl y) = (of_plan c).one r s x.1 y.1
+one_of_both b c r s (inl x) (inr y) = absurd (y.0 x.0)
+one_of_both b c r s (inr x) (inl y) = absurd (x.0 y.0)
+one_of_both b c r s (inr x) (inr y) = (of_task b).one r s x.1 y.1
 
-one_judged : (b : List ℕ) (read : Result Parts Fault) (c : List ℕ) (r s : List FileLine) → JudgedFileReasons b read c r → JudgedFileReasons b read c s → r ≡ s
-one_judged b (Err f) c r s x y = one_fault task_format AreTaskReasons task_laws_hold task_telling task_worded one_task_telling b f r s x y
-one_judged b (Ok p) c r s x y = one_layers (first_fault (layer_checks p)) c r s x y
+some_of_both : (b c : List ℕ) → ((r : List FileLine) → RefusalReasons Plan b c r → ⊥) → ⊥
+some_of_both b c none =
+    let other : IsLayeredText b → ⊥ = λ layered. (of_plan c).some (λ r why. none r (inl (layered, why))) in
+    (of_task b).some (λ r why. none r (inr (other, why)))
 
-one_files : (b c : List ℕ) (r s : List FileLine) → FilesReasons b c r → FilesReasons b c s → r ≡ s
-one_files b c r s x y =
-    let same = task_laws_hold.one_reading most_bytes b y.0 x.0 y.1 x.1 in
-    one_judged b x.0 c r s x.2 (subst (λ (q : Result Parts Fault). JudgedFileReasons b q c s) same y.2)
-
-pub one_reasons : (request : Request) (b c : List ℕ) (r s : List FileLine) → RefusalReasons request b c r → RefusalReasons request b c s → r ≡ s
-one_reasons Show b c = one_task b
-one_reasons Print b c = one_task b
-one_reasons Steps b c = one_plan c
-one_reasons Check b c = one_task b
-one_reasons Plan b c = one_files b c
-one_reasons Mutex b c = one_task b
-
-some_task : (b : List ℕ) → ((r : List FileLine) → FileReasons task_format AreTaskReasons b r → ⊥) → ⊥
-some_task = some_file task_format AreTaskReasons task_laws_hold task_telling task_worded some_task_telling
-
-some_plan : (c : List ℕ) → ((r : List FileLine) → FileReasons plan_format ArePlanReasons c r → ⊥) → ⊥
-some_plan = some_file plan_format ArePlanReasons plan_laws_hold plan_telling worded_plan (λ bytes f begun found h. (_, refl))
-
-some_layers : (first : Option LayerFault) (c : List ℕ) → ((r : List FileLine) → LayersFileReasons first c r → ⊥) → ⊥
-some_layers (Some fault) c none = none [] refl
-some_layers None c none = some_plan c none
-
-some_judged : (b : List ℕ) (read : Result Parts Fault) (c : List ℕ) → ReadsAs task_format most_bytes b read → ((r : List FileLine) → JudgedFileReasons b read c r → ⊥) → ⊥
-some_judged b (Err f) c reads none = let r = some_fault task_format AreTaskReasons task_laws_hold task_telling task_worded some_task_telling b f reads in none r.0 r.1
-some_judged b (Ok p) c reads none = some_layers (first_fault (layer_checks p)) c none
-
-some_files : (b c : List ℕ) → ((r : List FileLine) → FilesReasons b c r → ⊥) → ⊥
-some_files b c none = task_laws_hold.some_reading most_bytes b (λ read reads. some_judged b read c reads (λ r why. none r (read, reads, why)))
-
-pub some_reasons : (request : Request) (b c : List ℕ) → ((r : List FileLine) → RefusalReasons request b c r → ⊥) → ⊥
-some_reasons Show b c = some_task b
-some_reasons Print b c = some_task b
-some_reasons Steps b c = some_plan c
-some_reasons Check b c = some_task b
-some_reasons Plan b c = some_files b c
-some_reasons Mutex b c = some_task b
+pub reasons_of : (request : Request) (b c : List ℕ) → HasOneList (RefusalReasons request b c)
+reasons_of Show b c = of_task b
+reasons_of Print b c = of_task b
+reasons_of Steps b c = of_plan c
+reasons_of Check b c = of_task b
+reasons_of Plan b c = record { one = one_of_both b c; some = some_of_both b c }
+reasons_of Mutex b c = of_task b
