@@ -16,9 +16,16 @@ use Rattle.sas_task_format.specs.TaskFormat.{task_format, TaskSlot, word_slot, n
 use Rattle.sas_plan_file.proofs.PlanLaws.{plan_laws_hold}
 use Rattle.sas_task_format.proofs.TaskLaws.{task_laws_hold}
 use Rattle.sas_reader.specs.Devices.{Refuses, unread_at, ended_at, faulty_at}
+use Rattle.sas_output.specs.declared.ending.Status.{Status}
 use Rattle.sas_output.specs.Ending.{Output}
 use Rattle.sas_answers.proofs.AnswerLaws.{OneAnswer, SomeAnswer}
 use Rattle.sas_outputs.specs.Output.{word_of, refusal, IsAnswerOrRefusal, FileOut, TaskOut, HasOneOutput}
+
+-- outputs are equal if their texts and statuses are
+pub same_output : (o q : Output) → o.text ≡ q.text → o.status ≡ q.status → o ≡ q
+same_output o q text status =
+    let one : o ≡ record { text = q.text; status = o.status } = ap (λ (x : List ℕ). let y : Output = record { text = x; status = o.status } in y) text in
+    one ∙ ap (λ (x : Status). let y : Output = record { text = q.text; status = x } in y) status
 
 -- no word, no refusal
 no_word : (word : Option (List ℕ)) (said : List ℕ → Output) → None ≡ option_map said word → word ≡ None

@@ -6,10 +6,10 @@ use Rattle.sas_lines.specs.Lines.{text}
 use Rattle.sas_reader.specs.declared.fault.Fault.{Fault}
 use Rattle.sas_output.specs.Ending.{Output}
 use Rattle.sas_answers.specs.Answers.{VerdictAnswer}
-use Rattle.sas_outputs.specs.Output.{IsAnswerOrRefusal}
+use Rattle.sas_outputs.specs.Output.{IsAnswerOrRefusal, PlanOut}
 use Rattle.sas_trace.specs.Trace.{run_lines}
 use Rattle.sas_trace.specs.Traced.{EndsWith, TraceVerdict}
-use Rattle.sas_requests.specs.TraceOut.{EndsAsPlan}
+use Rattle.sas_requests.specs.TraceOut.{EndsAsPlan, TraceOut}
 
 -- the output is some lines, and behind them this one, with its status
 pub record EndsAs (traced plain : Output) : Type 0 where
@@ -33,8 +33,10 @@ module _ (p : Parts) where
       (t.verdict, (t.verdict, verdict_of plan o t t.ends, refl), record { front = run_lines p t.run; whole = t.whole; status = t.status })
   plan_ends (Err fault) o is = (o, is, itself o)
 
+pub trace_ends : (b c : List ℕ) (traced : Output) → TraceOut b c (Some traced) → (plain : Output) × PlanOut b c (Some plain) × EndsAs traced plain
+trace_ends b c traced (inl refused) = (traced, inl refused, itself traced)
+trace_ends b c traced (inr (p, reads, layered, (read, reads_plan, out))) =
+    let (plain, its, ends) = plan_ends p read traced out in (plain, inr (p, reads, layered, (read, reads_plan, its)), ends)
+
 pub ends_as_plan : EndsAsPlan
-ends_as_plan b c traced (inl refused) = (traced, inl refused, [], refl, refl)
-ends_as_plan b c traced (inr (p, reads, layered, (read, reads_plan, out))) =
-    let (plain, its, ends) = plan_ends p read traced out in
-    (plain, inr (p, reads, layered, (read, reads_plan, its)), text ends.front, ends.whole, ends.status)
+ends_as_plan b c traced out = let (plain, its, ends) = trace_ends b c traced out in (plain, its, text ends.front, ends.whole, ends.status)
