@@ -1,5 +1,5 @@
 -- The answer about a task and plans, by what came of opening the task.
-use Rattle.std.proofs.Common.{◌≡◌, ℕ, List, [], ◌++◌, length, codes, refl, sym, ap, subst, ◌∙◌, inl, inr, Option, Some, None, Result, Ok, Err}
+use Rattle.std.proofs.Common.{◌≡◌, ℕ, List, [], ◌++◌, length, refl, sym, ap, subst, ◌∙◌, inl, inr, Option, Some, None, Result, Ok, Err}
 use Rattle.std.specs.Prelude.{zip, IfSome}
 use Rattle.std.proofs.lemmas.Option.{same_Some}
 use Rattle.sas_core.specs.declared.parts.Parts.{Parts}
