@@ -118,7 +118,8 @@ module _ (Verdict : Parts → PlanParts → Output → Type 0) where
 
   -- the output for the bytes b of the task and c of the plan; only the plan of a layered task is
   -- judged
-  abbrev pub PlanOutBy : (Parts → LayerFault → Option Output) → List ℕ → List ℕ → Option Output → Type 0
+  abbrev pub PlanOutBy : (Parts → LayerFault → Option Output) → List ℕ → List ℕ → Option Output
+      → Type 0
   PlanOutBy refused b c = LayeredOut refused (λ p. VerdictOut p c) b
 
 -- the output of `plan`
@@ -128,7 +129,8 @@ PlanOut = PlanOutBy VerdictAnswer plain_refusal
 -- The output of a request for the bytes b of the task and c of the plan, or none if the file that
 -- decides it is too long. It is made of the answers about a task's layers, about its groups and
 -- about a plan, and of the refusal of a task that isn't layered.
-module _ (OfLayers OfGroups : Parts → Output → Type 0) (OfPlan : Parts → PlanParts → Output → Type 0)
+module _ (OfLayers OfGroups : Parts → Output → Type 0)
+    (OfPlan : Parts → PlanParts → Output → Type 0)
     (refused : Parts → LayerFault → Option Output) where
   abbrev pub OutOf : Request → List ℕ → List ℕ → Option Output → Type 0
   OutOf Show b c output = ShowOut b output
@@ -173,8 +175,8 @@ IsLong request b c = most_bytes < length b
 
 -- ---- laws
 
--- `IsOut` holds of one output: not of two, and it can't be that it holds of none. Nothing is printed
--- only if an input exceeds the limit.
+-- `IsOut` holds of one output: not of two, and it can't be that it holds of none. Nothing is
+-- printed only if an input exceeds the limit.
 pub record HasOneOutput (IsOut : Option Output → Type 0) (TooLong : Type 0) : Type 0 where
   pub one : (o p : Option Output) → IsOut o → IsOut p → o ≡ p
   pub some : ((o : Option Output) → IsOut o → ⊥) → ⊥

@@ -81,7 +81,8 @@ ReasonedBy detail IsOut AreReasons output = IsOut output
 module _ {V I S : Type 0} (F : Format V I S)
     (Explains : Kind → List (List ℕ) → List ℕ → List FileLine → Type 0) (name : List ℕ) where
   abbrev pub FileBy : Detail → (V → Output → Type 0) → List ℕ → Option Output → Type 0
-  FileBy detail IsAnswer b = ReasonedBy detail (FileOut F name IsAnswer b) (FileReasons F Explains b)
+  FileBy detail IsAnswer b =
+      ReasonedBy detail (FileOut F name IsAnswer b) (FileReasons F Explains b)
 
 abbrev pub TaskBy : Detail → (Parts → Output → Type 0) → List ℕ → Option Output → Type 0
 TaskBy = FileBy task_format AreTaskReasons (codes "task")
