@@ -1,5 +1,5 @@
 -- What is told follows from how a run ended.
-use Rattle.std.proofs.Common.{◌≡◌, ℕ, ◌<◌, List, [], ◌++◌, length, take, drop, codes, arith, refl, sym, ap, subst, ◌∙◌, Option, Some, None, Ok, Err}
+use Rattle.std.proofs.Common.{◌≡◌, ℕ, ◌<◌, List, [], ◌++◌, length, take, drop, codes, arith, refl, sym, ap, subst, ◌∙◌, inr, Option, Some, None, Result, Ok, Err}
 use Rattle.std.specs.Prelude.{IfSome}
 use Rattle.std.specs.Io.KnownBytes.{Appends}
 use Rattle.sas_core.specs.declared.parts.Parts.{Parts}
@@ -14,7 +14,7 @@ use Rattle.sas_output.specs.declared.ending.Status.TheVariants.{Yes, No}
 use Rattle.sas_output.specs.declared.ending.ToolFault.{ToolFault}
 use Rattle.sas_output.specs.declared.ending.ToolFault.TheVariants.{Memory, Read, TooLong, Write}
 use Rattle.sas_output.specs.declared.told.Told.{Told}
-use Rattle.sas_output.specs.Ending.{Output, Ends, EndsCounting, output_told}
+use Rattle.sas_output.specs.Ending.{Output, EndsCounting, output_told}
 use Rattle.sas_answers.specs.Answers.{layers_verdict, VerdictAnswer}
 use Rattle.sas_core.specs.PlanParts.{PlanParts}
 use Rattle.sas_why.specs.Verdict.{WhyVerdict}
@@ -22,9 +22,10 @@ use Rattle.sas_trace.specs.Traced.{TraceVerdict}
 use Rattle.sas_outputs.specs.declared.Request.{Request}
 use Rattle.sas_outputs.specs.declared.Request.TheVariants.{Plan, Mutex}
 use Rattle.sas_outputs.specs.Headline.{Headline, Invariants}
-use Rattle.sas_outputs.specs.Output.{CheckOut, FileOut, PlanOut, PlanOutBy, VerdictOut, plain_refusal}
+use Rattle.sas_outputs.specs.Output.{CheckOut, FileOut, PlanOut, PlanOutBy, VerdictOut}
+use Rattle.sas_outputs.proofs.Outputs.{same_output}
 use Rattle.sas_outputs.proofs.Headlines.{TellsValid, headline_of}
-use Rattle.sas_outputs.proofs.PlanOutputs.{Refuses, judged_out}
+use Rattle.sas_outputs.proofs.PlanOutputs.{Refuses}
 use Rattle.sas_requests.proofs.InvariantGroups.{TellsGroups, invariants_of}
 use Rattle.sas_requests.proofs.ReasonedOutputs.{headline_why, invariants_why}
 use Rattle.sas_requests.proofs.RequestEnds.{judged_by}
@@ -37,6 +38,7 @@ use Rattle.sas_plans.specs.Opened.{Opens}
 use Rattle.sas_requests.specs.TraceOut.{TraceOut}
 use Rattle.sas_c.specs.declared.prepared.Prepared.{Prepared}
 use Rattle.sas_c.specs.Holding.{HoldsTask}
+use Rattle.sas_c.specs.Written.{IsWritten}
 use Rattle.sas_c.specs.Telling.{Returns, ReturnsHeadline, EndsInLine, ReturnsLastLine, ReturnsInvariants, number_of_fault, number_of_status}
 use Rattle.sas_c.proofs.TracedPlans.{traced_headline}
 
@@ -116,9 +118,6 @@ module _ (Out : Option Output → Type 0) (room : List ℕ) (size : ℕ) where
   pub tells_fault : (why : ToolFault) (number : ℕ) → number ≡ number_of_fault why → (why ≡ TooLong → Out None) → Returns Out room room size number
   tells_fault why number is long = subst (λ (n : ℕ). Returns Out room room size n) (sym is) (by_fault why long)
 
-  pub ends_fault : (Sent : List ℕ → Type 0) (why : ToolFault) (number : ℕ) → number ≡ number_of_fault why → EndsCounting Out Sent (Err why) → Returns Out room room size number
-  ends_fault Sent why number is ends = tells_fault why number is (λ long. subst (λ (w : ToolFault). EndsCounting Out Sent (Err w)) long ends)
-
 -- ---- what is told of one output is told of another that follows from it
 
 module _ (A B : Option Output → Type 0) (to : (o : Option Output) → A o → B o) (before room : List ℕ) (size number : ℕ) where
@@ -142,13 +141,16 @@ tells_same text other status before room size number same t = subst (λ (xs : Li
 pub tells_output : (Out : Option Output → Type 0) (o : Output) → Out (Some o) → (before room : List ℕ) (size number : ℕ) → Returns (λ x. x ≡ Some o) before room size number → Returns Out before room size number
 tells_output Out o is before room size number t = tells_by (λ x. x ≡ Some o) Out (λ x e. subst Out (sym e) is) before room size number t
 
--- what a writer into empty memory was given is told
-pub tells_ended : (Out : Option Output → Type 0) (was items text : List ℕ) (status : Status) (before room : List ℕ) (size number : ℕ) → was ≡ [] → text ≡ items
-    → Ends Out (Appends (Some was) (Some items)) (Ok status) → Returns (λ o. o ≡ Some (record { text = text; status = status })) before room size number → Returns Out before room size number
-tells_ended Out was items text status before room size number empty same ends t =
-    let all : text ≡ (ends.0).text = same ∙ ends.3 ∙ ap (λ (xs : List ℕ). xs ++ (ends.0).text) empty in
-    let out : Some (record { text = text; status = status }) ≡ Some ends.0 = λ i. Some (record { text = all i; status = ends.2 i }) in
-    tells_by (λ o. o ≡ Some (record { text = text; status = status })) Out (λ o e. subst Out (sym (e ∙ out)) ends.1) before room size number t
+-- what was written into memory is the output
+module _ (Out : Option Output → Type 0) (was items : List ℕ) (empty : was ≡ []) where
+  written : (r : Result Status ToolFault) → EndsCounting Out (Appends (Some was) (Some items)) r → (o : Option Output) → IsWritten items r o → Out o
+  written (Ok status) (output, out, same, sent) o is =
+      let all : items ≡ output.text = sent ∙ ap (λ (xs : List ℕ). xs ++ output.text) empty in
+      subst Out (sym (is ∙ ap Some (same_output (record { text = items; status = status }) output all same))) out
+  written (Err why) ends o (long, is) = subst Out (sym is) (subst (λ (w : ToolFault). EndsCounting Out (Appends (Some was) (Some items)) (Err w)) long ends)
+
+  pub tells_ended : (r : Result Status ToolFault) (before room : List ℕ) (size number : ℕ) → EndsCounting Out (Appends (Some was) (Some items)) r → Returns (IsWritten items r) before room size number → Returns Out before room size number
+  tells_ended r before room size number ends = tells_by (IsWritten items r) Out (written r ends) before room size number
 
 -- what is told of what was asked is told of the same request and bytes
 pub asked_told : (F : Request → List ℕ → List ℕ → Option Output → Type 0) (asked request : Request) (task b plan c before room : List ℕ) (size number : ℕ)
@@ -186,16 +188,16 @@ module _ (For : Parts → Option Output → Type 0) (Out : Option Output → Typ
 
 module _ (b c before room : List ℕ) (size number : ℕ) (held : Option Prepared) (holds : HoldsTask b held) where
   pub plan_told : IfSome held (λ prepared. Returns (VerdictOut VerdictAnswer prepared.held c) before room size number) → Returns (PlanOut b c) before room size number
-  plan_told t = held_told (λ p. VerdictOut VerdictAnswer p c) (PlanOut b c) b before room size number (λ p layered reads. judged_out VerdictAnswer plain_refusal p layered b c reads) held holds t
+  plan_told t = held_told (λ p. VerdictOut VerdictAnswer p c) (PlanOut b c) b before room size number (λ p layered reads o out. inr (p, reads, layered, out)) held holds t
 
   abbrev PlanWhy : Parts → Option Output → Type 0
   PlanWhy p = WithReasons (VerdictOut WhyVerdict p c) (PlanFileReasons c)
 
   pub why_told : IfSome held (λ prepared. Returns (PlanWhy prepared.held) before room size number) → Returns (OutWhy Plan b c) before room size number
-  why_told t = held_told PlanWhy (OutWhy Plan b c) b before room size number (λ p layered reads. judged_by Reasons p layered b c reads) held holds t
+  why_told t = held_told PlanWhy (OutWhy Plan b c) b before room size number (λ p layered reads o. judged_by Reasons b c o p layered reads) held holds t
 
   pub trace_told : IfSome held (λ prepared. Returns (VerdictOut TraceVerdict prepared.held c) before room size number) → Returns (TraceOut b c) before room size number
-  trace_told t = held_told (λ p. VerdictOut TraceVerdict p c) (TraceOut b c) b before room size number (λ p layered reads. judged_out TraceVerdict plain_refusal p layered b c reads) held holds t
+  trace_told t = held_told (λ p. VerdictOut TraceVerdict p c) (TraceOut b c) b before room size number (λ p layered reads o out. inr (p, reads, layered, out)) held holds t
 
 -- ---- which mutex groups are exclusive
 

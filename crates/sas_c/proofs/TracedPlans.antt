@@ -1,24 +1,19 @@
 -- Behind a trace stands, as its last line, whether the plan solves the task.
-use Rattle.std.proofs.Common.{◌≡◌, ℕ, List, [], ◌∷◌, ◌++◌, codes, decimal, refl, sym, ap, ◌∙◌, Option, Some, None, Result, Ok, Err}
+use Rattle.std.proofs.Common.{◌≡◌, ℕ, List, [], ◌∷◌, ◌++◌, codes, decimal, refl, sym, ap, ◌∙◌, inl, inr, Some}
 use Rattle.std.proofs.lemmas.List.{same_from_push}
-use Rattle.sas_core.specs.declared.parts.Parts.{Parts}
-use Rattle.sas_core.specs.FirstFault.{first_fault}
-use Rattle.sas_meaning.specs.declared.layered.LayerFault.{LayerFault}
-use Rattle.sas_meaning.specs.LayerChecks.{layer_checks}
 use Rattle.sas_lines.specs.Lines.{lines, text}
 use Rattle.sas_lines.proofs.Splitting.{lines-append, lines-one, unfinished-text}
-use Rattle.sas_reader.specs.declared.fault.Fault.{Fault}
 use Rattle.sas_reader.proofs.Plain.{plain}
 use Rattle.sas_output.specs.Ending.{Output}
 use Rattle.sas_answers.specs.Answers.{VerdictAnswer}
 use Rattle.sas_answers.specs.PlanWords.{valid_line}
 use Rattle.sas_outputs.specs.Headline.{Headline}
-use Rattle.sas_outputs.specs.Output.{LayersOut, JudgedOut, plain_refusal}
+use Rattle.sas_outputs.specs.Output.{PlanOut, plain_refusal}
 use Rattle.sas_outputs.proofs.Headlines.{tells_valid, headline_of}
 use Rattle.sas_outputs.proofs.PlanOutputs.{plain_refuses}
 use Rattle.sas_requests.specs.TraceOut.{TraceOut}
-use Rattle.sas_requests.proofs.TraceLaws.{judged_ends}
-use Rattle.sas_plans.proofs.PlanLines.{IsLine, valid_plain, verdict_line, file_refusal, layers_refused}
+use Rattle.sas_requests.proofs.TraceLaws.{trace_ends}
+use Rattle.sas_plans.proofs.PlanLines.{IsLine, valid_plain, verdict_line, task_refused}
 use Rattle.sas_c.specs.Telling.{EndsInLine}
 
 -- ---- the last line of a text
@@ -44,21 +39,17 @@ same_last front other a b is_a is_b e =
 valid_is_line : (steps cost : ℕ) → IsLine (valid_line steps cost)
 valid_is_line steps cost = record { line = codes "plan valid: " ++ decimal steps ++ codes " steps, cost " ++ decimal cost; plain = valid_plain steps cost; is = refl }
 
-layers_line : (p : Parts) (first : Option LayerFault) (c : List ℕ) (o : Output) → LayersOut VerdictAnswer plain_refusal p first c (Some o) → IsLine o.text
-layers_line p (Some fault) c o is = let r = layers_refused fault o (sym is) in record { line = r.line; plain = r.plain; is = r.is }
-layers_line p None c o out = verdict_line p c o out
-
-judged_line : (r : Result Parts Fault) (c : List ℕ) (o : Output) → JudgedOut VerdictAnswer plain_refusal r c (Some o) → IsLine o.text
-judged_line (Err fault) c o is = let r = file_refusal fault o (sym is) in record { line = r.line; plain = r.plain; is = r.is }
-judged_line (Ok p) c o out = layers_line p (first_fault (layer_checks p)) c o out
+plan_line : (b c : List ℕ) (o : Output) → PlanOut b c (Some o) → IsLine o.text
+plan_line b c o (inl refused) = let r = task_refused b o refused in record { line = r.line; plain = r.plain; is = r.is }
+plan_line b c o (inr (p, reads, layered, out)) = verdict_line p c o out
 
 -- ---- whether the plan solves the task
 
 pub traced_headline : (b c : List ℕ) (traced : Output) → TraceOut b c (Some traced) → Headline b c (EndsInLine traced.text) traced.status
-traced_headline b c traced (read, reads, out) =
-    let (plain, its, ends) = judged_ends read c traced out in
-    let told = headline_of VerdictAnswer plain_refusal tells_valid plain_refuses b c plain (read, reads, its) (Some []) (Some plain.text) [] traced.status refl ends.status refl in
-    let is_line = judged_line read c plain its in
+traced_headline b c traced out =
+    let (plain, its, ends) = trace_ends b c traced out in
+    let told = headline_of VerdictAnswer plain_refusal tells_valid plain_refuses b c plain its (Some []) (Some plain.text) [] traced.status refl ends.status refl in
+    let is_line = plan_line b c plain its in
     record {
       line = λ steps cost. (
         λ last. (told.line steps cost).0 (same_last ends.front last.0 plain.text (valid_line steps cost) is_line (valid_is_line steps cost) (sym ends.whole ∙ last.1)),

@@ -1,3 +1,4 @@
 pub mod TaskPointers
 pub mod Telling
 pub mod Holding
+pub mod Written

@@ -5,8 +5,7 @@ ghost use Rattle.sas_requests.specs.Why.{OutWhy};
 ghost use Rattle.sas_requests.specs.TraceOut.{TraceOut};
 ghost use Rattle.sas_c.specs.Telling.{Returns};
 
-use crate::numbers::number_without;
-use crate::telling::tell;
+use crate::telling::tell_ended;
 use sas_lines::Watched;
 use sas_requests::{Request, explain, run, trace};
 use std::alloc::Global;
@@ -42,10 +41,8 @@ pub fn answer(alloc: Global, asked: Asked<'_>, room: &mut [u8], size: &mut usize
     let mut task = Watched::new(asked.task);
     let mut plan = Watched::new(asked.plan);
     let mut text = Watched::new(Vec::new(alloc));
-    match run(alloc, asked.request, &mut task, &mut plan, &mut text) {
-        Ok(status) => tell(text.into_device().as_slice(), status, room, size),
-        Err(fault) => number_without(fault),
-    }
+    let ended = run(alloc, asked.request, &mut task, &mut plan, &mut text);
+    tell_ended(ended, text, room, size)
 }
 
 /// Writes the answer to the request, with the reasons for a no.
@@ -56,10 +53,8 @@ pub fn answer_why(alloc: Global, asked: Asked<'_>, room: &mut [u8], size: &mut u
     let mut task = Watched::new(asked.task);
     let mut plan = Watched::new(asked.plan);
     let mut text = Watched::new(Vec::new(alloc));
-    match explain(alloc, asked.request, &mut task, &mut plan, &mut text) {
-        Ok(status) => tell(text.into_device().as_slice(), status, room, size),
-        Err(fault) => number_without(fault),
-    }
+    let ended = explain(alloc, asked.request, &mut task, &mut plan, &mut text);
+    tell_ended(ended, text, room, size)
 }
 
 /// Writes the trace of the plan, and then the answer about it.
@@ -75,8 +70,6 @@ pub fn answer_trace(
     let mut task = Watched::new(task);
     let mut plan = Watched::new(plan);
     let mut text = Watched::new(Vec::new(alloc));
-    match trace(alloc, &mut task, &mut plan, &mut text) {
-        Ok(status) => tell(text.into_device().as_slice(), status, room, size),
-        Err(fault) => number_without(fault),
-    }
+    let ended = trace(alloc, &mut task, &mut plan, &mut text);
+    tell_ended(ended, text, room, size)
 }

@@ -13,7 +13,7 @@ ghost use Rattle.sas_c.specs.Holding.{HoldsTask};
 use crate::numbers::{NO_TASK, number_without};
 use crate::prepared::Prepared;
 use crate::sas_task::SasTask;
-use crate::telling::{tell, tell_told};
+use crate::telling::{tell_ended, tell_told};
 use sas_lines::Watched;
 use sas_plans::judge_bytes;
 use sas_requests::{Request, explain_bytes, trace_bytes};
@@ -137,10 +137,8 @@ fn explain(
         room.old room.new size.new result }
 {
     let mut text = Watched::new(Vec::new(alloc));
-    match explain_bytes(alloc, prepared.held.layered(), plan, &mut text) {
-        Ok(status) => tell(text.into_device().as_slice(), status, room, size),
-        Err(fault) => number_without(fault),
-    }
+    let ended = explain_bytes(alloc, prepared.held.layered(), plan, &mut text);
+    tell_ended(ended, text, room, size)
 }
 
 /// Writes the trace of the plan, and then whether it solves the task.
@@ -149,8 +147,6 @@ fn trace(alloc: Global, prepared: &Prepared, plan: &[u8], room: &mut [u8], size:
         room.old room.new size.new result }
 {
     let mut text = Watched::new(Vec::new(alloc));
-    match trace_bytes(alloc, prepared.held.layered(), plan, &mut text) {
-        Ok(status) => tell(text.into_device().as_slice(), status, room, size),
-        Err(fault) => number_without(fault),
-    }
+    let ended = trace_bytes(alloc, prepared.held.layered(), plan, &mut text);
+    tell_ended(ended, text, room, size)
 }

@@ -2,9 +2,11 @@
 ghost use Rattle.std.specs.Prelude.{◌≡◌, ◌<◌, length, take, drop, IsTrue, IsFalse, Some};
 ghost use Rattle.sas_output.specs.Ending.{output_told};
 ghost use Rattle.sas_c.specs.Telling.{Returns};
+ghost use Rattle.sas_c.specs.Written.{IsWritten};
 
-use crate::numbers::{ROOM_TOO_SHORT, number_of};
-use sas_output::{Status, Told};
+use crate::numbers::{ROOM_TOO_SHORT, number_of, number_without};
+use sas_lines::Watched;
+use sas_output::{Status, Told, ToolFault};
 
 /// Writes an answer with this text and this status. Returns the status as a number, or that the text is longer than the room.
 pub fn tell(text: &[u8], status: Status, room: &mut [u8], size: &mut usize) -> u32
@@ -26,6 +28,22 @@ pub fn tell_told(told: Told, room: &mut [u8], size: &mut usize) -> u32
     let number = tell(told.text.as_slice(), told.status, room, size);
     drop(told);
     number
+}
+
+/// Writes the answer of a run that wrote this text and ended so, or returns why there is none.
+pub fn tell_ended(
+    ended: Result<Status, ToolFault>,
+    text: Watched<Vec<u8>>,
+    room: &mut [u8],
+    size: &mut usize,
+) -> u32
+    ensures { Returns (IsWritten text.device.items ended)
+        room.old room.new size.new result }
+{
+    match ended {
+        Ok(status) => tell(text.into_device().as_slice(), status, room, size),
+        Err(fault) => number_without(fault),
+    }
 }
 
 /// Copies the text to the front of the room, if it fits. `size` gets its length in any case. Nothing else in the room changes.

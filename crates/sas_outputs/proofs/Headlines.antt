@@ -5,12 +5,9 @@ use Rattle.std.specs.Io.KnownBytes.{Appends}
 use Rattle.std.proofs.lemmas.Option.{none-some}
 use Rattle.std.proofs.lemmas.List.{append-nil, append_cancel_left}
 use Rattle.sas_core.specs.declared.parts.Parts.{Parts}
-use Rattle.sas_core.specs.FirstFault.{first_fault}
 use Rattle.sas_core.specs.PlanParts.{PlanParts}
 use Rattle.sas_meaning.specs.declared.layered.LayerFault.{LayerFault}
 use Rattle.sas_meaning.specs.Layers.{IsLayered}
-use Rattle.sas_meaning.specs.LayerChecks.{layer_checks}
-use Rattle.sas_meaning.proofs.LayerChecksAreRules.{checks_are_rules}
 use Rattle.sas_reader.specs.declared.fault.Fault.{Fault}
 use Rattle.sas_reader.specs.declared.fault.Kind.TheVariants.{TooLong}
 use Rattle.sas_reader.specs.Limit.{most_bytes}
@@ -28,10 +25,10 @@ use Rattle.sas_outputs.specs.Headline.{Solves, Headline}
 use Rattle.sas_answers.specs.LayerWords.{layer_words, layers_line}
 use Rattle.sas_answers.specs.Answers.{valid_answer, VerdictAnswer}
 use Rattle.sas_output.specs.Ending.{Output}
-use Rattle.sas_outputs.specs.Output.{word_of, refusal, refusal_line, IsAnswerOrRefusal, LayersOut, JudgedOut, PlanOutBy}
+use Rattle.sas_outputs.specs.Output.{word_of, refusal, refusal_line, IsAnswerOrRefusal, UnlayeredAnswer, VerdictOut, PlanOutBy}
 use Rattle.sas_answers.specs.PlanWords.{valid_line, fault_words, invalid_line}
 use Rattle.sas_outputs.proofs.Outputs.{refused_kind}
-use Rattle.sas_outputs.proofs.PlanOutputs.{IsRefusal, Refuses}
+use Rattle.sas_outputs.proofs.PlanOutputs.{IsRefusal, Refuses, not_refused}
 use Rattle.sas_answers.proofs.VerdictAnswers.{one_verdict_answer}
 use Rattle.sas_answers.proofs.WordedLines.{worded}
 
@@ -43,9 +40,9 @@ pub record IsOther (o : Output) : Type 0 where
   pub text : (steps cost : ℕ) → o.text ≡ valid_line steps cost → ⊥
 
 -- the answer is yes, and its line is that of a valid plan
-record IsSolved (b c : List ℕ) (o : Output) : Type 0 where
-  status : o.status ≡ Yes
-  solves : Solves b c o.text
+pub record IsSolved (b c : List ℕ) (o : Output) : Type 0 where
+  pub status : o.status ≡ Yes
+  pub solves : Solves b c o.text
 
 -- no line with words of its own is that of a valid plan
 other_words : (words : Option (List ℕ)) (line_of : List ℕ → List ℕ) (o : Output) → ((w : List ℕ) (steps cost : ℕ) → line_of w ≡ valid_line steps cost → ⊥)
@@ -118,6 +115,26 @@ sent_same None new before x y e f g = absurd (none-some before e)
 sent_same (Some xs) None before x y e f g = absurd f
 sent_same (Some xs) (Some ys) before x y e f g = append_cancel_left xs x y (sym f ∙ g)
 
+-- the headline follows from what an output tells, and from what it is for a plan that solves the task
+module _ (b c : List ℕ) (o : Output) (told : IsSolved b c o ⊎ IsOther o) (solved : (line : List ℕ) → Solves b c line → (o.status ≡ Yes) × (o.text ≡ line)) where
+  line_solves : (steps cost : ℕ) → o.text ≡ valid_line steps cost → IsSolved b c o ⊎ IsOther o → Solves b c (valid_line steps cost)
+  line_solves steps cost e (inl solved) = subst (λ (x : List ℕ). Solves b c x) e solved.solves
+  line_solves steps cost e (inr other) = absurd (other.text steps cost e)
+
+  yes_solves : o.status ≡ Yes → IsSolved b c o ⊎ IsOther o → (steps cost : ℕ) × Solves b c (valid_line steps cost)
+  yes_solves e (inl solved) =
+      (length solved.solves.plan.steps, solved.solves.plan.cost, subst (λ (x : List ℕ). Solves b c x) solved.solves.printed solved.solves)
+  yes_solves e (inr other) = let apart : Yes ≡ No = sym e ∙ other.status in absurd cc
+
+  pub headline_by : (old new : Option (List ℕ)) (before : List ℕ) (status : Status) → old ≡ Some before → status ≡ o.status → Appends old new o.text → Headline b c (Appends old new) status
+  headline_by old new before status known is sent = record {
+    line = λ steps cost. (
+      λ line. line_solves steps cost (sent_same old new before o.text (valid_line steps cost) known sent line) told,
+      λ solves. subst (Appends old new) (solved (valid_line steps cost) solves).1 sent,
+    );
+    yes = (λ e. yes_solves (sym is ∙ e) told, λ s. is ∙ (solved (valid_line s.0 s.1) s.2).0);
+  }
+
 module _ (Verdict : Parts → PlanParts → Output → Type 0) (refused : Parts → LayerFault → Option Output) (tells : TellsValid Verdict) (refuses : Refuses refused) where
   module _ (b c : List ℕ) (o : Output) where
     verdict_told : (p : Parts) (plan : PlanParts) → Reads task_texts b p → IsLayered p → Reads plan_texts c plan → Verdict p plan o → IsSolved b c o ⊎ IsOther o
@@ -145,14 +162,13 @@ module _ (Verdict : Parts → PlanParts → Output → Type 0) (refused : Parts 
     plan_told p (Err fault) is_task layered reads is =
         inr (other_words (word_of fault.kind) (refusal_line (codes "plan") fault.line) o (λ w steps cost. plan_refusal_apart fault.line steps cost w) (sym is))
 
-    layers_told : (p : Parts) (first : Option LayerFault) → Reads task_texts b p → (first ≡ None → IsLayered p) → LayersOut Verdict refused p first c (Some o) → IsSolved b c o ⊎ IsOther o
-    layers_told p (Some fault) is_task layered is = inr (refusal_other fault o (refuses.told p fault o (sym is)))
-    layers_told p None is_task layered out = plan_told p out.0 is_task (layered refl) out.1 out.2
+    refused_told : (r : Result Parts Fault) → IsAnswerOrRefusal (codes "task") (UnlayeredAnswer refused) r (Some o) → IsOther o
+    refused_told (Ok p) (answer, (fault, first, told), is) = refusal_other fault o (refuses.told p fault o (told ∙ sym is))
+    refused_told (Err fault) is = other_words (word_of fault.kind) (refusal_line (codes "task") fault.line) o (λ w steps cost. task_refusal_apart fault.line steps cost w) (sym is)
 
-    judged_told : (r : Result Parts Fault) → ReadsAs task_format most_bytes b r → JudgedOut Verdict refused r c (Some o) → IsSolved b c o ⊎ IsOther o
-    judged_told (Err fault) reads is =
-        inr (other_words (word_of fault.kind) (refusal_line (codes "task") fault.line) o (λ w steps cost. task_refusal_apart fault.line steps cost w) (sym is))
-    judged_told (Ok p) reads out = layers_told p (first_fault (layer_checks p)) reads.0 (checks_are_rules p).0 out
+    pub out_told : PlanOutBy Verdict refused b c (Some o) → IsSolved b c o ⊎ IsOther o
+    out_told (inl (r, reads, is)) = inr (refused_told r is)
+    out_told (inr (p, reads, layered, out)) = plan_told p out.0 reads.0 layered out.1 out.2
 
   module _ (b c line : List ℕ) (o : Output) (s : Solves b c line) where
     plan_answered : (r : Result PlanParts Fault) → r ≡ Ok s.plan → IsAnswerOrRefusal (codes "plan") (Verdict s.task) r (Some o) → o ≡ valid_answer s.plan
@@ -161,42 +177,24 @@ module _ (Verdict : Parts → PlanParts → Output → Type 0) (refused : Parts 
         let same : o ≡ answer = cc in
         same ∙ tells.valid s.task s.plan answer s.operators s.layered s.valid verdict
 
-    layered_answered : LayersOut Verdict refused s.task None c (Some o) → o ≡ valid_answer s.plan
-    layered_answered out =
+    verdict_answered : VerdictOut Verdict s.task c (Some o) → o ≡ valid_answer s.plan
+    verdict_answered out =
         plan_answered out.0
         (text_read plan_format plan_laws_hold c s.plan out.0 s.is_plan
         (λ f e. not_long (codes "plan") f o (subst (λ (x : Result PlanParts Fault). IsAnswerOrRefusal (codes "plan") (Verdict s.task) x (Some o)) e out.2)) out.1)
         out.2
 
     solved_answered : PlanOutBy Verdict refused b c (Some o) → o ≡ valid_answer s.plan
-    solved_answered out =
-        let read = text_read task_format task_laws_hold b s.task out.0 s.is_task (λ f e. not_long (codes "task") f o (subst (λ (x : Result Parts Fault). JudgedOut Verdict refused x c (Some o)) e out.2)) out.1 in
-        let judged = subst (λ (x : Result Parts Fault). JudgedOut Verdict refused x c (Some o)) read out.2 in
-        layered_answered (subst (λ (first : Option LayerFault). LayersOut Verdict refused s.task first c (Some o)) ((checks_are_rules s.task).1 s.layered) judged)
+    solved_answered (inl (r, reads, is)) =
+        let read = text_read task_format task_laws_hold b s.task r s.is_task
+        (λ f e. not_long (codes "task") f o (subst (λ (x : Result Parts Fault). IsAnswerOrRefusal (codes "task") (UnlayeredAnswer refused) x (Some o)) e is)) reads in
+        absurd (not_refused refused b (Some o) (r, reads, is) (s.task, subst (ReadsAs task_format most_bytes b) read reads, s.layered))
+    solved_answered (inr (p, reads, layered, out)) =
+        verdict_answered (subst (λ (x : Parts). VerdictOut Verdict x c (Some o)) (task_laws_hold.one_value b p s.task reads.0 s.is_task) out)
 
-    solved_status : PlanOutBy Verdict refused b c (Some o) → o.status ≡ Yes
-    solved_status out = ap (λ (x : Output). x.status) (solved_answered out)
+    pub out_solved : PlanOutBy Verdict refused b c (Some o) → (o.status ≡ Yes) × (o.text ≡ line)
+    out_solved out = let same = solved_answered out in (ap (λ (x : Output). x.status) same, ap (λ (x : Output). x.text) same ∙ sym s.printed)
 
-    solved_text : PlanOutBy Verdict refused b c (Some o) → o.text ≡ line
-    solved_text out = ap (λ (x : Output). x.text) (solved_answered out) ∙ sym s.printed
-
-  module _ (b c : List ℕ) (o : Output) (out : PlanOutBy Verdict refused b c (Some o)) where
-    line_solves : (steps cost : ℕ) → o.text ≡ valid_line steps cost → IsSolved b c o ⊎ IsOther o → Solves b c (valid_line steps cost)
-    line_solves steps cost e (inl solved) = subst (λ (x : List ℕ). Solves b c x) e solved.solves
-    line_solves steps cost e (inr other) = absurd (other.text steps cost e)
-
-    yes_solves : o.status ≡ Yes → IsSolved b c o ⊎ IsOther o → (steps cost : ℕ) × Solves b c (valid_line steps cost)
-    yes_solves e (inl solved) =
-        (length solved.solves.plan.steps, solved.solves.plan.cost, subst (λ (x : List ℕ). Solves b c x) solved.solves.printed solved.solves)
-    yes_solves e (inr other) = let apart : Yes ≡ No = sym e ∙ other.status in absurd cc
-
-    pub headline_of : (old new : Option (List ℕ)) (before : List ℕ) (status : Status) → old ≡ Some before → status ≡ o.status → Appends old new o.text → Headline b c (Appends old new) status
-    headline_of old new before status known is sent =
-        let told = judged_told b c o out.0 out.1 out.2 in
-        record {
-          line = λ steps cost. (
-            λ line. line_solves steps cost (sent_same old new before o.text (valid_line steps cost) known sent line) told,
-            λ solves. subst (Appends old new) (solved_text b c (valid_line steps cost) o solves out) sent,
-          );
-          yes = (λ e. yes_solves (sym is ∙ e) told, λ s. is ∙ solved_status b c (valid_line s.0 s.1) o s.2 out);
-        }
+  pub headline_of : (b c : List ℕ) (o : Output) → PlanOutBy Verdict refused b c (Some o) → (old new : Option (List ℕ)) (before : List ℕ) (status : Status)
+      → old ≡ Some before → status ≡ o.status → Appends old new o.text → Headline b c (Appends old new) status
+  headline_of b c o out = headline_by b c o (out_told b c o out) (λ line solves. out_solved b c line o solves out)

@@ -1,20 +1,31 @@
 -- Outputs about one file.
-use Rattle.std.proofs.Common.{◌≡◌, ◌≢◌, ℕ, ◌+◌, ◌<◌, List, [], ◌∷◌, length, length-append, arith, refl, sym, ap, subst, ◌∙◌, inl, inr, Option, Some, None, Result, Ok, Err}
+use Rattle.std.proofs.Common.{◌≡◌, ◌≢◌, ℕ, ◌+◌, ◌<◌, List, [], ◌∷◌, codes, length, length-append, arith, refl, sym, ap, subst, ◌∙◌, inl, inr, Option, Some, None, Result, Ok, Err}
 use Rattle.std.specs.Prelude.{option_map}
 use Rattle.std.specs.Io.KnownBytes.{Consumes}
 use Rattle.std.proofs.lemmas.Option.{none-some}
+use Rattle.sas_core.specs.declared.parts.Parts.{Parts}
+use Rattle.sas_core.specs.PlanParts.{PlanParts}
 use Rattle.sas_reader.specs.declared.fault.Fault.{Fault}
 use Rattle.sas_reader.specs.declared.fault.Kind.{Kind}
 use Rattle.sas_reader.specs.declared.fault.Kind.TheVariants.{TooLong, Read, Memory}
 use Rattle.sas_reader.specs.Limit.{most_bytes}
 use Rattle.sas_reader.specs.Format.{Format, FaultOf, KindAt, too_long, trailing, wrong, ReadsAs}
 use Rattle.sas_reader.specs.Laws.{Laws}
-use Rattle.sas_plan_file.specs.PlanFormat.{PlanKind, like_step, like_cost, like_none}
-use Rattle.sas_task_format.specs.TaskFormat.{TaskSlot, word_slot, name_slot, number_slot, signed_slot, fact_slot, effect_slot, head_slot, NumbersKind, no_shape, no_value, TaskKind}
+use Rattle.sas_plan_file.specs.PlanFormat.{plan_format, PlanKind, like_step, like_cost, like_none}
+use Rattle.sas_task_format.specs.TaskFormat.{task_format, TaskSlot, word_slot, name_slot, number_slot, signed_slot, fact_slot, effect_slot, head_slot, NumbersKind, no_shape, no_value}
+use Rattle.sas_plan_file.proofs.PlanLaws.{plan_laws_hold}
+use Rattle.sas_task_format.proofs.TaskLaws.{task_laws_hold}
 use Rattle.sas_reader.specs.Devices.{Refuses, unread_at, ended_at, faulty_at}
+use Rattle.sas_output.specs.declared.ending.Status.{Status}
 use Rattle.sas_output.specs.Ending.{Output}
 use Rattle.sas_answers.proofs.AnswerLaws.{OneAnswer, SomeAnswer}
-use Rattle.sas_outputs.specs.Output.{word_of, refusal, IsAnswerOrRefusal, FileOut}
+use Rattle.sas_outputs.specs.Output.{word_of, refusal, IsAnswerOrRefusal, FileOut, TaskOut, HasOneOutput}
+
+-- outputs are equal if their texts and statuses are
+pub same_output : (o q : Output) → o.text ≡ q.text → o.status ≡ q.status → o ≡ q
+same_output o q text status =
+    let one : o ≡ record { text = q.text; status = o.status } = ap (λ (x : List ℕ). let y : Output = record { text = x; status = o.status } in y) text in
+    one ∙ ap (λ (x : Status). let y : Output = record { text = q.text; status = x } in y) status
 
 -- no word, no refusal
 no_word : (word : Option (List ℕ)) (said : List ℕ → Output) → None ≡ option_map said word → word ≡ None
@@ -48,16 +59,19 @@ IsFaultOf F input f = f.kind ≢ Memory → f.kind ≢ Read → ReadsAs F most_b
 abbrev pub Worded : {V I S : Type 0} → Format V I S → Type 0
 Worded F = (s : _) (line : List ℕ) (k : Kind) → F.KindOf s line k → word_of k ≡ None → ⊥
 
-pub plan_worded : (line : List ℕ) (k : Kind) → PlanKind line k → word_of k ≡ None → ⊥
-plan_worded line k (like_step b) none = none-some _ (sym none)
-plan_worded line k (like_cost b) none = none-some _ (sym none)
-plan_worded line k (like_none a b) none = none-some _ (sym none)
+plan_kind_worded : (line : List ℕ) (k : Kind) → PlanKind line k → word_of k ≡ None → ⊥
+plan_kind_worded line k (like_step b) none = none-some _ (sym none)
+plan_kind_worded line k (like_cost b) none = none-some _ (sym none)
+plan_kind_worded line k (like_none a b) none = none-some _ (sym none)
+
+pub plan_worded : Worded plan_format
+plan_worded s line k = plan_kind_worded line k
 
 numbers_worded : (s : TaskSlot) (line : List ℕ) (k : Kind) → NumbersKind s line k → word_of k ≡ None → ⊥
 numbers_worded s line k (no_shape other) none = none-some _ (sym none)
 numbers_worded s line k (no_value shape) none = none-some _ (sym none)
 
-pub task_worded : (s : TaskSlot) (line : List ℕ) (k : Kind) → TaskKind s line k → word_of k ≡ None → ⊥
+pub task_worded : Worded task_format
 task_worded (word_slot w) line k e none = none-some _ (sym none ∙ ap word_of e)
 task_worded name_slot line k e none = none-some _ (sym none ∙ ap word_of e)
 task_worded number_slot line k why none = numbers_worded number_slot line k why none
@@ -73,24 +87,18 @@ module _ {V I S : Type 0} (F : Format V I S) (name : List ℕ) (IsAnswer : V →
   pub file_too_long : (f : Fault) → f.kind ≡ TooLong → IsFaultOf F bytes f → FileOut F name IsAnswer bytes None
   file_too_long f e fault = (Err f, fault (too_long_else f.kind Memory e (λ h. absurd cc)) (too_long_else f.kind Read e (λ h. absurd cc)), rw e refl)
 
-  -- the result of reading has one output if a value has one answer
-  one_reading_output : OneAnswer IsAnswer → (r : Result V Fault) (o p : Option Output) → IsAnswerOrRefusal name IsAnswer r o → IsAnswerOrRefusal name IsAnswer r p → o ≡ p
-  one_reading_output one (Ok value) o p a b = a.2 ∙ ap Some (one value a.0 b.0 a.1 b.1) ∙ sym b.2
-  one_reading_output one (Err fault) o p a b = a ∙ sym b
+  one_reading : OneAnswer IsAnswer → (r : Result V Fault) (o p : Option Output) → IsAnswerOrRefusal name IsAnswer r o → IsAnswerOrRefusal name IsAnswer r p → o ≡ p
+  one_reading one (Ok value) o p a b = a.2 ∙ ap Some (one value a.0 b.0 a.1 b.1) ∙ sym b.2
+  one_reading one (Err fault) o p a b = a ∙ sym b
 
-  pub one_file_output : Laws F → OneAnswer IsAnswer → (o p : Option Output) → FileOut F name IsAnswer bytes o → FileOut F name IsAnswer bytes p → o ≡ p
-  one_file_output laws one o p a b =
+  pub one_file : Laws F → OneAnswer IsAnswer → (o p : Option Output) → FileOut F name IsAnswer bytes o → FileOut F name IsAnswer bytes p → o ≡ p
+  one_file laws one o p a b =
       let same = laws.one_reading most_bytes bytes b.0 a.0 b.1 a.1 in
-      one_reading_output one a.0 o p a.2 (subst (λ (r : Result V Fault). IsAnswerOrRefusal name IsAnswer r p) same b.2)
+      one_reading one a.0 o p a.2 (subst (λ (r : Result V Fault). IsAnswerOrRefusal name IsAnswer r p) same b.2)
 
-  -- it has some output if a value has some answer
-  some_reading_output : SomeAnswer IsAnswer → (r : Result V Fault) → ((o : Option Output) → IsAnswerOrRefusal name IsAnswer r o → ⊥) → ⊥
-  some_reading_output some (Ok value) none = some value (λ answer is. none (Some answer) (answer, is, refl))
-  some_reading_output some (Err fault) none = none (refusal name fault) refl
-
-  pub some_file_output : Laws F → SomeAnswer IsAnswer → ((o : Option Output) → FileOut F name IsAnswer bytes o → ⊥) → ⊥
-  some_file_output laws some none =
-      laws.some_reading most_bytes bytes (λ r reads. some_reading_output some r (λ o is. none o (r, reads, is)))
+  some_reading : SomeAnswer IsAnswer → (r : Result V Fault) → ((o : Option Output) → IsAnswerOrRefusal name IsAnswer r o → ⊥) → ⊥
+  some_reading some (Ok value) none = some value (λ answer is. none (Some answer) (answer, is, refl))
+  some_reading some (Err fault) none = none (refusal name fault) refl
 
   too_long_at : Worded F → (before : List ℕ) (byte : ℕ) (k : Kind) → KindAt F most_bytes before byte k → word_of k ≡ None → most_bytes < length before + 1
   too_long_at worded before byte k (too_long long e) none = long
@@ -102,10 +110,32 @@ module _ {V I S : Type 0} (F : Format V I S) (name : List ℕ) (IsAnswer : V →
       let long = too_long_at worded fault.before fault.byte f.kind fault.kind none in
       rw fault.whole (omega (arith, length-append fault.before (fault.byte ∷ fault.after)))
 
-  no_output_reading : Worded F → (r : Result V Fault) → ReadsAs F most_bytes bytes r → IsAnswerOrRefusal name IsAnswer r None → most_bytes < length bytes
-  no_output_reading worded (Ok v) reads e = absurd (none-some _ e.2)
-  no_output_reading worded (Err f) (inl fault) e = too_long_fault worded f fault (no_word (word_of f.kind) _ e)
-  no_output_reading worded (Err f) (inr early) e = absurd (none-some _ (sym (no_word (word_of f.kind) _ e) ∙ ap word_of early.kind))
+  long_reading : Worded F → (r : Result V Fault) → ReadsAs F most_bytes bytes r → IsAnswerOrRefusal name IsAnswer r None → most_bytes < length bytes
+  long_reading worded (Ok v) reads e = absurd (none-some _ e.2)
+  long_reading worded (Err f) (inl fault) e = too_long_fault worded f fault (no_word (word_of f.kind) _ e)
+  long_reading worded (Err f) (inr early) e = absurd (none-some _ (sym (no_word (word_of f.kind) _ e) ∙ ap word_of early.kind))
 
-  pub no_file_output : Worded F → FileOut F name IsAnswer bytes None → most_bytes < length bytes
-  no_file_output worded out = no_output_reading worded out.0 out.1 out.2
+  pub long_file : Worded F → FileOut F name IsAnswer bytes None → most_bytes < length bytes
+  long_file worded out = long_reading worded out.0 out.1 out.2
+
+  -- the bytes of a file have one output if each value has one answer
+  pub file_output : Laws F → Worded F → OneAnswer IsAnswer → SomeAnswer IsAnswer → HasOneOutput (FileOut F name IsAnswer bytes) (most_bytes < length bytes)
+  file_output laws worded one some = record {
+    one = one_file laws one;
+    some = λ none. laws.some_reading most_bytes bytes (λ r reads. some_reading some r (λ o is. none o (r, reads, is)));
+    long = long_file worded;
+  }
+
+-- an answer that is made of the value
+pub one_made : {V : Type 0} (answer : V → Output) → OneAnswer (λ v o. o ≡ answer v)
+one_made answer v o p a b = a ∙ sym b
+
+pub some_made : {V : Type 0} (answer : V → Output) → SomeAnswer (λ v o. o ≡ answer v)
+some_made answer v none = none (answer v) refl
+
+module _ (b : List ℕ) where
+  pub task_output : (IsAnswer : Parts → Output → Type 0) → OneAnswer IsAnswer → SomeAnswer IsAnswer → HasOneOutput (TaskOut IsAnswer b) (most_bytes < length b)
+  task_output IsAnswer = file_output task_format (codes "task") IsAnswer b task_laws_hold task_worded
+
+  pub plan_output : (IsAnswer : PlanParts → Output → Type 0) → OneAnswer IsAnswer → SomeAnswer IsAnswer → HasOneOutput (FileOut plan_format (codes "plan") IsAnswer b) (most_bytes < length b)
+  plan_output IsAnswer = file_output plan_format (codes "plan") IsAnswer b plan_laws_hold plan_worded

@@ -1,5 +1,5 @@
--- A task and a plan have exactly one output.
-use Rattle.std.proofs.Common.{◌≡◌, ◌≢◌, ℕ, ◌<◌, Bool, true, false, List, [], ◌++◌, length, codes, append-nil, refl, sym, subst, ◌∙◌, inl, inr, Option, Some, None, Result, Ok, Err}
+-- A request has exactly one output.
+use Rattle.std.proofs.Common.{◌≡◌, ◌≢◌, ℕ, ◌<◌, Bool, true, false, ◌⊎◌, List, [], ◌++◌, length, codes, append-nil, refl, sym, ap, subst, ◌∙◌, inl, inr, Option, Some, None, Result, Ok, Err}
 use Rattle.std.specs.Prelude.{◌↔◌, ◌||◌, IsTrue}
 use Rattle.std.proofs.lemmas.Option.{none-some}
 use Rattle.sas_core.specs.declared.parts.Parts.{Parts}
@@ -15,26 +15,18 @@ use Rattle.sas_reader.specs.declared.fault.Fault.{Fault}
 use Rattle.sas_reader.specs.Limit.{most_bytes}
 use Rattle.sas_reader.specs.Format.{ReadsAs}
 use Rattle.sas_plan_file.specs.PlanFormat.{plan_format}
-use Rattle.sas_plan_file.proofs.PlanLaws.{plan_laws_hold}
 use Rattle.sas_task_format.specs.TaskFormat.{task_format}
 use Rattle.sas_task_format.proofs.TaskLaws.{task_laws_hold}
 use Rattle.sas_answers.specs.Answers.{layers_refusal, layers_verdict}
 use Rattle.sas_output.specs.Ending.{Output}
-use Rattle.sas_outputs.specs.Output.{IsAnswerOrRefusal, FileOut, VerdictOut, LayersOut, JudgedOut, PlanOutBy, plain_refusal, IsLong}
-use Rattle.sas_outputs.specs.declared.Request.TheVariants.{Plan}
-use Rattle.sas_outputs.proofs.Outputs.{one_file_output, some_file_output, no_file_output, plan_worded, task_worded}
+use Rattle.sas_outputs.specs.Output.{IsAnswerOrRefusal, refusal, ShowAnswer, PrintAnswer, TaskOut, UnlayeredAnswer, LayeredOut, VerdictOut, PlanOutBy, OutOf, plain_refusal, IsLayeredText, IsLong, HasOneOutput}
+use Rattle.sas_outputs.specs.declared.Request.{Request}
+use Rattle.sas_outputs.specs.declared.Request.TheVariants.{Show, Print, Steps, Check, Plan, Mutex}
+use Rattle.sas_outputs.proofs.Outputs.{one_file, long_file, task_worded, one_made, some_made, task_output, plan_output}
 use Rattle.sas_answers.proofs.CheckAnswers.{some_check_answer}
 use Rattle.sas_answers.proofs.AnswerLaws.{OneAnswer, SomeAnswer}
 
 -- ---- lemmas for all answers about a plan
-
--- no output is an answer about a task alone
-abbrev pub NoAnswer : Parts → Output → Type 0
-NoAnswer p output = ⊥
-
--- the refusal of a file that isn't a task
-abbrev pub RefusedOut : List ℕ → Option Output → Type 0
-RefusedOut = FileOut task_format (codes "task") NoAnswer
 
 -- such a fault is one of the task
 pub told_fault : (fault : LayerFault) (o : Output) → layers_refusal fault ≡ Some o → fault ≢ layer_fault.Memory
@@ -75,66 +67,72 @@ plain_refuses = record {
   told = λ p fault o is. record { plain = o; is = is; status = refl; behind = []; text = sym (append-nil o.text) };
 }
 
--- `Verdict` holds for the outputs that are answers about a plan of a layered task, and `refused` is
--- the refusal of a task that isn't layered
-module _ (Verdict : Parts → PlanParts → Output → Type 0) (refused : Parts → LayerFault → Option Output) where
-  -- ---- a task and a plan have one output
+-- ---- the output about a task for which something is judged
 
-  one_layers_output : OneVerdictAnswer Verdict → (p : Parts) (first : Option LayerFault) (c : List ℕ) (o q : Option Output) → (first ≡ None → IsLayered p) → LayersOut Verdict refused p first c o → LayersOut Verdict refused p first c q → o ≡ q
-  one_layers_output one p (Some fault) c o q layered a b = a ∙ sym b
-  one_layers_output one p None c o q layered a b = one_file_output plan_format (codes "plan") (Verdict p) c plan_laws_hold (one p (layered refl)) o q a b
+-- a layered task isn't refused
+pub not_refused : (refused : Parts → LayerFault → Option Output) (b : List ℕ) (o : Option Output) → TaskOut (UnlayeredAnswer refused) b o → IsLayeredText b → ⊥
+not_refused refused b o (r, reads, is) (p, reads_p, layered) =
+    let same : r ≡ Ok p = task_laws_hold.one_reading most_bytes b r (Ok p) reads reads_p in
+    let (answer, (fault, first, told), whole) = subst (λ (q : Result Parts Fault). IsAnswerOrRefusal (codes "task") (UnlayeredAnswer refused) q o) same is in
+    none-some fault (sym ((checks_are_rules p).1 layered) ∙ first)
 
-  one_judged_output : OneVerdictAnswer Verdict → (r : Result Parts Fault) (c : List ℕ) (o q : Option Output) → JudgedOut Verdict refused r c o → JudgedOut Verdict refused r c q → o ≡ q
-  one_judged_output one (Err fault) c o q a b = a ∙ sym b
-  one_judged_output one (Ok p) c o q a b = one_layers_output one p (first_fault (layer_checks p)) c o q (checks_are_rules p).0 a b
+module _ (refused : Parts → LayerFault → Option Output) (refuses : Refuses refused) (IsOut : Parts → Option Output → Type 0) (Long : Type 0) (b : List ℕ) (each : (p : Parts) → WellRanged p → IsLayered p → HasOneOutput (IsOut p) Long) where
+  one_unlayered : OneAnswer (UnlayeredAnswer refused)
+  one_unlayered p o q (f, first_f, told_o) (g, first_g, told_q) =
+      let same : Some f ≡ Some g = sym first_f ∙ first_g in
+      let equal : f ≡ g = cc in
+      let both : Some o ≡ Some q = sym told_o ∙ (ap (refused p) equal ∙ told_q) in
+      cc
 
-  pub one_plan_output : OneVerdictAnswer Verdict → (b c : List ℕ) (o q : Option Output) → PlanOutBy Verdict refused b c o → PlanOutBy Verdict refused b c q → o ≡ q
-  one_plan_output one b c o q x y =
-      let same = task_laws_hold.one_reading most_bytes b y.0 x.0 y.1 x.1 in
-      one_judged_output one x.0 c o q x.2 (subst (λ (r : Result Parts Fault). JudgedOut Verdict refused r c q) same y.2)
+  one_layered : (o q : Option Output) → LayeredOut refused IsOut b o → LayeredOut refused IsOut b q → o ≡ q
+  one_layered o q (inl x) (inl y) = one_file task_format (codes "task") (UnlayeredAnswer refused) b task_laws_hold one_unlayered o q x y
+  one_layered o q (inl x) (inr (p, reads, layered, is)) = absurd (not_refused refused b o x (p, reads, layered))
+  one_layered o q (inr (p, reads, layered, is)) (inl y) = absurd (not_refused refused b q y (p, reads, layered))
+  one_layered o q (inr (p, reads, layered, is)) (inr (other, reads_other, _, is_other)) =
+      let same : Ok other ≡ Ok p = task_laws_hold.one_reading most_bytes b (Ok other) (Ok p) reads_other reads in
+      let equal : other ≡ p = cc in
+      (each p reads.0.good layered).one o q is (subst (λ (x : Parts). IsOut x q) equal is_other)
 
-  some_layers_output : SomeVerdictAnswer Verdict → (p : Parts) (first : Option LayerFault) (c : List ℕ) → WellRanged p → (first ≡ None → IsLayered p) → ((o : Option Output) → LayersOut Verdict refused p first c o → ⊥) → ⊥
-  some_layers_output some p (Some fault) c ranged layered none = none (refused p fault) refl
-  some_layers_output some p None c ranged layered none = some_file_output plan_format (codes "plan") (Verdict p) c plan_laws_hold (some p ranged (layered refl)) none
+  some_checked : (p : Parts) → ReadsAs task_format most_bytes b (Ok p) → (first : Option LayerFault) → first_fault (layer_checks p) ≡ first → ((o : Option Output) → LayeredOut refused IsOut b o → ⊥) → ⊥
+  some_checked p reads None is none =
+      let layered = (checks_are_rules p).0 is in
+      (each p reads.0.good layered).some (λ o out. none o (inr (p, reads, layered, out)))
+  some_checked p reads (Some fault) is none = some_check_answer p (λ plain answer.
+      let (o, told) = refuses.some p fault plain (subst (λ (first : Option LayerFault). layers_verdict first ≡ Some plain) is answer) in
+      none (Some o) (inl (Ok p, reads, (o, (fault, is, told), refl))))
 
-  some_judged_output : SomeVerdictAnswer Verdict → (r : Result Parts Fault) (b c : List ℕ) → ReadsAs task_format most_bytes b r → ((o : Option Output) → JudgedOut Verdict refused r c o → ⊥) → ⊥
-  some_judged_output some (Err fault) b c reads none = none _ refl
-  some_judged_output some (Ok p) b c reads none = some_layers_output some p (first_fault (layer_checks p)) c reads.0.good (checks_are_rules p).0 none
+  some_read : (r : Result Parts Fault) → ReadsAs task_format most_bytes b r → ((o : Option Output) → LayeredOut refused IsOut b o → ⊥) → ⊥
+  some_read (Err fault) reads none = none (refusal (codes "task") fault) (inl (Err fault, reads, refl))
+  some_read (Ok p) reads none = some_checked p reads (first_fault (layer_checks p)) refl none
 
-  pub some_plan_output : SomeVerdictAnswer Verdict → (b c : List ℕ) → ((o : Option Output) → PlanOutBy Verdict refused b c o → ⊥) → ⊥
-  some_plan_output some b c none =
-      task_laws_hold.some_reading most_bytes b (λ r reads. some_judged_output some r b c reads (λ o is. none o (r, reads, is)))
+  long_layered : LayeredOut refused IsOut b None → (most_bytes < length b) ⊎ (IsLayeredText b × Long)
+  long_layered (inl out) = inl (long_file task_format (codes "task") (UnlayeredAnswer refused) b task_worded out)
+  long_layered (inr (p, reads, layered, is)) = inr ((p, reads, layered), (each p reads.0.good layered).long is)
 
-  -- ---- there is no output only if one of them is too long
+  -- it has one output if what is judged for a layered task has one
+  pub layered_output : HasOneOutput (LayeredOut refused IsOut b) ((most_bytes < length b) ⊎ (IsLayeredText b × Long))
+  layered_output = record {
+    one = one_layered;
+    some = λ none. task_laws_hold.some_reading most_bytes b (λ r reads. some_read r reads none);
+    long = long_layered;
+  }
 
-  long_layers : Refuses refused → (p : Parts) (first : Option LayerFault) (c : List ℕ) → (first ≡ None → IsLayered p) → (((o : Output) → layers_verdict first ≡ Some o → ⊥) → ⊥) → LayersOut Verdict refused p first c None → IsLayered p × (most_bytes < length c)
-  long_layers refuses p (Some fault) c layered told out = absurd (told (λ plain is. let o = refuses.some p fault plain is in none-some o.0 (out ∙ o.1)))
-  long_layers refuses p None c layered told out = (layered refl, no_file_output plan_format (codes "plan") (Verdict p) c (λ s line k. plan_worded line k) out)
+-- ---- the outputs of requests
 
-  long_judged : Refuses refused → (r : Result Parts Fault) (b c : List ℕ) → ReadsAs task_format most_bytes b r → JudgedOut Verdict refused r c None → IsLong Plan b c
-  long_judged refuses (Err fault) b c reads out = inl (no_file_output task_format (codes "task") NoAnswer b task_worded (Err fault, reads, out))
-  long_judged refuses (Ok p) b c reads out =
-      let long = long_layers refuses p (first_fault (layer_checks p)) c (checks_are_rules p).0 (some_check_answer p) out in
-      inr ((p, reads, long.0), long.1)
+module _ (Verdict : Parts → PlanParts → Output → Type 0) (one : OneVerdictAnswer Verdict) (some : SomeVerdictAnswer Verdict) where
+  pub verdict_output : (p : Parts) (c : List ℕ) → WellRanged p → IsLayered p → HasOneOutput (VerdictOut Verdict p c) (most_bytes < length c)
+  verdict_output p c ranged layered = plan_output c (Verdict p) (one p layered) (some p ranged layered)
 
-  pub no_plan_output : Refuses refused → (b c : List ℕ) → PlanOutBy Verdict refused b c None → IsLong Plan b c
-  no_plan_output refuses b c out = long_judged refuses out.0 b c out.1 out.2
+  pub judged_output : (refused : Parts → LayerFault → Option Output) → Refuses refused → (b c : List ℕ) → HasOneOutput (PlanOutBy Verdict refused b c) (IsLong Plan b c)
+  judged_output refused refuses b c = layered_output refused refuses (λ p. VerdictOut Verdict p c) (most_bytes < length c) b (λ p. verdict_output p c)
 
-  -- ---- how the answer is computed
-
-  refused_reading : (b c : List ℕ) (o : Option Output) (r : Result Parts Fault) → ReadsAs task_format most_bytes b r → IsAnswerOrRefusal (codes "task") NoAnswer r o → PlanOutBy Verdict refused b c o
-  refused_reading b c o (Ok p) reads answer = absurd answer.1
-  refused_reading b c o (Err fault) reads refused = (Err fault, reads, refused)
-
-  pub refused_out : (b c : List ℕ) (o : Option Output) → RefusedOut b o → PlanOutBy Verdict refused b c o
-  refused_out b c o out = refused_reading b c o out.0 out.1 out.2
-
-  -- the output for the plan of a layered task
-  pub judged_out : (p : Parts) → IsLayered p → (b c : List ℕ) → ReadsAs task_format most_bytes b (Ok p) → (o : Option Output) → VerdictOut Verdict p c o → PlanOutBy Verdict refused b c o
-  judged_out p layered b c reads o out =
-      (Ok p, reads, subst (λ (first : Option LayerFault). LayersOut Verdict refused p first c o) (sym ((checks_are_rules p).1 layered)) out)
-
-  -- the refusal of a task that isn't layered
-  pub unlayered_out : (p : Parts) (fault : LayerFault) (b c : List ℕ) (o : Output) → ReadsAs task_format most_bytes b (Ok p) → first_fault (layer_checks p) ≡ Some fault → refused p fault ≡ Some o → PlanOutBy Verdict refused b c (Some o)
-  unlayered_out p fault b c o reads first told =
-      (Ok p, reads, subst (λ (first : Option LayerFault). LayersOut Verdict refused p first c (Some o)) (sym first) (sym told))
+  module _ (OfLayers OfGroups : Parts → Output → Type 0) (one_of_layers : OneAnswer OfLayers) (some_of_layers : SomeAnswer OfLayers) (one_of_groups : OneAnswer OfGroups) (some_of_groups : SomeAnswer OfGroups)
+      (refused : Parts → LayerFault → Option Output) (refuses : Refuses refused) where
+    -- each request has one output if each task and each plan has one answer
+    pub output_of : (request : Request) (b c : List ℕ) → HasOneOutput (OutOf OfLayers OfGroups Verdict refused request b c) (IsLong request b c)
+    output_of Show b c = task_output b ShowAnswer (one_made _) (some_made _)
+    output_of Print b c = task_output b (PrintAnswer task_format) (one_made _) (some_made _)
+    output_of Steps b c = plan_output c (PrintAnswer plan_format) (one_made _) (some_made _)
+    output_of Check b c = task_output b OfLayers one_of_layers some_of_layers
+    output_of Plan b c = judged_output refused refuses b c
+    output_of Mutex b c = task_output b OfGroups one_of_groups some_of_groups

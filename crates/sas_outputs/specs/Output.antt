@@ -71,21 +71,44 @@ module _ {V I S : Type 0} (F : Format V I S) where
       × ReadsAs F most_bytes bytes read
       × IsAnswerOrRefusal name IsAnswer read output
 
+-- the output about the bytes of a task file
+abbrev pub TaskOut : (Parts → Output → Type 0) → List ℕ → Option Output → Type 0
+TaskOut = FileOut task_format (codes "task")
+
 -- the outputs of `show`, `print`, `steps`, `check` and `mutex` for the bytes of their file
 abbrev pub ShowOut : List ℕ → Option Output → Type 0
-ShowOut = FileOut task_format (codes "task") ShowAnswer
+ShowOut = TaskOut ShowAnswer
 
 abbrev pub PrintOut : List ℕ → Option Output → Type 0
-PrintOut = FileOut task_format (codes "task") (PrintAnswer task_format)
+PrintOut = TaskOut (PrintAnswer task_format)
 
 abbrev pub StepsOut : List ℕ → Option Output → Type 0
 StepsOut = FileOut plan_format (codes "plan") (PrintAnswer plan_format)
 
 abbrev pub CheckOut : List ℕ → Option Output → Type 0
-CheckOut = FileOut task_format (codes "task") CheckAnswer
+CheckOut = TaskOut CheckAnswer
 
 abbrev pub MutexOut : List ℕ → Option Output → Type 0
-MutexOut = FileOut task_format (codes "task") MutexAnswer
+MutexOut = TaskOut MutexAnswer
+
+-- `refused` is the refusal of a task for a fault of its layers.
+module _ (refused : Parts → LayerFault → Option Output) where
+  -- the answer about a task that isn't layered: its refusal for the first fault
+  abbrev pub UnlayeredAnswer : Parts → Output → Type 0
+  UnlayeredAnswer p output = (fault : LayerFault)
+      × (first_fault (layer_checks p) ≡ Some fault)
+      × (refused p fault ≡ Some output)
+
+  -- The output for the bytes b of a task, where something is judged for it: the refusal of the
+  -- task, or if it is layered the output that `IsOut` relates to it.
+  abbrev pub LayeredOut : (Parts → Option Output → Type 0) → List ℕ → Option Output → Type 0
+  LayeredOut IsOut b output =
+      TaskOut UnlayeredAnswer b output
+      ⊎ ((p : Parts) × ReadsAs task_format most_bytes b (Ok p) × IsLayered p × IsOut p output)
+
+-- the refusal of a task without reasons
+abbrev pub plain_refusal : Parts → LayerFault → Option Output
+plain_refusal p fault = layers_refusal fault
 
 -- `Verdict` holds for the outputs that are answers about a plan of a layered task.
 module _ (Verdict : Parts → PlanParts → Output → Type 0) where
@@ -93,61 +116,46 @@ module _ (Verdict : Parts → PlanParts → Output → Type 0) where
   abbrev pub VerdictOut : Parts → List ℕ → Option Output → Type 0
   VerdictOut p = FileOut plan_format (codes "plan") (Verdict p)
 
-  -- `refused` is the refusal of a task for a fault of its layers.
-  module _ (refused : Parts → LayerFault → Option Output) where
-    -- the output for the plan's bytes and a task, by the first fault of its layers, if any: with a
-    -- fault the task is refused, so only the plan of a layered task is judged
-    abbrev pub LayersOut : Parts → Option LayerFault → List ℕ → Option Output → Type 0
-    LayersOut p (Some fault) c output = output ≡ refused p fault
-    LayersOut p None c output = VerdictOut p c output
+  -- the output for the bytes b of the task and c of the plan; only the plan of a layered task is
+  -- judged
+  abbrev pub PlanOutBy : (Parts → LayerFault → Option Output) → List ℕ → List ℕ → Option Output
+      → Type 0
+  PlanOutBy refused b c = LayeredOut refused (λ p. VerdictOut p c) b
 
-    -- the output for the plan's bytes and the result of reading the task's bytes
-    abbrev pub JudgedOut : Result Parts Fault → List ℕ → Option Output → Type 0
-    JudgedOut (Err fault) c output = output ≡ refusal (codes "task") fault
-    JudgedOut (Ok p) c output = LayersOut p (first_fault (layer_checks p)) c output
-
-    -- the output for the bytes b of the task and c of the plan
-    abbrev pub PlanOutBy : List ℕ → List ℕ → Option Output → Type 0
-    PlanOutBy b c output =
-        (read : Result Parts Fault) × ReadsAs task_format most_bytes b read × JudgedOut read c output
-
--- the refusal of a task without reasons
-abbrev pub plain_refusal : Parts → LayerFault → Option Output
-plain_refusal p fault = layers_refusal fault
-
--- the output of `plan` for the bytes b of the task and c of the plan
+-- the output of `plan`
 abbrev pub PlanOut : List ℕ → List ℕ → Option Output → Type 0
 PlanOut = PlanOutBy VerdictAnswer plain_refusal
 
--- the output of a request for the bytes b of the task and c of the plan, or none if the file that
--- decides it is too long
+-- The output of a request for the bytes b of the task and c of the plan, or none if the file that
+-- decides it is too long. It is made of the answers about a task's layers, about its groups and
+-- about a plan, and of the refusal of a task that isn't layered.
+module _ (OfLayers OfGroups : Parts → Output → Type 0)
+    (OfPlan : Parts → PlanParts → Output → Type 0)
+    (refused : Parts → LayerFault → Option Output) where
+  abbrev pub OutOf : Request → List ℕ → List ℕ → Option Output → Type 0
+  OutOf Show b c output = ShowOut b output
+  OutOf Print b c output = PrintOut b output
+  OutOf Steps b c output = StepsOut c output
+  OutOf Check b c output = TaskOut OfLayers b output
+  OutOf Plan b c output = PlanOutBy OfPlan refused b c output
+  OutOf Mutex b c output = TaskOut OfGroups b output
+
+-- the output without reasons
 abbrev pub Out : Request → List ℕ → List ℕ → Option Output → Type 0
-Out Show b c output = ShowOut b output
-Out Print b c output = PrintOut b output
-Out Steps b c output = StepsOut c output
-Out Check b c output = CheckOut b output
-Out Plan b c output = PlanOut b c output
-Out Mutex b c output = MutexOut b output
+Out = OutOf CheckAnswer MutexAnswer VerdictAnswer plain_refusal
 
 -- ---- the inputs that a request reads
 
 -- whether it reads the task
 abbrev pub reads_task : Request → Bool
-reads_task Show = true
-reads_task Print = true
 reads_task Steps = false
-reads_task Check = true
-reads_task Plan = true
-reads_task Mutex = true
+reads_task request = true
 
 -- whether it reads the plan
 abbrev pub reads_plan : Request → Bool
-reads_plan Show = false
-reads_plan Print = false
 reads_plan Steps = true
-reads_plan Check = false
 reads_plan Plan = true
-reads_plan Mutex = false
+reads_plan request = false
 
 -- the bytes are within the limit and a text of a layered task
 abbrev pub IsLayeredText : List ℕ → Type 0
@@ -161,27 +169,18 @@ AreInputs request task plan b c =
 -- an input exceeds the limit: the one that the request reads; for `plan` the task, or the plan if
 -- the task is layered
 abbrev pub IsLong : Request → List ℕ → List ℕ → Type 0
-IsLong Show b c = most_bytes < length b
-IsLong Print b c = most_bytes < length b
 IsLong Steps b c = most_bytes < length c
-IsLong Check b c = most_bytes < length b
 IsLong Plan b c = (most_bytes < length b) ⊎ (IsLayeredText b × (most_bytes < length c))
-IsLong Mutex b c = most_bytes < length b
+IsLong request b c = most_bytes < length b
 
 -- ---- laws
 
--- a request has one output over the same inputs
-abbrev pub OneOutput : Type 0
-OneOutput = (request : Request) (b c : List ℕ) (o p : Option Output) → Out request b c o
-    → Out request b c p → o ≡ p
-
--- a request has some output (stated with a double negation)
-abbrev pub SomeOutput : Type 0
-SomeOutput = (request : Request) (b c : List ℕ) → ((o : Option Output) → Out request b c o → ⊥) → ⊥
-
--- a request prints nothing only if an input exceeds the limit
-abbrev pub NoneIsLong : Type 0
-NoneIsLong = (request : Request) (b c : List ℕ) → Out request b c None → IsLong request b c
+-- `IsOut` holds of one output: not of two, and it can't be that it holds of none. Nothing is
+-- printed only if an input exceeds the limit.
+pub record HasOneOutput (IsOut : Option Output → Type 0) (TooLong : Type 0) : Type 0 where
+  pub one : (o p : Option Output) → IsOut o → IsOut p → o ≡ p
+  pub some : ((o : Option Output) → IsOut o → ⊥) → ⊥
+  pub long : IsOut None → TooLong
 
 -- each output is shorter than 2 ^ 64 bytes
 abbrev pub ShortOutput : Type 0

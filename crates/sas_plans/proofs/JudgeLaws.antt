@@ -1,36 +1,31 @@
 -- Laws of what is printed of many plans.
-use Rattle.std.proofs.Common.{◌≡◌, ℕ, ◌<◌, ◌⊎◌, List, [], ◌∷◌, ◌++◌, length, codes, refl, sym, ap, subst, ◌∙◌, arith, inl, inr, Option, Some, None, Result, Ok, Err}
+use Rattle.std.proofs.Common.{◌≡◌, ℕ, ◌<◌, List, [], ◌∷◌, ◌++◌, length, codes, refl, sym, ap, subst, ◌∙◌, arith, inl, inr, Option, Some, None, Result, Ok, Err}
 use Rattle.std.specs.Prelude.{zip, flat_map, All, Contains, if◌then◌else◌}
 use Rattle.std.specs.List.{AllZip, list_all}
 use Rattle.std.proofs.lemmas.Option.{none-some}
 use Rattle.std.proofs.lemmas.List.Elements.{All-nil, All-cons, All-contains, Contains-append_right, Contains-append_left, Contains-push}
 use Rattle.sas_core.specs.declared.parts.Parts.{Parts}
-use Rattle.sas_core.specs.FirstFault.{first_fault}
 use Rattle.sas_core.specs.PlanParts.{PlanParts}
 use Rattle.sas_core.specs.WellRanged.{WellRanged}
-use Rattle.sas_meaning.specs.declared.layered.LayerFault.{LayerFault}
 use Rattle.sas_meaning.specs.Layers.{IsLayered}
-use Rattle.sas_meaning.specs.LayerChecks.{layer_checks}
-use Rattle.sas_meaning.proofs.LayerChecksAreRules.{checks_are_rules}
 use Rattle.sas_reader.specs.declared.fault.Fault.{Fault}
 use Rattle.sas_reader.specs.Format.{ReadsAs}
 use Rattle.sas_reader.specs.Limit.{most_bytes}
 use Rattle.sas_plan_file.specs.PlanFormat.{plan_format}
 use Rattle.sas_plan_file.proofs.PlanLaws.{plan_laws_hold}
 use Rattle.sas_task_format.specs.TaskFormat.{task_format}
-use Rattle.sas_task_format.proofs.TaskLaws.{task_laws_hold}
 use Rattle.sas_output.specs.declared.ending.Status.{Status}
 use Rattle.sas_output.specs.declared.ending.Status.TheVariants.{Yes, No}
 use Rattle.sas_output.specs.Ending.{Output}
-use Rattle.sas_answers.specs.Answers.{VerdictAnswer, layers_refusal}
+use Rattle.sas_answers.specs.Answers.{VerdictAnswer}
 use Rattle.sas_answers.proofs.VerdictAnswers.{one_verdict_answer, some_verdict_answer}
 use Rattle.sas_outputs.specs.declared.Request.TheVariants.{Plan}
-use Rattle.sas_outputs.specs.Output.{Out, VerdictOut, LayersOut, plain_refusal, IsAnswerOrRefusal, IsLayeredText, refusal_line, word_of}
-use Rattle.sas_outputs.proofs.Outputs.{one_file_output, some_file_output}
-use Rattle.sas_outputs.proofs.PlanOutputs.{plain_refuses, judged_out, no_plan_output}
+use Rattle.sas_outputs.specs.Output.{Out, VerdictOut, plain_refusal, IsAnswerOrRefusal, HasOneOutput, refusal_line, word_of}
+use Rattle.sas_outputs.proofs.Outputs.{same_output}
+use Rattle.sas_outputs.proofs.PlanOutputs.{plain_refuses, not_refused, verdict_output, layered_output}
 use Rattle.sas_answers.proofs.WordedLines.{worded}
-use Rattle.sas_plans.specs.Judged.{Judged, HasCost, IsJudged, PlansAnswer, PlansOut, JudgedLayers, JudgedTask, JudgeOut, is_valid, labelled}
-use Rattle.sas_plans.specs.Laws.{OneJudgeOutput, SomeJudgeOutput, EachIsThatOfPlan, RefusesAsPlan, NoneJudgeIsLong}
+use Rattle.sas_plans.specs.Judged.{Judged, HasCost, IsJudged, PlansAnswer, PlansOut, JudgeOut, is_valid, labelled}
+use Rattle.sas_plans.specs.Laws.{EachIsThatOfPlan, IsOneLong, RefusesAsPlan}
 use Rattle.sas_plans.proofs.BestPlans.{one_summary, some_summary}
 use Rattle.sas_plans.proofs.SideBySide.{contains_second}
 
@@ -43,23 +38,35 @@ same_judged a b label line cost =
     ap (λ (x : List ℕ). let j : Judged = record { label = b.label; line = x; cost = a.cost } in j) line in
     one ∙ two ∙ ap (λ (x : Option ℕ). let j : Judged = record { label = b.label; line = b.line; cost = x } in j) cost
 
-same_output : (o q : Output) → o.text ≡ q.text → o.status ≡ q.status → o ≡ q
-same_output o q text status =
-    let one : o ≡ record { text = q.text; status = o.status } = ap (λ (x : List ℕ). let y : Output = record { text = x; status = o.status } in y) text in
-    one ∙ ap (λ (x : Status). let y : Output = record { text = q.text; status = x } in y) status
-
 one_cost : (c : List ℕ) (s : Status) (x y : Option ℕ) → HasCost c s x → HasCost c s y → x ≡ y
 one_cost c Yes x y (one, reads_one, is_x) (two, reads_two, is_y) =
     is_x ∙ ap (λ (plan : PlanParts). Some plan.cost) (plan_laws_hold.one_value c one two reads_one reads_two) ∙ sym is_y
 one_cost c No x y is_x is_y = is_x ∙ sym is_y
 
-module _ (p : Parts) (layered : IsLayered p) where
-  one_verdict : (c : List ℕ) (o q : Option Output) → VerdictOut VerdictAnswer p c o → VerdictOut VerdictAnswer p c q → o ≡ q
-  one_verdict c o q = one_file_output plan_format (codes "plan") (VerdictAnswer p) c plan_laws_hold (one_verdict_answer p layered) o q
+-- a status other than that of a refusal comes of a plan that was read
+cost_for : (p : Parts) (c : List ℕ) (o : Output) (s : Status) → o.status ≡ s → (r : Result PlanParts Fault) → ReadsAs plan_format most_bytes c r → IsAnswerOrRefusal (codes "plan") (VerdictAnswer p) r (Some o)
+    → (cost : Option ℕ) × HasCost c s cost
+cost_for p c o No e r reads is = (None, refl)
+cost_for p c o Yes e (Ok plan) reads is = (Some plan.cost, (plan, reads.0, refl))
+cost_for p c o Yes e (Err f) reads is =
+    let no = (worded (word_of f.kind) (refusal_line (codes "plan") f.line) o (sym is)).status in
+    let apart : Yes ≡ No = sym e ∙ no in
+    absurd cc
+
+said_for : (p : Parts) (label c : List ℕ) (o : Output) → VerdictOut VerdictAnswer p c (Some o) → (j : Judged) × IsJudged p (label, c) j
+said_for p label c o out =
+    let cost = cost_for p c o o.status refl out.0 out.1 out.2 in
+    (record { label = label; line = o.text; cost = cost.0 }, (o, out, refl, refl, cost.1))
+
+-- ---- one output
+
+module _ (p : Parts) (ranged : WellRanged p) (layered : IsLayered p) where
+  verdict : (c : List ℕ) → HasOneOutput (VerdictOut VerdictAnswer p c) (most_bytes < length c)
+  verdict c = verdict_output VerdictAnswer one_verdict_answer some_verdict_answer p c ranged layered
 
   one_said : (label c : List ℕ) (a b : Judged) → IsJudged p (label, c) a → IsJudged p (label, c) b → a ≡ b
   one_said label c a b (o, out_o, label_a, line_a, cost_a) (q, out_q, label_b, line_b, cost_b) =
-      let e : Some o ≡ Some q = one_verdict c (Some o) (Some q) out_o out_q in
+      let e : Some o ≡ Some q = (verdict c).one (Some o) (Some q) out_o out_q in
       let same : o ≡ q = cc in
       same_judged a b (label_a ∙ sym label_b) (line_a ∙ ap (λ (x : Output). x.text) same ∙ sym line_b)
       (one_cost c q.status a.cost b.cost (subst (λ (x : Output). HasCost c x.status a.cost) same cost_a) cost_b)
@@ -86,48 +93,17 @@ module _ (p : Parts) (layered : IsLayered p) where
   each_said [] all h = All-nil (λ (plan : List ℕ × List ℕ). VerdictOut VerdictAnswer p plan.1 None → ⊥)
   each_said (plan ∷ plans) [] h = absurd h
   each_said (plan ∷ plans) (j ∷ all) h =
-      All-cons (λ (x : List ℕ × List ℕ). VerdictOut VerdictAnswer p x.1 None → ⊥) plan plans (λ long. none-some h.0.0 (one_verdict plan.1 None (Some h.0.0) long h.0.1)) (each_said plans all h.1)
+      All-cons (λ (x : List ℕ × List ℕ). VerdictOut VerdictAnswer p x.1 None → ⊥) plan plans (λ long. none-some h.0.0 ((verdict plan.1).one None (Some h.0.0) long h.0.1)) (each_said plans all h.1)
 
   none_long : (plans : List (List ℕ × List ℕ)) (o : Output) → PlansAnswer p plans o → PlansOut p plans None → ⊥
   none_long plans o a (label, c, has, long) = All-contains (λ (plan : List ℕ × List ℕ). VerdictOut VerdictAnswer p plan.1 None → ⊥) plans (label, c) (each_said plans a.all a.each) has long
 
-  pub one_plans_output : (plans : List (List ℕ × List ℕ)) (o q : Option Output) → PlansOut p plans o → PlansOut p plans q → o ≡ q
+  one_plans_output : (plans : List (List ℕ × List ℕ)) (o q : Option Output) → PlansOut p plans o → PlansOut p plans q → o ≡ q
   one_plans_output plans None None a b = refl
   one_plans_output plans None (Some q) a b = absurd (none_long plans q b a)
   one_plans_output plans (Some o) None a b = absurd (none_long plans o a b)
   one_plans_output plans (Some o) (Some q) a b = ap Some (one_answer plans o q a b)
 
-one_layers : (p : Parts) (first : Option LayerFault) (plans : List (List ℕ × List ℕ)) (o q : Option Output) → (first ≡ None → IsLayered p) → JudgedLayers p first plans o → JudgedLayers p first plans q → o ≡ q
-one_layers p (Some fault) plans o q layered a b = a ∙ sym b
-one_layers p None plans o q layered a b = one_plans_output p (layered refl) plans o q a b
-
-one_task : (r : Result Parts Fault) (plans : List (List ℕ × List ℕ)) (o q : Option Output) → JudgedTask r plans o → JudgedTask r plans q → o ≡ q
-one_task (Err f) plans o q a b = a ∙ sym b
-one_task (Ok p) plans o q a b = one_layers p (first_fault (layer_checks p)) plans o q (checks_are_rules p).0 a b
-
-pub one_judge_output : OneJudgeOutput
-one_judge_output labels b cs o q many x y =
-    let same = task_laws_hold.one_reading most_bytes b y.0 x.0 y.1 x.1 in
-    one_task x.0 (zip labels cs) o q x.2 (subst (λ (r : Result Parts Fault). JudgedTask r (zip labels cs) q) same y.2)
-
--- ---- and always something
-
--- a status other than that of a refusal comes of a plan that was read
-cost_for : (p : Parts) (c : List ℕ) (o : Output) (s : Status) → o.status ≡ s → (r : Result PlanParts Fault) → ReadsAs plan_format most_bytes c r → IsAnswerOrRefusal (codes "plan") (VerdictAnswer p) r (Some o)
-    → (cost : Option ℕ) × HasCost c s cost
-cost_for p c o No e r reads is = (None, refl)
-cost_for p c o Yes e (Ok plan) reads is = (Some plan.cost, (plan, reads.0, refl))
-cost_for p c o Yes e (Err f) reads is =
-    let no = (worded (word_of f.kind) (refusal_line (codes "plan") f.line) o (sym is)).status in
-    let apart : Yes ≡ No = sym e ∙ no in
-    absurd cc
-
-said_for : (p : Parts) (label c : List ℕ) (o : Output) → VerdictOut VerdictAnswer p c (Some o) → (j : Judged) × IsJudged p (label, c) j
-said_for p label c o out =
-    let cost = cost_for p c o o.status refl out.0 out.1 out.2 in
-    (record { label = label; line = o.text; cost = cost.0 }, (o, out, refl, refl, cost.1))
-
-module _ (p : Parts) (ranged : WellRanged p) (layered : IsLayered p) where
   -- nothing is said of some plans, and none of them is too long
   abbrev NoneSaid : List (List ℕ × List ℕ) → Type 0
   NoneSaid plans = (all : List Judged) → AllZip (IsJudged p) plans all → ⊥
@@ -144,7 +120,7 @@ module _ (p : Parts) (ranged : WellRanged p) (layered : IsLayered p) where
   some_list : (plans : List (List ℕ × List ℕ)) → NoneSaid plans → NoneLong plans → ⊥
   some_list [] none short = none [] tt
   some_list ((label, c) ∷ plans) none short =
-      some_file_output plan_format (codes "plan") (VerdictAnswer p) c plan_laws_hold (some_verdict_answer p ranged layered) (λ o out. first_said label c plans o (some_list plans) none short out)
+      (verdict c).some (λ o out. first_said label c plans o (some_list plans) none short out)
 
   some_plans_output : (plans : List (List ℕ × List ℕ)) → ((o : Option Output) → PlansOut p plans o → ⊥) → ⊥
   some_plans_output plans none =
@@ -155,26 +131,18 @@ module _ (p : Parts) (ranged : WellRanged p) (layered : IsLayered p) where
       none (Some o) (record { all = all; each = are; summary = last.0; last = last.1; whole = refl; status = refl }))
       (λ plan has long. none None (plan.0, plan.1, has, long))
 
-some_layers : (p : Parts) (first : Option LayerFault) (plans : List (List ℕ × List ℕ)) → WellRanged p → (first ≡ None → IsLayered p) → ((o : Option Output) → JudgedLayers p first plans o → ⊥) → ⊥
-some_layers p (Some fault) plans ranged layered none = none (layers_refusal fault) refl
-some_layers p None plans ranged layered none = some_plans_output p ranged (layered refl) plans none
+  plans_output : (labels cs : List (List ℕ)) → HasOneOutput (PlansOut p (zip labels cs)) ((c : List ℕ) × Contains cs c × (most_bytes < length c))
+  plans_output labels cs = record {
+    one = one_plans_output (zip labels cs);
+    some = some_plans_output (zip labels cs);
+    long = λ (label, c, has, long). (c, contains_second labels cs label c has, (verdict c).long long);
+  }
 
-some_task : (r : Result Parts Fault) (b : List ℕ) (plans : List (List ℕ × List ℕ)) → ReadsAs task_format most_bytes b r → ((o : Option Output) → JudgedTask r plans o → ⊥) → ⊥
-some_task (Err f) b plans reads none = none _ refl
-some_task (Ok p) b plans reads none = some_layers p (first_fault (layer_checks p)) plans reads.0.good (checks_are_rules p).0 none
-
-pub some_judge_output : SomeJudgeOutput
-some_judge_output labels b cs none =
-    task_laws_hold.some_reading most_bytes b (λ r reads. some_task r b (zip labels cs) reads (λ o is. none o (r, reads, is)))
+pub judge_output : (labels : List (List ℕ)) (b : List ℕ) (cs : List (List ℕ)) → HasOneOutput (JudgeOut labels b cs) (IsOneLong b cs)
+judge_output labels b cs =
+    layered_output plain_refusal plain_refuses (λ p. PlansOut p (zip labels cs)) ((c : List ℕ) × Contains cs c × (most_bytes < length c)) b (λ p ranged layered. plans_output p ranged layered labels cs)
 
 -- ---- of each plan it is what `plan` prints
-
--- the answer about the plans of a layered task
-pub answer_of_layered : (labels : List (List ℕ)) (b : List ℕ) (cs : List (List ℕ)) (o : Option Output) (p : Parts) → ReadsAs task_format most_bytes b (Ok p) → IsLayered p → JudgeOut labels b cs o → PlansOut p (zip labels cs) o
-answer_of_layered labels b cs o p reads layered out =
-    let same : out.0 ≡ Ok p = task_laws_hold.one_reading most_bytes b out.0 (Ok p) out.1 reads in
-    let judged = subst (λ (r : Result Parts Fault). JudgedTask r (zip labels cs) o) same out.2 in
-    subst (λ (first : Option LayerFault). JudgedLayers p first (zip labels cs) o) ((checks_are_rules p).1 layered) judged
 
 -- `LABEL: ` and the output of `plan`
 abbrev pub labelled_plain : List ℕ × Output → List ℕ
@@ -197,51 +165,17 @@ plains_of p layered b reads (l ∷ labels) (c ∷ cs) (j ∷ all) many ((o, out,
     let here : labelled j ≡ labelled_plain (l, o) = ap (λ (x : List ℕ). x ++ codes ": " ++ j.line) label ∙ ap (λ (x : List ℕ). l ++ codes ": " ++ x) line in
     record {
       plains = o ∷ rest.plains;
-      each = (judged_out VerdictAnswer plain_refusal p layered b c reads (Some o) out, rest.each);
+      each = (inr (p, reads, layered, out), rest.each);
       same = ap (λ (x : List ℕ). x ++ flat_map labelled all) here ∙ ap (λ (x : List ℕ). labelled_plain (l, o) ++ x) rest.same;
     }
 
 pub each_is_that_of_plan : EachIsThatOfPlan
-each_is_that_of_plan labels b cs o many (p, reads, layered) out =
-    let answer : PlansAnswer p (zip labels cs) o = answer_of_layered labels b cs (Some o) p reads layered out in
+each_is_that_of_plan labels b cs o many layered (inl refused) = absurd (not_refused plain_refusal b (Some o) refused layered)
+each_is_that_of_plan labels b cs o many _ (inr (p, reads, layered, answer)) =
     let plain = plains_of p layered b reads labels cs answer.all many answer.each in
     (plain.plains, plain.each, answer.summary, answer.whole ∙ ap (λ (x : List ℕ). x ++ answer.summary) plain.same)
 
--- ---- a task is refused as by `plan`
-
-refused_layers : (p : Parts) (first : Option LayerFault) (plans : List (List ℕ × List ℕ)) (c : List ℕ) (o : Option Output) → (first ≡ None → ⊥) → JudgedLayers p first plans o → LayersOut VerdictAnswer plain_refusal p first c o
-refused_layers p (Some fault) plans c o other is = is
-refused_layers p None plans c o other is = absurd (other refl)
-
-refused_task : (r : Result Parts Fault) (labels : List (List ℕ)) (b : List ℕ) (cs : List (List ℕ)) (o : Option Output) → (IsLayeredText b → ⊥) → ReadsAs task_format most_bytes b r → JudgedTask r (zip labels cs) o → (c : List ℕ)
-    → Out Plan b c o
-refused_task (Err f) labels b cs o other reads is c = (Err f, reads, is)
-refused_task (Ok p) labels b cs o other reads is c =
-    (Ok p, reads, refused_layers p (first_fault (layer_checks p)) (zip labels cs) c o (λ e. other (p, reads, (checks_are_rules p).0 e)) is)
-
+-- a task is refused as by `plan`
 pub refuses_as_plan : RefusesAsPlan
-refuses_as_plan labels b cs o other out c = refused_task out.0 labels b cs (Some o) other out.1 out.2 c
-
--- ---- there is none only where an input is too long
-
-long_plan : (b c : List ℕ) → (most_bytes < length b) ⊎ (IsLayeredText b × (most_bytes < length c)) → (cs : List (List ℕ)) → Contains cs c → (most_bytes < length b) ⊎ (IsLayeredText b × (d : List ℕ) × Contains cs d × (most_bytes < length d))
-long_plan b c (inl long) cs has = inl long
-long_plan b c (inr (layered, long)) cs has = inr (layered, c, has, long)
-
-long_alone : (b : List ℕ) (cs : List (List ℕ)) → (most_bytes < length b) ⊎ (IsLayeredText b × (most_bytes < length {A = ℕ} [])) → (most_bytes < length b) ⊎ (IsLayeredText b × (d : List ℕ) × Contains cs d × (most_bytes < length d))
-long_alone b cs (inl long) = inl long
-long_alone b cs (inr (layered, long)) = absurd (omega (arith, long))
-
-long_layers : (p : Parts) (first : Option LayerFault) → first_fault (layer_checks p) ≡ first → (labels : List (List ℕ)) (b : List ℕ) (cs : List (List ℕ)) → ReadsAs task_format most_bytes b (Ok p) → JudgedLayers p first (zip labels cs) None
-    → (most_bytes < length b) ⊎ (IsLayeredText b × (d : List ℕ) × Contains cs d × (most_bytes < length d))
-long_layers p (Some fault) e labels b cs reads is = long_alone b cs (no_plan_output VerdictAnswer plain_refusal plain_refuses b [] (Ok p, reads, subst (λ (first : Option LayerFault). LayersOut VerdictAnswer plain_refusal p first [] None) (sym e) is))
-long_layers p None e labels b cs reads (label, c, has, long) =
-    long_plan b c (no_plan_output VerdictAnswer plain_refusal plain_refuses b c (judged_out VerdictAnswer plain_refusal p ((checks_are_rules p).0 e) b c reads None long)) cs (contains_second labels cs label c has)
-
-long_task : (r : Result Parts Fault) (labels : List (List ℕ)) (b : List ℕ) (cs : List (List ℕ)) → ReadsAs task_format most_bytes b r → JudgedTask r (zip labels cs) None
-    → (most_bytes < length b) ⊎ (IsLayeredText b × (d : List ℕ) × Contains cs d × (most_bytes < length d))
-long_task (Err f) labels b cs reads is = long_alone b cs (no_plan_output VerdictAnswer plain_refusal plain_refuses b [] (Err f, reads, is))
-long_task (Ok p) labels b cs reads is = long_layers p (first_fault (layer_checks p)) refl labels b cs reads is
-
-pub none_judge_is_long : NoneJudgeIsLong
-none_judge_is_long labels b cs out = long_task out.0 labels b cs out.1 out.2
+refuses_as_plan labels b cs o other (inl refused) c = inl refused
+refuses_as_plan labels b cs o other (inr (p, reads, layered, answer)) c = absurd (other (p, reads, layered))

@@ -17,7 +17,7 @@ use Rattle.sas_answers.specs.Answers.{VerdictAnswer, layers_refusal}
 use Rattle.sas_answers.specs.LayerWords.{layer_words, layers_line}
 use Rattle.sas_answers.specs.PlanWords.{fault_words, invalid_line}
 use Rattle.sas_output.specs.declared.ending.Status.TheVariants.{No}
-use Rattle.sas_outputs.specs.Output.{VerdictOut, IsAnswerOrRefusal, refusal, refusal_line, word_of}
+use Rattle.sas_outputs.specs.Output.{VerdictOut, IsAnswerOrRefusal, TaskOut, UnlayeredAnswer, plain_refusal, refusal, refusal_line, word_of}
 use Rattle.sas_outputs.proofs.PlainLines.{file_words, file_plain, kind_plain, layer_plain, invalid_plain}
 use Rattle.sas_answers.proofs.WordedLines.{worded}
 use Rattle.sas_plans.specs.Inputs.{IsLabel}
@@ -122,7 +122,7 @@ pub record IsRefusal (o : Output) : Type 0 where
   pub letter : EndsInLetter line
   pub status : o.status ≡ No
 
-pub file_refusal : (f : Fault) (o : Output) → refusal (codes "task") f ≡ Some o → IsRefusal o
+file_refusal : (f : Fault) (o : Output) → refusal (codes "task") f ≡ Some o → IsRefusal o
 file_refusal f o is =
     let w = worded (word_of f.kind) (refusal_line (codes "task") f.line) o is in
     record {
@@ -133,7 +133,7 @@ file_refusal f o is =
       status = w.status;
     }
 
-pub layers_refused : (fault : LayerFault) (o : Output) → layers_refusal fault ≡ Some o → IsRefusal o
+layers_refused : (fault : LayerFault) (o : Output) → layers_refusal fault ≡ Some o → IsRefusal o
 layers_refused fault o is =
     let w = worded (layer_words fault) layers_line o is in
     record {
@@ -143,3 +143,10 @@ layers_refused fault o is =
       letter = letter_behind (codes "task refused: ") w.said (layer_letter fault w.said w.among);
       status = w.status;
     }
+
+reading_refused : (r : Result Parts Fault) (o : Output) → IsAnswerOrRefusal (codes "task") (UnlayeredAnswer plain_refusal) r (Some o) → IsRefusal o
+reading_refused (Err f) o is = file_refusal f o (sym is)
+reading_refused (Ok p) o (answer, (fault, first, told), is) = layers_refused fault o (told ∙ sym is)
+
+pub task_refused : (b : List ℕ) (o : Output) → TaskOut (UnlayeredAnswer plain_refusal) b (Some o) → IsRefusal o
+task_refused b o (r, reads, is) = reading_refused r o is

@@ -1,5 +1,5 @@
 -- What is printed of many plans tells which of them solve the task.
-use Rattle.std.proofs.Common.{◌≡◌, ℕ, zero, suc, ◌<◌, Bool, true, false, List, [], ◌∷◌, ◌++◌, length, get_or, codes, decimal, append_assoc, refl, sym, ap, subst, ◌∙◌, arith, Option, Some, None, Result, Ok, Err}
+use Rattle.std.proofs.Common.{◌≡◌, ℕ, zero, suc, ◌<◌, Bool, true, false, List, [], ◌∷◌, ◌++◌, length, get_or, codes, decimal, append_assoc, refl, sym, ap, subst, ◌∙◌, arith, inl, inr, Option, Some, Ok}
 use Rattle.std.specs.Prelude.{◌↔◌, All, zip, is_some, if◌then◌else◌}
 use Rattle.std.specs.List.{list_all}
 use Rattle.std.specs.Io.KnownBytes.{Appends}
@@ -7,19 +7,13 @@ use Rattle.std.proofs.lemmas.List.{append_cancel_left, append_cancel_right}
 use Rattle.std.proofs.lemmas.List.Elements.{All-get_or, All-from_get_or}
 use Rattle.std.proofs.lemmas.List.Sums.{AllPass-from_list_all, list_all-from_AllPass}
 use Rattle.sas_core.specs.declared.parts.Parts.{Parts}
-use Rattle.sas_core.specs.FirstFault.{first_fault}
-use Rattle.sas_meaning.specs.declared.layered.LayerFault.{LayerFault}
 use Rattle.sas_meaning.specs.Layers.{IsLayered}
-use Rattle.sas_meaning.specs.LayerChecks.{layer_checks}
-use Rattle.sas_meaning.proofs.LayerChecksAreRules.{checks_are_rules}
 use Rattle.sas_lines.specs.Lines.{lines}
 use Rattle.sas_lines.proofs.Splitting.{lines-one}
-use Rattle.sas_reader.specs.declared.fault.Fault.{Fault}
 use Rattle.sas_reader.specs.Format.{ReadsAs}
 use Rattle.sas_reader.specs.Limit.{most_bytes}
 use Rattle.sas_reader.proofs.Plain.{plain}
 use Rattle.sas_task_format.specs.TaskFormat.{task_format}
-use Rattle.sas_task_format.proofs.TaskLaws.{task_laws_hold}
 use Rattle.sas_output.specs.declared.ending.Status.{Status}
 use Rattle.sas_output.specs.declared.ending.Status.TheVariants.{Yes, No}
 use Rattle.sas_output.specs.Ending.{Output}
@@ -28,15 +22,15 @@ use Rattle.sas_answers.specs.PlanWords.{valid_line}
 use Rattle.sas_outputs.specs.Headline.{Solves, Headline}
 use Rattle.sas_outputs.specs.Output.{IsLayeredText, plain_refusal}
 use Rattle.sas_outputs.proofs.Headlines.{tells_valid, headline_of, sent_same}
-use Rattle.sas_outputs.proofs.PlanOutputs.{plain_refuses, judged_out}
+use Rattle.sas_outputs.proofs.PlanOutputs.{plain_refuses, not_refused}
 use Rattle.sas_plans.specs.Inputs.{IsLabel}
-use Rattle.sas_plans.specs.Judged.{Judged, HasCost, IsJudged, PlansAnswer, JudgedLayers, JudgedTask, JudgeOut, is_valid, labelled}
+use Rattle.sas_plans.specs.Judged.{Judged, HasCost, IsJudged, PlansAnswer, JudgeOut, is_valid, labelled}
 use Rattle.sas_plans.specs.Judging.{unjudged}
 use Rattle.sas_plans.specs.PlansHeadline.{PlansHeadline, line_of, labelled_valid}
 use Rattle.sas_plans.proofs.SideBySide.{zip_long, zip_at}
 use Rattle.sas_plans.proofs.JudgeLaws.{refuses_as_plan}
 use Rattle.sas_plans.proofs.LastBytes.{last, IsDigit, digit_behind}
-use Rattle.sas_plans.proofs.PlanLines.{IsLine, IsRefusal, verdict_line, labelled_line, line_at, file_refusal, layers_refused}
+use Rattle.sas_plans.proofs.PlanLines.{IsLine, IsRefusal, verdict_line, labelled_line, line_at, task_refused}
 
 -- what is said of one plan, and what that tells
 record PlanTold (b c label : List ℕ) (j : Judged) : Type 0 where
@@ -56,7 +50,7 @@ module _ (p : Parts) (layered : IsLayered p) (labels : List (List ℕ)) (b : Lis
   plan_told : (label c : List ℕ) (j : Judged) → IsLabel label → IsJudged p (label, c) j → PlanTold b c label j
   plan_told label c j is_label (o, out, same, line, cost) = record {
     output = o;
-    headline = headline_of VerdictAnswer plain_refusal tells_valid plain_refuses b c o (judged_out VerdictAnswer plain_refusal p layered b c reads (Some o) out) (Some []) (Some o.text) [] o.status refl refl refl;
+    headline = headline_of VerdictAnswer plain_refusal tells_valid plain_refuses b c o (inr (p, reads, layered, out)) (Some []) (Some o.text) [] o.status refl refl refl;
     line = ap (λ (x : List ℕ). x ++ codes ": " ++ j.line) same ∙ ap (λ (x : List ℕ). label ++ codes ": " ++ x) line;
     valid = status_valid c o.status j.cost cost;
     is_line = labelled_line label j is_label same (subst IsLine (sym line) (verdict_line p c o out));
@@ -149,25 +143,7 @@ module _ (labels : List (List ℕ)) (b : List ℕ) (cs : List (List ℕ)) (o : O
 
 module _ (labels : List (List ℕ)) (b : List ℕ) (cs : List (List ℕ)) (o : Output) (many : length cs ≡ length labels) (are_labels : All IsLabel labels)
     (old new : Option (List ℕ)) (before : List ℕ) (status : Status) (known : old ≡ Some before) (is : status ≡ o.status) (sent : Appends old new o.text) where
-  layers_headline : (p : Parts) (first : Option LayerFault) → first_fault (layer_checks p) ≡ first → ReadsAs task_format most_bytes b (Ok p) → JudgeOut labels b cs (Some o) → JudgedLayers p first (zip labels cs) (Some o)
-      → PlansHeadline labels b cs (Appends old new) status
-  layers_headline p None e reads out judged = headline_layered p ((checks_are_rules p).0 e) labels b cs reads many are_labels o judged old new before status known is sent
-  layers_headline p (Some fault) e reads out judged =
-      headline_refused labels b cs o out (layers_refused fault o (sym judged))
-      (λ (q, other, layered).
-      let same : Ok p ≡ Ok q = task_laws_hold.one_reading most_bytes b (Ok p) (Ok q) reads other in
-      let parts : p ≡ q = cc in
-      let none : first_fault (layer_checks p) ≡ None = (checks_are_rules p).1 (subst IsLayered (sym parts) layered) in
-      let apart : Some fault ≡ None = sym e ∙ none in
-      absurd cc)
-      old new before status known is sent
-
-  task_headline : (r : Result Parts Fault) → ReadsAs task_format most_bytes b r → JudgeOut labels b cs (Some o) → JudgedTask r (zip labels cs) (Some o) → PlansHeadline labels b cs (Appends old new) status
-  task_headline (Ok p) reads out judged = layers_headline p (first_fault (layer_checks p)) refl reads out judged
-  task_headline (Err f) reads out judged =
-      headline_refused labels b cs o out (file_refusal f o (sym judged))
-      (λ (q, other, layered). let same : Err f ≡ Ok q = task_laws_hold.one_reading most_bytes b (Err f) (Ok q) reads other in absurd cc)
-      old new before status known is sent
-
   pub plans_headline_of : JudgeOut labels b cs (Some o) → PlansHeadline labels b cs (Appends old new) status
-  plans_headline_of out = task_headline out.0 out.1 out out.2
+  plans_headline_of (inl refused) =
+      headline_refused labels b cs o (inl refused) (task_refused b o refused) (not_refused plain_refusal b (Some o) refused) old new before status known is sent
+  plans_headline_of (inr (p, reads, layered, answer)) = headline_layered p layered labels b cs reads many are_labels o answer old new before status known is sent

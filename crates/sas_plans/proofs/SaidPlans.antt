@@ -17,7 +17,7 @@ use Rattle.sas_output.specs.Ending.{IsDecided, IsWrite}
 use Rattle.sas_answers.specs.Answers.{VerdictAnswer}
 use Rattle.sas_plan_file.specs.PlanFormat.{plan_format}
 use Rattle.sas_outputs.specs.Output.{VerdictOut}
-use Rattle.sas_outputs.proofs.Outputs.{no_file_output, plan_worded}
+use Rattle.sas_outputs.proofs.Outputs.{long_file, plan_worded}
 use Rattle.sas_plans.specs.declared.inputs.InputFault.TheVariants.{NotOpened, Read, TooLong}
 use Rattle.sas_plans.specs.declared.inputs.JudgeFault.{JudgeFault}
 use Rattle.sas_plans.specs.declared.inputs.JudgeFault.TheVariants.{Tool, Plan}
@@ -188,7 +188,7 @@ module _ (p : Parts) (known : ℕ → Option (List ℕ)) (labels : List (List �
   rightly_long (Plan other NotOpened) number h = tt
   rightly_long (Plan other Read) number h = tt
   rightly_long (Plan other TooLong) number h = λ c is.
-      no_file_output plan_format (codes "plan") (VerdictAnswer p) c (λ s line k. plan_worded line k) (h.output c (ap known (sym h.its) ∙ is) refl)
+      long_file plan_format (codes "plan") (VerdictAnswer p) c plan_worded (h.output c (ap known (sym h.its) ∙ is) refl)
   rightly_long (Tool what) number h = tt
 
   module _ (why : JudgeFault) (h : IsOneUnsaid p known (length labels) why) where

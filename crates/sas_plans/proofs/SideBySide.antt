@@ -1,5 +1,8 @@
 -- Lists side by side: labels, the bytes of plans, and what is said of them.
-use Rattle.std.proofs.Common.{◌≡◌, ℕ, zero, suc, ◌<◌, List, [], ◌∷◌, length, get_or, refl, ap, arith}
+use Rattle.std.proofs.Common.{◌≡◌, ℕ, zero, suc, ◌+◌, ◌<◌, ◌≤◌, min, List, [], ◌∷◌, length, get_or, refl, sym, ap, subst, ◌∙◌, arith}
+use Rattle.std.proofs.Math.Nat.{le-min, min-le_left, min-le_right}
+use Rattle.std.proofs.lemmas.List.Elements.{Contains-get_or}
+use Rattle.std.proofs.lemmas.Slice.Zip.{length-zip, get_or-zip}
 use Rattle.std.specs.Prelude.{zip, Contains}
 use Rattle.std.specs.List.{AllZip}
 
@@ -33,33 +36,19 @@ choose Q (suc n) h =
 
 -- ---- pairs
 
-length_zip : (labels cs : List (List ℕ)) → length cs ≡ length labels → length (zip labels cs) ≡ length labels
-length_zip [] cs e = refl
-length_zip (l ∷ labels) [] e = absurd (omega arith)
-length_zip (l ∷ labels) (c ∷ cs) e = ap suc (length_zip labels cs (omega arith))
-
-pair_at : (labels cs : List (List ℕ)) (k : ℕ) (none : List ℕ × List ℕ) → length cs ≡ length labels → k < length labels → get_or (zip labels cs) k none ≡ (get_or labels k [], get_or cs k [])
-pair_at [] cs k none e less = absurd (omega arith)
-pair_at (l ∷ labels) [] k none e less = absurd (omega arith)
-pair_at (l ∷ labels) (c ∷ cs) zero none e less = refl
-pair_at (l ∷ labels) (c ∷ cs) (suc k) none e less = pair_at labels cs k none (omega arith) (omega arith)
-
 pub contains_pair : (labels cs : List (List ℕ)) (k : ℕ) → length cs ≡ length labels → k < length labels → Contains (zip labels cs) (get_or labels k [], get_or cs k [])
 contains_pair labels cs k e less =
-    (k, omega (arith, length_zip labels cs e), pair_at labels cs k (get_or labels k [], get_or cs k []) e less)
-
-second_at : (labels cs : List (List ℕ)) (k : ℕ) (none : List ℕ × List ℕ) → k < length (zip labels cs) → (k < length cs) × (get_or cs k none.1 ≡ (get_or (zip labels cs) k none).1)
-second_at [] cs k none less = absurd (omega arith)
-second_at (l ∷ labels) [] k none less = absurd (omega arith)
-second_at (l ∷ labels) (c ∷ cs) zero none less = (omega arith, refl)
-second_at (l ∷ labels) (c ∷ cs) (suc k) none less = let rest = second_at labels cs k none (omega arith) in (omega (arith, rest.0), rest.1)
+    let below : k + 1 ≤ min (length labels) (length cs) = le-min (omega arith) (omega arith) in
+    let pair = get_or-zip labels cs k ([], []) less (omega arith) in
+    subst (Contains (zip labels cs)) pair (Contains-get_or (zip labels cs) k ([], []) (omega (arith, below, length-zip labels cs)))
 
 pub contains_second : (labels cs : List (List ℕ)) (label c : List ℕ) → Contains (zip labels cs) (label, c) → Contains cs c
 contains_second labels cs label c h =
-    let second = second_at labels cs h.0 (label, c) h.1 in
+    let below : h.0 < min (length labels) (length cs) = omega (arith, h.1, length-zip labels cs) in
+    let first : h.0 < length labels = omega (arith, below, min-le_left (length labels) (length cs)) in
+    let second : h.0 < length cs = omega (arith, below, min-le_right (length labels) (length cs)) in
     let whole : get_or (zip labels cs) h.0 (label, c) ≡ (label, c) = h.2 in
-    let same : (get_or (zip labels cs) h.0 (label, c)).1 ≡ c = ap (λ (x : List ℕ × List ℕ). x.1) whole in
-    (h.0, second.0, cc)
+    (h.0, second, ap (λ (x : List ℕ × List ℕ). x.1) (sym (get_or-zip labels cs h.0 (label, c) first second) ∙ whole))
 
 -- ---- back from the lists to the items at a place
 

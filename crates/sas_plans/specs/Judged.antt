@@ -2,24 +2,17 @@
 -- front, and how many of them are valid.
 use Rattle.std.specs.Prelude.{◌≡◌, ◌⊎◌, ℕ, ◌<◌, ◌≤◌, Bool, is_some, if◌then◌else◌, List, ◌∷◌, ◌++◌}
 use Rattle.std.specs.Prelude.{length, flat_map, count_by, zip, All, Contains, codes, decimal}
-use Rattle.std.specs.Prelude.{Option, Some, None, Result, Ok, Err}
+use Rattle.std.specs.Prelude.{Option, Some, None}
 use Rattle.std.specs.List.{AllZip, list_all}
 use Rattle.sas_core.specs.declared.parts.Parts.{Parts}
-use Rattle.sas_core.specs.FirstFault.{first_fault}
 use Rattle.sas_core.specs.PlanParts.{PlanParts}
-use Rattle.sas_meaning.specs.declared.layered.LayerFault.{LayerFault}
-use Rattle.sas_meaning.specs.LayerChecks.{layer_checks}
-use Rattle.sas_reader.specs.declared.fault.Fault.{Fault}
 use Rattle.sas_reader.specs.Texts.{Reads}
-use Rattle.sas_reader.specs.Format.{ReadsAs}
-use Rattle.sas_reader.specs.Limit.{most_bytes}
 use Rattle.sas_plan_file.specs.PlanTexts.{plan_texts}
-use Rattle.sas_task_format.specs.TaskFormat.{task_format}
 use Rattle.sas_output.specs.declared.ending.Status.{Status}
 use Rattle.sas_output.specs.declared.ending.Status.TheVariants.{Yes, No}
 use Rattle.sas_output.specs.Ending.{Output}
-use Rattle.sas_answers.specs.Answers.{layers_refusal, VerdictAnswer}
-use Rattle.sas_outputs.specs.Output.{refusal, VerdictOut}
+use Rattle.sas_answers.specs.Answers.{VerdictAnswer}
+use Rattle.sas_outputs.specs.Output.{LayeredOut, VerdictOut, plain_refusal}
 
 -- what is said of a plan: its label, the line that `plan` prints of it, with its end, and its cost
 -- if it is valid
@@ -90,19 +83,7 @@ PlansOut p plans (Some output) = PlansAnswer p plans output
 PlansOut p plans None = (label c : List ℕ)
     × Contains plans (label, c) × VerdictOut VerdictAnswer p c None
 
--- the output for a task, by the first fault of its layers if they have one: the task is refused for
--- it, and only the plans of a layered task are judged
-abbrev pub JudgedLayers : Parts → Option LayerFault → List (List ℕ × List ℕ) → Option Output → Type 0
-JudgedLayers p (Some fault) plans output = output ≡ layers_refusal fault
-JudgedLayers p None plans output = PlansOut p plans output
-
--- the output for what the task's bytes are read as
-abbrev pub JudgedTask : Result Parts Fault → List (List ℕ × List ℕ) → Option Output → Type 0
-JudgedTask (Err fault) plans output = output ≡ refusal (codes "task") fault
-JudgedTask (Ok p) plans output = JudgedLayers p (first_fault (layer_checks p)) plans output
-
--- the output about the bytes b of the task, and plans with these labels and the bytes cs
+-- the output about the bytes b of the task, and plans with these labels and the bytes cs; only the
+-- plans of a layered task are judged
 abbrev pub JudgeOut : List (List ℕ) → List ℕ → List (List ℕ) → Option Output → Type 0
-JudgeOut labels b cs output = (read : Result Parts Fault)
-    × ReadsAs task_format most_bytes b read
-    × JudgedTask read (zip labels cs) output
+JudgeOut labels b cs = LayeredOut plain_refusal (λ p. PlansOut p (zip labels cs)) b

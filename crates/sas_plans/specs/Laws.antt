@@ -1,22 +1,12 @@
 -- What follows from the definition of what `plans` prints.
 use Rattle.std.specs.Prelude.{◌≡◌, ◌⊎◌, ℕ, ◌<◌, List, ◌++◌, length, flat_map, zip, codes, Contains}
-use Rattle.std.specs.Prelude.{Option, Some, None}
+use Rattle.std.specs.Prelude.{Some}
 use Rattle.std.specs.List.{AllZip}
 use Rattle.sas_output.specs.Ending.{Output}
 use Rattle.sas_reader.specs.Limit.{most_bytes}
 use Rattle.sas_outputs.specs.declared.Request.TheVariants.{Plan}
 use Rattle.sas_outputs.specs.Output.{Out, IsLayeredText}
 use Rattle.sas_plans.specs.Judged.{JudgeOut}
-
--- there is one output over the same inputs
-abbrev pub OneJudgeOutput : Type 0
-OneJudgeOutput = (labels : List (List ℕ)) (b : List ℕ) (cs : List (List ℕ)) (o p : Option Output)
-    → length cs ≡ length labels → JudgeOut labels b cs o → JudgeOut labels b cs p → o ≡ p
-
--- and it can't have nothing
-abbrev pub SomeJudgeOutput : Type 0
-SomeJudgeOutput = (labels : List (List ℕ)) (b : List ℕ) (cs : List (List ℕ))
-    → ((o : Option Output) → JudgeOut labels b cs o → ⊥) → ⊥
 
 -- of a layered task, what is printed of each plan is its label and the output of `plan` for it
 abbrev pub EachIsThatOfPlan : Type 0
@@ -32,8 +22,7 @@ abbrev pub RefusesAsPlan : Type 0
 RefusesAsPlan = (labels : List (List ℕ)) (b : List ℕ) (cs : List (List ℕ)) (o : Output)
     → (IsLayeredText b → ⊥) → JudgeOut labels b cs (Some o) → (c : List ℕ) → Out Plan b c (Some o)
 
--- there is none only where the task passes the limit, or a plan of a layered task does
-abbrev pub NoneJudgeIsLong : Type 0
-NoneJudgeIsLong = (labels : List (List ℕ)) (b : List ℕ) (cs : List (List ℕ))
-    → JudgeOut labels b cs None → (most_bytes < length b)
-    ⊎ (IsLayeredText b × (c : List ℕ) × Contains cs c × (most_bytes < length c))
+-- the task exceeds the limit, or a plan of a layered task does
+abbrev pub IsOneLong : List ℕ → List (List ℕ) → Type 0
+IsOneLong b cs = (most_bytes < length b)
+    ⊎ (IsLayeredText b × ((c : List ℕ) × Contains cs c × (most_bytes < length c)))

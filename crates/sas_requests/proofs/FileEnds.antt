@@ -37,7 +37,7 @@ use Rattle.sas_output.specs.declared.ending.ToolFault.TheVariants as tool_fault
 use Rattle.sas_output.specs.Ending.{Output, Ends, EndsCounting, IsDecided, IsWrite}
 use Rattle.sas_output.proofs.Sent.{counting_ends, ends_counting_as}
 use Rattle.sas_task_reasons.proofs.TaskAnswers.{not_memory}
-use Rattle.sas_outputs.specs.Output.{refusal, IsAnswerOrRefusal}
+use Rattle.sas_outputs.specs.Output.{refusal, IsAnswerOrRefusal, FileOut}
 use Rattle.sas_outputs.proofs.Endings.{ends_counting_by}
 use Rattle.sas_outputs.proofs.Outputs.{refused_kind, too_long_else, reading_of_refusal}
 use Rattle.sas_outputs.proofs.PlanOutputs.{told_fault}
@@ -45,9 +45,9 @@ use Rattle.sas_requests.specs.declared.detail.Detail.{Detail}
 use Rattle.sas_requests.specs.declared.detail.Detail.TheVariants.{Plain, Reasons, Trace}
 use Rattle.sas_outputs.specs.EndsFile.{EndsFile}
 use Rattle.sas_requests.specs.Answering.{FileBy, TaskBy, PlanBy, UnlayeredBy, layers_by, refusal_by, task_refusal_lines, plan_refusal_lines}
-use Rattle.sas_requests.specs.FileReasons.{FaultReasons, told, past_limit, AreTaskReasons, ArePlanReasons}
+use Rattle.sas_requests.specs.FileReasons.{FaultReasons, told, past_limit, FileReasons, AreTaskReasons, ArePlanReasons}
 use Rattle.sas_requests.proofs.RefusalLaws.{task_telling, plan_telling}
-use Rattle.sas_requests.proofs.RefusalReasons.{no_reasons, some_of}
+use Rattle.sas_requests.proofs.RefusalReasons.{some_of, reasoned_by, more_reasoned, told_alone}
 
 -- ---- outputs that went out
 
@@ -74,15 +74,8 @@ module _ (Sent : List ℕ → Type 0) where
 module _ {V I S : Type 0} (F : Format V I S) (Tells : Kind → List (List ℕ) → List ℕ → List FileLine → Type 0) (name : List ℕ) where
   -- an answer about their value
   value_by : (detail : Detail) (IsAnswer : V → Output → Type 0) (b : List ℕ) (v : V) (o : Output) → ReadsAs F most_bytes b (Ok v) → IsAnswer v o → FileBy F Tells name detail IsAnswer b (Some o)
-  value_by Plain IsAnswer b v o reads is = (Ok v, reads, (o, is, refl))
-  value_by Trace IsAnswer b v o reads is = (Ok v, reads, (o, is, refl))
-  value_by Reasons IsAnswer b v o reads is = record {
-    of_read = Some o;
-    reasons = [];
-    is_out = (Ok v, reads, (o, is, refl));
-    are_reasons = (Ok v, reads, refl);
-    whole = ap Some (sym (no_reasons o));
-  }
+  value_by detail IsAnswer b v o reads is =
+      reasoned_by detail (FileOut F name IsAnswer b) (FileReasons F Tells b) (Some o) (Some o) [] (Ok v, reads, (o, is, refl)) (Ok v, reads, refl) (told_alone detail (Some o))
 
   -- other answers that follow
   more_read : (A B : V → Output → Type 0) → ((v : V) (o : Output) → A v o → B v o) → (r : Result V Fault) (o : Option Output) → IsAnswerOrRefusal name A r o → IsAnswerOrRefusal name B r o
@@ -90,11 +83,8 @@ module _ {V I S : Type 0} (F : Format V I S) (Tells : Kind → List (List ℕ) �
   more_read A B to (Err fault) o is = is
 
   more_by : (detail : Detail) (A B : V → Output → Type 0) → ((v : V) (o : Output) → A v o → B v o) → (b : List ℕ) (o : Option Output) → FileBy F Tells name detail A b o → FileBy F Tells name detail B b o
-  more_by Plain A B to b o (r, reads, is) = (r, reads, more_read A B to r o is)
-  more_by Trace A B to b o (r, reads, is) = (r, reads, more_read A B to r o is)
-  more_by Reasons A B to b o out =
-      let (r, reads, is) = out.is_out in
-      record { of_read = out.of_read; reasons = out.reasons; is_out = (r, reads, more_read A B to r out.of_read is); are_reasons = out.are_reasons; whole = out.whole }
+  more_by detail A B to b =
+      more_reasoned detail (FileOut F name A b) (FileOut F name B b) (FileReasons F Tells b) (FileReasons F Tells b) (λ o (r, reads, is). (r, reads, more_read A B to r o is)) (λ o reasons out why. why)
 
   module _ (f : Fault) (reasons : List FileLine) where
     plain_kind : (o : Output) → refusal name f ≡ Some o → ConcernsText f.kind
@@ -106,23 +96,14 @@ module _ {V I S : Type 0} (F : Format V I S) (Tells : Kind → List (List ℕ) �
     told_kind Trace o is = plain_kind o (sym is)
     told_kind Reasons o is = let (plain, refused, same) = some_of (file_text reasons) (refusal name f) o is in plain_kind plain refused
 
-    -- the refusal
-    refused_by : (detail : Detail) (IsAnswer : V → Output → Type 0) (b : List ℕ) (o : Output) → Some o ≡ refusal_by detail name f reasons → ReadsAs F most_bytes b (Err f) → FaultReasons F Tells b f reasons → FileBy F Tells name detail IsAnswer b (Some o)
-    refused_by Plain IsAnswer b o is reads why = (Err f, reads, is)
-    refused_by Trace IsAnswer b o is reads why = (Err f, reads, is)
-    refused_by Reasons IsAnswer b o is reads why = record { of_read = refusal name f; reasons = reasons; is_out = (Err f, reads, refl); are_reasons = (Err f, reads, why); whole = is }
+    module _ (detail : Detail) (IsAnswer : V → Output → Type 0) (b : List ℕ) (reads : ReadsAs F most_bytes b (Err f)) where
+      -- the refusal
+      refused_by : (o : Output) → Some o ≡ refusal_by detail name f reasons → FaultReasons F Tells b f reasons → FileBy F Tells name detail IsAnswer b (Some o)
+      refused_by o is why = reasoned_by detail (FileOut F name IsAnswer b) (FileReasons F Tells b) (refusal name f) (Some o) reasons (Err f, reads, refl) (Err f, reads, why) is
 
-    -- or none, past the limit
-    long_by : (detail : Detail) (IsAnswer : V → Output → Type 0) (b : List ℕ) → f.kind ≡ TooLong → ReadsAs F most_bytes b (Err f) → FileBy F Tells name detail IsAnswer b None
-    long_by Plain IsAnswer b long reads = (Err f, reads, rw long refl)
-    long_by Trace IsAnswer b long reads = (Err f, reads, rw long refl)
-    long_by Reasons IsAnswer b long reads = record {
-      of_read = refusal name f;
-      reasons = [];
-      is_out = (Err f, reads, refl);
-      are_reasons = (Err f, reads, past_limit long refl);
-      whole = rw long refl;
-    }
+      -- or none, past the limit
+      long_by : f.kind ≡ TooLong → FileBy F Tells name detail IsAnswer b None
+      long_by long = reasoned_by detail (FileOut F name IsAnswer b) (FileReasons F Tells b) None None [] (Err f, reads, rw long refl) (Err f, reads, past_limit long refl) (told_alone detail None)
 
 -- ---- how it goes out
 
@@ -180,14 +161,14 @@ module _ {D V I S A : Type 0} (left : D → Option (List ℕ)) (F : Format V I S
     known_out : (b : List ℕ) → left old.device ≡ Some b → (o : Output) → Some o ≡ refusal_by detail name (fault r) reasons → FileOutput b (Some o)
     known_out b known o is =
         let kind = told_kind F Tells name (fault r) reasons detail o is in
-        refused_by F Tells name (fault r) reasons detail IsAnswer b o is (known_fault left F Gives old new (fault r) b plain known kind.2 kind.0)
+        refused_by F Tells name (fault r) reasons detail IsAnswer b (known_fault left F Gives old new (fault r) b plain known kind.2 kind.0) o is
         (reasons_of b (known_explained left F fault found Told Gives old new r b telling h known kind))
 
     taken_out : (o : Output) → Some o ≡ refusal_by detail name (fault r) reasons → (b : List ℕ) × Consumes (left old.device) (left new.device) b × FileOutput b (Some o)
     taken_out o is =
         let kind = told_kind F Tells name (fault r) reasons detail o is in
         let x = h.explained kind in
-        (x.0, x.1, refused_by F Tells name (fault r) reasons detail IsAnswer x.0 o is (reading_of_refusal F x.0 (IsAtEnd (left new.device)) (fault r) x.2 kind.0) (reasons_of x.0 x.3))
+        (x.0, x.1, refused_by F Tells name (fault r) reasons detail IsAnswer x.0 (reading_of_refusal F x.0 (IsAtEnd (left new.device)) (fault r) x.2 kind.0) o is (reasons_of x.0 x.3))
 
     long_memory : (fault r).kind ≡ TooLong → (fault r).kind ≢ Memory
     long_memory long = too_long_else (fault r).kind Memory long (λ e. absurd cc)
@@ -196,12 +177,12 @@ module _ {D V I S A : Type 0} (left : D → Option (List ℕ)) (F : Format V I S
     long_read long = too_long_else (fault r).kind Read long (λ e. absurd cc)
 
     known_long : (b : List ℕ) → left old.device ≡ Some b → (fault r).kind ≡ TooLong → FileOutput b None
-    known_long b known long = long_by F Tells name (fault r) reasons detail IsAnswer b long (known_fault left F Gives old new (fault r) b plain known (long_memory long) (long_read long))
+    known_long b known long = long_by F Tells name (fault r) reasons detail IsAnswer b (known_fault left F Gives old new (fault r) b plain known (long_memory long) (long_read long)) long
 
     taken_long : (fault r).kind ≡ TooLong → (b : List ℕ) × Consumes (left old.device) (left new.device) b × FileOutput b None
     taken_long long =
         let x = plain.fault (long_memory long) in
-        (x.0, x.1, long_by F Tells name (fault r) reasons detail IsAnswer x.0 long (reading_of_refusal F x.0 (IsAtEnd (left new.device)) (fault r) x.2 (long_read long)))
+        (x.0, x.1, long_by F Tells name (fault r) reasons detail IsAnswer x.0 (reading_of_refusal F x.0 (IsAtEnd (left new.device)) (fault r) x.2 (long_read long)) long)
 
     abbrev TellsFault : Result Status ToolFault → Type 0
     TellsFault result = Ends (λ o. o ≡ refusal_by detail name (fault r) reasons) Sent result

@@ -117,7 +117,7 @@ plain_verdicts p o ranged (verdicts, are, e) =
 -- ---- a refusal has no such line
 
 -- none of the text's lines says that a group is exclusive
-abbrev SaysNone : List ℕ → Type 0
+abbrev pub SaysNone : List ℕ → Type 0
 SaysNone out = (place : ℕ) → Contains (lines out) (group_line place Exclusive) → ⊥
 
 first_apart : (words : List ℕ) (place : ℕ) → codes "task refused: " ++ words ≡ group_line place Exclusive → ⊥
@@ -135,18 +135,18 @@ reasons_apart (line ∷ reasons) are place has = elim (contains_cases line reaso
   | inr behind ↦ reasons_apart reasons are.1 place behind
 ]
 
--- nor of a refusal, and of reasons behind it
-refusal_says_none : (words : List ℕ) (reasons : List (List ℕ)) → IsTold (codes "task refused: " ++ words) → AreReasons reasons → SaysNone (((codes "task refused: " ++ words) ++ 10 ∷ []) ++ text reasons)
-refusal_says_none words reasons told are place has =
-    let line = codes "task refused: " ++ words in
-    let among = subst (λ (ls : List (List ℕ)). Contains ls (group_line place Exclusive)) (lines_of_first line reasons told are) has in
-    elim (contains_cases line reasons (group_line place Exclusive) among) [
-      | inl here ↦ first_apart words place here
-      | inr behind ↦ reasons_apart reasons are place behind
-    ]
+-- nor of another line, and of reasons behind it
+module _ (line : List ℕ) (told : IsTold line) (apart : (place : ℕ) → line ≡ group_line place Exclusive → ⊥) where
+  pub line_says_none : (reasons : List (List ℕ)) → AreReasons reasons → SaysNone ((line ++ 10 ∷ []) ++ text reasons)
+  line_says_none reasons are place has =
+      let among = subst (λ (ls : List (List ℕ)). Contains ls (group_line place Exclusive)) (lines_of_first line reasons told are) has in
+      elim (contains_cases line reasons (group_line place Exclusive) among) [
+        | inl here ↦ apart place here
+        | inr behind ↦ reasons_apart reasons are place behind
+      ]
 
-alone_says_none : (words out : List ℕ) → IsTold (codes "task refused: " ++ words) → out ≡ (codes "task refused: " ++ words) ++ 10 ∷ [] → SaysNone out
-alone_says_none words out told is = subst SaysNone (append-nil ((codes "task refused: " ++ words) ++ 10 ∷ []) ∙ sym is) (refusal_says_none words [] told tt)
+  alone_says_none : (out : List ℕ) → out ≡ line ++ 10 ∷ [] → SaysNone out
+  alone_says_none out is = subst SaysNone (append-nil (line ++ 10 ∷ []) ∙ sym is) (line_says_none [] tt)
 
 -- with reasons behind the lines of groups, too
 module _ (p : Parts) (ranged : WellRanged p) (reasons : List (Option Reason)) where
@@ -184,13 +184,13 @@ file_says_none fault o is =
       plain = file_plain (codes "task") fault.line w.said (plain_bytes (codes "task") refl) (kind_plain fault.kind w.said w.among);
       no_reason = refl;
     } in
-    alone_says_none (drop 14 (file_words (codes "task") fault.line w.said)) o.text told w.text
+    alone_says_none (file_words (codes "task") fault.line w.said) told (first_apart (drop 14 (file_words (codes "task") fault.line w.said))) o.text w.text
 
 -- the refusal of a task that isn't layered, without and with reasons
 layers_say_none : (fault : LayerFault) (o : Output) → layers_refusal fault ≡ Some o → SaysNone o.text
 layers_say_none fault o is =
     let w = worded (layer_words fault) layers_line o is in
-    alone_says_none w.said o.text (layer_told fault w.said w.among) w.text
+    alone_says_none (codes "task refused: " ++ w.said) (layer_told fault w.said w.among) (first_apart w.said) o.text w.text
 
 why_says_none : (p : Parts) (fault : LayerFault) (o : Output) → WellRanged p → why_refusal p fault ≡ Some o → SaysNone o.text
 why_says_none p fault o ranged told =
@@ -198,7 +198,7 @@ why_says_none p fault o ranged told =
     let w = worded (layer_words fault) layers_line plain_one is in
     let reasons = map (line_bytes p []) (layer_reasons p fault) in
     let whole : o.text ≡ layers_line w.said ++ text reasons = ap (λ (x : Output). x.text) same ∙ ap (λ (t : List ℕ). t ++ text reasons) w.text in
-    subst SaysNone (sym whole) (refusal_says_none w.said reasons (layer_told fault w.said w.among) (lines_tell p [] ranged tt (layer_reasons p fault)))
+    subst SaysNone (sym whole) (line_says_none (codes "task refused: " ++ w.said) (layer_told fault w.said w.among) (first_apart w.said) reasons (lines_tell p [] ranged tt (layer_reasons p fault)))
 
 -- ---- answers about groups
 

@@ -2,7 +2,6 @@ pub mod InvariantGroups
 mod SummaryLengths
 mod ShortOutputs
 mod WhyAnswers
-mod WhyLaws
 mod ReasonLines
 mod ToldLines
 mod GroupLines

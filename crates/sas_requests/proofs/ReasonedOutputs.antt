@@ -3,7 +3,6 @@
 use Rattle.std.proofs.Common.{◌≡◌, ◌⊎◌, ℕ, ◌<◌, append-nil, List, [], ◌∷◌, ◌++◌, get_or, arith, codes, refl, sym, ap, subst, ◌∙◌, inl, inr, Option, Some, false}
 use Rattle.std.specs.Prelude.{option_map, Contains}
 use Rattle.std.specs.Io.KnownBytes.{Appends}
-use Rattle.sas_meaning.proofs.Members.{contains_cases}
 use Rattle.sas_lines.specs.Lines.{text, lines}
 use Rattle.sas_reader.specs.declared.fault.Fault.{Fault}
 use Rattle.sas_reader.specs.System.{IsPlain}
@@ -16,42 +15,50 @@ use Rattle.sas_output.specs.declared.ending.Status.TheVariants.{Yes, No}
 use Rattle.sas_output.specs.Ending.{Output}
 use Rattle.sas_answers.specs.GroupWords.{group_line}
 use Rattle.sas_answers.specs.PlanWords.{valid_line}
-use Rattle.sas_task_reasons.specs.WhyLayers.{with_reasons, why_refusal, WhyMutexAnswer}
+use Rattle.sas_task_reasons.specs.WhyLayers.{with_reasons, why_refusal, WhyCheckAnswer, WhyMutexAnswer}
+use Rattle.sas_task_reasons.proofs.TaskAnswers.{one_why_check, some_why_check, one_why_mutex, some_why_mutex}
 use Rattle.sas_why.specs.Verdict.{WhyVerdict}
 use Rattle.sas_outputs.specs.declared.Request.{Request}
 use Rattle.sas_outputs.specs.declared.Request.TheVariants.{Plan, Mutex}
 use Rattle.sas_outputs.specs.Headline.{Solves, Headline, Invariants}
-use Rattle.sas_outputs.specs.Output.{word_of, refusal, refusal_line}
-use Rattle.sas_requests.specs.Why.{is_reason, without_reasons, OutOfRead, OutWhy, IsSameAnswer, SameAnswer, OneWhyOutput, SomeWhyOutput, NoneWhyIsLong}
-use Rattle.sas_outputs.proofs.Headlines.{sent_same, headline_of}
-use Rattle.sas_requests.proofs.InvariantGroups.{why_groups, invariants_of, reasons_apart}
+use Rattle.sas_outputs.specs.Output.{word_of, refusal, refusal_line, HasOneOutput, IsLong}
+use Rattle.sas_requests.specs.Why.{is_reason, without_reasons, OutOfRead, OutWhy, WithReasons, IsSameAnswer, SameAnswer}
+use Rattle.sas_requests.specs.FileReasons.{RefusalReasons}
+use Rattle.sas_outputs.proofs.Headlines.{IsSolved, IsOther, sent_same, headline_by, out_told, out_solved}
+use Rattle.sas_outputs.proofs.PlanOutputs.{output_of}
+use Rattle.sas_requests.proofs.InvariantGroups.{SaysNone, line_says_none, why_groups, invariants_of}
 use Rattle.sas_requests.proofs.ReasonLines.{AreReasons, file_lines_tell}
 use Rattle.sas_requests.proofs.RefusalReasons.{no_reasons, none_of, some_of, IsFileRefusal, stand_behind}
-use Rattle.sas_requests.proofs.RefusalLaws.{one_reasons, some_reasons}
+use Rattle.sas_requests.proofs.RefusalLaws.{HasOneList, reasons_of}
 use Rattle.sas_requests.proofs.SameAnswers.{same_of_read}
 use Rattle.sas_outputs.proofs.PlainLines.{file_words, file_plain, kind_plain}
-use Rattle.sas_requests.proofs.ToldLines.{IsTold, stays, first_stays, lines_of_first}
+use Rattle.sas_requests.proofs.ToldLines.{IsTold, stays, first_stays}
 use Rattle.sas_answers.proofs.WordedLines.{worded}
-use Rattle.sas_requests.proofs.WhyAnswers.{why_tells_valid, why_refuses}
-use Rattle.sas_requests.proofs.WhyLaws.{one_of_read, some_of_read, long_of_read}
+use Rattle.sas_requests.proofs.WhyAnswers.{one_why_verdict, some_why_verdict, why_tells_valid, why_refuses}
 
 -- ---- one output, always some, and none only where an input is too long
 
-pub one_why : OneWhyOutput
-one_why request b c o p x y =
-    let reasons = one_reasons request b c x.reasons y.reasons x.are_reasons y.are_reasons in
-    let read = one_of_read request b c x.of_read y.of_read x.is_out y.is_out in
-    x.whole
-    ∙ (ap (λ (r : List FileLine). option_map (with_reasons (file_text r)) x.of_read) reasons
-    ∙ (ap (λ (q : Option Output). option_map (with_reasons (file_text y.reasons)) q) read ∙ sym y.whole))
+module _ (IsOut : Option Output → Type 0) (Long : Type 0) (AreReasons : List FileLine → Type 0) (output : HasOneOutput IsOut Long) (list : HasOneList AreReasons) where
+  one_reasoned : (o p : Option Output) → WithReasons IsOut AreReasons o → WithReasons IsOut AreReasons p → o ≡ p
+  one_reasoned o p x y =
+      let reasons = list.one x.reasons y.reasons x.are_reasons y.are_reasons in
+      let read = output.one x.of_read y.of_read x.is_out y.is_out in
+      x.whole
+      ∙ (ap (λ (r : List FileLine). option_map (with_reasons (file_text r)) x.of_read) reasons
+      ∙ (ap (λ (q : Option Output). option_map (with_reasons (file_text y.reasons)) q) read ∙ sym y.whole))
 
-pub some_why : SomeWhyOutput
-some_why request b c none =
-    some_of_read request b c (λ q out. some_reasons request b c (λ reasons why.
-    none (option_map (with_reasons (file_text reasons)) q) (record { of_read = q; reasons = reasons; is_out = out; are_reasons = why; whole = refl })))
+  reasoned_output : HasOneOutput (WithReasons IsOut AreReasons) Long
+  reasoned_output = record {
+    one = one_reasoned;
+    some = λ none. output.some (λ q out. list.some (λ reasons why.
+        none (option_map (with_reasons (file_text reasons)) q) (record { of_read = q; reasons = reasons; is_out = out; are_reasons = why; whole = refl })));
+    long = λ out. output.long (subst IsOut (none_of (file_text out.reasons) out.of_read out.whole) out.is_out);
+  }
 
-pub long_why : NoneWhyIsLong
-long_why request b c out = long_of_read request b c (subst (OutOfRead request b c) (none_of (file_text out.reasons) out.of_read out.whole) out.is_out)
+pub why_output : (request : Request) (b c : List ℕ) → HasOneOutput (OutWhy request b c) (IsLong request b c)
+why_output request b c =
+    let output = output_of WhyVerdict one_why_verdict some_why_verdict WhyCheckAnswer WhyMutexAnswer one_why_check some_why_check one_why_mutex some_why_mutex why_refusal why_refuses request b c in
+    reasoned_output (OutOfRead request b c) (IsLong request b c) (RefusalReasons request b c) output (reasons_of request b c)
 
 -- ---- the refusal of a file is one line
 
@@ -68,38 +75,30 @@ pub record IsRefusalLine (o : Output) : Type 0 where
 not_same : (m n : ℕ) → m < n → n ≡ m → ⊥
 not_same m n less same = omega arith
 
-file_told : (name : List ℕ) (line : ℕ) (fault : Fault) (w : List ℕ) → IsPlain name → is_reason (file_words name line w) ≡ false → word_of fault.kind ≡ Some w → IsTold (file_words name line w)
-file_told name line fault w plain no_reason among = record { plain = file_plain name line w plain (kind_plain fault.kind w among); no_reason = no_reason }
-
-task_line : (fault : Fault) (o : Output) → Some o ≡ refusal (codes "task") fault → IsRefusalLine o
-task_line fault o is =
-    let w = worded (word_of fault.kind) (refusal_line (codes "task") fault.line) o (sym is) in
+file_line : (name : List ℕ) → IsPlain name → ((line : ℕ) (w : List ℕ) → is_reason (file_words name line w) ≡ false) → ((line : ℕ) (w behind : List ℕ) (steps cost : ℕ) → (file_words name line w ++ 10 ∷ []) ++ behind ≡ valid_line steps cost → ⊥)
+    → ((line : ℕ) (w : List ℕ) (place : ℕ) → file_words name line w ≡ group_line place Exclusive → ⊥) → (fault : Fault) (o : Output) → Some o ≡ refusal name fault → IsRefusalLine o
+file_line name plain no_reason no_plan no_group fault o is =
+    let w = worded (word_of fault.kind) (refusal_line name fault.line) o (sym is) in
     record {
-      line = file_words (codes "task") fault.line w.said;
-      told = file_told (codes "task") fault.line fault w.said (plain_bytes (codes "task") refl) refl w.among;
+      line = file_words name fault.line w.said;
+      told = record { plain = file_plain name fault.line w.said plain (kind_plain fault.kind w.said w.among); no_reason = no_reason fault.line w.said };
       status = w.status;
       text = w.text;
-      no_plan = λ behind steps cost e. not_same 112 116 (omega arith) (ap (λ (t : List ℕ). get_or t 0 0) e);
-      no_group = λ place e. not_same 103 116 (omega arith) (ap (λ (t : List ℕ). get_or t 0 0) e);
+      no_plan = no_plan fault.line w.said;
+      no_group = no_group fault.line w.said;
     }
 
-plan_line : (fault : Fault) (o : Output) → Some o ≡ refusal (codes "plan") fault → IsRefusalLine o
-plan_line fault o is =
-    let w = worded (word_of fault.kind) (refusal_line (codes "plan") fault.line) o (sym is) in
-    record {
-      line = file_words (codes "plan") fault.line w.said;
-      told = file_told (codes "plan") fault.line fault w.said (plain_bytes (codes "plan") refl) refl w.among;
-      status = w.status;
-      text = w.text;
-      no_plan = λ behind steps cost e. not_same 114 118 (omega arith) (sym (ap (λ (t : List ℕ). get_or t 5 0) e));
-      no_group = λ place e. not_same 103 112 (omega arith) (ap (λ (t : List ℕ). get_or t 0 0) e);
-    }
+-- texts are apart that differ in a byte
+apart_at : (place : ℕ) (a b : List ℕ) → get_or a place 0 < get_or b place 0 → b ≡ a → ⊥
+apart_at place a b less same = not_same (get_or a place 0) (get_or b place 0) less (ap (λ (t : List ℕ). get_or t place 0) same)
 
 refusal_line_of : (o : Output) → IsFileRefusal (Some o) → IsRefusalLine o
-refusal_line_of o refused = elim refused.1 [
-  | inl task ↦ task_line refused.0 o task
-  | inr plan ↦ plan_line refused.0 o plan
-]
+refusal_line_of o (fault, inl task) =
+    file_line (codes "task") (plain_bytes (codes "task") refl) (λ line w. refl) (λ line w behind steps cost e. apart_at 0 (valid_line steps cost) ((file_words (codes "task") line w ++ 10 ∷ []) ++ behind) (omega arith) e)
+    (λ line w place e. apart_at 0 (group_line place Exclusive) (file_words (codes "task") line w) (omega arith) e) fault o task
+refusal_line_of o (fault, inr plan) =
+    file_line (codes "plan") (plain_bytes (codes "plan") refl) (λ line w. refl) (λ line w behind steps cost e. apart_at 5 ((file_words (codes "plan") line w ++ 10 ∷ []) ++ behind) (valid_line steps cost) (omega arith) (sym e))
+    (λ line w place e. apart_at 0 (group_line place Exclusive) (file_words (codes "plan") line w) (omega arith) e) fault o plan
 
 -- ---- the same answer
 
@@ -158,56 +157,31 @@ module _ (b c : List ℕ) (o : Output) (out : OutWhy Plan b c (Some o)) where
   abbrev read : Output
   read = (came Plan b c o out).0
 
-  -- the headline holds of the output of what was read, wherever it is put
-  headline_read : (old new : Option (List ℕ)) (before : List ℕ) (status : Status) → old ≡ Some before → status ≡ read.status → Appends old new read.text → Headline b c (Appends old new) status
-  headline_read old new before status known is sent = headline_of WhyVerdict why_refusal why_tells_valid why_refuses b c read (came_out Plan b c o out) old new before status known is sent
-
-  -- where a file is refused, nothing is solved
-  unsolved : IsRefusalLine read → (steps cost : ℕ) → Solves b c (valid_line steps cost) → ⊥
-  unsolved l steps cost solves =
-      let alone = headline_read (Some []) (Some read.text) [] read.status refl refl refl in
-      let same : read.text ≡ valid_line steps cost = (alone.line steps cost).1 solves in
-      l.no_plan [] steps cost (append-nil (l.line ++ 10 ∷ []) ∙ (sym l.text ∙ same))
-
-  refused_headline : IsRefusalLine read → (old new : Option (List ℕ)) (before : List ℕ) (status : Status) → old ≡ Some before → status ≡ o.status → Appends old new o.text → Headline b c (Appends old new) status
-  refused_headline l old new before status known is sent =
+  told : (o ≡ read) ⊎ IsRefusalLine read → IsSolved b c o ⊎ IsOther o
+  told (inl same) = subst (λ (x : Output). IsSolved b c x ⊎ IsOther x) (sym same) (out_told WhyVerdict why_refusal why_tells_valid why_refuses b c read (came_out Plan b c o out))
+  told (inr l) =
       let whole = (came Plan b c o out).2 in
-      record {
-        line = λ steps cost. (
-          λ printed. absurd (l.no_plan (file_text out.reasons) steps cost (sym (text_is o read out.reasons whole l) ∙ sent_same old new before o.text (valid_line steps cost) known sent printed)),
-          λ solves. absurd (unsolved l steps cost solves),
-        );
-        yes = (
-          λ is_yes. absurd (let apart : Yes ≡ No = sym is_yes ∙ (is ∙ says_no o read out.reasons whole l) in cc),
-          λ s. absurd (unsolved l s.0 s.1 s.2),
-        );
-      }
+      inr (record { status = says_no o read out.reasons whole l; text = λ steps cost e. l.no_plan (file_text out.reasons) steps cost (sym (text_is o read out.reasons whole l) ∙ e) })
+
+  solved : (o ≡ read) ⊎ IsRefusalLine read → (line : List ℕ) → Solves b c line → (o.status ≡ Yes) × (o.text ≡ line)
+  solved is line solves =
+      let its = out_solved WhyVerdict why_refusal why_tells_valid why_refuses b c line read solves (came_out Plan b c o out) in
+      elim is [
+        | inl same ↦ subst (λ (x : Output). (x.status ≡ Yes) × (x.text ≡ line)) (sym same) its
+        | inr l ↦ (let apart : Yes ≡ No = sym its.0 ∙ l.status in absurd cc)
+      ]
 
   pub headline_why : (old new : Option (List ℕ)) (before : List ℕ) (status : Status) → old ≡ Some before → status ≡ o.status → Appends old new o.text → Headline b c (Appends old new) status
-  headline_why old new before status known is sent = elim (as_read Plan b c o out) [
-    | inl same ↦ headline_read old new before status known (is ∙ ap (λ (x : Output). x.status) same) (subst (λ (x : Output). Appends old new x.text) same sent)
-    | inr l ↦ refused_headline l old new before status known is sent
-  ]
+  headline_why = headline_by b c o (told (as_read Plan b c o out)) (solved (as_read Plan b c o out))
 
 -- ---- which groups are exclusive
-
--- no line of a refusal and its reasons calls a group exclusive
-says_none : (line : List ℕ) (reasons : List (List ℕ)) → IsTold line → AreReasons reasons → ((place : ℕ) → line ≡ group_line place Exclusive → ⊥) → (place : ℕ) → Contains (lines ((line ++ 10 ∷ []) ++ text reasons)) (group_line place Exclusive) → ⊥
-says_none line reasons told are apart place has =
-    let among = subst (λ (ls : List (List ℕ)). Contains ls (group_line place Exclusive)) (lines_of_first line reasons told are) has in
-    elim (contains_cases line reasons (group_line place Exclusive) among) [
-      | inl here ↦ apart place here
-      | inr behind ↦ reasons_apart reasons are place behind
-    ]
 
 module _ (b c : List ℕ) (o : Output) (out : OutWhy Mutex b c (Some o)) where
   abbrev read_of : Output
   read_of = (came Mutex b c o out).0
 
-  refused_says : IsRefusalLine read_of → (place : ℕ) → Contains (lines o.text) (group_line place Exclusive) → ⊥
-  refused_says l place has =
-      says_none l.line (file_lines out.reasons) l.told (file_lines_tell out.reasons) l.no_group place
-      (subst (λ (t : List ℕ). Contains (lines t) (group_line place Exclusive)) (text_is o read_of out.reasons (came Mutex b c o out).2 l) has)
+  refused_says : IsRefusalLine read_of → SaysNone o.text
+  refused_says l = subst SaysNone (sym (text_is o read_of out.reasons (came Mutex b c o out).2 l)) (line_says_none l.line l.told l.no_group (file_lines out.reasons) (file_lines_tell out.reasons))
 
   pub invariants_why : (old new : Option (List ℕ)) (before : List ℕ) → old ≡ Some before → Appends old new o.text → Invariants b (Appends old new)
   invariants_why old new before known sent = elim (as_read Mutex b c o out) [

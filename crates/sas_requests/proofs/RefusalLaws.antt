@@ -1,10 +1,6 @@
 -- Why a file is refused: one list of reasons, and always some.
-use Rattle.std.proofs.Common.{◌≡◌, ◌≢◌, ℕ, List, [], ◌∷◌, length, take, refl, sym, ap, subst, ◌∙◌, inl, inr, Option, Some, None, Result, Ok, Err}
+use Rattle.std.proofs.Common.{◌≡◌, ◌≢◌, ℕ, List, [], ◌∷◌, length, take, refl, sym, ap, subst, ◌∙◌, inl, inr, Option, Result, Ok, Err}
 use Rattle.std.specs.Prelude.{nat_lt}
-use Rattle.sas_core.specs.declared.parts.Parts.{Parts}
-use Rattle.sas_core.specs.FirstFault.{first_fault}
-use Rattle.sas_meaning.specs.declared.layered.LayerFault.{LayerFault}
-use Rattle.sas_meaning.specs.LayerChecks.{layer_checks}
 use Rattle.sas_lines.specs.Lines.{lines, unfinished}
 use Rattle.sas_reader.specs.declared.fault.Fault.{Fault}
 use Rattle.sas_reader.specs.declared.fault.Kind.{Kind}
@@ -31,7 +27,8 @@ use Rattle.sas_outputs.specs.FileLine.{FileLine}
 use Rattle.sas_outputs.specs.FileReasons.{task_reasons}
 use Rattle.sas_outputs.specs.declared.Request.{Request}
 use Rattle.sas_outputs.specs.declared.Request.TheVariants.{Show, Print, Steps, Check, Plan, Mutex}
-use Rattle.sas_requests.specs.FileReasons.{FaultReasons, told, past_limit, ReadReasons, FileReasons, AreTaskReasons, ArePlanReasons, LayersFileReasons, JudgedFileReasons, FilesReasons, RefusalReasons}
+use Rattle.sas_requests.specs.FileReasons.{FaultReasons, told, past_limit, ReadReasons, FileReasons, AreTaskReasons, ArePlanReasons, TaskFileReasons, PlanFileReasons, RefusalReasons}
+use Rattle.sas_outputs.specs.Output.{IsLayeredText}
 use Rattle.sas_outputs.proofs.Outputs.{Worded, plan_worded, task_worded}
 
 pub task_telling : AboutLaws task_format
@@ -42,58 +39,53 @@ plan_telling = about_laws_of plan_format PlanLineFits plan_node plan_start plan_
 
 -- ---- one file
 
-module _ {V I S : Type 0} (F : Format V I S) (Tells : Kind → List (List ℕ) → List ℕ → List FileLine → Type 0) (laws : Laws F) (telling : AboutLaws F) (worded : Worded F) where
+-- exactly one list of reasons has this property
+pub record HasOneList (AreReasons : List FileLine → Type 0) : Type 0 where
+  pub one : (r s : List FileLine) → AreReasons r → AreReasons s → r ≡ s
+  pub some : ((r : List FileLine) → AreReasons r → ⊥) → ⊥
+
+-- what a fault is about is told in one way, and can be told
+module _ {V I S : Type 0} (F : Format V I S) (Tells : Kind → List (List ℕ) → List ℕ → List FileLine → Type 0) (laws : Laws F) (telling : AboutLaws F) (worded : Worded F)
+    (one : (kind : Kind) (begun : List (List ℕ)) (found : List ℕ) (r s : List FileLine) → Tells kind begun found r → Tells kind begun found s → r ≡ s)
+    (some : (bytes : List ℕ) (f : Fault) (begun : List (List ℕ)) (found : List ℕ) → IsAbout F most_bytes bytes f begun found → (r : List FileLine) × Tells f.kind begun found r) (bytes : List ℕ) where
   -- what a fault is about has a word
-  about_short : (bytes : List ℕ) (f : Fault) (begun : List (List ℕ)) (found : List ℕ) → IsAbout F most_bytes bytes f begun found → f.kind ≢ kinds.TooLong
-  about_short bytes f begun found (of_line h ha ht s n k) e = worded s found f.kind k (rw e refl)
-  about_short bytes f begun found (of_byte h ha ht v r k) e = absurd (let apart : kinds.Trailing ≡ kinds.TooLong = sym k ∙ e in cc)
-  about_short bytes f begun found (of_end h ha ht) e = absurd (let apart : kinds.End ≡ kinds.TooLong = sym h.kind ∙ e in cc)
+  about_short : (f : Fault) (begun : List (List ℕ)) (found : List ℕ) → IsAbout F most_bytes bytes f begun found → f.kind ≢ kinds.TooLong
+  about_short f begun found (of_line h ha ht s n k) e = worded s found f.kind k (rw e refl)
+  about_short f begun found (of_byte h ha ht v r k) e = absurd (let apart : kinds.Trailing ≡ kinds.TooLong = sym k ∙ e in cc)
+  about_short f begun found (of_end h ha ht) e = absurd (let apart : kinds.End ≡ kinds.TooLong = sym h.kind ∙ e in cc)
 
-  -- one set of lines, where what a fault is about is told in one way
-  abbrev OneTelling : Type 0
-  OneTelling = (kind : Kind) (begun : List (List ℕ)) (found : List ℕ) (r s : List FileLine) → Tells kind begun found r → Tells kind begun found s → r ≡ s
-
-  one_fault : OneTelling → (bytes : List ℕ) (f : Fault) (r s : List FileLine) → FaultReasons F Tells bytes f r → FaultReasons F Tells bytes f s → r ≡ s
-  one_fault one bytes f r s (told a t h x) (told b u j y) =
+  one_fault : (f : Fault) (r s : List FileLine) → FaultReasons F Tells bytes f r → FaultReasons F Tells bytes f s → r ≡ s
+  one_fault f r s (told a t h x) (told b u j y) =
       let same = telling.one_about most_bytes bytes f a b t u h j in
       let here : Tells f.kind b u r = subst (λ (k : List (List ℕ)). Tells f.kind k u r) same.0 (subst (λ (w : List ℕ). Tells f.kind a w r) same.1 x) in
       one f.kind b u r s here y
-  one_fault one bytes f r s (told a t h x) (past_limit k e) = absurd (about_short bytes f a t h k)
-  one_fault one bytes f r s (past_limit k e) (told b u j y) = absurd (about_short bytes f b u j k)
-  one_fault one bytes f r s (past_limit k e) (past_limit l d) = e ∙ sym d
+  one_fault f r s (told a t h x) (past_limit k e) = absurd (about_short f a t h k)
+  one_fault f r s (past_limit k e) (told b u j y) = absurd (about_short f b u j k)
+  one_fault f r s (past_limit k e) (past_limit l d) = e ∙ sym d
 
-  one_read : OneTelling → (bytes : List ℕ) (read : Result V Fault) (r s : List FileLine) → ReadReasons F Tells bytes read r → ReadReasons F Tells bytes read s → r ≡ s
-  one_read one bytes (Ok v) r s x y = x ∙ sym y
-  one_read one bytes (Err f) r s x y = one_fault one bytes f r s x y
+  one_read : (read : Result V Fault) (r s : List FileLine) → ReadReasons F Tells bytes read r → ReadReasons F Tells bytes read s → r ≡ s
+  one_read (Ok v) r s x y = x ∙ sym y
+  one_read (Err f) r s x y = one_fault f r s x y
 
-  one_file : OneTelling → (bytes : List ℕ) (r s : List FileLine) → FileReasons F Tells bytes r → FileReasons F Tells bytes s → r ≡ s
-  one_file one bytes r s x y =
-      let same = laws.one_reading most_bytes bytes y.0 x.0 y.1 x.1 in
-      one_read one bytes x.0 r s x.2 (subst (λ (q : Result V Fault). ReadReasons F Tells bytes q s) same y.2)
+  about_reasons : (f : Fault) (a : List (List ℕ)) (t : List ℕ) → IsAbout F most_bytes bytes f a t → (r : List FileLine) × FaultReasons F Tells bytes f r
+  about_reasons f a t h = let r = some bytes f a t h in (r.0, told a t h r.1)
 
-  -- and some, where what a fault is about can be told
-  abbrev SomeTelling : Type 0
-  SomeTelling = (bytes : List ℕ) (f : Fault) (begun : List (List ℕ)) (found : List ℕ) → IsAbout F most_bytes bytes f begun found → (r : List FileLine) × Tells f.kind begun found r
+  some_at : (f : Fault) (h : FaultOf F most_bytes bytes f) → KindAt F most_bytes h.before h.byte f.kind → (r : List FileLine) × FaultReasons F Tells bytes f r
+  some_at f h (too_long long k) = ([], past_limit k refl)
+  some_at f h (trailing short v reads k) = about_reasons f (lines h.before) (h.byte ∷ []) (of_byte h refl refl v reads k)
+  some_at f h (wrong short line is s next k) = about_reasons f (lines h.before) line (of_line h refl is s next k)
 
-  about_reasons : SomeTelling → (bytes : List ℕ) (f : Fault) → (a : List (List ℕ)) × (t : List ℕ) × IsAbout F most_bytes bytes f a t → (r : List FileLine) × FaultReasons F Tells bytes f r
-  about_reasons some bytes f (a, t, h) = let r = some bytes f a t h in (r.0, told a t h r.1)
+  some_read : (read : Result V Fault) → ReadsAs F most_bytes bytes read → (r : List FileLine) × ReadReasons F Tells bytes read r
+  some_read (Ok v) reads = ([], refl)
+  some_read (Err f) (inl h) = some_at f h h.kind
+  some_read (Err f) (inr h) = about_reasons f (lines bytes) (unfinished bytes) (of_end h refl refl)
 
-  some_at : SomeTelling → (bytes : List ℕ) (f : Fault) (h : FaultOf F most_bytes bytes f) → KindAt F most_bytes h.before h.byte f.kind → (r : List FileLine) × FaultReasons F Tells bytes f r
-  some_at some bytes f h (too_long long k) = ([], past_limit k refl)
-  some_at some bytes f h (trailing short v reads k) = about_reasons some bytes f (lines h.before, h.byte ∷ [], of_byte h refl refl v reads k)
-  some_at some bytes f h (wrong short line is s next k) = about_reasons some bytes f (lines h.before, line, of_line h refl is s next k)
-
-  some_fault : SomeTelling → (bytes : List ℕ) (f : Fault) → ReadsAs F most_bytes bytes (Err f) → (r : List FileLine) × FaultReasons F Tells bytes f r
-  some_fault some bytes f (inl h) = some_at some bytes f h h.kind
-  some_fault some bytes f (inr h) = about_reasons some bytes f (lines bytes, unfinished bytes, of_end h refl refl)
-
-  some_read : SomeTelling → (bytes : List ℕ) (read : Result V Fault) → ReadsAs F most_bytes bytes read → (r : List FileLine) × ReadReasons F Tells bytes read r
-  some_read some bytes (Ok v) reads = ([], refl)
-  some_read some bytes (Err f) reads = some_fault some bytes f reads
-
-  some_file : SomeTelling → (bytes : List ℕ) → ((r : List FileLine) → FileReasons F Tells bytes r → ⊥) → ⊥
-  some_file some bytes none =
-      laws.some_reading most_bytes bytes (λ read reads. let r = some_read some bytes read reads in none r.0 (read, reads, r.1))
+  file_list : HasOneList (FileReasons F Tells bytes)
+  file_list = record {
+    one = λ r s (read, reads, x) (other, other_reads, y).
+        one_read read r s x (subst (λ (q : Result V Fault). ReadReasons F Tells bytes q s) (laws.one_reading most_bytes bytes other read other_reads reads) y);
+    some = λ none. laws.some_reading most_bytes bytes (λ read reads. let r = some_read read reads in none r.0 (read, reads, r.1));
+  }
 
 -- ---- what is told of a task, and of a plan
 
@@ -110,57 +102,27 @@ some_task_telling bytes f begun found h =
 
 -- ---- the files of a request
 
-worded_plan : Worded plan_format
-worded_plan s line k = plan_worded line k
+of_task : (b : List ℕ) → HasOneList (TaskFileReasons b)
+of_task = file_list task_format AreTaskReasons task_laws_hold task_telling task_worded one_task_telling some_task_telling
 
-one_task : (b : List ℕ) (r s : List FileLine) → FileReasons task_format AreTaskReasons b r → FileReasons task_format AreTaskReasons b s → r ≡ s
-one_task = one_file task_format AreTaskReasons task_laws_hold task_telling task_worded one_task_telling
+of_plan : (c : List ℕ) → HasOneList (PlanFileReasons c)
+of_plan = file_list plan_format ArePlanReasons plan_laws_hold plan_telling plan_worded (λ kind begun found r s x y. x ∙ sym y) (λ bytes f begun found h. (_, refl))
 
-one_plan : (c : List ℕ) (r s : List FileLine) → FileReasons plan_format ArePlanReasons c r → FileReasons plan_format ArePlanReasons c s → r ≡ s
-one_plan = one_file plan_format ArePlanReasons plan_laws_hold plan_telling worded_plan (λ kind begun found r s x y. x ∙ sym y)
+one_of_both : (b c : List ℕ) (r s : List FileLine) → RefusalReasons Plan b c r → RefusalReasons Plan b c s → r ≡ s
+one_of_both b c r s (inl x) (inl y) = (of_plan c).one r s x.1 y.1
+one_of_both b c r s (inl x) (inr y) = absurd (y.0 x.0)
+one_of_both b c r s (inr x) (inl y) = absurd (x.0 y.0)
+one_of_both b c r s (inr x) (inr y) = (of_task b).one r s x.1 y.1
 
-one_layers : (first : Option LayerFault) (c : List ℕ) (r s : List FileLine) → LayersFileReasons first c r → LayersFileReasons first c s → r ≡ s
-one_layers (Some fault) c r s x y = x ∙ sym y
-one_layers None c r s x y = one_plan c r s x y
+some_of_both : (b c : List ℕ) → ((r : List FileLine) → RefusalReasons Plan b c r → ⊥) → ⊥
+some_of_both b c none =
+    let other : IsLayeredText b → ⊥ = λ layered. (of_plan c).some (λ r why. none r (inl (layered, why))) in
+    (of_task b).some (λ r why. none r (inr (other, why)))
 
-one_judged : (b : List ℕ) (read : Result Parts Fault) (c : List ℕ) (r s : List FileLine) → JudgedFileReasons b read c r → JudgedFileReasons b read c s → r ≡ s
-one_judged b (Err f) c r s x y = one_fault task_format AreTaskReasons task_laws_hold task_telling task_worded one_task_telling b f r s x y
-one_judged b (Ok p) c r s x y = one_layers (first_fault (layer_checks p)) c r s x y
-
-one_files : (b c : List ℕ) (r s : List FileLine) → FilesReasons b c r → FilesReasons b c s → r ≡ s
-one_files b c r s x y =
-    let same = task_laws_hold.one_reading most_bytes b y.0 x.0 y.1 x.1 in
-    one_judged b x.0 c r s x.2 (subst (λ (q : Result Parts Fault). JudgedFileReasons b q c s) same y.2)
-
-pub one_reasons : (request : Request) (b c : List ℕ) (r s : List FileLine) → RefusalReasons request b c r → RefusalReasons request b c s → r ≡ s
-one_reasons Show b c = one_task b
-one_reasons Print b c = one_task b
-one_reasons Steps b c = one_plan c
-one_reasons Check b c = one_task b
-one_reasons Plan b c = one_files b c
-one_reasons Mutex b c = one_task b
-
-some_task : (b : List ℕ) → ((r : List FileLine) → FileReasons task_format AreTaskReasons b r → ⊥) → ⊥
-some_task = some_file task_format AreTaskReasons task_laws_hold task_telling task_worded some_task_telling
-
-some_plan : (c : List ℕ) → ((r : List FileLine) → FileReasons plan_format ArePlanReasons c r → ⊥) → ⊥
-some_plan = some_file plan_format ArePlanReasons plan_laws_hold plan_telling worded_plan (λ bytes f begun found h. (_, refl))
-
-some_layers : (first : Option LayerFault) (c : List ℕ) → ((r : List FileLine) → LayersFileReasons first c r → ⊥) → ⊥
-some_layers (Some fault) c none = none [] refl
-some_layers None c none = some_plan c none
-
-some_judged : (b : List ℕ) (read : Result Parts Fault) (c : List ℕ) → ReadsAs task_format most_bytes b read → ((r : List FileLine) → JudgedFileReasons b read c r → ⊥) → ⊥
-some_judged b (Err f) c reads none = let r = some_fault task_format AreTaskReasons task_laws_hold task_telling task_worded some_task_telling b f reads in none r.0 r.1
-some_judged b (Ok p) c reads none = some_layers (first_fault (layer_checks p)) c none
-
-some_files : (b c : List ℕ) → ((r : List FileLine) → FilesReasons b c r → ⊥) → ⊥
-some_files b c none = task_laws_hold.some_reading most_bytes b (λ read reads. some_judged b read c reads (λ r why. none r (read, reads, why)))
-
-pub some_reasons : (request : Request) (b c : List ℕ) → ((r : List FileLine) → RefusalReasons request b c r → ⊥) → ⊥
-some_reasons Show b c = some_task b
-some_reasons Print b c = some_task b
-some_reasons Steps b c = some_plan c
-some_reasons Check b c = some_task b
-some_reasons Plan b c = some_files b c
-some_reasons Mutex b c = some_task b
+pub reasons_of : (request : Request) (b c : List ℕ) → HasOneList (RefusalReasons request b c)
+reasons_of Show b c = of_task b
+reasons_of Print b c = of_task b
+reasons_of Steps b c = of_plan c
+reasons_of Check b c = of_task b
+reasons_of Plan b c = record { one = one_of_both b c; some = some_of_both b c }
+reasons_of Mutex b c = of_task b

@@ -3,9 +3,7 @@ use Rattle.std.proofs.Common.{◌≡◌, ◌⊎◌, ℕ, List, [], codes, append
 use Rattle.std.specs.Prelude.{option_map}
 use Rattle.std.proofs.lemmas.Option.{none-some}
 use Rattle.sas_core.specs.declared.parts.Parts.{Parts}
-use Rattle.sas_core.specs.FirstFault.{first_fault}
-use Rattle.sas_meaning.specs.declared.layered.LayerFault.{LayerFault}
-use Rattle.sas_meaning.specs.LayerChecks.{layer_checks}
+use Rattle.sas_core.specs.PlanParts.{PlanParts}
 use Rattle.sas_reader.specs.declared.fault.Fault.{Fault}
 use Rattle.sas_reader.specs.declared.fault.Kind.{Kind}
 use Rattle.sas_reader.specs.Format.{Format}
@@ -21,8 +19,12 @@ use Rattle.sas_task_reasons.specs.WhyLayers.{with_reasons, why_refusal, WhyCheck
 use Rattle.sas_why.specs.Verdict.{WhyVerdict}
 use Rattle.sas_outputs.specs.declared.Request.{Request}
 use Rattle.sas_outputs.specs.declared.Request.TheVariants.{Show, Print, Steps, Check, Plan, Mutex}
-use Rattle.sas_requests.specs.FileReasons.{ReadReasons, FileReasons, AreTaskReasons, ArePlanReasons, LayersFileReasons, JudgedFileReasons, RefusalReasons}
-use Rattle.sas_outputs.specs.Output.{refusal, IsAnswerOrRefusal, FileOut, LayersOut, JudgedOut, ShowAnswer, PrintAnswer}
+use Rattle.sas_requests.specs.FileReasons.{ReadReasons, FileReasons, AreTaskReasons, ArePlanReasons, TaskFileReasons, PlanFileReasons, RefusalReasons}
+use Rattle.sas_outputs.specs.Output.{refusal, IsAnswerOrRefusal, FileOut, TaskOut, UnlayeredAnswer, ShowAnswer, PrintAnswer}
+use Rattle.sas_outputs.proofs.PlanOutputs.{not_refused}
+use Rattle.sas_requests.specs.declared.detail.Detail.{Detail}
+use Rattle.sas_requests.specs.declared.detail.Detail.TheVariants.{Plain, Reasons, Trace}
+use Rattle.sas_requests.specs.Answering.{told_by, ReasonedBy}
 use Rattle.sas_requests.specs.Why.{OutOfRead}
 
 -- ---- an output with reasons behind
@@ -38,6 +40,31 @@ none_of reasons (Some o) e = absurd (none-some (with_reasons reasons o) e)
 pub some_of : (reasons : List ℕ) (p : Option Output) (o : Output) → Some o ≡ option_map (with_reasons reasons) p → (plain : Output) × (p ≡ Some plain) × (o ≡ with_reasons reasons plain)
 some_of reasons None o e = absurd (none-some o (sym e))
 some_of reasons (Some plain) o e = (plain, refl, let same : o ≡ with_reasons reasons plain = cc in same)
+
+-- an output with such reasons behind it, at each detail
+pub reasoned_by : (detail : Detail) (IsOut : Option Output → Type 0) (AreReasons : List FileLine → Type 0) (q o : Option Output) (reasons : List FileLine) → IsOut q → AreReasons reasons → o ≡ told_by detail reasons q → ReasonedBy detail IsOut AreReasons o
+reasoned_by Plain IsOut AreReasons q o reasons out why is = subst IsOut (sym is) out
+reasoned_by Trace IsOut AreReasons q o reasons out why is = subst IsOut (sym is) out
+reasoned_by Reasons IsOut AreReasons q o reasons out why is = record { of_read = q; reasons = reasons; is_out = out; are_reasons = why; whole = is }
+
+-- others that follow
+pub more_reasoned : (detail : Detail) (A B : Option Output → Type 0) (R S : List FileLine → Type 0) → ((o : Option Output) → A o → B o) → ((o : Option Output) (reasons : List FileLine) → A o → R reasons → S reasons) → (o : Option Output) → ReasonedBy detail A R o → ReasonedBy detail B S o
+more_reasoned Plain A B R S to behind o out = to o out
+more_reasoned Trace A B R S to behind o out = to o out
+more_reasoned Reasons A B R S to behind o out = record {
+  of_read = out.of_read;
+  reasons = out.reasons;
+  is_out = to out.of_read out.is_out;
+  are_reasons = behind out.of_read out.reasons out.is_out out.are_reasons;
+  whole = out.whole;
+}
+
+-- no reasons change nothing
+pub told_alone : (detail : Detail) (o : Option Output) → o ≡ told_by detail [] o
+told_alone Plain o = refl
+told_alone Trace o = refl
+told_alone Reasons None = refl
+told_alone Reasons (Some o) = ap Some (sym (no_reasons o))
 
 -- ---- behind which refusal they stand
 
@@ -64,20 +91,19 @@ of_task fault o is = (fault, inl is)
 of_plan : (fault : Fault) (o : Option Output) → o ≡ refusal (codes "plan") fault → IsFileRefusal o
 of_plan fault o is = (fault, inr is)
 
-layers_behind : (p : Parts) (first : Option LayerFault) (c : List ℕ) (o : Option Output) (reasons : List FileLine) → LayersOut WhyVerdict why_refusal p first c o → LayersFileReasons first c reasons → StandBehind reasons o
-layers_behind p (Some fault) c o reasons out why = inl why
-layers_behind p None c o reasons out why = file_behind plan_format ArePlanReasons plan_laws_hold (codes "plan") (WhyVerdict p) of_plan c o reasons out why
+of_tasks : (IsAnswer : Parts → Output → Type 0) (b : List ℕ) (o : Option Output) (reasons : List FileLine) → TaskOut IsAnswer b o → TaskFileReasons b reasons → StandBehind reasons o
+of_tasks IsAnswer = file_behind task_format AreTaskReasons task_laws_hold (codes "task") IsAnswer of_task
 
-judged_behind : (b c : List ℕ) (r : Result Parts Fault) (o : Option Output) (reasons : List FileLine) → JudgedOut WhyVerdict why_refusal r c o → JudgedFileReasons b r c reasons → StandBehind reasons o
-judged_behind b c (Err fault) o reasons out why = inr (of_task fault o out)
-judged_behind b c (Ok p) o reasons out why = layers_behind p (first_fault (layer_checks p)) c o reasons out why
+of_plans : (IsAnswer : PlanParts → Output → Type 0) (c : List ℕ) (o : Option Output) (reasons : List FileLine) → FileOut plan_format (codes "plan") IsAnswer c o → PlanFileReasons c reasons → StandBehind reasons o
+of_plans IsAnswer = file_behind plan_format ArePlanReasons plan_laws_hold (codes "plan") IsAnswer of_plan
 
 pub stand_behind : (request : Request) (b c : List ℕ) (o : Option Output) (reasons : List FileLine) → OutOfRead request b c o → RefusalReasons request b c reasons → StandBehind reasons o
-stand_behind Show b c o reasons out why = file_behind task_format AreTaskReasons task_laws_hold (codes "task") ShowAnswer of_task b o reasons out why
-stand_behind Print b c o reasons out why = file_behind task_format AreTaskReasons task_laws_hold (codes "task") (PrintAnswer task_format) of_task b o reasons out why
-stand_behind Steps b c o reasons out why = file_behind plan_format ArePlanReasons plan_laws_hold (codes "plan") (PrintAnswer plan_format) of_plan c o reasons out why
-stand_behind Check b c o reasons out why = file_behind task_format AreTaskReasons task_laws_hold (codes "task") WhyCheckAnswer of_task b o reasons out why
-stand_behind Plan b c o reasons out why =
-    let same = task_laws_hold.one_reading most_bytes b why.0 out.0 why.1 out.1 in
-    judged_behind b c out.0 o reasons out.2 (subst (λ (r : Result Parts Fault). JudgedFileReasons b r c reasons) same why.2)
-stand_behind Mutex b c o reasons out why = file_behind task_format AreTaskReasons task_laws_hold (codes "task") WhyMutexAnswer of_task b o reasons out why
+stand_behind Show b c o reasons out why = of_tasks ShowAnswer b o reasons out why
+stand_behind Print b c o reasons out why = of_tasks (PrintAnswer task_format) b o reasons out why
+stand_behind Steps b c o reasons out why = of_plans (PrintAnswer plan_format) c o reasons out why
+stand_behind Check b c o reasons out why = of_tasks WhyCheckAnswer b o reasons out why
+stand_behind Plan b c o reasons (inl out) (inl why) = absurd (not_refused why_refusal b o out why.0)
+stand_behind Plan b c o reasons (inl out) (inr why) = of_tasks (UnlayeredAnswer why_refusal) b o reasons out why.1
+stand_behind Plan b c o reasons (inr (p, reads, layered, out)) (inl why) = of_plans (WhyVerdict p) c o reasons out why.1
+stand_behind Plan b c o reasons (inr (p, reads, layered, out)) (inr why) = absurd (why.0 (p, reads, layered))
+stand_behind Mutex b c o reasons out why = of_tasks WhyMutexAnswer b o reasons out why

@@ -1,46 +1,42 @@
 -- How the output of a request goes out.
-use Rattle.std.proofs.Common.{◌≡◌, ℕ, false, true, List, [], codes, refl, sym, ap, subst, ◌∙◌, Option, Some, None, Result, Ok, Err}
+use Rattle.std.proofs.Common.{◌≡◌, ℕ, false, true, List, [], codes, inl, inr, refl, sym, ap, subst, ◌∙◌, Option, Some, None, Result, Ok, Err}
 use Rattle.std.specs.Prelude.{IsTrue, IfOk, IsSomeAnd}
 use Rattle.std.specs.Io.KnownBytes.{Appends}
 use Rattle.sas_core.specs.declared.parts.Parts.{Parts}
 use Rattle.sas_core.specs.PlanParts.{PlanParts}
 use Rattle.sas_meaning.specs.declared.layered.LayerFault.{LayerFault}
 use Rattle.sas_meaning.specs.Layers.{IsLayered}
-use Rattle.sas_meaning.proofs.LayerChecksAreRules.{checks_are_rules}
 use Rattle.sas_lines.specs.Device.{Device}
-use Rattle.sas_reader.specs.declared.fault.Fault.{Fault}
 use Rattle.sas_reader.specs.Devices.{ValueOf, ReadsAll}
 use Rattle.sas_reader.specs.Format.{ReadsAs}
 use Rattle.sas_reader.specs.Limit.{most_bytes}
 use Rattle.sas_reader.proofs.Known.{known_answer}
 use Rattle.sas_plan_file.specs.PlanFormat.{plan_format}
 use Rattle.sas_task_format.specs.TaskFormat.{task_format}
-use Rattle.sas_task_format.proofs.TaskLaws.{task_laws_hold}
-use Rattle.sas_outputs.specs.FileLine.{FileLine}
 use Rattle.sas_output.specs.declared.ending.Status.{Status}
 use Rattle.sas_output.specs.declared.ending.Status.TheVariants.{Yes}
 use Rattle.sas_output.specs.declared.ending.ToolFault.{ToolFault}
 use Rattle.sas_output.specs.Ending.{Output, EndsCounting}
-use Rattle.sas_answers.specs.Answers.{layers_verdict, LayeredGroupsAnswer, VerdictAnswer}
+use Rattle.sas_answers.specs.Answers.{layers_verdict, LayeredGroupsAnswer}
 use Rattle.sas_answers.proofs.CheckAnswers.{layered_answer}
 use Rattle.sas_task_reasons.specs.WhyGroups.{WhyGroupsAnswer}
-use Rattle.sas_task_reasons.specs.WhyLayers.{why_refusal, WhyMutexAnswer}
+use Rattle.sas_task_reasons.specs.WhyLayers.{WhyMutexAnswer}
 use Rattle.sas_task_reasons.proofs.TaskAnswers.{check_layered, check_refused, groups_layered, groups_refused}
 use Rattle.sas_trace.specs.Traced.{IsTraced, TraceVerdict}
-use Rattle.sas_why.specs.Verdict.{WhyVerdict}
 use Rattle.sas_outputs.specs.declared.Request.{Request}
 use Rattle.sas_outputs.specs.declared.Request.TheVariants as request
 use Rattle.sas_outputs.specs.Headline.{Headline, Invariants}
-use Rattle.sas_outputs.specs.Output.{IsAnswerOrRefusal, PlanOutBy, ShowAnswer, PrintAnswer, plain_refusal, AreInputs, reads_task}
+use Rattle.sas_outputs.specs.Output.{TaskOut, VerdictOut, PlanOutBy, PrintAnswer, AreInputs, reads_task}
 use Rattle.sas_outputs.proofs.Outputs.{takes_nothing}
-use Rattle.sas_outputs.proofs.PlanOutputs.{first_alone, second_alone, judged_out, unlayered_out}
+use Rattle.sas_outputs.proofs.PlanOutputs.{first_alone, second_alone, not_refused}
 use Rattle.sas_requests.specs.declared.detail.Detail.{Detail}
 use Rattle.sas_requests.specs.declared.detail.Detail.TheVariants.{Plain, Reasons, Trace}
 use Rattle.sas_outputs.specs.EndsFile.{EndsFile}
 use Rattle.sas_requests.specs.Answering.{CheckBy, MutexBy, VerdictBy, UnlayeredBy, layers_by, TaskBy, PlanBy, OutBy}
 use Rattle.sas_requests.specs.EndsRequest.{EndsRequest}
-use Rattle.sas_requests.specs.FileReasons.{ReadReasons, AreTaskReasons, LayersFileReasons, JudgedFileReasons}
+use Rattle.sas_requests.specs.FileReasons.{TaskFileReasons, PlanFileReasons, RefusalReasons}
 use Rattle.sas_requests.proofs.FileEnds.{ends_by}
+use Rattle.sas_requests.proofs.RefusalReasons.{more_reasoned}
 
 -- ---- answers about a task
 
@@ -69,71 +65,23 @@ pub trace_answers : (p : Parts) (plan : PlanParts) (o : Option Output) → IsTra
 trace_answers p plan (Some o) traced = traced
 trace_answers p plan None traced = traced
 
--- ---- outputs of requests
-
-pub show_by : (detail : Detail) (b c : List ℕ) (o : Option Output) → TaskBy detail ShowAnswer b o → OutBy detail request.Show b c o
-show_by Plain b c o out = out
-show_by Trace b c o out = out
-show_by Reasons b c o out = out
-
-pub print_by : (detail : Detail) (b c : List ℕ) (o : Option Output) → TaskBy detail (PrintAnswer task_format) b o → OutBy detail request.Print b c o
-print_by Plain b c o out = out
-print_by Trace b c o out = out
-print_by Reasons b c o out = out
-
-pub steps_by : (detail : Detail) (b c : List ℕ) (o : Option Output) → PlanBy detail (PrintAnswer plan_format) c o → OutBy detail request.Steps b c o
-steps_by Plain b c o out = out
-steps_by Trace b c o out = out
-steps_by Reasons b c o out = out
-
-pub check_by : (detail : Detail) (b c : List ℕ) (o : Option Output) → TaskBy detail (CheckBy detail) b o → OutBy detail request.Check b c o
-check_by Plain b c o out = out
-check_by Trace b c o out = out
-check_by Reasons b c o out = out
-
-pub mutex_by : (detail : Detail) (b c : List ℕ) (o : Option Output) → TaskBy detail (MutexBy detail) b o → OutBy detail request.Mutex b c o
-mutex_by Plain b c o out = out
-mutex_by Trace b c o out = out
-mutex_by Reasons b c o out = out
-
 -- ---- the output of `plan`
 
--- of a task that is refused
-unlayered_read : (detail : Detail) (Verdict : Parts → PlanParts → Output → Type 0) (b c : List ℕ) (r : Result Parts Fault) (o : Option Output) → ReadsAs task_format most_bytes b r → IsAnswerOrRefusal (codes "task") (UnlayeredBy detail) r o → PlanOutBy Verdict (layers_by detail) b c o
-unlayered_read detail Verdict b c (Ok p) o reads (answer, (fault, first, told), is) = subst (PlanOutBy Verdict (layers_by detail) b c) (sym is) (unlayered_out Verdict (layers_by detail) p fault b c answer reads first told)
-unlayered_read detail Verdict b c (Err fault) o reads is = (Err fault, reads, is)
+module _ (detail : Detail) (b c : List ℕ) (o : Option Output) where
+  abbrev PlanOutput : Option Output → Type 0
+  PlanOutput = PlanOutBy (VerdictBy detail) (layers_by detail) b c
 
--- the same reasons stand behind it
-unlayered_reasons : (detail : Detail) (b c : List ℕ) (r : Result Parts Fault) (o : Option Output) (reasons : List FileLine) → IsAnswerOrRefusal (codes "task") (UnlayeredBy detail) r o → ReadReasons task_format AreTaskReasons b r reasons → JudgedFileReasons b r c reasons
-unlayered_reasons detail b c (Ok p) o reasons (answer, (fault, first, told), is) why = subst (λ (f : Option LayerFault). LayersFileReasons f c reasons) (sym first) why
-unlayered_reasons detail b c (Err fault) o reasons is why = why
+  -- of a task that is refused
+  pub unlayered_by : TaskBy detail (UnlayeredBy detail) b o → OutBy detail request.Plan b c o
+  unlayered_by =
+      more_reasoned detail (TaskOut (UnlayeredBy detail) b) PlanOutput (TaskFileReasons b) (RefusalReasons request.Plan b c)
+      (λ q out. inl out) (λ q reasons out why. inr (not_refused (layers_by detail) b q out, why)) o
 
-pub unlayered_by : (detail : Detail) (b c : List ℕ) (o : Option Output) → TaskBy detail (UnlayeredBy detail) b o → OutBy detail request.Plan b c o
-unlayered_by Plain b c o (r, reads, is) = unlayered_read Plain VerdictAnswer b c r o reads is
-unlayered_by Trace b c o (r, reads, is) = unlayered_read Trace TraceVerdict b c r o reads is
-unlayered_by Reasons b c o out =
-    let (r, reads, is) = out.is_out in
-    let (other, other_reads, why) = out.are_reasons in
-    let same : other ≡ r = task_laws_hold.one_reading most_bytes b other r other_reads reads in
-    record {
-      of_read = out.of_read;
-      reasons = out.reasons;
-      is_out = unlayered_read Reasons WhyVerdict b c r out.of_read reads is;
-      are_reasons = (r, reads, unlayered_reasons Reasons b c r out.of_read out.reasons is (subst (λ (q : Result Parts Fault). ReadReasons task_format AreTaskReasons b q out.reasons) same why));
-      whole = out.whole;
-    }
-
--- and of the plan of a layered one
-pub judged_by : (detail : Detail) (p : Parts) → IsLayered p → (b c : List ℕ) → ReadsAs task_format most_bytes b (Ok p) → (o : Option Output) → PlanBy detail (VerdictBy detail p) c o → OutBy detail request.Plan b c o
-judged_by Plain p layered b c reads o out = judged_out VerdictAnswer plain_refusal p layered b c reads o out
-judged_by Trace p layered b c reads o out = judged_out TraceVerdict plain_refusal p layered b c reads o out
-judged_by Reasons p layered b c reads o out = record {
-  of_read = out.of_read;
-  reasons = out.reasons;
-  is_out = judged_out WhyVerdict why_refusal p layered b c reads out.of_read out.is_out;
-  are_reasons = (Ok p, reads, subst (λ (first : Option LayerFault). LayersFileReasons first c out.reasons) (sym ((checks_are_rules p).1 layered)) out.are_reasons);
-  whole = out.whole;
-}
+  -- and of the plan of a layered one
+  pub judged_by : (p : Parts) → IsLayered p → ReadsAs task_format most_bytes b (Ok p) → PlanBy detail (VerdictBy detail p) c o → OutBy detail request.Plan b c o
+  judged_by p layered reads =
+      more_reasoned detail (VerdictOut (VerdictBy detail) p c) PlanOutput (PlanFileReasons c) (RefusalReasons request.Plan b c)
+      (λ q out. inr (p, reads, layered, out)) (λ q reasons out why. inl ((p, reads, layered), why)) o
 
 -- ---- how they go out
 
@@ -173,10 +121,10 @@ module _ {T P : Type 0} (left_task : T → Option (List ℕ)) (left_plan : P →
       let Told = PlanBy detail (PrintAnswer plan_format) in
       let alone = second_alone task.failed new.failed (λ t. let apart : true ≡ false = sym t ∙ working in cc) in
       record {
-        output = λ b c inputs. ends_by Sent (Told c) (OutBy detail request.Steps b c) r (steps_by detail b c) (one.output c (inputs.1 refl));
+        output = λ b c inputs. ends_by Sent (Told c) (OutBy detail request.Steps b c) r (λ o out. out) (one.output c (inputs.1 refl));
         taken = λ decided.
             let (c, consumed, ends) = one.taken decided in
-            ([], c, takes_nothing _, consumed, ends_by Sent (Told c) (OutBy detail request.Steps [] c) r (steps_by detail [] c) ends);
+            ([], c, takes_nothing _, consumed, ends_by Sent (Told c) (OutBy detail request.Steps [] c) r (λ o out. out) ends);
         task_spared = λ _. refl;
         plan_spared = λ spared. absurd cc;
         plan_waits = λ is. absurd cc;
@@ -192,11 +140,11 @@ module _ {T P : Type 0} (left_task : T → Option (List ℕ)) (left_plan : P →
       record {
         output = λ b c inputs.
             let value = known_answer left_task task_format (ValueOf task_format) old new p b read (inputs.0 refl) in
-            ends_by Sent (Told c) (OutBy detail request.Plan b c) r (judged_by detail p layered b c value) (one.output c (inputs.1 refl));
+            ends_by Sent (Told c) (OutBy detail request.Plan b c) r (λ o. judged_by detail b c o p layered value) (one.output c (inputs.1 refl));
         taken = λ decided.
             let (b, consumed, value) = read.read in
             let (c, consumed_plan, ends) = one.taken decided in
-            (b, c, consumed.0, consumed_plan, ends_by Sent (Told c) (OutBy detail request.Plan b c) r (judged_by detail p layered b c value) ends);
+            (b, c, consumed.0, consumed_plan, ends_by Sent (Told c) (OutBy detail request.Plan b c) r (λ o. judged_by detail b c o p layered value) ends);
         task_spared = λ spared. absurd cc;
         plan_spared = λ spared. absurd cc;
         plan_waits = λ _ b known none. absurd (none (p, known_answer left_task task_format (ValueOf task_format) old new p b read known, layered));

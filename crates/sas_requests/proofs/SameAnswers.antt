@@ -31,7 +31,7 @@ use Rattle.sas_output.specs.Line.{line_bytes, reasons_text}
 use Rattle.sas_why.specs.Verdict.{WhyVerdict, Explains}
 use Rattle.sas_outputs.specs.declared.Request.{Request}
 use Rattle.sas_outputs.specs.declared.Request.TheVariants.{Show, Print, Steps, Check, Plan, Mutex}
-use Rattle.sas_outputs.specs.Output.{Out, IsAnswerOrRefusal, FileOut, LayersOut, JudgedOut, plain_refusal, ShowAnswer, PrintAnswer}
+use Rattle.sas_outputs.specs.Output.{Out, IsAnswerOrRefusal, FileOut, TaskOut, UnlayeredAnswer, plain_refusal, ShowAnswer, PrintAnswer}
 use Rattle.sas_requests.specs.Why.{without_reasons, IsSameAnswer, OutOfRead}
 use Rattle.sas_requests.proofs.ReasonLines.{lines_tell}
 use Rattle.sas_requests.proofs.GroupLines.{groups_kept, all_exclusive}
@@ -56,19 +56,30 @@ yes_stays o is_yes = λ is_no. absurd (let apart : Yes ≡ No = sym is_yes ∙ i
 
 -- ---- answers about one file
 
-module _ {V I S : Type 0} (F : Format V I S) (name : List ℕ) (IsAnswer : V → Output → Type 0) (refusals : AreRefusalsTold name) (each : (v : V) (o : Output) → IsAnswer v o → Stays o) where
-  reading_stays : (r : Result V Fault) (o : Output) → IsAnswerOrRefusal name IsAnswer r (Some o) → Stays o
-  reading_stays (Ok v) o (answer, told, is) = let same : answer ≡ o = cc in subst Stays same (each v answer told)
-  reading_stays (Err fault) o is = told_stays o (refusals fault o is)
+-- the answer with reasons about each good value is the same as one without them
+abbrev SameOfEach : {V : Type 0} → (V → Type 0) → (V → Output → Type 0) → (V → Output → Type 0) → Type 0
+SameOfEach {V} Good Plain Why = (v : V) (o : Output) → Good v → Why v o → (plain : Output) × Plain v plain × IsSameAnswer plain o
 
-  file_stays : (bytes : List ℕ) (o : Output) → FileOut F name IsAnswer bytes (Some o) → Stays o
-  file_stays bytes o out = reading_stays out.0 o out.2
+module _ {V I S : Type 0} (F : Format V I S) (name : List ℕ) (refusals : AreRefusalsTold name) (Plain Why : V → Output → Type 0) (each : SameOfEach F.texts.Good Plain Why) (bytes : List ℕ) where
+  reading_same : (r : Result V Fault) (o : Output) → ReadsAs F most_bytes bytes r → IsAnswerOrRefusal name Why r (Some o) → (plain : Output) × IsAnswerOrRefusal name Plain r (Some plain) × IsSameAnswer plain o
+  reading_same (Ok v) o reads (answer, told, is) =
+      let same : answer ≡ o = cc in
+      let it = each v o reads.0.good (subst (λ (x : Output). Why v x) same told) in
+      (it.0, (it.0, it.1, refl), it.2)
+  reading_same (Err fault) o reads is = (o, is, itself o (told_stays o (refusals fault o is)))
 
-show_stays : (p : Parts) (o : Output) → ShowAnswer p o → Stays o
-show_stays p o is = yes_stays o (ap (λ (x : Output). x.status) is)
+  file_same : (o : Output) → FileOut F name Why bytes (Some o) → (plain : Output) × FileOut F name Plain bytes (Some plain) × IsSameAnswer plain o
+  file_same o (r, reads, is) = let it = reading_same r o reads is in (it.0, (r, reads, it.1), it.2)
 
-print_stays : {V I S : Type 0} (F : Format V I S) (v : V) (o : Output) → PrintAnswer F v o → Stays o
-print_stays F v o is = yes_stays o (ap (λ (x : Output). x.status) is)
+task_same : (Plain Why : Parts → Output → Type 0) → SameOfEach WellRanged Plain Why → (b : List ℕ) (o : Output) → TaskOut Why b (Some o) → (plain : Output) × TaskOut Plain b (Some plain) × IsSameAnswer plain o
+task_same = file_same task_format (codes "task") task_refusals_told
+
+plan_same : (Plain Why : PlanParts → Output → Type 0) → SameOfEach WellNamed Plain Why → (c : List ℕ) (o : Output) → FileOut plan_format (codes "plan") Why c (Some o) → (plain : Output) × FileOut plan_format (codes "plan") Plain c (Some plain) × IsSameAnswer plain o
+plan_same = file_same plan_format (codes "plan") plan_refusals_told
+
+-- a text that is printed is a yes
+yes_same : {V : Type 0} (Good : V → Type 0) (printed : V → List ℕ) → SameOfEach Good (λ v o. o ≡ record { text = printed v; status = Yes }) (λ v o. o ≡ record { text = printed v; status = Yes })
+yes_same Good printed v o good is = (o, is, itself o (yes_stays o (ap (λ (x : Output). x.status) is)))
 
 layers_stay : (first : Option LayerFault) (o : Output) → layers_verdict first ≡ Some o → Stays o
 layers_stay None o is =
@@ -121,17 +132,8 @@ mutex_same p None o ranged (verdicts, reasons, joint, are, is) =
     )
 mutex_same p (Some fault) o ranged is = refused_same p fault o ranged is
 
--- the answer with reasons about each task is the same as one without them
-abbrev SameOfTasks : (Parts → Output → Type 0) → (Parts → Output → Type 0) → Type 0
-SameOfTasks IsAnswer Why = (p : Parts) (o : Output) → WellRanged p → Why p o → (plain : Output) × IsAnswer p plain × IsSameAnswer plain o
-
-task_same : (IsAnswer Why : Parts → Output → Type 0) → SameOfTasks IsAnswer Why → (b : List ℕ) (r : Result Parts Fault) (o : Output) → ReadsAs task_format most_bytes b r
-    → IsAnswerOrRefusal (codes "task") Why r (Some o) → (plain : Output) × IsAnswerOrRefusal (codes "task") IsAnswer r (Some plain) × IsSameAnswer plain o
-task_same IsAnswer Why each b (Ok p) o reads (answer, told, is) =
-    let same : answer ≡ o = cc in
-    let it = each p o reads.0.good (subst (λ (x : Output). Why p x) same told) in
-    (it.0, (it.0, it.1, refl), it.2)
-task_same IsAnswer Why each b (Err fault) o reads is = (o, is, itself o (told_stays o (task_refusals_told fault o is)))
+unlayered_same : SameOfEach WellRanged (UnlayeredAnswer plain_refusal) (UnlayeredAnswer why_refusal)
+unlayered_same p o ranged (fault, first, told) = let it = refused_same p fault o ranged told in (it.0, (fault, first, it.1), it.2)
 
 -- ---- answers about a plan
 
@@ -147,37 +149,19 @@ explained_same p plan fault o ranged named e is_no =
       no = λ _. ap without_reasons (e.whole ∙ ap (λ (t : List ℕ). t ++ reasons_text p plan.steps e.reasons) w.text) ∙ (left ∙ sym w.text);
     }
 
-module _ (c : List ℕ) (p : Parts) (ranged : WellRanged p) where
-  verdict_same : (plan : PlanParts) (o : Output) → WellNamed plan → WhyVerdict p plan o → (plain : Output) × VerdictAnswer p plan plain × IsSameAnswer plain o
-  verdict_same plan o named (inl (valid, is)) = (o, inl (valid, is), itself o (yes_stays o (ap (λ (x : Output). x.status) is)))
-  verdict_same plan o named (inr (fault, is_fault, e, is_no)) = (e.verdict, inr (fault, is_fault, e.told), explained_same p plan fault o ranged named e is_no)
-
-  plan_same : (r : Result PlanParts Fault) (o : Output) → ReadsAs plan_format most_bytes c r → IsAnswerOrRefusal (codes "plan") (WhyVerdict p) r (Some o)
-      → (plain : Output) × IsAnswerOrRefusal (codes "plan") (VerdictAnswer p) r (Some plain) × IsSameAnswer plain o
-  plan_same (Ok plan) o reads (answer, verdict, is) =
-      let same : answer ≡ o = cc in
-      let it = verdict_same plan o reads.0.good (subst (λ (x : Output). WhyVerdict p plan x) same verdict) in
-      (it.0, (it.0, it.1, refl), it.2)
-  plan_same (Err fault) o reads is = (o, is, itself o (told_stays o (plan_refusals_told fault o is)))
-
-  layers_same : (first : Option LayerFault) (o : Output) → LayersOut WhyVerdict why_refusal p first c (Some o) → (plain : Output) × LayersOut VerdictAnswer plain_refusal p first c (Some plain) × IsSameAnswer plain o
-  layers_same (Some fault) o is = let it = refused_same p fault o ranged (sym is) in (it.0, sym it.1, it.2)
-  layers_same None o out = let it = plan_same out.0 o out.1 out.2 in (it.0, (out.0, out.1, it.1), it.2)
-
-judged_same : (b c : List ℕ) (r : Result Parts Fault) (o : Output) → ReadsAs task_format most_bytes b r → JudgedOut WhyVerdict why_refusal r c (Some o) → (plain : Output) × JudgedOut VerdictAnswer plain_refusal r c (Some plain) × IsSameAnswer plain o
-judged_same b c (Err fault) o reads is = (o, is, itself o (told_stays o (task_refusals_told fault o is)))
-judged_same b c (Ok p) o reads out = layers_same c p reads.0.good (first_fault (layer_checks p)) o out
+verdict_same : (p : Parts) → WellRanged p → SameOfEach WellNamed (VerdictAnswer p) (WhyVerdict p)
+verdict_same p ranged plan o named (inl (valid, is)) = (o, inl (valid, is), itself o (yes_stays o (ap (λ (x : Output). x.status) is)))
+verdict_same p ranged plan o named (inr (fault, is_fault, e, is_no)) = (e.verdict, inr (fault, is_fault, e.told), explained_same p plan fault o ranged named e is_no)
 
 -- ---- all of them
 
 pub same_of_read : (request : Request) (b c : List ℕ) (why : Output) → OutOfRead request b c (Some why) → (plain : Output) × Out request b c (Some plain) × IsSameAnswer plain why
-same_of_read Show b c why out = (why, out, itself why (file_stays task_format (codes "task") ShowAnswer task_refusals_told show_stays b why out))
-same_of_read Print b c why out = (why, out, itself why (file_stays task_format (codes "task") (PrintAnswer task_format) task_refusals_told (print_stays task_format) b why out))
-same_of_read Steps b c why out = (why, out, itself why (file_stays plan_format (codes "plan") (PrintAnswer plan_format) plan_refusals_told (print_stays plan_format) c why out))
-same_of_read Check b c why out =
-    let it = task_same CheckAnswer WhyCheckAnswer (λ p o ranged is. check_same p (first_fault (layer_checks p)) o ranged is) b out.0 why out.1 out.2 in
-    (it.0, (out.0, out.1, it.1), it.2)
-same_of_read Plan b c why out = let it = judged_same b c out.0 why out.1 out.2 in (it.0, (out.0, out.1, it.1), it.2)
-same_of_read Mutex b c why out =
-    let it = task_same MutexAnswer WhyMutexAnswer (λ p o ranged is. mutex_same p (first_fault (layer_checks p)) o ranged is) b out.0 why out.1 out.2 in
-    (it.0, (out.0, out.1, it.1), it.2)
+same_of_read Show b c why out = task_same ShowAnswer ShowAnswer (yes_same WellRanged _) b why out
+same_of_read Print b c why out = task_same (PrintAnswer task_format) (PrintAnswer task_format) (yes_same WellRanged _) b why out
+same_of_read Steps b c why out = plan_same (PrintAnswer plan_format) (PrintAnswer plan_format) (yes_same WellNamed _) c why out
+same_of_read Check b c why out = task_same CheckAnswer WhyCheckAnswer (λ p o ranged is. check_same p (first_fault (layer_checks p)) o ranged is) b why out
+same_of_read Plan b c why (inl out) =
+    let it = task_same (UnlayeredAnswer plain_refusal) (UnlayeredAnswer why_refusal) unlayered_same b why out in (it.0, inl it.1, it.2)
+same_of_read Plan b c why (inr (p, reads, layered, out)) =
+    let it = plan_same (VerdictAnswer p) (WhyVerdict p) (verdict_same p reads.0.good) c why out in (it.0, inr (p, reads, layered, it.1), it.2)
+same_of_read Mutex b c why out = task_same MutexAnswer WhyMutexAnswer (λ p o ranged is. mutex_same p (first_fault (layer_checks p)) o ranged is) b why out

@@ -30,7 +30,7 @@ use Rattle.sas_answers.specs.LayerWords.{words_at_part, layer_words, layers_line
 use Rattle.sas_answers.specs.PlanWords.{step_words, goal_words, sum_words, fault_words, invalid_line}
 use Rattle.sas_answers.specs.GroupWords.{verdict_words, group_line, verdict_lines_from}
 use Rattle.sas_outputs.specs.declared.Request.TheVariants.{Show, Print, Steps, Check, Plan, Mutex}
-use Rattle.sas_outputs.specs.Output.{word_of, refusal_line, refusal, IsAnswerOrRefusal, ShowAnswer, PrintAnswer, FileOut, LayersOut, JudgedOut, plain_refusal, ShortOutput}
+use Rattle.sas_outputs.specs.Output.{word_of, refusal_line, refusal, IsAnswerOrRefusal, ShowAnswer, PrintAnswer, FileOut, UnlayeredAnswer, plain_refusal, ShortOutput}
 use Rattle.sas_outputs.proofs.Lengths.{text_short}
 use Rattle.sas_requests.proofs.SummaryLengths.{summary_fits}
 
@@ -217,16 +217,6 @@ printed_short : {V I S : Type 0} (F : Format V I S) (b : List ℕ) (v : V) → V
 printed_short F b v value o is =
     subst (λ (x : Output). length x.text < 2 ^ 64) (sym is) (subst (λ (l : List (List ℕ)). length (text l) < 2 ^ 64) value.0.lines (omega (arith, text_short b, value.1)))
 
--- ---- the output about a task and a plan
-
-layers_out_short : (p : Parts) (first : Option LayerFault) (c : List ℕ) (o : Output) → LayersOut VerdictAnswer plain_refusal p first c (Some o) → length o.text < 2 ^ 64
-layers_out_short p (Some fault) c o is = layers_short fault o (sym is)
-layers_out_short p None c o is = file_short plan_format (codes "plan") (omega arith) (VerdictAnswer p) c (λ plan value. verdict_short p plan) o is
-
-judged_short : (r : Result Parts Fault) (c : List ℕ) (o : Output) → JudgedOut VerdictAnswer plain_refusal r c (Some o) → length o.text < 2 ^ 64
-judged_short (Err fault) c o is = refusal_short (codes "task") (omega arith) fault o (sym is)
-judged_short (Ok p) c o is = layers_out_short p (first_fault (layer_checks p)) c o is
-
 -- ---- each output
 
 pub short_output : ShortOutput
@@ -234,5 +224,8 @@ short_output Show b c = file_short task_format (codes "task") (omega arith) Show
 short_output Print b c = file_short task_format (codes "task") (omega arith) (PrintAnswer task_format) b (printed_short task_format b)
 short_output Steps b c = file_short plan_format (codes "plan") (omega arith) (PrintAnswer plan_format) c (printed_short plan_format c)
 short_output Check b c = file_short task_format (codes "task") (omega arith) CheckAnswer b (λ p value. layered_short (first_fault (layer_checks p)))
-short_output Plan b c = λ o out. judged_short out.0 c o out.2
+short_output Plan b c = λ o out. elim out [
+  | inl refused ↦ file_short task_format (codes "task") (omega arith) (UnlayeredAnswer plain_refusal) b (λ p value o (fault, first, told). layers_short fault o told) o refused
+  | inr (p, reads, layered, judged) ↦ file_short plan_format (codes "plan") (omega arith) (VerdictAnswer p) c (λ plan value. verdict_short p plan) o judged
+]
 short_output Mutex b c = file_short task_format (codes "task") (omega arith) MutexAnswer b (λ p value. mutex_short b p value (first_fault (layer_checks p)))

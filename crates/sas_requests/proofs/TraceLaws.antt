@@ -1,22 +1,15 @@
--- What holds of the outputs of traces.
-use Rattle.std.proofs.Common.{◌≡◌, ℕ, List, [], ◌++◌, codes, refl, subst, inl, inr, Option, Some, None, Result, Ok, Err}
+-- Behind a trace stands the output of `plan`.
+use Rattle.std.proofs.Common.{◌≡◌, ℕ, List, [], ◌++◌, codes, refl, subst, inl, inr, Some, Result, Ok, Err}
 use Rattle.sas_core.specs.declared.parts.Parts.{Parts}
-use Rattle.sas_core.specs.FirstFault.{first_fault}
 use Rattle.sas_core.specs.PlanParts.{PlanParts}
-use Rattle.sas_meaning.specs.declared.layered.LayerFault.{LayerFault}
-use Rattle.sas_meaning.specs.LayerChecks.{layer_checks}
 use Rattle.sas_lines.specs.Lines.{text}
 use Rattle.sas_reader.specs.declared.fault.Fault.{Fault}
 use Rattle.sas_output.specs.Ending.{Output}
 use Rattle.sas_answers.specs.Answers.{VerdictAnswer}
-use Rattle.sas_outputs.specs.Output.{IsAnswerOrRefusal, LayersOut, JudgedOut, plain_refusal}
-use Rattle.sas_outputs.proofs.PlanOutputs.{plain_refuses, one_plan_output, some_plan_output, no_plan_output}
+use Rattle.sas_outputs.specs.Output.{IsAnswerOrRefusal, PlanOut}
 use Rattle.sas_trace.specs.Trace.{run_lines}
 use Rattle.sas_trace.specs.Traced.{EndsWith, TraceVerdict}
-use Rattle.sas_trace.specs.Laws.{OneTrace, SomeTrace}
-use Rattle.sas_requests.specs.TraceOut.{EndsAsPlan, OneTraceOutput, SomeTraceOutput, NoneTraceIsLong}
-
--- ---- behind a trace stands the output of `plan`
+use Rattle.sas_requests.specs.TraceOut.{EndsAsPlan, TraceOut}
 
 -- the output is some lines, and behind them this one, with its status
 pub record EndsAs (traced plain : Output) : Type 0 where
@@ -40,26 +33,10 @@ module _ (p : Parts) where
       (t.verdict, (t.verdict, verdict_of plan o t t.ends, refl), record { front = run_lines p t.run; whole = t.whole; status = t.status })
   plan_ends (Err fault) o is = (o, is, itself o)
 
-  layers_end : (first : Option LayerFault) (c : List ℕ) (o : Output) → LayersOut TraceVerdict plain_refusal p first c (Some o) → (plain : Output) × LayersOut VerdictAnswer plain_refusal p first c (Some plain) × EndsAs o plain
-  layers_end (Some fault) c o is = (o, is, itself o)
-  layers_end None c o (read, reads, out) = let (plain, its, as_plain) = plan_ends read o out in (plain, (read, reads, its), as_plain)
-
-pub judged_ends : (r : Result Parts Fault) (c : List ℕ) (o : Output) → JudgedOut TraceVerdict plain_refusal r c (Some o) → (plain : Output) × JudgedOut VerdictAnswer plain_refusal r c (Some plain) × EndsAs o plain
-judged_ends (Err fault) c o is = (o, is, itself o)
-judged_ends (Ok p) c o out = layers_end p (first_fault (layer_checks p)) c o out
+pub trace_ends : (b c : List ℕ) (traced : Output) → TraceOut b c (Some traced) → (plain : Output) × PlanOut b c (Some plain) × EndsAs traced plain
+trace_ends b c traced (inl refused) = (traced, inl refused, itself traced)
+trace_ends b c traced (inr (p, reads, layered, (read, reads_plan, out))) =
+    let (plain, its, ends) = plan_ends p read traced out in (plain, inr (p, reads, layered, (read, reads_plan, its)), ends)
 
 pub ends_as_plan : EndsAsPlan
-ends_as_plan b c traced (read, reads, out) =
-    let (plain, its, ends) = judged_ends read c traced out in
-    (plain, (read, reads, its), text ends.front, ends.whole, ends.status)
-
--- ---- one output, always one, and none only where an input is too long
-
-pub one_trace_output : OneTrace → OneTraceOutput
-one_trace_output one b c o p = one_plan_output TraceVerdict plain_refusal (λ task layered plan x y. one task plan x y layered) b c o p
-
-pub some_trace_output : SomeTrace → SomeTraceOutput
-some_trace_output some b c = some_plan_output TraceVerdict plain_refusal (λ p ranged layered plan none. let it = some p plan ranged layered in none it.0 it.1) b c
-
-pub long_trace_output : NoneTraceIsLong
-long_trace_output b c out = no_plan_output TraceVerdict plain_refusal plain_refuses b c out
+ends_as_plan b c traced out = let (plain, its, ends) = trace_ends b c traced out in (plain, its, text ends.front, ends.whole, ends.status)

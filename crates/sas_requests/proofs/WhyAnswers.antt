@@ -12,7 +12,6 @@ use Rattle.sas_run.specs.declared.plan_check.PlanFault.{PlanFault}
 use Rattle.sas_run.specs.declared.plan_check.PlanFault.TheVariants.{Memory, NoOperator, NotApplicable, Conflict, GoalMissed, CostDiffers}
 use Rattle.sas_run.specs.Verdicts.{IsFaultOf}
 use Rattle.sas_run.proofs.PlanVerdicts.{some_verdict, valid_has_no_fault, fault_is_one}
-use Rattle.sas_output.specs.declared.ending.Status.{Status}
 use Rattle.sas_output.specs.declared.ending.Status.TheVariants.{No}
 use Rattle.sas_output.specs.Ending.{Output}
 use Rattle.sas_answers.specs.Answers.{layers_refusal, valid_answer, invalid_answer}
@@ -24,6 +23,7 @@ use Rattle.sas_output.specs.Line.{reasons_text}
 use Rattle.sas_reasons.proofs.WhyPlan.{one_why, some_why}
 use Rattle.sas_why.specs.Verdict.{WhyVerdict, Explains}
 use Rattle.sas_outputs.proofs.Headlines.{TellsValid}
+use Rattle.sas_outputs.proofs.Outputs.{same_output}
 use Rattle.sas_outputs.proofs.PlanOutputs.{OneVerdictAnswer, SomeVerdictAnswer, IsRefusal, Refuses}
 use Rattle.sas_answers.proofs.WordedLines.{worded}
 
@@ -50,11 +50,6 @@ explained_one p plan fault a b layered x y =
     x.whole
     ∙ (ap (λ (v : Output). v.text ++ reasons_text p plan.steps x.reasons) verdict
     ∙ (ap (λ (lines : List Line). y.verdict.text ++ reasons_text p plan.steps lines) reasons ∙ sym y.whole))
-
-same_output : (o q : Output) → o.text ≡ q.text → o.status ≡ q.status → o ≡ q
-same_output o q text status =
-    let first : o ≡ record { text = q.text; status = o.status } = ap (λ (t : List ℕ). let x : Output = record { text = t; status = o.status } in x) text in
-    first ∙ ap (λ (s : Status). let x : Output = record { text = q.text; status = s } in x) status
 
 pub one_why_verdict : OneVerdictAnswer WhyVerdict
 one_why_verdict p layered plan o q a b = elim a [

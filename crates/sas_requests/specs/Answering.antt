@@ -1,10 +1,8 @@
 -- What the private steps of a run promise.
-use Rattle.std.specs.Prelude.{◌≡◌, ℕ, List, codes, Option, Some, option_map}
+use Rattle.std.specs.Prelude.{ℕ, List, codes, Option, option_map}
 use Rattle.sas_core.specs.declared.parts.Parts.{Parts}
-use Rattle.sas_core.specs.FirstFault.{first_fault}
 use Rattle.sas_core.specs.PlanParts.{PlanParts}
 use Rattle.sas_meaning.specs.declared.layered.LayerFault.{LayerFault}
-use Rattle.sas_meaning.specs.LayerChecks.{layer_checks}
 use Rattle.sas_reader.specs.declared.fault.Fault.{Fault}
 use Rattle.sas_reader.specs.declared.fault.Kind.{Kind}
 use Rattle.sas_reader.specs.Format.{Format}
@@ -21,27 +19,23 @@ use Rattle.sas_task_reasons.specs.WhyLayers.{with_reasons, why_refusal, WhyCheck
 use Rattle.sas_trace.specs.Traced.{TraceVerdict}
 use Rattle.sas_why.specs.Verdict.{WhyVerdict}
 use Rattle.sas_outputs.specs.declared.Request.{Request}
-use Rattle.sas_outputs.specs.declared.Request.TheVariants as requests
-use Rattle.sas_outputs.specs.Output.{Out, FileOut, refusal, plain_refusal}
+use Rattle.sas_outputs.specs.Output.{FileOut, OutOf, UnlayeredAnswer, refusal, plain_refusal}
 use Rattle.sas_requests.specs.declared.detail.Detail.{Detail}
 use Rattle.sas_requests.specs.declared.detail.Detail.TheVariants.{Plain, Reasons, Trace}
-use Rattle.sas_requests.specs.FileReasons.{FileReasons, AreTaskReasons, ArePlanReasons}
-use Rattle.sas_requests.specs.Why.{OutWhy, WithReasons}
-use Rattle.sas_requests.specs.TraceOut.{TraceOut}
+use Rattle.sas_requests.specs.FileReasons.{FileReasons, AreTaskReasons, ArePlanReasons, RefusalReasons}
+use Rattle.sas_requests.specs.Why.{WithReasons}
 
 -- ---- answers, by how much is reported
 
 -- to a check of a task
 abbrev pub CheckBy : Detail → Parts → Output → Type 0
-CheckBy Plain = CheckAnswer
 CheckBy Reasons = WhyCheckAnswer
-CheckBy Trace = CheckAnswer
+CheckBy detail = CheckAnswer
 
 -- about its mutex groups
 abbrev pub MutexBy : Detail → Parts → Output → Type 0
-MutexBy Plain = MutexAnswer
 MutexBy Reasons = WhyMutexAnswer
-MutexBy Trace = MutexAnswer
+MutexBy detail = MutexAnswer
 
 -- about a plan
 abbrev pub VerdictBy : Detail → Parts → PlanParts → Output → Type 0
@@ -51,21 +45,21 @@ VerdictBy Trace = TraceVerdict
 
 -- the refusal of a task for a fault of its layers
 abbrev pub layers_by : Detail → Parts → LayerFault → Option Output
-layers_by Plain = plain_refusal
 layers_by Reasons = why_refusal
-layers_by Trace = plain_refusal
+layers_by detail = plain_refusal
 
 -- this refusal, for the first fault
 abbrev pub UnlayeredBy : Detail → Parts → Output → Type 0
-UnlayeredBy detail p output = (fault : LayerFault) × (first_fault (layer_checks p) ≡ Some fault)
-    × (layers_by detail p fault ≡ Some output)
+UnlayeredBy detail = UnlayeredAnswer (layers_by detail)
 
--- the refusal of the file of this name for its fault, behind which these reasons may stand
+-- an output, behind which these reasons may stand
+abbrev pub told_by : Detail → List FileLine → Option Output → Option Output
+told_by Reasons reasons output = option_map (with_reasons (file_text reasons)) output
+told_by detail reasons output = output
+
+-- the refusal of the file of this name for its fault
 abbrev pub refusal_by : Detail → List ℕ → Fault → List FileLine → Option Output
-refusal_by Plain name fault reasons = refusal name fault
-refusal_by Reasons name fault reasons =
-    option_map (with_reasons (file_text reasons)) (refusal name fault)
-refusal_by Trace name fault reasons = refusal name fault
+refusal_by detail name fault reasons = told_by detail reasons (refusal name fault)
 
 -- the reasons why a task is refused, and a plan
 abbrev pub task_refusal_lines : TaskRefusal → List FileLine
@@ -77,14 +71,18 @@ plan_refusal_lines r = plan_reasons (r.fault).kind (kept_bytes r.found) (r.found
 
 -- ---- outputs, by how much is reported
 
+-- `IsOut` holds of the output, and `AreReasons` of the reasons that may stand behind it
+abbrev pub ReasonedBy : Detail → (Option Output → Type 0) → (List FileLine → Type 0) → Option Output
+    → Type 0
+ReasonedBy Reasons IsOut AreReasons output = WithReasons IsOut AreReasons output
+ReasonedBy detail IsOut AreReasons output = IsOut output
+
 -- about the bytes of one file. `IsAnswer` holds of the outputs that are answers about a value
 module _ {V I S : Type 0} (F : Format V I S)
     (Explains : Kind → List (List ℕ) → List ℕ → List FileLine → Type 0) (name : List ℕ) where
   abbrev pub FileBy : Detail → (V → Output → Type 0) → List ℕ → Option Output → Type 0
-  FileBy Plain IsAnswer bytes output = FileOut F name IsAnswer bytes output
-  FileBy Reasons IsAnswer bytes output =
-      WithReasons (FileOut F name IsAnswer bytes) (FileReasons F Explains bytes) output
-  FileBy Trace IsAnswer bytes output = FileOut F name IsAnswer bytes output
+  FileBy detail IsAnswer b =
+      ReasonedBy detail (FileOut F name IsAnswer b) (FileReasons F Explains b)
 
 abbrev pub TaskBy : Detail → (Parts → Output → Type 0) → List ℕ → Option Output → Type 0
 TaskBy = FileBy task_format AreTaskReasons (codes "task")
@@ -94,7 +92,6 @@ PlanBy = FileBy plan_format ArePlanReasons (codes "plan")
 
 -- of a request
 abbrev pub OutBy : Detail → Request → List ℕ → List ℕ → Option Output → Type 0
-OutBy Plain request b c output = Out request b c output
-OutBy Reasons request b c output = OutWhy request b c output
-OutBy Trace requests.Plan b c output = TraceOut b c output
-OutBy Trace request b c output = Out request b c output
+OutBy detail request b c = ReasonedBy detail
+    (OutOf (CheckBy detail) (MutexBy detail) (VerdictBy detail) (layers_by detail) request b c)
+    (RefusalReasons request b c)

@@ -1,9 +1,5 @@
 -- Why a file is refused: the lines that follow its refusal.
-use Rattle.std.specs.Prelude.{◌≡◌, ℕ, List, [], length, take, nat_lt, Option, Some, None, Result, Ok, Err}
-use Rattle.sas_core.specs.declared.parts.Parts.{Parts}
-use Rattle.sas_core.specs.FirstFault.{first_fault}
-use Rattle.sas_meaning.specs.declared.layered.LayerFault.{LayerFault}
-use Rattle.sas_meaning.specs.LayerChecks.{layer_checks}
+use Rattle.std.specs.Prelude.{◌≡◌, ◌⊎◌, ℕ, List, [], length, take, nat_lt, Option, Result, Ok, Err}
 use Rattle.sas_reader.specs.declared.fault.Fault.{Fault}
 use Rattle.sas_reader.specs.declared.fault.Kind.{Kind}
 use Rattle.sas_reader.specs.declared.fault.Kind.TheVariants.{TooLong}
@@ -18,7 +14,8 @@ use Rattle.sas_task_format.specs.TaskReasons.{IsTaskReason}
 use Rattle.sas_outputs.specs.FileLine.{FileLine}
 use Rattle.sas_outputs.specs.FileReasons.{task_reasons, plan_reasons}
 use Rattle.sas_outputs.specs.declared.Request.{Request}
-use Rattle.sas_outputs.specs.declared.Request.TheVariants.{Show, Print, Steps, Check, Plan, Mutex}
+use Rattle.sas_outputs.specs.declared.Request.TheVariants.{Steps, Plan}
+use Rattle.sas_outputs.specs.Output.{IsLayeredText}
 
 -- ---- one file
 
@@ -66,25 +63,10 @@ PlanFileReasons = FileReasons plan_format ArePlanReasons
 
 -- ---- the files of a request
 
--- of a task that was read, by the first fault of its layers if they have one: only for a layered one
--- the plan is read
-abbrev pub LayersFileReasons : Option LayerFault → List ℕ → List FileLine → Type 0
-LayersFileReasons (Some fault) c reasons = reasons ≡ []
-LayersFileReasons None c reasons = PlanFileReasons c reasons
-
-abbrev pub JudgedFileReasons : List ℕ → Result Parts Fault → List ℕ → List FileLine → Type 0
-JudgedFileReasons b (Err fault) c reasons = FaultReasons task_format AreTaskReasons b fault reasons
-JudgedFileReasons b (Ok p) c reasons = LayersFileReasons (first_fault (layer_checks p)) c reasons
-
-abbrev pub FilesReasons : List ℕ → List ℕ → List FileLine → Type 0
-FilesReasons b c reasons = (read : Result Parts Fault) × ReadsAs task_format most_bytes b read
-    × JudgedFileReasons b read c reasons
-
--- the reasons why a file of the request is refused, for the bytes b of the task and c of the plan
+-- The reasons why a file of the request is refused, for the bytes b of the task and c of the plan.
+-- For `plan` these are those of the plan if the task is layered, and else those of the task.
 abbrev pub RefusalReasons : Request → List ℕ → List ℕ → List FileLine → Type 0
-RefusalReasons Show b c reasons = TaskFileReasons b reasons
-RefusalReasons Print b c reasons = TaskFileReasons b reasons
 RefusalReasons Steps b c reasons = PlanFileReasons c reasons
-RefusalReasons Check b c reasons = TaskFileReasons b reasons
-RefusalReasons Plan b c reasons = FilesReasons b c reasons
-RefusalReasons Mutex b c reasons = TaskFileReasons b reasons
+RefusalReasons Plan b c reasons = (IsLayeredText b × PlanFileReasons c reasons)
+    ⊎ ((IsLayeredText b → ⊥) × TaskFileReasons b reasons)
+RefusalReasons request b c reasons = TaskFileReasons b reasons

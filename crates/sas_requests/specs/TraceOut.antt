@@ -1,31 +1,17 @@
 -- What `trace` prints: the output of `plan`, with the trace of the plan before it if it is judged.
-use Rattle.std.specs.Prelude.{◌≡◌, ℕ, List, ◌++◌, Option, Some, None}
+use Rattle.std.specs.Prelude.{◌≡◌, ℕ, List, ◌++◌, Option, Some}
 use Rattle.sas_output.specs.Ending.{Output}
 use Rattle.sas_outputs.specs.declared.Request.TheVariants.{Plan}
-use Rattle.sas_outputs.specs.Output.{Out, PlanOutBy, plain_refusal, IsLong}
+use Rattle.sas_outputs.specs.Output.{Out, PlanOutBy, plain_refusal}
 use Rattle.sas_trace.specs.Traced.{TraceVerdict}
 
 -- the output about the bytes b of the task and c of the plan
 abbrev pub TraceOut : List ℕ → List ℕ → Option Output → Type 0
 TraceOut = PlanOutBy TraceVerdict plain_refusal
 
--- ---- laws
-
--- the output of `plan` for the same inputs follows the trace, with the same status
+-- the law that the output of `plan` for the same inputs follows the trace, with the same status
 abbrev pub EndsAsPlan : Type 0
 EndsAsPlan = (b c : List ℕ) (traced : Output) → TraceOut b c (Some traced)
     → (plain : Output) × Out Plan b c (Some plain) × (front : List ℕ)
     × (traced.text ≡ front ++ plain.text)
     × (traced.status ≡ plain.status)
-
--- there is one output over the same inputs
-abbrev pub OneTraceOutput : Type 0
-OneTraceOutput = (b c : List ℕ) (o p : Option Output) → TraceOut b c o → TraceOut b c p → o ≡ p
-
--- and it can't be that there is none
-abbrev pub SomeTraceOutput : Type 0
-SomeTraceOutput = (b c : List ℕ) → ((o : Option Output) → TraceOut b c o → ⊥) → ⊥
-
--- there is none only where an input passes the limit
-abbrev pub NoneTraceIsLong : Type 0
-NoneTraceIsLong = (b c : List ℕ) → TraceOut b c None → IsLong Plan b c

@@ -1,29 +1,21 @@
 -- What the program prints with `--why`: the output without it, and reasons behind a no.
 use Rattle.std.specs.Prelude.{◌≡◌, ℕ, Bool, not, List, take, filter, bytes_eq, codes}
-use Rattle.std.specs.Prelude.{Option, Some, None, option_map}
+use Rattle.std.specs.Prelude.{Option, Some, option_map}
 use Rattle.sas_lines.specs.Lines.{text, lines}
 use Rattle.sas_output.specs.declared.ending.Status.TheVariants.{Yes, No}
 use Rattle.sas_output.specs.Ending.{Output}
-use Rattle.sas_task_format.specs.TaskFormat.{task_format}
 use Rattle.sas_outputs.specs.FileLine.{FileLine}
 use Rattle.sas_outputs.specs.FileReasons.{file_text}
 use Rattle.sas_task_reasons.specs.WhyLayers.{with_reasons, why_refusal, WhyCheckAnswer, WhyMutexAnswer}
 use Rattle.sas_why.specs.Verdict.{WhyVerdict}
 use Rattle.sas_outputs.specs.declared.Request.{Request}
-use Rattle.sas_outputs.specs.declared.Request.TheVariants.{Show, Print, Steps, Check, Plan, Mutex}
 use Rattle.sas_requests.specs.FileReasons.{RefusalReasons}
-use Rattle.sas_outputs.specs.Output.{Out, ShowOut, PrintOut, StepsOut, FileOut, PlanOutBy, IsLong}
+use Rattle.sas_outputs.specs.Output.{Out, OutOf}
 
--- The output for the bytes b of the task and c of the plan, with the reasons of what was read: why a
--- plan isn't valid, a task isn't layered, or a mutex group isn't exclusive. There is none if the file
--- that decides it is too long.
+-- the output with the reasons of what was read: why a task isn't layered, a mutex group isn't
+-- exclusive, or a plan isn't valid
 abbrev pub OutOfRead : Request → List ℕ → List ℕ → Option Output → Type 0
-OutOfRead Show b c output = ShowOut b output
-OutOfRead Print b c output = PrintOut b output
-OutOfRead Steps b c output = StepsOut c output
-OutOfRead Check b c output = FileOut task_format (codes "task") WhyCheckAnswer b output
-OutOfRead Plan b c output = PlanOutBy WhyVerdict why_refusal b c output
-OutOfRead Mutex b c output = FileOut task_format (codes "task") WhyMutexAnswer b output
+OutOfRead = OutOf WhyCheckAnswer WhyMutexAnswer WhyVerdict why_refusal
 
 -- an output with reasons behind it: `IsOut` holds of the output, `AreReasons` of the reasons
 pub record WithReasons (IsOut : Option Output → Type 0) (AreReasons : List FileLine → Type 0)
@@ -60,23 +52,7 @@ pub record IsSameAnswer (plain why : Output) : Type 0 where
   pub yes : plain.status ≡ Yes → why.text ≡ plain.text
   pub no : plain.status ≡ No → without_reasons why.text ≡ plain.text
 
--- ---- laws
-
--- each output with reasons is the same answer as the one without
+-- the law that each output with reasons is the same answer as the one without
 abbrev pub SameAnswer : Type 0
 SameAnswer = (request : Request) (b c : List ℕ) (why : Output) → OutWhy request b c (Some why)
     → (plain : Output) × Out request b c (Some plain) × IsSameAnswer plain why
-
--- a request has one output with reasons over the same inputs
-abbrev pub OneWhyOutput : Type 0
-OneWhyOutput = (request : Request) (b c : List ℕ) (o p : Option Output) → OutWhy request b c o
-    → OutWhy request b c p → o ≡ p
-
--- and it can't be that there is none
-abbrev pub SomeWhyOutput : Type 0
-SomeWhyOutput = (request : Request) (b c : List ℕ)
-    → ((o : Option Output) → OutWhy request b c o → ⊥) → ⊥
-
--- there is none only where an input passes the limit
-abbrev pub NoneWhyIsLong : Type 0
-NoneWhyIsLong = (request : Request) (b c : List ℕ) → OutWhy request b c None → IsLong request b c

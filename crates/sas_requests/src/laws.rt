@@ -1,14 +1,16 @@
 // Laws of the outputs.
-ghost use Rattle.sas_outputs.specs.Output.{OneOutput, SomeOutput, NoneIsLong, ShortOutput};
-ghost use Rattle.sas_requests.specs.Why.{SameAnswer, OneWhyOutput, SomeWhyOutput, NoneWhyIsLong};
-ghost use Rattle.sas_requests.specs.TraceOut.{EndsAsPlan, OneTraceOutput, SomeTraceOutput, NoneTraceIsLong};
+ghost use Rattle.std.specs.Prelude.{List, ℕ};
+ghost use Rattle.sas_outputs.specs.declared.Request.{Request};
+ghost use Rattle.sas_outputs.specs.declared.Request.TheVariants.{Plan};
+ghost use Rattle.sas_outputs.specs.Output.{HasOneOutput, IsLong, Out, ShortOutput};
+ghost use Rattle.sas_requests.specs.Why.{OutWhy, SameAnswer};
+ghost use Rattle.sas_requests.specs.TraceOut.{EndsAsPlan, TraceOut};
 
 /// What holds of outputs: a request has one output over the same inputs, and it can't have nothing; it has none only
 /// where an input passes the limit. Each output is shorter than 2^64 bytes.
 pub fn run_laws()
-    ensures one { OneOutput }
-    ensures some { SomeOutput }
-    ensures long { NoneIsLong }
+    ensures outputs { (request : Request) (b c : List ℕ)
+        → HasOneOutput (Out request b c) (IsLong request b c) }
     ensures short { ShortOutput }
 {}
 
@@ -18,16 +20,13 @@ pub fn run_laws()
 /// passes the limit.
 pub fn explain_laws()
     ensures same { SameAnswer }
-    ensures one { OneWhyOutput }
-    ensures some { SomeWhyOutput }
-    ensures long { NoneWhyIsLong }
+    ensures outputs { (request : Request) (b c : List ℕ)
+        → HasOneOutput (OutWhy request b c) (IsLong request b c) }
 {}
 
 /// What holds of traces: the output of `plan` follows one, with the same status; there is one output over the same inputs, and it
 /// can't have nothing; there is none only where an input passes the limit.
 pub fn trace_output_laws()
     ensures plan { EndsAsPlan }
-    ensures one { OneTraceOutput }
-    ensures some { SomeTraceOutput }
-    ensures long { NoneTraceIsLong }
+    ensures outputs { (b c : List ℕ) → HasOneOutput (TraceOut b c) (IsLong Plan b c) }
 {}

@@ -1,21 +1,11 @@
 use Rattle.std.proofs.Common.{List, ℕ, Bor, ap, Some, ◌∙◌}
 use Rattle.std.specs.Global.{Vec}
-use Rattle.std.specs.Io.KnownBytes.{Appends}
 use Rattle.sas_requests.specs.TraceOut.{TraceOut}
-use Rattle.sas_c.proofs.Tellings.{tells_ended, ends_fault}
+use Rattle.sas_c.proofs.Tellings.{tells_ended}
 use Rattle.sas_c.proofs.answering.answer_trace.Goals as goal
 
-pub returns-in-Ok : goal.returns-in-Ok
-returns-in-Ok c =
+pub returns : goal.returns
+returns c =
     let known = λ (s : Bor (List ℕ)). Some s.now in
-    tells_ended (TraceOut c.args.task.now c.args.plan.now) c.new-text.result.device.items c.trace.new.out.device.items c.as_slice.result.now c.in-Ok.status _ _ _ _
-    (ap (λ (v : Vec ℕ). v.items) c.new-text.ensures.device ∙ c.new.ensures.items)
-    (c.as_slice.ensures.value ∙ ap (λ (v : Vec ℕ). v.items) c.into_device.ensures)
-    (c.in-Ok.ensures.ends.output c.args.task.now c.args.plan.now (λ _. ap known c.new-task.ensures.device, λ _. ap known c.new-plan.ensures.device))
-    c.tell.ensures
-
-pub returns-in-Err : goal.returns-in-Err
-returns-in-Err c =
-    let known = λ (s : Bor (List ℕ)). Some s.now in
-    ends_fault (TraceOut c.args.task.now c.args.plan.now) _ _ (Appends (Some c.new-text.result.device.items) (Some c.trace.new.out.device.items)) c.in-Err.fault _ c.number_without.ensures
-    (c.in-Err.ensures.ends.output c.args.task.now c.args.plan.now (λ _. ap known c.new-task.ensures.device, λ _. ap known c.new-plan.ensures.device))
+    let ends = c.trace-ended.ensures.ends.output c.args.task.now c.args.plan.now (λ _. ap known c.new-task.ensures.device, λ _. ap known c.new-plan.ensures.device) in
+    tells_ended (TraceOut c.args.task.now c.args.plan.now) _ _ (ap (λ (v : Vec ℕ). v.items) c.new-text.ensures.device ∙ c.new.ensures.items) c.trace-ended.result _ _ _ _ ends c.tell_ended.ensures

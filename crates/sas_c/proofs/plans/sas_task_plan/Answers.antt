@@ -14,10 +14,7 @@ returns-in-Some-clause-bytes c = λ b holds.
     plan_told b c.args.plan.now _ _ _ _ (Some c.deref_mut.result.now) (subst (HoldsTask b) (sym held) holds) c.judge-number.ensures.answers
 
 pub returns-in-Some-clause-headline : goal.returns-in-Some-clause-headline
-returns-in-Some-clause-headline c = λ b holds.
-    let held = ap (λ (p : Prepared). Some p) c.deref_mut.ensures.value ∙ c.in-Some.ensures.task in
-    headline_told VerdictAnswer plain_refusal tells_valid plain_refuses b c.args.plan.now c.args.room.now _ _ _
-    (plan_told b c.args.plan.now _ _ _ _ (Some c.deref_mut.result.now) (subst (HoldsTask b) (sym held) holds) c.judge-number.ensures.answers)
+returns-in-Some-clause-headline c = λ b holds. headline_told VerdictAnswer plain_refusal tells_valid plain_refuses b c.args.plan.now c.args.room.now _ _ _ (returns-in-Some-clause-bytes c b holds)
 
 pub returns-in-None-clause-bytes : goal.returns-in-None-clause-bytes
 returns-in-None-clause-bytes c = λ b holds. absurd (subst (HoldsTask b) (sym c.in-None.ensures.task) holds)

@@ -10,10 +10,7 @@ returns-in-Some-clause-bytes c = λ b holds.
     why_told b c.args.plan.now _ _ _ _ (Some c.deref.result.now) (subst (HoldsTask b) (sym held) holds) c.explain-number.ensures
 
 pub returns-in-Some-clause-headline : goal.returns-in-Some-clause-headline
-returns-in-Some-clause-headline c = λ b holds.
-    let held = ap (λ (p : Prepared). Some p) c.deref.ensures ∙ c.in-Some.ensures.task in
-    headline_why_told b c.args.plan.now c.args.room.now _ _ _
-    (why_told b c.args.plan.now _ _ _ _ (Some c.deref.result.now) (subst (HoldsTask b) (sym held) holds) c.explain-number.ensures)
+returns-in-Some-clause-headline c = λ b holds. headline_why_told b c.args.plan.now c.args.room.now _ _ _ (returns-in-Some-clause-bytes c b holds)
 
 pub returns-in-None-clause-bytes : goal.returns-in-None-clause-bytes
 returns-in-None-clause-bytes c = λ b holds. absurd (subst (HoldsTask b) (sym c.in-None.ensures.task) holds)

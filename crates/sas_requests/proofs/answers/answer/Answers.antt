@@ -1,23 +1,26 @@
 use Rattle.std.proofs.Common.{refl}
 use Rattle.sas_outputs.specs.declared.Request.TheVariants.{Show, Print, Check, Mutex}
-use Rattle.sas_requests.proofs.RequestEnds.{show_by, print_by, check_by, mutex_by, of_task, of_steps}
+use Rattle.sas_task_format.specs.TaskFormat.{task_format}
+use Rattle.sas_outputs.specs.Output.{ShowAnswer, PrintAnswer}
+use Rattle.sas_requests.specs.Answering.{TaskBy, CheckBy, MutexBy}
+use Rattle.sas_requests.proofs.RequestEnds.{of_task, of_steps}
 use Rattle.sas_requests.proofs.answers.answer.Goals as goal
 
 pub returns-in-Show-clause-ends : goal.returns-in-Show-clause-ends
 returns-in-Show-clause-ends g c =
-    rw c.in-Show.is (of_task g.T.Read.remaining g.P.Read.remaining _ c.args.asked.detail Show refl _ (show_by c.args.asked.detail) _ _ _ c.show.result c.requires.plan c.show.ensures.ends)
+    rw c.in-Show.is (of_task g.T.Read.remaining g.P.Read.remaining _ c.args.asked.detail Show refl (TaskBy c.args.asked.detail ShowAnswer) (λ b c o out. out) _ _ _ c.show.result c.requires.plan c.show.ensures.ends)
 
 pub returns-in-Print-clause-ends : goal.returns-in-Print-clause-ends
 returns-in-Print-clause-ends g c =
-    rw c.in-Print.is (of_task g.T.Read.remaining g.P.Read.remaining _ c.args.asked.detail Print refl _ (print_by c.args.asked.detail) _ _ _ c.print.result c.requires.plan c.print.ensures.ends)
+    rw c.in-Print.is (of_task g.T.Read.remaining g.P.Read.remaining _ c.args.asked.detail Print refl (TaskBy c.args.asked.detail (PrintAnswer task_format)) (λ b c o out. out) _ _ _ c.print.result c.requires.plan c.print.ensures.ends)
 
 pub returns-in-Check-clause-ends : goal.returns-in-Check-clause-ends
 returns-in-Check-clause-ends g c =
-    rw c.in-Check.is (of_task g.T.Read.remaining g.P.Read.remaining _ c.args.asked.detail Check refl _ (check_by c.args.asked.detail) _ _ _ c.check.result c.requires.plan c.check.ensures.ends)
+    rw c.in-Check.is (of_task g.T.Read.remaining g.P.Read.remaining _ c.args.asked.detail Check refl (TaskBy c.args.asked.detail (CheckBy c.args.asked.detail)) (λ b c o out. out) _ _ _ c.check.result c.requires.plan c.check.ensures.ends)
 
 pub returns-in-Mutex-clause-ends : goal.returns-in-Mutex-clause-ends
 returns-in-Mutex-clause-ends g c =
-    rw c.in-Mutex.is (of_task g.T.Read.remaining g.P.Read.remaining _ c.args.asked.detail Mutex refl _ (mutex_by c.args.asked.detail) _ _ _ c.mutex.result c.requires.plan c.mutex.ensures.ends)
+    rw c.in-Mutex.is (of_task g.T.Read.remaining g.P.Read.remaining _ c.args.asked.detail Mutex refl (TaskBy c.args.asked.detail (MutexBy c.args.asked.detail)) (λ b c o out. out) _ _ _ c.mutex.result c.requires.plan c.mutex.ensures.ends)
 
 pub returns-in-Steps-clause-ends : goal.returns-in-Steps-clause-ends
 returns-in-Steps-clause-ends g c =

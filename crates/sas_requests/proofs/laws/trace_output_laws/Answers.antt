@@ -1,15 +1,13 @@
+use Rattle.sas_outputs.specs.Output.{plain_refusal}
+use Rattle.sas_outputs.proofs.PlanOutputs.{plain_refuses, judged_output}
+use Rattle.sas_trace.specs.Traced.{TraceVerdict}
 use Rattle.sas_trace.proofs.Answering.{some_trace, one_trace}
-use Rattle.sas_requests.proofs.TraceLaws.{ends_as_plan, one_trace_output, some_trace_output, long_trace_output}
+use Rattle.sas_requests.proofs.TraceLaws.{ends_as_plan}
 use Rattle.sas_requests.proofs.laws.trace_output_laws.Goals as goal
 
 pub returns-clause-plan : goal.returns-clause-plan
 returns-clause-plan c = ends_as_plan
 
-pub returns-clause-one : goal.returns-clause-one
-returns-clause-one c = one_trace_output one_trace
-
-pub returns-clause-some : goal.returns-clause-some
-returns-clause-some c = some_trace_output some_trace
-
-pub returns-clause-long : goal.returns-clause-long
-returns-clause-long c = long_trace_output
+pub returns-clause-outputs : goal.returns-clause-outputs
+returns-clause-outputs c = judged_output TraceVerdict (λ task layered plan x y. one_trace task plan x y layered)
+    (λ p ranged layered plan none. let it = some_trace p plan ranged layered in none it.0 it.1) plain_refusal plain_refuses
