@@ -90,7 +90,7 @@ pub(crate) fn facts_before<'a>(
 
 /// Reads a count and this many effects without conditions into `changes`, and returns the bytes after them. Returns `None` if a fact of an
 /// effect doesn't exist or the lines have another form.
-#[inline(always)]
+#[inline(never)]
 fn changes_before<'a>(
     ranges: &Items<u32>,
     bytes: &'a [u8],
