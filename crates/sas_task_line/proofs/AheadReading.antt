@@ -1,5 +1,5 @@
 -- Reading the first line of some bytes up to its LF.
-use Rattle.std.proofs.Common.{◌≡◌, ℕ, ◌+◌, ◌*◌, ◌-◌, ◌<◌, ◌≤◌, List, [], ◌∷◌, ◌++◌, length, take, drop, refl, sym, ap, subst, ◌∙◌, append_assoc, length-append, arith, Option, None, get_or, true, false, Bool, not, ◌&&◌, ◌==◌, IsTrue}
+use Rattle.std.proofs.Common.{◌≡◌, ℕ, zero, suc, ◌+◌, ◌*◌, ◌-◌, ◌<◌, ◌≤◌, ◌^◌, List, [], ◌∷◌, ◌++◌, length, take, drop, refl, sym, ap, subst, ◌∙◌, append_assoc, length-append, arith, Option, None, get_or, true, false, Bool, not, ◌&&◌, ◌==◌, IsTrue}
 use Rattle.std.specs.Fmt.{decimal}
 use Rattle.std.specs.List.{list_all}
 use Rattle.std.proofs.lemmas.Fmt.{decimal_digit}
@@ -15,7 +15,7 @@ use Rattle.sas_reader.proofs.Plain.{plain}
 use Rattle.sas_task_format.specs.TaskFormat.{TaskLine, word, name, number, signed, fact, effect, head, task_line_bytes, TaskLineFits, EffectNumbers}
 use Rattle.sas_task_format.proofs.TaskPlain.{Sayable, plain-line}
 use Rattle.sas_core.specs.declared.grounded.Change.{Change}
-use Rattle.sas_task_line.proofs.Digits.{digit_is, digit_more, digits_more}
+use Rattle.sas_task_line.proofs.Digits.{digit_is, digit_more}
 use Rattle.sas_task_line.specs.Ahead.{SpellsAhead, LineAhead, NumberAhead, SignedAhead, ChangeAhead}
 use Rattle.sas_core.specs.Changes.{plain_effect}
 
@@ -60,40 +60,42 @@ one_digit_ahead bytes end long low high next =
     let d = get_or bytes 0 0 in
     (omega arith, bytes_in_front bytes d end long refl next ∙ ap (λ (x : List ℕ). x ++ end ∷ take (length bytes - 2) (drop 2 bytes)) (sym (digit_is d low high)))
 
--- two digits in front
-pub two_digits_ahead : (bytes : List ℕ) → 2 ≤ length bytes → 48 < get_or bytes 0 0 → get_or bytes 0 0 ≤ 57 → 48 ≤ get_or bytes 1 0 → get_or bytes 1 0 ≤ 57
-    → bytes ≡ decimal ((get_or bytes 0 0 - 48) * 10 + (get_or bytes 1 0 - 48)) ++ take (length bytes - 2) (drop 2 bytes)
-two_digits_ahead bytes long some high low below =
-    let a = get_or bytes 0 0 in
-    let b = get_or bytes 1 0 in
-    let rest = take (length bytes - 2) (drop 2 bytes) in
-    bytes_in_front bytes a b long refl refl
-    ∙ ap (λ (x : List ℕ). (x ++ b ∷ []) ++ rest) (sym (digit_is a (omega arith) high))
-    ∙ ap (λ (x : List ℕ). x ++ rest) (sym (digit_more (a - 48) b (omega arith) (omega arith) low below))
+ten_pos : (k : ℕ) → 0 < 10 ^ k
+ten_pos zero = omega arith
+ten_pos (suc k) = let h = ten_pos k in omega (arith, h)
 
--- what follows the digits so far: the end, a digit and the end, or two digits
-module _ (n : ℕ) (left : List ℕ) where
-  pub number_ends : (end : ℕ) → 1 ≤ length left → get_or left 0 0 ≡ end → decimal n ++ left ≡ decimal n ++ end ∷ take (length left - 1) (drop 1 left)
-  number_ends end long is = ap (λ l. decimal n ++ l) (byte_in_front left end long is ∙ ap (λ l. end ∷ l) (sym (take_rest left 1)))
+pub tens_grow : (i k : ℕ) → i ≤ k → 10 ^ i ≤ 10 ^ k
+tens_grow zero k l = let h = ten_pos k in omega (arith, h)
+tens_grow (suc i) zero l = absurd (omega arith)
+tens_grow (suc i) (suc k) l = let h = tens_grow i k (omega arith) in omega (arith, h)
 
-  pub digit_goes_on : 0 < n → n < 10000000 → 48 ≤ get_or left 0 0 → get_or left 0 0 ≤ 57 → (end : ℕ) → 2 ≤ length left → get_or left 1 0 ≡ end
-      → decimal n ++ left ≡ decimal (n * 10 + (get_or left 0 0 - 48)) ++ end ∷ take (length left - 2) (drop 2 left)
-  digit_goes_on some few low high end long next =
-      let d = get_or left 0 0 in
-      let rest = take (length left - 2) (drop 2 left) in
-      ap (λ l. decimal n ++ l) (bytes_in_front left d end long refl next)
-      ∙ sym (append_assoc (decimal n) (d ∷ []) (end ∷ rest))
-      ∙ ap (λ l. l ++ end ∷ rest) (sym (digit_more n d some (omega arith) low high))
+pub tens_more : (i : ℕ) → 10 ^ (i + 1) ≡ 10 * 10 ^ i
+tens_more i =
+    let next : i + 1 ≡ suc i = omega arith in
+    let more : 10 ^ suc i ≡ 10 * 10 ^ i = omega arith in
+    ap (λ (x : ℕ). 10 ^ x) next ∙ more
 
-  pub digits_go_on : 0 < n → n < 10000000 → 48 ≤ get_or left 0 0 → get_or left 0 0 ≤ 57 → 48 ≤ get_or left 1 0 → get_or left 1 0 ≤ 57 → 2 ≤ length left
-      → decimal n ++ left ≡ decimal (n * 100 + (get_or left 0 0 - 48) * 10 + (get_or left 1 0 - 48)) ++ take (length left - 2) (drop 2 left)
-  digits_go_on some few low high under over long =
-      let a = get_or left 0 0 in
-      let b = get_or left 1 0 in
-      let rest = take (length left - 2) (drop 2 left) in
-      ap (λ l. decimal n ++ l) (bytes_in_front left a b long refl refl)
-      ∙ sym (append_assoc (decimal n) (a ∷ b ∷ []) rest)
-      ∙ ap (λ l. l ++ rest) (sym (digits_more n a b some few low high under over))
+-- the digits so far, then the byte at `i`: one more digit, or the end
+module _ (bytes : List ℕ) (n i : ℕ) (long : i < length bytes) (so_far : bytes ≡ decimal n ++ drop i bytes) where
+  pub digit_goes_on : 0 < n → n < 1000000000 → 48 ≤ get_or bytes i 0 → get_or bytes i 0 ≤ 57
+      → bytes ≡ decimal (n * 10 + (get_or bytes i 0 - 48)) ++ drop (i + 1) bytes
+  digit_goes_on some few low high =
+      let d = get_or bytes i 0 in
+      let rest = drop (i + 1) bytes in
+      so_far ∙ ap (λ l. decimal n ++ l) (drop_more bytes i 0 long)
+      ∙ sym (append_assoc (decimal n) (d ∷ []) rest)
+      ∙ ap (λ l. l ++ rest) (sym (digit_more n d some few low high))
+
+  pub number_ends : (end : ℕ) → n < 2 ^ 31 → get_or bytes i 0 ≡ end → NumberAhead bytes n end (take (length bytes - (i + 1)) (drop (i + 1) bytes))
+  number_ends end few is =
+      let rest = drop (i + 1) bytes in
+      let whole : bytes ≡ decimal n ++ end ∷ rest = so_far ∙ ap (λ l. decimal n ++ l) (drop_more bytes i 0 long ∙ ap (λ b. b ∷ rest) is) in
+      rw (take_rest bytes (i + 1)) (few, whole)
+
+pub first_digit : (bytes : List ℕ) → 1 ≤ length bytes → 48 ≤ get_or bytes 0 0 → get_or bytes 0 0 ≤ 57 → bytes ≡ decimal (get_or bytes 0 0 - 48) ++ drop 1 bytes
+first_digit bytes long low high =
+    let d = get_or bytes 0 0 in
+    byte_in_front bytes d long refl ∙ ap (λ (x : List ℕ). x ++ drop 1 bytes) (sym (digit_is d low high))
 
 -- ---- numbers, one after another
 

@@ -1,5 +1,5 @@
 -- Numbers by their digits.
-use Rattle.std.proofs.Common.{◌≡◌, ℕ, ◌+◌, ◌*◌, ◌/◌, ◌%◌, ◌-◌, ◌<◌, ◌≤◌, [], ◌∷◌, ◌++◌, ap, ◌∙◌, append_assoc, arith}
+use Rattle.std.proofs.Common.{◌≡◌, ℕ, ◌+◌, ◌*◌, ◌/◌, ◌%◌, ◌-◌, ◌<◌, ◌≤◌, [], ◌∷◌, ◌++◌, ap, ◌∙◌, arith}
 use Rattle.std.specs.Fmt.{decimal}
 use Rattle.std.proofs.lemmas.Fmt.{decimal_digit, decimal_step}
 
@@ -16,12 +16,3 @@ digit_more n d some few low high =
     let tens : m / 10 ≡ n = omega arith in
     let unit : 48 + m % 10 ≡ d = omega arith in
     decimal_step m (omega arith) (omega arith) ∙ ap (λ (x : ℕ). decimal x ++ (48 + m % 10) ∷ []) tens ∙ ap (λ (x : ℕ). decimal n ++ x ∷ []) unit
-
--- a number with two more digits
-pub digits_more : (n a b : ℕ) → 0 < n → n < 10000000 → 48 ≤ a → a ≤ 57 → 48 ≤ b → b ≤ 57
-    → decimal (n * 100 + (a - 48) * 10 + (b - 48)) ≡ decimal n ++ a ∷ b ∷ []
-digits_more n a b some few low high under over =
-    let m = n * 10 + (a - 48) in
-    let same : n * 100 + (a - 48) * 10 + (b - 48) ≡ m * 10 + (b - 48) = omega arith in
-    ap decimal same ∙ digit_more m b (omega arith) (omega arith) under over
-    ∙ ap (λ l. l ++ b ∷ []) (digit_more n a some (omega arith) low high) ∙ append_assoc (decimal n) (a ∷ []) (b ∷ [])

@@ -1,6 +1,6 @@
 // Parses the first line of some bytes directly, if it ends with LF and has the expected content. Otherwise these functions return `None`.
 // Then the line is cut out and parsed by the functions of `task_line.rt`, which report its fault.
-ghost use Rattle.std.specs.Prelude.{◌+◌, ◌<◌, ◌++◌, length, IfSome};
+ghost use Rattle.std.specs.Prelude.{◌+◌, ◌≤◌, ◌++◌, length, IfSome};
 ghost use Rattle.std.specs.Fmt.{decimal};
 ghost use Rattle.sas_core.specs.Names.{IsName};
 ghost use Rattle.sas_task_format.specs.TaskFormat as format;
@@ -17,31 +17,73 @@ pub struct Ahead<A> {
     pub taken: usize,
 }
 
-/// Appends the digits before the byte `end` to the digits of `first`. Returns the number and the bytes after `end`. Returns `None` for a
-/// number of ten digits.
+/// The most bytes of a number that is parsed here, which has at most nine digits, with the byte after it. Where so many bytes are left for
+/// each number of a line, no byte has to be compared with the end of the bytes.
+const NUMBER: usize = 10;
+
+/// Returns the number of at most nine digits before the byte `end`, and the bytes after it.
 #[inline(always)]
-fn longer_before(first: u32, bytes: &[u8], end: u8) -> Option<(u32, &[u8])>
-    requires some { 0 < first }
-    requires few { first < 100 }
-    ensures { IfSome result
-        (λ found. NumberAhead (decimal first ++ bytes.now) found.0 end found.1.now) }
+fn number_in(bytes: &[u8], end: u8) -> Option<(u32, &[u8])>
+    requires long { 10 ≤ length bytes.now }
+    ensures ahead { IfSome result (λ found. NumberAhead bytes.now found.0 end found.1.now) }
+    ensures left { IfSome result (λ found. length bytes.now ≤ length found.1.now + 10) }
 {
-    let mut value = first;
-    let mut left = bytes;
-    while value < 10_000_000 {
-        match left {
-            [byte, rest @ ..] if *byte == end => return Some((value, rest)),
-            [unit, byte, rest @ ..] if unit.is_ascii_digit() && *byte == end => {
-                return Some((value * 10 + (*unit - b'0') as u32, rest));
-            }
-            [ten, unit, rest @ ..] if ten.is_ascii_digit() && unit.is_ascii_digit() => {
-                value = value * 100 + (*ten - b'0') as u32 * 10 + (*unit - b'0') as u32;
-                left = rest;
-            }
-            _ => return None,
-        }
+    let first = bytes[0];
+    if !first.is_ascii_digit() {
+        return None;
     }
-    None
+    let mut value = (first - b'0') as u32;
+    if bytes[1] == end {
+        return Some((value, &bytes[2..]));
+    }
+    if value == 0 {
+        return None;
+    }
+    for at in 1..9 {
+        let byte = bytes[at];
+        if byte == end {
+            return Some((value, &bytes[at + 1..]));
+        }
+        if !byte.is_ascii_digit() {
+            return None;
+        }
+        value = value * 10 + (byte - b'0') as u32;
+    }
+    if bytes[9] == end {
+        Some((value, &bytes[10..]))
+    } else {
+        None
+    }
+}
+
+/// Returns the number before the byte `end` (`None` for `-1`), and the bytes after it.
+#[inline(always)]
+fn signed_in(bytes: &[u8], end: u8) -> Option<(Option<u32>, &[u8])>
+    requires long { 10 ≤ length bytes.now }
+    ensures ahead { IfSome result (λ found. SignedAhead bytes.now found.0 end found.1.now) }
+    ensures left { IfSome result (λ found. length bytes.now ≤ length found.1.now + 10) }
+{
+    if bytes[0] == b'-' {
+        return if bytes[1] == b'1' && bytes[2] == end {
+            Some((None, &bytes[3..]))
+        } else {
+            None
+        };
+    }
+    let (number, rest) = number_in(bytes, end)?;
+    Some((Some(number), rest))
+}
+
+/// Returns the change before LF, and the bytes after LF.
+#[inline(always)]
+fn change_in_line(bytes: &[u8]) -> Option<(Change, &[u8])>
+    requires long { 30 ≤ length bytes.now }
+    ensures { IfSome result (λ found. ChangeAhead bytes.now found.0 found.1.now) }
+{
+    let (var, rest) = number_in(bytes, b' ')?;
+    let (old, rest) = signed_in(rest, b' ')?;
+    let (new, rest) = number_in(rest, b'\n')?;
+    Some((Change { var, old, new }, rest))
 }
 
 /// Returns the number before the byte `end`, and the bytes after it.
@@ -49,16 +91,10 @@ fn longer_before(first: u32, bytes: &[u8], end: u8) -> Option<(u32, &[u8])>
 pub(crate) fn number_before(bytes: &[u8], end: u8) -> Option<(u32, &[u8])>
     ensures { IfSome result (λ found. NumberAhead bytes.now found.0 end found.1.now) }
 {
-    match bytes {
-        [unit, byte, rest @ ..] if unit.is_ascii_digit() && *byte == end => {
-            Some(((*unit - b'0') as u32, rest))
-        }
-        [ten, unit, rest @ ..] if ten.is_ascii_digit() && *ten != b'0' && unit.is_ascii_digit() => {
-            let first = (*ten - b'0') as u32 * 10 + (*unit - b'0') as u32;
-            longer_before(first, rest, end)
-        }
-        _ => None,
+    if bytes.len() < NUMBER {
+        return None;
     }
+    number_in(bytes, end)
 }
 
 /// Returns the number before the byte `end` (`None` for `-1`), and the bytes after it.
@@ -66,15 +102,10 @@ pub(crate) fn number_before(bytes: &[u8], end: u8) -> Option<(u32, &[u8])>
 pub(crate) fn signed_before(bytes: &[u8], end: u8) -> Option<(Option<u32>, &[u8])>
     ensures { IfSome result (λ found. SignedAhead bytes.now found.0 end found.1.now) }
 {
-    if let [b'-', b'1', byte, rest @ ..] = bytes {
-        return if *byte == end {
-            Some((None, rest))
-        } else {
-            None
-        };
+    if bytes.len() < NUMBER {
+        return None;
     }
-    let (number, rest) = number_before(bytes, end)?;
-    Some((Some(number), rest))
+    signed_in(bytes, end)
 }
 
 /// Returns the change before LF, and the bytes after LF.
@@ -82,10 +113,10 @@ pub(crate) fn signed_before(bytes: &[u8], end: u8) -> Option<(Option<u32>, &[u8]
 pub(crate) fn change_before(bytes: &[u8]) -> Option<(Change, &[u8])>
     ensures { IfSome result (λ found. ChangeAhead bytes.now found.0 found.1.now) }
 {
-    let (var, rest) = number_before(bytes, b' ')?;
-    let (old, rest) = signed_before(rest, b' ')?;
-    let (new, rest) = number_before(rest, b'\n')?;
-    Some((Change { var, old, new }, rest))
+    if bytes.len() < 3 * NUMBER {
+        return None;
+    }
+    change_in_line(bytes)
 }
 
 /// Returns the fact before LF, and the bytes after LF. The fact need not exist.
@@ -93,8 +124,11 @@ pub(crate) fn change_before(bytes: &[u8]) -> Option<(Change, &[u8])>
 pub(crate) fn fact_before(bytes: &[u8]) -> Option<(Fact, &[u8])>
     ensures { IfSome result (λ found. LineAhead (format.fact found.0) bytes.now found.1.now) }
 {
-    let (var, rest) = number_before(bytes, b' ')?;
-    let (value, rest) = number_before(rest, b'\n')?;
+    if bytes.len() < 2 * NUMBER {
+        return None;
+    }
+    let (var, rest) = number_in(bytes, b' ')?;
+    let (value, rest) = number_in(rest, b'\n')?;
     Some((Fact { var, value }, rest))
 }
 
@@ -104,10 +138,13 @@ pub(crate) fn effect_before(bytes: &[u8]) -> Option<(Change, &[u8])>
     ensures { IfSome result
         (λ found. LineAhead (format.effect (plain_effect found.0)) bytes.now found.1.now) }
 {
-    let [b'0', b' ', rest @ ..] = bytes else {
+    if bytes.len() < 2 + 3 * NUMBER {
         return None;
-    };
-    change_before(rest)
+    }
+    if bytes[0] != b'0' || bytes[1] != b' ' {
+        return None;
+    }
+    change_in_line(&bytes[2..])
 }
 
 /// If the bytes begin with the fixed word and LF, returns the bytes after them. The word is an array, since a word of constant length is

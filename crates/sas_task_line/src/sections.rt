@@ -89,8 +89,8 @@ pub(crate) fn facts_before<'a>(
 }
 
 /// Reads a count and this many effects without conditions into `changes`, and returns the bytes after them. Returns `None` if a fact of an
-/// effect doesn't exist or the lines have another form.
-#[inline(always)]
+/// effect doesn't exist or the lines have another form. It isn't inlined, so that its loop has all registers.
+#[inline(never)]
 fn changes_before<'a>(
     ranges: &Items<u32>,
     bytes: &'a [u8],

@@ -2,4 +2,4 @@ use Rattle.sas_task_line.proofs.AheadReading.{fact_is_ahead}
 use Rattle.sas_task_line.proofs.ahead.fact_before.Goals as goal
 
 pub returns : goal.returns
-returns c = fact_is_ahead c.args.bytes.now c.in_ok-var.rest.now c.in_ok-value.rest.now (record { var = c.in_ok-var.var; value = c.in_ok-value.value }) c.in_ok-var.ensures c.in_ok-value.ensures
+returns c = fact_is_ahead c.args.bytes.now c.in_ok-var.rest.now c.in_ok-value.rest.now (record { var = c.in_ok-var.var; value = c.in_ok-value.value }) c.in_ok-var.ensures.ahead c.in_ok-value.ensures.ahead

@@ -1,6 +1,6 @@
 use Rattle.std.proofs.Common.{arith}
 use Rattle.std.proofs.lemmas.Grind.{common_steps}
-use Rattle.sas_task_line.proofs.ahead.change_before.Goals as goal
+use Rattle.sas_task_line.proofs.ahead.change_in_line.Goals as goal
 
 pub returns : goal.returns
 returns c = grind (arith, common_steps)
