@@ -12,7 +12,7 @@ pub use Rattle.std.proofs.lemmas.Fmt.{decimal_step_wide}
 pub use Rattle.std.proofs.lemmas.Int.Digits.{digits_more, digits_value_more}
 pub use Rattle.std.proofs.lemmas.List.{take_at, length_push, length-take, take_all, take_more, get_or_at, get_or-take, take-append-drop, drop_more}
 pub use Rattle.std.proofs.lemmas.List.{take_rest, append-nil}
-pub use Rattle.std.proofs.lemmas.Str.Parse.{IsNumeralModel, numerals_by_value, reports_digits, digits_value_short, digit_at, digit_from_value}
+pub use Rattle.std.proofs.lemmas.Str.Parse.{IsNumeralModel, numerals_by_value, tells_digits, digits_value_short, digit_at, digit_from_value}
 pub use Rattle.std.specs.Char.{digit_value}
 pub use Rattle.std.specs.Fmt.{decimal, digits, digits_onto, digit_glyph}
 pub use Rattle.std.specs.Int.{IsInRange}
