@@ -14,7 +14,8 @@ pub use Rattle.std.proofs.lemmas.List.{take_at, length_push, length-take, take_a
 pub use Rattle.std.proofs.lemmas.List.{take_rest, append-nil}
 pub use Rattle.std.proofs.lemmas.Str.Parse.{IsNumeralModel, numerals_by_value, tells_digits, digits_value_short, digit_at, digit_from_value}
 pub use Rattle.std.specs.Char.{digit_value}
-unfoldable pub use Rattle.std.specs.Fmt.{decimal, digits, digits_onto, digit_glyph}
+pub use Rattle.std.specs.Fmt.{decimal, digits_onto, digit_glyph}
+unfoldable pub use Rattle.std.specs.Fmt.{digits}
 pub use Rattle.std.specs.Int.{IsInRange}
 pub use Rattle.std.specs.Io.KnownBytes.{Appends}
 pub use Rattle.std.specs.List.{AllByRecursion}

@@ -28,6 +28,7 @@ pub use Rattle.sas_core.specs.declared.parts.Parts.{Parts}
 pub use Rattle.sas_core.specs.declared.parts.Variable.{Variable}
 pub use Rattle.sas_lines.proofs.Words.{Without-decimal, NoSpace, words-first, same_first, NoSpace-decimal, own_decimal}
 pub use Rattle.sas_lines.specs.Lines.{text}
-unfoldable pub use Rattle.sas_lines.specs.Parts.{Without, parts}
+pub use Rattle.sas_lines.specs.Parts.{Without}
+unfoldable pub use Rattle.sas_lines.specs.Parts.{parts}
 pub use Rattle.sas_lines.specs.Spelling.{joined}
 pub use Rattle.sas_lines.specs.declared.devices.Short.{Short}
