@@ -4,3 +4,4 @@ pub mod Searching
 mod StepNumbers
 mod ChainsFrom
 mod FoundSteps
+mod LikelyOperators

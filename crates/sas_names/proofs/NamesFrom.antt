@@ -8,9 +8,8 @@ use Rattle.sas_core.specs.Grounded.{operator_at}
 use Rattle.sas_names.specs.Named.{IsNamed}
 use Rattle.sas_names.specs.Names.{IsNextNamed}
 use Rattle.sas_names.specs.declared.name_table.NameTable.{NameTable}
-use Rattle.sas_names.specs.declared.named.NamedOperator.{NamedOperator}
 use Rattle.sas_names.specs.declared.names.Names.{Names}
-use Rattle.sas_names.specs.NameTable.{AreMappedFrom, AreNamesFrom, Exist, IsEmptyTable, PutsName, value_of, operator_names, operator_in_table}
+use Rattle.sas_names.specs.NameTable.{AreMappedFrom, AreNamesFrom, Exist, IsEmptyTable, PutsName, value_of, operator_names}
 use Rattle.sas_names.proofs.TablePuts.{Exist-empty, value_of-empty}
 
 -- after the last operator no name has an operator
@@ -81,36 +80,6 @@ module _ (p : Parts) (operator : ℕ) (tells after : List ℕ → Option ℕ) (t
     lowest = lowest_of;
     next = next_of;
   }
-
--- ---- a table of borrowed names
-
--- the borrowed name of an operator, and the operator
-abbrev name_of : NamedOperator → List ℕ
-name_of named = named.name.now
-
-abbrev operator_in : NamedOperator → ℕ
-operator_in named = named.operator
-
-module _ (p : Parts) (operator : ℕ) (named : NamedOperator) (old new : NameTable NamedOperator) (had : Option NamedOperator) (nexts : List (Option ℕ))
-    (within : operator < length p.operators)
-    (is_operator : named.operator ≡ operator) (is_name : named.name.now ≡ (operator_at p operator).name)
-    (are : AreMappedFrom p (operator + 1) (operator_in_table old) nexts)
-    (is_had : had ≡ value_of name_of old named.name.now)
-    (puts : PutsName name_of named old new) where
-  told : (name : List ℕ) → operator_in_table new name ≡ (if pointwise nat_eq (operator_at p operator).name name then Some operator else operator_in_table old name)
-  told name =
-      subst (λ own. operator_in_table new name ≡ (if pointwise nat_eq own name then Some operator else operator_in_table old name)) is_name
-      (ap (option_map operator_in) (puts name) ∙ by (pointwise nat_eq named.name.now name))
-    where
-      by : (b : Bool) → option_map operator_in (if b then Some named else value_of name_of old name) ≡ (if b then Some operator else operator_in_table old name)
-      by true = ap Some is_operator
-      by false = refl
-
-  -- one operator more
-  pub AreMappedFrom-put : AreMappedFrom p operator (operator_in_table new) (slice_set nexts operator (option_map operator_in had))
-  AreMappedFrom-put =
-      AreMappedFrom-step p operator (operator_in_table old) (operator_in_table new) nexts (option_map operator_in had) within are
-      (ap (option_map operator_in) is_had ∙ ap (operator_in_table old) is_name) told
 
 -- ---- a table with the numbers of operators
 

@@ -1,6 +1,7 @@
 -- The modules that public contracts cite.
 pub mod Named
 pub mod Names
+pub mod Likely
 pub mod NameDigest
 pub mod NameTable
 pub mod StepNames

@@ -1,5 +1,5 @@
 -- What a table of names contains.
-use Rattle.std.specs.Prelude.{◌≡◌, ◌⊎◌, ℕ, ◌+◌, ◌<◌, ◌≤◌, List, length, Option, None, Some, option_map, nat_eq, if◌then◌else◌, slice_index_or}
+use Rattle.std.specs.Prelude.{◌≡◌, ◌⊎◌, ℕ, ◌+◌, ◌<◌, ◌≤◌, List, length, Option, None, Some, nat_eq, if◌then◌else◌, slice_index_or}
 use Rattle.std.specs.BTreeMap as tree
 use Rattle.std.specs.BTreeMap.{BTreeMap}
 use Rattle.std.specs.Cmp.Lexicographic.{pointwise, slice_cmp}
@@ -10,7 +10,6 @@ use Rattle.sas_core.specs.declared.parts.Parts.{Parts}
 use Rattle.sas_core.specs.Grounded.{operator_at}
 use Rattle.sas_names.specs.declared.names.Names.{Names}
 use Rattle.sas_names.specs.declared.name_table.NameTable.{NameTable}
-use Rattle.sas_names.specs.declared.named.NamedOperator.{NamedOperator}
 use Rattle.sas_names.specs.NameDigest.{digest_of}
 use Rattle.sas_names.specs.Names.{IsNextNamed}
 
@@ -30,6 +29,16 @@ module _ {V : Type 0} where
   abbrev pub value_of : (V → List ℕ) → NameTable V → List ℕ → Option V
   value_of names table name =
       own_else names name (get nat_eq table.first (digest_of name)) (other_of table.others name)
+
+  -- the value with the digest of the name if there is one, else the other value
+  abbrev pub first_else : Option V → Option V → Option V
+  first_else None other = other
+  first_else (Some first) other = Some first
+
+  -- the value of the name if it identifies the name
+  abbrev pub likely_of : NameTable V → List ℕ → Option V
+  likely_of table name =
+      first_else (get nat_eq table.first (digest_of name)) (other_of table.others name)
 
   -- no name has a value
   pub record IsEmptyTable (table : NameTable V) : Type 0 where
@@ -66,11 +75,6 @@ module _ {V : Type 0} where
 -- the name of each operator
 abbrev pub operator_names : Parts → ℕ → List ℕ
 operator_names p operator = (operator_at p operator).name
-
--- the operator that a table of borrowed names has for the name
-abbrev pub operator_in_table : NameTable NamedOperator → List ℕ → Option ℕ
-operator_in_table table name = option_map (λ (named : NamedOperator). named.operator)
-    (value_of (λ (named : NamedOperator). named.name.now) table name)
 
 -- The names of the operators from number `from` on. `tells` maps each name to the lowest of them
 -- with this name, if any. The list has, for each of them, the next operator of the same name.

@@ -4,7 +4,6 @@
 mod chains;
 mod digest;
 mod looking_up;
-mod name_map;
 mod name_table;
 mod named;
 mod names;
@@ -12,6 +11,6 @@ mod step_names;
 mod step_operators;
 
 pub use chains::next_in;
-pub use looking_up::{FirstNamed, first_operators};
+pub use looking_up::first_operators;
 pub use names::{NamedTask, Names};
-pub use step_operators::{Found, StepOperators, is_long};
+pub use step_operators::{Found, StepOperators};

@@ -1,53 +1,61 @@
 // Looks up the names of a plan's steps among the operators of a task.
-ghost use Rattle.std.specs.Prelude.{◌<◌, [], length, IfOk, slice_index_or};
-ghost use Rattle.sas_core.specs.declared.parts.Parts.{Parts};
-ghost use Rattle.sas_names.specs.Names.{AreFirsts, HaveFirsts, IsNextNamed};
+ghost use Rattle.std.specs.Prelude.{IfOk};
+ghost use Rattle.sas_names.specs.Names.{AreFirsts};
+ghost use Rattle.sas_names.specs.Likely.{AreLikely};
 
-use sas_core::Stepwise;
+use crate::names::NamedTask;
+use sas_core::{Grounded, Stepwise};
 use std::alloc::{AllocError, Global};
 
-/// Finds the operators of a task by their names.
-pub trait FirstNamed {
-    /// The parts of the task.
-    ghost parts: { Self → Parts };
-
-    /// Returns the lowest operator of this name, or `None` if no operator has it. It takes no memory.
-    fn first(&self, name: &[u8]) -> Option<u32>
-        ensures { IsNextNamed (parts self.now) name.now 0 result };
-}
-
-/// Returns the lowest operator of the name of each step. Stops at the first step whose name no operator has. A name that occurs several
-/// times in a row is looked up once. All names are looked up before the first step is made: a look-up reads memory in random order, and the
-/// processor waits for several look-ups at once only if they follow each other directly.
-pub fn first_operators<N: FirstNamed, P: Stepwise>(
+/// Returns the lowest operator of the name of each step. Stops at the first step whose name no operator has. All names are looked up before
+/// the first step is made, and no operator's name is read before all digests are looked up: both read memory in random order, and the
+/// processor waits for several reads at once only if they follow each other directly.
+pub fn first_operators<T: Grounded, P: Stepwise>(
     alloc: Global,
-    named: &N,
+    named: &NamedTask<'_, T>,
     plan: &P,
 ) -> Result<Vec<u32>, AllocError>
-    ensures { IfOk result (λ firsts. AreFirsts (N.parts named.now) (P.says plan.now).steps firsts.items) }
+    ensures { IfOk result (λ firsts. AreFirsts named.now (P.says plan.now).steps firsts.items) }
 {
-    let mut firsts = Vec::with_capacity(alloc, plan.steps())?;
-    for _step in 0..plan.steps() {
-        match next_first(named, plan, firsts.as_slice()) {
-            Some(first) => firsts.push(first).unwrap(),
-            None => return Ok(firsts),
-        }
-    }
+    let mut firsts = likely_operators(alloc, named, plan)?;
+    confirm_all(named, plan, &mut firsts);
     Ok(firsts)
 }
 
-/// Returns the lowest operator of the next step's name, or `None` if no operator has it. `firsts` has those of the steps before it.
-fn next_first<N: FirstNamed, P: Stepwise>(named: &N, plan: &P, firsts: &[u32]) -> Option<u32>
-    requires step { length firsts.now < length (P.says plan.now).steps }
-    requires firsts { HaveFirsts (N.parts named.now) (P.says plan.now).steps firsts.now }
-    ensures { IsNextNamed (N.parts named.now)
-        (slice_index_or (P.says plan.now).steps (length firsts.now) []) 0 result }
+/// Returns the likely operator of the name of each step. Stops at the first step for which there is none.
+fn likely_operators<T: Grounded, P: Stepwise>(
+    alloc: Global,
+    named: &NamedTask<'_, T>,
+    plan: &P,
+) -> Result<Vec<u32>, AllocError>
+    ensures { IfOk result (λ likely. AreLikely named.now (P.says plan.now).steps likely.items) }
 {
-    let step = firsts.len();
-    let name = plan.step(step);
-    if step > 0 && plan.step(step - 1) == name {
-        Some(firsts[step - 1])
-    } else {
-        named.first(name)
+    let mut likely = Vec::with_capacity(alloc, plan.steps())?;
+    for step in 0..plan.steps() {
+        match named.likely(plan.step(step)) {
+            Some(operator) => likely.push(operator).unwrap(),
+            None => return Ok(likely),
+        }
+    }
+    Ok(likely)
+}
+
+/// Replaces the likely operators by the lowest operators of the steps' names. Removes those from the first step whose name no operator has.
+fn confirm_all<T: Grounded, P: Stepwise>(
+    named: &NamedTask<'_, T>,
+    plan: &P,
+    likely: &mut Vec<u32>,
+)
+    requires { AreLikely named.now (P.says plan.now).steps likely.old.items }
+    ensures { AreFirsts named.now (P.says plan.now).steps likely.new.items }
+{
+    for step in 0..likely.len() {
+        match named.confirm(plan.step(step), likely[step]) {
+            Some(first) => likely[step] = first,
+            None => {
+                likely.truncate(step);
+                return;
+            }
+        }
     }
 }

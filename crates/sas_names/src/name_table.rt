@@ -1,7 +1,7 @@
 //! A table from names to values.
 ghost use Rattle.std.specs.Prelude.{◌≡◌, IfOk, OnOk};
 ghost use Rattle.sas_names.specs.NameTable.{IsEmptyTable, Exist, PutsName, PutsDigest, PutsEither, PutsOther};
-ghost use Rattle.sas_names.specs.NameTable.{value_of, other_of};
+ghost use Rattle.sas_names.specs.NameTable.{value_of, likely_of, other_of};
 
 use crate::digest::digest;
 use crate::named::Named;
@@ -70,6 +70,18 @@ impl<V: Copy> NameTable<V> {
         match self.first.get(&digest(name)).copied() {
             Some(value) if value.name(place) == name => Some(value),
             _ => self.others.get(name).copied(),
+        }
+    }
+
+    /// Returns a value that is that of this name if it identifies the name, or `None` if the name has no value. Reads no name unless no name
+    /// in the map has its digest. It takes no memory.
+    #[inline(always)]
+    pub fn likely(&self, name: &[u8]) -> Option<V>
+        ensures { result ≡ likely_of self.now name.now }
+    {
+        match self.first.get(&digest(name)).copied() {
+            Some(value) => Some(value),
+            None => self.others.get(name).copied(),
         }
     }
 

@@ -1,5 +1,5 @@
 //! Values that identify a name.
-ghost use Rattle.std.specs.Prelude.{◌≡◌, ◌<◌, ⊤, List, ℕ, length};
+ghost use Rattle.std.specs.Prelude.{◌≡◌, ◌<◌, List, ℕ, length};
 ghost use Rattle.sas_core.specs.Grounded.{operator_at};
 ghost use Rattle.sas_core.specs.Stepwise.{step_at};
 
@@ -38,22 +38,5 @@ impl<P: Stepwise> Named<P> for usize {
 
     fn name<'n>(&'n self, plan: &'n P) -> &'n [u8] {
         plan.step(*self)
-    }
-}
-
-/// An operator of a task, with its name borrowed from the task.
-#[derive(Clone, Copy)]
-pub struct NamedOperator<'a> {
-    pub name: &'a [u8],
-    pub operator: u32,
-}
-
-impl<'a> Named<()> for NamedOperator<'a> {
-    ghost exists = { λ _ _. ⊤ };
-
-    ghost names = { λ _ named. named.name.now };
-
-    fn name<'n>(&'n self, _place: &'n ()) -> &'n [u8] {
-        self.name
     }
 }

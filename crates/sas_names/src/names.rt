@@ -1,11 +1,11 @@
 // The operators of a task by their names.
-ghost use Rattle.std.specs.Prelude.{◌+◌, ◌<◌, ℕ, length, IfOk, OnOk};
+ghost use Rattle.std.specs.Prelude.{◌+◌, ◌<◌, ℕ, length, None, IfOk, OnOk, IfSome, IfNone};
 ghost use Rattle.sas_core.specs.declared.parts.Parts.{Parts};
 ghost use Rattle.sas_names.specs.NameTable.{AreNames, AreNamesFrom};
 ghost use Rattle.sas_names.specs.Names.{IsNextNamed};
 ghost use Rattle.sas_names.specs.Chains.{IsChain};
+ghost use Rattle.sas_names.specs.Likely.{IsLikely};
 
-use crate::looking_up::FirstNamed;
 use crate::name_table::NameTable;
 use sas_core::Grounded;
 use std::alloc::{AllocError, Global};
@@ -78,6 +78,14 @@ impl Names {
     {
         self.next.as_slice()
     }
+
+    /// Returns, for each operator, the next one of the same name. Drops everything else.
+    pub fn into_next(self) -> Vec<Option<u32>>
+        ensures { (p : Parts) → AreNames p self → (first : ℕ) → IsChain p first result.items }
+    {
+        let Names { next, first: _ } = self;
+        next
+    }
 }
 
 /// A task with the names of its operators. In a contract its value is the parts of the task.
@@ -98,10 +106,27 @@ impl<'n, T: Grounded> Model for NamedTask<'n, T> {
     ghost invariant = { λ n. AreNames (T.says n.task.now) n.names.now };
 }
 
-impl<'n, T: Grounded> FirstNamed for NamedTask<'n, T> {
-    ghost parts = { λ n. n };
+impl<'n, T: Grounded> NamedTask<'n, T> {
+    /// Returns an operator that is the lowest of this name if it has the name, or `None` if no operator has it. Finds it by the digest of
+    /// the name, and reads no name of an operator unless no name has this digest. It takes no memory.
+    #[inline(always)]
+    pub(crate) fn likely(&self, name: &[u8]) -> Option<u32>
+        ensures some { IfSome result (IsLikely self.now name.now) }
+        ensures none { IfNone result (IsNextNamed self.now name.now 0 None) }
+    {
+        self.names.first.likely(name)
+    }
 
-    fn first(&self, name: &[u8]) -> Option<u32> {
-        self.names.first(self.task, name)
+    /// Returns the lowest operator of this name, or `None` if no operator has it. `likely` is its likely operator. It takes no memory.
+    #[inline(always)]
+    pub(crate) fn confirm(&self, name: &[u8], likely: u32) -> Option<u32>
+        requires { IsLikely self.now name.now likely }
+        ensures { IsNextNamed self.now name.now 0 result }
+    {
+        if self.task.name(likely) == name {
+            Some(likely)
+        } else {
+            self.names.first(self.task, name)
+        }
     }
 }

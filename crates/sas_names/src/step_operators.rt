@@ -5,7 +5,7 @@ ghost use Rattle.sas_names.specs.Names.{AreFirsts};
 
 use crate::chains::Chains;
 use crate::looking_up::first_operators;
-use crate::name_map::NameMap;
+use crate::names::{NamedTask, Names};
 use crate::step_names::StepNames;
 use sas_core::{Grounded, Stepwise};
 use std::alloc::{AllocError, Global};
@@ -36,8 +36,8 @@ pub struct Found<'f> {
 }
 
 impl StepOperators {
-    /// Finds the operators whose names occur in the plan. For a long plan (`is_long`), a map of all operators' names is faster than a table
-    /// of the steps' names.
+    /// Finds the operators whose names occur in the plan. For a long plan (`is_long`), a table of all operators' names is faster than
+    /// one of the steps' names.
     pub fn new<T: Grounded, P: Stepwise>(
         alloc: Global,
         task: &T,
@@ -72,7 +72,7 @@ impl StepOperators {
     }
 
     /// Looks up the names of the plan's steps among those of the operators.
-    pub fn by_operator_names<T: Grounded, P: Stepwise>(
+    fn by_operator_names<T: Grounded, P: Stepwise>(
         alloc: Global,
         task: &T,
         plan: &P,
@@ -80,11 +80,15 @@ impl StepOperators {
         ensures firsts { IfOk result (λ o. AreFirsts (T.says task.now) (P.says plan.now).steps o.firsts.items) }
         ensures chains { IfOk result (λ o. HaveChains (T.says task.now) o.firsts.items o.next.items) }
     {
-        let map = NameMap::new(alloc, task)?;
-        let firsts = first_operators(alloc, &map, plan)?;
+        let names = Names::new(alloc, task)?;
+        let named = NamedTask {
+            task,
+            names: &names,
+        };
+        let firsts = first_operators(alloc, &named, plan)?;
         Ok(StepOperators {
             firsts,
-            next: map.into_next(),
+            next: names.into_next(),
         })
     }
 
@@ -114,8 +118,8 @@ impl StepOperators {
     }
 }
 
-/// Returns whether the plan has at least half as many steps as the task has operators. Then building a map of all operators' names takes no
-/// longer than making the steps.
-pub fn is_long<T: Grounded, P: Stepwise>(task: &T, plan: &P) -> bool {
+/// Returns whether the plan has at least half as many steps as the task has operators. Then building a table of all operators' names takes
+/// no longer than making the steps.
+fn is_long<T: Grounded, P: Stepwise>(task: &T, plan: &P) -> bool {
     plan.steps() >= task.operators() as usize / 2
 }

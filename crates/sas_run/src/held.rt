@@ -3,11 +3,11 @@ ghost use Rattle.std.specs.Prelude.{◌≡◌, ◌≢◌, IfOk, IfErr};
 ghost use Rattle.sas_run.specs.Plans.{IsValid};
 ghost use Rattle.sas_run.specs.Verdicts.{IsFaultOf};
 
-use crate::plan_check::{PlanFault, Valid, check_found, check_named};
+use crate::plan_check::{PlanFault, Valid, check_named};
 use crate::stepper::{Stepper, stepper_for};
 use sas_core::{Grounded, Stepwise, Task};
 use sas_meaning::{Layered, Settle};
-use sas_names::{NamedTask, Names, StepOperators, is_long};
+use sas_names::{NamedTask, Names};
 use std::alloc::{AllocError, Global};
 use std::marker::Model;
 
@@ -70,8 +70,7 @@ impl<E: Settle<T> + Drop, T: Grounded + Drop> Held<E, T> {
         &self.layered
     }
 
-    /// Checks whether the plan is valid, like `Runner::check_plan`. For a long plan (`is_long`), it builds a map that borrows the
-    /// operators' names. That takes less time than looking up every step in `Names`.
+    /// Checks whether the plan is valid, like `Runner::check_plan`.
     pub fn check_plan<P: Stepwise>(&mut self, alloc: Global, plan: &P) -> Result<Valid, PlanFault>
         ensures valid { IfOk result (λ v. IsValid self.old (P.says plan.now) v.operators.items) }
         ensures cost { IfOk result (λ v. v.cost ≡ (P.says plan.now).cost) }
@@ -79,11 +78,6 @@ impl<E: Settle<T> + Drop, T: Grounded + Drop> Held<E, T> {
             → IsFaultOf self.old (P.says plan.now) f) }
         ensures same { self.new ≡ self.old }
     {
-        if is_long(&self.layered, plan) {
-            let operators = StepOperators::by_operator_names(alloc, &self.layered, plan)?;
-            let found = operators.found();
-            return check_found(alloc, &self.layered, &mut self.stepper, plan, found);
-        }
         let named = NamedTask {
             task: &self.layered,
             names: &self.names,
