@@ -1,11 +1,11 @@
 -- What a fault is about, for any format.
-use Rattle.std.proofs.Common.{◌≡◌, ◌≢◌, ℕ, List, [], ◌∷◌, ◌++◌, refl, sym, ap, ◌∙◌, append_assoc, inl, inr}
+use Rattle.std.proofs.Common.{◌≡◌, ◌≢◌, ℕ, List, [], ◌∷◌, ◌++◌, refl, sym, ap, ◌∙◌, append_assoc, ◌⊎◌, inl, inr}
 use Rattle.sas_lines.specs.Lines.{lines, unfinished}
 use Rattle.sas_reader.specs.declared.fault.Fault.{Fault}
 use Rattle.sas_reader.specs.declared.fault.Kind.TheVariants as kinds
-use Rattle.sas_reader.specs.Format.{Format, KindAt, too_long, trailing, wrong, FaultOf}
+use Rattle.sas_reader.specs.Format.{Format, KindAt, too_long, trailing, wrong, FaultOf, EndOf}
 use Rattle.sas_reader.specs.System.{Node, Grammar}
-use Rattle.sas_reader.specs.About.{IsAbout, of_line, of_byte, of_end, OneAbout, SomeAbout, AboutStays, AboutLaws}
+use Rattle.sas_reader.specs.About.{IsAbout, of_line, of_byte, of_end, ConcernsText, AboutLaws}
 use Rattle.sas_reader.proofs.Whole.{fault_is_dead, no_slot_at_end, one_line, one_place}
 
 about_of : {V I S : Type 0} (F : Format V I S) (limit : ℕ) (bytes : List ℕ) (f : Fault) → f.kind ≢ kinds.TooLong → (h : FaultOf F limit bytes f) → KindAt F limit h.before h.byte f.kind → (a : List (List ℕ)) × (t : List ℕ) × IsAbout F limit bytes f a t
@@ -13,12 +13,12 @@ about_of F limit bytes f ne h (too_long l k) = absurd (ne k)
 about_of F limit bytes f ne h (trailing l v r k) = (lines h.before, h.byte ∷ [], of_byte h refl refl v r k)
 about_of F limit bytes f ne h (wrong l line e s n k) = (lines h.before, line, of_line h refl e s n k)
 
-some_about : {V I S : Type 0} (F : Format V I S) → SomeAbout F
+some_about : {V I S : Type 0} (F : Format V I S) (limit : ℕ) (bytes : List ℕ) (f : Fault) → ConcernsText f.kind → FaultOf F limit bytes f ⊎ EndOf F limit bytes f → (a : List (List ℕ)) × (t : List ℕ) × IsAbout F limit bytes f a t
 some_about F limit bytes f told (inl h) = about_of F limit bytes f told.1 h h.kind
 some_about F limit bytes f told (inr h) = (lines bytes, unfinished bytes, of_end h refl refl)
 
 module _ {T V I S : Type 0} (F : Format V I S) (Fits : I → Type 0) (node : T → Node T V I S) (start : T) (g : Grammar F Fits node start) where
-  one_about : OneAbout F
+  one_about : (limit : ℕ) (bytes : List ℕ) (f : Fault) (a b : List (List ℕ)) (t u : List ℕ) → IsAbout F limit bytes f a t → IsAbout F limit bytes f b u → (a ≡ b) × (t ≡ u)
   one_about limit bytes f a b t u (of_line h ha ht s n k) (of_line j ja jt r m l) =
       let p = one_place F Fits node start g limit bytes f h j in
       let same : a ≡ b = ha ∙ ap lines p.0 ∙ sym ja in
@@ -42,7 +42,7 @@ module _ {T V I S : Type 0} (F : Format V I S) (Fits : I → Type 0) (node : T �
   longer : (limit : ℕ) (bytes more : List ℕ) (f : Fault) → FaultOf F limit bytes f → FaultOf F limit (bytes ++ more) f
   longer limit bytes more f h = record { before = h.before; byte = h.byte; after = h.after ++ more; whole = ap (λ (b : List ℕ). b ++ more) h.whole ∙ append_assoc h.before (h.byte ∷ h.after) more; live = h.live; dead = h.dead; line = h.line; kind = h.kind }
 
-  pub about_stays : AboutStays F
+  pub about_stays : (limit : ℕ) (bytes more : List ℕ) (f : Fault) (a : List (List ℕ)) (t : List ℕ) → FaultOf F limit bytes f → IsAbout F limit bytes f a t → IsAbout F limit (bytes ++ more) f a t
   unfolding longer
   about_stays limit bytes more f a t d (of_line h ha ht s n k) = of_line (longer limit bytes more f h) ha ht s n k
   about_stays limit bytes more f a t d (of_byte h ha ht v r k) = of_byte (longer limit bytes more f h) ha ht v r k

@@ -28,22 +28,14 @@ module _ {V I S : Type 0} (F : Format V I S) where
     of_end : EndOf F limit bytes f → accepted ≡ lines bytes → text ≡ unfinished bytes
         → IsAbout limit bytes f accepted text
 
-  -- laws: a fault is about at most one text, and about at least one if its kind has a text
-  abbrev pub OneAbout : Type 0
-  OneAbout = (limit : ℕ) (bytes : List ℕ) (f : Fault) (a b : List (List ℕ)) (t u : List ℕ)
-      → IsAbout limit bytes f a t → IsAbout limit bytes f b u → (a ≡ b) × (t ≡ u)
-
-  abbrev pub SomeAbout : Type 0
-  SomeAbout = (limit : ℕ) (bytes : List ℕ) (f : Fault) → ConcernsText f.kind
-      → FaultOf F limit bytes f ⊎ EndOf F limit bytes f
-      → (a : List (List ℕ)) × (t : List ℕ) × IsAbout limit bytes f a t
-
-  -- more bytes after the fault don't change what it is about
-  abbrev pub AboutStays : Type 0
-  AboutStays = (limit : ℕ) (bytes more : List ℕ) (f : Fault) (a : List (List ℕ)) (t : List ℕ)
-      → FaultOf F limit bytes f → IsAbout limit bytes f a t → IsAbout limit (bytes ++ more) f a t
-
+  -- laws
   pub record AboutLaws : Type 0 where
-    pub one_about : OneAbout
-    pub some_about : SomeAbout
-    pub about_stays : AboutStays
+    -- a fault is about at most one text, and about at least one if its kind has a text
+    pub one_about : (limit : ℕ) (bytes : List ℕ) (f : Fault) (a b : List (List ℕ)) (t u : List ℕ)
+        → IsAbout limit bytes f a t → IsAbout limit bytes f b u → (a ≡ b) × (t ≡ u)
+    pub some_about : (limit : ℕ) (bytes : List ℕ) (f : Fault) → ConcernsText f.kind
+        → FaultOf F limit bytes f ⊎ EndOf F limit bytes f
+        → (a : List (List ℕ)) × (t : List ℕ) × IsAbout limit bytes f a t
+    -- more bytes after the fault don't change what it is about
+    pub about_stays : (limit : ℕ) (bytes more : List ℕ) (f : Fault) (a : List (List ℕ)) (t : List ℕ)
+        → FaultOf F limit bytes f → IsAbout limit bytes f a t → IsAbout limit (bytes ++ more) f a t

@@ -12,12 +12,11 @@ use Rattle.sas_task_format.specs.declared.marks.Location.TheVariants as at
 use Rattle.sas_task_format.specs.declared.marks.Mark.{Mark}
 use Rattle.sas_task_format.specs.TaskFormat.{TaskLine, task_slot, task_line_bytes, task_layout}
 use Rattle.sas_task_format.specs.Marks.{any_number, slot_of_due, task_marks, IsDue}
-use Rattle.sas_task_format.specs.TaskReasons.{end_mark}
-pub use Rattle.sas_task_format.specs.WrongWords.{SpeaksOfFacts}
 use Rattle.sas_task_format.specs.Tracker.{Tracker, tracker_start, by_count, step, track, mark, mark_at, mark_in, next_number}
 use Rattle.sas_reader.proofs.Paths.{cut_at}
 use Rattle.sas_task_format.proofs.Tracking.{track_marks, IsBehindVariables, Known, Along}
 use Rattle.sas_task_format.proofs.TrackedTask.{ranges_in, behind_all, task_scan}
+use Rattle.sas_task_format.proofs.WrongWords.{HasBounds}
 
 -- ---- lines in two parts
 
@@ -38,6 +37,10 @@ along_known ranges t [] h = h
 along_known ranges t (i ∷ items) h = h.0
 
 -- ---- after the first lines of a task
+
+-- nothing is expected after the last line
+abbrev pub end_mark : Mark
+end_mark = record { at = at.End; due = due.Nothing }
 
 -- all lines have been read
 pub record IsAtEnd (t : Tracker) : Type 0 where
@@ -78,22 +81,23 @@ module _ (v : Parts) (good : WellRanged v) where
   is_due begun items i more s e =
       let long : length items ≡ length begun = sym (length-map items task_line_bytes) ∙ ap length s in
       record {
-        task = v;
-        more = map task_line_bytes (i ∷ more);
-        good = good;
-        lines = ap (map task_line_bytes) e ∙ map-append task_line_bytes items (i ∷ more) ∙ ap (λ (x : List (List ℕ)). x ++ map task_line_bytes (i ∷ more)) s;
+        begins = (v, map task_line_bytes (i ∷ more), good, ap (map task_line_bytes) e ∙ map-append task_line_bytes items (i ∷ more) ∙ ap (λ (x : List (List ℕ)). x ++ map task_line_bytes (i ∷ more)) s);
         marked = ap (slice_get (task_marks v)) (sym long) ∙ due_behind items i more e;
       }
 
-no_facts : (n : ℕ) (m k : Mark) → (SpeaksOfFacts m.due → ⊥) → (SpeaksOfFacts k.due → ⊥) → SpeaksOfFacts (by_count n m k).due → ⊥
+-- facts, heads and effects contain variables and their values
+abbrev pub HasFacts : Due → Type 0
+HasFacts d = HasBounds (slot_of_due d)
+
+no_facts : (n : ℕ) (m k : Mark) → (HasFacts m.due → ⊥) → (HasFacts k.due → ⊥) → HasFacts (by_count n m k).due → ⊥
 no_facts zero m k f g h = f h
 no_facts (suc n) m k f g h = g h
 
-no_fact : (n : ℕ) (d e : Due) → (SpeaksOfFacts d → ⊥) → (SpeaksOfFacts e → ⊥) → SpeaksOfFacts (by_count n d e) → ⊥
+no_fact : (n : ℕ) (d e : Due) → (HasFacts d → ⊥) → (HasFacts e → ⊥) → HasFacts (by_count n d e) → ⊥
 no_fact zero d e f g h = f h
 no_fact (suc n) d e f g h = g h
 
-facts_behind_variables : (p : Place) (t : Tracker) → SpeaksOfFacts (mark_at p t).due → IsBehindVariables p
+facts_behind_variables : (p : Place) (t : Tracker) → HasFacts (mark_at p t).due → IsBehindVariables p
 facts_behind_variables place.VersionBegin t h = h
 facts_behind_variables place.VersionNumber t h = h
 facts_behind_variables place.VersionEnd t h = h
@@ -109,7 +113,7 @@ facts_behind_variables place.VariableValues t h = no_fact t.more (due.Word fixed
 facts_behind_variables _ t h = tt
 
 -- such lines are expected only after the variables
-pub speaks_behind_variables : (t : Tracker) → SpeaksOfFacts (mark_in t).due → IsBehindVariables t.place
+pub speaks_behind_variables : (t : Tracker) → HasFacts (mark_in t).due → IsBehindVariables t.place
 speaks_behind_variables t h = facts_behind_variables t.place t h
 
 -- ---- what is expected, by the tracker
@@ -141,6 +145,6 @@ module _ (begun : List (List ℕ)) (m : Mark) (v : Parts) (good : WellRanged v) 
 
 pub standing : (begun : List (List ℕ)) (m : Mark) → IsDue begun m → Standing begun m
 standing begun m d =
-    let c = cut_at task_line_bytes begun d.more (task_layout d.task) d.lines in
+    let c = cut_at task_line_bytes begun d.begins.1 (task_layout d.begins.0) d.begins.3 in
     let long : length begun ≡ length c.before = ap length (sym c.front_is) ∙ length-map c.before task_line_bytes in
-    standing_at begun m d.task d.good c.before c.after c.whole c.front_is (ap (slice_get (task_marks d.task)) (sym long) ∙ d.marked)
+    standing_at begun m d.begins.0 d.begins.2 c.before c.after c.whole c.front_is (ap (slice_get (task_marks d.begins.0)) (sym long) ∙ d.marked)

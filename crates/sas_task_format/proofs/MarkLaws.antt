@@ -1,28 +1,24 @@
 -- After the same lines of a task, one thing is expected. A line has at most one first wrong word.
 -- So there is one reason why it is refused.
-use Rattle.std.proofs.Common.{◌≡◌, ◌≢◌, ℕ, List, ◌∷◌, ◌++◌, length, map, refl, sym, ap, subst, ◌∙◌, Option, Some, None}
-use Rattle.sas_core.specs.declared.parts.Variable.{Variable}
+use Rattle.std.proofs.Common.{◌≡◌, ℕ, List, ◌∷◌, ◌++◌, map, sym, ap, subst, ◌∙◌}
 use Rattle.sas_core.specs.declared.parts.Parts.{Parts}
 use Rattle.sas_core.specs.WellRanged.{WellRanged}
-use Rattle.sas_reader.specs.declared.fault.Kind.{Kind}
 use Rattle.sas_reader.specs.declared.fault.Kind.TheVariants as kinds
-use Rattle.sas_reader.specs.Texts.{lines_of}
+use Rattle.sas_reader.specs.Format.{IsBegun}
 use Rattle.sas_reader.specs.System.{After, LeadsToEnd}
-use Rattle.sas_task_format.specs.declared.marks.Due.{Due}
 use Rattle.sas_task_format.specs.declared.marks.Due.TheVariants as due
 use Rattle.sas_task_format.specs.declared.marks.Mark.{Mark}
-use Rattle.sas_task_format.specs.declared.marks.WrongWord.{WrongWord}
 use Rattle.sas_task_format.specs.Process.{process_node}
-use Rattle.sas_task_format.specs.TaskFormat.{TaskLine, TaskLineFits, task_line_bytes, task_layout, task_texts, task_format}
+use Rattle.sas_task_format.specs.TaskFormat.{TaskLine, TaskLineFits, task_line_bytes, task_layout, task_format}
 use Rattle.sas_task_format.specs.TaskProcess.{TaskProcess, task_start}
 use Rattle.sas_task_format.specs.Marks.{slot_of_due, IsDue, OneDue, SomeDue}
 use Rattle.sas_task_format.specs.Tracker.{tracker_start, track, mark_in}
-use Rattle.sas_task_format.specs.WrongWords.{IsWrongWord, OneWrongWord}
-use Rattle.sas_task_format.specs.TaskReasons.{end_mark, IsTaskReason, OneTaskReason}
+use Rattle.sas_task_format.specs.TaskReasons.{first_wrong, line_bounds, OneTaskReason, OneWrongWord}
 use Rattle.sas_reader.proofs.Paths.{cut_at, ends_split, same_path}
 use Rattle.sas_task_format.proofs.TaskGrammar.{task_grammar}
-use Rattle.sas_task_format.proofs.DueBehind.{belongs_behind, ranges_behind, is_due, SpeaksOfFacts, speaks_behind_variables, standing}
-use Rattle.sas_task_format.proofs.WrongWords.{HasBounds, one_word}
+use Rattle.sas_task_format.proofs.DueBehind.{belongs_behind, ranges_behind, is_due, HasFacts, speaks_behind_variables, standing}
+use Rattle.sas_task_format.proofs.TaskLines.{one_task_line}
+use Rattle.sas_task_format.proofs.WrongWords.{ranges_in, same_bounds}
 
 -- ---- the bytes of lines determine the lines
 
@@ -58,46 +54,33 @@ some_due begun s n = (
   belongs_behind n.value n.good n.before n.item n.more n.layout ∙ n.slot,
 )
 
--- ---- one word is wrong
-
-speaks : (d : Due) → HasBounds (slot_of_due d) → SpeaksOfFacts d
-speaks due.Fact h = tt
-speaks due.Head h = tt
-speaks due.Effect h = tt
-speaks (due.Word w) h = h
-speaks due.Name h = h
-speaks (due.Number least most) h = h
-speaks due.Layer h = h
-speaks due.Nothing h = h
+-- ---- one number is wrong
 
 -- before such a mark, all ranges are known for each task that begins with the lines
-pub ranges_there : (begun : List (List ℕ)) (m : Mark) (d : IsDue begun m) (v : Parts) → WellRanged v → (more : List (List ℕ)) → lines_of task_texts v ≡ begun ++ more → HasBounds (slot_of_due m.due)
-    → (track tracker_start (standing begun m d).items).ranges ≡ map (λ (x : Variable). length x.values) v.variables
-ranges_there begun m d v good more e h =
+ranges_there : (begun : List (List ℕ)) (m : Mark) (d : IsDue begun m) (b : IsBegun task_format begun) → HasFacts m.due → (track tracker_start (standing begun m d).items).ranges ≡ ranges_in b.0.variables
+ranges_there begun m d b h =
     let a = standing begun m d in
-    let c = cut_at task_line_bytes begun more (task_layout v) e in
-    let items : a.items ≡ c.before = same_items a.task v a.good good a.items (a.item ∷ a.more) c.before c.after a.layout c.whole (a.spells ∙ sym c.front_is) in
-    let whole : task_layout v ≡ a.items ++ c.after = c.whole ∙ ap (λ (x : List TaskLine). x ++ c.after) (sym items) in
-    ranges_behind v good a.items c.after whole (speaks_behind_variables (track tracker_start a.items) (subst (λ (x : Mark). SpeaksOfFacts x.due) a.marked (speaks m.due h)))
+    let c = cut_at task_line_bytes begun b.1 (task_layout b.0) b.3 in
+    let items : a.items ≡ c.before = same_items a.task b.0 a.good b.2 a.items (a.item ∷ a.more) c.before c.after a.layout c.whole (a.spells ∙ sym c.front_is) in
+    let whole : task_layout b.0 ≡ a.items ++ c.after = c.whole ∙ ap (λ (x : List TaskLine). x ++ c.after) (sym items) in
+    ranges_behind b.0 b.2 a.items c.after whole (speaks_behind_variables (track tracker_start a.items) (subst (λ (x : Mark). HasFacts x.due) a.marked h))
+
+-- so it doesn't matter which task
+pub same_ranges : (begun : List (List ℕ)) (m : Mark) → IsDue begun m → (a b : IsBegun task_format begun) → HasFacts m.due → ranges_in a.0.variables ≡ ranges_in b.0.variables
+same_ranges begun m d a b h = sym (ranges_there begun m d a h) ∙ ranges_there begun m d b h
 
 pub one_wrong_word : OneWrongWord
-one_wrong_word begun line w x a b =
-    let mark : b.mark ≡ a.mark = one_due begun b.mark a.mark b.due a.due in
-    one_word a.task.variables b.task.variables (slot_of_due a.mark.due) line w x
-    (λ h. sym (ranges_there begun a.mark a.due a.task a.good a.more a.lines h) ∙ ranges_there begun a.mark a.due b.task b.good b.more b.lines h)
-    a.wrong (subst (λ (y : Mark). IsWrongWord b.task.variables (slot_of_due y.due) line x) mark b.wrong)
+one_wrong_word begun m n line w x a b =
+    let slot : slot_of_due n.due ≡ slot_of_due m.due = ap (λ (k : Mark). slot_of_due k.due) (one_due begun n m b.due a.due) in
+    let item : a.shape.0 ≡ b.shape.0 = one_task_line a.shape.0 b.shape.0 (a.shape.1 ∙ sym slot ∙ sym b.shape.1) a.shape.2 b.shape.2 (a.shape.3 ∙ sym b.shape.3) in
+    let ranges = ranges_in b.due.begins.0.variables in
+    a.first
+    ∙ ap (first_wrong 1) (same_bounds (ranges_in a.due.begins.0.variables) ranges (slot_of_due m.due) a.shape.0 a.shape.1 (same_ranges begun m a.due a.due.begins b.due.begins) ∙ ap (line_bounds ranges) item)
+    ∙ sym b.first
 
 -- ---- one reason
 
-same_mark : (kind : Kind) (begun : List (List ℕ)) (m n : Mark) → (kind ≡ kinds.Trailing → m ≡ end_mark) → (kind ≢ kinds.Trailing → IsDue begun m) → (kind ≡ kinds.Trailing → n ≡ end_mark) → (kind ≢ kinds.Trailing → IsDue begun n) → m ≡ n
-same_mark kinds.Trailing begun m n a b c d = a refl ∙ sym (c refl)
-same_mark _ begun m n a b c d = one_due begun m n (b (λ e. absurd cc)) (d (λ e. absurd cc))
-
-same_wrong : (kind : Kind) (begun : List (List ℕ)) (found : List ℕ) (m n : Mark) (w x : Option WrongWord) → IsTaskReason kind begun found m w → IsTaskReason kind begun found n x → w ≡ x
-same_wrong kind begun found m n None None a b = refl
-same_wrong kind begun found m n None (Some x) a b = absurd (a.no_wrong_word refl b.wrong_word.0 x b.wrong_word.1)
-same_wrong kind begun found m n (Some w) None a b = absurd (b.no_wrong_word refl a.wrong_word.0 w a.wrong_word.1)
-same_wrong kind begun found m n (Some w) (Some x) a b = ap Some (one_wrong_word begun found w x a.wrong_word.1 b.wrong_word.1)
-
 pub one_task_reason : OneTaskReason
-one_task_reason kind begun found m n w x a b = (same_mark kind begun m n a.trailing a.due b.trailing b.due, same_wrong kind begun found m n w x a b)
+one_task_reason kinds.Trailing begun found m n w x a b = (a.0 ∙ sym b.0, a.1 ∙ sym b.1)
+one_task_reason kinds.Value begun found m n w x a b = (one_due begun m n a.due b.due, one_wrong_word begun m n found w x a b)
+one_task_reason _ begun found m n w x a b = (one_due begun m n a.0 b.0, a.1 ∙ sym b.1)

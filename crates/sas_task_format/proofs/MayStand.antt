@@ -1,6 +1,7 @@
 -- If a fact, a head or an effect is expected, each line of its shape with allowed numbers continues
 -- a task.
 use Rattle.std.proofs.Common.{◌≡◌, ℕ, zero, suc, Bool, true, List, [], ◌∷◌, ◌++◌, length, map, refl, sym, ap, subst, ◌∙◌, ◌⊎◌, inl, inr, Option, Some, None, IsTrue, codes, nat_lt, ◌==◌}
+use Rattle.std.specs.Prelude.{slice_index}
 use Rattle.std.specs.List.{flat_map, list_all}
 use Rattle.sas_core.specs.declared.parts.Fact.{Fact}
 use Rattle.sas_core.specs.declared.parts.Variable.{Variable}
@@ -13,37 +14,43 @@ use Rattle.sas_reader.specs.System.{After, LeadsToEnd, Leads}
 use Rattle.sas_task_format.specs.Process.{done, read, process_node, a_line, repeat, each, a_list}
 use Rattle.sas_task_format.specs.TaskFormat.{TaskLine, fact, effect, head, TaskSlot, word_slot, name_slot, number_slot, signed_slot, fact_slot, effect_slot, head_slot, task_slot, task_line_bytes, task_layout, task_format, TaskLineFits}
 use Rattle.sas_task_format.specs.TaskProcess.{TaskProcess, TaskPart, name_in, number_in, signed_in, fact_in, effect_in, head_in, any, positive, may_change, effect_may_stand, head_may_stand, a_word, a_name, a_number, a_signed, a_fact, an_effect, a_head, a_value, a_version, a_metric, a_variable, a_group, a_state, a_goal, an_operator, a_rule, task_start}
-use Rattle.sas_task_format.specs.WrongWords.{Bounded, fact_bounds, change_bounds, line_bounds}
+use Rattle.sas_task_format.specs.TaskReasons.{Bounded, fact_bounds, change_bounds, line_bounds}
 use Rattle.sas_reader.proofs.Live.{leads_line}
 use Rattle.sas_reader.proofs.Paths.{map-append, after_ends, ends_split, one_ended}
 use Rattle.sas_task_format.proofs.TaskSections.{and_both}
 use Rattle.sas_task_format.proofs.TaskGrammar.{task_grammar}
-use Rattle.sas_task_format.proofs.WrongWords.{AllStand, HasBounds}
+use Rattle.sas_task_format.proofs.WrongWords.{AllStand, HasBounds, ranges_in, range_is}
 
 -- ---- allowed numbers pass the tests
 
 module _ (vs : List Variable) where
-  facts_pass : (fs : List Fact) (more : List Bounded) → AllStand (flat_map (fact_bounds vs) fs ++ more) → IsTrue (list_all (fact_exists vs) fs) × AllStand more
+  abbrev ranges : List ℕ
+  ranges = ranges_in vs
+
+  has : (var value : ℕ) → IsTrue (nat_lt value (slice_index ranges var)) → IsTrue (has_value vs var value)
+  has var value h = subst (λ (n : ℕ). IsTrue (nat_lt value n)) (range_is vs var) h
+
+  facts_pass : (fs : List Fact) (more : List Bounded) → AllStand (flat_map (fact_bounds ranges) fs ++ more) → IsTrue (list_all (fact_exists vs) fs) × AllStand more
   facts_pass [] more h = (refl, h)
   facts_pass (f ∷ fs) more h =
       let others = facts_pass fs more h.1.1 in
-      (and_both (fact_exists vs f) (list_all (fact_exists vs) fs) h.1.0 others.0, others.1)
+      (and_both (fact_exists vs f) (list_all (fact_exists vs) fs) (has f.var f.value h.1.0) others.0, others.1)
 
-  change_passes : (var : ℕ) (old : Option ℕ) (new : ℕ) → AllStand (change_bounds vs var old new) → IsTrue (may_change vs var old new)
-  change_passes var None new h = h.1.1.0
-  change_passes var (Some x) new h = and_both (has_value vs var x) (has_value vs var new) h.1.0 h.1.1.0
+  change_passes : (var : ℕ) (old : Option ℕ) (new : ℕ) → AllStand (change_bounds ranges var old new) → IsTrue (may_change vs var old new)
+  change_passes var None new h = has var new h.1.1.0
+  change_passes var (Some x) new h = and_both (has_value vs var x) (has_value vs var new) (has var x h.1.0) (has var new h.1.1.0)
 
-  fact_passes : (i : TaskLine) → task_slot i ≡ fact_slot → AllStand (line_bounds vs i) → IsTrue (fact_exists vs (fact_in i))
-  fact_passes (fact f) s h = h.1.0
+  fact_passes : (i : TaskLine) → task_slot i ≡ fact_slot → AllStand (line_bounds ranges i) → IsTrue (fact_exists vs (fact_in i))
+  fact_passes (fact f) s h = has f.var f.value h.1.0
   fact_passes _ s h = absurd cc
 
-  effect_passes : (i : TaskLine) → task_slot i ≡ effect_slot → AllStand (line_bounds vs i) → IsTrue (effect_may_stand vs (effect_in i))
+  effect_passes : (i : TaskLine) → task_slot i ≡ effect_slot → AllStand (line_bounds ranges i) → IsTrue (effect_may_stand vs (effect_in i))
   effect_passes (effect e) s h =
-      let conditions = facts_pass e.conditions (change_bounds vs e.var e.old e.new) h.1 in
+      let conditions = facts_pass e.conditions (change_bounds ranges e.var e.old e.new) h.1 in
       and_both (list_all (fact_exists vs) e.conditions) (may_change vs e.var e.old e.new) conditions.0 (change_passes e.var e.old e.new conditions.1)
   effect_passes _ s h = absurd cc
 
-  head_passes : (i : TaskLine) → task_slot i ≡ head_slot → AllStand (line_bounds vs i) → IsTrue (head_may_stand vs (head_in i))
+  head_passes : (i : TaskLine) → task_slot i ≡ head_slot → AllStand (line_bounds ranges i) → IsTrue (head_may_stand vs (head_in i))
   head_passes (head var old new) s h = change_passes var old new h
   head_passes _ s h = absurd cc
 
@@ -51,7 +58,7 @@ module _ (vs : List Variable) where
 
   -- if a fact, a head or an effect is expected, the test accepts each line with allowed numbers
   abbrev Passes : TaskSlot → (TaskLine → Bool) → Type 0
-  Passes s ok = HasBounds s → (i : TaskLine) → task_slot i ≡ s → AllStand (line_bounds vs i) → IsTrue (ok i)
+  Passes s ok = HasBounds s → (i : TaskLine) → task_slot i ≡ s → AllStand (line_bounds ranges i) → IsTrue (ok i)
 
   -- this holds at every line, and the task has these variables
   abbrev Behind : TaskProcess → Type 0
@@ -208,12 +215,12 @@ its_variables vs (read s ok next) [] v h e = absurd cc
 its_variables vs (read s ok next) (i ∷ items) v h e = its_variables vs (next i) items v (h.1 i) e.1
 
 -- a line of a task may be replaced by a line of the same slot with allowed numbers
-may_come : (p : TaskProcess) (item : TaskLine) (more : List TaskLine) (v : Parts) (i : TaskLine) → Known p → Runs p (item ∷ more) v → HasBounds (task_slot item) → task_slot i ≡ task_slot item → TaskLineFits i → AllStand (line_bounds v.variables i) → (q : TaskProcess) × Comes p (i ∷ []) q
+may_come : (p : TaskProcess) (item : TaskLine) (more : List TaskLine) (v : Parts) (i : TaskLine) → Known p → Runs p (item ∷ more) v → HasBounds (task_slot item) → task_slot i ≡ task_slot item → TaskLineFits i → AllStand (line_bounds (ranges_in v.variables) i) → (q : TaskProcess) × Comes p (i ∷ []) q
 may_come (done w) item more v i h e b s f a = absurd e
 may_come (read slot ok next) item more v i (inl h) e b s f a =
     let there : task_slot i ≡ slot = s ∙ e.0.slot in
     let same : v.variables ≡ h.0 = its_variables h.0 (next item) more v (h.1.1 item) e.1 in
-    let passes : IsTrue (ok i) = h.1.0 (subst HasBounds e.0.slot b) i there (subst (λ (x : List Variable). AllStand (line_bounds x i)) same a) in
+    let passes : IsTrue (ok i) = h.1.0 (subst HasBounds e.0.slot b) i there (subst (λ (x : List Variable). AllStand (line_bounds (ranges_in x) i)) same a) in
     (next i, (record { slot = there; fits = f; good = passes }, refl))
 may_come (read slot ok next) item more v i (inr h) e b s f a = absurd (h.0 (subst HasBounds e.0.slot b))
 
@@ -229,7 +236,7 @@ led_begun p begun h =
 
 -- so a task begins with the lines before it and this line
 pub goes_on : (v : Parts) → WellRanged v → (begun : List (List ℕ)) (items : List TaskLine) (item : TaskLine) (more : List TaskLine) → task_layout v ≡ items ++ item ∷ more → map task_line_bytes items ≡ begun → HasBounds (task_slot item)
-    → (i : TaskLine) → task_slot i ≡ task_slot item → TaskLineFits i → AllStand (line_bounds v.variables i) → IsBegun task_format (begun ++ task_line_bytes i ∷ [])
+    → (i : TaskLine) → task_slot i ≡ task_slot item → TaskLineFits i → AllStand (line_bounds (ranges_in v.variables) i) → IsBegun task_format (begun ++ task_line_bytes i ∷ [])
 goes_on v good begun items item more e spells b i s f a =
     let t = ends_split task_format TaskLineFits process_node task_start v items (item ∷ more) (subst (λ (x : List TaskLine). Runs task_start x v) e (task_grammar.complete v good)) in
     let n = may_come t.0 item more v i (known_after task_start t.0 items start_known t.1) t.2 b s f a in

@@ -1,4 +1,4 @@
--- If a fact, a head or an effect is expected, a refused line of its shape has a wrong word, which
+-- If a fact, a head or an effect is expected, a refused line of its shape has a wrong number, which
 -- the reason names.
 use Rattle.std.proofs.Common.{◌≡◌, ℕ, ◌≤◌, List, [], ◌∷◌, ◌++◌, length, length-append, map, refl, sym, ap, subst, ◌∙◌, inl, inr, arith, Option, Some, None}
 use Rattle.std.specs.Prelude.{IsSome}
@@ -13,44 +13,45 @@ use Rattle.sas_reader.specs.Format.{Format, IsBegun, KindAt, too_long, trailing,
 use Rattle.sas_reader.specs.Limit.{most_bytes}
 use Rattle.sas_reader.specs.About.{of_line, of_byte, of_end}
 use Rattle.sas_task_format.specs.declared.marks.Due.{Due}
-use Rattle.sas_task_format.specs.declared.marks.Due.TheVariants as due
 use Rattle.sas_task_format.specs.declared.marks.Mark.{Mark}
 use Rattle.sas_task_format.specs.declared.marks.WrongWord.{WrongWord}
 use Rattle.sas_task_format.specs.TaskFormat.{TaskSlot, word_slot, name_slot, number_slot, signed_slot, fact_slot, effect_slot, head_slot, task_slot, task_line_bytes, HasShape, NumbersKind, no_shape, no_value, TaskKind, task_texts, task_format}
 use Rattle.sas_task_format.specs.Marks.{IsDue, slot_of_due}
-use Rattle.sas_task_format.specs.TaskReasons.{IsTaskReason, WrongWordIsNamed}
-use Rattle.sas_task_format.specs.WrongWords.{line_bounds, IsWrongBehind, SpeaksOfFacts, SomeWrongWord}
+use Rattle.sas_task_format.specs.TaskReasons.{Bounded, first_wrong, line_bounds, IsFirstWrong, IsTaskReason, SpeaksOfFacts, SomeWrongWord, WrongWordIsNamed}
 use Rattle.sas_reader.proofs.Paths.{map-append}
-use Rattle.sas_task_format.proofs.DueBehind.{belongs_behind, standing}
-use Rattle.sas_task_format.proofs.MarkLaws.{one_due, some_due}
+use Rattle.sas_task_format.proofs.DueBehind.{belongs_behind, HasFacts, standing}
+use Rattle.sas_task_format.proofs.MarkLaws.{one_due, some_due, one_wrong_word, same_ranges}
 use Rattle.sas_task_format.proofs.MayStand.{goes_on}
-use Rattle.sas_task_format.proofs.SomeReason.{same_bounds, wrong_behind}
-use Rattle.sas_task_format.proofs.WrongWords.{AllStand, HasBounds, first_wrong}
+use Rattle.sas_task_format.proofs.WrongWords.{AllStand, all_stand, HasBounds, ranges_in, same_bounds}
 
--- ---- a wrong word
+-- ---- a wrong number
 
 has_bounds : (d : Due) → SpeaksOfFacts d → HasBounds (slot_of_due d)
-has_bounds due.Fact h = tt
-has_bounds due.Head h = tt
-has_bounds due.Effect h = tt
-has_bounds (due.Word w) h = h
-has_bounds due.Name h = h
-has_bounds (due.Number least most) h = h
-has_bounds due.Layer h = h
-has_bounds due.Nothing h = h
+has_bounds d (inl e) = subst HasFacts (sym e) tt
+has_bounds d (inr (inl e)) = subst HasFacts (sym e) tt
+has_bounds d (inr (inr e)) = subst HasFacts (sym e) tt
+
+module _ (begun : List (List ℕ)) (line : List ℕ) (m : Mark) (d : IsDue begun m) (speaks : SpeaksOfFacts m.due) (shape : HasShape (slot_of_due m.due) line) (none : IsBegun task_format (begun ++ line ∷ []) → ⊥) where
+  abbrev bounds : List Bounded
+  bounds = line_bounds (ranges_in d.begins.0.variables) shape.0
+
+  -- if all numbers were allowed, a task would begin with the lines and this line
+  not_all : AllStand bounds → ⊥
+  not_all all =
+      let a = standing begun m d in
+      let slot : slot_of_due m.due ≡ task_slot a.item = ap (λ (x : Mark). slot_of_due x.due) a.marked ∙ belongs_behind a.task a.good a.items a.item a.more a.layout in
+      let has : HasBounds (task_slot a.item) = subst HasBounds slot (has_bounds m.due speaks) in
+      let more : List (List ℕ) = map task_line_bytes (a.item ∷ a.more) in
+      let whole : lines_of task_texts a.task ≡ begun ++ more = ap (map task_line_bytes) a.layout ∙ map-append task_line_bytes a.items (a.item ∷ a.more) ∙ ap (λ (x : List (List ℕ)). x ++ more) a.spells in
+      let same : bounds ≡ line_bounds (ranges_in a.task.variables) shape.0 = same_bounds (ranges_in d.begins.0.variables) (ranges_in a.task.variables) (slot_of_due m.due) shape.0 shape.1 (same_ranges begun m d d.begins (a.task, more, a.good, whole)) in
+      none (subst (λ (x : List ℕ). IsBegun task_format (begun ++ x ∷ [])) shape.3 (goes_on a.task a.good begun a.items a.item a.more a.layout a.spells has shape.0 (shape.1 ∙ slot) shape.2 (subst AllStand same all)))
+
+  first_of : (r : Option WrongWord) → first_wrong 1 bounds ≡ r → (w : WrongWord) × IsFirstWrong begun m line (Some w)
+  first_of None e = absurd (not_all (all_stand 1 bounds e))
+  first_of (Some w) e = (w, record { due = d; shape = shape; first = sym e })
 
 pub some_wrong_word : SomeWrongWord
-some_wrong_word begun line m d speaks shape none =
-    let a = standing begun m d in
-    let slot : slot_of_due m.due ≡ task_slot a.item = ap (λ (x : Mark). slot_of_due x.due) a.marked ∙ belongs_behind a.task a.good a.items a.item a.more a.layout in
-    let bounds : HasBounds (task_slot a.item) = subst HasBounds slot (has_bounds m.due speaks) in
-    let more : List (List ℕ) = map task_line_bytes (a.item ∷ a.more) in
-    let whole : lines_of task_texts a.task ≡ begun ++ more = ap (map task_line_bytes) a.layout ∙ map-append task_line_bytes a.items (a.item ∷ a.more) ∙ ap (λ (x : List (List ℕ)). x ++ more) a.spells in
-    let same : line_bounds d.task.variables shape.0 ≡ line_bounds a.task.variables shape.0 = same_bounds begun m d a.task a.good more whole shape.0 shape.1 in
-    elim (first_wrong (line_bounds d.task.variables shape.0)) [
-      | inl all ↦ absurd (none (subst (λ (x : List ℕ). IsBegun task_format (begun ++ x ∷ [])) shape.3 (goes_on a.task a.good begun a.items a.item a.more a.layout a.spells bounds shape.0 (shape.1 ∙ slot) shape.2 (subst AllStand same all))))
-      | inr s ↦ wrong_behind begun m d line shape.0 shape.1 shape.2 shape.3 s
-    ]
+some_wrong_word begun line m d speaks shape none = first_of begun line m d speaks shape none (first_wrong 1 (bounds begun line m d speaks shape none)) refl
 
 -- ---- bytes whose last line is refused
 
@@ -87,7 +88,7 @@ numbers_shape : (s : TaskSlot) (line : List ℕ) (k : Kind) → NumbersKind s li
 numbers_shape s line k (no_shape h) v = absurd cc
 numbers_shape s line k (no_value h) v = h
 
-shape_of_value : (s : TaskSlot) (line : List ℕ) (k : Kind) → TaskKind s line k → k ≡ kinds.Value → HasShape s line
+pub shape_of_value : (s : TaskSlot) (line : List ℕ) (k : Kind) → TaskKind s line k → k ≡ kinds.Value → HasShape s line
 shape_of_value (word_slot w) line k h v = absurd (let other : kinds.Keyword ≡ kinds.Value = sym h ∙ v in cc)
 shape_of_value name_slot line k h v = absurd (let other : kinds.Name ≡ kinds.Value = sym h ∙ v in cc)
 shape_of_value number_slot line k h v = numbers_shape number_slot line k h v
@@ -96,16 +97,16 @@ shape_of_value fact_slot line k h v = numbers_shape fact_slot line k h v
 shape_of_value effect_slot line k h v = numbers_shape effect_slot line k h v
 shape_of_value head_slot line k h v = numbers_shape head_slot line k h v
 
-named : (kind : Kind) (begun : List (List ℕ)) (found : List ℕ) (m : Mark) (word : Option WrongWord) → IsTaskReason kind begun found m word → kind ≡ kinds.Value → (w : WrongWord) × IsWrongBehind begun found w → IsSome word
-named kind begun found m None r v b = absurd (r.no_wrong_word refl v b.0 b.1)
-named kind begun found m (Some w) r v b = refl
+named : (word : Option WrongWord) (w : WrongWord) → word ≡ Some w → IsSome word
+named word w e = subst (λ (x : Option WrongWord). IsSome x) (sym e) refl
 
 pub wrong_word_is_named : WrongWordIsNamed
 wrong_word_is_named bytes f begun found m word (of_line h a t s n k) r v speaks =
-    let d : IsDue begun m = r.due (λ e. let other : kinds.Value ≡ kinds.Trailing = sym v ∙ e in cc) in
+    let reason : IsFirstWrong begun m found word = subst (λ (x : Kind). IsTaskReason x begun found m word) v r in
     let there = some_due begun s n in
-    let slot : s ≡ slot_of_due m.due = sym there.2 ∙ ap (λ (x : Mark). slot_of_due x.due) (one_due begun there.0 m there.1 d) in
+    let slot : s ≡ slot_of_due m.due = sym there.2 ∙ ap (λ (x : Mark). slot_of_due x.due) (one_due begun there.0 m there.1 reason.due) in
     let shape : HasShape (slot_of_due m.due) found = subst (λ (x : TaskSlot). HasShape x found) slot (shape_of_value s found f.kind k v) in
-    named f.kind begun found m word r v (some_wrong_word begun found m d speaks shape (none_begun task_format most_bytes bytes f h begun found v a t))
+    let some = some_wrong_word begun found m reason.due speaks shape (none_begun task_format most_bytes bytes f h begun found v a t) in
+    named word some.0 (one_wrong_word begun m m found word (Some some.0) reason some.1)
 wrong_word_is_named bytes f begun found m word (of_byte h a t x reads k) r v speaks = absurd (let other : kinds.Trailing ≡ kinds.Value = sym k ∙ v in cc)
 wrong_word_is_named bytes f begun found m word (of_end h a t) r v speaks = absurd (let other : kinds.End ≡ kinds.Value = sym h.kind ∙ v in cc)

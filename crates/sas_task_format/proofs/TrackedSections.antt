@@ -16,11 +16,15 @@ use Rattle.sas_task_format.specs.declared.marks.Location.{Location}
 use Rattle.sas_task_format.specs.declared.marks.Location.TheVariants as at
 use Rattle.sas_task_format.specs.declared.marks.Mark.{Mark}
 use Rattle.sas_task_format.specs.TaskFormat.{TaskLine, word, name, number, signed, fact, effect, head, task_slot, line, version_lines, metric_lines, variable_lines, group_lines, goal_lines, operator_lines, rule_lines}
-use Rattle.sas_task_format.specs.Marks.{for_each, there, slot_of_due, any_number, version_dues, metric_dues, variable_dues, group_dues, goal_dues, operator_dues, rule_dues, numbered}
+use Rattle.sas_task_format.specs.Marks.{between_words, counted_dues, there, slot_of_due, any_number, variable_dues, group_dues, operator_dues, rule_dues, numbered}
 use Rattle.sas_task_format.specs.Tracker.{Tracker, tracker_start, step, mark, mark_in, this_number}
 use Rattle.sas_task_format.proofs.Tracking.{IsBehindVariables, Known, Scan, ◌then◌, marked, leading, spelled, one}
 
 -- ---- marks of the lines of a section
+
+-- the same line for each item
+abbrev for_each : {A : Type 0} → Due → List A → List Due
+for_each one items = map (λ _. one) items
 
 -- the marks of an operator's lines from its prevail conditions on
 abbrev operator_parts : (Due → Mark) → List Due → List Due → Due → Due → List Mark
@@ -55,10 +59,10 @@ first_marks l total left n d dues e =
 module _ (ranges : List ℕ) where
   -- ---- the version and the metric
 
-  pub version_scan : Scan ranges tracker_start version_lines (there at.Version version_dues) (record tracker_start { place = place.MetricBegin })
+  pub version_scan : Scan ranges tracker_start version_lines (there at.Version (between_words fixed.BeginVersion (due.Number 3 3 ∷ []) fixed.EndVersion)) (record tracker_start { place = place.MetricBegin })
   version_scan = record { marks = refl; ends = refl; along = (λ h. absurd h, refl, (λ h. absurd h, refl, (λ h. absurd h, refl, λ h. absurd h))) }
 
-  pub metric_scan : (m : Bool) → Scan ranges (record tracker_start { place = place.MetricBegin }) (metric_lines m) (there at.Metric metric_dues) (record tracker_start { place = place.VariableCount })
+  pub metric_scan : (m : Bool) → Scan ranges (record tracker_start { place = place.MetricBegin }) (metric_lines m) (there at.Metric (between_words fixed.BeginMetric (due.Number 0 1 ∷ []) fixed.EndMetric)) (record tracker_start { place = place.VariableCount })
   metric_scan m = record { marks = refl; ends = refl; along = (λ h. absurd h, refl, (λ h. absurd h, refl, (λ h. absurd h, refl, λ h. absurd h))) }
 
   -- ---- n lines of one kind, which are counted down
@@ -143,7 +147,7 @@ module _ (ranges : List ℕ) where
         (facts : List Fact) → Scan ranges (record t { place = p; left = left; more = length facts }) (flat_map (line fact) facts) (there where_it_stands (for_each due.Fact facts)) (record t { place = p; left = left; more = 0 })
     facts_scan p where_it_stands left moves marks facts = each_scan fact p where_it_stands due.Fact (record t { left = left }) moves marks (λ a. refl) (λ h. k) facts
 
-    pub goal_scan : (facts : List Fact) → Scan ranges (record t { place = place.GoalBegin; left = 0; more = 0 }) (goal_lines facts) (there at.Goal (goal_dues facts)) (record t { place = place.OperatorCount; left = 0; more = 0 })
+    pub goal_scan : (facts : List Fact) → Scan ranges (record t { place = place.GoalBegin; left = 0; more = 0 }) (goal_lines facts) (there at.Goal (between_words fixed.BeginGoal (counted_dues due.Fact facts) fixed.EndGoal)) (record t { place = place.OperatorCount; left = 0; more = 0 })
     goal_scan facts =
         let begins : Scan ranges (record t { place = place.GoalBegin; left = 0; more = 0 }) (word (codes "begin_goal") ∷ number (length facts) ∷ []) (there at.Goal (due.Word fixed.BeginGoal ∷ any_number ∷ [])) (record t { place = place.GoalFacts; left = 0; more = length facts }) = record { marks = refl; ends = refl; along = (λ h. k, refl, (λ h. k, refl, λ h. k)) } in
         let ends : Scan ranges (record t { place = place.GoalFacts; left = 0; more = 0 }) (word (codes "end_goal") ∷ []) (there at.Goal (due.Word fixed.EndGoal ∷ [])) (record t { place = place.OperatorCount; left = 0; more = 0 }) = record { marks = refl; ends = refl; along = (λ h. k, refl, λ h. k) } in

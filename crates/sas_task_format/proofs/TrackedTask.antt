@@ -8,13 +8,14 @@ use Rattle.sas_core.specs.declared.parts.Variable.{Variable}
 use Rattle.sas_core.specs.declared.parts.Parts.{Parts}
 use Rattle.sas_core.specs.WellRanged.{WellRanged}
 use Rattle.sas_task_format.specs.declared.places.Place.TheVariants as place
+use Rattle.sas_task_format.specs.declared.marks.Due.{Due}
 use Rattle.sas_task_format.specs.declared.marks.Due.TheVariants as due
 use Rattle.sas_task_format.specs.declared.marks.FixedWord.TheVariants as fixed
 use Rattle.sas_task_format.specs.declared.marks.Location.TheVariants as at
 use Rattle.sas_task_format.specs.declared.marks.Mark.{Mark}
 use Rattle.sas_task_format.specs.Process.{Paired}
 use Rattle.sas_task_format.specs.TaskFormat.{TaskLine, word, number, line, counted, version_lines, metric_lines, variable_lines, group_lines, state_lines, goal_lines, operator_lines, rule_lines, task_layout}
-use Rattle.sas_task_format.specs.Marks.{there, slot_of_due, value_due, state_dues, any_number, positive_number, numbered, variable_dues, group_dues, operator_dues, rule_dues, task_marks}
+use Rattle.sas_task_format.specs.Marks.{between_words, there, slot_of_due, any_number, positive_number, numbered, variable_dues, group_dues, operator_dues, rule_dues, task_marks}
 use Rattle.sas_task_format.specs.Tracker.{Tracker, tracker_start, step, mark, mark_in}
 use Rattle.sas_task_format.proofs.TaskSections.{InRange, state_paired, eight}
 use Rattle.sas_task_format.proofs.Tracking.{Scan, ◌then◌, marked, spelled, one}
@@ -23,6 +24,10 @@ use Rattle.sas_task_format.proofs.TrackedSections.{version_scan, metric_scan, va
 -- the number of values of each variable
 abbrev pub ranges_in : List Variable → List ℕ
 ranges_in vs = map (λ v. length v.values) vs
+
+-- the value of a variable in the initial state
+abbrev value_due : Variable → Due
+value_due v = due.Number 0 (length v.values - 1)
 
 read_next : (done : List ℕ) (x : ℕ) (rest : List ℕ) → slice_index_or (done ++ x ∷ rest) (length done) 0 ≡ x
 read_next done x rest = let all : length done ≡ length done + 0 = omega arith in ap (λ (i : ℕ). slice_index_or (done ++ x ∷ rest) i 0) all ∙ get_or-append-add done (x ∷ rest) 0 0
@@ -65,7 +70,7 @@ module _ (ranges : List ℕ) (t : Tracker) where
       marked ranges (one ranges (word (codes "end_state")) (λ h. refl) (ap (λ (m : Mark). slot_of_due m.due) due_is) moves (λ h. refl)) (ap (λ (m : Mark). m ∷ []) due_is)
 
   state_scan : (vs : List Variable) (xs : List ℕ) → Paired InRange vs xs → ranges ≡ ranges_in vs
-      → Scan ranges (record t { place = place.Groups; left = 0; more = 0; ranges = ranges; valued = 0 }) (state_lines xs) (there at.State (state_dues vs))
+      → Scan ranges (record t { place = place.Groups; left = 0; more = 0; ranges = ranges; valued = 0 }) (state_lines xs) (there at.State (between_words fixed.BeginState (map value_due vs) fixed.EndState))
       (record (at_value (length ranges)) { place = place.GoalBegin })
   state_scan vs xs p e =
       let begins : Scan ranges (record t { place = place.Groups; left = 0; more = 0; ranges = ranges; valued = 0 }) (word (codes "begin_state") ∷ []) (there at.State (due.Word fixed.BeginState ∷ [])) (at_value 0) = record { marks = refl; ends = refl; along = (λ h. refl, refl, λ h. refl) } in

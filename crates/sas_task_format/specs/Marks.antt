@@ -5,9 +5,7 @@ use Rattle.sas_core.specs.declared.parts.Variable.{Variable}
 use Rattle.sas_core.specs.declared.parts.Operator.{Operator}
 use Rattle.sas_core.specs.declared.parts.Rule.{Rule}
 use Rattle.sas_core.specs.declared.parts.Parts.{Parts}
-use Rattle.sas_core.specs.WellRanged.{WellRanged}
-use Rattle.sas_reader.specs.Texts.{lines_of}
-use Rattle.sas_reader.specs.Format.{Next}
+use Rattle.sas_reader.specs.Format.{IsBegun, Next}
 use Rattle.sas_task_format.specs.declared.marks.Due.{Due}
 use Rattle.sas_task_format.specs.declared.marks.Due.TheVariants as due
 use Rattle.sas_task_format.specs.declared.marks.FixedWord.{FixedWord}
@@ -15,7 +13,7 @@ use Rattle.sas_task_format.specs.declared.marks.FixedWord.TheVariants as fixed
 use Rattle.sas_task_format.specs.declared.marks.Location.{Location}
 use Rattle.sas_task_format.specs.declared.marks.Location.TheVariants as at
 use Rattle.sas_task_format.specs.declared.marks.Mark.{Mark}
-use Rattle.sas_task_format.specs.TaskFormat.{TaskSlot, word_slot, name_slot, number_slot, signed_slot, fact_slot, effect_slot, head_slot, task_texts, task_format}
+use Rattle.sas_task_format.specs.TaskFormat.{TaskSlot, word_slot, name_slot, number_slot, signed_slot, fact_slot, effect_slot, head_slot, task_format}
 
 -- the bytes of the words
 abbrev pub fixed_word_bytes : FixedWord → List ℕ
@@ -38,52 +36,28 @@ fixed_word_bytes fixed.EndRule = codes "end_rule"
 
 -- ---- what is expected on the lines of each section
 
--- the greatest number of a task file
-abbrev pub most_number : ℕ
-most_number = 2147483647
-
 -- any number, and one that isn't 0
 abbrev pub any_number : Due
-any_number = due.Number 0 most_number
+any_number = due.Number 0 2147483647
 
 abbrev pub positive_number : Due
-positive_number = due.Number 1 most_number
+positive_number = due.Number 1 2147483647
 
 -- the first word, the lines between, the last word
 abbrev pub between_words : FixedWord → List Due → FixedWord → List Due
 between_words first dues last = due.Word first ∷ (dues ++ due.Word last ∷ [])
 
--- the same line for each item
-abbrev pub for_each : {A : Type 0} → Due → List A → List Due
-for_each one items = map (λ _. one) items
-
 -- the number of items, and then the same line for each
 abbrev pub counted_dues : {A : Type 0} → Due → List A → List Due
-counted_dues one items = any_number ∷ for_each one items
-
-abbrev pub version_dues : List Due
-version_dues = between_words fixed.BeginVersion (due.Number 3 3 ∷ []) fixed.EndVersion
-
-abbrev pub metric_dues : List Due
-metric_dues = between_words fixed.BeginMetric (due.Number 0 1 ∷ []) fixed.EndMetric
+counted_dues one items = any_number ∷ map (λ _. one) items
 
 abbrev pub variable_dues : Variable → List Due
 variable_dues v = between_words fixed.BeginVariable
-    (due.Name ∷ due.Layer ∷ positive_number ∷ for_each due.Name v.values) fixed.EndVariable
+    (due.Name ∷ due.Layer ∷ positive_number ∷ map (λ _. due.Name) v.values) fixed.EndVariable
 
 abbrev pub group_dues : List Fact → List Due
 group_dues facts =
     between_words fixed.BeginMutexGroup (counted_dues due.Fact facts) fixed.EndMutexGroup
-
--- a value in the initial state is less than its variable's range
-abbrev pub value_due : Variable → Due
-value_due v = due.Number 0 (length v.values - 1)
-
-abbrev pub state_dues : List Variable → List Due
-state_dues variables = between_words fixed.BeginState (map value_due variables) fixed.EndState
-
-abbrev pub goal_dues : List Fact → List Due
-goal_dues facts = between_words fixed.BeginGoal (counted_dues due.Fact facts) fixed.EndGoal
 
 abbrev pub operator_dues : Operator → List Due
 operator_dues o = between_words fixed.BeginOperator
@@ -109,14 +83,16 @@ numbered at dues n (a ∷ rest) = there (at n) (dues a) ++ numbered at dues (n +
 -- the location of each line of the task and what is expected there, in order
 abbrev pub task_marks : Parts → List Mark
 task_marks p =
-    there at.Version version_dues
-    ++ (there at.Metric metric_dues
+    there at.Version (between_words fixed.BeginVersion (due.Number 3 3 ∷ []) fixed.EndVersion)
+    ++ (there at.Metric (between_words fixed.BeginMetric (due.Number 0 1 ∷ []) fixed.EndMetric)
     ++ (there at.Variables (positive_number ∷ [])
     ++ (numbered at.Variable variable_dues 0 p.variables
     ++ (there at.Groups (any_number ∷ [])
     ++ (numbered at.Group group_dues 0 p.groups
-    ++ (there at.State (state_dues p.variables)
-    ++ (there at.Goal (goal_dues p.goal)
+    -- a value in the initial state is less than its variable's range
+    ++ (there at.State (between_words fixed.BeginState
+    (map (λ v. due.Number 0 (length v.values - 1)) p.variables) fixed.EndState)
+    ++ (there at.Goal (between_words fixed.BeginGoal (counted_dues due.Fact p.goal) fixed.EndGoal)
     ++ (there at.Operators (any_number ∷ [])
     ++ (numbered at.Operator operator_dues 0 p.operators
     ++ (there at.Rules (any_number ∷ [])
@@ -124,11 +100,8 @@ task_marks p =
 
 -- After these lines, this is expected: some task begins with them, and its next line has this mark.
 pub record IsDue (begun : List (List ℕ)) (mark : Mark) : Type 0 where
-  pub task : Parts
-  pub more : List (List ℕ)
-  pub good : WellRanged task
-  pub lines : lines_of task_texts task ≡ begun ++ more
-  pub marked : slice_get (task_marks task) (length begun) ≡ Some mark
+  pub begins : IsBegun task_format begun
+  pub marked : slice_get (task_marks begins.0) (length begun) ≡ Some mark
 
 -- the slot of an expected line
 abbrev pub slot_of_due : Due → TaskSlot

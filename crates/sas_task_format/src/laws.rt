@@ -7,9 +7,8 @@ ghost use Rattle.sas_task_format.specs.Process.{process_node};
 ghost use Rattle.sas_task_format.specs.TaskFormat.{TaskSlot, task_format, TaskLineFits};
 ghost use Rattle.sas_task_format.specs.Marks.{OneDue, SomeDue};
 ghost use Rattle.sas_task_format.specs.TaskLaws.{TaskIsFilled, OneCompletion, FillingsInBytes};
-ghost use Rattle.sas_task_format.specs.TaskReasons.{OneTaskReason, SomeTaskReason, WrongWordIsNamed};
+ghost use Rattle.sas_task_format.specs.TaskReasons.{OneTaskReason, OneWrongWord, SomeTaskReason, SomeWrongWord, WrongWordIsNamed};
 ghost use Rattle.sas_task_format.specs.TaskProcess.{task_start};
-ghost use Rattle.sas_task_format.specs.WrongWords.{OneWrongWord, SomeWrongWord};
 
 /// Ensures the laws of task files. No byte list is a text of two tasks. The texts of a task are its lines, each ended by LF or by CR LF.
 /// Bytes have at most one fault, and are live exactly if they have none. Reading any bytes has exactly one result. Lines that begin a task

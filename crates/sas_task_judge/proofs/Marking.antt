@@ -9,10 +9,11 @@ use Rattle.sas_task_format.specs.declared.marks.WrongWord.{WrongWord}
 use Rattle.sas_task_format.specs.declared.places.Place.{Place}
 use Rattle.sas_task_format.specs.Marks.{slot_of_due}
 use Rattle.sas_task_format.specs.TaskFormat.{TaskLine, word, name, number, signed, fact, effect, head, TaskSlot, task_slot}
+use Rattle.sas_task_format.specs.TaskReasons.{first_wrong, line_bounds}
 use Rattle.sas_task_format.specs.Tracker.{mark_at}
-use Rattle.sas_task_format.proofs.DueBehind.{SpeaksOfFacts}
+use Rattle.sas_task_format.proofs.DueBehind.{HasFacts}
 use Rattle.sas_task_format.proofs.WrongWords.{HasBounds}
-use Rattle.sas_task_line.specs.FirstWrong.{first_wrong, words_in, IsFirstWrong, FirstWrong}
+use Rattle.sas_task_line.specs.FirstWrong.{HasWrong, FirstWrong}
 use Rattle.sas_task_judge.specs.declared.task_judge.TaskJudge.{TaskJudge}
 use Rattle.sas_task_judge.specs.Marks.{due_slot, DueIs, LocationIs}
 use Rattle.sas_task_judge.specs.TaskJudge.{tracker_at}
@@ -36,9 +37,9 @@ module _ (j : TaskJudge) (l : Location) (place : Place) (here : j.place ≡ plac
   pub location_with_left : (left : ℕ) → j.left ≡ left → l ≡ (mark_at place (tracker_at place left j.more j)).at → LocationIs j l
   location_with_left left many e = location_here (e ∙ ap (λ (n : ℕ). (mark_at place (tracker_at place n j.more j)).at) (sym many))
 
--- ---- words that are wrong
+-- ---- numbers that are wrong
 
-wrong_speaks : (ranges : List ℕ) (i : TaskLine) (w : WrongWord) → first_wrong 1 (words_in ranges i) ≡ Some w → HasBounds (task_slot i)
+wrong_speaks : (ranges : List ℕ) (i : TaskLine) (w : WrongWord) → first_wrong 1 (line_bounds ranges i) ≡ Some w → HasBounds (task_slot i)
 wrong_speaks ranges (word x) w e = absurd (none-some w e)
 wrong_speaks ranges (name x) w e = absurd (none-some w e)
 wrong_speaks ranges (number x) w e = absurd (none-some w e)
@@ -47,21 +48,11 @@ wrong_speaks ranges (fact f) w e = tt
 wrong_speaks ranges (effect f) w e = tt
 wrong_speaks ranges (head var old new) w e = tt
 
-of_facts : (d : Due) → HasBounds (slot_of_due d) → SpeaksOfFacts d
-of_facts (due.Word w) h = h
-of_facts due.Name h = h
-of_facts (due.Number least most) h = h
-of_facts due.Layer h = h
-of_facts due.Fact h = tt
-of_facts due.Head h = tt
-of_facts due.Effect h = tt
-of_facts due.Nothing h = h
+-- a number can be wrong only if facts are expected
+pub speaks_of_facts : (ranges : List ℕ) (d : Due) (line : List ℕ) (w : WrongWord) → HasWrong ranges (slot_of_due d) line w → HasFacts d
+speaks_of_facts ranges d line w h = subst HasBounds h.belongs (wrong_speaks ranges h.item w h.first)
 
--- a word can be wrong only if facts are expected
-pub speaks_of_facts : (ranges : List ℕ) (d : Due) (line : List ℕ) (w : WrongWord) → IsFirstWrong ranges (slot_of_due d) line w → SpeaksOfFacts d
-speaks_of_facts ranges d line w h = of_facts d (subst HasBounds h.belongs (wrong_speaks ranges h.item w h.first))
-
-pub quiet : (ranges : List ℕ) (d : Due) (line : List ℕ) → (SpeaksOfFacts d → ⊥) → FirstWrong ranges (slot_of_due d) line None
+pub quiet : (ranges : List ℕ) (d : Due) (line : List ℕ) → (HasFacts d → ⊥) → FirstWrong ranges (slot_of_due d) line None
 quiet ranges d line silent = λ w h. silent (speaks_of_facts ranges d line w h)
 
 -- what is expected there, and so the slot of the line
@@ -71,7 +62,7 @@ where_due j d line r h f = subst (λ (s : TaskSlot). FirstWrong j.ranges s line 
 pub where_due_if : {E : Type 0} (j : TaskJudge) (d : Due) (line : List ℕ) (r : Result (Option WrongWord) E) → DueIs j d → IfOk r (FirstWrong j.ranges (slot_of_due d) line) → IfOk r (FirstWrong j.ranges (due_slot j) line)
 where_due_if j d line r h f = subst (λ (s : TaskSlot). IfOk r (FirstWrong j.ranges s line)) (ap slot_of_due h.is) f
 
-pub not_speaks : (d : Due) → (d ≡ due.Fact → ⊥) → (d ≡ due.Head → ⊥) → (d ≡ due.Effect → ⊥) → SpeaksOfFacts d → ⊥
+pub not_speaks : (d : Due) → (d ≡ due.Fact → ⊥) → (d ≡ due.Head → ⊥) → (d ≡ due.Effect → ⊥) → HasFacts d → ⊥
 not_speaks due.Fact f h e s = f refl
 not_speaks due.Head f h e s = h refl
 not_speaks due.Effect f h e s = e refl

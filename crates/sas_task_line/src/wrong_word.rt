@@ -1,8 +1,9 @@
 // Finds the first word of a line that isn't an allowed number. It is needed only if the line is refused.
-ghost use Rattle.std.specs.Prelude.{◌≡◌, ◌<◌, ◌^◌, ◌-◌, length, [], ◌∷◌, true, false, Option, Some, IfOk};
+ghost use Rattle.std.specs.Prelude.{◌≡◌, ◌<◌, ◌^◌, ◌-◌, length, slice_index, [], ◌∷◌, true, false, Option, Some, IfOk};
+ghost use Rattle.sas_task_format.specs.TaskFormat as content;
 ghost use Rattle.sas_task_format.specs.TaskFormat.{fact_slot, effect_slot, head_slot};
-ghost use Rattle.sas_task_line.specs.FirstWrong.{first_wrong, bounded_value, old_of, variable_in, fact_words_in, change_words_in, effect_words_in, FirstWrong};
-ghost use Rattle.sas_task_line.specs.TaskRanges.{range_in};
+ghost use Rattle.sas_task_format.specs.TaskReasons.{below, below_or_none, change_bounds, fact_bounds, first_wrong, line_bounds};
+ghost use Rattle.sas_task_line.specs.FirstWrong.{FirstWrong};
 
 use crate::task_line::{change_of, effect_of, fact_of};
 use sas_core::{Change, Effect, Fact, Items};
@@ -11,7 +12,7 @@ use std::alloc::AllocError;
 
 /// Returns the number of values of the variable, or 0 if there is no such variable.
 fn range_of(ranges: &Items<u32>, var: u32) -> u32
-    ensures { result ≡ range_in ranges.now var }
+    ensures { result ≡ slice_index ranges.now var }
 {
     match ranges.get(var as usize) {
         Some(&range) => range,
@@ -21,7 +22,7 @@ fn range_of(ranges: &Items<u32>, var: u32) -> u32
 
 /// Checks the number of a variable.
 fn variable_wrong(ranges: &Items<u32>, var: u32, word: u64) -> Option<WrongWord>
-    ensures { result ≡ first_wrong word (variable_in ranges.now var ∷ []) }
+    ensures { result ≡ first_wrong word (below (length ranges.now) var ∷ []) }
 {
     let count = ranges.len();
     if (var as usize) < count {
@@ -36,7 +37,7 @@ fn variable_wrong(ranges: &Items<u32>, var: u32, word: u64) -> Option<WrongWord>
 
 /// Checks the value of a variable.
 fn value_wrong(ranges: &Items<u32>, var: u32, value: u32, word: u64) -> Option<WrongWord>
-    ensures { result ≡ first_wrong word (bounded_value ranges.now var value ∷ []) }
+    ensures { result ≡ first_wrong word (below (slice_index ranges.now var) value ∷ []) }
 {
     let range = range_of(ranges, var);
     if value < range {
@@ -51,7 +52,7 @@ fn value_wrong(ranges: &Items<u32>, var: u32, value: u32, word: u64) -> Option<W
 
 /// Checks the old value of a variable, which may be none.
 fn old_wrong(ranges: &Items<u32>, var: u32, old: Option<u32>, word: u64) -> Option<WrongWord>
-    ensures { result ≡ first_wrong word (old_of ranges.now var old ∷ []) }
+    ensures { result ≡ first_wrong word (below_or_none (slice_index ranges.now var) old ∷ []) }
 {
     let Some(value) = old else {
         return None;
@@ -70,7 +71,7 @@ fn old_wrong(ranges: &Items<u32>, var: u32, old: Option<u32>, word: u64) -> Opti
 /// Checks a fact whose variable is the word with this number.
 fn fact_wrong_from(ranges: &Items<u32>, fact: Fact, word: u64) -> Option<WrongWord>
     requires { word < 2 ^ 63 }
-    ensures { result ≡ first_wrong word (fact_words_in ranges.now fact) }
+    ensures { result ≡ first_wrong word (fact_bounds ranges.now fact) }
 {
     match variable_wrong(ranges, fact.var, word) {
         Some(wrong) => Some(wrong),
@@ -82,8 +83,8 @@ fn fact_wrong_from(ranges: &Items<u32>, fact: Fact, word: u64) -> Option<WrongWo
 fn values_wrong_from(ranges: &Items<u32>, change: Change, word: u64) -> Option<WrongWord>
     requires { word < 2 ^ 63 }
     ensures { result ≡ first_wrong word
-        (old_of ranges.now change.var change.old
-        ∷ bounded_value ranges.now change.var change.new ∷ []) }
+        (below_or_none (slice_index ranges.now change.var) change.old
+        ∷ below (slice_index ranges.now change.var) change.new ∷ []) }
 {
     match old_wrong(ranges, change.var, change.old, word) {
         Some(wrong) => Some(wrong),
@@ -95,7 +96,7 @@ fn values_wrong_from(ranges: &Items<u32>, change: Change, word: u64) -> Option<W
 fn change_wrong_from(ranges: &Items<u32>, change: Change, word: u64) -> Option<WrongWord>
     requires { word < 2 ^ 62 }
     ensures { result ≡ first_wrong word
-        (change_words_in ranges.now change.var change.old change.new) }
+        (change_bounds ranges.now change.var change.old change.new) }
 {
     match variable_wrong(ranges, change.var, word) {
         Some(wrong) => Some(wrong),
@@ -105,14 +106,14 @@ fn change_wrong_from(ranges: &Items<u32>, change: Change, word: u64) -> Option<W
 
 /// Returns the first wrong word of a fact, or `None` if the fact exists.
 pub fn fact_wrong(ranges: &Items<u32>, fact: Fact) -> Option<WrongWord>
-    ensures { result ≡ first_wrong 1 (fact_words_in ranges.now fact) }
+    ensures { result ≡ first_wrong 1 (fact_bounds ranges.now fact) }
 {
     fact_wrong_from(ranges, fact, 1)
 }
 
 /// Returns the first wrong word of the head of a rule, or `None` if its facts exist.
 pub fn change_wrong(ranges: &Items<u32>, change: Change) -> Option<WrongWord>
-    ensures { result ≡ first_wrong 1 (change_words_in ranges.now change.var change.old change.new) }
+    ensures { result ≡ first_wrong 1 (change_bounds ranges.now change.var change.old change.new) }
 {
     change_wrong_from(ranges, change, 1)
 }
@@ -120,7 +121,7 @@ pub fn change_wrong(ranges: &Items<u32>, change: Change) -> Option<WrongWord>
 /// Returns the first wrong word of an effect, or `None` if its facts exist. Word 1 is the count of its conditions.
 pub fn effect_wrong(ranges: &Items<u32>, effect: &Effect) -> Option<WrongWord>
     requires { length effect.now.conditions < 2 ^ 31 }
-    ensures { result ≡ first_wrong 1 (effect_words_in ranges.now effect.now) }
+    ensures { result ≡ first_wrong 1 (line_bounds ranges.now (content.effect effect.now)) }
 {
     let count = effect.conditions.len();
     for i in 0..count {

@@ -1,22 +1,26 @@
 -- A task file is refused for the reason that its machine knows.
-use Rattle.std.proofs.Common.{◌≡◌, ◌≢◌, ℕ, List, Option, None, sym, subst, ◌∙◌}
+use Rattle.std.proofs.Common.{◌≡◌, ◌≢◌, ℕ, List, Option, None, refl, sym, subst, ◌∙◌}
 use Rattle.sas_core.specs.declared.parts.Parts.{Parts}
 use Rattle.sas_reader.specs.declared.fault.Kind.{Kind}
 use Rattle.sas_reader.specs.declared.fault.Kind.TheVariants as kinds
-use Rattle.sas_reader.specs.System.{Node, ended, before, Rejects}
+use Rattle.sas_reader.specs.System.{Node, ended, before, After, Rejects}
 use Rattle.sas_reader.specs.Refusals.{behind_line, behind_text, at_end}
 use Rattle.sas_task_format.specs.declared.marks.Mark.{Mark}
 use Rattle.sas_task_format.specs.declared.marks.WrongWord.{WrongWord}
 use Rattle.sas_task_format.specs.Process.{process_node}
-use Rattle.sas_task_format.specs.TaskFormat.{TaskLine, TaskSlot, word_slot, name_slot, number_slot, signed_slot, fact_slot, effect_slot, head_slot, NumbersKind, no_shape, no_value, TaskKind, task_format, TaskLineFits}
-use Rattle.sas_task_format.specs.TaskProcess.{TaskProcess}
+use Rattle.sas_task_format.specs.TaskFormat.{TaskLine, TaskSlot, word_slot, name_slot, number_slot, signed_slot, fact_slot, effect_slot, head_slot, HasShape, NumbersKind, no_shape, no_value, TaskKind, task_format, TaskLineFits}
+use Rattle.sas_task_format.specs.TaskProcess.{TaskProcess, task_start}
+use Rattle.sas_task_format.specs.Marks.{slot_of_due}
 use Rattle.sas_task_format.specs.TaskReasons.{IsTaskReason}
+use Rattle.sas_task_format.specs.Tracker.{Tracker, tracker_start, track, mark_in}
+use Rattle.sas_task_format.proofs.DueAfter.{due_after}
+use Rattle.sas_task_format.proofs.SomeWrongWord.{shape_of_value}
 use Rattle.sas_task_line.specs.declared.so_far.SoFar.{SoFar}
 use Rattle.sas_task_line.specs.FirstWrong.{FirstWrong}
 use Rattle.sas_task_judge.specs.declared.task_machine.TaskMachine.{TaskMachine}
 use Rattle.sas_task_judge.specs.Marks.{mark_of, due_slot, WrongWordIn}
 use Rattle.sas_task_judge.specs.TaskJudge.{state_of}
-use Rattle.sas_task_judge.proofs.Reasons.{task_reason, trailing_reason, led_still, ended_still, wrong_still}
+use Rattle.sas_task_judge.proofs.Reasons.{task_reason, trailing_reason, led_still, ended_still, shape_still, wrong_still}
 use Rattle.sas_task_reader.specs.TaskRefusal.{StandsRefused}
 
 -- ---- a refused line isn't after the last line
@@ -38,6 +42,12 @@ rejects_apart : (n : Node TaskProcess Parts TaskLine TaskSlot) (line : List ℕ)
 rejects_apart (ended v) line k r = absurd r
 rejects_apart (before s ok next) line k r = kind_apart s line k r.kind
 
+-- a line that is refused for a value has the shape of what is expected
+rejects_shape : (p : TaskProcess) (items : List TaskLine) → After task_format TaskLineFits process_node task_start items p → (n : Node TaskProcess Parts TaskLine TaskSlot) → process_node p ≡ n → (line : List ℕ) (k : Kind) → Rejects task_format TaskLineFits n line k → k ≡ kinds.Value
+    → HasShape (slot_of_due (mark_in (track tracker_start items)).due) line
+rejects_shape p items a (ended v) e line k r is = absurd r
+rejects_shape p items a (before s ok next) e line k r is = subst (λ (x : TaskSlot). HasShape x line) (sym (due_after items p s ok next a e).slot) (shape_of_value s line k r.kind is)
+
 -- ---- the reason
 
 module _ {K : Type 0} (keeps : List (List ℕ) → SoFar → K → Type 0) (lines : List (List ℕ)) (text : List ℕ) (kind : Kind) (m : TaskMachine K) (mark : Mark) (word : Option WrongWord)
@@ -51,7 +61,10 @@ module _ {K : Type 0} (keeps : List (List ℕ) → SoFar → K → Type 0) (line
       let still = led_still keeps lines old m text kind stopped led in
       let known = wrong_still keeps lines old m text kind stopped in
       let is : WrongWordIn m.judge text kind word = record { of_value = λ v. subst (FirstWrong m.judge.ranges (due_slot m.judge) text) (sym (of_value v)) (known.of_value v); of_another = of_another } in
-      with_mark (task_reason keeps lines m still (λ e. going_on (ended_still keeps lines old m text kind stopped e)) text kind word (rejects_apart (process_node (state_of old.judge led.so_far)) text kind (rejects led.so_far led.known)) is)
+      let p = state_of old.judge led.so_far in
+      let shape : kind ≡ kinds.Value → HasShape (due_slot m.judge) text = λ v. shape_still keeps lines old m text kind stopped
+      (subst (λ (t : Tracker). HasShape (slot_of_due (mark_in t).due) text) led.tracked (rejects_shape p led.leads.items led.leads.after (process_node p) refl text kind (rejects led.so_far led.known) v)) in
+      with_mark (task_reason keeps lines m still (λ e. going_on (ended_still keeps lines old m text kind stopped e)) text kind word (rejects_apart (process_node p) text kind (rejects led.so_far led.known)) shape is)
   told_reason (behind_text led ends trailing) =
       let none : word ≡ None = of_another (λ v. let other : kinds.Trailing ≡ kinds.Value = sym trailing ∙ v in cc) in
       with_mark
@@ -61,4 +74,4 @@ module _ {K : Type 0} (keeps : List (List ℕ) → SoFar → K → Type 0) (line
   told_reason (at_end led goes_on is_end) =
       let apart : kind ≢ kinds.Value = λ v. let other : kinds.End ≡ kinds.Value = sym is_end ∙ v in cc in
       let is : WrongWordIn m.judge text kind word = record { of_value = λ v. absurd (apart v); of_another = of_another } in
-      with_mark (task_reason keeps lines m led goes_on text kind word (λ t. let other : kinds.End ≡ kinds.Trailing = sym is_end ∙ t in cc) is)
+      with_mark (task_reason keeps lines m led goes_on text kind word (λ t. let other : kinds.End ≡ kinds.Trailing = sym is_end ∙ t in cc) (λ v. absurd (apart v)) is)

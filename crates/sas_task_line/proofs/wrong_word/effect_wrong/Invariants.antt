@@ -1,8 +1,9 @@
--- No word before the fact with this number is wrong.
+-- No number before the fact with this number is wrong.
 use Rattle.std.specs.Prelude.{◌≡◌}
-use Rattle.sas_task_line.specs.FirstWrong.{first_wrong, effect_words_in}
+use Rattle.sas_task_format.specs.TaskFormat.{effect}
+use Rattle.sas_task_format.specs.TaskReasons.{first_wrong, line_bounds}
 use Rattle.sas_task_line.proofs.WrongWords.{wrong_from}
 use Rattle.sas_task_line.proofs.wrong_word.effect_wrong.Given as goal
 
 abbrev pub invariant-loop-i : goal.invariant-loop-i
-invariant-loop-i l = first_wrong 1 (effect_words_in l.fn.ranges l.fn.effect) ≡ wrong_from l.fn.ranges l.fn.effect l.i
+invariant-loop-i l = first_wrong 1 (line_bounds l.fn.ranges (effect l.fn.effect)) ≡ wrong_from l.fn.ranges l.fn.effect l.i
