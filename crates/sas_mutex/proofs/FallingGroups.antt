@@ -2,7 +2,7 @@
 use Rattle.std.proofs.Common.{◌≡◌, ℕ, ◌<◌, ◌≤◌, Bool, true, false, List, [], ◌∷◌, ◌++◌, length, get_or, set, drop, refl, sym, ◌∙◌, ap, subst, inl, inr, arith}
 use Rattle.std.proofs.lemmas.Bool.{cases_eq, cases_Bool, both_ways}
 use Rattle.std.proofs.lemmas.List.{append-nil, append_assoc, drop_all, drop_at, length-append, length-set, get_or-set_same, get_or-set_other}
-use Rattle.std.proofs.lemmas.List.Elements.{All-nil, All-cons, All-append, All-from_get_or, Contains-append_left, Contains-append_right, Contains-push, Contains-push_cases, Contains-append_cases, All-contains}
+use Rattle.std.proofs.lemmas.List.Elements.{All-nil, All-cons, All-append, All-from_get_or, Contains-append_left, Contains-append_right, Contains-push, Contains-push_cases, Contains-append_cases}
 use Rattle.std.specs.List.{All, Contains}
 use Rattle.sas_core.specs.declared.parts.Operator.{Operator}
 use Rattle.sas_core.specs.declared.parts.Parts.{Parts}
@@ -14,9 +14,9 @@ use Rattle.sas_groups.proofs.GreatestFamily.{group_of_larger, keeps_more}
 use Rattle.sas_mutex.specs.declared.family.Family.{Family}
 use Rattle.sas_groups.specs.Kept.{family_of}
 use Rattle.sas_mutex.specs.Effects.{IsKept, EffectKeeps, KeepsAt, KeepsWithItself}
-use Rattle.sas_mutex.specs.Basis.{EffectKeepsByBasis, KeepsByBasis, IsBasis, Grows}
-use Rattle.sas_mutex.specs.Falling.{IsEffectAtRest, IsAtRest, RestsAt, AreCandidates, newly, Falls, IsWithin, RestsOn}
-use Rattle.sas_mutex.proofs.ToldByNotes.{clash_keeps}
+use Rattle.sas_mutex.specs.Basis.{Grows}
+use Rattle.sas_mutex.specs.Falling.{IsAtRest, AreCandidates, newly, Falls}
+use Rattle.sas_mutex.proofs.FromNotes.{clash_keeps}
 use Rattle.sas_mutex.proofs.Keeping.{keeps_from_effects, effect_of_keeps, effect_keeps_more}
 
 -- where nothing is in two lists together, nothing is in either
@@ -127,37 +127,19 @@ module _ (p : Parts) where
     | inr gone ↦ absurd (let fell = subst (λ (xs : List ℕ). Contains xs place) none (falls.noted place w (λ v. both_ways (family_of c.kept place) gone v.chosen)) in omega (arith, fell.1))
   ]
 
-  keeps_still : (b c : Family) (operator effect place : ℕ) → Falls p b c → newly b c ≡ [] → KeepsAt p b.kept operator effect place → KeepsAt p c.kept operator effect place
+  pub keeps_still : (b c : Family) (operator effect place : ℕ) → Falls p b c → newly b c ≡ [] → KeepsAt p b.kept operator effect place → KeepsAt p c.kept operator effect place
   keeps_still b c operator effect place falls none = effect_keeps_more (IsKept p b.kept) (IsKept p c.kept)
       (operator_at p operator) (group_at p place) (effect_at (operator_at p operator) effect)
       (group_of_larger p (family_of b.kept) (family_of c.kept) (same_groups b c falls none))
 
-  none_first : (a b c : Family) → Falls p a b → Falls p b c → newly a c ≡ [] → newly a b ≡ []
+  pub none_first : (a b c : Family) → Falls p a b → Falls p b c → newly a c ≡ [] → newly a b ≡ []
   none_first a b c first second none = none_left (newly a b) (newly b c) (sym (newly_then a b c first second) ∙ none)
 
-  none_then : (a b c : Family) → Falls p a b → Falls p b c → newly a c ≡ [] → newly b c ≡ []
+  pub none_then : (a b c : Family) → Falls p a b → Falls p b c → newly a c ≡ [] → newly b c ≡ []
   none_then a b c first second none = none_right (newly a b) (newly b c) (sym (newly_then a b c first second) ∙ none)
 
-  pub rests_later : (a b c : Family) (operator effect place : ℕ) → Falls p a b → Falls p b c
-      → RestsAt p b.kept (newly a b) operator effect place → RestsAt p c.kept (newly a c) operator effect place
-  rests_later a b c operator effect place first second rests = record {
-    keeps = λ none w. keeps_still b c operator effect place second (none_then a b c first second none)
-        (rests.keeps (none_first a b c first second none) (second.less place w));
-  }
-
-  pub rests_now : (a b c : Family) (operator effect place : ℕ) → Falls p a b → Falls p b c
-      → RestsAt p c.kept (newly b c) operator effect place → RestsAt p c.kept (newly a c) operator effect place
-  rests_now a b c operator effect place first second rests = record { keeps = λ none w. rests.keeps (none_then a b c first second none) w }
-
-  pub effect_now : (a b c : Family) (operator effect : ℕ) → Falls p a b → Falls p b c
-      → IsEffectAtRest p c.kept (newly b c) operator effect → IsEffectAtRest p c.kept (newly a c) operator effect
-  effect_now a b c operator effect first second rest none = rest (none_then a b c first second none)
-
-  pub effect_since : (a b c : Family) (operator effect : ℕ) → Falls p a b → Falls p b c
-      → IsEffectAtRest p b.kept (newly a b) operator effect → IsEffectAtRest p c.kept (newly a c) operator effect
-  effect_since a b c operator effect first second rest none place w has =
-      keeps_still b c operator effect place second (none_then a b c first second none)
-      (rest (none_first a b c first second none) place (second.less place w) has)
+  pub rest_still : (b c : Family) (operator : ℕ) → Falls p b c → newly b c ≡ [] → IsAtRest p b.kept operator → IsAtRest p c.kept operator
+  rest_still b c operator falls none rest effect below place w has = keeps_still b c operator effect place falls none (rest effect below place (falls.less place w) has)
 
   -- ---- what is kept where only the groups of a basis count, and the group itself
 
@@ -170,11 +152,6 @@ module _ (p : Parts) where
         | inl b ↦ (b.0, within b.0 b.1, b.2)
         | inr is ↦ (place, w, is)
       ])
-
-  pub basis_rests : (basis kept smaller : List Bool) (operator : ℕ) → ((n : ℕ) → IsIn p (family_of basis) n → IsIn p (family_of smaller) n)
-      → KeepsByBasis p basis kept operator → IsWithin p smaller kept → IsAtRest p smaller [] operator
-  basis_rests basis kept smaller operator has keeps within effect below _ place w sets_it =
-      basis_keeps basis smaller operator effect place has w (keeps effect below place (within place w) sets_it)
 
   -- where what is known clashes by the basis, each group is kept so
   pub clash_by_basis : (basis : List Bool) (operator effect place : ℕ)
@@ -192,30 +169,16 @@ module _ (p : Parts) where
         | inr is ↦ inr is
       ])
 
-  -- and while others fall
-  pub effect_alone_still : (b c : Family) (operator effect : ℕ) → Falls p b c → Grows b.basis c.basis
-      → EffectKeepsByBasis p b.basis b.kept operator effect → EffectKeepsByBasis p c.basis c.kept operator effect
-  effect_alone_still b c operator effect falls grows alone place w has =
-      basis_grows b.basis c.basis operator effect place grows (alone place (falls.less place w) has)
-
-  -- an operator that was looked at with a basis is at rest as long as the groups of that are in the
-  -- family
-  pub rests_on : (family : Family) (kept : List Bool) (operator : ℕ) (groups : List ℕ) → IsBasis (length p.groups) family → All (Contains groups) family.supports
-      → KeepsByBasis p family.basis kept operator → RestsOn p kept groups operator
-  rests_on family kept operator groups is within keeps smaller inside all =
-      basis_rests family.basis kept smaller operator
-      (λ n w. All-contains (IsIn p (family_of smaller)) groups n all (All-contains (Contains groups) family.supports n within (is.only n w.chosen))) keeps inside
-
   -- ---- where nothing waits, the family is the greatest
 
   pub greatest_in_the_end : (before after : Family) → AreCandidates p before.kept → Falls p before after
-      → ((operator : ℕ) → operator < length p.operators → IsAtRest p after.kept [] operator) → IsGreatest p (family_of after.kept)
+      → ((operator : ℕ) → operator < length p.operators → IsAtRest p after.kept operator) → IsGreatest p (family_of after.kept)
   greatest_in_the_end before after candidates falls rest = record {
     jointly = record {
       may = λ place w. (let before_in = falls.less place w in (candidates place before_in.exists).0 before_in.chosen);
       kept = λ place w. All-from_get_or (λ (o : Operator). Keeps (IsKept p after.kept) o (group_at p place)) p.operators _
           (λ operator exists. keeps_from_effects (IsKept p after.kept) (operator_at p operator) (group_at p place)
-          (λ effect within has. rest operator exists effect within refl place w has));
+          (λ effect within has. rest operator exists effect within place w has));
     };
     greatest = λ other jointly. falls.none_lost other jointly
         (λ place w. record { exists = w.exists; chosen = (candidates place w.exists).1 (jointly.may place w) });
@@ -236,10 +199,6 @@ module _ (p : Parts) where
       → All (λ (place : ℕ). place < length p.groups) after.fallen.items
   fallen_exist before after falls exist = subst (All (λ (place : ℕ). place < length p.groups)) (sym falls.behind)
       (All-append (λ (place : ℕ). place < length p.groups) before.fallen.items (newly before after) exist falls.exist)
-
-  -- where none had fallen, all that fell is new
-  pub newly_all : (before after : Family) → before.fallen.items ≡ [] → newly before after ≡ after.fallen.items
-  newly_all before after none = ap (λ (xs : List ℕ). drop (length xs) after.fallen.items) none
 
   -- ---- how many fell
 

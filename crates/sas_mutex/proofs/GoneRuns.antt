@@ -5,42 +5,37 @@ use Rattle.std.proofs.lemmas.Bool.{cases_eq}
 use Rattle.std.proofs.lemmas.List.{take-append-drop, drop_more}
 use Rattle.std.proofs.lemmas.List.Elements.{All-nil, All-append, All-contains, Contains-append_left, Contains-append_right, Contains-get_or}
 use Rattle.sas_core.specs.declared.parts.Fact.{Fact}
-use Rattle.sas_core.specs.declared.parts.Effect.{Effect}
-use Rattle.sas_core.specs.declared.parts.Operator.{Operator}
-use Rattle.sas_core.specs.declared.parts.Parts.{Parts}
 use Rattle.sas_core.specs.Variables.{FactExists}
-use Rattle.sas_groups.specs.Checks.{IsGone}
-use Rattle.sas_groups.specs.Lists.{known}
 use Rattle.sas_groups.specs.declared.index.Index.{Index}
-use Rattle.sas_groups.specs.declared.notes.Notes.{Notes}
-use Rattle.sas_mutex.specs.Effects.{IsKept}
-use Rattle.sas_groups.specs.Index.{IsIndexOf}
 use Rattle.sas_groups.specs.Notes.{value_note}
-use Rattle.sas_mutex.specs.ByNotes.{AreKnown, IsUnknown, IsDecidedByFirst}
+use Rattle.sas_mutex.specs.ByNotes.{IsNotedAt, IsUnknownAt, IsGoneAt, IsDecidedByFirst, known_at}
+use Rattle.sas_mutex.specs.declared.marks.Marks.{Marks}
+use Rattle.sas_mutex.specs.Firing.{EffectPlace, effect_of}
 use Rattle.sas_groups.specs.Distinct.{AreDistinct}
 use Rattle.sas_groups.specs.Runs.{AreOnOne, AreRuns}
 use Rattle.sas_groups.proofs.Existing.{variable_below}
 use Rattle.sas_groups.proofs.NotesOfFacts.{a_note, value_note_tells}
-use Rattle.sas_mutex.proofs.ToldByNotes.{other_value_clashes}
+use Rattle.sas_mutex.proofs.FromNotes.{IsFiring, other_value_clashes}
 
 -- of the facts of a run that is settled none is known, so that what is noted for their variable is
 -- another value
-pub settled_are_gone : (p : Parts) (index : Index) (kept : List Bool) (notes : Notes) (o : Operator) (e : Effect) (run : List Fact)
-    → IsIndexOf p index → AreKnown p kept (known o e.conditions []) notes → All (FactExists p.variables) run → AreOnOne run
-    → All (IsUnknown o e) run → IsDecidedByFirst e run notes → All (IsGone (IsKept p kept) o e) run
-settled_are_gone p index kept notes o e run indexed are exist (var, on_it) unknown settled k d below on_other =
+pub settled_are_gone : (f : EffectPlace) (index : Index) (fits : IsFiring f index) (kept : List Bool) (marks : Marks) (noted : IsNotedAt f kept marks) (run : List Fact)
+    → All (FactExists f.task.variables) run → AreOnOne run
+    → All (IsUnknownAt f) run → IsDecidedByFirst (effect_of f) run marks.known → All (IsGoneAt f kept) run
+settled_are_gone f index fits kept marks noted run exist (var, on_it) unknown settled k d below on_other =
+    let values = marks.known.values in
     let fact = get_or run k d in
     let some : 0 < length run = omega arith in
     let same : (get_or run 0 d).var ≡ fact.var = on_it 0 d some ∙ sym (on_it k d below) in
     let exists = exist k d below in
     elim (settled (get_or run 0 d) d some refl) [
       | inl its ↦ absurd (on_other (its ∙ same))
-      | inr noted ↦ elim (a_note (value_note notes.values fact.var)) [
-        | inl none ↦ absurd (noted (ap (value_note notes.values) same ∙ none))
+      | inr some_value ↦ elim (a_note (value_note values fact.var)) [
+        | inl none ↦ absurd (some_value (ap (value_note values) same ∙ none))
         | inr w ↦ elim (cases_eq w.0 fact.value) [
-          | inl its ↦ absurd (unknown k d below (value_note_tells (known o e.conditions []) fact.var fact.value (value_note notes.values fact.var)
-              (are.noted.values fact.var (variable_below p fact exists)) (w.1 ∙ ap (λ v. Some v) its)))
-          | inr differs ↦ inl (other_value_clashes p index kept notes o e.conditions indexed are fact exists (w.0, w.1, differs))
+          | inl its ↦ absurd (unknown k d below (value_note_tells (known_at f.task f.operator f.effect) fact.var fact.value (value_note values fact.var)
+              (noted.noted.are.noted.values fact.var (variable_below f.task fact exists)) (w.1 ∙ ap (λ v. Some v) its)))
+          | inr differs ↦ inl (other_value_clashes f index fits kept marks noted fact exists (w.0, w.1, differs))
         ]
       ]
     ]

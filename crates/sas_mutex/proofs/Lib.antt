@@ -1,15 +1,16 @@
 pub mod TaskFacts
 pub mod KnownFacts
-pub mod ToldByNotes
+pub mod FromNotes
 mod JointLists
 pub mod Keeping
 pub mod FallingGroups
 pub mod Counting
 pub mod SetFacts
-pub mod Telling
+pub mod VerdictsSoFar
 pub mod OldValues
 pub mod GoneRuns
 pub mod Supporting
+pub mod LookedAt
 pub mod WatchChains
 pub mod Watched
 pub mod PlainEffects

@@ -23,7 +23,7 @@ use Rattle.sas_groups.specs.Index.{IsIndexOf, groups_of}
 use Rattle.sas_mutex.specs.ByNotes.{AreGone}
 use Rattle.sas_groups.proofs.InLists.{in_flat, given_is}
 use Rattle.sas_mutex.proofs.TaskFacts.{conditions_exist, known_exist}
-use Rattle.sas_mutex.proofs.ToldByNotes.{known_one_is_all}
+use Rattle.sas_mutex.proofs.FromNotes.{known_one_is_all}
 
 -- the old value that an effect asks for is a precondition
 old_is_known : (o : Operator) (effect : ℕ) (fact : Fact) → effect < length o.effects → old_fact (effect_at o effect) ≡ Some fact → Contains (preconditions o) fact

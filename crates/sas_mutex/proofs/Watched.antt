@@ -121,7 +121,7 @@ module _ (p : Parts) where
       others = since_there;
     }
 
-  -- ---- who was told
+  -- ---- who was unwatched
 
   module _ (b c : Family) (w after : Watches) (operator : ℕ) (falls : Falls p b c) (one_each : length c.kept ≡ length p.groups)
       (anew : IsWatchedAnew operator c.kept w after) where
@@ -151,20 +151,20 @@ module _ (p : Parts) where
     kept_before : (group : ℕ) → family_of c.kept group ≡ true → family_of b.kept group ≡ true
     kept_before group is = (falls.less group (record { exists = let lt = kept_below c.kept group is in omega arith; chosen = is })).chosen
 
-    pub stay_told : StayUnwatched b.kept w after
-    stay_told group out told place lt is = elim (cases_lt place (length w.made)) [
-      | inl before ↦ over_still place before (told place before (sym (ap (λ (x : Watch). x.group) (still place before)) ∙ is))
+    pub stays_unwatched : StayUnwatched b.kept w after
+    stays_unwatched group out unwatched place lt is = elim (cases_lt place (length w.made)) [
+      | inl before ↦ over_still place before (unwatched place before (sym (ap (λ (x : Watch). x.group) (still place before)) ∙ is))
       | inr past ↦ absurd (out (kept_before group (ap (family_of c.kept) (sym is) ∙ new_kept place past lt)))
     ]
 
-    -- one watch more of a group was told
-    pub told_on : (group at : ℕ) (next : Option ℕ) → (family_of b.kept group ≡ true → ⊥) → at < length w.made → (watch_at w.made at).group ≡ group
+    -- one watch more of a group was unwatched
+    pub unwatched_behind : (group at : ℕ) (next : Option ℕ) → (family_of b.kept group ≡ true → ⊥) → at < length w.made → (watch_at w.made at).group ≡ group
         → ((place : ℕ) → at < place → place < length w.made → (watch_at w.made place).group ≡ group → IsOver w place)
         → IsOver after at → IsLastBelow w.made at group next → IsUnwatchedBehind after group next
-    told_on group at next out lt its behind here link = by next link
+    unwatched_behind group at next out lt its behind here link = by next link
       where
-        told_from : (place : ℕ) → at ≤ place → place < length after.made → (watch_at after.made place).group ≡ group → IsOver after place
-        told_from place from below is = elim (cases_lt place (length w.made)) [
+        unwatched_from : (place : ℕ) → at ≤ place → place < length after.made → (watch_at after.made place).group ≡ group → IsOver after place
+        unwatched_from place from below is = elim (cases_lt place (length w.made)) [
           | inr past ↦ absurd (out (kept_before group (ap (family_of c.kept) (sym is) ∙ new_kept place past below)))
           | inl before ↦ elim (cases_eq place at) [
             | inl e ↦ subst (IsOver after) (sym e) here
@@ -178,25 +178,25 @@ module _ (p : Parts) where
         by : (next : Option ℕ) → IsLastBelow w.made at group next → IsUnwatchedBehind after group next
         by None none = λ place below is. elim (cases_lt place at) [
           | inl before ↦ absurd (none place before (sym (ap (λ (x : Watch). x.group) (still place (omega arith))) ∙ is))
-          | inr from ↦ told_from place from below is
+          | inr from ↦ unwatched_from place from below is
         ]
         by (Some k) (lt', its', none) = (
           omega (arith, lt', lt, grown),
           ap (λ (x : Watch). x.group) (still k (omega (arith, lt', lt))) ∙ its',
           λ place above below is. elim (cases_lt place at) [
             | inl before ↦ absurd (none place above before (sym (ap (λ (x : Watch). x.group) (still place (omega arith))) ∙ is))
-            | inr from ↦ told_from place from below is
+            | inr from ↦ unwatched_from place from below is
           ],
         )
 
   -- where no operator is looked at, nothing changes
-  pub told_on_alone : (w : Watches) (group at : ℕ) (next : Option ℕ) → at < length w.made
+  pub unwatched_if_over : (w : Watches) (group at : ℕ) (next : Option ℕ) → at < length w.made
       → ((place : ℕ) → at < place → place < length w.made → (watch_at w.made place).group ≡ group → IsOver w place)
       → IsOver w at → IsLastBelow w.made at group next → IsUnwatchedBehind w group next
-  told_on_alone w group at next lt behind here link = by next link
+  unwatched_if_over w group at next lt behind here link = by next link
     where
-      told_from : (place : ℕ) → at ≤ place → place < length w.made → (watch_at w.made place).group ≡ group → IsOver w place
-      told_from place from below is = elim (cases_eq place at) [
+      unwatched_from : (place : ℕ) → at ≤ place → place < length w.made → (watch_at w.made place).group ≡ group → IsOver w place
+      unwatched_from place from below is = elim (cases_eq place at) [
         | inl e ↦ subst (IsOver w) (sym e) here
         | inr ne ↦ behind place (omega arith) below is
       ]
@@ -204,25 +204,25 @@ module _ (p : Parts) where
       by : (next : Option ℕ) → IsLastBelow w.made at group next → IsUnwatchedBehind w group next
       by None none = λ place below is. elim (cases_lt place at) [
         | inl before ↦ absurd (none place before is)
-        | inr from ↦ told_from place from below is
+        | inr from ↦ unwatched_from place from below is
       ]
       by (Some k) (lt', its', none) = (
         omega (arith, lt', lt),
         its',
         λ place above below is. elim (cases_lt place at) [
           | inl before ↦ absurd (none place above before is)
-          | inr from ↦ told_from place from below is
+          | inr from ↦ unwatched_from place from below is
         ],
       )
 
-  pub told_at_first : (w : Watches) (group : ℕ) (last : Option ℕ) → IsLastBelow w.made (length w.made) group last → IsUnwatchedBehind w group last
-  told_at_first w group None none = λ place lt is. absurd (none place lt is)
-  told_at_first w group (Some at) (lt, its, none) = (lt, its, λ place behind below is. absurd (none place behind below is))
+  pub unwatched_at_first : (w : Watches) (group : ℕ) (last : Option ℕ) → IsLastBelow w.made (length w.made) group last → IsUnwatchedBehind w group last
+  unwatched_at_first w group None none = λ place lt is. absurd (none place lt is)
+  unwatched_at_first w group (Some at) (lt, its, none) = (lt, its, λ place behind below is. absurd (none place behind below is))
 
-  -- those who watch groups that aren't in the family stay told
-  pub told_more : (xs : List ℕ) (count : ℕ) (kept : List Bool) (w after : Watches) → ((place : ℕ) → place < count → family_of kept (get_or xs place 0) ≡ true → ⊥)
+  -- those who watch groups that aren't in the family stay unwatched
+  pub unwatched_more : (xs : List ℕ) (count : ℕ) (kept : List Bool) (w after : Watches) → ((place : ℕ) → place < count → family_of kept (get_or xs place 0) ≡ true → ⊥)
       → StayUnwatched kept w after → FallenAreUnwatched xs count w → FallenAreUnwatched xs count after
-  told_more xs count kept w after out stay told place lt = stay (get_or xs place 0) (out place lt) (told place lt)
+  unwatched_more xs count kept w now out stay unwatched place lt = stay (get_or xs place 0) (out place lt) (unwatched place lt)
 
   -- what fell at first isn't in the family
   pub fell_first : (start b : Family) → Falls p start b → AreFallen p b → (place : ℕ) → place < length start.fallen.items
@@ -233,29 +233,29 @@ module _ (p : Parts) where
 
   pub stay_then : (start b : Family) (first w after : Watches) → Falls p start b → length b.kept ≡ length p.groups
       → StayUnwatched start.kept first w → StayUnwatched b.kept w after → StayUnwatched start.kept first after
-  stay_then start b first w after falls one_each before then group out told =
-      then group (λ is. out (falls.less group (record { exists = let lt = kept_below b.kept group is in omega arith; chosen = is })).chosen) (before group out told)
+  stay_then start b first w after falls one_each before then group out unwatched =
+      then group (λ is. out (falls.less group (record { exists = let lt = kept_below b.kept group is in omega arith; chosen = is })).chosen) (before group out unwatched)
 
-  pub told_in : (xs ys : List ℕ) (more : List ℕ) (count : ℕ) (w : Watches) → ys ≡ xs ++ more → count ≤ length xs → FallenAreUnwatched xs count w → FallenAreUnwatched ys count w
-  told_in xs ys more count w is within told place lt =
-      subst (IsUnwatched w) (sym (ap (λ (zs : List ℕ). get_or zs place 0) is ∙ get_or_append_left xs more 0 place (omega arith))) (told place lt)
+  pub unwatched_in : (xs ys : List ℕ) (more : List ℕ) (count : ℕ) (w : Watches) → ys ≡ xs ++ more → count ≤ length xs → FallenAreUnwatched xs count w → FallenAreUnwatched ys count w
+  unwatched_in xs ys more count w is within unwatched place lt =
+      subst (IsUnwatched w) (sym (ap (λ (zs : List ℕ). get_or zs place 0) is ∙ get_or_append_left xs more 0 place (omega arith))) (unwatched place lt)
 
   -- ---- in the end
 
   pub rest_in_the_end : (family : Family) (w : Watches) → AreWatched p family w → FallenAreUnwatched family.fallen.items (length family.fallen.items) w
-      → AreLooseAtRest p family.kept [] w (length p.operators) → (operator : ℕ) → operator < length p.operators → IsAtRest p family.kept [] operator
-  rest_in_the_end family w watched told loose operator exists = by (since_of w.since operator) refl
+      → AreLooseAtRest p family.kept [] w (length p.operators) → (operator : ℕ) → operator < length p.operators → IsAtRest p family.kept operator
+  rest_in_the_end family w watched unwatched loose operator exists = by (since_of w.since operator) refl
     where
       stands : (start place : ℕ) → since_of w.since operator ≡ Some start → IsWatchOf w.made operator start place → IsIn p (family_of family.kept) (watch_at w.made place).group
       stands start place is of = elim (watched.groups place of.exists) [
         | inl inside ↦ inside
-        | inr fell ↦ absurd (told fell.0 fell.1 place of.exists
+        | inr fell ↦ absurd (unwatched fell.0 fell.1 place of.exists
             (sym (get_or_default family.fallen.items fell.0 0 (watch_at w.made place).group fell.1 ∙ fell.2))
             start (ap (since_of w.since) of.its ∙ is) of.from)
       ]
 
-      by : (since : Option ℕ) → since_of w.since operator ≡ since → IsAtRest p family.kept [] operator
-      by None is = loose operator exists is
+      by : (since : Option ℕ) → since_of w.since operator ≡ since → IsAtRest p family.kept operator
+      by None is = loose refl operator exists is
       by (Some start) is = watched.rest operator start is family.kept (λ place inside. inside) (λ place of. stands start place is of)
 
   -- ---- at first
@@ -281,6 +281,3 @@ module _ (p : Parts) where
     where
       no_place : (place : ℕ) → place < length w.made → ⊥
       no_place place lt = let len = ap length are.made in omega arith
-
-  pub none_told : (fallen : List ℕ) (w : Watches) → fallen ≡ [] → FallenAreUnwatched fallen (length fallen) w
-  none_told fallen w none place lt = absurd (let len = ap length none in omega arith)

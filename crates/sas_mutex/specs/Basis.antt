@@ -1,5 +1,5 @@
--- What an effect preserves, assuming only the groups of a basis and the group itself. It preserves
--- the group whichever other groups are removed.
+-- The basis: the groups that are assumed besides a group itself. What an effect preserves under
+-- this assumption it preserves whichever other groups are removed.
 use Rattle.std.specs.Prelude.{◌≡◌, ℕ, ◌<◌, Bool, IsTrue, IsFalse, List, length, Contains, All}
 use Rattle.sas_core.specs.declared.parts.Parts.{Parts}
 use Rattle.sas_core.specs.Grounded.{operator_at, effect_at, group_at}
@@ -7,41 +7,11 @@ use Rattle.sas_groups.specs.Clashes.{sets}
 use Rattle.sas_groups.specs.Families.{IsIn}
 use Rattle.sas_mutex.specs.declared.family.Family.{Family}
 use Rattle.sas_groups.specs.Kept.{family_of}
-use Rattle.sas_mutex.specs.Effects.{KeepsWithItself, IsUnconditional}
-
--- if the group is in the family, the effect preserves it, assuming the basis and the group itself
-abbrev pub KeptByBasis : Parts → List Bool → List Bool → ℕ → ℕ → ℕ → Type 0
-KeptByBasis p basis kept operator effect place = IsIn p (family_of kept) place
-    → KeepsWithItself p basis operator effect place
-
--- the effect preserves each group of the family that contains the fact that it sets, assuming the
--- basis and that group
-abbrev pub EffectKeepsByBasis : Parts → List Bool → List Bool → ℕ → ℕ → Type 0
-EffectKeepsByBasis p basis kept operator effect = (place : ℕ) → IsIn p (family_of kept) place
-    → Contains (group_at p place) (sets (effect_at (operator_at p operator) effect))
-    → KeepsWithItself p basis operator effect place
-
--- the same for the first `effects` effects of the operator, as far as they have no conditions
-abbrev pub UnconditionalKeepByBasis : Parts → List Bool → List Bool → ℕ → ℕ → Type 0
-UnconditionalKeepByBasis p basis kept operator effects = (effect : ℕ) → effect < effects
-    → IsUnconditional p operator effect → EffectKeepsByBasis p basis kept operator effect
-
--- the same for all effects of the operator
-abbrev pub KeepsByBasis : Parts → List Bool → List Bool → ℕ → Type 0
-KeepsByBasis p basis kept operator = (effect : ℕ)
-    → effect < length (operator_at p operator).effects
-    → EffectKeepsByBasis p basis kept operator effect
 
 -- no group of the family contains the fact that the effect sets
 abbrev pub SetsNone : Parts → List Bool → ℕ → ℕ → Type 0
 SetsNone p kept operator effect = (place : ℕ) → IsIn p (family_of kept) place
     → Contains (group_at p place) (sets (effect_at (operator_at p operator) effect)) → ⊥
-
--- the same for the first `effects` effects of the operator, as far as they have no conditions
-abbrev pub UnconditionalSetNone : Parts → List Bool → ℕ → ℕ → Type 0
-UnconditionalSetNone p kept operator effects = (effect : ℕ) → effect < effects
-    → IsUnconditional p operator effect
-    → SetsNone p kept operator effect
 
 -- the family without groups, as a list with an entry for each group
 pub record IsOfNone (groups : ℕ) (none : List Bool) : Type 0 where

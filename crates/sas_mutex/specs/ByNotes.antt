@@ -71,15 +71,11 @@ abbrev pub known_at : Parts → ℕ → ℕ → List Fact
 known_at p operator effect =
     known (operator_at p operator) (effect_at (operator_at p operator) effect).conditions []
 
--- exactly these facts are recorded, and they don't clash
-pub record AreNoted (p : Parts) (kept : List Bool) (facts : List Fact) (marks : Marks)
-    : Type 0 where
-  pub are : AreKnown p kept facts marks.known
-  pub from : IsNotedFrom p facts marks
-
 -- exactly the known facts of the effect are recorded, and they don't clash
-abbrev pub IsNotedFor : Parts → List Bool → ℕ → ℕ → Marks → Type 0
-IsNotedFor p kept operator effect marks = AreNoted p kept (known_at p operator effect) marks
+pub record IsNotedFor (p : Parts) (kept : List Bool) (operator effect : ℕ) (marks : Marks)
+    : Type 0 where
+  pub are : AreKnown p kept (known_at p operator effect) marks.known
+  pub from : IsNotedFrom p (known_at p operator effect) marks
 
 -- no effect that may fire together with this one sets another fact of the group on another variable
 abbrev pub HasNoPartner : (List Fact → Type 0) → Operator → List Fact → Effect → Type 0
@@ -107,6 +103,10 @@ IsDecidedByFirst e facts notes = (first : Fact) (d : Fact) → 0 < length facts
 pub record IsNotedAt (f : EffectPlace) (kept : List Bool) (marks : Marks) : Type 0 where
   pub one_each : length kept ≡ length f.task.groups
   pub noted : IsNotedFor f.task kept f.operator f.effect marks
+
+-- the known facts of the effect clash
+abbrev pub NeverFires : EffectPlace → List Bool → Type 0
+NeverFires f kept = Clash (IsKept f.task kept) (known_at f.task f.operator f.effect)
 
 -- the effect preserves the group with this index, assuming the family, or the family and the group
 -- itself

@@ -6,34 +6,16 @@ use Rattle.sas_groups.specs.Clashes.{sets}
 use Rattle.sas_groups.specs.Families.{IsIn, IsKeptJointly, MayBeExclusive}
 use Rattle.sas_mutex.specs.declared.family.Family.{Family}
 use Rattle.sas_groups.specs.Kept.{family_of}
-use Rattle.sas_mutex.specs.Effects.{KeepsAt, IsUnconditional}
+use Rattle.sas_mutex.specs.Effects.{KeepsAt}
 use Rattle.sas_mutex.specs.Basis.{IsBasis}
 
--- the effect preserves each group of the family that contains the fact that it sets
-abbrev pub EffectKeepsAll : Parts → List Bool → ℕ → ℕ → Type 0
-EffectKeepsAll p kept operator effect = (place : ℕ) → IsIn p (family_of kept) place
+-- an operator is at rest if each of its effects preserves each group of the family that contains
+-- the fact that the effect sets
+abbrev pub IsAtRest : Parts → List Bool → ℕ → Type 0
+IsAtRest p kept operator = (effect : ℕ) → effect < length (operator_at p operator).effects
+    → (place : ℕ) → IsIn p (family_of kept) place
     → Contains (group_at p place) (sets (effect_at (operator_at p operator) effect))
     → KeepsAt p kept operator effect place
-
--- if no group was removed meanwhile and the group is in the family, the effect preserves it
-pub record RestsAt (p : Parts) (kept : List Bool) (fell : List ℕ) (operator effect place : ℕ)
-    : Type 0 where
-  pub keeps : fell ≡ [] → IsIn p (family_of kept) place → KeepsAt p kept operator effect place
-
--- an effect is at rest: if no group was removed meanwhile, it preserves the groups of the family
--- that contain the fact that it sets
-abbrev pub IsEffectAtRest : Parts → List Bool → List ℕ → ℕ → ℕ → Type 0
-IsEffectAtRest p kept fell operator effect = fell ≡ [] → EffectKeepsAll p kept operator effect
-
--- an operator is at rest if all its effects are
-abbrev pub IsAtRest : Parts → List Bool → List ℕ → ℕ → Type 0
-IsAtRest p kept fell operator = (effect : ℕ) → effect < length (operator_at p operator).effects
-    → IsEffectAtRest p kept fell operator effect
-
--- the first `effects` effects of the operator are at rest, as far as they have no conditions
-abbrev pub AreUnconditionalAtRest : Parts → List Bool → List ℕ → ℕ → ℕ → Type 0
-AreUnconditionalAtRest p kept fell operator effects = (effect : ℕ) → effect < effects
-    → IsUnconditional p operator effect → IsEffectAtRest p kept fell operator effect
 
 -- the number of groups in the family
 abbrev pub count : List Bool → ℕ
@@ -83,4 +65,4 @@ IsWithin p smaller kept =
 -- groups
 abbrev pub RestsOn : Parts → List Bool → List ℕ → ℕ → Type 0
 RestsOn p kept groups operator = (smaller : List Bool) → IsWithin p smaller kept
-    → All (IsIn p (family_of smaller)) groups → IsAtRest p smaller [] operator
+    → All (IsIn p (family_of smaller)) groups → IsAtRest p smaller operator

@@ -20,7 +20,7 @@ pub record AreFirstVerdicts (p : Parts) (verdicts : List Verdict) : Type 0 where
 
 -- the group isn't in the family, and no operator that breaks it was found yet (which `Exclusive`
 -- represents)
-pub record IsUntold (kept : List Bool) (verdicts : List Verdict) (place : ℕ) : Type 0 where
+pub record IsUndecided (kept : List Bool) (verdicts : List Verdict) (place : ℕ) : Type 0 where
   pub fell : IsFalse (family_of kept place)
   pub nothing : verdict_at verdicts place ≡ Exclusive
 

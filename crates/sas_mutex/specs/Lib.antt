@@ -12,4 +12,5 @@ pub mod Effects
 pub mod Basis
 pub mod ByNotes
 pub mod Falling
+pub mod Looking
 pub mod Watching

@@ -6,7 +6,9 @@ use Rattle.sas_mutex.specs.declared.family.Family.{Family}
 use Rattle.sas_mutex.specs.declared.watches.Watch.{Watch}
 use Rattle.sas_mutex.specs.declared.watches.Watches.{Watches}
 use Rattle.sas_groups.specs.Kept.{family_of}
-use Rattle.sas_mutex.specs.Falling.{IsWithin, IsAtRest}
+use Rattle.sas_mutex.specs.declared.marks.Marks.{Marks}
+use Rattle.sas_mutex.specs.Marks.{IsClean}
+use Rattle.sas_mutex.specs.Falling.{FamilyHasRoom, IsWithin, IsAtRest}
 
 -- the watch with this index
 abbrev pub watch_at : List Watch → ℕ → Watch
@@ -53,7 +55,7 @@ abbrev pub RestsBy : Parts → List Bool → List Watch → ℕ → ℕ → Type
 RestsBy p kept made operator start = (smaller : List Bool) → IsWithin p smaller kept
     → ((place : ℕ) → IsWatchOf made operator start place
     → IsIn p (family_of smaller) (watch_at made place).group)
-    → IsAtRest p smaller [] operator
+    → IsAtRest p smaller operator
 
 -- the watch is no longer valid: its operator was checked again, or is loose
 abbrev pub IsOver : Watches → ℕ → Type 0
@@ -103,6 +105,12 @@ pub record AreWatched (p : Parts) (family : Family) (w : Watches) : Type 0 where
   pub rest : (operator start : ℕ) → since_of w.since operator ≡ Some start
       → RestsBy p family.kept w.made operator start
 
+-- between two checks: the above, room for all that may be removed, and nothing is recorded
+pub record IsReady (p : Parts) (family : Family) (w : Watches) (marks : Marks) : Type 0 where
+  pub watched : AreWatched p family w
+  pub room : FamilyHasRoom p family
+  pub clean : IsClean p marks
+
 -- ---- steps
 
 -- these watches, followed by some of the operator, each of a group of the family
@@ -139,5 +147,5 @@ StayUnwatched kept before after = (group : ℕ) → (family_of kept group ≡ tr
 
 -- the loose operators among the first `count` are at rest, if no group was removed meanwhile
 abbrev pub AreLooseAtRest : Parts → List Bool → List ℕ → Watches → ℕ → Type 0
-AreLooseAtRest p kept fell w count = (operator : ℕ) → operator < count
-    → since_of w.since operator ≡ None → IsAtRest p kept fell operator
+AreLooseAtRest p kept fell w count = fell ≡ [] → (operator : ℕ) → operator < count
+    → since_of w.since operator ≡ None → IsAtRest p kept operator

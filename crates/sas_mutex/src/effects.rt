@@ -1,10 +1,11 @@
 // Which groups an effect preserves.
-ghost use Rattle.std.specs.Prelude.{◌≡◌, ◌<◌, ◌≤◌, ◌^◌, ℕ, Bool, List, length, IsTrue, IsFalse, All};
+ghost use Rattle.std.specs.Prelude.{◌≡◌, ◌<◌, ◌≤◌, ◌^◌, ◌↔◌, ℕ, Bool, List, length, IsTrue, IsFalse, All, Contains};
 ghost use Rattle.sas_core.specs.Grounded.{operator_at, effect_at};
 ghost use Rattle.sas_core.specs.Changes.{plain_effects};
 ghost use Rattle.sas_core.specs.Variables.{FactExists};
+ghost use Rattle.sas_groups.specs.Clashes.{sets};
 ghost use Rattle.sas_groups.specs.Families.{IsIn};
-ghost use Rattle.sas_groups.specs.Index.{groups_of};
+ghost use Rattle.sas_groups.specs.Index.{HasFact, groups_of};
 ghost use Rattle.sas_groups.specs.ByVariable.{AreOn};
 ghost use Rattle.sas_groups.specs.Runs.{AreOnOne};
 ghost use Rattle.sas_groups.specs.Kept.{family_of};
@@ -17,9 +18,11 @@ ghost use Rattle.sas_mutex.specs.ByNotes.{ClashesAt, SomeClashesAt, SharesBeside
 ghost use Rattle.sas_mutex.specs.ByNotes.{HasNoPartnerAt, IsApartAt, IsSingleOn, IsOnVariableBefore};
 ghost use Rattle.sas_mutex.specs.ByNotes.{SetsBeside, SomeOther, SetsOtherValue};
 ghost use Rattle.sas_mutex.specs.ByNotes.{IsGoneAt, AreGoneAt, IsUnknownAt, IsDecidedByFirst};
+ghost use Rattle.sas_mutex.specs.ByNotes.{NeverFires};
 ghost use Rattle.sas_mutex.specs.Basis.{SetsNone};
+ghost use Rattle.sas_mutex.specs.Marks.{IsClean, IsNotedFrom};
 
-use crate::marks::{Marks, facts_clash};
+use crate::marks::{Marks, facts_clash, forget_known, note_known};
 use sas_core::{Change, Fact, Grounded, Items};
 use sas_groups::{
     Index, IndexedTask, Known, Noted, Notes, Premises, has_noted, shares_apart, some_has,
@@ -56,6 +59,16 @@ impl<'a, 'b, T: Grounded> Model for Firing<'a, 'b, T> {
 }
 
 impl<'a, 'b, T: Grounded> Firing<'a, 'b, T> {
+    /// Returns the groups that contain the fact that the effect sets.
+    #[inline(always)]
+    pub fn groups(&self) -> &'b [u32]
+        ensures { let f = self.now in (place : ℕ)
+            → Contains result.now place ↔ HasFact f.task place (sets (effect_of f)) }
+    {
+        let change = self.task.effect_change(self.operator, self.effect);
+        self.index.groups_of(change.fact())
+    }
+
     /// Returns whether a group of the family contains the fact that the effect sets.
     #[inline(always)]
     pub fn sets_one_of(&self, kept: &[bool]) -> bool
@@ -63,13 +76,40 @@ impl<'a, 'b, T: Grounded> Firing<'a, 'b, T> {
         ensures { let f = self.now in
             IsFalse result → SetsNone f.task kept.now f.operator f.effect }
     {
-        let change = self.task.effect_change(self.operator, self.effect);
-        let set = Fact {
-            var: change.var,
-            value: change.new,
+        some_kept(self.groups(), kept)
+    }
+
+    /// Records the known facts and returns whether they clash, so that the effect never fires. If they do, not all of them are recorded.
+    #[inline(always)]
+    pub fn note(&self, kept: &[bool], marks: &mut Marks) -> bool
+        requires one_each { length kept.now ≡ length self.now.task.groups }
+        requires clean { IsClean self.now.task marks.old }
+        ensures yes { IsTrue result → NeverFires self.now kept.now }
+        ensures notes { IsFalse result → IsNotedAt self.now kept.now marks.new }
+        ensures from { let f = self.now in
+            IsNotedFrom f.task (known_at f.task f.operator f.effect) marks.new }
+    {
+        let premises = Premises {
+            operator: self.operator,
+            first: self.task.effect_conditions(self.operator, self.effect),
+            second: &[],
         };
-        let groups = self.index.groups_of(set);
-        some_kept(groups, kept)
+        note_known(self.task, self.index, kept, &premises, marks)
+    }
+
+    /// Removes what is recorded for the known facts.
+    #[inline(always)]
+    pub fn forget(&self, marks: &mut Marks)
+        requires from { let f = self.now in
+            IsNotedFrom f.task (known_at f.task f.operator f.effect) marks.old }
+        ensures { IsClean self.now.task marks.new }
+    {
+        let premises = Premises {
+            operator: self.operator,
+            first: self.task.effect_conditions(self.operator, self.effect),
+            second: &[],
+        };
+        forget_known(self.task, self.index, &premises, marks);
     }
 
     /// Returns whether the effect preserves the group, which must be in the family. The known facts must be recorded and must not clash.

@@ -4,8 +4,7 @@ ghost use Rattle.sas_groups.specs.Families.{IsIn, IsGreatest};
 ghost use Rattle.sas_groups.specs.Kept.{family_of};
 ghost use Rattle.sas_mutex.specs.Marks.{IsClean};
 ghost use Rattle.sas_mutex.specs.Falling.{FamilyHasRoom, AreCandidates, newly, Falls, IsAtRest, RestsOn};
-ghost use Rattle.sas_mutex.specs.Basis.{KeepsByBasis};
-ghost use Rattle.sas_mutex.specs.Watching.{AreUnwatched, AreWatched, FallenAreUnwatched, IsUnwatched, StayUnwatched, IsWatchedAnew, AreLooseAtRest, RestsBy, WatchesMore};
+ghost use Rattle.sas_mutex.specs.Watching.{AreUnwatched, FallenAreUnwatched, IsReady, IsUnwatched, StayUnwatched, IsWatchedAnew, AreLooseAtRest, RestsBy, WatchesMore};
 
 use crate::family::Family;
 use crate::looking::look_at;
@@ -38,7 +37,7 @@ pub fn find_greatest<T: Grounded>(
         if family.fallen.len() == before {
             return;
         }
-        tell_watching(indexed, before, watches, family, marks);
+        recheck_watching(indexed, before, watches, family, marks);
     }
 }
 
@@ -49,19 +48,15 @@ fn look_at_loose<T: Grounded>(
     family: &mut Family,
     marks: &mut Marks,
 )
-    requires watched { AreWatched indexed.now family.old watches.old }
-    requires told { let fallen = family.old.fallen.items in
+    requires unwatched { let fallen = family.old.fallen.items in
         FallenAreUnwatched fallen (length fallen) watches.old }
-    requires room { FamilyHasRoom indexed.now family.old }
-    requires clean { IsClean indexed.now marks.old }
+    requires ready { IsReady indexed.now family.old watches.old marks.old }
     ensures falls { Falls indexed.now family.old family.new }
     ensures rest { AreLooseAtRest indexed.now family.new.kept
         (newly family.old family.new) watches.new (length indexed.now.operators) }
-    ensures watched { AreWatched indexed.now family.new watches.new }
-    ensures told { let fallen = family.old.fallen.items in
+    ensures ready { IsReady indexed.now family.new watches.new marks.new }
+    ensures unwatched { let fallen = family.old.fallen.items in
         FallenAreUnwatched fallen (length fallen) watches.new }
-    ensures room { FamilyHasRoom indexed.now family.new }
-    ensures clean { IsClean indexed.now marks.new }
 {
     for operator in 0..indexed.task.operators() {
         if watches.is_loose(operator) {
@@ -71,35 +66,31 @@ fn look_at_loose<T: Grounded>(
 }
 
 /// For each removed group, starting with index `from`, checks again each operator that watches it, until no more groups are removed.
-fn tell_watching<T: Grounded>(
+fn recheck_watching<T: Grounded>(
     indexed: &IndexedTask<'_, '_, T>,
     from: usize,
     watches: &mut Watches,
     family: &mut Family,
     marks: &mut Marks,
 )
-    requires watched { AreWatched indexed.now family.old watches.old }
     requires from { from ≤ length family.old.fallen.items }
-    requires told { FallenAreUnwatched family.old.fallen.items from watches.old }
-    requires room { FamilyHasRoom indexed.now family.old }
-    requires clean { IsClean indexed.now marks.old }
+    requires unwatched { FallenAreUnwatched family.old.fallen.items from watches.old }
+    requires ready { IsReady indexed.now family.old watches.old marks.old }
     ensures falls { Falls indexed.now family.old family.new }
-    ensures watched { AreWatched indexed.now family.new watches.new }
-    ensures told { let fallen = family.new.fallen.items in
+    ensures ready { IsReady indexed.now family.new watches.new marks.new }
+    ensures unwatched { let fallen = family.new.fallen.items in
         FallenAreUnwatched fallen (length fallen) watches.new }
-    ensures room { FamilyHasRoom indexed.now family.new }
-    ensures clean { IsClean indexed.now marks.new }
 {
     let mut next = from;
     while next < family.fallen.len() {
         let group = family.fallen[next];
-        tell_of(indexed, group, watches, family, marks);
+        recheck_watchers(indexed, group, watches, family, marks);
         next += 1;
     }
 }
 
 /// Checks again each operator that watches this group, which was removed.
-fn tell_of<T: Grounded>(
+fn recheck_watchers<T: Grounded>(
     indexed: &IndexedTask<'_, '_, T>,
     group: u32,
     watches: &mut Watches,
@@ -108,15 +99,11 @@ fn tell_of<T: Grounded>(
 )
     requires group { group < length indexed.now.groups }
     requires fell { IsTrue (family_of family.old.kept group) → ⊥ }
-    requires watched { AreWatched indexed.now family.old watches.old }
-    requires room { FamilyHasRoom indexed.now family.old }
-    requires clean { IsClean indexed.now marks.old }
+    requires ready { IsReady indexed.now family.old watches.old marks.old }
     ensures falls { Falls indexed.now family.old family.new }
-    ensures watched { AreWatched indexed.now family.new watches.new }
-    ensures told { IsUnwatched watches.new group }
+    ensures ready { IsReady indexed.now family.new watches.new marks.new }
+    ensures unwatched { IsUnwatched watches.new group }
     ensures still { StayUnwatched family.old.kept watches.old watches.new }
-    ensures room { FamilyHasRoom indexed.now family.new }
-    ensures clean { IsClean indexed.now marks.new }
 {
     let mut next = watches.last.as_slice()[group as usize];
     while let Some(place) = next {
@@ -137,16 +124,11 @@ fn look_once<T: Grounded>(
     marks: &mut Marks,
 )
     requires operator { operator < length indexed.now.operators }
-    requires watched { AreWatched indexed.now family.old watches.old }
-    requires room { FamilyHasRoom indexed.now family.old }
-    requires clean { IsClean indexed.now marks.old }
+    requires ready { IsReady indexed.now family.old watches.old marks.old }
     ensures falls { Falls indexed.now family.old family.new }
-    ensures rest { IsAtRest indexed.now family.new.kept
-        (newly family.old family.new) operator }
-    ensures watched { AreWatched indexed.now family.new watches.new }
+    ensures rest { IsAtRest indexed.now family.new.kept operator }
+    ensures ready { IsReady indexed.now family.new watches.new marks.new }
     ensures anew { IsWatchedAnew operator family.new.kept watches.old watches.new }
-    ensures room { FamilyHasRoom indexed.now family.new }
-    ensures clean { IsClean indexed.now marks.new }
 {
     let start = watches.made.len() as u32;
     if comes_to_rest(indexed, operator, watches, family, marks) {
@@ -166,12 +148,9 @@ fn comes_to_rest<T: Grounded>(
     marks: &mut Marks,
 ) -> bool
     requires operator { operator < length indexed.now.operators }
-    requires watched { AreWatched indexed.now family.old watches.old }
-    requires room { FamilyHasRoom indexed.now family.old }
-    requires clean { IsClean indexed.now marks.old }
+    requires ready { IsReady indexed.now family.old watches.old marks.old }
     ensures falls { Falls indexed.now family.old family.new }
-    ensures rest { IsAtRest indexed.now family.new.kept
-        (newly family.old family.new) operator }
+    ensures rest { IsAtRest indexed.now family.new.kept operator }
     ensures watches { WatchesMore operator family.new.kept watches.old watches.new }
     ensures rests { IsTrue result → RestsBy indexed.now family.new.kept
         watches.new.made operator (length watches.old.made) }
@@ -194,7 +173,7 @@ fn look_until_quiet<T: Grounded>(
     requires room { FamilyHasRoom indexed.now family.old }
     requires clean { IsClean indexed.now marks.old }
     ensures falls { Falls indexed.now family.old family.new }
-    ensures rest { IsAtRest indexed.now family.new.kept [] operator }
+    ensures rest { IsAtRest indexed.now family.new.kept operator }
     ensures alone { IsTrue result
         → RestsOn indexed.now family.new.kept family.new.supports operator }
     ensures room { FamilyHasRoom indexed.now family.new }

@@ -13,16 +13,16 @@ ghost use Rattle.sas_mutex.specs.Marks.{IsClean};
 ghost use Rattle.sas_groups.specs.Noting.{AreBelow};
 ghost use Rattle.sas_mutex.specs.ByNotes.{IsNotedAt};
 ghost use Rattle.sas_groups.specs.Joint.{verdict_at, AreJointVerdicts, AreInvariants};
-ghost use Rattle.sas_mutex.specs.Judging.{AreFirstVerdicts, IsUntold, IsVerdictSoFar, AreVerdictsSoFar};
+ghost use Rattle.sas_mutex.specs.Judging.{AreFirstVerdicts, IsUndecided, IsVerdictSoFar, AreVerdictsSoFar};
 ghost use Rattle.sas_mutex.specs.Basis.{IsOfNone};
 
 use crate::effects::Firing;
 use crate::family::Family;
 use crate::greatest::find_greatest;
-use crate::marks::{Marks, forget_known, note_known};
+use crate::marks::Marks;
 use crate::watches::Watches;
-use sas_core::{Fact, Grounded, Items};
-use sas_groups::{Index, IndexedTask, MOST_GROUPS, Premises, Verdict, before_operators};
+use sas_core::{Grounded, Items};
+use sas_groups::{Index, IndexedTask, MOST_GROUPS, Verdict, before_operators};
 use sas_meaning::Layered;
 use std::alloc::{AllocError, Global};
 
@@ -91,7 +91,7 @@ fn judge_by_operators<T: Grounded>(
     ensures { AreJointVerdicts indexed.now verdicts.new }
 {
     find_greatest(indexed, watches, family, marks);
-    tell_breaking(indexed, &mut family.kept, verdicts, marks);
+    find_breaking(indexed, &mut family.kept, verdicts, marks);
 }
 
 /// Returns the verdict on each group before operators are checked.
@@ -167,7 +167,7 @@ fn is_exclusive(verdict: Verdict) -> bool
 
 /// Finds, for each removed group, the first operator that doesn't preserve it, assuming the greatest family and the group itself. `kept`
 /// must be the greatest family.
-fn tell_breaking<T: Grounded>(
+fn find_breaking<T: Grounded>(
     indexed: &IndexedTask<'_, '_, T>,
     kept: &mut Items<bool>,
     verdicts: &mut Items<Verdict>,
@@ -185,7 +185,7 @@ fn tell_breaking<T: Grounded>(
         return;
     }
     for operator in 0..indexed.task.operators() {
-        tell_broken_by(indexed, operator, kept, verdicts, marks);
+        find_broken_by(indexed, operator, kept, verdicts, marks);
     }
 }
 
@@ -194,10 +194,10 @@ fn some_fell(groups: u32, kept: &[bool], verdicts: &[Verdict]) -> bool
     requires kept { groups ≡ length kept.now }
     requires verdicts { groups ≡ length verdicts.now }
     ensures { IsFalse result
-        → (place : ℕ) → place < groups → IsUntold kept.now verdicts.now place → ⊥ }
+        → (place : ℕ) → place < groups → IsUndecided kept.now verdicts.now place → ⊥ }
 {
     for group in 0..groups {
-        if is_untold(group, kept, verdicts) {
+        if is_undecided(group, kept, verdicts) {
             return true;
         }
     }
@@ -205,7 +205,7 @@ fn some_fell(groups: u32, kept: &[bool], verdicts: &[Verdict]) -> bool
 }
 
 /// Checks whether the operator breaks any removed groups for which no such operator was found yet.
-fn tell_broken_by<T: Grounded>(
+fn find_broken_by<T: Grounded>(
     indexed: &IndexedTask<'_, '_, T>,
     operator: u32,
     kept: &mut Items<bool>,
@@ -228,13 +228,13 @@ fn tell_broken_by<T: Grounded>(
             operator,
             effect,
         };
-        tell_broken_by_effect(&firing, kept, verdicts, marks);
+        find_broken_by_effect(&firing, kept, verdicts, marks);
     }
 }
 
 /// Checks whether the effect breaks any removed groups for which no operator that breaks them was found yet. The known facts of the effect
 /// are recorded once for all groups. If they clash, the effect never fires.
-fn tell_broken_by_effect<T: Grounded>(
+fn find_broken_by_effect<T: Grounded>(
     firing: &Firing<'_, '_, T>,
     kept: &mut Items<bool>,
     verdicts: &mut Items<Verdict>,
@@ -250,38 +250,26 @@ fn tell_broken_by_effect<T: Grounded>(
     ensures kept { kept.new ≡ kept.old }
     ensures clean { IsClean firing.now.task marks.new }
 {
-    let change = firing.task.effect_change(firing.operator, firing.effect);
-    let set = Fact {
-        var: change.var,
-        value: change.new,
-    };
-    let groups = firing.index.groups_of(set);
-    if !some_untold(groups, kept.as_slice(), verdicts.as_slice()) {
+    let groups = firing.groups();
+    if !some_undecided(groups, kept.as_slice(), verdicts.as_slice()) {
         return;
     }
-    let premises = Premises {
-        operator: firing.operator,
-        first: firing
-            .task
-            .effect_conditions(firing.operator, firing.effect),
-        second: &[],
-    };
-    if !note_known(firing.task, firing.index, kept.as_slice(), &premises, marks) {
-        tell_groups(firing, groups, kept, verdicts, marks);
+    if !firing.note(kept.as_slice(), marks) {
+        judge_groups(firing, groups, kept, verdicts, marks);
     }
-    forget_known(firing.task, firing.index, &premises, marks);
+    firing.forget(marks);
 }
 
 /// Returns whether one of these groups was removed and no operator that breaks it was found yet.
 #[inline(always)]
-fn some_untold(groups: &[u32], kept: &[bool], verdicts: &[Verdict]) -> bool
+fn some_undecided(groups: &[u32], kept: &[bool], verdicts: &[Verdict]) -> bool
     requires kept { AreBelow (length kept.now) groups.now }
     requires verdicts { AreBelow (length verdicts.now) groups.now }
     ensures { IsFalse result
-        → All (λ (place : ℕ). IsUntold kept.now verdicts.now place → ⊥) groups.now }
+        → All (λ (place : ℕ). IsUndecided kept.now verdicts.now place → ⊥) groups.now }
 {
     for group in groups {
-        if is_untold(*group, kept, verdicts) {
+        if is_undecided(*group, kept, verdicts) {
             return true;
         }
     }
@@ -290,18 +278,18 @@ fn some_untold(groups: &[u32], kept: &[bool], verdicts: &[Verdict]) -> bool
 
 /// Returns whether the group was removed and no operator that breaks it was found yet.
 #[inline(always)]
-fn is_untold(group: u32, kept: &[bool], verdicts: &[Verdict]) -> bool
+fn is_undecided(group: u32, kept: &[bool], verdicts: &[Verdict]) -> bool
     requires kept { group < length kept.now }
     requires verdicts { group < length verdicts.now }
-    ensures yes { IsTrue result → IsUntold kept.now verdicts.now group }
-    ensures no { IsFalse result → IsUntold kept.now verdicts.now group → ⊥ }
+    ensures yes { IsTrue result → IsUndecided kept.now verdicts.now group }
+    ensures no { IsFalse result → IsUndecided kept.now verdicts.now group → ⊥ }
 {
     is_exclusive(verdicts[group as usize]) && !kept[group as usize]
 }
 
 /// Checks for each of these groups whether the effect breaks it, if it was removed and no operator that breaks it was found yet. The groups
 /// must contain the fact that the effect sets, and the known facts must be recorded.
-fn tell_groups<T: Grounded>(
+fn judge_groups<T: Grounded>(
     firing: &Firing<'_, '_, T>,
     groups: &[u32],
     kept: &mut Items<bool>,
@@ -316,20 +304,20 @@ fn tell_groups<T: Grounded>(
     requires notes { IsNotedAt firing.now kept.old marks.old }
     ensures so_far { let f = firing.now in
         AreVerdictsSoFar f.task kept.old f.operator f.effect verdicts.new }
-    ensures told { let f = firing.now in
+    ensures judged { let f = firing.now in
         All (λ (place : ℕ). IsVerdictSoFar f.task kept.old f.operator (f.effect + 1) place
         (verdict_at verdicts.new place)) groups.now }
     ensures kept { kept.new ≡ kept.old }
     ensures notes { IsNotedAt firing.now kept.old marks.new }
 {
     for group in groups {
-        tell_group(firing, *group, kept, verdicts, marks);
+        judge_group(firing, *group, kept, verdicts, marks);
     }
 }
 
 /// Checks whether the effect breaks the group, if it was removed and no operator that breaks it was found yet. The group must contain the
 /// fact that the effect sets, and the known facts must be recorded.
-fn tell_group<T: Grounded>(
+fn judge_group<T: Grounded>(
     firing: &Firing<'_, '_, T>,
     group: u32,
     kept: &mut Items<bool>,
@@ -343,7 +331,7 @@ fn tell_group<T: Grounded>(
     requires notes { IsNotedAt firing.now kept.old marks.old }
     ensures so_far { let f = firing.now in
         AreVerdictsSoFar f.task kept.old f.operator f.effect verdicts.new }
-    ensures told { let f = firing.now in
+    ensures judged { let f = firing.now in
         IsVerdictSoFar f.task kept.old f.operator (f.effect + 1) group
         (verdict_at verdicts.new group) }
     ensures others { (place : ℕ) → place ≢ group
@@ -351,7 +339,7 @@ fn tell_group<T: Grounded>(
     ensures kept { kept.new ≡ kept.old }
     ensures notes { IsNotedAt firing.now kept.old marks.new }
 {
-    if is_untold(group, kept.as_slice(), verdicts.as_slice())
+    if is_undecided(group, kept.as_slice(), verdicts.as_slice())
         && !firing.keeps_with_itself(group, kept, marks)
     {
         let operator = firing.operator;

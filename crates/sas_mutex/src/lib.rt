@@ -13,5 +13,5 @@ mod watches;
 
 pub use effects::Firing;
 pub use joint::{check_groups, exclusive_of};
-pub use marks::{Marks, forget_known, note_known};
+pub use marks::Marks;
 pub use sas_groups::{Facts, Verdict, check_group, group_laws};

@@ -15,8 +15,8 @@ ghost use Rattle.sas_task_reasons.specs.Reporting.{IsReasonSoFar, AreReasonsSoFa
 use crate::failures::first_failure;
 use crate::reason::Reason;
 use sas_core::{Grounded, Items};
-use sas_groups::{IndexedTask, Premises, Verdict};
-use sas_mutex::{Firing, Marks, forget_known, note_known};
+use sas_groups::{IndexedTask, Verdict};
+use sas_mutex::{Firing, Marks};
 
 /// The greatest family, and the facts recorded while effects are checked.
 #[derive(Drop)]
@@ -102,24 +102,16 @@ fn report_failures_at<T: Grounded>(
     ensures kept { greatest.new.kept ≡ greatest.old.kept }
     ensures clean { IsClean firing.now.task greatest.new.marks }
 {
-    let change = firing.task.effect_change(firing.operator, firing.effect);
-    let groups = firing.index.groups_of(change.fact());
+    let groups = firing.groups();
     if !some_lacks_reason(groups, firing.operator, verdicts, reasons.as_slice()) {
         return;
     }
-    let premises = Premises {
-        operator: firing.operator,
-        first: firing
-            .task
-            .effect_conditions(firing.operator, firing.effect),
-        second: &[],
-    };
     let kept = greatest.kept.as_slice();
     let marks = &mut greatest.marks;
-    if !note_known(firing.task, firing.index, kept, &premises, marks) {
+    if !firing.note(kept, marks) {
         report_groups(firing, groups, verdicts, greatest, reasons);
     }
-    forget_known(firing.task, firing.index, &premises, &mut greatest.marks);
+    firing.forget(&mut greatest.marks);
 }
 
 /// Returns whether the reason of one of these groups is still missing.

@@ -27,26 +27,8 @@ no_more operator kept w chained few = record {
   since = refl;
 }
 
-pub look_until_quiet-requires-clause-operator : goal.look_until_quiet-requires-clause-operator
-look_until_quiet-requires-clause-operator g c = c.requires.operator
-
-pub look_until_quiet-requires-clause-room : goal.look_until_quiet-requires-clause-room
-look_until_quiet-requires-clause-room g c = c.requires.room
-
-pub look_until_quiet-requires-clause-clean : goal.look_until_quiet-requires-clause-clean
-look_until_quiet-requires-clause-clean g c = c.requires.clean
-
 pub watch_all-requires-clause-one_each : goal.watch_all-requires-clause-one_each
-watch_all-requires-clause-one_each g c = c.requires.watched.each_group ∙ sym c.look_until_quiet.ensures.room.one_each
-
-pub watch_all-requires-clause-chained : goal.watch_all-requires-clause-chained
-watch_all-requires-clause-chained g c = c.requires.watched.chained
-
-pub watch_all-requires-clause-few : goal.watch_all-requires-clause-few
-watch_all-requires-clause-few g c = c.requires.watched.few
-
-pub returns-then-look_until_quiet-clause-rest : goal.returns-then-look_until_quiet-clause-rest
-returns-then-look_until_quiet-clause-rest g c effect lt none = c.look_until_quiet.ensures.rest effect lt refl
+watch_all-requires-clause-one_each g c = c.requires.ready.watched.each_group ∙ sym c.look_until_quiet.ensures.room.one_each
 
 pub returns-then-look_until_quiet-clause-rests : goal.returns-then-look_until_quiet-clause-rests
 returns-then-look_until_quiet-clause-rests g c t =
@@ -55,12 +37,9 @@ returns-then-look_until_quiet-clause-rests g c t =
     (c.look_until_quiet.ensures.alone c.if-look_until_quiet.true)
     (subst (All (HasWatchFrom c.watch_all.new.self.made c.args.operator (length c.args.watches.now.made))) c.as_slice.ensures (c.watch_all.ensures.all t))
 
-pub returns-else-look_until_quiet-clause-rest : goal.returns-else-look_until_quiet-clause-rest
-returns-else-look_until_quiet-clause-rest g c effect lt none = c.look_until_quiet.ensures.rest effect lt refl
-
 pub returns-else-look_until_quiet-clause-watches : goal.returns-else-look_until_quiet-clause-watches
 returns-else-look_until_quiet-clause-watches g c =
-    no_more c.args.operator c.look_until_quiet.new.family.kept c.args.watches.now c.requires.watched.chained c.requires.watched.few
+    no_more c.args.operator c.look_until_quiet.new.family.kept c.args.watches.now c.requires.ready.watched.chained c.requires.ready.watched.few
 
 pub returns-else-look_until_quiet-clause-rests : goal.returns-else-look_until_quiet-clause-rests
 returns-else-look_until_quiet-clause-rests g c t = absurd (true≢false (sym t ∙ c.if-look_until_quiet.false))

@@ -1,10 +1,10 @@
 -- One more operator is at rest, if it is loose.
 use Rattle.std.proofs.Common.{length, sym, ◌∙◌, ap, subst, inl, inr, arith}
 use Rattle.std.proofs.lemmas.Bool.{cases_eq}
-use Rattle.sas_mutex.specs.Falling.{IsAtRest, newly}
+use Rattle.sas_mutex.specs.Falling.{IsAtRest}
 use Rattle.sas_mutex.specs.Watching.{since_of}
-use Rattle.sas_mutex.proofs.FallingGroups.{falls_then, effect_since, effect_now}
-use Rattle.sas_mutex.proofs.Watched.{stay_told, told_more, fell_first}
+use Rattle.sas_mutex.proofs.FallingGroups.{falls_then, rest_still, none_first, none_then}
+use Rattle.sas_mutex.proofs.Watched.{stays_unwatched, unwatched_more, fell_first}
 use Rattle.sas_mutex.proofs.greatest.look_at_loose.Goals as goal
 use Rattle.sas_mutex.proofs.greatest.look_at_loose.Goals.{then-is_loose, else-is_loose}
 
@@ -23,27 +23,22 @@ loop-operator-preserved g c =
           let turn = t.look_once.ensures in
           rw (t.family-is, t.watches-is, t.marks-is) record {
             falls = falls_then p start before after inv.falls turn.falls;
-            rest = λ operator lt none. elim (cases_eq operator k) [
-              | inl e ↦ subst (IsAtRest p after.kept (newly start after)) (sym e)
-                  (λ effect within. effect_now p start before after k effect inv.falls turn.falls (turn.rest effect within))
-              | inr ne ↦ λ effect within. effect_since p start before after operator effect inv.falls turn.falls
-                  (inv.rest operator (omega arith) (sym (turn.anew.others operator ne) ∙ none) effect within)
+            rest = λ none operator lt loose. elim (cases_eq operator k) [
+              | inl e ↦ subst (IsAtRest p after.kept) (sym e) turn.rest
+              | inr ne ↦ rest_still p before after operator turn.falls (none_then p start before after inv.falls turn.falls none)
+                  (inv.rest (none_first p start before after inv.falls turn.falls none) operator (omega arith) (sym (turn.anew.others operator ne) ∙ loose))
             ];
-            watched = turn.watched;
-            told = told_more p start.fallen.items (length start.fallen.items) before.kept w now (fell_first p start before inv.falls inv.watched.fell)
-                (stay_told p before after w now k turn.falls turn.room.one_each turn.anew) inv.told;
-            room = turn.room;
-            clean = turn.clean;
+            ready = turn.ready;
+            unwatched = unwatched_more p start.fallen.items (length start.fallen.items) before.kept w now (fell_first p start before inv.falls inv.ready.watched.fell)
+                (stays_unwatched p before after w now k turn.falls turn.ready.room.one_each turn.anew) inv.unwatched;
           })
       | else-is_loose t ↦ rw (t.family-is, t.watches-is, t.marks-is) record {
         falls = inv.falls;
-        rest = λ operator lt none. elim (cases_eq operator k) [
-          | inl e ↦ absurd (c.is_loose.ensures t.if-is_loose.false (ap (since_of w.since) (sym e) ∙ none))
-          | inr ne ↦ inv.rest operator (omega arith) none
+        rest = λ none operator lt loose. elim (cases_eq operator k) [
+          | inl e ↦ absurd (c.is_loose.ensures t.if-is_loose.false (ap (since_of w.since) (sym e) ∙ loose))
+          | inr ne ↦ inv.rest none operator (omega arith) loose
         ];
-        watched = inv.watched;
-        told = inv.told;
-        room = inv.room;
-        clean = inv.clean;
+        ready = inv.ready;
+        unwatched = inv.unwatched;
       }
     ]

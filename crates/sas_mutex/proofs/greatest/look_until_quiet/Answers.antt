@@ -1,10 +1,10 @@
 -- If no more groups were removed, the operator is at rest.
 use Rattle.std.proofs.Common.{ℕ, ◌≡◌, length, sym, subst, arith}
 use Rattle.std.specs.Global.{Vec}
-use Rattle.std.proofs.lemmas.List.Elements.{All-contains_itself}
 use Rattle.sas_mutex.specs.Basis.{IsBasis, IsOfNone}
 use Rattle.sas_mutex.specs.Falling.{Falls}
-use Rattle.sas_mutex.proofs.FallingGroups.{falls_then, rests_on, none_newly}
+use Rattle.sas_mutex.proofs.FallingGroups.{falls_then, none_newly}
+use Rattle.sas_mutex.proofs.LookedAt.{rests_on}
 use Rattle.sas_mutex.proofs.Supporting.{none_are, same_falls, same_room}
 use Rattle.sas_mutex.proofs.greatest.look_until_quiet.Goals as goal
 use Rattle.sas_mutex.proofs.greatest.look_until_quiet.Given.{Over}
@@ -28,7 +28,7 @@ look_at-alone-requires-clause-room g c =
 -- what fell in this turn, and before
 falls : (g : Over) (c : After-look_at-alone g) → Falls c.args.indexed.now c.loop-operator.family c.look_at-alone.new.family
 falls g c = falls_then c.args.indexed.now c.loop-operator.family c.clear_basis.new.self c.look_at-alone.new.family
-    (same_falls c.args.indexed.now c.loop-operator.family c.clear_basis.new.self c.clear_basis.ensures.kept c.clear_basis.ensures.fallen) c.look_at-alone.ensures.falls
+    (same_falls c.args.indexed.now c.loop-operator.family c.clear_basis.new.self c.clear_basis.ensures.kept c.clear_basis.ensures.fallen) c.look_at-alone.ensures.looked.falls
 
 pub returns-then-len-before-clause-falls : goal.returns-then-len-before-clause-falls
 returns-then-len-before-clause-falls g c =
@@ -36,22 +36,20 @@ returns-then-len-before-clause-falls g c =
     (falls g (goal.at.returns-then-len-before-clause-falls g c).After-look_at-alone)
 
 pub returns-then-len-before-clause-rest : goal.returns-then-len-before-clause-rest
-returns-then-len-before-clause-rest g c effect lt _ =
-    c.look_at-alone.ensures.rest effect lt
-    (none_newly c.args.indexed.now c.clear_basis.new.self c.look_at-alone.new.family c.look_at-alone.ensures.falls
+returns-then-len-before-clause-rest g c effect lt place =
+    c.look_at-alone.ensures.looked.keeps
+    (none_newly c.args.indexed.now c.clear_basis.new.self c.look_at-alone.new.family c.look_at-alone.ensures.looked.falls
     (let after = c.len.ensures in let before = c.len-before.ensures in let same = c.if-len-before.true in
-    subst (λ (fallen : Vec ℕ). length c.look_at-alone.new.family.fallen.items ≡ length fallen.items) (sym c.clear_basis.ensures.fallen) (omega arith)))
+    subst (λ (fallen : Vec ℕ). length c.look_at-alone.new.family.fallen.items ≡ length fallen.items) (sym c.clear_basis.ensures.fallen) (omega arith))) effect place lt
 
 pub returns-then-len-before-clause-alone : goal.returns-then-len-before-clause-alone
 returns-then-len-before-clause-alone g c t =
-    let after = c.look_at-alone.new.family in
-    rests_on c.args.indexed.now after after.kept c.args.operator after.supports c.look_at-alone.ensures.room.basis (All-contains_itself after.supports)
-    (c.look_at-alone.ensures.alone t)
+    rests_on c.args.indexed.now c.args.operator c.clear_basis.new.self c.look_at-alone.new.family c.look_at-alone.result c.look_at-alone.ensures.looked t
 
 pub loop-operator-preserved : goal.loop-operator-preserved
 loop-operator-preserved g c = record {
   falls = falls_then c.args.indexed.now c.args.family.now c.loop-operator.family c.look_at-alone.new.family c.loop-operator.invariant.falls
       (falls g (goal.at.loop-operator-preserved g c).After-look_at-alone);
-  room = c.look_at-alone.ensures.room;
+  room = c.look_at-alone.ensures.looked.room;
   clean = c.look_at-alone.ensures.clean;
 }

@@ -2,7 +2,7 @@
 use Rattle.std.proofs.Common.{◌+◌, List, sym, subst}
 use Rattle.sas_core.specs.declared.parts.Fact.{Fact}
 use Rattle.sas_groups.specs.Checks.{IsFirstVerdict}
-use Rattle.sas_mutex.proofs.Telling.{FirstUpTo, first_more}
+use Rattle.sas_mutex.proofs.VerdictsSoFar.{FirstUpTo, first_more}
 use Rattle.sas_mutex.proofs.joint.first_verdicts.Goals as goal
 
 pub loop-group-preserved : goal.loop-group-preserved

@@ -1,5 +1,5 @@
 -- The verdicts on the groups so far.
-use Rattle.sas_mutex.proofs.Telling.{FirstUpTo}
+use Rattle.sas_mutex.proofs.VerdictsSoFar.{FirstUpTo}
 use Rattle.sas_mutex.proofs.joint.first_verdicts.Given as goal
 
 abbrev pub invariant-loop-group : goal.invariant-loop-group

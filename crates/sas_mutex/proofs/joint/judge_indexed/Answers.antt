@@ -7,13 +7,10 @@ use Rattle.sas_groups.specs.declared.verdict.Verdict.TheVariants.{Exclusive}
 use Rattle.sas_groups.specs.Kept.{family_of}
 use Rattle.sas_groups.specs.Joint.{verdict_at}
 use Rattle.sas_mutex.proofs.Counting.{count_within}
-use Rattle.sas_mutex.proofs.Telling.{candidates_from}
+use Rattle.sas_mutex.proofs.VerdictsSoFar.{candidates_from}
 use Rattle.sas_mutex.specs.Basis.{IsOfNone}
 use Rattle.sas_mutex.proofs.Supporting.{none_are}
 use Rattle.sas_mutex.proofs.joint.judge_indexed.Goals as goal
-
-pub judge_by_operators-requires-clause-first : goal.judge_by_operators-requires-clause-first
-judge_by_operators-requires-clause-first g c = c.requires
 
 pub judge_by_operators-requires-clause-room : goal.judge_by_operators-requires-clause-room
 judge_by_operators-requires-clause-room g c =
@@ -37,6 +34,3 @@ judge_by_operators-requires-clause-candidates g c =
     candidates_from _ c.args.verdicts.now kept c.requires
     (subst (λ (xs : List Verdict). (place : ℕ) → place < length xs → IsTrue (family_of kept place) ↔ (verdict_at xs place ≡ Exclusive))
     c.as_slice.ensures family.ensures.exclusive)
-
-pub judge_by_operators-requires-clause-none : goal.judge_by_operators-requires-clause-none
-judge_by_operators-requires-clause-none g c = c.in_ok-family.ensures.none

@@ -1,7 +1,7 @@
 -- None of the groups so far lacks a verdict.
 use Rattle.std.proofs.Common.{ℕ, ◌<◌}
-use Rattle.sas_mutex.specs.Judging.{IsUntold}
+use Rattle.sas_mutex.specs.Judging.{IsUndecided}
 use Rattle.sas_mutex.proofs.joint.some_fell.Given as goal
 
 abbrev pub invariant-loop-group : goal.invariant-loop-group
-invariant-loop-group l = (place : ℕ) → place < l.group → IsUntold l.kept l.verdicts place → ⊥
+invariant-loop-group l = (place : ℕ) → place < l.group → IsUndecided l.kept l.verdicts place → ⊥

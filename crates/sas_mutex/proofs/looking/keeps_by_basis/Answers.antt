@@ -2,7 +2,7 @@
 -- the basis.
 use Rattle.std.proofs.Common.{length}
 use Rattle.sas_mutex.proofs.FallingGroups.{basis_keeps}
-use Rattle.sas_mutex.proofs.ToldByNotes.{noted_fewer}
+use Rattle.sas_mutex.proofs.FromNotes.{noted_fewer}
 use Rattle.sas_mutex.proofs.looking.keeps_by_basis.Goals as goal
 
 pub keeps_with_itself-requires-clause-notes : goal.keeps_with_itself-requires-clause-notes

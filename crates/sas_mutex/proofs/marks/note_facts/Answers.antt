@@ -1,6 +1,5 @@
 -- One more fact is recorded.
 use Rattle.std.proofs.Common.{◌<◌, List, get_or, length, take, sym, subst}
-use Rattle.std.proofs.lemmas.Bool.{true≢false}
 use Rattle.std.proofs.lemmas.List.{take_more, take_all}
 use Rattle.std.proofs.lemmas.List.Elements.{Contains-get_or}
 use Rattle.sas_core.specs.declared.parts.Fact.{Fact}
@@ -60,12 +59,3 @@ pub note-requires-clause-value : goal.note-requires-clause-value
 note-requires-clause-value g c =
     let fact = get_or c.args.facts.now c.loop-fact.fact-index (record { var = 0; value = 0 }) in
     subst (λ n. fact.var < n) (sym c.loop-fact.invariant.from.wide.variables) (variable_below c.args.indexed.now fact (c.requires.exist c.loop-fact.fact-index _ c.loop-fact-test.true))
-
-pub returns-then-not-note-clause-no : goal.returns-then-not-note-clause-no
-returns-then-not-note-clause-no g c t = absurd (true≢false t)
-
-pub returns-clause-yes : goal.returns-clause-yes
-returns-clause-yes g c t = absurd (true≢false (sym t))
-
-pub returns-clause-from : goal.returns-clause-from
-returns-clause-from g c = c.loop-fact.invariant.from

@@ -2,7 +2,6 @@
 use Rattle.std.proofs.Common.{◌≡◌, ◌<◌, ℕ, List, [], ◌++◌, length, refl, ap, sym, ◌∙◌, append-nil, arith}
 use Rattle.std.specs.Prelude.{IfSome, Option, Some, None}
 use Rattle.std.specs.List.{All, Contains}
-use Rattle.std.proofs.lemmas.Bool.{true≢false}
 use Rattle.std.proofs.lemmas.List.Elements.{All-contains}
 use Rattle.sas_core.specs.declared.parts.Fact.{Fact}
 use Rattle.sas_core.specs.declared.parts.Parts.{Parts}
@@ -111,15 +110,6 @@ returns-clause-noted g c =
     let inv = c.loop-fact.invariant in
     λ t. (all_known p c.args.kept.now all (known_exist p c.task.ensures.well_ranged c.args.premises.now.operator c.requires.operator c.args.premises.now.first.now c.args.premises.now.second.now c.requires.first c.requires.second)
     c.loop-fact.yielded c.loop-fact.marks.known (all_came all c.loop-fact.yielded (known_left c.loop-fact.fact-iterator) inv.left c.in-None.ensures.steps.0) inv.so_far).noted
-
-pub returns-then-not-note-clause-no : goal.returns-then-not-note-clause-no
-returns-then-not-note-clause-no g c = λ t. absurd (true≢false t)
-
-pub returns-then-not-note-clause-noted : goal.returns-then-not-note-clause-noted
-returns-then-not-note-clause-noted g c = λ t. absurd (true≢false t)
-
-pub returns-clause-yes : goal.returns-clause-yes
-returns-clause-yes g c = λ t. absurd (true≢false (sym t))
 
 pub returns-clause-from : goal.returns-clause-from
 returns-clause-from g c = record { known = c.loop-fact.invariant.so_far.from; others = c.loop-fact.invariant.others }

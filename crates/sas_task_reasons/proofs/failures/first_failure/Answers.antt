@@ -10,8 +10,8 @@ use Rattle.sas_mutex.specs.Effects.{IsKept, EffectKeeps}
 use Rattle.sas_mutex.specs.Firing.{operator_of}
 use Rattle.sas_groups.specs.Notes.{IsGroupNote}
 use Rattle.sas_mutex.specs.ByNotes.{IsNotedFor, EffectKeepsGroup, EffectKeepsGroupWithItself, known_at}
-use Rattle.sas_mutex.proofs.Telling.{keeps_itself, put_back, several_never_fire, noted_with, with_place, or_itself, is_more}
-use Rattle.sas_mutex.proofs.ToldByNotes.{noted_fewer}
+use Rattle.sas_mutex.proofs.VerdictsSoFar.{keeps_itself, put_back, several_never_fire, noted_with, with_place, or_itself, is_more}
+use Rattle.sas_mutex.proofs.FromNotes.{noted_fewer}
 use Rattle.sas_task_reasons.specs.Lowest.{IsFirstOfEffect}
 use Rattle.sas_task_reasons.proofs.Failing.{first_of_effect_too}
 use Rattle.sas_task_reasons.proofs.FirstOfEffect.{if_some_so, if_none_so}

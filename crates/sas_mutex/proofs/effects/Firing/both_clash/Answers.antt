@@ -1,7 +1,6 @@
 -- A condition of the other effect clashes with the known facts, or its conditions clash with each
 -- other.
 use Rattle.std.proofs.Common.{◌<◌, List, length, sym, subst, inl, inr}
-use Rattle.std.proofs.lemmas.Bool.{true≢false}
 use Rattle.std.specs.List.{All, Contains}
 use Rattle.sas_core.specs.declared.parts.Fact.{Fact}
 use Rattle.sas_core.specs.Grounded.{operator_at, effect_at}
@@ -11,7 +10,7 @@ use Rattle.sas_groups.specs.Notes.{AreBlank}
 use Rattle.sas_mutex.specs.Firing.{EffectPlace, operator_of}
 use Rattle.sas_mutex.specs.Effects.{IsKept}
 use Rattle.sas_mutex.proofs.TaskFacts.{conditions_exist}
-use Rattle.sas_mutex.proofs.ToldByNotes.{one_clashes, themselves_clash, one_or_themselves}
+use Rattle.sas_mutex.proofs.FromNotes.{one_clashes, themselves_clash, one_or_themselves}
 use Rattle.sas_mutex.proofs.effects.Firing.both_clash.Goals as goal
 
 pub returns-then-some_clashes-clause-yes : goal.returns-then-some_clashes-clause-yes
@@ -44,14 +43,8 @@ returns-clause-no g c =
       | inr w ↦ c.facts_clash.ensures.no t (subst (λ (facts : List Fact). Clash Counts facts) (sym same) w)
     ])
 
-pub effect_conditions-second-requires-clause-operator : goal.effect_conditions-second-requires-clause-operator
-effect_conditions-second-requires-clause-operator g c = c.self.invariant.2
-
 pub effect_conditions-second-requires-clause-effect : goal.effect_conditions-second-requires-clause-effect
 effect_conditions-second-requires-clause-effect g c = subst (λ (f : EffectPlace). c.args.other < length (operator_of f).effects) (sym c.self.view_is) c.requires.other
-
-pub some_clashes-requires-clause-notes : goal.some_clashes-requires-clause-notes
-some_clashes-requires-clause-notes g c = c.requires.notes
 
 pub some_clashes-requires-clause-exist : goal.some_clashes-requires-clause-exist
 some_clashes-requires-clause-exist g c =
@@ -60,12 +53,6 @@ some_clashes-requires-clause-exist g c =
     subst (λ (f : EffectPlace). All (FactExists f.task.variables) c.effect_conditions-second.result.now) c.self.view_is
     (subst (All (FactExists p.variables)) (sym c.effect_conditions-second.ensures)
     (conditions_exist p c.self.invariant.0 c.self.inside.operator c.self.invariant.2 c.args.other within))
-
-pub returns-then-some_clashes-clause-notes : goal.returns-then-some_clashes-clause-notes
-returns-then-some_clashes-clause-notes g c = c.requires.notes
-
-pub returns-then-some_clashes-clause-no : goal.returns-then-some_clashes-clause-no
-returns-then-some_clashes-clause-no g c t = absurd (true≢false t)
 
 pub invariant_of-indexed : goal.invariant_of-indexed
 invariant_of-indexed g c = (c.self.invariant.0, c.self.invariant.1)

@@ -1,6 +1,5 @@
 -- One more effect sets no other fact of the group, or doesn't exist.
-use Rattle.std.proofs.Common.{◌≡◌, ◌<◌, length, get_or, below_more, sym, subst, arith}
-use Rattle.std.proofs.lemmas.Bool.{true≢false}
+use Rattle.std.proofs.Common.{◌≡◌, ◌<◌, length, get_or, below_more, subst, arith}
 use Rattle.std.proofs.lemmas.List.{get_or_default}
 use Rattle.sas_mutex.specs.Firing.{EffectPlace, operator_of}
 use Rattle.sas_mutex.specs.ByNotes.{IsApartAt}
@@ -31,31 +30,13 @@ returns-clause-yes g c t =
 pub loop-other-init : goal.loop-other-init
 loop-other-init g c = record { notes = c.requires.notes; apart = λ k lt. absurd (omega arith) }
 
-pub not_both-requires-clause-notes : goal.not_both-requires-clause-notes
-not_both-requires-clause-notes g c = c.loop-other.invariant.notes
-
 pub not_both-requires-clause-other : goal.not_both-requires-clause-other
 not_both-requires-clause-other g c =
     let other = get_or c.args.effects.now c.loop-other.other-index 0 in
     subst (λ (f : EffectPlace). other < length (operator_of f).effects) c.self.view_is (subst (λ n. other < n) c.effects.ensures c.if-other-effects.true)
-
-pub not_both-requires-clause-group : goal.not_both-requires-clause-group
-not_both-requires-clause-group g c = c.requires.group
-
-pub returns-then-not-not_both-clause-notes : goal.returns-then-not-not_both-clause-notes
-returns-then-not-not_both-clause-notes g c = c.not_both.ensures.notes
-
-pub returns-then-not-not_both-clause-yes : goal.returns-then-not-not_both-clause-yes
-returns-then-not-not_both-clause-yes g c = λ t. absurd (true≢false (sym t))
 
 pub returns-then-not-not_both-clause-no : goal.returns-then-not-not_both-clause-no
 returns-then-not-not_both-clause-no g c = λ t single.
     (let other = get_or c.args.effects.now c.loop-other.other-index 0 in
     c.not_both.ensures.no c.if-not-not_both.true (single other
     (subst (λ (f : EffectPlace). other < length (operator_of f).effects) c.self.view_is (subst (λ n. other < n) c.effects.ensures c.if-other-effects.true))))
-
-pub returns-clause-notes : goal.returns-clause-notes
-returns-clause-notes g c = c.loop-other.invariant.notes
-
-pub returns-clause-no : goal.returns-clause-no
-returns-clause-no g c = λ t. absurd (true≢false t)

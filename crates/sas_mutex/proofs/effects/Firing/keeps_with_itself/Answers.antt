@@ -7,8 +7,8 @@ use Rattle.sas_groups.specs.declared.notes.Noted.TheVariants.{Several}
 use Rattle.sas_mutex.specs.Effects.{IsKept, EffectKeeps}
 use Rattle.sas_groups.specs.Notes.{IsGroupNote}
 use Rattle.sas_mutex.specs.ByNotes.{IsNotedFor, known_at}
-use Rattle.sas_mutex.proofs.Telling.{keeps_then, keeps_itself, put_back, several_never_fire, noted_with, is_more}
-use Rattle.sas_mutex.proofs.ToldByNotes.{noted_fewer}
+use Rattle.sas_mutex.proofs.VerdictsSoFar.{keeps_then, keeps_itself, put_back, several_never_fire, noted_with, is_more}
+use Rattle.sas_mutex.proofs.FromNotes.{noted_fewer}
 use Rattle.sas_mutex.proofs.effects.Firing.keeps_with_itself.Goals as goal
 
 pub returns-then-is_several-clause-yes : goal.returns-then-is_several-clause-yes

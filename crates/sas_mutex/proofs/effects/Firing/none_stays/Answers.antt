@@ -17,7 +17,7 @@ use Rattle.sas_groups.proofs.Entering.{group_fact_exists}
 use Rattle.sas_mutex.proofs.GoneRuns.{SuchBefore, such_none, such_all, next_within, next_on_one, next_too, such_more}
 use Rattle.sas_groups.proofs.NotesOfFacts.{one_note_tells}
 use Rattle.sas_mutex.proofs.KnownFacts.{none_if_not_one}
-use Rattle.sas_mutex.proofs.ToldByNotes.{known_one_is_all}
+use Rattle.sas_mutex.proofs.FromNotes.{known_one_is_all}
 use Rattle.sas_mutex.proofs.effects.Firing.none_stays.Goals as goal
 
 pub is_gone-requires-clause-fact : goal.is_gone-requires-clause-fact

@@ -1,22 +1,19 @@
 -- The first fact decides for the whole run, or one more fact can't remain.
 use Rattle.std.proofs.Common.{◌<◌, get_or, sym, subst, arith}
-use Rattle.std.proofs.lemmas.Bool.{true≢false}
 use Rattle.sas_core.specs.Grounded.{operator_at, effect_at}
 use Rattle.sas_groups.specs.Checks.{IsGone}
 use Rattle.sas_core.proofs.Places.{each_more}
 use Rattle.sas_mutex.specs.Firing.{EffectPlace}
-use Rattle.sas_groups.specs.Index.{IsIndexOf}
 use Rattle.sas_groups.proofs.Existing.{variable_below}
 use Rattle.sas_mutex.specs.Effects.{IsKept}
+use Rattle.sas_mutex.proofs.FromNotes.{IsFiring}
 use Rattle.sas_mutex.proofs.GoneRuns.{settled_are_gone}
 use Rattle.sas_mutex.proofs.effects.Firing.run_is_gone.Goals as goal
 
 pub returns-then-is_settled-clause-yes : goal.returns-then-is_settled-clause-yes
-returns-then-is_settled-clause-yes g c =
-    let p = c.args.self.now.task in
-    let o = operator_at p c.args.self.now.operator in
-    λ t. settled_are_gone p c.self.inside.index.now c.args.kept.now c.args.marks.now.known o (effect_at o c.args.self.now.effect) c.args.run.now
-    (subst (λ (s : EffectPlace). IsIndexOf s.task c.self.inside.index.now) c.self.view_is c.self.invariant.1) c.requires.notes.noted.are c.requires.exist c.requires.one c.requires.unknown (c.is_settled.ensures c.if-is_settled.true)
+returns-then-is_settled-clause-yes g c t = settled_are_gone c.args.self.now c.self.inside.index.now
+    (subst (λ (f : EffectPlace). IsFiring f c.self.inside.index.now) c.self.view_is c.self.invariant) c.args.kept.now c.args.marks.now c.requires.notes c.args.run.now
+    c.requires.exist c.requires.one c.requires.unknown (c.is_settled.ensures c.if-is_settled.true)
 
 pub loop-fact-preserved : goal.loop-fact-preserved
 loop-fact-preserved g c =
@@ -25,9 +22,6 @@ loop-fact-preserved g c =
     each_more (IsGone (IsKept p c.args.kept.now) o (effect_at o c.args.self.now.effect)) c.args.run.now c.loop-fact.fact-index _ c.loop-fact-test.true c.loop-fact.invariant
     (c.goes.ensures.yes c.if-not-goes.false)
 
-pub returns-then-not-goes-clause-yes : goal.returns-then-not-goes-clause-yes
-returns-then-not-goes-clause-yes g c t = absurd (true≢false (sym t))
-
 pub is_settled-requires : goal.is_settled-requires
 is_settled-requires g c = record {
   var = c.requires.var;
@@ -35,14 +29,8 @@ is_settled-requires g c = record {
       (variable_below c.args.self.now.task (get_or c.args.run.now k d) (c.requires.exist k d lt));
 }
 
-pub returns-then-is_settled-clause-no : goal.returns-then-is_settled-clause-no
-returns-then-is_settled-clause-no g c t = absurd (true≢false t)
-
 pub loop-fact-init : goal.loop-fact-init
 loop-fact-init g c = λ k d lt. absurd (omega arith)
-
-pub goes-requires-clause-notes : goal.goes-requires-clause-notes
-goes-requires-clause-notes g c = c.requires.notes
 
 pub goes-requires-clause-fact : goal.goes-requires-clause-fact
 goes-requires-clause-fact g c = c.requires.exist c.loop-fact.fact-index (record { var = 0; value = 0 }) c.loop-fact-test.true
@@ -52,9 +40,3 @@ returns-then-not-goes-clause-no g c = λ t all. c.goes.ensures.no c.if-not-goes.
 
 pub returns-clause-yes : goal.returns-clause-yes
 returns-clause-yes g c = λ t k d lt. c.loop-fact.invariant k d (omega (arith, lt, c.loop-fact-test.false))
-
-pub returns-clause-no : goal.returns-clause-no
-returns-clause-no g c t = absurd (true≢false t)
-
-pub goes-requires-clause-var : goal.goes-requires-clause-var
-goes-requires-clause-var g c = c.requires.var

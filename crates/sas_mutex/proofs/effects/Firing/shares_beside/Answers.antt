@@ -1,11 +1,11 @@
 -- A known fact other than the one set apart is recorded for each group that contains it.
 use Rattle.std.proofs.Common.{ℕ, List, length, sym, subst, ◌∙◌, ap}
-use Rattle.sas_core.specs.Grounded.{operator_at, effect_at}
+use Rattle.sas_mutex.specs.Firing.{EffectPlace}
 use Rattle.sas_groups.specs.Index.{groups_of}
 use Rattle.sas_groups.specs.declared.notes.Noted.{Noted}
 use Rattle.sas_groups.specs.Noting.{AreBelow, HasNotedGroup}
 use Rattle.sas_groups.proofs.Existing.{groups_below}
-use Rattle.sas_mutex.proofs.ToldByNotes.{noted_beside, beside_noted}
+use Rattle.sas_mutex.proofs.FromNotes.{IsFiring, noted_beside, beside_noted}
 use Rattle.sas_mutex.proofs.effects.Firing.shares_beside.Goals as goal
 
 pub has_noted-requires : goal.has_noted-requires
@@ -17,23 +17,14 @@ has_noted-requires g c =
     (groups_below p c.self.inside.index.now c.args.fact (length c.as_slice-noted.result.now) c.self.invariant.1 fact (ap length c.as_slice-noted.ensures ∙ notes.noted.from.known.wide.groups))
 
 pub returns-then-groups-marks-clause-yes : goal.returns-then-groups-marks-clause-yes
-returns-then-groups-marks-clause-yes g c =
-    let fact = rw (← c.self.view_is) at c.requires.fact in
-    let notes = rw (← c.self.view_is) at c.requires.notes in
-    let p = c.self.inside.task.now in
-    let o = operator_at p c.self.inside.operator in
-    let index = c.self.inside.index.now in
-    rw (← c.self.view_is) (λ t. noted_beside p index c.args.kept.now c.args.marks.now.known o (effect_at o c.self.inside.effect).conditions c.self.invariant.1 notes.noted.are c.args.fact fact
-    (subst (λ (noted : List Noted). HasNotedGroup (groups_of index c.args.fact) c.args.kept.now noted) c.as_slice-noted.ensures
-    (subst (λ (groups : List ℕ). HasNotedGroup groups c.args.kept.now c.as_slice-noted.result.now) c.groups_of-groups.ensures (c.has_noted.ensures.yes t))))
+returns-then-groups-marks-clause-yes g c t = noted_beside c.args.self.now c.self.inside.index.now
+    (subst (λ (f : EffectPlace). IsFiring f c.self.inside.index.now) c.self.view_is c.self.invariant) c.args.kept.now c.args.marks.now c.requires.notes c.args.fact c.requires.fact
+    (subst (λ (noted : List Noted). HasNotedGroup (groups_of c.self.inside.index.now c.args.fact) c.args.kept.now noted) c.as_slice-noted.ensures
+    (subst (λ (groups : List ℕ). HasNotedGroup groups c.args.kept.now c.as_slice-noted.result.now) c.groups_of-groups.ensures (c.has_noted.ensures.yes t)))
 
 pub returns-then-groups-marks-clause-no : goal.returns-then-groups-marks-clause-no
-returns-then-groups-marks-clause-no g c =
-    let fact = rw (← c.self.view_is) at c.requires.fact in
-    let notes = rw (← c.self.view_is) at c.requires.notes in
-    let p = c.self.inside.task.now in
-    let o = operator_at p c.self.inside.operator in
-    let index = c.self.inside.index.now in
-    rw (← c.self.view_is) (λ t (known, among, beside, share). c.has_noted.ensures.no t (subst (λ (groups : List ℕ). HasNotedGroup groups c.args.kept.now c.as_slice-noted.result.now) (sym c.groups_of-groups.ensures)
-    (subst (λ (noted : List Noted). HasNotedGroup (groups_of index c.args.fact) c.args.kept.now noted) (sym c.as_slice-noted.ensures)
-    (beside_noted p index c.args.kept.now c.args.marks.now.known o (effect_at o c.self.inside.effect).conditions c.self.invariant.1 notes.noted.are c.args.fact fact known among beside share))))
+returns-then-groups-marks-clause-no g c t (known, among, beside, share) =
+    c.has_noted.ensures.no t (subst (λ (groups : List ℕ). HasNotedGroup groups c.args.kept.now c.as_slice-noted.result.now) (sym c.groups_of-groups.ensures)
+    (subst (λ (noted : List Noted). HasNotedGroup (groups_of c.self.inside.index.now c.args.fact) c.args.kept.now noted) (sym c.as_slice-noted.ensures)
+    (beside_noted c.args.self.now c.self.inside.index.now
+    (subst (λ (f : EffectPlace). IsFiring f c.self.inside.index.now) c.self.view_is c.self.invariant) c.args.kept.now c.args.marks.now c.requires.notes c.args.fact c.requires.fact known among beside share)))

@@ -1,0 +1,321 @@
+-- The verdicts after each effect and each operator.
+use Rattle.std.proofs.Common.{◌≡◌, ◌≢◌, ℕ, ◌+◌, ◌<◌, Bool, true, false, List, [], ◌∷◌, ◌++◌, length, set, refl, sym, ◌∙◌, ap, subst, inl, inr, arith}
+use Rattle.std.proofs.lemmas.Bool.{cases_eq, cases_Bool, both_ways}
+use Rattle.std.proofs.lemmas.List.{length_push, get_or_push, get_or_append_left, length-set, get_or-set_same, get_or-set_other, set-set, set-get_or}
+use Rattle.std.proofs.lemmas.List.Elements.{All-from_get_or}
+use Rattle.std.specs.List.{Contains}
+use Rattle.std.specs.Prelude.{◌↔◌, IsTrue}
+use Rattle.sas_core.specs.declared.parts.Fact.{Fact}
+use Rattle.sas_core.specs.declared.parts.Operator.{Operator}
+use Rattle.sas_core.specs.declared.parts.Parts.{Parts}
+use Rattle.sas_core.specs.Grounded.{operator_at, effect_at, group_at}
+use Rattle.sas_groups.specs.declared.verdict.Verdict.{Verdict}
+use Rattle.sas_groups.specs.declared.verdict.Verdict.TheVariants.{Exclusive, Derived, Initial, Broken}
+use Rattle.sas_groups.specs.Clashes.{Clash, Keeps, sets}
+use Rattle.sas_groups.specs.Families.{MayBeExclusive, IsIn, IsGroupOfOr, IsGreatest}
+use Rattle.sas_groups.specs.Verdicts.{IsJointVerdict}
+use Rattle.sas_groups.specs.Checks.{IsFirstVerdict}
+use Rattle.sas_groups.proofs.GreatestFamily.{outside_is_broken, clash_more}
+use Rattle.sas_mutex.specs.declared.marks.Marks.{Marks}
+use Rattle.sas_groups.specs.declared.notes.Noted.{Noted}
+use Rattle.sas_groups.specs.declared.notes.Noted.TheVariants.{Several}
+use Rattle.sas_groups.specs.Kept.{family_of}
+use Rattle.sas_mutex.specs.Effects.{IsKept, EffectKeeps, KeepsWithItself}
+use Rattle.sas_mutex.specs.Falling.{AreCandidates}
+use Rattle.sas_groups.specs.Index.{HasFact}
+use Rattle.sas_groups.specs.Joint.{verdict_at, AreJointVerdicts}
+use Rattle.sas_mutex.specs.Judging.{AreFirstVerdicts, IsUndecided, KeptSoFar, IsVerdictSoFar, AreVerdictsSoFar}
+use Rattle.sas_groups.specs.Notes.{IsGroupNote}
+use Rattle.sas_mutex.specs.ByNotes.{IsNotedFor, known_at}
+use Rattle.sas_mutex.proofs.Keeping.{effect_keeps_more, keeps_from_effects, effect_of_keeps}
+use Rattle.sas_groups.proofs.NotesOfFacts.{at_most_one}
+use Rattle.sas_mutex.proofs.KnownFacts.{several_clash}
+use Rattle.sas_mutex.proofs.FromNotes.{clash_keeps}
+
+-- ---- the first verdicts
+
+-- those on the first groups
+pub record FirstUpTo (p : Parts) (n : ℕ) (verdicts : List Verdict) : Type 0 where
+  pub one_each : length verdicts ≡ n
+  pub are : (place : ℕ) → place < n → IsFirstVerdict p (group_at p place) (verdict_at verdicts place)
+
+module _ (p : Parts) where
+  pub first_none : FirstUpTo p 0 []
+  first_none = record { one_each = refl; are = λ place lt. absurd (omega arith) }
+
+  pub first_more : (n : ℕ) (verdicts : List Verdict) (verdict : Verdict) → FirstUpTo p n verdicts → IsFirstVerdict p (group_at p n) verdict
+      → FirstUpTo p (n + 1) (verdicts ++ verdict ∷ [])
+  first_more n verdicts verdict first is = record {
+    one_each = length_push verdicts verdict ∙ ap (λ i. i + 1) first.one_each;
+    are = λ place lt. elim (cases_eq place n) [
+      | inl e ↦ subst (λ i. IsFirstVerdict p (group_at p i) (verdict_at (verdicts ++ verdict ∷ []) i)) (sym e)
+          (subst (IsFirstVerdict p (group_at p n)) (sym (get_or_push verdicts verdict Exclusive n first.one_each)) is)
+      | inr ne ↦ subst (IsFirstVerdict p (group_at p place))
+          (sym (get_or_append_left verdicts (verdict ∷ []) Exclusive place (let len = first.one_each in omega arith))) (first.are place (omega arith))
+    ];
+  }
+
+  pub first_all : (n : ℕ) (verdicts : List Verdict) → n ≡ length p.groups → FirstUpTo p n verdicts → AreFirstVerdicts p verdicts
+  first_all n verdicts all first = record {
+    one_each = first.one_each ∙ all;
+    are = λ place lt. first.are place (omega arith);
+  }
+
+  -- nothing speaks against a group so far where it may be exclusive
+  exclusive_may : (place : ℕ) (verdict : Verdict) → IsFirstVerdict p (group_at p place) verdict → (verdict ≡ Exclusive) ↔ MayBeExclusive p (group_at p place)
+  exclusive_may place Exclusive is = (λ e. is, λ may. refl)
+  exclusive_may place Derived is = (λ e. absurd cc, λ may. absurd (is may.basic))
+  exclusive_may place Initial is = (λ e. absurd cc, λ may. absurd (is.1 may.initial))
+  exclusive_may place (Broken operator) is = absurd is
+
+  pub candidates_from : (verdicts : List Verdict) (kept : List Bool) → AreFirstVerdicts p verdicts
+      → ((place : ℕ) → place < length verdicts → IsTrue (family_of kept place) ↔ (verdict_at verdicts place ≡ Exclusive)) → AreCandidates p kept
+  candidates_from verdicts kept first exclusive place lt =
+      let a = exclusive place (let len = first.one_each in omega arith) in
+      let b = exclusive_may place (verdict_at verdicts place) (first.are place lt) in
+      (λ h. b.0 (a.0 h), λ may. a.1 (b.1 may))
+
+-- ---- a group put into the family for one test
+
+module _ (p : Parts) (kept : List Bool) (place : ℕ) (exists : place < length p.groups) (one_each : length kept ≡ length p.groups) where
+  put_in : family_of (set kept place true) place ≡ true
+  put_in = get_or-set_same kept place true false (omega arith)
+
+  pub is_in_then : IsIn p (family_of (set kept place true)) place
+  is_in_then = record { exists = exists; chosen = put_in }
+
+  -- the groups of the family with this place are those of the family, and this one
+  pub with_place : (group : List Fact) → IsKept p (set kept place true) group → IsGroupOfOr p (family_of kept) (group_at p place) group
+  with_place group (n, among, is) = elim (cases_eq n place) [
+    | inl e ↦ inr (is ∙ ap (group_at p) e)
+    | inr ne ↦ inl (n, record { exists = among.exists; chosen = sym (get_or-set_other kept place n true false ne) ∙ among.chosen }, is)
+  ]
+
+  pub or_itself : (group : List Fact) → IsGroupOfOr p (family_of kept) (group_at p place) group → IsKept p (set kept place true) group
+  or_itself group either = elim either [
+    | inl w ↦ elim (cases_eq w.0 place) [
+      | inl e ↦ (place, is_in_then, w.2 ∙ ap (group_at p) e)
+      | inr ne ↦ (w.0, record { exists = w.1.exists; chosen = get_or-set_other kept place w.0 true false ne ∙ w.1.chosen }, w.2)
+    ]
+    | inr is ↦ (place, is_in_then, is)
+  ]
+
+  -- so the family has more groups then
+  pub is_more : (n : ℕ) → IsIn p (family_of kept) n → IsIn p (family_of (set kept place true)) n
+  is_more n among = elim (cases_eq n place) [
+    | inl e ↦ subst (λ i. IsIn p (family_of (set kept place true)) i) (sym e) is_in_then
+    | inr ne ↦ record { exists = among.exists; chosen = get_or-set_other kept place n true false ne ∙ among.chosen }
+  ]
+
+  pub keeps_then : (operator effect : ℕ) → KeepsWithItself p kept operator effect place
+      → EffectKeeps (IsKept p (set kept place true)) (operator_at p operator) (group_at p place) (effect_at (operator_at p operator) effect)
+  keeps_then operator effect = effect_keeps_more (IsGroupOfOr p (family_of kept) (group_at p place)) (IsKept p (set kept place true))
+      (operator_at p operator) (group_at p place) (effect_at (operator_at p operator) effect) or_itself
+
+  pub keeps_itself : (operator effect : ℕ)
+      → EffectKeeps (IsKept p (set kept place true)) (operator_at p operator) (group_at p place) (effect_at (operator_at p operator) effect)
+      → KeepsWithItself p kept operator effect place
+  keeps_itself operator effect = effect_keeps_more (IsKept p (set kept place true)) (IsGroupOfOr p (family_of kept) (group_at p place))
+      (operator_at p operator) (group_at p place) (effect_at (operator_at p operator) effect) with_place
+
+  -- an effect that never fires keeps it
+  never_fires : (operator effect : ℕ) → Clash (IsGroupOfOr p (family_of kept) (group_at p place)) (known_at p operator effect)
+      → KeepsWithItself p kept operator effect place
+  never_fires operator effect = clash_keeps (IsGroupOfOr p (family_of kept) (group_at p place)) (operator_at p operator) (group_at p place)
+      (effect_at (operator_at p operator) effect)
+
+  pub clash_never_fires : (operator effect : ℕ) → Clash (IsKept p kept) (known_at p operator effect) → KeepsWithItself p kept operator effect place
+  clash_never_fires operator effect clash = never_fires operator effect
+      (clash_more (IsKept p kept) (IsGroupOfOr p (family_of kept) (group_at p place)) (known_at p operator effect) (λ g counts. inl counts) clash)
+
+  module _ (operator effect : ℕ) (marks : Marks) (noted : IsNotedFor p kept operator effect marks) where
+    pub several_never_fire : IsGroupNote p (known_at p operator effect) place Several → KeepsWithItself p kept operator effect place
+    several_never_fire note = never_fires operator effect (several_clash p (IsGroupOfOr p (family_of kept) (group_at p place)) (known_at p operator effect) place (inr refl) note)
+
+    -- where not several facts of it are known, nothing clashes for it
+    pub noted_with : (note : Noted) → IsGroupNote p (known_at p operator effect) place note → note ≢ Several → IsNotedFor p (set kept place true) operator effect marks
+    noted_with note tells few = record {
+      are = record {
+        noted = noted.are.noted;
+        apart = λ (f, g, in_f, in_g, why). elim why [
+          | inl w ↦ noted.are.apart (f, g, in_f, in_g, inl w)
+          | inr one ↦ elim (with_place one.group one.counts) [
+            | inl counts ↦ noted.are.apart
+                (f, g, in_f, in_g, inr (record { differ = one.differ; group = one.group; counts = counts; first = one.first; second = one.second }))
+            | inr is ↦ one.differ (at_most_one p (known_at p operator effect) place note tells few f g
+                (record { among = in_f; has = record { exists = exists; among = subst (λ (facts : List Fact). Contains facts f) is one.first } })
+                (record { among = in_g; has = record { exists = exists; among = subst (λ (facts : List Fact). Contains facts g) is one.second } }))
+          ]
+        ];
+      };
+      from = noted.from;
+    }
+
+-- taken out again, the family is as it was
+pub put_back : (kept : List Bool) (place : ℕ) (was : Bool) → family_of kept place ≡ was → set (set kept place true) place was ≡ kept
+put_back kept place was is = set-set kept place true was ∙ (ap (λ (b : Bool). set kept place b) (sym is) ∙ set-get_or kept place false)
+
+-- ---- the verdicts so far
+
+module _ (p : Parts) (kept : List Bool) where
+  -- a verdict that isn't exclusive is judged for good
+  pub decided_for_good : (operator effect operator' effect' place : ℕ) (verdict : Verdict) → (verdict ≢ Exclusive)
+      → IsVerdictSoFar p kept operator effect place verdict → IsVerdictSoFar p kept operator' effect' place verdict
+  decided_for_good operator effect operator' effect' place Exclusive ne is = absurd (ne refl)
+  decided_for_good operator effect operator' effect' place Derived ne is = is
+  decided_for_good operator effect operator' effect' place Initial ne is = is
+  decided_for_good operator effect operator' effect' place (Broken breaking) ne is = is
+
+  -- what is kept so far, said again further on
+  pub so_far_by : (operator effect operator' effect' place : ℕ) (verdict : Verdict)
+      → ((IsIn p (family_of kept) place → ⊥) → KeptSoFar p kept operator effect place → KeptSoFar p kept operator' effect' place)
+      → IsVerdictSoFar p kept operator effect place verdict → IsVerdictSoFar p kept operator' effect' place verdict
+  so_far_by operator effect operator' effect' place Exclusive more is = (is.0, λ out. more out (is.1 out))
+  so_far_by operator effect operator' effect' place Derived more is = is
+  so_far_by operator effect operator' effect' place Initial more is = is
+  so_far_by operator effect operator' effect' place (Broken breaking) more is = is
+
+  so_far_first : (place : ℕ) (verdict : Verdict) → IsFirstVerdict p (group_at p place) verdict → IsVerdictSoFar p kept 0 0 place verdict
+  so_far_first place Exclusive is = (is, λ out. record { operators = λ lower lt. absurd (omega arith); effects = λ lower lt. absurd (omega arith) })
+  so_far_first place Derived is = is
+  so_far_first place Initial is = is
+  so_far_first place (Broken operator) is = absurd is
+
+  pub start_judging : (verdicts : List Verdict) → AreFirstVerdicts p verdicts → AreVerdictsSoFar p kept 0 0 verdicts
+  start_judging verdicts first = record {
+    one_each = first.one_each;
+    are = λ place lt. so_far_first place (verdict_at verdicts place) (first.are place lt);
+  }
+
+  -- an effect that keeps the group, or sets no fact of it
+  pub one_effect_more : (operator effect place : ℕ)
+      → (Contains (group_at p place) (sets (effect_at (operator_at p operator) effect)) → KeepsWithItself p kept operator effect place)
+      → KeptSoFar p kept operator effect place → KeptSoFar p kept operator (effect + 1) place
+  one_effect_more operator effect place keeps so_far = record {
+    operators = so_far.operators;
+    effects = λ lower lt has. elim (cases_eq lower effect) [
+      | inl e ↦ subst (λ i. KeepsWithItself p kept operator i place) (sym e) (keeps (subst (λ i. Contains (group_at p place) (sets (effect_at (operator_at p operator) i))) e has))
+      | inr ne ↦ so_far.effects lower (omega arith) has
+    ];
+  }
+
+  -- all effects of the operator
+  one_operator_more : (operator effects place : ℕ) → effects ≡ length (operator_at p operator).effects
+      → KeptSoFar p kept operator effects place → KeptSoFar p kept (operator + 1) 0 place
+  one_operator_more operator effects place all so_far = record {
+    operators = λ lower lt. elim (cases_eq lower operator) [
+      | inl e ↦ subst (λ i. Keeps (IsGroupOfOr p (family_of kept) (group_at p place)) (operator_at p i) (group_at p place)) (sym e)
+          (keeps_from_effects (IsGroupOfOr p (family_of kept) (group_at p place)) (operator_at p operator) (group_at p place)
+          (λ effect within has. so_far.effects effect (omega arith) has))
+      | inr ne ↦ so_far.operators lower (omega arith)
+    ];
+    effects = λ lower lt. absurd (omega arith);
+  }
+
+  pub next_operator : (operator effects : ℕ) (verdicts : List Verdict) → effects ≡ length (operator_at p operator).effects
+      → AreVerdictsSoFar p kept operator effects verdicts → AreVerdictsSoFar p kept (operator + 1) 0 verdicts
+  next_operator operator effects verdicts all so_far = record {
+    one_each = so_far.one_each;
+    are = λ place lt. so_far_by operator effects (operator + 1) 0 place (verdict_at verdicts place)
+        (λ out. one_operator_more operator effects place all) (so_far.are place lt);
+  }
+
+  -- the effect judged of each group that has the fact which it sets
+  one_effect_judged : (operator effect place : ℕ) (verdict : Verdict)
+      → (Contains (group_at p place) (sets (effect_at (operator_at p operator) effect)) → IsVerdictSoFar p kept operator (effect + 1) place verdict)
+      → IsVerdictSoFar p kept operator effect place verdict → IsVerdictSoFar p kept operator (effect + 1) place verdict
+  one_effect_judged operator effect place Exclusive judged is = (
+    is.0,
+    λ out. one_effect_more operator effect place
+        (λ has. ((judged has).1 out).effects effect (omega arith) has) (is.1 out),
+  )
+  one_effect_judged operator effect place Derived judged is = is
+  one_effect_judged operator effect place Initial judged is = is
+  one_effect_judged operator effect place (Broken breaking) judged is = is
+
+  pub next_effect : (operator effect : ℕ) (verdicts : List Verdict)
+      → ((place : ℕ) → HasFact p place (sets (effect_at (operator_at p operator) effect)) → IsVerdictSoFar p kept operator (effect + 1) place (verdict_at verdicts place))
+      → AreVerdictsSoFar p kept operator effect verdicts → AreVerdictsSoFar p kept operator (effect + 1) verdicts
+  next_effect operator effect verdicts judged so_far = record {
+    one_each = so_far.one_each;
+    are = λ place lt. one_effect_judged operator effect place (verdict_at verdicts place) (λ has. judged place (record { exists = lt; among = has })) (so_far.are place lt);
+  }
+
+  -- of a group that is in the family, or of which something is judged, nothing is left to tell
+  pub decided_already : (operator effect place : ℕ) (verdicts : List Verdict) → place < length p.groups → (IsUndecided kept verdicts place → ⊥)
+      → IsVerdictSoFar p kept operator effect place (verdict_at verdicts place) → IsVerdictSoFar p kept operator (effect + 1) place (verdict_at verdicts place)
+  decided_already operator effect place verdicts exists judged is = elim (cases_Bool (family_of kept place)) [
+    | inl here ↦ so_far_by operator effect operator (effect + 1) place (verdict_at verdicts place)
+        (λ out. absurd (out (record { exists = exists; chosen = here }))) is
+    | inr gone ↦ decided_for_good operator effect operator (effect + 1) place (verdict_at verdicts place)
+        (λ nothing. judged (record { fell = gone; nothing = nothing })) is
+  ]
+
+  -- one verdict is judged
+  pub one_judged : (operator effect place : ℕ) (verdicts : List Verdict) (verdict : Verdict) → place < length p.groups
+      → AreVerdictsSoFar p kept operator effect verdicts → IsVerdictSoFar p kept operator effect place verdict
+      → AreVerdictsSoFar p kept operator effect (set verdicts place verdict)
+  one_judged operator effect place verdicts verdict exists so_far is = record {
+    one_each = length-set verdicts place verdict ∙ so_far.one_each;
+    are = λ n lt. elim (cases_eq n place) [
+      | inl e ↦ subst (λ i. IsVerdictSoFar p kept operator effect i (verdict_at (set verdicts place verdict) i)) (sym e)
+          (subst (IsVerdictSoFar p kept operator effect place) (sym (get_or-set_same verdicts place verdict Exclusive (let len = so_far.one_each in omega arith))) is)
+      | inr ne ↦ subst (IsVerdictSoFar p kept operator effect n) (sym (get_or-set_other verdicts place n verdict Exclusive ne)) (so_far.are n lt)
+    ];
+  }
+
+  -- the group is broken by this operator
+  pub broken_here : (operator effect place : ℕ) → operator < length p.operators → effect < length (operator_at p operator).effects
+      → Contains (group_at p place) (sets (effect_at (operator_at p operator) effect))
+      → IsGreatest p (family_of kept) → (IsIn p (family_of kept) place → ⊥)
+      → IsVerdictSoFar p kept operator effect place Exclusive → (KeepsWithItself p kept operator effect place → ⊥)
+      → IsJointVerdict p place (Broken operator)
+  broken_here operator effect place exists within has greatest out so_far broken = (
+    family_of kept,
+    greatest,
+    out,
+    so_far.0.basic,
+    so_far.0.initial,
+    record {
+      exists = exists;
+      breaks = λ keeps. broken (effect_of_keeps (IsGroupOfOr p (family_of kept) (group_at p place)) (operator_at p operator) (group_at p place) keeps effect within has);
+      first = (so_far.1 out).operators;
+    },
+  )
+
+  -- ---- in the end
+
+  all_judged : IsGreatest p (family_of kept) → (place : ℕ) → place < length p.groups → (verdict : Verdict)
+      → IsVerdictSoFar p kept (length p.operators) 0 place verdict → IsJointVerdict p place verdict
+  all_judged greatest place exists Derived is = is
+  all_judged greatest place exists Initial is = is
+  all_judged greatest place exists (Broken operator) is = is
+  all_judged greatest place exists Exclusive is = elim (cases_Bool (family_of kept place)) [
+    | inl here ↦ (family_of kept, greatest, record { exists = exists; chosen = here })
+    | inr gone ↦ absurd (outside_is_broken p (family_of kept) place exists greatest (out gone) is.0
+        (All-from_get_or (λ (o : Operator). Keeps (IsGroupOfOr p (family_of kept) (group_at p place)) o (group_at p place)) p.operators _ (is.1 (out gone)).operators))
+  ]
+    where
+      out : family_of kept place ≡ false → IsIn p (family_of kept) place → ⊥
+      out gone w = both_ways (family_of kept place) gone w.chosen
+
+  pub joint_in_the_end : (operators : ℕ) (verdicts : List Verdict) → operators ≡ length p.operators → IsGreatest p (family_of kept)
+      → AreVerdictsSoFar p kept operators 0 verdicts → AreJointVerdicts p verdicts
+  joint_in_the_end operators verdicts all greatest so_far = record {
+    one_each = so_far.one_each;
+    are = λ place lt. all_judged greatest place lt (verdict_at verdicts place)
+        (subst (λ n. IsVerdictSoFar p kept n 0 place (verdict_at verdicts place)) all (so_far.are place lt));
+  }
+
+  -- where no group that fell is without a verdict, all is judged at first
+  pub joint_at_first : (verdicts : List Verdict) → AreFirstVerdicts p verdicts → IsGreatest p (family_of kept)
+      → ((place : ℕ) → place < length p.groups → IsUndecided kept verdicts place → ⊥) → AreJointVerdicts p verdicts
+  joint_at_first verdicts first greatest none = joint_in_the_end (length p.operators) verdicts refl greatest (record {
+    one_each = first.one_each;
+    are = λ place lt. elim (cases_Bool (family_of kept place)) [
+      | inl here ↦ so_far_by 0 0 (length p.operators) 0 place (verdict_at verdicts place)
+          (λ out. absurd (out (record { exists = lt; chosen = here }))) (so_far_first place (verdict_at verdicts place) (first.are place lt))
+      | inr gone ↦ decided_for_good 0 0 (length p.operators) 0 place (verdict_at verdicts place)
+          (λ nothing. none place lt (record { fell = gone; nothing = nothing })) (so_far_first place (verdict_at verdicts place) (first.are place lt))
+    ];
+  })

@@ -1,0 +1,27 @@
+-- What is recorded are the known facts of the effect.
+use Rattle.std.proofs.Common.{List, [], subst, sym}
+use Rattle.std.specs.List.{All}
+use Rattle.sas_core.specs.declared.parts.Fact.{Fact}
+use Rattle.sas_core.specs.Grounded.{operator_at}
+use Rattle.sas_core.specs.Variables.{FactExists}
+use Rattle.sas_groups.specs.Lists.{known}
+use Rattle.sas_mutex.specs.Firing.{EffectPlace}
+use Rattle.sas_mutex.specs.Marks.{IsClean, IsNotedFrom}
+use Rattle.sas_mutex.specs.ByNotes.{known_at}
+use Rattle.sas_mutex.proofs.TaskFacts.{conditions_exist}
+use Rattle.sas_mutex.proofs.effects.Firing.forget.Goals as goal
+
+pub forget_known-requires-clause-first : goal.forget_known-requires-clause-first
+forget_known-requires-clause-first g c =
+    let p = c.self.inside.task.now in
+    subst (All (FactExists p.variables)) (sym c.effect_conditions.ensures)
+    (conditions_exist p c.self.invariant.0 c.self.inside.operator c.self.invariant.2 c.self.inside.effect c.self.invariant.3)
+
+pub forget_known-requires-clause-from : goal.forget_known-requires-clause-from
+forget_known-requires-clause-from g c =
+    let p = c.self.inside.task.now in
+    subst (λ (conditions : List Fact). IsNotedFrom p (known (operator_at p c.self.inside.operator) conditions []) c.args.marks.now) (sym c.effect_conditions.ensures)
+    (subst (λ (f : EffectPlace). IsNotedFrom f.task (known_at f.task f.operator f.effect) c.args.marks.now) (sym c.self.view_is) c.requires.from)
+
+pub returns : goal.returns
+returns g c = subst (λ (f : EffectPlace). IsClean f.task c.forget_known.new.marks) c.self.view_is c.forget_known.ensures

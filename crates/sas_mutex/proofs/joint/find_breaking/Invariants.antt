@@ -1,0 +1,12 @@
+-- The verdicts consider the operators so far; the family is unchanged.
+use Rattle.std.proofs.Common.{◌≡◌}
+use Rattle.sas_mutex.specs.Judging.{AreVerdictsSoFar}
+use Rattle.sas_mutex.specs.Marks.{IsClean}
+use Rattle.sas_mutex.proofs.joint.find_breaking.Given as goal
+
+abbrev pub invariant-loop-operator : goal.invariant-loop-operator
+invariant-loop-operator g l = record {
+  so_far : AreVerdictsSoFar l.indexed l.fn.kept l.operator 0 l.verdicts;
+  kept : l.kept ≡ l.fn.kept;
+  clean : IsClean l.indexed l.marks;
+}

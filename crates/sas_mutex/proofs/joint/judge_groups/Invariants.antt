@@ -1,0 +1,15 @@
+-- The verdicts on the groups so far consider the effect; the family is unchanged.
+use Rattle.std.proofs.Common.{◌≡◌, ◌+◌, ℕ, ◌<◌, get_or}
+use Rattle.sas_groups.specs.Joint.{verdict_at}
+use Rattle.sas_mutex.specs.Judging.{IsVerdictSoFar, AreVerdictsSoFar}
+use Rattle.sas_mutex.specs.ByNotes.{IsNotedAt}
+use Rattle.sas_mutex.proofs.joint.judge_groups.Given as goal
+
+abbrev pub invariant-loop-group : goal.invariant-loop-group
+invariant-loop-group g l = record {
+  so_far : AreVerdictsSoFar l.firing.task l.fn.kept l.firing.operator l.firing.effect l.verdicts;
+  judged : (k : ℕ) → k < l.group-index
+      → IsVerdictSoFar l.firing.task l.fn.kept l.firing.operator (l.firing.effect + 1) (get_or l.groups k 0) (verdict_at l.verdicts (get_or l.groups k 0));
+  kept : l.kept ≡ l.fn.kept;
+  notes : IsNotedAt l.firing l.fn.kept l.marks;
+}

@@ -1,0 +1,7 @@
+-- None of the groups so far lacks a verdict.
+use Rattle.std.proofs.Common.{ℕ, ◌<◌, get_or}
+use Rattle.sas_mutex.specs.Judging.{IsUndecided}
+use Rattle.sas_mutex.proofs.joint.some_undecided.Given as goal
+
+abbrev pub invariant-loop-group : goal.invariant-loop-group
+invariant-loop-group l = (k d : ℕ) → k < l.group-index → IsUndecided l.kept l.verdicts (get_or l.groups k d) → ⊥

@@ -1,7 +1,0 @@
--- None of the groups so far lacks a verdict.
-use Rattle.std.proofs.Common.{ℕ, ◌<◌, get_or}
-use Rattle.sas_mutex.specs.Judging.{IsUntold}
-use Rattle.sas_mutex.proofs.joint.some_untold.Given as goal
-
-abbrev pub invariant-loop-group : goal.invariant-loop-group
-invariant-loop-group l = (k d : ℕ) → k < l.group-index → IsUntold l.kept l.verdicts (get_or l.groups k d) → ⊥

@@ -1,0 +1,48 @@
+-- One more effect without conditions was checked. Its known facts are the recorded ones.
+use Rattle.std.proofs.Common.{◌≡◌, length, sym, subst, inl, inr, arith}
+use Rattle.std.proofs.lemmas.Bool.{and_parts, cases_eq}
+use Rattle.sas_mutex.specs.Effects.{IsUnconditional}
+use Rattle.sas_mutex.specs.Firing.{EffectPlace}
+use Rattle.sas_mutex.specs.ByNotes.{IsNotedFor}
+use Rattle.sas_mutex.specs.Looking.{Looked, IsOfEffect}
+use Rattle.sas_mutex.proofs.LookedAt.{looked_then, looked_by, alike_notes}
+use Rattle.sas_mutex.proofs.looking.look_at_noted.Goals as goal
+use Rattle.sas_mutex.proofs.looking.look_at_noted.Goals.{then-is_plain, else-is_plain}
+
+pub loop-effect-preserved : goal.loop-effect-preserved
+loop-effect-preserved g c =
+    let f = c.args.firing.now in
+    let of = c.firing.inside.effect in
+    let before = c.loop-effect.family in
+    let at = c.loop-effect.effect in
+    let inv = c.loop-effect.invariant in
+    let is = c.firing.view_is in
+    elim c.if-is_plain.branch [
+      | then-is_plain w ↦
+          (let turn = w.look_at_groups-alone in
+          let q = c.firing.inside.task.now in
+          rw (w.family-is, w.marks-is, w.alone-is) record {
+            looked = looked_then f.task f.operator _ (IsOfEffect at) _ c.args.family.now before turn.new.family c.loop-effect.alone turn.result _ inv.looked
+                (subst (λ (s : EffectPlace). Looked s.task s.operator (IsOfEffect at) before turn.new.family turn.result) is turn.ensures.looked)
+                (λ effect place (lt, plain). elim (cases_eq effect at) [
+                  | inl same ↦ inr same
+                  | inr ne ↦ inl (omega arith, plain)
+                ])
+                (and_parts c.loop-effect.alone turn.result);
+            notes = record {
+              one_each = subst (λ (s : EffectPlace). length turn.new.family.kept ≡ length s.task.groups) is turn.ensures.notes.one_each;
+              noted = subst (λ (s : EffectPlace). IsNotedFor s.task turn.new.family.kept s.operator s.effect turn.new.marks) is
+                  (alike_notes q c.firing.inside.operator at of turn.new.family.kept turn.new.marks
+                  (c.is_plain-in-loop-effect.ensures.yes w.if-is_plain.true) (c.is_plain.ensures.yes c.if-not-is_plain.false) turn.ensures.notes.noted);
+            };
+          })
+      | else-is_plain w ↦ rw (w.family-is, w.marks-is, w.alone-is) record {
+        looked = looked_by f.task f.operator _ _ c.args.family.now before c.loop-effect.alone c.loop-effect.alone inv.looked
+            (λ effect place (lt, plain). elim (cases_eq effect at) [
+              | inl same ↦ absurd (c.is_plain-in-loop-effect.ensures.no w.if-is_plain.false
+                  (subst (λ (s : EffectPlace). IsUnconditional s.task s.operator at) (sym is) (subst (IsUnconditional f.task f.operator) same plain)))
+              | inr ne ↦ (omega arith, plain)
+            ]) (λ t. inl t);
+        notes = inv.notes;
+      }
+    ]

@@ -1,0 +1,12 @@
+-- The effects so far without conditions were checked.
+use Rattle.std.proofs.Common.{◌<◌}
+use Rattle.sas_mutex.specs.Effects.{IsUnconditional}
+use Rattle.sas_mutex.specs.Looking.{Looked}
+use Rattle.sas_mutex.specs.ByNotes.{IsNotedAt}
+use Rattle.sas_mutex.proofs.looking.look_at_noted.Given as goal
+
+abbrev pub invariant-loop-effect : goal.invariant-loop-effect
+invariant-loop-effect g l = record {
+  looked : Looked l.firing.task l.firing.operator (λ effect place. (effect < l.effect) × IsUnconditional l.firing.task l.firing.operator effect) l.fn.family l.family l.alone;
+  notes : IsNotedAt l.firing l.family.kept l.marks;
+}
