@@ -1,6 +1,5 @@
 -- What holds of answers about a value.
-use Rattle.std.proofs.Common.{◌≡◌}
-use Rattle.sas_output.specs.Ending.{Output}
+use Rattle.sas_answers.proofs.Imports.{◌≡◌, Output}
 
 -- a value has one answer
 abbrev pub OneAnswer : {V : Type 0} → (V → Output → Type 0) → Type 0

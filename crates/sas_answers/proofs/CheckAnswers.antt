@@ -1,17 +1,6 @@
 -- A task has an answer about its layers, and only one.
-use Rattle.std.proofs.Common.{◌≡◌, ℕ, ◌+◌, Bool, true, false, if◌then◌else◌, List, [], ◌∷◌, ◌++◌, flat_map, codes, refl, ap, Option, Some}
-use Rattle.std.specs.List.{enumerate_from}
-use Rattle.sas_core.specs.declared.parts.Operator.{Operator}
-use Rattle.sas_core.specs.declared.parts.Rule.{Rule}
-use Rattle.sas_core.specs.declared.parts.Parts.{Parts}
-use Rattle.sas_core.specs.FirstFault.{Check, first_fault, check}
-use Rattle.sas_meaning.specs.declared.layered.LayerFault.{LayerFault}
-use Rattle.sas_meaning.specs.Layers.{can_fire, IsLayered}
-use Rattle.sas_meaning.specs.LayerChecks.{effect_layer_checks, operator_layer_checks, firing_checks, rule_layer_checks, layer_checks}
-use Rattle.sas_meaning.proofs.LayerChecksAreRules.{checks_are_rules}
-use Rattle.sas_output.specs.declared.ending.Status.TheVariants.{Yes}
+use Rattle.sas_answers.proofs.Imports.{◌≡◌, ℕ, ◌+◌, Bool, true, false, if◌then◌else◌, List, [], ◌∷◌, ◌++◌, flat_map, codes, refl, ap, Option, Some, enumerate_from, Operator, Rule, Parts, Check, first_fault, check, LayerFault, can_fire, IsLayered, effect_layer_checks, operator_layer_checks, firing_checks, rule_layer_checks, layer_checks, checks_are_rules, Yes, Output}
 use Rattle.sas_answers.specs.Answers.{layers_refusal, layers_verdict, CheckAnswer}
-use Rattle.sas_output.specs.Ending.{Output}
 use Rattle.sas_answers.proofs.AnswerLaws.{OneAnswer, SomeAnswer}
 
 -- a layered task is said to be so

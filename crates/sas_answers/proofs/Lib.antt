@@ -3,3 +3,4 @@ pub mod CheckAnswers
 pub mod MutexAnswers
 pub mod VerdictAnswers
 pub mod WordedLines
+mod Imports

@@ -1,19 +1,7 @@
 -- A task has an answer about its mutex groups, and only one; and how the answer comes about.
-use Rattle.std.proofs.Common.{◌≡◌, ℕ, ◌+◌, ◌<◌, List, [], ◌∷◌, ◌++◌, length, take, get_or, refl, sym, ap, subst, ◌∙◌, arith, append-nil, Option, Some, None}
-use Rattle.std.proofs.lemmas.List.{take_more, length-take}
-use Rattle.std.proofs.lemmas.Grind.{flat_map-append}
-use Rattle.sas_core.specs.declared.parts.Parts.{Parts}
-use Rattle.sas_core.specs.FirstFault.{first_fault}
-use Rattle.sas_meaning.specs.declared.layered.LayerFault.{LayerFault}
-use Rattle.sas_meaning.specs.Layers.{IsLayered}
-use Rattle.sas_meaning.specs.LayerChecks.{layer_checks}
-use Rattle.sas_meaning.proofs.LayerChecksAreRules.{checks_are_rules}
-use Rattle.sas_lines.specs.Lines.{text}
-use Rattle.sas_groups.specs.declared.verdict.Verdict.{Verdict}
-use Rattle.sas_groups.proofs.JointLists.{one_list, some_list}
+use Rattle.sas_answers.proofs.Imports.{◌≡◌, ℕ, ◌+◌, ◌<◌, List, [], ◌∷◌, ◌++◌, length, take, get_or, refl, sym, ap, subst, ◌∙◌, arith, append-nil, Option, Some, None, take_more, length-take, flat_map-append, Parts, first_fault, LayerFault, IsLayered, layer_checks, checks_are_rules, text, Verdict, one_list, some_list, Output}
 use Rattle.sas_answers.specs.GroupWords.{group_line, verdict_lines_from, verdict_lines, groups_status}
 use Rattle.sas_answers.specs.Answers.{GroupsAnswer, LayeredGroupsAnswer, MutexAnswer}
-use Rattle.sas_output.specs.Ending.{Output}
 use Rattle.sas_answers.proofs.AnswerLaws.{OneAnswer, SomeAnswer}
 use Rattle.sas_answers.proofs.CheckAnswers.{some_check_answer}
 

@@ -1,15 +1,6 @@
 -- There is an answer about a plan, and only one.
-use Rattle.std.proofs.Common.{◌≡◌, refl, sym, ap, ◌∙◌, inl, inr, Some}
-use Rattle.sas_core.specs.declared.parts.Parts.{Parts}
-use Rattle.sas_core.specs.PlanParts.{PlanParts}
-use Rattle.sas_core.specs.WellRanged.{WellRanged}
-use Rattle.sas_meaning.specs.Layers.{IsLayered}
-use Rattle.sas_run.specs.declared.plan_check.PlanFault.{PlanFault}
-use Rattle.sas_run.specs.declared.plan_check.PlanFault.TheVariants.{Memory, NoOperator, NotApplicable, Conflict, GoalMissed, CostDiffers}
-use Rattle.sas_run.specs.Verdicts.{IsFaultOf}
-use Rattle.sas_run.proofs.PlanVerdicts.{some_verdict, valid_has_no_fault, fault_is_one}
+use Rattle.sas_answers.proofs.Imports.{◌≡◌, refl, sym, ap, ◌∙◌, inl, inr, Some, Parts, PlanParts, WellRanged, IsLayered, PlanFault, Memory, NoOperator, NotApplicable, Conflict, GoalMissed, CostDiffers, IsFaultOf, some_verdict, valid_has_no_fault, fault_is_one, Output}
 use Rattle.sas_answers.specs.Answers.{valid_answer, invalid_answer, VerdictAnswer}
-use Rattle.sas_output.specs.Ending.{Output}
 use Rattle.sas_answers.proofs.AnswerLaws.{OneAnswer, SomeAnswer}
 
 pub one_verdict_answer : (p : Parts) → IsLayered p → OneAnswer (VerdictAnswer p)

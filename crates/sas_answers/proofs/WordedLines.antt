@@ -1,9 +1,5 @@
 -- Outputs that are one line with its own words and the answer no.
-use Rattle.std.proofs.Common.{◌≡◌, ℕ, List, refl, sym, ap, Some, None, Option}
-use Rattle.std.specs.Prelude.{option_map}
-use Rattle.std.proofs.lemmas.Option.{none-some}
-use Rattle.sas_output.specs.declared.ending.Status.TheVariants.{No}
-use Rattle.sas_output.specs.Ending.{Output}
+use Rattle.sas_answers.proofs.Imports.{◌≡◌, ℕ, List, refl, sym, ap, Some, None, Option, option_map, none-some, No, Output}
 
 -- the output is a line with these words, and the answer is no
 pub record IsWorded (words : Option (List ℕ)) (line_of : List ℕ → List ℕ) (o : Output) : Type 0 where

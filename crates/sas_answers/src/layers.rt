@@ -1,29 +1,29 @@
 // Whether a task is layered, as an answer.
 ghost use Rattle.std.specs.Prelude.{◌≡◌, Some, None, IfOk, option_map};
 ghost use Rattle.sas_answers.specs.Answers.{layers_refusal, layers_verdict};
-ghost use Rattle.sas_output.specs.Ending.{output_told};
+ghost use Rattle.sas_output.specs.Ending.{output_of};
 ghost use Rattle.sas_answers.specs.LayerWords.{layer_words, layers_line, words_at_part};
 
 use sas_lines::{push_line, push_number};
 use sas_meaning::LayerFault;
-use sas_output::{Status, Told};
+use sas_output::{Status, Answer};
 use std::alloc::{AllocError, Global};
 
 /// Returns the answer about a task that is layered.
-pub fn accept_layers(alloc: Global) -> Result<Told, AllocError>
-    ensures { IfOk result (λ a. layers_verdict None ≡ Some (output_told a)) }
+pub fn accept_layers(alloc: Global) -> Result<Answer, AllocError>
+    ensures { IfOk result (λ a. layers_verdict None ≡ Some (output_of a)) }
 {
-    Ok(Told {
+    Ok(Answer {
         text: Vec::from_slice(alloc, b"task layered\n")?,
         status: Status::Yes,
     })
 }
 
 /// Returns the refusal of a task for a fault of its layers. For `Memory` it returns an `Err`.
-pub fn refuse_layers(alloc: Global, fault: LayerFault) -> Result<Told, AllocError>
-    ensures { IfOk result (λ a. layers_refusal fault ≡ Some (output_told a)) }
+pub fn refuse_layers(alloc: Global, fault: LayerFault) -> Result<Answer, AllocError>
+    ensures { IfOk result (λ a. layers_refusal fault ≡ Some (output_of a)) }
 {
-    Ok(Told {
+    Ok(Answer {
         text: layers_text(alloc, fault)?,
         status: Status::No,
     })

@@ -3,7 +3,7 @@ ghost use Rattle.std.specs.Prelude.{◌≡◌, ◌≢◌, option_map, Some, IfOk
 ghost use Rattle.sas_run.specs.Plans.{IsValid};
 ghost use Rattle.sas_run.specs.Verdicts.{IsFaultOf};
 ghost use Rattle.sas_answers.specs.Answers.{VerdictAnswer, valid_answer, invalid_answer};
-ghost use Rattle.sas_output.specs.Ending.{output_told};
+ghost use Rattle.sas_output.specs.Ending.{output_of};
 ghost use Rattle.sas_answers.specs.PlanWords.{valid_line, fault_words, step_words};
 ghost use Rattle.sas_answers.specs.PlanWords.{goal_words, sum_words, invalid_line};
 
@@ -12,7 +12,7 @@ use sas_core::{Grounded, Stepwise};
 use sas_flat::{FlatPlan, FlatTask};
 use sas_lines::{push_line, push_number};
 use sas_meaning::Layered;
-use sas_output::{Status, Told};
+use sas_output::{Status, Answer};
 use sas_run::{Held, PlanFault, Valid, check_once};
 use std::alloc::{AllocError, Global};
 
@@ -21,8 +21,8 @@ pub fn verdict_answer(
     alloc: Global,
     layered: &Layered<FlatTask>,
     plan: &FlatPlan,
-) -> Result<Told, AllocError>
-    ensures { IfOk result (λ a. VerdictAnswer layered.now plan.now (output_told a)) }
+) -> Result<Answer, AllocError>
+    ensures { IfOk result (λ a. VerdictAnswer layered.now plan.now (output_of a)) }
 {
     match check_plan(alloc, layered, plan) {
         Ok(_) => accept_plan(alloc, plan),
@@ -35,8 +35,8 @@ pub fn answer_by(
     alloc: Global,
     held: &mut Held<Worklist, FlatTask>,
     plan: &FlatPlan,
-) -> Result<Told, AllocError>
-    ensures answer { IfOk result (λ a. VerdictAnswer held.old plan.now (output_told a)) }
+) -> Result<Answer, AllocError>
+    ensures answer { IfOk result (λ a. VerdictAnswer held.old plan.now (output_of a)) }
     ensures same { held.new ≡ held.old }
 {
     match held.check_plan(alloc, plan) {
@@ -46,10 +46,10 @@ pub fn answer_by(
 }
 
 /// Returns the answer about a plan that is valid.
-pub fn accept_plan(alloc: Global, plan: &FlatPlan) -> Result<Told, AllocError>
-    ensures { IfOk result (λ a. output_told a ≡ valid_answer plan.now) }
+pub fn accept_plan(alloc: Global, plan: &FlatPlan) -> Result<Answer, AllocError>
+    ensures { IfOk result (λ a. output_of a ≡ valid_answer plan.now) }
 {
-    Ok(Told {
+    Ok(Answer {
         text: valid_text(alloc, plan.steps(), plan.cost())?,
         status: Status::Yes,
     })
@@ -71,10 +71,10 @@ fn check_plan(
 }
 
 /// Returns the answer about a plan with this cost and this fault. For `Memory` it returns an `Err`.
-pub fn refuse_plan(alloc: Global, cost: u64, fault: PlanFault) -> Result<Told, AllocError>
-    ensures { IfOk result (λ a. invalid_answer cost fault ≡ Some (output_told a)) }
+pub fn refuse_plan(alloc: Global, cost: u64, fault: PlanFault) -> Result<Answer, AllocError>
+    ensures { IfOk result (λ a. invalid_answer cost fault ≡ Some (output_of a)) }
 {
-    Ok(Told {
+    Ok(Answer {
         text: fault_text(alloc, cost, fault)?,
         status: Status::No,
     })

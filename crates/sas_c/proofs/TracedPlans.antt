@@ -1,20 +1,6 @@
 -- Behind a trace stands, as its last line, whether the plan solves the task.
-use Rattle.std.proofs.Common.{◌≡◌, ℕ, List, [], ◌∷◌, ◌++◌, codes, decimal, refl, sym, ap, ◌∙◌, inl, inr, Some}
-use Rattle.std.proofs.lemmas.List.{same_from_push}
-use Rattle.sas_lines.specs.Lines.{lines, text}
-use Rattle.sas_lines.proofs.Splitting.{lines-append, lines-one, unfinished-text}
-use Rattle.sas_reader.proofs.Plain.{plain}
-use Rattle.sas_output.specs.Ending.{Output}
-use Rattle.sas_answers.specs.Answers.{VerdictAnswer}
-use Rattle.sas_answers.specs.PlanWords.{valid_line}
-use Rattle.sas_outputs.specs.Headline.{Headline}
-use Rattle.sas_outputs.specs.Output.{PlanOut, plain_refusal}
-use Rattle.sas_outputs.proofs.Headlines.{tells_valid, headline_of}
-use Rattle.sas_outputs.proofs.PlanOutputs.{plain_refuses}
-use Rattle.sas_requests.specs.TraceOut.{TraceOut}
-use Rattle.sas_requests.proofs.TraceLaws.{trace_ends}
-use Rattle.sas_plans.proofs.PlanLines.{IsLine, valid_plain, verdict_line, task_refused}
-use Rattle.sas_c.specs.Telling.{EndsInLine}
+use Rattle.sas_c.proofs.Imports.{◌≡◌, ℕ, List, [], ◌∷◌, ◌++◌, codes, decimal, refl, sym, ap, ◌∙◌, inl, inr, Some, same_from_push, lines, text, lines-append, lines-one, unfinished-text, plain, Output, VerdictAnswer, valid_line, Headline, PlanOut, plain_refusal, reports_valid, headline_of, plain_refuses, TraceOut, trace_ends, IsLine, valid_plain, verdict_line, task_refused}
+use Rattle.sas_c.specs.Reporting.{EndsInLine}
 
 -- ---- the last line of a text
 
@@ -48,12 +34,12 @@ plan_line b c o (inr (p, reads, layered, out)) = verdict_line p c o out
 pub traced_headline : (b c : List ℕ) (traced : Output) → TraceOut b c (Some traced) → Headline b c (EndsInLine traced.text) traced.status
 traced_headline b c traced out =
     let (plain, its, ends) = trace_ends b c traced out in
-    let told = headline_of VerdictAnswer plain_refusal tells_valid plain_refuses b c plain its (Some []) (Some plain.text) [] traced.status refl ends.status refl in
+    let reported = headline_of VerdictAnswer plain_refusal reports_valid plain_refuses b c plain its (Some []) (Some plain.text) [] traced.status refl ends.status refl in
     let is_line = plan_line b c plain its in
     record {
       line = λ steps cost. (
-        λ last. (told.line steps cost).0 (same_last ends.front last.0 plain.text (valid_line steps cost) is_line (valid_is_line steps cost) (sym ends.whole ∙ last.1)),
-        λ solves. (ends.front, ends.whole ∙ ap (λ (x : List ℕ). text ends.front ++ x) ((told.line steps cost).1 solves)),
+        λ last. (reported.line steps cost).0 (same_last ends.front last.0 plain.text (valid_line steps cost) is_line (valid_is_line steps cost) (sym ends.whole ∙ last.1)),
+        λ solves. (ends.front, ends.whole ∙ ap (λ (x : List ℕ). text ends.front ++ x) ((reported.line steps cost).1 solves)),
       );
-      yes = told.yes;
+      yes = reported.yes;
     }

@@ -1,4 +1,4 @@
 pub mod TaskPointers
-pub mod Telling
+pub mod Reporting
 pub mod Holding
 pub mod Written

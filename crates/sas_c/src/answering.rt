@@ -3,9 +3,9 @@ ghost use Rattle.std.specs.Prelude.{◌≡◌};
 ghost use Rattle.sas_outputs.specs.Output.{Out};
 ghost use Rattle.sas_requests.specs.Why.{OutWhy};
 ghost use Rattle.sas_requests.specs.TraceOut.{TraceOut};
-ghost use Rattle.sas_c.specs.Telling.{Returns};
+ghost use Rattle.sas_c.specs.Reporting.{Returns};
 
-use crate::telling::tell_ended;
+use crate::reporting::report_ended;
 use sas_lines::Watched;
 use sas_requests::{Request, explain, run, trace};
 use std::alloc::Global;
@@ -42,7 +42,7 @@ pub fn answer(alloc: Global, asked: Asked<'_>, room: &mut [u8], size: &mut usize
     let mut plan = Watched::new(asked.plan);
     let mut text = Watched::new(Vec::new(alloc));
     let ended = run(alloc, asked.request, &mut task, &mut plan, &mut text);
-    tell_ended(ended, text, room, size)
+    report_ended(ended, text, room, size)
 }
 
 /// Writes the answer to the request, with the reasons for a no.
@@ -54,7 +54,7 @@ pub fn answer_why(alloc: Global, asked: Asked<'_>, room: &mut [u8], size: &mut u
     let mut plan = Watched::new(asked.plan);
     let mut text = Watched::new(Vec::new(alloc));
     let ended = explain(alloc, asked.request, &mut task, &mut plan, &mut text);
-    tell_ended(ended, text, room, size)
+    report_ended(ended, text, room, size)
 }
 
 /// Writes the trace of the plan, and then the answer about it.
@@ -71,5 +71,5 @@ pub fn answer_trace(
     let mut plan = Watched::new(plan);
     let mut text = Watched::new(Vec::new(alloc));
     let ended = trace(alloc, &mut task, &mut plan, &mut text);
-    tell_ended(ended, text, room, size)
+    report_ended(ended, text, room, size)
 }

@@ -11,7 +11,7 @@ mod requests;
 mod sas_task;
 mod task_pointer;
 mod tasks;
-mod telling;
+mod reporting;
 
 pub use prepared::Prepared;
 pub use sas_task::SasTask;

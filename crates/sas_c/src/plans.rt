@@ -7,13 +7,13 @@ ghost use Rattle.sas_trace.specs.Traced.{TraceVerdict};
 ghost use Rattle.sas_requests.specs.FileReasons.{PlanFileReasons};
 ghost use Rattle.sas_requests.specs.Why.{OutWhy, WithReasons};
 ghost use Rattle.sas_requests.specs.TraceOut.{TraceOut};
-ghost use Rattle.sas_c.specs.Telling.{Returns, ReturnsHeadline, ReturnsLastLine};
+ghost use Rattle.sas_c.specs.Reporting.{Returns, ReturnsHeadline, ReturnsLastLine};
 ghost use Rattle.sas_c.specs.Holding.{HoldsTask};
 
 use crate::numbers::{NO_TASK, number_without};
 use crate::prepared::Prepared;
 use crate::sas_task::SasTask;
-use crate::telling::{tell_ended, tell_told};
+use crate::reporting::{report_ended, return_answer};
 use sas_lines::Watched;
 use sas_plans::judge_bytes;
 use sas_requests::{Request, explain_bytes, trace_bytes};
@@ -119,7 +119,7 @@ fn judge(
     ensures same { prepared.new ≡ prepared.old }
 {
     match judge_bytes(alloc, &mut prepared.held, plan) {
-        Ok(told) => tell_told(told, room, size),
+        Ok(reported) => return_answer(reported, room, size),
         Err(fault) => number_without(fault),
     }
 }
@@ -138,7 +138,7 @@ fn explain(
 {
     let mut text = Watched::new(Vec::new(alloc));
     let ended = explain_bytes(alloc, prepared.held.layered(), plan, &mut text);
-    tell_ended(ended, text, room, size)
+    report_ended(ended, text, room, size)
 }
 
 /// Writes the trace of the plan, and then whether it solves the task.
@@ -148,5 +148,5 @@ fn trace(alloc: Global, prepared: &Prepared, plan: &[u8], room: &mut [u8], size:
 {
     let mut text = Watched::new(Vec::new(alloc));
     let ended = trace_bytes(alloc, prepared.held.layered(), plan, &mut text);
-    tell_ended(ended, text, room, size)
+    report_ended(ended, text, room, size)
 }

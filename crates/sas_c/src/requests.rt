@@ -4,7 +4,7 @@ ghost use Rattle.std.specs.Prelude.{[]};
 ghost use Rattle.sas_outputs.specs.Output.{ShowOut, PrintOut, StepsOut, CheckOut, MutexOut, PlanOut};
 ghost use Rattle.sas_requests.specs.Why.{OutWhy};
 ghost use Rattle.sas_requests.specs.TraceOut.{TraceOut};
-ghost use Rattle.sas_c.specs.Telling.{Returns, ReturnsHeadline, ReturnsInvariants, ReturnsLastLine};
+ghost use Rattle.sas_c.specs.Reporting.{Returns, ReturnsHeadline, ReturnsInvariants, ReturnsLastLine};
 
 use crate::answering::{Asked, answer, answer_trace, answer_why};
 use sas_requests::Request;

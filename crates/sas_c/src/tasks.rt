@@ -2,13 +2,13 @@
 ghost use Rattle.std.specs.Prelude.{◌≡◌, Some, None};
 ghost use Rattle.sas_answers.specs.Answers.{layers_verdict};
 ghost use Rattle.sas_outputs.specs.Output.{CheckOut};
-ghost use Rattle.sas_c.specs.Telling.{Returns};
+ghost use Rattle.sas_c.specs.Reporting.{Returns};
 ghost use Rattle.sas_c.specs.Holding.{HoldsTask};
 
 use crate::numbers::{OUT_OF_MEMORY, YES, number_without};
 use crate::prepared::Prepared;
 use crate::sas_task::SasTask;
-use crate::telling::{tell, tell_told};
+use crate::reporting::{report, return_answer};
 use sas_axioms::Worklist;
 use sas_flat::FlatTask;
 use sas_output::Status;
@@ -34,7 +34,7 @@ pub extern "C" fn sas_task_read(
     drop(before);
     match open_task(alloc, bytes) {
         Ok(Opening::Ready(held)) => hold(alloc, task, held, room, size),
-        Ok(Opening::Refused(told)) => tell_told(told, room, size),
+        Ok(Opening::Refused(reported)) => return_answer(reported, room, size),
         Err(fault) => number_without(fault),
     }
 }
@@ -62,20 +62,20 @@ fn hold(
     ensures none { (result ≡ 0 → ⊥) → task.new.pointer.task ≡ None }
 {
     match Prepared::boxed(alloc, held) {
-        Some(prepared) => tell_held(task, prepared, room, size),
+        Some(prepared) => report_held(task, prepared, room, size),
         None => OUT_OF_MEMORY,
     }
 }
 
 /// Writes that the task is layered, and holds it if there is room for that.
-fn tell_held(task: &mut SasTask, prepared: Box<Prepared>, room: &mut [u8], size: &mut usize) -> u32
+fn report_held(task: &mut SasTask, prepared: Box<Prepared>, room: &mut [u8], size: &mut usize) -> u32
     requires { task.old.pointer.task ≡ None }
     ensures answers { Returns (λ output. output ≡ layers_verdict None)
         room.old room.new size.new result }
     ensures held { result ≡ 0 → task.new.pointer.task ≡ Some prepared.value }
     ensures none { (result ≡ 0 → ⊥) → task.new.pointer.task ≡ None }
 {
-    let number = tell(b"task layered\n", Status::Yes, room, size);
+    let number = report(b"task layered\n", Status::Yes, room, size);
     if number == YES {
         task.put(prepared);
     } else {

@@ -1,18 +1,8 @@
 -- Groups are removed from a family one by one, until the greatest family is left.
-use Rattle.std.proofs.Common.{◌≡◌, ℕ, ◌<◌, ◌≤◌, Bool, true, false, List, [], ◌∷◌, ◌++◌, length, get_or, set, drop, refl, sym, ◌∙◌, ap, subst, inl, inr, arith}
-use Rattle.std.proofs.lemmas.Bool.{cases_eq, cases_Bool, both_ways}
-use Rattle.std.proofs.lemmas.List.{append-nil, append_assoc, drop_all, drop_at, length-append, length-set, get_or-set_same, get_or-set_other}
-use Rattle.std.proofs.lemmas.List.Elements.{All-nil, All-cons, All-append, All-from_get_or, Contains-append_left, Contains-append_right, Contains-push, Contains-push_cases, Contains-append_cases}
-use Rattle.std.specs.List.{All, Contains}
-use Rattle.sas_core.specs.declared.parts.Operator.{Operator}
-use Rattle.sas_core.specs.declared.parts.Parts.{Parts}
-use Rattle.sas_core.specs.Grounded.{operator_at, effect_at, group_at}
-use Rattle.sas_groups.specs.Clashes.{Keeps, Clash, sets}
-use Rattle.sas_groups.specs.Lists.{known}
-use Rattle.sas_groups.specs.Families.{IsIn, IsGroupOf, IsGroupOfOr, IsKeptJointly, IsGreatest}
-use Rattle.sas_groups.proofs.GreatestFamily.{group_of_larger, keeps_more}
+use Rattle.sas_mutex.proofs.Imports.{◌≡◌, ℕ, ◌<◌, ◌≤◌, Bool, true, false, List, [], ◌∷◌, ◌++◌, length, get_or, set, drop, refl, sym, ◌∙◌, ap, subst, inl, inr, arith, cases_eq, cases_Bool, both_ways, append_assoc, drop_all, drop_at, length-append, length-set, get_or-set_same, get_or-set_other, All-nil, All-cons, All-append, All-from_get_or, Contains-append_left, Contains-append_right}
+use Rattle.sas_mutex.proofs.Imports.{Contains-push, Contains-push_cases, Contains-append_cases, All, Contains, Operator, Parts, operator_at, effect_at, group_at, Keeps, Clash, sets, known, IsIn, IsGroupOf, IsGroupOfOr, IsKeptJointly, IsGreatest, group_of_larger, keeps_more, family_of}
+use Rattle.std.proofs.lemmas.List.{append-nil}
 use Rattle.sas_mutex.specs.declared.family.Family.{Family}
-use Rattle.sas_groups.specs.Kept.{family_of}
 use Rattle.sas_mutex.specs.Effects.{IsKept, EffectKeeps, KeepsAt, KeepsWithItself}
 use Rattle.sas_mutex.specs.Basis.{Grows}
 use Rattle.sas_mutex.specs.Falling.{IsAtRest, AreCandidates, newly, Falls}

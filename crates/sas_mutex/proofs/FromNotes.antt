@@ -1,35 +1,12 @@
 -- What the notes of facts that don't clash imply for another fact.
-use Rattle.std.proofs.Common.{◌≡◌, ◌≢◌, ◌⊎◌, ℕ, ◌<◌, Bool, [], length, get_or, List, ◌∷◌, ◌++◌, None, Some, subst, refl, sym, ap, ◌∙◌, inl, inr, append-nil}
-use Rattle.std.specs.List.{All, Contains}
-use Rattle.std.proofs.lemmas.Bool.{cases_eq}
-use Rattle.std.proofs.lemmas.List.{get_or_default}
-use Rattle.std.proofs.lemmas.List.Elements.{Contains-append_left, Contains-append_right, Contains-append_cases, Contains-push, Contains-push_cases, Contains-get_or}
-use Rattle.sas_core.specs.declared.parts.Fact.{Fact}
-use Rattle.sas_core.specs.declared.parts.Effect.{Effect}
-use Rattle.sas_core.specs.declared.parts.Operator.{Operator}
-use Rattle.sas_core.specs.declared.parts.Parts.{Parts}
-use Rattle.sas_core.specs.Grounded.{effect_at, group_at}
-use Rattle.sas_core.specs.Variables.{FactExists}
-use Rattle.sas_meaning.specs.Steps.{preconditions}
-use Rattle.sas_groups.specs.Clashes.{Contradict, Clash, IsRemoved}
-use Rattle.sas_groups.specs.Families.{IsIn}
-use Rattle.sas_groups.specs.Lists.{known}
-use Rattle.sas_groups.specs.declared.index.Index.{Index}
+use Rattle.sas_mutex.proofs.Imports.{◌≡◌, ◌≢◌, ◌⊎◌, ℕ, ◌<◌, Bool, [], length, get_or, List, ◌∷◌, ◌++◌, None, Some, subst, refl, sym, ap, ◌∙◌, inl, inr, append-nil, All, Contains, cases_eq, get_or_default, Contains-append_left, Contains-append_right, Contains-append_cases, Contains-push, Contains-push_cases, Contains-get_or, Fact, Effect, Operator, Parts, effect_at, group_at, FactExists}
+use Rattle.sas_mutex.proofs.Imports.{preconditions, Contradict, Clash, IsRemoved, IsIn, known, Index, Notes, IsGone, clash_more, group_of_larger, family_of, IsIndexOf, HasFact, groups_of, value_note, group_note, IsOfGroupBeside, HasOtherValue, HasNotedGroup, ShareKept, SharesApart, WellRanged, variable_below, a_note, apart_or_not, one_or_two, value_note_shows, no_value_note_shows, no_note_shows}
+use Rattle.sas_mutex.proofs.Imports.{some_note_shows, shared_turned}
 use Rattle.sas_mutex.specs.declared.marks.Marks.{Marks}
-use Rattle.sas_groups.specs.declared.notes.Notes.{Notes}
-use Rattle.sas_groups.specs.Checks.{IsGone}
-use Rattle.sas_groups.proofs.GreatestFamily.{clash_more, group_of_larger}
-use Rattle.sas_groups.specs.Kept.{family_of}
 use Rattle.sas_mutex.specs.Effects.{IsKept, EffectKeeps}
-use Rattle.sas_groups.specs.Index.{IsIndexOf, HasFact, groups_of}
-use Rattle.sas_groups.specs.Notes.{value_note, group_note, IsOfGroupBeside}
-use Rattle.sas_groups.specs.Noting.{HasOtherValue, HasNotedGroup, ShareKept, SharesApart}
-use Rattle.sas_core.specs.WellRanged.{WellRanged}
 use Rattle.sas_mutex.specs.Firing.{EffectPlace, operator_of, effect_of}
 use Rattle.sas_mutex.proofs.TaskFacts.{known_at_exist, conditions_exist}
 use Rattle.sas_mutex.specs.ByNotes.{IsNotedAt, ShareOne, AreKnown, IsMet, RemovesByNotes, SomeRemoves, AreGone, IsNotedFor, known_at}
-use Rattle.sas_groups.proofs.Existing.{variable_below}
-use Rattle.sas_groups.proofs.NotesOfFacts.{a_note, apart_or_not, one_or_two, value_note_tells, no_value_note_tells, no_note_tells, some_note_tells, shared_turned}
 use Rattle.sas_mutex.proofs.KnownFacts.{contradict_turned, not_itself, shares_contradicts, contradicts_shares, share_one, share_kept}
 
 -- the effect exists, and the index is that of its task
@@ -87,7 +64,7 @@ module _ (at : EffectPlace) (index : Index) (fits : IsFiring at index) (kept : L
     record { var = fact.var; value = value },
     itself,
     also (record { var = fact.var; value = value })
-        (value_note_tells before fact.var value (value_note notes.values fact.var) (are.noted.values fact.var on_variable) at),
+        (value_note_shows before fact.var value (value_note notes.values fact.var) (are.noted.values fact.var on_variable) at),
     inl (refl, λ e. differs (sym e)),
   )
 
@@ -102,7 +79,7 @@ module _ (at : EffectPlace) (index : Index) (fits : IsFiring at index) (kept : L
       ]
 
   pub noted_no_clash : value_note notes.values fact.var ≡ Some fact.value → Clash (IsKept p kept) with → ⊥
-  noted_no_clash at = there_no_clash (value_note_tells before fact.var fact.value (value_note notes.values fact.var) (are.noted.values fact.var on_variable) at)
+  noted_no_clash at = there_no_clash (value_note_shows before fact.var fact.value (value_note notes.values fact.var) (are.noted.values fact.var on_variable) at)
 
   -- where no fact is known on its variable, the fact clashes if a group that is kept has it and a
   -- known one
@@ -111,7 +88,7 @@ module _ (at : EffectPlace) (index : Index) (fits : IsFiring at index) (kept : L
 
   module _ (none : value_note notes.values fact.var ≡ None) where
     not_on : (g : Fact) → Contains before g → fact.var ≢ g.var
-    not_on g known_g e = no_value_note_tells before fact.var (value_note notes.values fact.var) (are.noted.values fact.var on_variable) none g known_g (sym e)
+    not_on g known_g e = no_value_note_shows before fact.var (value_note notes.values fact.var) (are.noted.values fact.var on_variable) none g known_g (sym e)
 
     pub shared_clashes : (g : Fact) → Contains before g → ShareKept index kept fact g → Clash (IsKept p kept) with
     shared_clashes g known_g share = (
@@ -158,7 +135,7 @@ module _ (at : EffectPlace) (index : Index) (fits : IsFiring at index) (kept : L
       → (g : Fact) × Contains before g × (notes.apart ≢ Some g) × ShareOne p kept g fact
   noted_beside noted =
       let has : HasFact p noted.place fact = (indexed.groups fact exists noted.place).0 noted.among in
-      let (g, beside) = some_note_tells (IsOfGroupBeside p before notes.apart noted.place) (group_note notes.groups noted.place) (are.noted.groups noted.place has.exists) noted.some in (
+      let (g, beside) = some_note_shows (IsOfGroupBeside p before notes.apart noted.place) (group_note notes.groups noted.place) (are.noted.groups noted.place has.exists) noted.some in (
         g,
         beside.of.among,
         beside.beside,
@@ -175,26 +152,26 @@ module _ (at : EffectPlace) (index : Index) (fits : IsFiring at index) (kept : L
     place = share.place;
     among = (indexed.groups fact exists share.place).1 (record { exists = share.in_family.exists; among = share.second });
     kept_there = share.in_family.chosen;
-    some = λ nothing. no_note_tells (IsOfGroupBeside p before notes.apart share.place) (group_note notes.groups share.place) (are.noted.groups share.place share.in_family.exists) nothing
+    some = λ nothing. no_note_shows (IsOfGroupBeside p before notes.apart share.place) (group_note notes.groups share.place) (are.noted.groups share.place share.in_family.exists) nothing
         g (record { of = record { among = known_g; has = record { exists = share.in_family.exists; among = share.first } }; beside = ne });
   }
 
   -- a condition that exists is met if it is one of the facts that are known then
   met_is_in : (c : Fact) → FactExists p.variables c → IsMet notes fact c → Contains with c
   met_is_in c real (inl e) = subst (λ (x : Fact). Contains with x) (sym e) itself
-  met_is_in c real (inr at) = also c (value_note_tells before c.var c.value (value_note notes.values c.var) (are.noted.values c.var (variable_below p c real)) at)
+  met_is_in c real (inr at) = also c (value_note_shows before c.var c.value (value_note notes.values c.var) (are.noted.values c.var (variable_below p c real)) at)
 
   in_is_met : (c : Fact) → FactExists p.variables c → Contains with c → IsMet notes fact c
   in_is_met c real in_all = elim (either c in_all) [
     | inr e ↦ inl (sym e)
     | inl in_before ↦ inr (elim (a_note (value_note notes.values c.var)) [
-      | inl none ↦ absurd (no_value_note_tells before c.var (value_note notes.values c.var) (are.noted.values c.var (variable_below p c real)) none c in_before refl)
+      | inl none ↦ absurd (no_value_note_shows before c.var (value_note notes.values c.var) (are.noted.values c.var (variable_below p c real)) none c in_before refl)
       | inr w ↦ elim (cases_eq w.0 c.value) [
         | inl e ↦ w.1 ∙ ap (λ v. Some v) e
         | inr differs ↦ absurd (are.apart (
           record { var = c.var; value = w.0 },
           c,
-          value_note_tells before c.var w.0 (value_note notes.values c.var) (are.noted.values c.var (variable_below p c real)) w.1,
+          value_note_shows before c.var w.0 (value_note notes.values c.var) (are.noted.values c.var (variable_below p c real)) w.1,
           in_before,
           inl (refl, differs),
         ))

@@ -1,20 +1,10 @@
 -- Facts of a group that can't remain, run by run.
-use Rattle.std.proofs.Common.{◌≡◌, ℕ, ◌+◌, ◌<◌, ◌≤◌, length, get_or, take, drop, Bool, List, [], ◌∷◌, ◌++◌, Some, refl, sym, ap, subst, ◌∙◌, append_assoc, append-nil, inl, inr, arith}
-use Rattle.std.specs.List.{All, Contains}
-use Rattle.std.proofs.lemmas.Bool.{cases_eq}
-use Rattle.std.proofs.lemmas.List.{take-append-drop, drop_more}
-use Rattle.std.proofs.lemmas.List.Elements.{All-nil, All-append, All-contains, Contains-append_left, Contains-append_right, Contains-get_or}
-use Rattle.sas_core.specs.declared.parts.Fact.{Fact}
-use Rattle.sas_core.specs.Variables.{FactExists}
-use Rattle.sas_groups.specs.declared.index.Index.{Index}
-use Rattle.sas_groups.specs.Notes.{value_note}
+use Rattle.sas_mutex.proofs.Imports.{◌≡◌, ℕ, ◌+◌, ◌<◌, ◌≤◌, length, get_or, take, drop, Bool, List, [], ◌∷◌, ◌++◌, Some, refl, sym, ap, subst, ◌∙◌, append-nil, inl, inr, arith, All, Contains, cases_eq, take-append-drop, drop_more, All-nil, All-append, All-contains, Contains-append_left, Contains-append_right, Contains-get_or, Fact, FactExists, Index, value_note, AreDistinct, AreOnOne, AreRuns}
+use Rattle.sas_mutex.proofs.Imports.{variable_below, a_note, value_note_shows}
+use Rattle.std.proofs.Common.{append_assoc}
 use Rattle.sas_mutex.specs.ByNotes.{IsNotedAt, IsUnknownAt, IsGoneAt, IsDecidedByFirst, known_at}
 use Rattle.sas_mutex.specs.declared.marks.Marks.{Marks}
 use Rattle.sas_mutex.specs.Firing.{EffectPlace, effect_of}
-use Rattle.sas_groups.specs.Distinct.{AreDistinct}
-use Rattle.sas_groups.specs.Runs.{AreOnOne, AreRuns}
-use Rattle.sas_groups.proofs.Existing.{variable_below}
-use Rattle.sas_groups.proofs.NotesOfFacts.{a_note, value_note_tells}
 use Rattle.sas_mutex.proofs.FromNotes.{IsFiring, other_value_clashes}
 
 -- of the facts of a run that is settled none is known, so that what is noted for their variable is
@@ -33,7 +23,7 @@ settled_are_gone f index fits kept marks noted run exist (var, on_it) unknown se
       | inr some_value ↦ elim (a_note (value_note values fact.var)) [
         | inl none ↦ absurd (some_value (ap (value_note values) same ∙ none))
         | inr w ↦ elim (cases_eq w.0 fact.value) [
-          | inl its ↦ absurd (unknown k d below (value_note_tells (known_at f.task f.operator f.effect) fact.var fact.value (value_note values fact.var)
+          | inl its ↦ absurd (unknown k d below (value_note_shows (known_at f.task f.operator f.effect) fact.var fact.value (value_note values fact.var)
               (noted.noted.are.noted.values fact.var (variable_below f.task fact exists)) (w.1 ∙ ap (λ v. Some v) its)))
           | inr differs ↦ inl (other_value_clashes f index fits kept marks noted fact exists (w.0, w.1, differs))
         ]

@@ -1,13 +1,5 @@
 -- The verdicts before operators are checked.
-use Rattle.std.proofs.Common.{◌≢◌, ℕ, ◌<◌, List, refl, sym, subst}
-use Rattle.std.specs.List.{All}
-use Rattle.sas_core.specs.declared.parts.Parts.{Parts}
-use Rattle.sas_core.specs.Grounded.{group_at}
-use Rattle.sas_groups.specs.declared.verdict.Verdict.{Verdict}
-use Rattle.sas_groups.specs.declared.verdict.Verdict.TheVariants.{Derived, Initial, Broken, Exclusive}
-use Rattle.sas_groups.specs.Checks.{IsFirstVerdict}
-use Rattle.sas_groups.specs.Verdicts.{IsJointVerdict}
-use Rattle.sas_groups.specs.Joint.{verdict_at, AreJointVerdicts}
+use Rattle.sas_mutex.proofs.Imports.{◌≢◌, ℕ, ◌<◌, List, refl, sym, subst, All, Parts, group_at, Verdict, Derived, Initial, Broken, Exclusive, IsFirstVerdict, IsJointVerdict, verdict_at, AreJointVerdicts}
 use Rattle.sas_mutex.specs.Judging.{AreFirstVerdicts}
 
 -- where no group may be exclusive, the verdicts before operators are checked are the joint ones

@@ -1,17 +1,6 @@
 -- What an effect preserves if more or fewer groups are assumed, and what an operator preserves if
 -- all its effects do.
-use Rattle.std.proofs.Common.{ℕ, ◌<◌, List, [], ◌∷◌, length, None, subst, inl, inr}
-use Rattle.std.proofs.lemmas.List.Elements.{Contains-get_or}
-use Rattle.std.specs.List.{Contains}
-use Rattle.sas_core.specs.declared.parts.Fact.{Fact}
-use Rattle.sas_core.specs.declared.parts.Effect.{Effect}
-use Rattle.sas_core.specs.declared.parts.Operator.{Operator}
-use Rattle.sas_core.specs.Grounded.{effect_at}
-use Rattle.sas_groups.specs.Clashes.{Clash, Keeps, sets}
-use Rattle.sas_groups.specs.Lists.{known}
-use Rattle.sas_groups.proofs.Effects.{place_of}
-use Rattle.sas_groups.proofs.GreatestFamily.{clash_more}
-use Rattle.sas_groups.specs.Checks.{NotBoth}
+use Rattle.sas_mutex.proofs.Imports.{ℕ, ◌<◌, List, [], ◌∷◌, length, None, subst, inl, inr, Contains-get_or, Contains, Fact, Effect, Operator, effect_at, Clash, Keeps, sets, known, place_of, clash_more, NotBoth}
 use Rattle.sas_mutex.specs.Effects.{EffectKeeps}
 
 -- what clashes where some groups count clashes where others do

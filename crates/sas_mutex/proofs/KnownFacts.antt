@@ -1,28 +1,9 @@
 -- Which facts are known according to the notes, and that they don't clash.
-use Rattle.std.proofs.Common.{◌≡◌, ◌≢◌, ◌⊎◌, ℕ, ◌<◌, Bool, [], length, get_or, List, ◌∷◌, ◌++◌, Option, None, Some, subst, refl, sym, ap, ◌∙◌, inl, inr, arith}
-use Rattle.std.specs.List.{All, Contains}
-use Rattle.std.specs.Option.{option_to_list}
-use Rattle.std.specs.Prelude.{IfSome}
-use Rattle.std.proofs.lemmas.Bool.{cases_eq}
-use Rattle.std.proofs.lemmas.List.{get_or_default, get_or-set_same, get_or-set_other}
-use Rattle.std.proofs.lemmas.List.Elements.{All-contains, Contains-append_left, Contains-push, Contains-push_cases}
-use Rattle.sas_core.specs.declared.parts.Fact.{Fact}
-use Rattle.sas_core.specs.declared.parts.Parts.{Parts}
-use Rattle.sas_core.specs.Grounded.{group_at}
-use Rattle.sas_core.specs.Variables.{FactExists}
-use Rattle.sas_groups.specs.Clashes.{Contradict, Clash}
-use Rattle.sas_groups.specs.declared.index.Index.{Index}
-use Rattle.sas_groups.specs.declared.notes.Notes.{Notes}
-use Rattle.sas_groups.specs.declared.notes.Noted.{Noted}
-use Rattle.sas_groups.specs.declared.notes.Noted.TheVariants.{Nothing, One, Several}
+use Rattle.sas_mutex.proofs.Imports.{◌≡◌, ◌≢◌, ◌⊎◌, ℕ, ◌<◌, Bool, [], length, get_or, List, ◌∷◌, ◌++◌, Option, None, Some, subst, refl, sym, ap, ◌∙◌, inl, inr, arith, All, Contains, option_to_list, IfSome, cases_eq, get_or_default, get_or-set_same, get_or-set_other, All-contains, Contains-append_left, Contains-push, Contains-push_cases, Fact, Parts, group_at, FactExists, Contradict, Clash, Index}
+use Rattle.sas_mutex.proofs.Imports.{Notes, Noted, Nothing, One, Several, IsIndexOf, HasFact, groups_of, value_note, group_note, IsWide, AreBlank, AreFrom, IsValueNote, IsOfGroup, IsOfGroupBeside, IsNoteOf, IsGroupNote, NotesForGroup, ShareKept, IsContradicted, ChangesAt, IsThere, NotesFirstFact, IsSetApart, in_none, is_among, variable_below, none_or_some, same_inside, apart_or_not}
+use Rattle.sas_mutex.proofs.Imports.{value_note_shows, no_value_note_shows, value_note_of, note_stays, note_changes, other_known, no_other, from_apart, noted_still}
 use Rattle.sas_mutex.specs.Effects.{IsKept}
-use Rattle.sas_groups.specs.Index.{IsIndexOf, HasFact, groups_of}
-use Rattle.sas_groups.specs.Notes.{value_note, group_note, IsWide, AreBlank, AreFrom, IsValueNote, IsOfGroup, IsOfGroupBeside, IsNoteOf, IsGroupNote}
-use Rattle.sas_groups.specs.Noting.{NotesForGroup, ShareKept, IsContradicted, ChangesAt, IsThere, NotesFirstFact, IsSetApart}
 use Rattle.sas_mutex.specs.ByNotes.{ShareOne, AreKnown}
-use Rattle.sas_groups.proofs.InLists.{in_none, is_among}
-use Rattle.sas_groups.proofs.Existing.{variable_below}
-use Rattle.sas_groups.proofs.NotesOfFacts.{none_or_some, same_inside, apart_or_not, value_note_tells, no_value_note_tells, value_note_of, note_stays, note_changes, other_known, no_other, from_apart, noted_still}
 
 -- where several are, they clash if the group counts
 pub several_clash : (p : Parts) (Counts : List Fact → Type 0) (facts : List Fact) (place : ℕ) → Counts (group_at p place)
@@ -186,8 +167,8 @@ module _ (p : Parts) (index : Index) (kept : List Bool) (before : List Fact) (ol
   known_already new is_there = known_same p kept (before ++ fact ∷ []) old new is_there.same_values is_there.same_groups is_there.same_apart record {
     noted = record {
       values = λ var lt. value_note_of (before ++ fact ∷ []) var (value_note old.values var)
-          (λ value at. Contains-append_left before (fact ∷ []) (record { var = var; value = value }) (value_note_tells before var value (value_note old.values var) (known.noted.values var lt) at))
-          (λ none f in_all. no_value_note_tells before var (value_note old.values var) (known.noted.values var lt) none f (was_in f in_all));
+          (λ value at. Contains-append_left before (fact ∷ []) (record { var = var; value = value }) (value_note_shows before var value (value_note old.values var) (known.noted.values var lt) at))
+          (λ none f in_all. no_value_note_shows before var (value_note old.values var) (known.noted.values var lt) none f (was_in f in_all));
       groups = λ place lt. note_stays (IsOfGroupBeside p before old.apart place) (IsOfGroupBeside p (before ++ fact ∷ []) old.apart place) fact
           (λ f was. record { of = record { among = Contains-append_left before (fact ∷ []) f was.of.among; has = was.of.has }; beside = was.beside })
           (λ f is. inl (back place f is)) (group_note old.groups place) (back place) (known.noted.groups place lt);
@@ -197,7 +178,7 @@ module _ (p : Parts) (index : Index) (kept : List Bool) (before : List Fact) (ol
   }
     where
       here : Contains before fact
-      here = value_note_tells before fact.var fact.value (value_note old.values fact.var) (known.noted.values fact.var on_variable) is_there.noted
+      here = value_note_shows before fact.var fact.value (value_note old.values fact.var) (known.noted.values fact.var on_variable) is_there.noted
 
       was_in : (f : Fact) → Contains (before ++ fact ∷ []) f → Contains before f
       was_in f in_all = elim (Contains-push_cases before fact f in_all) [
@@ -213,7 +194,7 @@ module _ (p : Parts) (index : Index) (kept : List Bool) (before : List Fact) (ol
       → (g : Fact) × Contains before g × Contradict (IsKept p kept) fact g
   refused (inl (value, at, differs)) = (
     record { var = fact.var; value = value },
-    value_note_tells before fact.var value (value_note old.values fact.var) (known.noted.values fact.var on_variable) at,
+    value_note_shows before fact.var value (value_note old.values fact.var) (known.noted.values fact.var on_variable) at,
     inl (refl, λ e. differs (sym e)),
   )
   refused (inr (inl is)) =
@@ -233,13 +214,13 @@ module _ (p : Parts) (index : Index) (kept : List Bool) (before : List Fact) (ol
     one,
     among,
     shares_contradicts p index kept fact one indexed exists (there one among)
-        (λ e. no_value_note_tells before fact.var (value_note old.values fact.var) (known.noted.values fact.var on_variable) none one among (ap (λ (x : Fact). x.var) (sym e)))
+        (λ e. no_value_note_shows before fact.var (value_note old.values fact.var) (known.noted.values fact.var on_variable) none one among (ap (λ (x : Fact). x.var) (sym e)))
         share,
   ))
 
   module _ (new : Notes) (is : NotesFirstFact index kept fact old new) where
     none_on_variable : (f : Fact) → Contains before f → f.var ≢ fact.var
-    none_on_variable = no_value_note_tells before fact.var (value_note old.values fact.var) (known.noted.values fact.var on_variable) is.none
+    none_on_variable = no_value_note_shows before fact.var (value_note old.values fact.var) (known.noted.values fact.var on_variable) is.none
 
     not_before : Contains before fact → ⊥
     not_before in_before = none_on_variable fact in_before refl
@@ -283,9 +264,9 @@ module _ (p : Parts) (index : Index) (kept : List Bool) (before : List Fact) (ol
           (λ none. absurd (none_or_some fact.value (value_note new.values fact.var) none value_here)))
       | inr ne ↦ value_note_of (before ++ fact ∷ []) var (value_note new.values var)
           (λ value at. Contains-append_left before (fact ∷ []) (record { var = var; value = value })
-          (value_note_tells before var value (value_note old.values var) (known.noted.values var lt) (sym (value_elsewhere var ne) ∙ at)))
+          (value_note_shows before var value (value_note old.values var) (known.noted.values var lt) (sym (value_elsewhere var ne) ∙ at)))
           (λ none f in_all on. elim (Contains-push_cases before fact f in_all) [
-            | inl in_before ↦ no_value_note_tells before var (value_note old.values var) (known.noted.values var lt) (sym (value_elsewhere var ne) ∙ none) f in_before on
+            | inl in_before ↦ no_value_note_shows before var (value_note old.values var) (known.noted.values var lt) (sym (value_elsewhere var ne) ∙ none) f in_before on
             | inr e ↦ ne (sym on ∙ ap (λ (x : Fact). x.var) (sym e))
           ])
     ]
@@ -354,8 +335,8 @@ pub known_alike : (p : Parts) (kept : List Bool) (facts others : List Fact) (not
 known_alike p kept facts others notes there back known = record {
   noted = record {
     values = λ var lt. value_note_of others var (value_note notes.values var)
-        (λ value at. there (record { var = var; value = value }) (value_note_tells facts var value (value_note notes.values var) (known.noted.values var lt) at))
-        (λ none f among. no_value_note_tells facts var (value_note notes.values var) (known.noted.values var lt) none f (back f among));
+        (λ value at. there (record { var = var; value = value }) (value_note_shows facts var value (value_note notes.values var) (known.noted.values var lt) at))
+        (λ none f among. no_value_note_shows facts var (value_note notes.values var) (known.noted.values var lt) none f (back f among));
     groups = λ place lt. note_stays (IsOfGroupBeside p facts notes.apart place) (IsOfGroupBeside p others notes.apart place) (record { var = 0; value = 0 })
         (λ f is. record { of = record { among = there f is.of.among; has = is.of.has }; beside = is.beside })
         (λ f is. inl (record { of = record { among = back f is.of.among; has = is.of.has }; beside = is.beside })) (group_note notes.groups place)
@@ -413,7 +394,7 @@ module _ (p : Parts) (kept : List Bool) (all : List Fact) (exist : All (FactExis
 
     pub from_still : (new : Notes) → ChangesAt (groups_of index fact) fact old new → AreFrom p all new
     from_still new changes = noted_still p index all old new indexed so_far.from fact (exists_of fact within) within
-        (λ none e. no_value_note_tells so_far.seen fact.var (value_note old.values fact.var)
+        (λ none e. no_value_note_shows so_far.seen fact.var (value_note old.values fact.var)
         (so_far.known.noted.values fact.var (variable_below p fact (exists_of fact within))) none fact (so_far.known.noted.one_apart fact e) refl) changes
 
     pub one_so_far : (new : Notes) → IsThere fact old new ⊎ NotesFirstFact index kept fact old new → ChangesAt (groups_of index fact) fact old new

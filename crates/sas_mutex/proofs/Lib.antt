@@ -14,3 +14,4 @@ pub mod LookedAt
 pub mod WatchChains
 pub mod Watched
 pub mod PlainEffects
+mod Imports

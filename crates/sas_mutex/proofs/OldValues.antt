@@ -1,27 +1,9 @@
 -- If an effect requires an old value that is a fact of a group, no other fact of the group can have
 -- held before.
-use Rattle.std.proofs.Common.{◌≡◌, ℕ, ◌<◌, length, List, [], ◌++◌, Bool, Option, Some, subst, refl, sym, ap, ◌∙◌, arith}
-use Rattle.std.specs.List.{Contains, filter_map}
-use Rattle.std.specs.Option.{option_to_list}
-use Rattle.std.proofs.lemmas.List.Elements.{Contains-append_left, Contains-append_right, Contains-get_or, All-contains}
-use Rattle.sas_core.specs.declared.grounded.Change.{Change}
-use Rattle.sas_core.specs.declared.parts.Fact.{Fact}
-use Rattle.sas_core.specs.declared.parts.Effect.{Effect}
-use Rattle.sas_core.specs.declared.parts.Operator.{Operator}
-use Rattle.sas_core.specs.declared.parts.Parts.{Parts}
-use Rattle.sas_core.specs.Grounded.{operator_at, effect_at, group_at}
-use Rattle.sas_core.specs.Changes.{effect_change}
-use Rattle.sas_core.specs.Variables.{FactExists}
-use Rattle.sas_core.specs.WellRanged.{WellRanged}
-use Rattle.sas_meaning.specs.Steps.{old_fact, preconditions}
-use Rattle.sas_groups.specs.Families.{IsIn}
-use Rattle.sas_groups.specs.Lists.{known}
-use Rattle.sas_groups.specs.declared.index.Index.{Index}
-use Rattle.sas_groups.specs.Kept.{family_of}
+use Rattle.sas_mutex.proofs.Imports.{◌≡◌, ℕ, ◌<◌, length, List, [], ◌++◌, Bool, Option, Some, subst, refl, sym, ap, ◌∙◌, arith, Contains, filter_map, option_to_list, Contains-append_left, Contains-append_right, Contains-get_or, All-contains, Change, Fact, Effect, Operator, Parts, operator_at, effect_at, group_at, effect_change, FactExists, WellRanged, old_fact, preconditions, IsIn, known, Index}
+use Rattle.sas_mutex.proofs.Imports.{family_of, IsIndexOf, groups_of, in_flat, given_is}
 use Rattle.sas_mutex.specs.Effects.{IsKept}
-use Rattle.sas_groups.specs.Index.{IsIndexOf, groups_of}
 use Rattle.sas_mutex.specs.ByNotes.{AreGone}
-use Rattle.sas_groups.proofs.InLists.{in_flat, given_is}
 use Rattle.sas_mutex.proofs.TaskFacts.{conditions_exist, known_exist}
 use Rattle.sas_mutex.proofs.FromNotes.{known_one_is_all}
 

@@ -1,19 +1,5 @@
 -- Effects without conditions, in terms of their changes.
-use Rattle.std.proofs.Common.{◌≡◌, ℕ, ◌<◌, Bool, List, [], length, get_or, None, sym, ◌∙◌, ap, subst}
-use Rattle.std.proofs.lemmas.List.{length-map, get_or-map}
-use Rattle.std.specs.List.{Contains}
-use Rattle.sas_core.specs.declared.grounded.Change.{Change}
-use Rattle.sas_core.specs.declared.parts.Fact.{Fact}
-use Rattle.sas_core.specs.declared.parts.Effect.{Effect}
-use Rattle.sas_core.specs.declared.parts.Operator.{Operator}
-use Rattle.sas_core.specs.Changes.{effect_change, plain_effect, plain_effects}
-use Rattle.sas_core.specs.Grounded.{effect_at}
-use Rattle.sas_core.specs.Variables.{FactExists}
-use Rattle.sas_core.specs.WellRanged.{WellRanged}
-use Rattle.sas_groups.specs.Clashes.{Clash, sets}
-use Rattle.sas_groups.specs.Lists.{known}
-use Rattle.sas_groups.specs.declared.index.Index.{Index}
-use Rattle.sas_groups.specs.Index.{IsIndexOf, groups_of}
+use Rattle.sas_mutex.proofs.Imports.{◌≡◌, ℕ, ◌<◌, Bool, List, [], length, get_or, None, sym, ◌∙◌, ap, subst, length-map, get_or-map, Contains, Change, Fact, Effect, Operator, effect_change, plain_effect, plain_effects, effect_at, FactExists, WellRanged, Clash, sets, known, Index, IsIndexOf, groups_of}
 use Rattle.sas_mutex.specs.declared.marks.Marks.{Marks}
 use Rattle.sas_mutex.specs.Effects.{IsKept}
 use Rattle.sas_mutex.specs.Firing.{EffectPlace, operator_of, effect_of}

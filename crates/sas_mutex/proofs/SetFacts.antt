@@ -1,22 +1,6 @@
 -- The facts that effects set exist, so the index contains their groups. The facts of groups exist,
 -- too.
-use Rattle.std.proofs.Common.{◌≡◌, ℕ, ◌<◌, List, [], length, get_or, None, sym, ◌∙◌, ap, subst}
-use Rattle.std.specs.List.{All, Contains}
-use Rattle.std.specs.Prelude.{◌↔◌}
-use Rattle.std.proofs.lemmas.List.{get_or_default}
-use Rattle.std.proofs.lemmas.List.Elements.{All-from_recursion, All-weaker}
-use Rattle.sas_core.specs.declared.grounded.Change.{Change}
-use Rattle.sas_core.specs.declared.parts.Fact.{Fact}
-use Rattle.sas_core.specs.declared.parts.Parts.{Parts}
-use Rattle.sas_core.specs.Grounded.{operator_at, effect_at, group_at}
-use Rattle.sas_core.specs.Changes.{effect_change}
-use Rattle.sas_core.specs.Variables.{FactExists}
-use Rattle.sas_core.specs.WellRanged.{WellRanged, Listed, OperatorFits, EffectFits}
-use Rattle.sas_core.proofs.Places.{holds_at}
-use Rattle.sas_meaning.proofs.Forced.{fact_within}
-use Rattle.sas_groups.specs.Clashes.{sets}
-use Rattle.sas_groups.specs.declared.index.Index.{Index}
-use Rattle.sas_groups.specs.Index.{IsIndexOf, HasFact, groups_of}
+use Rattle.sas_mutex.proofs.Imports.{◌≡◌, ℕ, ◌<◌, List, [], length, get_or, None, sym, ◌∙◌, ap, subst, All, Contains, ◌↔◌, get_or_default, All-from_recursion, All-weaker, Change, Fact, Parts, operator_at, effect_at, group_at, effect_change, FactExists, WellRanged, Listed, OperatorFits, EffectFits, holds_at, fact_within, sets, Index, IsIndexOf, HasFact, groups_of}
 
 module _ (p : Parts) (ranged : WellRanged p) where
   pub set_exists : (operator effect : ℕ) → operator < length p.operators → effect < length (operator_at p operator).effects

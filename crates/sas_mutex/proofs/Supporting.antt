@@ -1,14 +1,6 @@
 -- Growing the basis and emptying it.
-use Rattle.std.proofs.Common.{◌≡◌, ℕ, ◌+◌, ◌<◌, ◌≤◌, Bool, true, false, List, [], length, set, refl, sym, ◌∙◌, ap, subst, inl, inr}
-use Rattle.std.specs.Prelude.{vec_capacity}
-use Rattle.std.specs.Global.{Vec}
-use Rattle.std.proofs.lemmas.Bool.{cases_eq, cases_lt, true≢false}
-use Rattle.std.proofs.lemmas.List.{get_or-set_same, get_or-set_other, get_or_past}
-use Rattle.std.proofs.lemmas.List.Elements.{All-nil}
-use Rattle.std.specs.List.{All}
-use Rattle.sas_core.specs.declared.parts.Parts.{Parts}
+use Rattle.sas_mutex.proofs.Imports.{◌≡◌, ℕ, ◌+◌, ◌<◌, ◌≤◌, Bool, true, false, List, [], length, set, refl, sym, ◌∙◌, ap, subst, inl, inr, vec_capacity, Vec, cases_eq, cases_lt, true≢false, get_or-set_same, get_or-set_other, get_or_past, All-nil, All, Parts, family_of}
 use Rattle.sas_mutex.specs.declared.family.Family.{Family}
-use Rattle.sas_groups.specs.Kept.{family_of}
 use Rattle.sas_mutex.specs.Basis.{IsBasis, IsOfNone, HasGrown}
 use Rattle.sas_mutex.specs.Falling.{count, Falls, FamilyHasRoom}
 use Rattle.sas_mutex.proofs.FallingGroups.{none_fell}

@@ -1,17 +1,6 @@
 -- All facts that a task mentions exist.
-use Rattle.std.proofs.Common.{ℕ, ◌<◌, [], length, List, ◌∷◌, ◌++◌, Option, None, Some}
+use Rattle.sas_mutex.proofs.Imports.{ℕ, ◌<◌, [], length, List, ◌∷◌, ◌++◌, Option, None, Some, All, Contains, cons_option, All-nil, All-cons, All-append, All-from_recursion, All-contains, All-head, All-tail, Fact, Effect, Parts, operator_at, effect_at, group_at, FactExists, MayHaveValue, WellRanged, OperatorFits, EffectFits, Listed, holds_at, old_fact, preconditions, known}
 use Rattle.std.specs.Prelude.{filter_map}
-use Rattle.std.specs.List.{All, Contains, cons_option}
-use Rattle.std.proofs.lemmas.List.Elements.{All-nil, All-cons, All-append, All-from_recursion, All-contains, All-head, All-tail}
-use Rattle.sas_core.specs.declared.parts.Fact.{Fact}
-use Rattle.sas_core.specs.declared.parts.Effect.{Effect}
-use Rattle.sas_core.specs.declared.parts.Parts.{Parts}
-use Rattle.sas_core.specs.Grounded.{operator_at, effect_at, group_at}
-use Rattle.sas_core.specs.Variables.{FactExists, MayHaveValue}
-use Rattle.sas_core.specs.WellRanged.{WellRanged, OperatorFits, EffectFits, Listed}
-use Rattle.sas_core.proofs.Places.{holds_at}
-use Rattle.sas_meaning.specs.Steps.{old_fact, preconditions}
-use Rattle.sas_groups.specs.Lists.{known}
 
 module _ (p : Parts) (ranged : WellRanged p) where
   -- the facts of a group exist

@@ -1,34 +1,12 @@
 -- The verdicts after each effect and each operator.
-use Rattle.std.proofs.Common.{◌≡◌, ◌≢◌, ℕ, ◌+◌, ◌<◌, Bool, true, false, List, [], ◌∷◌, ◌++◌, length, set, refl, sym, ◌∙◌, ap, subst, inl, inr, arith}
-use Rattle.std.proofs.lemmas.Bool.{cases_eq, cases_Bool, both_ways}
-use Rattle.std.proofs.lemmas.List.{length_push, get_or_push, get_or_append_left, length-set, get_or-set_same, get_or-set_other, set-set, set-get_or}
-use Rattle.std.proofs.lemmas.List.Elements.{All-from_get_or}
-use Rattle.std.specs.List.{Contains}
-use Rattle.std.specs.Prelude.{◌↔◌, IsTrue}
-use Rattle.sas_core.specs.declared.parts.Fact.{Fact}
-use Rattle.sas_core.specs.declared.parts.Operator.{Operator}
-use Rattle.sas_core.specs.declared.parts.Parts.{Parts}
-use Rattle.sas_core.specs.Grounded.{operator_at, effect_at, group_at}
-use Rattle.sas_groups.specs.declared.verdict.Verdict.{Verdict}
-use Rattle.sas_groups.specs.declared.verdict.Verdict.TheVariants.{Exclusive, Derived, Initial, Broken}
-use Rattle.sas_groups.specs.Clashes.{Clash, Keeps, sets}
-use Rattle.sas_groups.specs.Families.{MayBeExclusive, IsIn, IsGroupOfOr, IsGreatest}
-use Rattle.sas_groups.specs.Verdicts.{IsJointVerdict}
-use Rattle.sas_groups.specs.Checks.{IsFirstVerdict}
-use Rattle.sas_groups.proofs.GreatestFamily.{outside_is_broken, clash_more}
+use Rattle.sas_mutex.proofs.Imports.{◌≡◌, ◌≢◌, ℕ, ◌+◌, ◌<◌, Bool, true, false, List, [], ◌∷◌, ◌++◌, length, set, refl, sym, ◌∙◌, ap, subst, inl, inr, arith, cases_eq, cases_Bool, both_ways, length_push, get_or_push, get_or_append_left, length-set, get_or-set_same, get_or-set_other, set-set, set-get_or, All-from_get_or, Contains, ◌↔◌, IsTrue, Fact, Operator, Parts, operator_at, effect_at, group_at}
+use Rattle.sas_mutex.proofs.Imports.{Verdict, Exclusive, Derived, Initial, Broken, Clash, Keeps, sets, MayBeExclusive, IsIn, IsGroupOfOr, IsGreatest, IsJointVerdict, IsFirstVerdict, outside_is_broken, clash_more, Noted, Several, family_of, HasFact, verdict_at, AreJointVerdicts, IsGroupNote, at_most_one}
 use Rattle.sas_mutex.specs.declared.marks.Marks.{Marks}
-use Rattle.sas_groups.specs.declared.notes.Noted.{Noted}
-use Rattle.sas_groups.specs.declared.notes.Noted.TheVariants.{Several}
-use Rattle.sas_groups.specs.Kept.{family_of}
 use Rattle.sas_mutex.specs.Effects.{IsKept, EffectKeeps, KeepsWithItself}
 use Rattle.sas_mutex.specs.Falling.{AreCandidates}
-use Rattle.sas_groups.specs.Index.{HasFact}
-use Rattle.sas_groups.specs.Joint.{verdict_at, AreJointVerdicts}
 use Rattle.sas_mutex.specs.Judging.{AreFirstVerdicts, IsUndecided, KeptSoFar, IsVerdictSoFar, AreVerdictsSoFar}
-use Rattle.sas_groups.specs.Notes.{IsGroupNote}
 use Rattle.sas_mutex.specs.ByNotes.{IsNotedFor, known_at}
 use Rattle.sas_mutex.proofs.Keeping.{effect_keeps_more, keeps_from_effects, effect_of_keeps}
-use Rattle.sas_groups.proofs.NotesOfFacts.{at_most_one}
 use Rattle.sas_mutex.proofs.KnownFacts.{several_clash}
 use Rattle.sas_mutex.proofs.FromNotes.{clash_keeps}
 
@@ -134,7 +112,7 @@ module _ (p : Parts) (kept : List Bool) (place : ℕ) (exists : place < length p
 
     -- where not several facts of it are known, nothing clashes for it
     pub noted_with : (note : Noted) → IsGroupNote p (known_at p operator effect) place note → note ≢ Several → IsNotedFor p (set kept place true) operator effect marks
-    noted_with note tells few = record {
+    noted_with note reports few = record {
       are = record {
         noted = noted.are.noted;
         apart = λ (f, g, in_f, in_g, why). elim why [
@@ -142,7 +120,7 @@ module _ (p : Parts) (kept : List Bool) (place : ℕ) (exists : place < length p
           | inr one ↦ elim (with_place one.group one.counts) [
             | inl counts ↦ noted.are.apart
                 (f, g, in_f, in_g, inr (record { differ = one.differ; group = one.group; counts = counts; first = one.first; second = one.second }))
-            | inr is ↦ one.differ (at_most_one p (known_at p operator effect) place note tells few f g
+            | inr is ↦ one.differ (at_most_one p (known_at p operator effect) place note reports few f g
                 (record { among = in_f; has = record { exists = exists; among = subst (λ (facts : List Fact). Contains facts f) is one.first } })
                 (record { among = in_g; has = record { exists = exists; among = subst (λ (facts : List Fact). Contains facts g) is one.second } }))
           ]
@@ -241,7 +219,7 @@ module _ (p : Parts) (kept : List Bool) where
     are = λ place lt. one_effect_judged operator effect place (verdict_at verdicts place) (λ has. judged place (record { exists = lt; among = has })) (so_far.are place lt);
   }
 
-  -- of a group that is in the family, or of which something is judged, nothing is left to tell
+  -- of a group that is in the family, or of which something is judged, nothing is left to decide
   pub decided_already : (operator effect place : ℕ) (verdicts : List Verdict) → place < length p.groups → (IsUndecided kept verdicts place → ⊥)
       → IsVerdictSoFar p kept operator effect place (verdict_at verdicts place) → IsVerdictSoFar p kept operator (effect + 1) place (verdict_at verdicts place)
   decided_already operator effect place verdicts exists judged is = elim (cases_Bool (family_of kept place)) [

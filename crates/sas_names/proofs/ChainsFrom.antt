@@ -1,11 +1,5 @@
 -- The operators of numbered names, stored from the last operator to the first.
-use Rattle.std.proofs.Common.{◌≡◌, ℕ, ◌+◌, ◌<◌, ◌≤◌, ◌≢◌, List, length, get_or, slice_set, Option, None, Some, sym, ap, subst, ◌∙◌, inl, inr, arith}
-use Rattle.std.proofs.Math.Nat.{eq-or-lt_of_le}
-use Rattle.std.proofs.lemmas.Bool.{cases_eq}
-use Rattle.std.proofs.lemmas.Option.{none-some, same_Some}
-use Rattle.std.proofs.lemmas.List.{get_or-set_same, get_or-set_other}
-use Rattle.sas_core.specs.declared.parts.Parts.{Parts}
-use Rattle.sas_core.specs.Grounded.{operator_at}
+use Rattle.sas_names.proofs.Imports.{◌≡◌, ℕ, ◌+◌, ◌<◌, ◌≤◌, ◌≢◌, List, length, get_or, slice_set, Option, None, Some, sym, ap, subst, ◌∙◌, inl, inr, arith, eq-or-lt_of_le, cases_eq, none-some, same_Some, get_or-set_same, get_or-set_other, Parts, operator_at}
 use Rattle.sas_names.specs.Names.{IsNextNamed}
 use Rattle.sas_names.proofs.NamesFrom.{IsNextNamed-pass}
 

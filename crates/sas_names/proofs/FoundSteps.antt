@@ -1,7 +1,5 @@
 -- The operators that are found for the names of steps.
-use Rattle.std.proofs.Common.{◌≡◌, ℕ, ◌+◌, ◌<◌, List, [], length, get_or, None, ap, subst, ◌∙◌, arith}
-use Rattle.sas_core.specs.declared.parts.Parts.{Parts}
-use Rattle.sas_core.specs.Grounded.{operator_at}
+use Rattle.sas_names.proofs.Imports.{◌≡◌, ℕ, ◌+◌, ◌<◌, List, [], length, get_or, None, ap, subst, ◌∙◌, arith, Parts, operator_at}
 use Rattle.sas_names.specs.declared.chains.Chains.{Chains}
 use Rattle.sas_names.specs.declared.step_names.StepNames.{StepNames}
 use Rattle.sas_names.specs.Names.{IsNextNamed, IsLowestNamed, AreFirsts}

@@ -5,3 +5,4 @@ mod StepNumbers
 mod ChainsFrom
 mod FoundSteps
 mod LikelyOperators
+mod Imports

@@ -1,13 +1,5 @@
 -- The likely operators of names.
-use Rattle.std.proofs.Common.{◌≡◌, ℕ, ◌+◌, ◌<◌, ◌≤◌, ◌≢◌, Bool, true, false, List, [], length, nat_eq, get_or, slice_set, Option, None, Some, refl, sym, ap, subst, ◌∙◌, inl, inr, if◌then◌else◌, true≢false, arith}
-use Rattle.std.specs.Cmp.Lexicographic.{pointwise, bytes_decides}
-use Rattle.std.proofs.Math.Nat.{eq-or-lt_of_le}
-use Rattle.std.proofs.lemmas.Bool.{eqb-true, eq-eqb}
-use Rattle.std.proofs.lemmas.List.{get_or-set_same, get_or-set_other, length-set}
-use Rattle.std.proofs.lemmas.Option.{none-some}
-use Rattle.indexmap.specs.IndexMap.{get}
-use Rattle.sas_core.specs.declared.parts.Parts.{Parts}
-use Rattle.sas_core.specs.Grounded.{operator_at}
+use Rattle.sas_names.proofs.Imports.{◌≡◌, ℕ, ◌+◌, ◌<◌, ◌≤◌, ◌≢◌, Bool, true, false, List, [], length, nat_eq, get_or, slice_set, Option, None, Some, refl, sym, ap, subst, ◌∙◌, inl, inr, if◌then◌else◌, true≢false, arith, pointwise, bytes_decides, eq-or-lt_of_le, eqb-true, eq-eqb, get_or-set_same, get_or-set_other, length-set, none-some, get, Parts, operator_at}
 use Rattle.sas_names.specs.Names.{IsNextNamed, IsLowestNamed, HaveFirsts}
 use Rattle.sas_names.specs.NameDigest.{digest_of}
 use Rattle.sas_names.specs.NameTable.{AreNames, value_of, other_of, own_else, first_else, likely_of, operator_names}
@@ -26,14 +18,14 @@ module _ (p : Parts) (names : Names) (are : AreNames p names) (name : List ℕ) 
   likely_some operator is = by (get nat_eq names.first.first (digest_of name)) refl (sym is)
     where
       lowest : (had : Option ℕ) → get nat_eq names.first.first (digest_of name) ≡ had → had_of had ≡ Some operator → IsLowestNamed p name 0 operator
-      lowest had stored told = subst (IsNextNamed p name 0) (ap had_of stored ∙ told) (are.mapped.lowest name)
+      lowest had stored reported = subst (IsNextNamed p name 0) (ap had_of stored ∙ reported) (are.mapped.lowest name)
 
       by : (had : Option ℕ) → get nat_eq names.first.first (digest_of name) ≡ had → first_else had other ≡ Some operator → IsLikely p name operator
-      by None stored told = let low : IsLowestNamed p name 0 operator = lowest None stored told in
+      by None stored reported = let low : IsLowestNamed p name 0 operator = lowest None stored reported in
           record { exists = low.of_name.exists; lowest = λ _. low }
-      by (Some own) stored told = record {
-        exists = are.exist (digest_of name) operator (stored ∙ told);
-        lowest = λ named. lowest (Some operator) (stored ∙ told)
+      by (Some own) stored reported = record {
+        exists = are.exist (digest_of name) operator (stored ∙ reported);
+        lowest = λ named. lowest (Some operator) (stored ∙ reported)
             (ap (λ b. if b then Some operator else other) ((bytes_decides (operator_at p operator).name name).1 named));
       }
 
@@ -42,8 +34,8 @@ module _ (p : Parts) (names : Names) (are : AreNames p names) (name : List ℕ) 
   likely_none is = by (get nat_eq names.first.first (digest_of name)) refl (sym is)
     where
       by : (had : Option ℕ) → get nat_eq names.first.first (digest_of name) ≡ had → first_else had other ≡ None → IsNextNamed p name 0 None
-      by None stored told = subst (IsNextNamed p name 0) (ap had_of stored ∙ told) (are.mapped.lowest name)
-      by (Some own) stored told = absurd (none-some own (sym told))
+      by None stored reported = subst (IsNextNamed p name 0) (ap had_of stored ∙ reported) (are.mapped.lowest name)
+      by (Some own) stored reported = absurd (none-some own (sym reported))
 
 -- ---- one step more is confirmed
 

@@ -1,10 +1,5 @@
 -- A table of names that is built from the last operator to the first.
-use Rattle.std.proofs.Common.{◌≡◌, ℕ, ◌+◌, ◌<◌, ◌≤◌, ◌≢◌, Bool, true, false, List, length, nat_eq, get_or, slice_set, Option, None, Some, refl, sym, ap, subst, ◌∙◌, inl, inr, if◌then◌else◌, option_map, true≢false, arith}
-use Rattle.std.specs.Cmp.Lexicographic.{pointwise, bytes_decides}
-use Rattle.std.proofs.Math.Nat.{eq-or-lt_of_le}
-use Rattle.std.proofs.lemmas.List.{get_or-set_same, get_or-set_other, length-set}
-use Rattle.sas_core.specs.declared.parts.Parts.{Parts}
-use Rattle.sas_core.specs.Grounded.{operator_at}
+use Rattle.sas_names.proofs.Imports.{◌≡◌, ℕ, ◌+◌, ◌<◌, ◌≤◌, ◌≢◌, Bool, true, false, List, length, nat_eq, get_or, slice_set, Option, None, Some, refl, sym, ap, subst, ◌∙◌, inl, inr, if◌then◌else◌, option_map, true≢false, arith, pointwise, bytes_decides, eq-or-lt_of_le, get_or-set_same, get_or-set_other, length-set, Parts, operator_at}
 use Rattle.sas_names.specs.Named.{IsNamed}
 use Rattle.sas_names.specs.Names.{IsNextNamed}
 use Rattle.sas_names.specs.declared.name_table.NameTable.{NameTable}
@@ -13,9 +8,9 @@ use Rattle.sas_names.specs.NameTable.{AreMappedFrom, AreNamesFrom, Exist, IsEmpt
 use Rattle.sas_names.proofs.TablePuts.{Exist-empty, value_of-empty}
 
 -- after the last operator no name has an operator
-pub AreMappedFrom-end : (p : Parts) (from : ℕ) (tells : List ℕ → Option ℕ) (table : List (Option ℕ)) → from ≡ length p.operators
-    → length table ≡ length p.operators → ((name : List ℕ) → tells name ≡ None) → AreMappedFrom p from tells table
-AreMappedFrom-end p from tells table all one_each none = record {
+pub AreMappedFrom-end : (p : Parts) (from : ℕ) (reports : List ℕ → Option ℕ) (table : List (Option ℕ)) → from ≡ length p.operators
+    → length table ≡ length p.operators → ((name : List ℕ) → reports name ≡ None) → AreMappedFrom p from reports table
+AreMappedFrom-end p from reports table all one_each none = record {
   one_each = one_each;
   lowest = λ name. subst (IsNextNamed p name from) (sym (none name)) (λ operator from_on named.
       let exists = named.exists in absurd (omega (arith, all)));
@@ -40,16 +35,16 @@ IsNextNamed-pass p name operator other (Some found) lowest = record {
       ];
 }
 
-module _ (p : Parts) (operator : ℕ) (tells after : List ℕ → Option ℕ) (table : List (Option ℕ)) (had : Option ℕ)
+module _ (p : Parts) (operator : ℕ) (reports after : List ℕ → Option ℕ) (table : List (Option ℕ)) (had : Option ℕ)
     (within : operator < length p.operators)
-    (are : AreMappedFrom p (operator + 1) tells table)
-    (is_had : had ≡ tells (operator_at p operator).name)
-    (puts : (name : List ℕ) → after name ≡ (if pointwise nat_eq (operator_at p operator).name name then Some operator else tells name)) where
+    (are : AreMappedFrom p (operator + 1) reports table)
+    (is_had : had ≡ reports (operator_at p operator).name)
+    (puts : (name : List ℕ) → after name ≡ (if pointwise nat_eq (operator_at p operator).name name then Some operator else reports name)) where
   lowest_of : (name : List ℕ) → IsNextNamed p name operator (after name)
   lowest_of name = subst (IsNextNamed p name operator) (sym (puts name)) (by (pointwise nat_eq (operator_at p operator).name name) refl)
     where
       by : (b : Bool) → pointwise nat_eq (operator_at p operator).name name ≡ b
-          → IsNextNamed p name operator (if b then Some operator else tells name)
+          → IsNextNamed p name operator (if b then Some operator else reports name)
       by true is = record {
         from_on = omega arith;
         of_name = record { exists = within; named = (bytes_decides (operator_at p operator).name name).0 is };
@@ -58,7 +53,7 @@ module _ (p : Parts) (operator : ℕ) (tells after : List ℕ → Option ℕ) (t
       by false differs =
           IsNextNamed-pass p name operator
           (λ named. true≢false (sym ((bytes_decides (operator_at p operator).name name).1 named.named) ∙ differs))
-          (tells name) (are.lowest name)
+          (reports name) (are.lowest name)
 
   next_of : (k : ℕ) → operator ≤ k → k < length p.operators
       → IsNextNamed p (operator_at p k).name (k + 1) (get_or (slice_set table operator had) k None)

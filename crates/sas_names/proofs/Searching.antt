@@ -1,6 +1,5 @@
 -- The rest of a search from operator to operator.
-use Rattle.std.proofs.Common.{ℕ, ◌-◌, length, Option, None, Some}
-use Rattle.sas_core.specs.declared.parts.Parts.{Parts}
+use Rattle.sas_names.proofs.Imports.{ℕ, ◌-◌, length, Option, None, Some, Parts}
 
 -- the operators that are still to be searched
 abbrev pub left : Parts → Option ℕ → ℕ

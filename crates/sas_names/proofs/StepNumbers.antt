@@ -1,7 +1,5 @@
 -- The numbers of steps' names, after one more name is numbered.
-use Rattle.std.proofs.Common.{◌≡◌, ℕ, ◌<◌, ◌⊎◌, Bool, true, false, List, length, nat_eq, Option, None, Some, refl, sym, ap, subst, ◌∙◌, inl, inr, if◌then◌else◌, arith}
-use Rattle.std.specs.Cmp.Lexicographic.{pointwise, bytes_decides}
-use Rattle.std.proofs.lemmas.Option.{none-some, same_Some}
+use Rattle.sas_names.proofs.Imports.{◌≡◌, ℕ, ◌<◌, ◌⊎◌, Bool, true, false, List, length, nat_eq, Option, None, Some, refl, sym, ap, subst, ◌∙◌, inl, inr, if◌then◌else◌, arith, pointwise, bytes_decides, none-some, same_Some}
 use Rattle.sas_names.specs.declared.name_table.NameTable.{NameTable}
 use Rattle.sas_names.specs.NameTable.{IsEmptyTable, Exist, PutsName, value_of}
 use Rattle.sas_names.specs.StepNames.{AreStepsOf, Numbers, step_names}

@@ -76,12 +76,12 @@ module _ {V : Type 0} where
 abbrev pub operator_names : Parts → ℕ → List ℕ
 operator_names p operator = (operator_at p operator).name
 
--- The names of the operators from number `from` on. `tells` maps each name to the lowest of them
+-- The names of the operators from number `from` on. `reports` maps each name to the lowest of them
 -- with this name, if any. The list has, for each of them, the next operator of the same name.
-pub record AreMappedFrom (p : Parts) (from : ℕ) (tells : List ℕ → Option ℕ)
+pub record AreMappedFrom (p : Parts) (from : ℕ) (reports : List ℕ → Option ℕ)
     (nexts : List (Option ℕ)) : Type 0 where
   pub one_each : length nexts ≡ length p.operators
-  pub lowest : (name : List ℕ) → IsNextNamed p name from (tells name)
+  pub lowest : (name : List ℕ) → IsNextNamed p name from (reports name)
   pub next : (operator : ℕ) → from ≤ operator → operator < length p.operators
       → IsNextNamed p (operator_at p operator).name (operator + 1)
       (slice_index_or nexts operator None)

@@ -1,12 +1,6 @@
 -- How the writing of an answer ends.
-use Rattle.std.proofs.Common.{◌≡◌, ℕ, List, ap, sym, subst, ◌∙◌, Option, Some, None, Result, Ok, Err}
-use Rattle.std.specs.Prelude.{IfOk}
-use Rattle.std.proofs.lemmas.Option.{none-some}
-use Rattle.sas_output.specs.declared.ending.Status.{Status}
-use Rattle.sas_output.specs.declared.ending.ToolFault.{ToolFault}
+use Rattle.sas_outputs.proofs.Imports.{◌≡◌, ℕ, List, ap, sym, subst, ◌∙◌, Option, Some, None, Result, Ok, Err, IfOk, none-some, Status, ToolFault, Output, Ends, EndsCounting, IsDecided, counting_ends}
 use Rattle.sas_output.specs.declared.ending.ToolFault.TheVariants as tool_fault
-use Rattle.sas_output.specs.Ending.{Output, Ends, EndsCounting, IsDecided}
-use Rattle.sas_output.proofs.Sent.{counting_ends}
 
 module _ (o : Output) (Sent : List ℕ → Type 0) where
   -- if the writing ends with this output, it ends with a right output

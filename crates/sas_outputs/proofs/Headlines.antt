@@ -1,36 +1,11 @@
 -- A plan is reported as valid exactly if it is.
-use Rattle.std.proofs.Common.{◌≡◌, ◌≢◌, ℕ, ◌<◌, ◌⊎◌, List, [], ◌∷◌, ◌++◌, length, codes, get_or, arith, refl, sym, ap, subst, ◌∙◌, inl, inr, Option, Some, None, Result, Ok, Err}
-use Rattle.std.specs.Prelude.{option_map}
-use Rattle.std.specs.Io.KnownBytes.{Appends}
-use Rattle.std.proofs.lemmas.Option.{none-some}
-use Rattle.std.proofs.lemmas.List.{append-nil, append_cancel_left}
-use Rattle.sas_core.specs.declared.parts.Parts.{Parts}
-use Rattle.sas_core.specs.PlanParts.{PlanParts}
-use Rattle.sas_meaning.specs.declared.layered.LayerFault.{LayerFault}
-use Rattle.sas_meaning.specs.Layers.{IsLayered}
-use Rattle.sas_reader.specs.declared.fault.Fault.{Fault}
-use Rattle.sas_reader.specs.declared.fault.Kind.TheVariants.{TooLong}
-use Rattle.sas_reader.specs.Limit.{most_bytes}
-use Rattle.sas_reader.specs.Texts.{Reads}
-use Rattle.sas_reader.specs.Format.{Format, ReadsAs}
-use Rattle.sas_reader.specs.Laws.{Laws}
-use Rattle.sas_plan_file.specs.PlanFormat.{plan_texts, plan_format}
-use Rattle.sas_plan_file.proofs.PlanLaws.{plan_laws_hold}
-use Rattle.sas_task_format.specs.TaskFormat.{task_texts, task_format}
-use Rattle.sas_task_format.proofs.TaskLaws.{task_laws_hold}
-use Rattle.sas_output.specs.declared.ending.Status.{Status}
-use Rattle.sas_output.specs.declared.ending.Status.TheVariants.{Yes, No}
-use Rattle.sas_run.specs.Plans.{IsValid}
+use Rattle.sas_outputs.proofs.Imports.{◌≡◌, ◌≢◌, ℕ, ◌<◌, ◌⊎◌, List, [], ◌∷◌, ◌++◌, length, codes, get_or, arith, refl, sym, ap, subst, ◌∙◌, inl, inr, Option, Some, None, Result, Ok, Err, option_map, Appends, none-some, append_cancel_left, Parts, PlanParts, LayerFault, IsLayered, Fault, TooLong, most_bytes, Reads, Format, ReadsAs, Laws, plan_texts, plan_format, plan_laws_hold, task_texts}
+use Rattle.sas_outputs.proofs.Imports.{task_format, task_laws_hold, Status, Yes, No, IsValid, layer_words, layers_line, valid_answer, VerdictAnswer, Output, valid_line, fault_words, invalid_line, one_verdict_answer, worded}
+use Rattle.std.proofs.lemmas.List.{append-nil}
 use Rattle.sas_outputs.specs.Headline.{Solves, Headline}
-use Rattle.sas_answers.specs.LayerWords.{layer_words, layers_line}
-use Rattle.sas_answers.specs.Answers.{valid_answer, VerdictAnswer}
-use Rattle.sas_output.specs.Ending.{Output}
 use Rattle.sas_outputs.specs.Output.{word_of, refusal, refusal_line, IsAnswerOrRefusal, UnlayeredAnswer, VerdictOut, PlanOutBy}
-use Rattle.sas_answers.specs.PlanWords.{valid_line, fault_words, invalid_line}
 use Rattle.sas_outputs.proofs.Outputs.{refused_kind}
 use Rattle.sas_outputs.proofs.PlanOutputs.{IsRefusal, Refuses, not_refused}
-use Rattle.sas_answers.proofs.VerdictAnswers.{one_verdict_answer}
-use Rattle.sas_answers.proofs.WordedLines.{worded}
 
 -- ---- properties of all outputs about a plan
 
@@ -79,16 +54,16 @@ refusal_other fault o r =
 
 -- an answer about a plan is that of a valid plan or another one; for a valid plan it is that of a
 -- valid plan
-pub record TellsValid (Verdict : Parts → PlanParts → Output → Type 0) : Type 0 where
-  pub told : (p : Parts) (plan : PlanParts) (o : Output) → Verdict p plan o
+pub record ReportsValid (Verdict : Parts → PlanParts → Output → Type 0) : Type 0 where
+  pub reported : (p : Parts) (plan : PlanParts) (o : Output) → Verdict p plan o
       → (((operators : List ℕ) × IsValid p plan operators) × (o ≡ valid_answer plan)) ⊎ IsOther o
   pub valid : (p : Parts) (plan : PlanParts) (o : Output) (operators : List ℕ) → IsLayered p
       → IsValid p plan operators → Verdict p plan o → o ≡ valid_answer plan
 
 -- answers without reasons have this property
-pub tells_valid : TellsValid VerdictAnswer
-tells_valid = record {
-  told = λ p plan o verdict. elim verdict [
+pub reports_valid : ReportsValid VerdictAnswer
+reports_valid = record {
+  reported = λ p plan o verdict. elim verdict [
     | inl x ↦ inl x
     | inr x ↦ inr (other_words (fault_words plan.cost x.0) invalid_line o (λ w steps cost. invalid_line_apart steps cost w) x.2)
   ];
@@ -115,8 +90,8 @@ sent_same None new before x y e f g = absurd (none-some before e)
 sent_same (Some xs) None before x y e f g = absurd f
 sent_same (Some xs) (Some ys) before x y e f g = append_cancel_left xs x y (sym f ∙ g)
 
--- the headline follows from what an output tells, and from what it is for a plan that solves the task
-module _ (b c : List ℕ) (o : Output) (told : IsSolved b c o ⊎ IsOther o) (solved : (line : List ℕ) → Solves b c line → (o.status ≡ Yes) × (o.text ≡ line)) where
+-- the headline follows from what an output says, and from what it is for a plan that solves the task
+module _ (b c : List ℕ) (o : Output) (reported : IsSolved b c o ⊎ IsOther o) (solved : (line : List ℕ) → Solves b c line → (o.status ≡ Yes) × (o.text ≡ line)) where
   line_solves : (steps cost : ℕ) → o.text ≡ valid_line steps cost → IsSolved b c o ⊎ IsOther o → Solves b c (valid_line steps cost)
   line_solves steps cost e (inl solved) = subst (λ (x : List ℕ). Solves b c x) e solved.solves
   line_solves steps cost e (inr other) = absurd (other.text steps cost e)
@@ -129,16 +104,16 @@ module _ (b c : List ℕ) (o : Output) (told : IsSolved b c o ⊎ IsOther o) (so
   pub headline_by : (old new : Option (List ℕ)) (before : List ℕ) (status : Status) → old ≡ Some before → status ≡ o.status → Appends old new o.text → Headline b c (Appends old new) status
   headline_by old new before status known is sent = record {
     line = λ steps cost. (
-      λ line. line_solves steps cost (sent_same old new before o.text (valid_line steps cost) known sent line) told,
+      λ line. line_solves steps cost (sent_same old new before o.text (valid_line steps cost) known sent line) reported,
       λ solves. subst (Appends old new) (solved (valid_line steps cost) solves).1 sent,
     );
-    yes = (λ e. yes_solves (sym is ∙ e) told, λ s. is ∙ (solved (valid_line s.0 s.1) s.2).0);
+    yes = (λ e. yes_solves (sym is ∙ e) reported, λ s. is ∙ (solved (valid_line s.0 s.1) s.2).0);
   }
 
-module _ (Verdict : Parts → PlanParts → Output → Type 0) (refused : Parts → LayerFault → Option Output) (tells : TellsValid Verdict) (refuses : Refuses refused) where
+module _ (Verdict : Parts → PlanParts → Output → Type 0) (refused : Parts → LayerFault → Option Output) (reports : ReportsValid Verdict) (refuses : Refuses refused) where
   module _ (b c : List ℕ) (o : Output) where
-    verdict_told : (p : Parts) (plan : PlanParts) → Reads task_texts b p → IsLayered p → Reads plan_texts c plan → Verdict p plan o → IsSolved b c o ⊎ IsOther o
-    verdict_told p plan is_task layered is_plan verdict = elim (tells.told p plan o verdict) [
+    verdict_reported : (p : Parts) (plan : PlanParts) → Reads task_texts b p → IsLayered p → Reads plan_texts c plan → Verdict p plan o → IsSolved b c o ⊎ IsOther o
+    verdict_reported p plan is_task layered is_plan verdict = elim (reports.reported p plan o verdict) [
       | inl x ↦ inl (record {
         status = ap (λ (y : Output). y.status) x.1;
         solves = record {
@@ -155,27 +130,27 @@ module _ (Verdict : Parts → PlanParts → Output → Type 0) (refused : Parts 
       | inr other ↦ inr other
     ]
 
-    plan_told : (p : Parts) (r : Result PlanParts Fault) → Reads task_texts b p → IsLayered p → ReadsAs plan_format most_bytes c r → IsAnswerOrRefusal (codes "plan") (Verdict p) r (Some o) → IsSolved b c o ⊎ IsOther o
-    plan_told p (Ok plan) is_task layered reads answer =
+    plan_reported : (p : Parts) (r : Result PlanParts Fault) → Reads task_texts b p → IsLayered p → ReadsAs plan_format most_bytes c r → IsAnswerOrRefusal (codes "plan") (Verdict p) r (Some o) → IsSolved b c o ⊎ IsOther o
+    plan_reported p (Ok plan) is_task layered reads answer =
         let same : answer.0 ≡ o = (let e : Some o ≡ Some answer.0 = answer.2 in cc) in
-        verdict_told p plan is_task layered reads.0 (subst (λ (x : Output). Verdict p plan x) same answer.1)
-    plan_told p (Err fault) is_task layered reads is =
+        verdict_reported p plan is_task layered reads.0 (subst (λ (x : Output). Verdict p plan x) same answer.1)
+    plan_reported p (Err fault) is_task layered reads is =
         inr (other_words (word_of fault.kind) (refusal_line (codes "plan") fault.line) o (λ w steps cost. plan_refusal_apart fault.line steps cost w) (sym is))
 
-    refused_told : (r : Result Parts Fault) → IsAnswerOrRefusal (codes "task") (UnlayeredAnswer refused) r (Some o) → IsOther o
-    refused_told (Ok p) (answer, (fault, first, told), is) = refusal_other fault o (refuses.told p fault o (told ∙ sym is))
-    refused_told (Err fault) is = other_words (word_of fault.kind) (refusal_line (codes "task") fault.line) o (λ w steps cost. task_refusal_apart fault.line steps cost w) (sym is)
+    refused_reported : (r : Result Parts Fault) → IsAnswerOrRefusal (codes "task") (UnlayeredAnswer refused) r (Some o) → IsOther o
+    refused_reported (Ok p) (answer, (fault, first, reported), is) = refusal_other fault o (refuses.reported p fault o (reported ∙ sym is))
+    refused_reported (Err fault) is = other_words (word_of fault.kind) (refusal_line (codes "task") fault.line) o (λ w steps cost. task_refusal_apart fault.line steps cost w) (sym is)
 
-    pub out_told : PlanOutBy Verdict refused b c (Some o) → IsSolved b c o ⊎ IsOther o
-    out_told (inl (r, reads, is)) = inr (refused_told r is)
-    out_told (inr (p, reads, layered, out)) = plan_told p out.0 reads.0 layered out.1 out.2
+    pub out_reported : PlanOutBy Verdict refused b c (Some o) → IsSolved b c o ⊎ IsOther o
+    out_reported (inl (r, reads, is)) = inr (refused_reported r is)
+    out_reported (inr (p, reads, layered, out)) = plan_reported p out.0 reads.0 layered out.1 out.2
 
   module _ (b c line : List ℕ) (o : Output) (s : Solves b c line) where
     plan_answered : (r : Result PlanParts Fault) → r ≡ Ok s.plan → IsAnswerOrRefusal (codes "plan") (Verdict s.task) r (Some o) → o ≡ valid_answer s.plan
     plan_answered r e out =
         let (answer, verdict, is) = subst (λ (x : Result PlanParts Fault). IsAnswerOrRefusal (codes "plan") (Verdict s.task) x (Some o)) e out in
         let same : o ≡ answer = cc in
-        same ∙ tells.valid s.task s.plan answer s.operators s.layered s.valid verdict
+        same ∙ reports.valid s.task s.plan answer s.operators s.layered s.valid verdict
 
     verdict_answered : VerdictOut Verdict s.task c (Some o) → o ≡ valid_answer s.plan
     verdict_answered out =
@@ -197,4 +172,4 @@ module _ (Verdict : Parts → PlanParts → Output → Type 0) (refused : Parts 
 
   pub headline_of : (b c : List ℕ) (o : Output) → PlanOutBy Verdict refused b c (Some o) → (old new : Option (List ℕ)) (before : List ℕ) (status : Status)
       → old ≡ Some before → status ≡ o.status → Appends old new o.text → Headline b c (Appends old new) status
-  headline_of b c o out = headline_by b c o (out_told b c o out) (λ line solves. out_solved b c line o solves out)
+  headline_of b c o out = headline_by b c o (out_reported b c o out) (λ line solves. out_solved b c line o solves out)

@@ -1,7 +1,5 @@
 -- The lines of some bytes aren't longer than the bytes.
-use Rattle.std.proofs.Common.{ℕ, ◌+◌, ◌≤◌, Bool, true, false, ◌==◌, if◌then◌else◌, List, [], ◌∷◌, ◌++◌, length, length-append, arith}
-use Rattle.sas_lines.specs.Lines.{text, lines, lines_among, without_return}
-use Rattle.sas_lines.specs.Parts.{parts, onto_first}
+use Rattle.sas_outputs.proofs.Imports.{ℕ, ◌+◌, ◌≤◌, Bool, true, false, ◌==◌, if◌then◌else◌, List, [], ◌∷◌, ◌++◌, length, length-append, arith, text, lines, lines_among, without_return, parts, onto_first}
 
 without_short : (bytes : List ℕ) → length (without_return bytes) ≤ length bytes
 without_short [] = omega arith

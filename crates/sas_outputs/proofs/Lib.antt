@@ -7,3 +7,4 @@ pub mod Headlines
 pub mod Endings
 pub mod Lengths
 pub mod PlainLines
+mod Imports

@@ -1,24 +1,6 @@
 -- Outputs about one file.
-use Rattle.std.proofs.Common.{◌≡◌, ◌≢◌, ℕ, ◌+◌, ◌<◌, List, [], ◌∷◌, codes, length, length-append, arith, refl, sym, ap, subst, ◌∙◌, inl, inr, Option, Some, None, Result, Ok, Err}
-use Rattle.std.specs.Prelude.{option_map}
-use Rattle.std.specs.Io.KnownBytes.{Consumes}
-use Rattle.std.proofs.lemmas.Option.{none-some}
-use Rattle.sas_core.specs.declared.parts.Parts.{Parts}
-use Rattle.sas_core.specs.PlanParts.{PlanParts}
-use Rattle.sas_reader.specs.declared.fault.Fault.{Fault}
-use Rattle.sas_reader.specs.declared.fault.Kind.{Kind}
-use Rattle.sas_reader.specs.declared.fault.Kind.TheVariants.{TooLong, Read, Memory}
-use Rattle.sas_reader.specs.Limit.{most_bytes}
-use Rattle.sas_reader.specs.Format.{Format, FaultOf, KindAt, too_long, trailing, wrong, ReadsAs}
-use Rattle.sas_reader.specs.Laws.{Laws}
-use Rattle.sas_plan_file.specs.PlanFormat.{plan_format, PlanKind, like_step, like_cost, like_none}
-use Rattle.sas_task_format.specs.TaskFormat.{task_format, TaskSlot, word_slot, name_slot, number_slot, signed_slot, fact_slot, effect_slot, head_slot, NumbersKind, no_shape, no_value}
-use Rattle.sas_plan_file.proofs.PlanLaws.{plan_laws_hold}
-use Rattle.sas_task_format.proofs.TaskLaws.{task_laws_hold}
-use Rattle.sas_reader.specs.Devices.{Refuses, unread_at, ended_at, faulty_at}
-use Rattle.sas_output.specs.declared.ending.Status.{Status}
-use Rattle.sas_output.specs.Ending.{Output}
-use Rattle.sas_answers.proofs.AnswerLaws.{OneAnswer, SomeAnswer}
+use Rattle.sas_outputs.proofs.Imports.{◌≡◌, ◌≢◌, ℕ, ◌+◌, ◌<◌, List, [], ◌∷◌, codes, length, length-append, arith, refl, sym, ap, subst, ◌∙◌, inl, inr, Option, Some, None, Result, Ok, Err, option_map, Consumes, none-some, Parts, PlanParts, Fault, Kind, TooLong, Read, Memory, most_bytes, Format, FaultOf, KindAt, too_long, trailing, wrong, ReadsAs, Laws, plan_format, PlanKind, like_step, like_cost}
+use Rattle.sas_outputs.proofs.Imports.{like_none, task_format, TaskSlot, word_slot, name_slot, number_slot, signed_slot, fact_slot, effect_slot, head_slot, NumbersKind, no_shape, no_value, plan_laws_hold, task_laws_hold, Refuses, unread_at, ended_at, faulty_at, Status, Output, OneAnswer, SomeAnswer}
 use Rattle.sas_outputs.specs.Output.{word_of, refusal, IsAnswerOrRefusal, FileOut, TaskOut, HasOneOutput}
 
 -- outputs are equal if their texts and statuses are

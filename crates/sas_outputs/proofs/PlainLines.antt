@@ -1,17 +1,8 @@
 -- Lines that refuse a file or a task, and verdicts on a plan, contain no line end.
-use Rattle.std.proofs.Common.{◌≡◌, ℕ, List, ◌++◌, codes, refl, subst, Some}
-use Rattle.std.specs.Prelude.{decimal}
-use Rattle.std.proofs.lemmas.Option.{none-some}
-use Rattle.sas_meaning.specs.declared.layered.LayerFault.{LayerFault}
+use Rattle.sas_outputs.proofs.Imports.{◌≡◌, ℕ, List, ◌++◌, codes, refl, subst, Some, decimal, none-some, LayerFault, Kind, IsPlain, plain-decimal, plain_bytes, plain-append, PlanFault, layer_words, words_at_part, fault_words, step_words, goal_words, sum_words}
 use Rattle.sas_meaning.specs.declared.layered.LayerFault.TheVariants as layer_fault
-use Rattle.sas_reader.specs.declared.fault.Kind.{Kind}
 use Rattle.sas_reader.specs.declared.fault.Kind.TheVariants as kinds
-use Rattle.sas_reader.specs.System.{IsPlain}
-use Rattle.sas_reader.proofs.Plain.{plain-decimal, plain_bytes, plain-append}
-use Rattle.sas_run.specs.declared.plan_check.PlanFault.{PlanFault}
 use Rattle.sas_run.specs.declared.plan_check.PlanFault.TheVariants as plan_fault
-use Rattle.sas_answers.specs.LayerWords.{layer_words, words_at_part}
-use Rattle.sas_answers.specs.PlanWords.{fault_words, step_words, goal_words, sum_words}
 use Rattle.sas_outputs.specs.Output.{word_of}
 
 some_words : (x w : List ℕ) → Some x ≡ Some w → IsPlain x → IsPlain w

@@ -1,36 +1,17 @@
 -- A request has exactly one output.
-use Rattle.std.proofs.Common.{◌≡◌, ◌≢◌, ℕ, ◌<◌, Bool, true, false, ◌⊎◌, List, [], ◌++◌, length, codes, append-nil, refl, sym, ap, subst, ◌∙◌, inl, inr, Option, Some, None, Result, Ok, Err}
-use Rattle.std.specs.Prelude.{◌↔◌, ◌||◌, IsTrue}
-use Rattle.std.proofs.lemmas.Option.{none-some}
-use Rattle.sas_core.specs.declared.parts.Parts.{Parts}
-use Rattle.sas_core.specs.PlanParts.{PlanParts}
-use Rattle.sas_core.specs.FirstFault.{first_fault}
-use Rattle.sas_core.specs.WellRanged.{WellRanged}
-use Rattle.sas_meaning.specs.declared.layered.LayerFault.{LayerFault}
+use Rattle.sas_outputs.proofs.Imports.{◌≡◌, ◌≢◌, ℕ, ◌<◌, Bool, true, false, ◌⊎◌, List, [], ◌++◌, length, codes, append-nil, refl, sym, ap, subst, ◌∙◌, inl, inr, Option, Some, None, Result, Ok, Err, ◌↔◌, ◌||◌, IsTrue, none-some, Parts, PlanParts, first_fault, WellRanged, LayerFault, IsLayered, layer_checks, checks_are_rules, Fault, most_bytes, ReadsAs, plan_format, task_format, task_laws_hold}
+use Rattle.sas_outputs.proofs.Imports.{layers_refusal, layers_verdict, Output, some_check_answer, OneAnswer, SomeAnswer}
 use Rattle.sas_meaning.specs.declared.layered.LayerFault.TheVariants as layer_fault
-use Rattle.sas_meaning.specs.Layers.{IsLayered}
-use Rattle.sas_meaning.specs.LayerChecks.{layer_checks}
-use Rattle.sas_meaning.proofs.LayerChecksAreRules.{checks_are_rules}
-use Rattle.sas_reader.specs.declared.fault.Fault.{Fault}
-use Rattle.sas_reader.specs.Limit.{most_bytes}
-use Rattle.sas_reader.specs.Format.{ReadsAs}
-use Rattle.sas_plan_file.specs.PlanFormat.{plan_format}
-use Rattle.sas_task_format.specs.TaskFormat.{task_format}
-use Rattle.sas_task_format.proofs.TaskLaws.{task_laws_hold}
-use Rattle.sas_answers.specs.Answers.{layers_refusal, layers_verdict}
-use Rattle.sas_output.specs.Ending.{Output}
 use Rattle.sas_outputs.specs.Output.{IsAnswerOrRefusal, refusal, ShowAnswer, PrintAnswer, TaskOut, UnlayeredAnswer, LayeredOut, VerdictOut, PlanOutBy, OutOf, plain_refusal, IsLayeredText, IsLong, HasOneOutput}
 use Rattle.sas_outputs.specs.declared.Request.{Request}
 use Rattle.sas_outputs.specs.declared.Request.TheVariants.{Show, Print, Steps, Check, Plan, Mutex}
 use Rattle.sas_outputs.proofs.Outputs.{one_file, long_file, task_worded, one_made, some_made, task_output, plan_output}
-use Rattle.sas_answers.proofs.CheckAnswers.{some_check_answer}
-use Rattle.sas_answers.proofs.AnswerLaws.{OneAnswer, SomeAnswer}
 
 -- ---- lemmas for all answers about a plan
 
 -- such a fault is one of the task
-pub told_fault : (fault : LayerFault) (o : Output) → layers_refusal fault ≡ Some o → fault ≢ layer_fault.Memory
-told_fault fault o told is = none-some o (subst (λ (f : LayerFault). layers_refusal f ≡ Some o) is told)
+pub reported_fault : (fault : LayerFault) (o : Output) → layers_refusal fault ≡ Some o → fault ≢ layer_fault.Memory
+reported_fault fault o reported is = none-some o (subst (λ (f : LayerFault). layers_refusal f ≡ Some o) is reported)
 
 -- of two alternatives one is true if the other is false
 pub first_alone : (a b : Bool) → b ≡ false → IsTrue (a || b) ↔ IsTrue a
@@ -59,12 +40,12 @@ pub record IsRefusal (fault : LayerFault) (o : Output) : Type 0 where
 -- these refusals do so, and there is one for each fault that is refused without reasons
 pub record Refuses (refused : Parts → LayerFault → Option Output) : Type 0 where
   pub some : (p : Parts) (fault : LayerFault) (plain : Output) → layers_refusal fault ≡ Some plain → (o : Output) × (refused p fault ≡ Some o)
-  pub told : (p : Parts) (fault : LayerFault) (o : Output) → refused p fault ≡ Some o → IsRefusal fault o
+  pub reported : (p : Parts) (fault : LayerFault) (o : Output) → refused p fault ≡ Some o → IsRefusal fault o
 
 pub plain_refuses : Refuses plain_refusal
 plain_refuses = record {
   some = λ p fault plain is. (plain, is);
-  told = λ p fault o is. record { plain = o; is = is; status = refl; behind = []; text = sym (append-nil o.text) };
+  reported = λ p fault o is. record { plain = o; is = is; status = refl; behind = []; text = sym (append-nil o.text) };
 }
 
 -- ---- the output about a task for which something is judged
@@ -73,15 +54,15 @@ plain_refuses = record {
 pub not_refused : (refused : Parts → LayerFault → Option Output) (b : List ℕ) (o : Option Output) → TaskOut (UnlayeredAnswer refused) b o → IsLayeredText b → ⊥
 not_refused refused b o (r, reads, is) (p, reads_p, layered) =
     let same : r ≡ Ok p = task_laws_hold.one_reading most_bytes b r (Ok p) reads reads_p in
-    let (answer, (fault, first, told), whole) = subst (λ (q : Result Parts Fault). IsAnswerOrRefusal (codes "task") (UnlayeredAnswer refused) q o) same is in
+    let (answer, (fault, first, reported), whole) = subst (λ (q : Result Parts Fault). IsAnswerOrRefusal (codes "task") (UnlayeredAnswer refused) q o) same is in
     none-some fault (sym ((checks_are_rules p).1 layered) ∙ first)
 
 module _ (refused : Parts → LayerFault → Option Output) (refuses : Refuses refused) (IsOut : Parts → Option Output → Type 0) (Long : Type 0) (b : List ℕ) (each : (p : Parts) → WellRanged p → IsLayered p → HasOneOutput (IsOut p) Long) where
   one_unlayered : OneAnswer (UnlayeredAnswer refused)
-  one_unlayered p o q (f, first_f, told_o) (g, first_g, told_q) =
+  one_unlayered p o q (f, first_f, reported_o) (g, first_g, reported_q) =
       let same : Some f ≡ Some g = sym first_f ∙ first_g in
       let equal : f ≡ g = cc in
-      let both : Some o ≡ Some q = sym told_o ∙ (ap (refused p) equal ∙ told_q) in
+      let both : Some o ≡ Some q = sym reported_o ∙ (ap (refused p) equal ∙ reported_q) in
       cc
 
   one_layered : (o q : Option Output) → LayeredOut refused IsOut b o → LayeredOut refused IsOut b q → o ≡ q
@@ -98,8 +79,8 @@ module _ (refused : Parts → LayerFault → Option Output) (refuses : Refuses r
       let layered = (checks_are_rules p).0 is in
       (each p reads.0.good layered).some (λ o out. none o (inr (p, reads, layered, out)))
   some_checked p reads (Some fault) is none = some_check_answer p (λ plain answer.
-      let (o, told) = refuses.some p fault plain (subst (λ (first : Option LayerFault). layers_verdict first ≡ Some plain) is answer) in
-      none (Some o) (inl (Ok p, reads, (o, (fault, is, told), refl))))
+      let (o, reported) = refuses.some p fault plain (subst (λ (first : Option LayerFault). layers_verdict first ≡ Some plain) is answer) in
+      none (Some o) (inl (Ok p, reads, (o, (fault, is, reported), refl))))
 
   some_read : (r : Result Parts Fault) → ReadsAs task_format most_bytes b r → ((o : Option Output) → LayeredOut refused IsOut b o → ⊥) → ⊥
   some_read (Err fault) reads none = none (refusal (codes "task") fault) (inl (Err fault, reads, refl))
@@ -129,10 +110,10 @@ module _ (Verdict : Parts → PlanParts → Output → Type 0) (one : OneVerdict
   module _ (OfLayers OfGroups : Parts → Output → Type 0) (one_of_layers : OneAnswer OfLayers) (some_of_layers : SomeAnswer OfLayers) (one_of_groups : OneAnswer OfGroups) (some_of_groups : SomeAnswer OfGroups)
       (refused : Parts → LayerFault → Option Output) (refuses : Refuses refused) where
     -- each request has one output if each task and each plan has one answer
-    pub output_of : (request : Request) (b c : List ℕ) → HasOneOutput (OutOf OfLayers OfGroups Verdict refused request b c) (IsLong request b c)
-    output_of Show b c = task_output b ShowAnswer (one_made _) (some_made _)
-    output_of Print b c = task_output b (PrintAnswer task_format) (one_made _) (some_made _)
-    output_of Steps b c = plan_output c (PrintAnswer plan_format) (one_made _) (some_made _)
-    output_of Check b c = task_output b OfLayers one_of_layers some_of_layers
-    output_of Plan b c = judged_output refused refuses b c
-    output_of Mutex b c = task_output b OfGroups one_of_groups some_of_groups
+    pub output_for : (request : Request) (b c : List ℕ) → HasOneOutput (OutOf OfLayers OfGroups Verdict refused request b c) (IsLong request b c)
+    output_for Show b c = task_output b ShowAnswer (one_made _) (some_made _)
+    output_for Print b c = task_output b (PrintAnswer task_format) (one_made _) (some_made _)
+    output_for Steps b c = plan_output c (PrintAnswer plan_format) (one_made _) (some_made _)
+    output_for Check b c = task_output b OfLayers one_of_layers some_of_layers
+    output_for Plan b c = judged_output refused refuses b c
+    output_for Mutex b c = task_output b OfGroups one_of_groups some_of_groups

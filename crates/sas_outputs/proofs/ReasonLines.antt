@@ -1,19 +1,10 @@
 -- Each line of reasons begins with two spaces, and contains neither LF nor CR.
-use Rattle.std.proofs.Common.{◌+◌, ℕ, ◌/◌, ◌%◌, ◌<◌, Bool, true, false, List, [], ◌∷◌, ◌++◌, codes, flat_map, refl, arith, ap, IsTrue, not}
-use Rattle.std.specs.Prelude.{nat_lt, ◌&&◌, ◌==◌, if◌then◌else◌, decimal}
-use Rattle.std.specs.List.{list_all}
-use Rattle.std.proofs.lemmas.Bool.{and_from, ne_eqb, ltb-true}
-use Rattle.sas_core.specs.Names.{is_plain}
-use Rattle.sas_reader.specs.declared.fault.Kind.{Kind}
+use Rattle.sas_outputs.proofs.Imports.{◌+◌, ℕ, ◌/◌, ◌%◌, ◌<◌, Bool, true, false, List, [], ◌∷◌, ◌++◌, codes, flat_map, refl, arith, ap, IsTrue, not, nat_lt, ◌&&◌, ◌==◌, if◌then◌else◌, decimal, list_all, and_from, ne_eqb, ltb-true, is_plain, Kind, fixed_word_bytes, Due, FixedWord, Location, number, number_then, two}
+use Rattle.sas_output.proofs.PlainLines.{IsPlain, plain-append}
 use Rattle.sas_reader.specs.declared.fault.Kind.TheVariants as kinds
-use Rattle.sas_task_format.specs.Marks.{fixed_word_bytes}
-use Rattle.sas_task_format.specs.declared.marks.Due.{Due}
 use Rattle.sas_task_format.specs.declared.marks.Due.TheVariants as due
-use Rattle.sas_task_format.specs.declared.marks.FixedWord.{FixedWord}
 use Rattle.sas_task_format.specs.declared.marks.FixedWord.TheVariants as fixed
-use Rattle.sas_task_format.specs.declared.marks.Location.{Location}
 use Rattle.sas_task_format.specs.declared.marks.Location.TheVariants as at
-use Rattle.sas_output.proofs.PlainLines.{IsPlain, plain-append, number, number_then, two}
 use Rattle.sas_outputs.specs.FileLine.{At, Expected, ExpectedInPlan, NumberMustBe, Found, EmptyLine, Unfinished, EndOfFile}
 use Rattle.sas_outputs.specs.FileLine.{location_words, due_words, plan_due_words, least_words}
 use Rattle.sas_outputs.specs.Laws.{FileLinesAreReasons}

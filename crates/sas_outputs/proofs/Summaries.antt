@@ -1,13 +1,6 @@
 -- The text of a summary, line by line.
-use Rattle.std.proofs.Common.{◌≡◌, ℕ, ◌<◌, ◌≤◌, List, ◌++◌, length, take, get_or, codes, zero-add, arith, sym, ap, ◌∙◌}
-use Rattle.std.specs.List.{enumerate_from, flat_map}
-use Rattle.std.proofs.lemmas.List.{take_all}
-use Rattle.std.proofs.lemmas.List.FromFn.{length-enumerate_from, get_or-enumerate_from}
-use Rattle.sas_core.specs.declared.parts.Fact.{Fact}
-use Rattle.sas_core.specs.declared.parts.Variable.{Variable}
-use Rattle.sas_lines.specs.Lines.{text}
-use Rattle.sas_flat.specs.declared.outline.Outline.{Outline}
-use Rattle.sas_output.proofs.Texts.{text_of_both, text_of_each}
+use Rattle.sas_outputs.proofs.Imports.{◌≡◌, ℕ, ◌<◌, ◌≤◌, List, ◌++◌, length, take, get_or, codes, zero-add, arith, sym, ap, ◌∙◌, enumerate_from, take_all, length-enumerate_from, get_or-enumerate_from, Fact, Variable, text, Outline, text_of_both, text_of_each}
+use Rattle.std.specs.List.{flat_map}
 use Rattle.sas_outputs.specs.Summary.{number_lines, fact_lines, initial_lines, goal_fact_lines, summary_lines}
 
 -- the summary, part by part

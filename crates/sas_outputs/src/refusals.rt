@@ -1,23 +1,23 @@
 // Writes refusals of files.
 ghost use Rattle.std.specs.Prelude.{◌≡◌, ◌↔◌, Some, IfOk, IfErr, IsErrOf};
-ghost use Rattle.sas_output.specs.Ending.{IsWrite, output_told};
+ghost use Rattle.sas_output.specs.Ending.{IsWrite, output_of};
 ghost use Rattle.sas_outputs.specs.Output.{refusal, refusal_line, word_of};
 
 use sas_lines::{push_line, push_number};
-use sas_output::{Status, Told, ToolFault};
+use sas_output::{Status, Answer, ToolFault};
 use sas_reader::{Fault, Kind};
 use std::alloc::{AllocError, Global};
 
 /// Returns the refusal of the file called `name` for its fault: one line, with status `No`. Returns `Err` if the run ends without an
 /// answer: `TooLong` and `Read` for a fault of this kind, or `Memory` if out of memory.
-pub fn refuse_file(alloc: Global, name: &str, fault: Fault) -> Result<Told, ToolFault>
-    ensures ok { IfOk result (λ t. refusal name.now fault ≡ Some (output_told t)) }
+pub fn refuse_file(alloc: Global, name: &str, fault: Fault) -> Result<Answer, ToolFault>
+    ensures ok { IfOk result (λ t. refusal name.now fault ≡ Some (output_of t)) }
     ensures long { IsErrOf result ToolFault.TooLong ↔ (fault.kind ≡ Kind.TooLong) }
     ensures read { IsErrOf result ToolFault.Read ↔ (fault.kind ≡ Kind.Read) }
     ensures writes { IfErr result (λ e. IsWrite e → ⊥) }
 {
     let word = word(fault.kind)?;
-    Ok(Told {
+    Ok(Answer {
         text: refusal_text(alloc, name, fault.line, word)?,
         status: Status::No,
     })

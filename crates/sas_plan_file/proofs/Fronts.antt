@@ -1,10 +1,5 @@
 -- Prefixes and suffixes of lists.
-use Rattle.std.proofs.Common.{◌≡◌, ℕ, ◌-◌, true, false, List, ◌++◌, length, take, drop, sym, ap, ◌∙◌, arith, length-append, Option, None, Some}
-use Rattle.std.specs.Prelude.{nat_eq}
-use Rattle.std.specs.Option.{MatchOption}
-use Rattle.std.specs.Cmp.Lexicographic.{pointwise, same_text, other_text}
-use Rattle.std.proofs.lemmas.List.{take-append-drop}
-use Rattle.std.proofs.Math.Seq.{drop-append_seam}
+use Rattle.sas_plan_file.proofs.Imports.{◌≡◌, ℕ, ◌-◌, true, false, List, ◌++◌, length, take, drop, sym, ap, ◌∙◌, arith, length-append, Option, None, Some, nat_eq, MatchOption, pointwise, same_text, other_text, take-append-drop, drop-append_seam}
 
 pub match_option : {X : Type 0} (o : Option X) (P P' : Type 0) (Q Q' : X → Type 0) → MatchOption o P Q → (P → P') → ((x : X) → Q x → Q' x) → MatchOption o P' Q'
 match_option None P P' Q Q' h f g = f h

@@ -8,3 +8,4 @@ pub mod PlanStanding
 pub mod PlanKeeping
 pub mod PlanLaws
 pub mod PlanAhead
+mod Imports

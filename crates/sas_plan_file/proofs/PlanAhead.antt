@@ -1,18 +1,6 @@
 -- A step on the first line of some bytes.
-use Rattle.std.proofs.Common.{◌≡◌, ◌⊎◌, inl, inr, ℕ, suc, ◌+◌, ◌<◌, ◌≤◌, List, [], ◌∷◌, ◌++◌, length, get_or, take, drop, refl, subst, Ok, sym, ap, ◌∙◌, append_assoc, length-append, arith, None, true, false, Bool, not, ◌&&◌, ◌==◌}
-use Rattle.std.specs.Prelude.{codes}
-use Rattle.std.specs.List.{list_all}
-use Rattle.std.proofs.lemmas.Bool.{ne_eqb}
-use Rattle.std.proofs.lemmas.List.{length-take-le, get_or-take, take_at, take-append-drop, drop_more, drop_all}
-use Rattle.std.proofs.Math.ListN.{get_or-append}
-use Rattle.memchr.specs.Find.{Nowhere, NoneBefore, Passes, is_byte2}
-use Rattle.sas_core.specs.Names.{is_plain, IsName}
-use Rattle.sas_core.proofs.PlainBytes.{is_none-search}
-use Rattle.sas_lines.specs.FirstLines.{LineStandsFirst}
-use Rattle.sas_lines.proofs.Beginnings.{stands_first, one_stands_first}
-use Rattle.sas_reader.specs.Machine.{AcceptsAhead}
-use Rattle.sas_reader.proofs.Plain.{plain, return_stands_first}
-use Rattle.sas_reader.specs.System.{IsAllowed}
+use Rattle.sas_plan_file.proofs.Imports.{◌≡◌, ◌⊎◌, inl, inr, ℕ, suc, ◌+◌, ◌<◌, ◌≤◌, List, [], ◌∷◌, ◌++◌, length, get_or, take, drop, refl, subst, Ok, sym, ap, ◌∙◌, append_assoc, length-append, arith, None, true, false, Bool, not, ◌&&◌, ◌==◌, codes, list_all, ne_eqb, length-take-le, get_or-take, take_at, take-append-drop, drop_more, drop_all, get_or-append, Nowhere, NoneBefore, Passes, is_byte2}
+use Rattle.sas_plan_file.proofs.Imports.{is_plain, IsName, is_none-search, LineStandsFirst, stands_first, one_stands_first, AcceptsAhead, plain, return_stands_first, IsAllowed}
 use Rattle.sas_plan_file.specs.PlanFormat.{step, plan_line_bytes, plan_format, PlanLineFits}
 use Rattle.sas_plan_file.specs.PlanMachine.{plan_line_ok}
 use Rattle.sas_plan_file.specs.PlanLine.{EndsLine, StepStandsFirst}

@@ -1,13 +1,6 @@
 -- Lines that begin a plan can be completed by the cost 0.
-use Rattle.std.proofs.Common.{◌≡◌, ℕ, List, [], ◌∷◌, ◌++◌, map, refl, sym, ap, ◌∙◌, arith, ◌⊎◌, inl, inr}
-use Rattle.std.specs.List.{AllByRecursion}
-use Rattle.std.proofs.lemmas.List.{append-nil}
-use Rattle.sas_core.specs.declared.plan.CostKind.{CostKind}
+use Rattle.sas_plan_file.proofs.Imports.{◌≡◌, ℕ, List, [], ◌∷◌, ◌++◌, map, refl, sym, ap, ◌∙◌, arith, ◌⊎◌, inl, inr, AllByRecursion, append-nil, CostKind, IsName, PlanParts, WellNamed, lines_of}
 use Rattle.sas_core.specs.declared.plan.CostKind.TheVariants as costs
-use Rattle.sas_core.specs.Names.{IsName}
-use Rattle.sas_core.specs.PlanParts.{PlanParts}
-use Rattle.sas_core.specs.Plans.{WellNamed}
-use Rattle.sas_reader.specs.Texts.{lines_of}
 use Rattle.sas_plan_file.specs.PlanFormat.{step, cost, plan_line_bytes, plan_texts}
 use Rattle.sas_plan_file.specs.PlanLaws.{PlanIsFilled, filling_cost_line}
 

@@ -1,21 +1,8 @@
 -- The grammar of plan files.
-use Rattle.std.proofs.Common.{◌≡◌, ℕ, List, [], ◌∷◌, ◌++◌, map, refl, sym, ap, subst, ◌∙◌, append_assoc, arith}
-use Rattle.std.specs.Prelude.{codes}
-use Rattle.std.specs.List.{AllByRecursion}
-use Rattle.std.specs.Fmt.{decimal}
-use Rattle.std.proofs.lemmas.List.{append-nil}
-use Rattle.sas_core.specs.declared.plan.CostKind.{CostKind}
+use Rattle.sas_plan_file.proofs.Imports.{◌≡◌, ℕ, List, [], ◌∷◌, ◌++◌, map, refl, sym, ap, subst, ◌∙◌, append_assoc, arith, codes, AllByRecursion, decimal, append-nil, CostKind, IsName, PlanParts, IsPlanCost, WellNamed, lines_of, Node, ended, LeadsToEnd, Grammar, IsPlain, one_ended, plain-decimal, plain_bytes, plain-name, plain-append}
 use Rattle.sas_core.specs.declared.plan.CostKind.TheVariants as costs
-use Rattle.sas_core.specs.Names.{IsName}
-use Rattle.sas_core.specs.PlanParts.{PlanParts}
-use Rattle.sas_core.specs.Numbers.{IsPlanCost}
-use Rattle.sas_core.specs.Plans.{WellNamed}
-use Rattle.sas_reader.specs.Texts.{lines_of}
-use Rattle.sas_reader.specs.System.{Node, ended, LeadsToEnd, Grammar, IsPlain}
 use Rattle.sas_plan_file.specs.PlanFormat.{PlanLine, step, cost, plan_line_bytes, plan_layout, plan_texts, plan_format, cost_front, cost_words, PlanLineFits}
 use Rattle.sas_plan_file.specs.PlanMachine.{PlanState, going, closed, plan_node, plan_start}
-use Rattle.sas_reader.proofs.Paths.{one_ended}
-use Rattle.sas_reader.proofs.Plain.{plain-decimal, plain_bytes, plain-name, plain-append}
 use Rattle.sas_plan_file.proofs.PlanLines.{one_plan_line, one_plan_kind, some_plan_kind}
 
 abbrev plan_with : List (List ℕ) → ℕ → CostKind → PlanParts

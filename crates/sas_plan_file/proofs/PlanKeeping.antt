@@ -1,19 +1,9 @@
 -- The text of a plan, stored line by line.
-use Rattle.std.proofs.Common.{◌≡◌, ℕ, true, List, [], ◌∷◌, ◌++◌, refl, sym, ap, ◌∙◌, IsTrue}
-use Rattle.std.specs.Prelude.{◌↔◌}
-use Rattle.std.proofs.lemmas.Grind.{flat_map-append}
-use Rattle.std.proofs.lemmas.List.{append-nil}
-use Rattle.sas_core.specs.declared.plan.CostKind.{CostKind}
-use Rattle.sas_core.specs.PlanParts.{PlanParts}
-use Rattle.sas_lines.specs.Lines.{text, lines}
-use Rattle.sas_reader.specs.declared.fault.Kind.{Kind}
+use Rattle.sas_plan_file.proofs.Imports.{◌≡◌, ℕ, true, List, [], ◌∷◌, ◌++◌, refl, sym, ap, ◌∙◌, IsTrue, ◌↔◌, flat_map-append, append-nil, CostKind, PlanParts, text, lines, Kind, lines_of, Reads, IsAllowed, IsRejected, Leads, Rejects, Follows}
 use Rattle.sas_plan_file.specs.declared.plan_text.PlanText.{PlanText}
-use Rattle.sas_reader.specs.Texts.{lines_of, Reads}
 use Rattle.sas_plan_file.specs.PlanFormat.{step, cost, plan_line_bytes, plan_texts, plan_format, PlanLineFits}
 use Rattle.sas_plan_file.specs.PlanMachine.{PlanState, going, closed, plan_node, plan_next, plan_start, plan_line_ok, HasCostLine}
 use Rattle.sas_plan_file.specs.PlanText.{KeepsLines}
-use Rattle.sas_reader.specs.System.{IsAllowed, IsRejected, Leads, Rejects}
-use Rattle.sas_reader.proofs.Conversion.{Follows}
 use Rattle.sas_plan_file.proofs.PlanStanding.{closed_value, closed_is}
 use Rattle.sas_plan_file.proofs.PlanSteps.{led_on}
 

@@ -1,13 +1,9 @@
 -- What a reader of plans represents, in terms of the plan format.
-use Rattle.std.proofs.Common.{◌≡◌, ℕ, ◌≤◌, List, length, refl, ap, Ok}
-use Rattle.sas_core.specs.PlanParts.{PlanParts}
-use Rattle.sas_reader.specs.Format.{ReadsAs}
+use Rattle.sas_plan_file.proofs.Imports.{◌≡◌, ℕ, ◌≤◌, List, length, refl, ap, Ok, PlanParts, ReadsAs, ended, Follows, reads_of_format}
 use Rattle.sas_plan_file.specs.PlanFormat.{plan_format, PlanLineFits}
 use Rattle.sas_plan_file.specs.PlanMachine.{PlanState, going, closed, plan_node, plan_start, HasCostLine}
 use Rattle.sas_plan_file.specs.PlanReader.{plan_led, plan_rejects}
 use Rattle.sas_reader.specs.Reader as reading
-use Rattle.sas_reader.specs.System.{ended}
-use Rattle.sas_reader.proofs.Conversion.{Follows, reads_of_format}
 use Rattle.sas_plan_file.proofs.PlanGrammar.{plan_grammar}
 
 pub closed_value : (p : PlanState) → HasCostLine p → (v : PlanParts) × (plan_node p ≡ ended v)

@@ -1,9 +1,5 @@
 -- The first of the valid plans that cost least: one at most, and one where a plan is valid.
-use Rattle.std.proofs.Common.{◌≡◌, ℕ, ◌<◌, ◌≤◌, ◌⊎◌, List, [], ◌∷◌, ◌++◌, length, append_assoc, refl, sym, ap, ◌∙◌, arith, inl, inr, Option, Some, None}
-use Rattle.std.specs.Prelude.{All, codes, decimal}
-use Rattle.std.proofs.lemmas.Bool.{cases_lt}
-use Rattle.std.proofs.lemmas.Option.{none-some}
-use Rattle.std.proofs.lemmas.List.Elements.{All-nil, All-cons, All-head, All-tail, All-same, All-append, All-push, All-weaker}
+use Rattle.sas_plans.proofs.Imports.{◌≡◌, ℕ, ◌<◌, ◌≤◌, ◌⊎◌, List, [], ◌∷◌, ◌++◌, length, append_assoc, refl, sym, ap, ◌∙◌, arith, inl, inr, Option, Some, None, All, codes, decimal, cases_lt, none-some, All-nil, All-cons, All-head, All-tail, All-same, All-append, All-push, All-weaker}
 use Rattle.sas_plans.specs.declared.tally.Best.{Best}
 use Rattle.sas_plans.specs.Judged.{Judged, IsBest, IsSummary, count_words}
 use Rattle.sas_plans.specs.Judging.{HasBest, IsLower}

@@ -1,13 +1,6 @@
 -- Plans whose bytes are all in memory, and the answer about them in a text.
-use Rattle.std.proofs.Common.{◌≡◌, ℕ, List, [], length, refl, sym, subst, ◌∙◌, Option, Some, None, Ok, Err}
-use Rattle.std.specs.Prelude.{All, slice_index_or}
-use Rattle.std.specs.Io.KnownBytes.{Appends}
-use Rattle.std.proofs.Math.ListN.{get_or-map}
-use Rattle.std.proofs.lemmas.List.{length-map}
-use Rattle.sas_output.specs.declared.ending.Status.{Status}
-use Rattle.sas_output.specs.declared.ending.ToolFault.{ToolFault}
+use Rattle.sas_plans.proofs.Imports.{◌≡◌, ℕ, List, [], length, refl, sym, subst, ◌∙◌, Option, Some, None, Ok, Err, All, slice_index_or, Appends, get_or-map, length-map, Status, ToolFault, Ends, Output}
 use Rattle.sas_output.specs.declared.ending.ToolFault.TheVariants as tool_fault
-use Rattle.sas_output.specs.Ending.{Ends, Output}
 use Rattle.sas_plans.specs.declared.slices.PlanBytes.{PlanBytes}
 use Rattle.sas_plans.specs.Inputs.{HaveBytes}
 use Rattle.sas_plans.specs.Slices.{bytes_of, labels_of}
@@ -30,11 +23,11 @@ module _ (old : Option (List ℕ)) (new text : List ℕ) (empty : old ≡ Some [
   pub sent_text : (P : (List ℕ → Type 0) → Type 0) → P (Appends old (Some new)) → P (λ sent. text ≡ sent)
   sent_text P h = subst (λ (x : List ℕ). P (λ sent. x ≡ sent)) is (subst (λ (x : Option (List ℕ)). P (Appends x (Some new))) empty h)
 
-  pub told_output : (Out : Option Output → Type 0) (status : Status) → Ends Out (Appends old (Some new)) (Ok status) → Out (Some (record { text = text; status = status }))
-  told_output Out status ends =
+  pub reported_output : (Out : Option Output → Type 0) (status : Status) → Ends Out (Appends old (Some new)) (Ok status) → Out (Some (record { text = text; status = status }))
+  reported_output Out status ends =
       let (output, out, same, sent) = sent_text (λ Sent. Ends Out Sent (Ok status)) ends in
       subst (λ (x : List ℕ). Out (Some (record { text = x; status = status }))) (sym sent) (subst (λ (x : Status). Out (Some (record { text = output.text; status = x }))) (sym same) out)
 
 -- an input that is too long has no answer
-pub told_none : (Out : Option Output → Type 0) (Sent : List ℕ → Type 0) (why : ToolFault) → why ≡ tool_fault.TooLong → Ends Out Sent (Err why) → Out None
-told_none Out Sent why long ends = let there : Ends Out Sent (Err tool_fault.TooLong) = subst (λ (e : ToolFault). Ends Out Sent (Err e)) long ends in there
+pub reported_none : (Out : Option Output → Type 0) (Sent : List ℕ → Type 0) (why : ToolFault) → why ≡ tool_fault.TooLong → Ends Out Sent (Err why) → Out None
+reported_none Out Sent why long ends = let there : Ends Out Sent (Err tool_fault.TooLong) = subst (λ (e : ToolFault). Ends Out Sent (Err e)) long ends in there

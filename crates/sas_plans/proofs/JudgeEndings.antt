@@ -1,10 +1,6 @@
 -- How a run over many plans ends.
-use Rattle.std.proofs.Common.{◌≡◌, List, ℕ, refl, Option, None, Result, Ok, Err}
-use Rattle.std.specs.Prelude.{IfOk}
-use Rattle.sas_output.specs.declared.ending.Status.{Status}
-use Rattle.sas_output.specs.declared.ending.ToolFault.{ToolFault}
+use Rattle.sas_plans.proofs.Imports.{◌≡◌, List, ℕ, refl, Option, None, Result, Ok, Err, IfOk, Status, ToolFault, Ends, IsWrite, Output}
 use Rattle.sas_output.specs.declared.ending.ToolFault.TheVariants as tool_fault
-use Rattle.sas_output.specs.Ending.{Ends, IsWrite, Output}
 use Rattle.sas_plans.specs.declared.inputs.JudgeFault.{JudgeFault}
 use Rattle.sas_plans.specs.Inputs.{tool_result}
 

@@ -1,29 +1,6 @@
 -- Laws of what is printed of many plans.
-use Rattle.std.proofs.Common.{◌≡◌, ℕ, ◌<◌, List, [], ◌∷◌, ◌++◌, length, codes, refl, sym, ap, subst, ◌∙◌, arith, inl, inr, Option, Some, None, Result, Ok, Err}
-use Rattle.std.specs.Prelude.{zip, flat_map, All, Contains, if◌then◌else◌}
-use Rattle.std.specs.List.{AllZip, list_all}
-use Rattle.std.proofs.lemmas.Option.{none-some}
-use Rattle.std.proofs.lemmas.List.Elements.{All-nil, All-cons, All-contains, Contains-append_right, Contains-append_left, Contains-push}
-use Rattle.sas_core.specs.declared.parts.Parts.{Parts}
-use Rattle.sas_core.specs.PlanParts.{PlanParts}
-use Rattle.sas_core.specs.WellRanged.{WellRanged}
-use Rattle.sas_meaning.specs.Layers.{IsLayered}
-use Rattle.sas_reader.specs.declared.fault.Fault.{Fault}
-use Rattle.sas_reader.specs.Format.{ReadsAs}
-use Rattle.sas_reader.specs.Limit.{most_bytes}
-use Rattle.sas_plan_file.specs.PlanFormat.{plan_format}
-use Rattle.sas_plan_file.proofs.PlanLaws.{plan_laws_hold}
-use Rattle.sas_task_format.specs.TaskFormat.{task_format}
-use Rattle.sas_output.specs.declared.ending.Status.{Status}
-use Rattle.sas_output.specs.declared.ending.Status.TheVariants.{Yes, No}
-use Rattle.sas_output.specs.Ending.{Output}
-use Rattle.sas_answers.specs.Answers.{VerdictAnswer}
-use Rattle.sas_answers.proofs.VerdictAnswers.{one_verdict_answer, some_verdict_answer}
-use Rattle.sas_outputs.specs.declared.Request.TheVariants.{Plan}
-use Rattle.sas_outputs.specs.Output.{Out, VerdictOut, plain_refusal, IsAnswerOrRefusal, HasOneOutput, refusal_line, word_of}
-use Rattle.sas_outputs.proofs.Outputs.{same_output}
-use Rattle.sas_outputs.proofs.PlanOutputs.{plain_refuses, not_refused, verdict_output, layered_output}
-use Rattle.sas_answers.proofs.WordedLines.{worded}
+use Rattle.sas_plans.proofs.Imports.{◌≡◌, ℕ, ◌<◌, List, [], ◌∷◌, ◌++◌, length, codes, refl, sym, ap, subst, ◌∙◌, arith, inl, inr, Option, Some, None, Result, Ok, Err, zip, flat_map, All, Contains, if◌then◌else◌, AllZip, list_all, none-some, All-nil, All-cons, All-contains, Contains-append_right, Contains-append_left, Contains-push, Parts, PlanParts, WellRanged, IsLayered, Fault, ReadsAs}
+use Rattle.sas_plans.proofs.Imports.{most_bytes, plan_format, plan_laws_hold, task_format, Status, Yes, No, Output, VerdictAnswer, one_verdict_answer, some_verdict_answer, Plan, Out, VerdictOut, plain_refusal, IsAnswerOrRefusal, HasOneOutput, refusal_line, word_of, same_output, plain_refuses, not_refused, verdict_output, layered_output, worded}
 use Rattle.sas_plans.specs.Judged.{Judged, HasCost, IsJudged, PlansAnswer, PlansOut, JudgeOut, is_valid, labelled}
 use Rattle.sas_plans.specs.Laws.{EachIsThatOfPlan, IsOneLong, RefusesAsPlan}
 use Rattle.sas_plans.proofs.BestPlans.{one_summary, some_summary}

@@ -1,15 +1,8 @@
 -- The last byte of a line: a number ends in a digit, and a refusal in a letter.
-use Rattle.std.proofs.Common.{◌≡◌, ℕ, zero, suc, ◌+◌, ◌<◌, ◌≤◌, Bool, true, false, cond, eqb, List, [], ◌∷◌, ◌++◌, codes, refl, sym, subst, arith, Some}
-use Rattle.std.specs.Prelude.{◌/◌, ◌%◌, nat_lt}
-use Rattle.std.specs.Fmt.{decimal, digits, digits_onto, digit_glyph}
-use Rattle.std.proofs.lemmas.Bool.{lt-ltb}
-use Rattle.std.proofs.lemmas.Option.{none-some}
-use Rattle.sas_meaning.specs.declared.layered.LayerFault.{LayerFault}
+use Rattle.sas_plans.proofs.Imports.{◌≡◌, ℕ, zero, suc, ◌+◌, ◌<◌, ◌≤◌, Bool, true, false, cond, eqb, List, [], ◌∷◌, ◌++◌, codes, refl, sym, subst, arith, Some, ◌/◌, ◌%◌, nat_lt, digits, digits_onto, digit_glyph, lt-ltb, none-some, LayerFault, Kind, layer_words, words_at_part, word_of}
+use Rattle.std.specs.Fmt.{decimal}
 use Rattle.sas_meaning.specs.declared.layered.LayerFault.TheVariants as layer_fault
-use Rattle.sas_reader.specs.declared.fault.Kind.{Kind}
 use Rattle.sas_reader.specs.declared.fault.Kind.TheVariants as kinds
-use Rattle.sas_answers.specs.LayerWords.{layer_words, words_at_part}
-use Rattle.sas_outputs.specs.Output.{word_of}
 
 -- the last byte, or 0
 abbrev pub last : List ℕ → ℕ

@@ -12,3 +12,4 @@ pub mod PlanLines
 mod PlansHeadlines
 mod JudgeEndings
 mod InMemory
+mod Imports

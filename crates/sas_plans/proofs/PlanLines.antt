@@ -1,25 +1,6 @@
 -- What is printed of each plan is one line, and a task is refused by one.
-use Rattle.std.proofs.Common.{◌≡◌, ◌≢◌, ℕ, zero, suc, ◌<◌, List, [], ◌∷◌, ◌++◌, length, get_or, codes, decimal, append_assoc, refl, sym, ap, subst, ◌∙◌, arith, inl, inr, Some, Result, Ok, Err}
-use Rattle.std.specs.Prelude.{flat_map}
-use Rattle.std.specs.List.{AllByRecursion}
-use Rattle.std.proofs.Math.ListN.{get_or-append}
-use Rattle.std.proofs.lemmas.List.Elements.{recursion_from_All}
-use Rattle.sas_core.specs.declared.parts.Parts.{Parts}
-use Rattle.sas_core.specs.PlanParts.{PlanParts}
-use Rattle.sas_meaning.specs.declared.layered.LayerFault.{LayerFault}
-use Rattle.sas_lines.specs.Lines.{lines, text}
-use Rattle.sas_lines.proofs.Splitting.{Plain, lines-append, lines-text, unfinished-text}
-use Rattle.sas_reader.specs.declared.fault.Fault.{Fault}
-use Rattle.sas_reader.specs.System.{IsPlain}
-use Rattle.sas_reader.proofs.Plain.{plain, plain-decimal, plain_bytes, plain-append}
-use Rattle.sas_output.specs.Ending.{Output}
-use Rattle.sas_answers.specs.Answers.{VerdictAnswer, layers_refusal}
-use Rattle.sas_answers.specs.LayerWords.{layer_words, layers_line}
-use Rattle.sas_answers.specs.PlanWords.{fault_words, invalid_line}
-use Rattle.sas_output.specs.declared.ending.Status.TheVariants.{No}
-use Rattle.sas_outputs.specs.Output.{VerdictOut, IsAnswerOrRefusal, TaskOut, UnlayeredAnswer, plain_refusal, refusal, refusal_line, word_of}
-use Rattle.sas_outputs.proofs.PlainLines.{file_words, file_plain, kind_plain, layer_plain, invalid_plain}
-use Rattle.sas_answers.proofs.WordedLines.{worded}
+use Rattle.sas_plans.proofs.Imports.{◌≡◌, ◌≢◌, ℕ, zero, suc, ◌<◌, List, [], ◌∷◌, ◌++◌, length, get_or, codes, decimal, append_assoc, refl, sym, ap, subst, ◌∙◌, arith, inl, inr, Some, Result, Ok, Err, flat_map, AllByRecursion, get_or-append, recursion_from_All, Parts, PlanParts, LayerFault, lines, text, Plain, lines-append, lines-text, unfinished-text, Fault, IsPlain, plain, plain-decimal}
+use Rattle.sas_plans.proofs.Imports.{plain_bytes, plain-append, Output, VerdictAnswer, layers_refusal, layer_words, layers_line, fault_words, invalid_line, No, VerdictOut, IsAnswerOrRefusal, TaskOut, UnlayeredAnswer, plain_refusal, refusal, refusal_line, word_of, file_words, file_plain, kind_plain, layer_plain, invalid_plain, worded}
 use Rattle.sas_plans.specs.Inputs.{IsLabel}
 use Rattle.sas_plans.specs.Judged.{Judged, labelled}
 use Rattle.sas_plans.specs.Judging.{unjudged}
@@ -146,7 +127,7 @@ layers_refused fault o is =
 
 reading_refused : (r : Result Parts Fault) (o : Output) → IsAnswerOrRefusal (codes "task") (UnlayeredAnswer plain_refusal) r (Some o) → IsRefusal o
 reading_refused (Err f) o is = file_refusal f o (sym is)
-reading_refused (Ok p) o (answer, (fault, first, told), is) = layers_refused fault o (told ∙ sym is)
+reading_refused (Ok p) o (answer, (fault, first, reported), is) = layers_refused fault o (reported ∙ sym is)
 
 pub task_refused : (b : List ℕ) (o : Output) → TaskOut (UnlayeredAnswer plain_refusal) b (Some o) → IsRefusal o
 task_refused b o (r, reads, is) = reading_refused r o is

@@ -1,26 +1,8 @@
 -- The verdict on one plan, by what was read of it.
-use Rattle.std.proofs.Common.{◌≡◌, ◌≢◌, ℕ, List, codes, refl, sym, ◌∙◌, Option, Some, None, Result, Ok, Err}
-use Rattle.std.specs.Prelude.{IfOk, IfErr, IsErrOf}
-use Rattle.std.specs.Io.KnownBytes.{Consumes, IsAtEnd}
-use Rattle.sas_core.specs.declared.parts.Parts.{Parts}
-use Rattle.sas_core.specs.PlanParts.{PlanParts}
-use Rattle.sas_lines.specs.Device.{Device}
-use Rattle.sas_reader.specs.declared.fault.Fault.{Fault}
+use Rattle.sas_plans.proofs.Imports.{◌≡◌, ◌≢◌, ℕ, List, codes, refl, sym, ◌∙◌, Option, Some, None, Result, Ok, Err, IfOk, IfErr, IsErrOf, Consumes, IsAtEnd, Parts, PlanParts, Device, Fault, ValueOf, ReadsAll, ReadsAs, most_bytes, known_answer, known_fault, plan_format, Status, Yes, No, ToolFault, Output, IsWrite, VerdictAnswer, refusal, refusal_line, word_of, refused_kind, too_long_else}
+use Rattle.sas_plans.proofs.Imports.{reading_of_refusal, file_refused, file_too_long, worded}
 use Rattle.sas_reader.specs.declared.fault.Kind.TheVariants as kinds
-use Rattle.sas_reader.specs.Devices.{ValueOf, ReadsAll}
-use Rattle.sas_reader.specs.Format.{ReadsAs}
-use Rattle.sas_reader.specs.Limit.{most_bytes}
-use Rattle.sas_reader.proofs.Known.{known_answer, known_fault}
-use Rattle.sas_plan_file.specs.PlanFormat.{plan_format}
-use Rattle.sas_output.specs.declared.ending.Status.{Status}
-use Rattle.sas_output.specs.declared.ending.Status.TheVariants.{Yes, No}
-use Rattle.sas_output.specs.declared.ending.ToolFault.{ToolFault}
 use Rattle.sas_output.specs.declared.ending.ToolFault.TheVariants as tool_fault
-use Rattle.sas_output.specs.Ending.{Output, IsWrite}
-use Rattle.sas_answers.specs.Answers.{VerdictAnswer}
-use Rattle.sas_outputs.specs.Output.{refusal, refusal_line, word_of}
-use Rattle.sas_outputs.proofs.Outputs.{refused_kind, too_long_else, reading_of_refusal, file_refused, file_too_long}
-use Rattle.sas_answers.proofs.WordedLines.{worded}
 use Rattle.sas_plans.specs.declared.verdicts.Verdict.{Verdict}
 use Rattle.sas_plans.specs.Judged.{HasCost}
 use Rattle.sas_plans.specs.Judging.{KnownBeginsWith, IsVerdictOnRefusal, IsVerdict, IsVerdictOnPlan, cost_if, Judges}
@@ -59,11 +41,11 @@ refused_verdict p c f v (o, is, line, cost) fault =
 
 module _ {D : Type 0} (left : D → Option (List ℕ)) (p : Parts) (old new : Device D) where
   pub judges_read : (plan : PlanParts) (v : Verdict) → ReadsAll left plan_format (ValueOf plan_format) old new (Ok plan) → IsVerdictOnPlan p plan v → Judges p (left old.device) (Ok v)
-  judges_read plan v h tells = record {
-    output = λ c known. read_verdict p c plan v (known_answer left plan_format (ValueOf plan_format) old new plan c h known) tells;
+  judges_read plan v h reports = record {
+    output = λ c known. read_verdict p c plan v (known_answer left plan_format (ValueOf plan_format) old new plan c h known) reports;
     taken = λ decided.
         let got = h.read in
-        (got.0, consumed_front (left old.device) (left new.device) got.0 got.1.0, read_verdict p got.0 plan v got.2 tells);
+        (got.0, consumed_front (left old.device) (left new.device) got.0 got.1.0, read_verdict p got.0 plan v got.2 reports);
     writes = tt;
   }
 

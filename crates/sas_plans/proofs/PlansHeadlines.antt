@@ -1,28 +1,6 @@
--- What is printed of many plans tells which of them solve the task.
-use Rattle.std.proofs.Common.{◌≡◌, ℕ, zero, suc, ◌<◌, Bool, true, false, List, [], ◌∷◌, ◌++◌, length, get_or, codes, decimal, append_assoc, refl, sym, ap, subst, ◌∙◌, arith, inl, inr, Option, Some, Ok}
-use Rattle.std.specs.Prelude.{◌↔◌, All, zip, is_some, if◌then◌else◌}
-use Rattle.std.specs.List.{list_all}
-use Rattle.std.specs.Io.KnownBytes.{Appends}
-use Rattle.std.proofs.lemmas.List.{append_cancel_left, append_cancel_right}
-use Rattle.std.proofs.lemmas.List.Elements.{All-get_or, All-from_get_or}
-use Rattle.std.proofs.lemmas.List.Sums.{AllPass-from_list_all, list_all-from_AllPass}
-use Rattle.sas_core.specs.declared.parts.Parts.{Parts}
-use Rattle.sas_meaning.specs.Layers.{IsLayered}
-use Rattle.sas_lines.specs.Lines.{lines}
-use Rattle.sas_lines.proofs.Splitting.{lines-one}
-use Rattle.sas_reader.specs.Format.{ReadsAs}
-use Rattle.sas_reader.specs.Limit.{most_bytes}
-use Rattle.sas_reader.proofs.Plain.{plain}
-use Rattle.sas_task_format.specs.TaskFormat.{task_format}
-use Rattle.sas_output.specs.declared.ending.Status.{Status}
-use Rattle.sas_output.specs.declared.ending.Status.TheVariants.{Yes, No}
-use Rattle.sas_output.specs.Ending.{Output}
-use Rattle.sas_answers.specs.Answers.{VerdictAnswer}
-use Rattle.sas_answers.specs.PlanWords.{valid_line}
-use Rattle.sas_outputs.specs.Headline.{Solves, Headline}
-use Rattle.sas_outputs.specs.Output.{IsLayeredText, plain_refusal}
-use Rattle.sas_outputs.proofs.Headlines.{tells_valid, headline_of, sent_same}
-use Rattle.sas_outputs.proofs.PlanOutputs.{plain_refuses, not_refused}
+-- What is printed of many plans says which of them solve the task.
+use Rattle.sas_plans.proofs.Imports.{◌≡◌, ℕ, zero, suc, ◌<◌, Bool, true, false, List, [], ◌∷◌, ◌++◌, length, get_or, codes, decimal, append_assoc, refl, sym, ap, subst, ◌∙◌, arith, inl, inr, Option, Some, Ok, ◌↔◌, All, zip, is_some, if◌then◌else◌, list_all, Appends, append_cancel_left, append_cancel_right, All-get_or, All-from_get_or, AllPass-from_list_all, list_all-from_AllPass, Parts, IsLayered}
+use Rattle.sas_plans.proofs.Imports.{lines, lines-one, ReadsAs, most_bytes, plain, task_format, Status, Yes, No, Output, VerdictAnswer, valid_line, Solves, Headline, IsLayeredText, plain_refusal, reports_valid, headline_of, sent_same, plain_refuses, not_refused}
 use Rattle.sas_plans.specs.Inputs.{IsLabel}
 use Rattle.sas_plans.specs.Judged.{Judged, HasCost, IsJudged, PlansAnswer, JudgeOut, is_valid, labelled}
 use Rattle.sas_plans.specs.Judging.{unjudged}
@@ -32,8 +10,8 @@ use Rattle.sas_plans.proofs.JudgeLaws.{refuses_as_plan}
 use Rattle.sas_plans.proofs.LastBytes.{last, IsDigit, digit_behind}
 use Rattle.sas_plans.proofs.PlanLines.{IsLine, IsRefusal, verdict_line, labelled_line, line_at, task_refused}
 
--- what is said of one plan, and what that tells
-record PlanTold (b c label : List ℕ) (j : Judged) : Type 0 where
+-- what is said of one plan, and what that shows
+record PlanReported (b c label : List ℕ) (j : Judged) : Type 0 where
   output : Output
   headline : Headline b c (Appends (Some []) (Some output.text)) output.status
   line : labelled j ≡ label ++ codes ": " ++ output.text
@@ -47,10 +25,10 @@ status_valid c No cost is = (λ e. absurd cc, λ e. (let other : false ≡ true 
 -- ---- of a layered task
 
 module _ (p : Parts) (layered : IsLayered p) (labels : List (List ℕ)) (b : List ℕ) (cs : List (List ℕ)) (reads : ReadsAs task_format most_bytes b (Ok p)) (many : length cs ≡ length labels) (are_labels : All IsLabel labels) where
-  plan_told : (label c : List ℕ) (j : Judged) → IsLabel label → IsJudged p (label, c) j → PlanTold b c label j
-  plan_told label c j is_label (o, out, same, line, cost) = record {
+  plan_reported : (label c : List ℕ) (j : Judged) → IsLabel label → IsJudged p (label, c) j → PlanReported b c label j
+  plan_reported label c j is_label (o, out, same, line, cost) = record {
     output = o;
-    headline = headline_of VerdictAnswer plain_refusal tells_valid plain_refuses b c o (inr (p, reads, layered, out)) (Some []) (Some o.text) [] o.status refl refl refl;
+    headline = headline_of VerdictAnswer plain_refusal reports_valid plain_refuses b c o (inr (p, reads, layered, out)) (Some []) (Some o.text) [] o.status refl refl refl;
     line = ap (λ (x : List ℕ). x ++ codes ": " ++ j.line) same ∙ ap (λ (x : List ℕ). label ++ codes ": " ++ x) line;
     valid = status_valid c o.status j.cost cost;
     is_line = labelled_line label j is_label same (subst IsLine (sym line) (verdict_line p c o out));
@@ -60,29 +38,29 @@ module _ (p : Parts) (layered : IsLayered p) (labels : List (List ℕ)) (b : Lis
     all_long : length answer.all ≡ length labels
     all_long = zip_long (IsJudged p) labels cs answer.all many answer.each
 
-    told_at : (k : ℕ) → k < length labels → PlanTold b (get_or cs k []) (get_or labels k []) (get_or answer.all k unjudged)
-    told_at k less =
-        plan_told (get_or labels k []) (get_or cs k []) (get_or answer.all k unjudged) (All-get_or IsLabel labels k [] less are_labels) (zip_at (IsJudged p) unjudged labels cs answer.all k many answer.each less)
+    reported_at : (k : ℕ) → k < length labels → PlanReported b (get_or cs k []) (get_or labels k []) (get_or answer.all k unjudged)
+    reported_at k less =
+        plan_reported (get_or labels k []) (get_or cs k []) (get_or answer.all k unjudged) (All-get_or IsLabel labels k [] less are_labels) (zip_at (IsJudged p) unjudged labels cs answer.all k many answer.each less)
 
-    text_at : (k : ℕ) (less : k < length labels) → line_of o.text k ≡ get_or labels k [] ++ codes ": " ++ (told_at k less).output.text
+    text_at : (k : ℕ) (less : k < length labels) → line_of o.text k ≡ get_or labels k [] ++ codes ": " ++ (reported_at k less).output.text
     text_at k less =
         ap (λ (x : List ℕ). line_of x k) answer.whole
-        ∙ line_at answer.all answer.summary k (λ i within. (told_at i (omega (arith, all_long, within))).is_line) (omega (arith, all_long))
-        ∙ (told_at k less).line
+        ∙ line_at answer.all answer.summary k (λ i within. (reported_at i (omega (arith, all_long, within))).is_line) (omega (arith, all_long))
+        ∙ (reported_at k less).line
 
     valid_at : (k steps cost : ℕ) → k < length labels → (line_of o.text k ≡ labelled_valid (get_or labels k []) steps cost) ↔ Solves b (get_or cs k []) (valid_line steps cost)
     valid_at k steps cost less =
-        let told = told_at k less in
-        let both = told.headline.line steps cost in (
-          λ e. both.0 (append_cancel_left (get_or labels k [] ++ codes ": ") told.output.text (valid_line steps cost) (sym (text_at k less) ∙ e)),
+        let reported = reported_at k less in
+        let both = reported.headline.line steps cost in (
+          λ e. both.0 (append_cancel_left (get_or labels k [] ++ codes ": ") reported.output.text (valid_line steps cost) (sym (text_at k less) ∙ e)),
           λ solves. text_at k less ∙ ap (λ (x : List ℕ). get_or labels k [] ++ codes ": " ++ x) (both.1 solves),
         )
 
     all_solve : o.status ≡ Yes → (k : ℕ) → k < length labels → (steps cost : ℕ) × Solves b (get_or cs k []) (valid_line steps cost)
     all_solve is_yes k less =
-        let told = told_at k less in
+        let reported = reported_at k less in
         let pass = AllPass-from_list_all is_valid answer.all (all_pass (list_all is_valid answer.all) (sym answer.status ∙ is_yes)) in
-        told.headline.yes.0 (told.valid.1 (pass k unjudged (omega (arith, all_long))))
+        reported.headline.yes.0 (reported.valid.1 (pass k unjudged (omega (arith, all_long))))
       where
         all_pass : (t : Bool) → (if t then Yes else No) ≡ Yes → t ≡ true
         all_pass true e = refl
@@ -91,7 +69,7 @@ module _ (p : Parts) (layered : IsLayered p) (labels : List (List ℕ)) (b : Lis
     status_yes : ((k : ℕ) → k < length labels → (steps cost : ℕ) × Solves b (get_or cs k []) (valid_line steps cost)) → o.status ≡ Yes
     status_yes solve =
         let pass = All-from_get_or (λ (j : Judged). is_valid j ≡ true) answer.all unjudged
-        (λ k less. let within : k < length labels = omega (arith, all_long, less) in let told = told_at k within in told.valid.0 (told.headline.yes.1 (solve k within))) in
+        (λ k less. let within : k < length labels = omega (arith, all_long, less) in let reported = reported_at k within in reported.valid.0 (reported.headline.yes.1 (solve k within))) in
         answer.status ∙ ap (λ (t : Bool). if t then Yes else No) (list_all-from_AllPass is_valid answer.all pass)
 
     headline_layered : (old new : Option (List ℕ)) (before : List ℕ) (status : Status) → old ≡ Some before → status ≡ o.status → Appends old new o.text → PlansHeadline labels b cs (Appends old new) status
@@ -126,7 +104,7 @@ module _ (labels : List (List ℕ)) (b : List ℕ) (cs : List (List ℕ)) (o : O
 
   none_solves : (c : List ℕ) (steps cost : ℕ) → Solves b c (valid_line steps cost) → ⊥
   none_solves c steps cost solves =
-      let h = headline_of VerdictAnswer plain_refusal tells_valid plain_refuses b c o (refuses_as_plan labels b cs o unlayered out c) (Some []) (Some o.text) [] o.status refl refl refl in
+      let h = headline_of VerdictAnswer plain_refusal reports_valid plain_refuses b c o (refuses_as_plan labels b cs o unlayered out c) (Some []) (Some o.text) [] o.status refl refl refl in
       let apart : No ≡ Yes = sym refused.status ∙ h.yes.1 (steps, cost, solves) in
       absurd cc
 

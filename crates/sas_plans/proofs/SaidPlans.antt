@@ -1,23 +1,7 @@
 -- What is said of one plan after another.
-use Rattle.std.proofs.Common.{◌≡◌, ◌≢◌, ℕ, ◌+◌, ◌<◌, ◌≤◌, ◌⊎◌, List, [], ◌∷◌, ◌++◌, length, get_or, codes, decimal, append_assoc, append-nil, refl, sym, ap, subst, ◌∙◌, arith, inl, inr, Option, Some, None, Ok, Err}
-use Rattle.std.specs.Prelude.{zip, flat_map, count_by, if◌then◌else◌}
-use Rattle.std.specs.List.{list_all}
-use Rattle.std.proofs.Math.ListN.{get_or-append}
-use Rattle.std.proofs.Math.Seq.{get_or-append_seam}
-use Rattle.std.proofs.lemmas.Bool.{cases_lt}
-use Rattle.std.proofs.lemmas.List.{length_push}
-use Rattle.std.proofs.lemmas.List.Sums.{count_by-le-length}
-use Rattle.std.proofs.lemmas.Grind.{flat_map-append}
-use Rattle.sas_core.specs.declared.parts.Parts.{Parts}
-use Rattle.sas_output.specs.declared.ending.Status.{Status}
-use Rattle.sas_output.specs.declared.ending.Status.TheVariants.{Yes, No}
-use Rattle.sas_output.specs.declared.ending.ToolFault.{ToolFault}
+use Rattle.sas_plans.proofs.Imports.{◌≡◌, ◌≢◌, ℕ, ◌+◌, ◌<◌, ◌≤◌, ◌⊎◌, List, [], ◌∷◌, ◌++◌, length, get_or, codes, decimal, append_assoc, append-nil, refl, sym, ap, subst, ◌∙◌, arith, inl, inr, Option, Some, None, Ok, Err, zip, flat_map, count_by, if◌then◌else◌, list_all, get_or-append, get_or-append_seam, cases_lt, length_push, count_by-le-length, flat_map-append, Parts, Status, Yes, No}
+use Rattle.sas_plans.proofs.Imports.{ToolFault, IsDecided, IsWrite, VerdictAnswer, plan_format, VerdictOut, long_file, plan_worded}
 use Rattle.sas_output.specs.declared.ending.ToolFault.TheVariants as tool_fault
-use Rattle.sas_output.specs.Ending.{IsDecided, IsWrite}
-use Rattle.sas_answers.specs.Answers.{VerdictAnswer}
-use Rattle.sas_plan_file.specs.PlanFormat.{plan_format}
-use Rattle.sas_outputs.specs.Output.{VerdictOut}
-use Rattle.sas_outputs.proofs.Outputs.{long_file, plan_worded}
 use Rattle.sas_plans.specs.declared.inputs.InputFault.TheVariants.{NotOpened, Read, TooLong}
 use Rattle.sas_plans.specs.declared.inputs.JudgeFault.{JudgeFault}
 use Rattle.sas_plans.specs.declared.inputs.JudgeFault.TheVariants.{Tool, Plan}
@@ -27,7 +11,7 @@ use Rattle.sas_plans.specs.declared.tally.Tally.{Tally}
 use Rattle.sas_plans.specs.declared.verdicts.Verdict.{Verdict}
 use Rattle.sas_plans.specs.Inputs.{tool_fault as fault_of}
 use Rattle.sas_plans.specs.Judged.{Judged, IsJudged, IsBest, IsSummary, PlansAnswer, PlansOut, count_words, is_valid, labelled}
-use Rattle.sas_plans.specs.Judging.{AreSaid, AreTold, HasBest, KnownBeginsWith, IsOneUnsaid, IsPlace, IsOfPlan, IsSaid, IsUnsaid, Judges, JudgesPlans, Tallies, summary_of, unjudged}
+use Rattle.sas_plans.specs.Judging.{AreSaid, AreReported, HasBest, KnownBeginsWith, IsOneUnsaid, IsPlace, IsOfPlan, IsSaid, IsUnsaid, Judges, JudgesPlans, Tallies, summary_of, unjudged}
 use Rattle.sas_plans.proofs.SideBySide.{all_zip, choose, contains_pair}
 use Rattle.sas_plans.proofs.Tallying.{status_yes, status_no}
 
@@ -145,22 +129,22 @@ module _ (p : Parts) (known : ℕ → Option (List ℕ)) (labels : List (List �
   -- ---- all plans
 
   -- no more are valid than there are
-  pub valid_few : (count : ℕ) (text : List ℕ) (tally : Tally) → AreTold p known labels count text tally → tally.valid ≤ count
+  pub valid_few : (count : ℕ) (text : List ℕ) (tally : Tally) → AreReported p known labels count text tally → tally.valid ≤ count
   valid_few count text tally (all, said, whole, tallies) = omega (arith, tallies.valid, said.many, count_by-le-length is_valid all)
 
-  -- one plan more is told
-  pub told_more : (count : ℕ) (before after : List ℕ) (tally_before tally_after : Tally) (j : Judged) → AreTold p known labels count before tally_before → IsSaid p (known count) (get_or labels count []) j → after ≡ before ++ labelled j
-      → ((all : List Judged) → Tallies tally_before all → length all ≡ count → Tallies tally_after (all ++ j ∷ [])) → AreTold p known labels (count + 1) after tally_after
-  told_more count before after tally_before tally_after j (all, said, whole, tallies) is e add = (
+  -- one plan more is reported
+  pub reported_more : (count : ℕ) (before after : List ℕ) (tally_before tally_after : Tally) (j : Judged) → AreReported p known labels count before tally_before → IsSaid p (known count) (get_or labels count []) j → after ≡ before ++ labelled j
+      → ((all : List Judged) → Tallies tally_before all → length all ≡ count → Tallies tally_after (all ++ j ∷ [])) → AreReported p known labels (count + 1) after tally_after
+  reported_more count before after tally_before tally_after j (all, said, whole, tallies) is e add = (
     all ++ j ∷ [],
     said_more all j count said is,
     e ∙ ap (λ (x : List ℕ). x ++ labelled j) whole ∙ ap (λ (x : List ℕ). flat_map labelled all ++ x) (sym (append-nil (labelled j))) ∙ sym (flat_map-append labelled all (j ∷ [])),
     add all tallies said.many,
   )
 
-  told : (text : List ℕ) (tally : Tally) (status : Status) (all : List Judged) → AreSaid p known labels (length labels) all → text ≡ flat_map labelled all → Tallies tally all
+  reported : (text : List ℕ) (tally : Tally) (status : Status) (all : List Judged) → AreSaid p known labels (length labels) all → text ≡ flat_map labelled all → Tallies tally all
       → status ≡ (if list_all is_valid all then Yes else No) → JudgesPlans p known labels (Ok (record { text = text ++ summary_of labels tally; status = status }))
-  told text tally status all said whole tallies is = record {
+  reported text tally status all said whole tallies is = record {
     output = λ cs have. answer_for all said text tally status cs whole tallies is have.0 (λ k less. (said.each k less).output (get_or cs k []) (have.1 k less));
     taken = λ decided.
         let chosen = choose (λ k c. KnownBeginsWith (known k) c × IsJudged p (get_or labels k [], c) (get_or all k unjudged)) (length labels) (λ k less. let t = (said.each k less).taken in (t.0, (t.1, t.2))) in (
@@ -174,12 +158,12 @@ module _ (p : Parts) (known : ℕ → Option (List ℕ)) (labels : List (List �
   }
 
   -- the whole text, and the status by how many are valid
-  module _ (text : List ℕ) (tally : Tally) (h : AreTold p known labels (length labels) text tally) (whole : List ℕ) (is : whole ≡ text ++ summary_of labels tally) where
-    pub told_yes : tally.valid ≡ length labels → JudgesPlans p known labels (Ok (record { text = whole; status = Yes }))
-    told_yes e = rw is (let (all, said, words, tallies) = h in told text tally Yes all said words tallies (status_yes all tally (length labels) tallies said.many e))
+  module _ (text : List ℕ) (tally : Tally) (h : AreReported p known labels (length labels) text tally) (whole : List ℕ) (is : whole ≡ text ++ summary_of labels tally) where
+    pub reported_yes : tally.valid ≡ length labels → JudgesPlans p known labels (Ok (record { text = whole; status = Yes }))
+    reported_yes e = rw is (let (all, said, words, tallies) = h in reported text tally Yes all said words tallies (status_yes all tally (length labels) tallies said.many e))
 
-    pub told_no : tally.valid ≢ length labels → JudgesPlans p known labels (Ok (record { text = whole; status = No }))
-    told_no e = rw is (let (all, said, words, tallies) = h in told text tally No all said words tallies (status_no all tally (length labels) tallies said.many e))
+    pub reported_no : tally.valid ≢ length labels → JudgesPlans p known labels (Ok (record { text = whole; status = No }))
+    reported_no e = rw is (let (all, said, words, tallies) = h in reported text tally No all said words tallies (status_no all tally (length labels) tallies said.many e))
 
   -- ---- or a plan of which nothing is said
 
@@ -200,8 +184,8 @@ module _ (p : Parts) (known : ℕ → Option (List ℕ)) (labels : List (List �
     front_at long k (inl here) = let t = h.2.taken long in (t.0, (rw here at t.1, λ same. t.2))
     front_at long k (inr other) = ([], (λ whole is. (whole, refl), λ same. absurd (other same)))
 
-    pub untold : JudgesPlans p known labels (Err why)
-    untold = record {
+    pub unreported : JudgesPlans p known labels (Err why)
+    unreported = record {
       output = λ cs have long. long_plan cs have.0 (h.2.output (get_or cs h.0 []) (have.1 h.0 h.1) long);
       taken = λ decided.
           let long = decided_long (fault_of why) decided h.2.writes in

@@ -1,10 +1,5 @@
 -- Lists side by side: labels, the bytes of plans, and what is said of them.
-use Rattle.std.proofs.Common.{◌≡◌, ℕ, zero, suc, ◌+◌, ◌<◌, ◌≤◌, min, List, [], ◌∷◌, length, get_or, refl, sym, ap, subst, ◌∙◌, arith}
-use Rattle.std.proofs.Math.Nat.{le-min, min-le_left, min-le_right}
-use Rattle.std.proofs.lemmas.List.Elements.{Contains-get_or}
-use Rattle.std.proofs.lemmas.Slice.Zip.{length-zip, get_or-zip}
-use Rattle.std.specs.Prelude.{zip, Contains}
-use Rattle.std.specs.List.{AllZip}
+use Rattle.sas_plans.proofs.Imports.{◌≡◌, ℕ, zero, suc, ◌+◌, ◌<◌, ◌≤◌, min, List, [], ◌∷◌, length, get_or, refl, sym, ap, subst, ◌∙◌, arith, le-min, min-le_left, min-le_right, Contains-get_or, length-zip, get_or-zip, zip, Contains, AllZip}
 
 -- what relates the items at each place relates the lists
 pub all_zip : {C : Type 0} (R : List ℕ × List ℕ → C → Type 0) (none : C) (labels cs : List (List ℕ)) (all : List C) → length cs ≡ length labels → length all ≡ length labels

@@ -1,9 +1,5 @@
 -- One plan more in a tally; and what a tally says of all plans.
-use Rattle.std.proofs.Common.{◌≡◌, ◌≢◌, ℕ, ◌+◌, Bool, true, false, cond, List, [], ◌∷◌, ◌++◌, length, refl, sym, ap, ◌∙◌, arith, Option, Some, None}
-use Rattle.std.specs.Prelude.{count_by, is_some, if◌then◌else◌}
-use Rattle.std.specs.List.{list_all}
-use Rattle.std.proofs.lemmas.List.Sums.{sum_by-cons, sum_by_push, count_by-le-length}
-use Rattle.sas_output.specs.declared.ending.Status.TheVariants.{Yes, No}
+use Rattle.sas_plans.proofs.Imports.{◌≡◌, ◌≢◌, ℕ, ◌+◌, Bool, true, false, cond, List, [], ◌∷◌, ◌++◌, length, refl, sym, ap, ◌∙◌, arith, Option, Some, None, count_by, is_some, if◌then◌else◌, list_all, sum_by-cons, sum_by_push, count_by-le-length, Yes, No}
 use Rattle.sas_plans.specs.declared.tally.Tally.{Tally}
 use Rattle.sas_plans.specs.Judged.{Judged, is_valid}
 use Rattle.sas_plans.specs.Judging.{IsLower, Tallies}

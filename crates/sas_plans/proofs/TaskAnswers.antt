@@ -1,20 +1,6 @@
 -- The answer about a task and plans, by what came of opening the task.
-use Rattle.std.proofs.Common.{◌≡◌, ℕ, List, [], ◌++◌, length, refl, sym, ap, subst, ◌∙◌, inl, inr, Option, Some, None, Result, Ok, Err}
-use Rattle.std.specs.Prelude.{zip, IfSome}
-use Rattle.std.proofs.lemmas.Option.{same_Some}
-use Rattle.sas_core.specs.declared.parts.Parts.{Parts}
-use Rattle.sas_core.specs.FirstFault.{first_fault}
-use Rattle.sas_meaning.specs.declared.layered.LayerFault.{LayerFault}
-use Rattle.sas_meaning.specs.LayerChecks.{layer_checks}
-use Rattle.sas_lines.specs.Device.{Device}
-use Rattle.sas_output.specs.declared.ending.Status.TheVariants.{Yes, No}
-use Rattle.sas_output.specs.declared.ending.ToolFault.{ToolFault}
+use Rattle.sas_plans.proofs.Imports.{◌≡◌, ℕ, List, [], ◌++◌, length, refl, sym, ap, subst, ◌∙◌, inl, inr, Option, Some, None, Result, Ok, Err, zip, IfSome, same_Some, Parts, first_fault, LayerFault, layer_checks, Device, Yes, No, ToolFault, Answer, Output, output_of, layers_verdict, CheckOut, TaskOut, UnlayeredAnswer, plain_refusal, IsLayeredText, not_refused}
 use Rattle.sas_output.specs.declared.ending.ToolFault.TheVariants as tool_fault
-use Rattle.sas_output.specs.declared.told.Told.{Told}
-use Rattle.sas_output.specs.Ending.{Output, output_told}
-use Rattle.sas_answers.specs.Answers.{layers_verdict}
-use Rattle.sas_outputs.specs.Output.{CheckOut, TaskOut, UnlayeredAnswer, plain_refusal, IsLayeredText}
-use Rattle.sas_outputs.proofs.PlanOutputs.{not_refused}
 use Rattle.sas_plans.specs.declared.held.Opening.TheVariants.{Ready, Refused}
 use Rattle.sas_plans.specs.declared.inputs.JudgeFault.{JudgeFault}
 use Rattle.sas_plans.specs.declared.inputs.JudgeFault.TheVariants.{Tool}
@@ -25,9 +11,9 @@ use Rattle.sas_plans.specs.Opened.{OpensDevice}
 use Rattle.sas_plans.proofs.SideBySide.{choose}
 
 -- an answer of one output is one of another that follows from it
-tells_by : (A B : Option Output → Type 0) → ((o : Option Output) → A o → B o) → (r : Result Output JudgeFault) → IsOutputFor A r → IsOutputFor B r
-tells_by A B to (Ok output) is = to (Some output) is
-tells_by A B to (Err why) is = λ long. to None (is long)
+reports_by : (A B : Option Output → Type 0) → ((o : Option Output) → A o → B o) → (r : Result Output JudgeFault) → IsOutputFor A r → IsOutputFor B r
+reports_by A B to (Ok output) is = to (Some output) is
+reports_by A B to (Err why) is = λ long. to None (is long)
 
 -- of plans that aren't opened nothing is read
 unread : (known : ℕ → Option (List ℕ)) (count : ℕ) → (cs : List (List ℕ)) × WereRead known count cs
@@ -41,8 +27,8 @@ unread known count =
 
 -- where `check` says no, the task is refused for the first fault of its layers
 refused_layers : (p : Parts) (first : Option LayerFault) (o : Output) → first_fault (layer_checks p) ≡ first → layers_verdict first ≡ Some o → o.status ≡ No → UnlayeredAnswer plain_refusal p o
-refused_layers p (Some fault) o is told is_no = (fault, is, told)
-refused_layers p None o is told is_no = let apart : Yes ≡ No = ap (λ (x : Output). x.status) (same_Some _ o told) ∙ is_no in absurd cc
+refused_layers p (Some fault) o is reported is_no = (fault, is, reported)
+refused_layers p None o is reported is_no = let apart : Yes ≡ No = ap (λ (x : Output). x.status) (same_Some _ o reported) ∙ is_no in absurd cc
 
 refused_out : (b : List ℕ) (o : Option Output) → IfSome o (λ x. x.status ≡ No) → CheckOut b o → TaskOut (UnlayeredAnswer plain_refusal) b o
 refused_out b o is_no (Err f, reads, is) = (Err f, reads, is)
@@ -62,26 +48,26 @@ module _ {D : Type 0} (left : D → Option (List ℕ)) (known : ℕ → Option (
   answers_layered p h r judges = record {
     output = λ b cs known_b have.
         let (reads, layered) = h.output b known_b in
-        tells_by (PlansOut p (zip labels cs)) (JudgeOut labels b cs) (λ o is. inr (p, reads, layered, is)) r (judges.output cs have);
+        reports_by (PlansOut p (zip labels cs)) (JudgeOut labels b cs) (λ o is. inr (p, reads, layered, is)) r (judges.output cs have);
     taken = λ decided.
         let t = judges.taken decided in
         let (b, consumed, (reads, layered)) = h.taken tt in
-        (b, t.0, consumed, t.1, tells_by (PlansOut p (zip labels t.0)) (JudgeOut labels b t.0) (λ o is. inr (p, reads, layered, is)) r t.2);
+        (b, t.0, consumed, t.1, reports_by (PlansOut p (zip labels t.0)) (JudgeOut labels b t.0) (λ o is. inr (p, reads, layered, is)) r t.2);
     long = judges.long;
     reads = (λ e. absurd (judges.reads e), λ t. (let failed : Ok (Ready p) ≡ Err tool_fault.Read = h.reads.1 t in absurd cc));
     writes = judges.writes;
   }
 
   -- where the task is refused
-  pub answers_refused : (told : Told) → OpensDevice left old new (Ok (Refused told)) → AnswersPlans left known labels old new (Ok (output_told told))
-  answers_refused told h = record {
-    output = λ b cs known_b have. let (out, is_no) = h.output b known_b in inl (refused_out b (Some (output_told told)) is_no out);
+  pub answers_refused : (reported : Answer) → OpensDevice left old new (Ok (Refused reported)) → AnswersPlans left known labels old new (Ok (output_of reported))
+  answers_refused reported h = record {
+    output = λ b cs known_b have. let (out, is_no) = h.output b known_b in inl (refused_out b (Some (output_of reported)) is_no out);
     taken = λ decided.
         let (b, consumed, (out, is_no)) = h.taken tt in
         let cs = unread known (length labels) in
-        (b, cs.0, consumed, cs.1, inl (refused_out b (Some (output_told told)) is_no out));
+        (b, cs.0, consumed, cs.1, inl (refused_out b (Some (output_of reported)) is_no out));
     long = tt;
-    reads = (λ e. absurd cc, λ t. (let failed : Ok (Refused told) ≡ Err tool_fault.Read = h.reads.1 t in absurd cc));
+    reads = (λ e. absurd cc, λ t. (let failed : Ok (Refused reported) ≡ Err tool_fault.Read = h.reads.1 t in absurd cc));
     writes = tt;
   }
 

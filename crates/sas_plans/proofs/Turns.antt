@@ -1,9 +1,6 @@
 -- Which plans were opened, one after another, up to the end of a run.
-use Rattle.std.proofs.Common.{◌≡◌, ◌≢◌, ℕ, suc, ◌+◌, ◌<◌, List, add-one, refl, sym, subst, arith, inl, Option, Result, Ok, Err}
-use Rattle.std.specs.Prelude.{IfOk, IfErr}
-use Rattle.sas_output.specs.declared.ending.ToolFault.{ToolFault}
+use Rattle.sas_plans.proofs.Imports.{◌≡◌, ◌≢◌, ℕ, suc, ◌+◌, ◌<◌, List, add-one, refl, sym, subst, arith, inl, Option, Result, Ok, Err, IfOk, IfErr, ToolFault, IsWrite}
 use Rattle.sas_output.specs.declared.ending.ToolFault.TheVariants as tool_fault
-use Rattle.sas_output.specs.Ending.{IsWrite}
 use Rattle.sas_plans.specs.declared.inputs.InputFault.TheVariants.{NotOpened, Read, TooLong}
 use Rattle.sas_plans.specs.declared.inputs.JudgeFault.{JudgeFault}
 use Rattle.sas_plans.specs.declared.inputs.JudgeFault.TheVariants.{Tool, Plan}
@@ -19,7 +16,7 @@ of_plan gives number old new (Plan other Read) h = h.0
 of_plan gives number old new (Plan other TooLong) h = h.0
 of_plan gives number old new (Tool why) h = tt
 
--- it isn't told of the task
+-- it isn't reported of the task
 pub not_of_task : {S I : Type 0} (gives : S → ℕ → Option I → S → Type 0) (number : ℕ) (old new : S) (why : JudgeFault) → EndsAt gives number old new why → why ≢ Tool tool_fault.Read
 not_of_task gives number old new (Plan other what) h e = absurd cc
 not_of_task gives number old new (Tool why) h e = (let same : why ≡ tool_fault.Read = cc in let memory : why ≡ tool_fault.Memory = h.0 in absurd cc)

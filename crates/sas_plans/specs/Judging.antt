@@ -8,10 +8,10 @@ use Rattle.sas_core.specs.PlanParts.{PlanParts}
 use Rattle.sas_lines.specs.Device.{Device}
 use Rattle.sas_output.specs.declared.ending.Status.{Status}
 use Rattle.sas_output.specs.declared.ending.Status.TheVariants.{Yes, No}
-use Rattle.sas_output.specs.declared.told.Told.{Told}
+use Rattle.sas_output.specs.declared.answer.Answer.{Answer}
 use Rattle.sas_output.specs.declared.ending.ToolFault.{ToolFault}
 use Rattle.sas_output.specs.declared.ending.ToolFault.TheVariants as fault
-use Rattle.sas_output.specs.Ending.{Output, output_told, IsDecided, IsWrite}
+use Rattle.sas_output.specs.Ending.{Output, output_of, IsDecided, IsWrite}
 use Rattle.sas_answers.specs.Answers.{VerdictAnswer}
 use Rattle.sas_reader.specs.declared.fault.Fault.{Fault}
 use Rattle.sas_outputs.specs.Output.{VerdictOut, refusal}
@@ -160,8 +160,8 @@ IsLower cost None = Unit {0}
 IsLower cost (Some best) = cost < best.cost
 
 -- this text is what is said of so many first plans, and this their tally
-abbrev pub AreTold : Parts → (ℕ → Option (List ℕ)) → List (List ℕ) → ℕ → List ℕ → Tally → Type 0
-AreTold p known labels count text tally = (all : List Judged)
+abbrev pub AreReported : Parts → (ℕ → Option (List ℕ)) → List (List ℕ) → ℕ → List ℕ → Tally → Type 0
+AreReported p known labels count text tally = (all : List Judged)
     × AreSaid p known labels count all
     × (text ≡ flat_map labelled all)
     × Tallies tally all
@@ -199,9 +199,9 @@ IsOutputFor Out (Ok output) = Out (Some output)
 IsOutputFor Out (Err why) = tool_fault why ≡ fault.TooLong → Out None
 
 -- the answer that is at hand
-abbrev pub answer_told : Result Told JudgeFault → Result Output JudgeFault
-answer_told (Ok told) = Ok (output_told told)
-answer_told (Err why) = Err why
+abbrev pub answer_reported : Result Answer JudgeFault → Result Output JudgeFault
+answer_reported (Ok reported) = Ok (output_of reported)
+answer_reported (Err why) = Err why
 
 -- the answer with this text
 abbrev pub answer_of : List ℕ → Result Status JudgeFault → Result Output JudgeFault

@@ -9,7 +9,7 @@ use Rattle.sas_task_format.specs.TaskFormat.{task_format}
 use Rattle.sas_output.specs.declared.ending.Status.TheVariants.{No}
 use Rattle.sas_output.specs.declared.ending.ToolFault.{ToolFault}
 use Rattle.sas_output.specs.declared.ending.ToolFault.TheVariants as fault
-use Rattle.sas_output.specs.Ending.{output_told, IsDecided, IsWrite}
+use Rattle.sas_output.specs.Ending.{output_of, IsDecided, IsWrite}
 use Rattle.sas_outputs.specs.Output.{CheckOut}
 use Rattle.sas_plans.specs.declared.held.Opening.{Opening}
 use Rattle.sas_plans.specs.declared.held.Opening.TheVariants.{Ready, Refused}
@@ -17,7 +17,7 @@ use Rattle.sas_plans.specs.declared.held.Opening.TheVariants.{Ready, Refused}
 -- the bytes are a text of the task, which is layered; or they are refused as by `check`
 abbrev pub Opens : List ℕ → Opening → Type 0
 Opens b (Ready p) = ReadsAs task_format most_bytes b (Ok p) × IsLayered p
-Opens b (Refused told) = CheckOut b (Some (output_told told)) × (told.status ≡ No)
+Opens b (Refused reported) = CheckOut b (Some (output_of reported)) × (reported.status ≡ No)
 
 -- this comes of opening the task with these bytes: where they pass the limit, nothing is said of it
 abbrev pub OpensAs : List ℕ → Result Opening ToolFault → Type 0

@@ -1,7 +1,7 @@
 // A task that is read once, for plans to come; and plans in memory, judged for it.
 ghost use Rattle.std.specs.Prelude.{◌≡◌, false, Some, None, IfOk, IsErrOf};
 ghost use Rattle.sas_answers.specs.Answers.{VerdictAnswer};
-ghost use Rattle.sas_output.specs.Ending.{output_told};
+ghost use Rattle.sas_output.specs.Ending.{output_of};
 ghost use Rattle.sas_outputs.specs.Output.{CheckOut, VerdictOut};
 ghost use Rattle.sas_plans.specs.Opened.{Opens, OpensDevice};
 
@@ -10,7 +10,7 @@ use sas_axioms::Worklist;
 use sas_flat::FlatTask;
 use sas_lines::Watched;
 use sas_meaning::Layered;
-use sas_output::{Told, ToolFault};
+use sas_output::{Answer, ToolFault};
 use sas_outputs::refuse_file;
 use sas_plan_file::flat_plan_of;
 use sas_run::Held;
@@ -24,7 +24,7 @@ pub enum Opening {
     /// The task, which is layered.
     Ready(Held<Worklist, FlatTask>),
     /// Why there is none, as `check` prints it.
-    Refused(Told),
+    Refused(Answer),
 }
 
 /// Reads a task from these bytes, for plans to come.
@@ -45,7 +45,7 @@ pub fn open_device<R: Read>(alloc: Global, device: &mut Watched<R>) -> Result<Op
         Ok(read) => read,
         Err(refusal) => {
             return match refuse_file(alloc, "task", refusal.fault) {
-                Ok(told) => Ok(Opening::Refused(told)),
+                Ok(reported) => Ok(Opening::Refused(reported)),
                 Err(why) => Err(why),
             };
         }
@@ -65,9 +65,9 @@ pub fn judge_bytes(
     alloc: Global,
     held: &mut Held<Worklist, FlatTask>,
     plan: &[u8],
-) -> Result<Told, ToolFault>
-    ensures verdict { IfOk result (λ told.
-        VerdictOut VerdictAnswer held.old plan.now (Some (output_told told))) }
+) -> Result<Answer, ToolFault>
+    ensures verdict { IfOk result (λ reported.
+        VerdictOut VerdictAnswer held.old plan.now (Some (output_of reported))) }
     ensures long { IsErrOf result ToolFault.TooLong
         → VerdictOut VerdictAnswer held.old plan.now None }
     ensures same { held.new ≡ held.old }

@@ -2,21 +2,21 @@
 ghost use Rattle.std.specs.Prelude.{◌≡◌, ◌↔◌, ◌⊎◌, ℕ, List, length, All, Some, false};
 ghost use Rattle.std.specs.Prelude.{IfOk, IfErr, IsErrAnd, IsErrOf, IsTrue};
 ghost use Rattle.std.specs.Io.KnownBytes.{Appends, Consumes};
-ghost use Rattle.sas_output.specs.Ending.{Ends, IsDecided, IsWrite, output_told};
+ghost use Rattle.sas_output.specs.Ending.{Ends, IsDecided, IsWrite, output_of};
 ghost use Rattle.sas_outputs.specs.Output.{IsLayeredText};
 ghost use Rattle.sas_plans.specs.Inputs.{HaveBytes, IsLabel, WereRead, tool_fault, tool_result};
 ghost use Rattle.sas_plans.specs.InTurn.{IsRightlyLong, OpensFirst, OpensInTurn};
 ghost use Rattle.sas_plans.specs.Judged.{JudgeOut};
 ghost use Rattle.sas_plans.specs.PlansHeadline.{PlansHeadline};
-ghost use Rattle.sas_plans.specs.Judging.{AnswersPlans, JudgesPlans, OpensUntil, answer_told};
+ghost use Rattle.sas_plans.specs.Judging.{AnswersPlans, JudgesPlans, OpensUntil, answer_reported};
 
 use crate::held::{Opening, open_device};
 use crate::inputs::{JudgeFault, PlanInputs};
-use crate::telling::tell_plans;
+use crate::reporting::report_plans;
 use sas_axioms::Worklist;
 use sas_flat::FlatTask;
 use sas_lines::Watched;
-use sas_output::{Status, Told, ToolFault};
+use sas_output::{Status, Answer, ToolFault};
 use sas_run::Held;
 use std::alloc::Global;
 use std::io::{Read, Write};
@@ -73,21 +73,21 @@ pub fn judge<T: Read, S: PlanInputs, W: Write>(
     ensures writes { IsErrAnd result (λ e. IsWrite (tool_fault e)) ↔ IsTrue out.new.failed }
 {
     match answer_about(alloc, task, plans) {
-        Ok(told) => write_answer(&told, out),
+        Ok(reported) => write_answer(&reported, out),
         Err(fault) => Err(fault),
     }
 }
 
 /// Writes the answer, and returns its status.
-fn write_answer<W: Write>(told: &Told, out: &mut Watched<W>) -> Result<Status, JudgeFault>
+fn write_answer<W: Write>(reported: &Answer, out: &mut Watched<W>) -> Result<Status, JudgeFault>
     requires { out.old.failed ≡ false }
-    ensures ends { Ends (λ output. output ≡ Some (output_told told.now))
+    ensures ends { Ends (λ output. output ≡ Some (output_of reported.now))
         (Appends (W.contents out.old.device) (W.contents out.new.device)) (tool_result result) }
     ensures write { IfErr result (λ e. IsWrite (tool_fault e)) }
     ensures task { IsErrOf result (JudgeFault.Tool ToolFault.Read) → ⊥ }
     ensures writes { IsErrAnd result (λ e. IsWrite (tool_fault e)) ↔ IsTrue out.new.failed }
 {
-    match told.write(out) {
+    match reported.write(out) {
         Ok(status) => Ok(status),
         Err(fault) => Err(JudgeFault::Tool(fault)),
     }
@@ -98,10 +98,10 @@ fn answer_about<T: Read, S: PlanInputs>(
     alloc: Global,
     task: &mut Watched<T>,
     plans: &mut S,
-) -> Result<Told, JudgeFault>
+) -> Result<Answer, JudgeFault>
     requires { task.old.failed ≡ false }
     ensures answers { AnswersPlans T.remaining (S.bytes plans.old) (S.labels plans.old)
-        task.old task.new (answer_told result) }
+        task.old task.new (answer_reported result) }
     ensures opens { OpensInTurn S.open_gives (T.remaining task.old.device)
         (length (S.labels plans.old)) plans.old plans.new result }
     ensures waits { (b : List ℕ) → T.remaining task.old.device ≡ Some b
@@ -110,7 +110,7 @@ fn answer_about<T: Read, S: PlanInputs>(
 {
     match open_device(alloc, task) {
         Ok(Opening::Ready(held)) => judge_plans(alloc, held, plans),
-        Ok(Opening::Refused(told)) => Ok(told),
+        Ok(Opening::Refused(reported)) => Ok(reported),
         Err(fault) => Err(JudgeFault::Tool(fault)),
     }
 }
@@ -120,9 +120,9 @@ fn judge_plans<S: PlanInputs>(
     alloc: Global,
     mut held: Held<Worklist, FlatTask>,
     plans: &mut S,
-) -> Result<Told, JudgeFault>
+) -> Result<Answer, JudgeFault>
     ensures judges { JudgesPlans held (S.bytes plans.old) (S.labels plans.old)
-        (answer_told result) }
+        (answer_reported result) }
     ensures opened { IfOk result
         (λ _. OpensFirst S.open_gives (length (S.labels plans.old)) plans.old plans.new) }
     ensures fault { IfErr result
@@ -130,10 +130,10 @@ fn judge_plans<S: PlanInputs>(
     ensures labels { S.labels plans.new ≡ S.labels plans.old }
 {
     let mut text = Vec::new(alloc);
-    let status = tell_plans(alloc, &mut held, plans, &mut text);
+    let status = report_plans(alloc, &mut held, plans, &mut text);
     drop(held);
     match status {
-        Ok(status) => Ok(Told { text, status }),
+        Ok(status) => Ok(Answer { text, status }),
         Err(fault) => {
             drop(text);
             Err(fault)

@@ -7,7 +7,7 @@ mod judging;
 mod laws;
 mod slices;
 mod tally;
-mod telling;
+mod reporting;
 mod verdicts;
 
 pub use held::{Opening, judge_bytes, open_task};

@@ -1,6 +1,6 @@
 // Plans whose bytes are all in memory.
 ghost use Rattle.std.specs.Prelude.{◌≡◌, ◌↔◌, All, Some, None, IfOk, IfErr, IsTrue};
-ghost use Rattle.sas_output.specs.Ending.{output_told};
+ghost use Rattle.sas_output.specs.Ending.{output_of};
 ghost use Rattle.sas_plans.specs.Inputs.{IsLabel, tool_fault};
 ghost use Rattle.sas_plans.specs.Judged.{JudgeOut};
 ghost use Rattle.sas_plans.specs.PlansHeadline.{PlansHeadline};
@@ -9,7 +9,7 @@ ghost use Rattle.sas_plans.specs.Slices.{bytes_of, labels_of};
 use crate::inputs::{JudgeFault, PlanInputs, is_label};
 use crate::judging::judge;
 use sas_lines::Watched;
-use sas_output::{Told, ToolFault};
+use sas_output::{Answer, ToolFault};
 use std::alloc::Global;
 
 /// A plan in memory: its label and its bytes.
@@ -55,21 +55,21 @@ impl<'p> PlanInputs for PlanSlices<'p> {
 
 /// Judges many plans of one task as `judge` does, all in memory, and returns the answer. `Write` means that it is out of memory for
 /// its text.
-pub fn judge_slices(alloc: Global, task: &[u8], plans: &[PlanBytes<'_>]) -> Result<Told, JudgeFault>
+pub fn judge_slices(alloc: Global, task: &[u8], plans: &[PlanBytes<'_>]) -> Result<Answer, JudgeFault>
     requires { All IsLabel (labels_of plans.now) }
-    ensures output { IfOk result (λ told. JudgeOut (labels_of plans.now) task.now
-        (bytes_of plans.now) (Some (output_told told))) }
+    ensures output { IfOk result (λ reported. JudgeOut (labels_of plans.now) task.now
+        (bytes_of plans.now) (Some (output_of reported))) }
     ensures long { IfErr result (λ e. tool_fault e ≡ ToolFault.TooLong
         → JudgeOut (labels_of plans.now) task.now (bytes_of plans.now) None) }
     // `LABEL: plan valid` is in the text exactly if the plan solves the task at that cost.
-    ensures headline { IfOk result (λ told. PlansHeadline (labels_of plans.now) task.now
-        (bytes_of plans.now) (λ text. told.text.items ≡ text) told.status) }
+    ensures headline { IfOk result (λ reported. PlansHeadline (labels_of plans.now) task.now
+        (bytes_of plans.now) (λ text. reported.text.items ≡ text) reported.status) }
 {
     let mut device = Watched::new(task);
     let mut slices = PlanSlices { plans };
     let mut text = Watched::new(Vec::new(alloc));
     match judge(alloc, &mut device, &mut slices, &mut text) {
-        Ok(status) => Ok(Told {
+        Ok(status) => Ok(Answer {
             text: text.into_device(),
             status,
         }),

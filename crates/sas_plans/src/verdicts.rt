@@ -114,8 +114,8 @@ fn refuse_plan(alloc: Global, fault: Fault) -> Result<Verdict, ToolFault>
     ensures writes { IfErr result (λ e. IsWrite e → ⊥) }
 {
     match refuse_file(alloc, "plan", fault) {
-        Ok(told) => Ok(Verdict {
-            line: told.text,
+        Ok(reported) => Ok(Verdict {
+            line: reported.text,
             cost: None,
         }),
         Err(why) => Err(why),
@@ -131,13 +131,13 @@ fn verdict_by(
     ensures verdict { IfOk result (λ v. IsVerdictOnPlan held.old plan.now v) }
     ensures same { held.new ≡ held.old }
 {
-    let told = answer_by(alloc, held, plan)?;
-    let cost = match told.status {
+    let reported = answer_by(alloc, held, plan)?;
+    let cost = match reported.status {
         Status::Yes => Some(plan.cost()),
         Status::No => None,
     };
     Ok(Verdict {
-        line: told.text,
+        line: reported.text,
         cost,
     })
 }

@@ -1,6 +1,5 @@
 -- What a fault is about, for any format.
-use Rattle.std.proofs.Common.{◌≡◌, ◌≢◌, ℕ, List, [], ◌∷◌, ◌++◌, refl, sym, ap, ◌∙◌, append_assoc, ◌⊎◌, inl, inr}
-use Rattle.sas_lines.specs.Lines.{lines, unfinished}
+use Rattle.sas_reader.proofs.Imports.{◌≡◌, ◌≢◌, ℕ, List, [], ◌∷◌, ◌++◌, refl, sym, ap, ◌∙◌, append_assoc, ◌⊎◌, inl, inr, lines, unfinished}
 use Rattle.sas_reader.specs.declared.fault.Fault.{Fault}
 use Rattle.sas_reader.specs.declared.fault.Kind.TheVariants as kinds
 use Rattle.sas_reader.specs.Format.{Format, KindAt, too_long, trailing, wrong, FaultOf, EndOf}
@@ -14,8 +13,8 @@ about_of F limit bytes f ne h (trailing l v r k) = (lines h.before, h.byte ∷ [
 about_of F limit bytes f ne h (wrong l line e s n k) = (lines h.before, line, of_line h refl e s n k)
 
 some_about : {V I S : Type 0} (F : Format V I S) (limit : ℕ) (bytes : List ℕ) (f : Fault) → ConcernsText f.kind → FaultOf F limit bytes f ⊎ EndOf F limit bytes f → (a : List (List ℕ)) × (t : List ℕ) × IsAbout F limit bytes f a t
-some_about F limit bytes f told (inl h) = about_of F limit bytes f told.1 h h.kind
-some_about F limit bytes f told (inr h) = (lines bytes, unfinished bytes, of_end h refl refl)
+some_about F limit bytes f reported (inl h) = about_of F limit bytes f reported.1 h h.kind
+some_about F limit bytes f reported (inr h) = (lines bytes, unfinished bytes, of_end h refl refl)
 
 module _ {T V I S : Type 0} (F : Format V I S) (Fits : I → Type 0) (node : T → Node T V I S) (start : T) (g : Grammar F Fits node start) where
   one_about : (limit : ℕ) (bytes : List ℕ) (f : Fault) (a b : List (List ℕ)) (t u : List ℕ) → IsAbout F limit bytes f a t → IsAbout F limit bytes f b u → (a ≡ b) × (t ≡ u)

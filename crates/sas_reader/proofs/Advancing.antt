@@ -1,11 +1,6 @@
 -- One step of a reader: it takes a piece up to and including the first line end, or all of it.
-use Rattle.std.proofs.Common.{◌≡◌, ◌≢◌, ℕ, ◌+◌, ◌-◌, ◌≤◌, ◌<◌, Bool, true, false, not, List, [], ◌∷◌, ◌++◌, length, take, drop, refl, sym, ap, subst, ◌∙◌, append_assoc, arith, length-append, length-drop, Result, Ok, Err}
-use Rattle.std.proofs.lemmas.List.{append-nil, length-take, take_all, take-append-drop}
-use Rattle.std.proofs.Math.Seq.{take-add}
-use Rattle.sas_lines.specs.Lines.{lines, unfinished}
-use Rattle.sas_lines.specs.FirstLines.{TakesLine, LineStandsFirst, LinesStandFirst}
-use Rattle.sas_lines.proofs.Splitting.{lines-append, unfinished-append, lines-few}
-use Rattle.sas_lines.specs.Progress.{Progress, completed}
+use Rattle.sas_reader.proofs.Imports.{◌≡◌, ◌≢◌, ℕ, ◌+◌, ◌-◌, ◌≤◌, ◌<◌, Bool, true, false, not, List, [], ◌∷◌, ◌++◌, length, take, drop, refl, sym, ap, subst, ◌∙◌, append_assoc, arith, length-append, length-drop, Result, Ok, Err, append-nil, length-take, take_all, take-append-drop, take-add, lines, unfinished, TakesLine, LineStandsFirst, LinesStandFirst, lines-append, unfinished-append, lines-few}
+use Rattle.sas_reader.proofs.Imports.{Progress, completed}
 use Rattle.sas_reader.specs.declared.fault.Fault.{Fault}
 use Rattle.sas_reader.specs.declared.fault.Kind.{Kind}
 use Rattle.sas_reader.specs.declared.fault.Kind.TheVariants as kinds

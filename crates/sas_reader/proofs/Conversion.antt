@@ -1,7 +1,5 @@
 -- Converts promises about a machine that follows a grammar to promises about the format.
-use Rattle.std.proofs.Common.{◌≡◌, ℕ, ◌+◌, ◌≤◌, List, [], ◌∷◌, length, sym, subst, ◌∙◌, append_assoc, inl, inr, Err, ◌++◌, take, drop, refl, arith, length-drop}
-use Rattle.std.proofs.lemmas.List.{take-append-drop}
-use Rattle.sas_lines.specs.Lines.{without_return, lines, unfinished}
+use Rattle.sas_reader.proofs.Imports.{◌≡◌, ℕ, ◌+◌, ◌≤◌, List, [], ◌∷◌, length, sym, subst, ◌∙◌, append_assoc, inl, inr, Err, ◌++◌, take, drop, refl, arith, length-drop, take-append-drop, without_return, lines, unfinished}
 use Rattle.sas_reader.specs.declared.fault.Fault.{Fault}
 use Rattle.sas_reader.specs.declared.fault.Kind.{Kind}
 use Rattle.sas_reader.specs.declared.fault.Kind.TheVariants as kinds

@@ -1,12 +1,8 @@
 -- Adding bytes to a copy without CRs.
-use Rattle.std.proofs.Common.{◌≡◌, ℕ, ◌+◌, ◌-◌, ◌*◌, ◌/◌, ◌^◌, ◌<◌, ◌≤◌, Bool, true, false, not, cond, ◌==◌, if◌then◌else◌, zero, suc, List, [], ◌∷◌, ◌++◌, length, take, drop, get_or, map, refl, sym, ap, ap₂, ◌∙◌, inl, inr, arith, take-add}
-use Rattle.std.specs.List.{prefix_len}
-use Rattle.std.proofs.lemmas.Bool.{cases_lt, cases_eq, ne_eqb}
-use Rattle.std.proofs.lemmas.List.{append-nil, drop-take, drop-drop, get_or-take, get_or-drop, length-drop, length-take-le, take_at, take-take}
-use Rattle.std.proofs.lemmas.List.Elements.{filter-append, filter_more}
-use Rattle.std.proofs.lemmas.List.Sums.{prefix_len-le-length, prefix_len_passes, prefix_len_stops}
-use Rattle.std.proofs.lemmas.Simd.{leading_from_mask_l, trailing_mask_l}
-use Rattle.std.proofs.Math.Seq.{take-append-add}
+use Rattle.sas_reader.proofs.Imports.{◌≡◌, ℕ, ◌+◌, ◌-◌, ◌*◌, ◌/◌, ◌^◌, ◌<◌, ◌≤◌, Bool, true, false, not, cond, ◌==◌, if◌then◌else◌, zero, suc, List, [], ◌∷◌, ◌++◌, length, take, drop, get_or, map, refl, sym, ap, ap₂, ◌∙◌, inl, inr, arith, prefix_len, cases_lt, cases_eq, ne_eqb, append-nil, drop-take, drop-drop, get_or-take, get_or-drop, length-take-le, take_at, take-take, filter-append}
+use Rattle.sas_reader.proofs.Imports.{filter_more, prefix_len-le-length, prefix_len_passes, prefix_len_stops, leading_from_mask_l, trailing_mask_l, take-append-add}
+use Rattle.std.proofs.Common.{take-add}
+use Rattle.std.proofs.lemmas.List.{length-drop}
 use native.Mathlib.Nat.{pow-zero, pow-suc, mul_comm, zero-div, div-one, div-div-eq-div-mul}
 use lib.Lanes.{mask_l}
 use lib.Count.{count_trailing_zeros}

@@ -1,8 +1,5 @@
 -- Bytes that aren't live have a fault, and so reading any bytes has a result.
-use Rattle.std.proofs.Common.{◌≡◌, ℕ, ◌+◌, ◌≤◌, ◌≢◌, Bool, List, [], ◌∷◌, ◌++◌, length, refl, sym, subst, ◌∙◌, append_assoc, arith, ◌⊎◌, inl, inr, length-append, Ok, Err}
-use Rattle.std.proofs.lemmas.List.{append-nil}
-use Rattle.std.proofs.lemmas.Bool.Decides.{eqb_tells}
-use Rattle.sas_lines.specs.Lines.{without_return, lines, unfinished}
+use Rattle.sas_reader.proofs.Imports.{◌≡◌, ℕ, ◌+◌, ◌≤◌, ◌≢◌, Bool, List, [], ◌∷◌, ◌++◌, length, refl, sym, subst, ◌∙◌, append_assoc, arith, ◌⊎◌, inl, inr, length-append, Ok, Err, append-nil, eqb_tells, without_return, lines, unfinished}
 use Rattle.sas_reader.specs.declared.fault.Fault.{Fault}
 use Rattle.sas_reader.specs.declared.fault.Kind.{Kind}
 use Rattle.sas_reader.specs.declared.fault.Kind.TheVariants.{End, Trailing, TooLong}

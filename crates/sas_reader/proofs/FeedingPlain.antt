@@ -1,13 +1,7 @@
 -- What a reader took of a copy without CRs, and where it stopped, also holds for the bytes with
 -- CRs.
-use Rattle.std.proofs.Common.{◌≡◌, ◌≢◌, ℕ, ◌+◌, ◌-◌, ◌≤◌, Bool, true, false, not, cond, ◌==◌, List, [], ◌∷◌, ◌++◌, length, take, drop, get_or, refl, sym, ap, ap₂, subst, ◌∙◌, append_assoc, inl, inr, arith, length-append, Result, Ok, Err}
-use Rattle.std.proofs.lemmas.Bool.{cases_eq}
-use Rattle.std.proofs.lemmas.List.{take_at, take_all, drop_more, take-append-drop}
-use Rattle.std.proofs.lemmas.List.Elements.{filter-append}
-use Rattle.std.proofs.Math.Seq.{drop-append_seam}
-use Rattle.sas_lines.specs.Lines.{without_return, lines, unfinished}
-use Rattle.sas_lines.specs.Progress.{Progress}
-use Rattle.sas_lines.proofs.Splitting.{lines-append, unfinished-append, unfinished-plain_all, lines-end}
+use Rattle.sas_reader.proofs.Imports.{◌≡◌, ◌≢◌, ℕ, ◌+◌, ◌-◌, ◌≤◌, Bool, true, false, not, cond, ◌==◌, List, [], ◌∷◌, ◌++◌, length, take, drop, get_or, refl, sym, ap, ap₂, subst, ◌∙◌, append_assoc, inl, inr, arith, length-append, Result, Ok, Err, cases_eq, take_at, take_all, drop_more, take-append-drop, filter-append, drop-append_seam, without_return, lines, unfinished, Progress, lines-append}
+use Rattle.sas_reader.proofs.Imports.{unfinished-append, unfinished-plain_all, lines-end}
 use Rattle.sas_reader.specs.declared.fault.Fault.{Fault}
 use Rattle.sas_reader.specs.declared.fault.Kind.{Kind}
 use Rattle.sas_reader.specs.declared.reader.Reader.{Reader}
@@ -108,10 +102,10 @@ module _ {M : Type 0} (led_by : List (List ℕ) → M → Type 0) (ended : M →
       }
 
 module _ {M : Type 0} (led_by : List (List ℕ) → M → Type 0) (ended : M → Type 0) (rejects : M → List ℕ → Kind → Type 0) (halted : M → List ℕ → Kind → M → Type 0) where
-  module _ (limit : ℕ) (before bytes : List ℕ) (f : Fault) (now : M) (found told : Found) (n : ℕ) (whole : unfinished before ≡ []) (ends : EachEnds bytes) (room : length before + length bytes ≤ limit) (count : n ≡ f.line - (length (lines before) + 1)) (of_byte : kept_bytes found ≡ 10 ∷ [] → IsFoundOf (take 1 (behind_ends n bytes)) told) (of_rest : (kept_bytes found ≡ 10 ∷ [] → ⊥) → told ≡ found) where
+  module _ (limit : ℕ) (before bytes : List ℕ) (f : Fault) (now : M) (found reported : Found) (n : ℕ) (whole : unfinished before ≡ []) (ends : EachEnds bytes) (room : length before + length bytes ≤ limit) (count : n ≡ f.line - (length (lines before) + 1)) (of_byte : kept_bytes found ≡ 10 ∷ [] → IsFoundOf (take 1 (behind_ends n bytes)) reported) (of_rest : (kept_bytes found ≡ 10 ∷ [] → ⊥) → reported ≡ found) where
     -- the byte after whole lines
-    byte_told : (a : List ℕ) (byte : ℕ) (r : FrontOf bytes a byte) (x : ℕ) (more : List ℕ) → r.between ++ byte ∷ r.after ≡ x ∷ more → (byte ≢ 10 → x ≡ byte) → unfinished (before ++ a) ≡ [] → f.line ≡ length (lines (before ++ a)) + 1 → IsFoundOf (byte ∷ []) found → IsFoundOf (x ∷ []) told
-    byte_told a byte r x more next same rest line is =
+    byte_reported : (a : List ℕ) (byte : ℕ) (r : FrontOf bytes a byte) (x : ℕ) (more : List ℕ) → r.between ++ byte ∷ r.after ≡ x ∷ more → (byte ≢ 10 → x ≡ byte) → unfinished (before ++ a) ≡ [] → f.line ≡ length (lines (before ++ a)) + 1 → IsFoundOf (byte ∷ []) found → IsFoundOf (x ∷ []) reported
+    byte_reported a byte r x more next same rest line is =
         let one : kept_bytes found ≡ byte ∷ [] = is.front ∙ take_all 64 (byte ∷ []) (omega arith) in
         elim (cases_eq byte 10) [
           | inl lf ↦
@@ -119,13 +113,13 @@ module _ {M : Type 0} (led_by : List (List ℕ) → M → Type 0) (ended : M →
               let split : lines (before ++ r.front) ≡ lines before ++ lines r.front = lines-append before r.front ∙ ap (λ (l : List ℕ). lines before ++ lines (l ++ r.front)) whole in
               let many : n ≡ length (lines r.front) = omega (arith, count, line, ap length (front_lines bytes a byte r before whole), ap length split, length-append (lines before) (lines r.front)) in
               let behind : behind_ends n bytes ≡ x ∷ more = ap (λ (k : ℕ). behind_ends k bytes) many ∙ ap (behind_ends (length (lines r.front))) (r.whole ∙ ap (λ (l : List ℕ). r.front ++ l) next) ∙ behind_front r.front (x ∷ more) none in
-              subst (λ (l : List ℕ). IsFoundOf l told) (ap (take 1) behind) (of_byte (one ∙ ap (λ (y : ℕ). y ∷ []) lf))
+              subst (λ (l : List ℕ). IsFoundOf l reported) (ap (take 1) behind) (of_byte (one ∙ ap (λ (y : ℕ). y ∷ []) lf))
           | inr ne ↦
               let other : kept_bytes found ≡ 10 ∷ [] → ⊥ = λ e. ne (ap (λ (l : List ℕ). get_or l 0 0) (sym one ∙ e)) in
-              subst (λ (y : ℕ). IsFoundOf (y ∷ []) told) (sym (same ne)) (subst (IsFoundOf (byte ∷ [])) (sym (of_rest other)) is)
+              subst (λ (y : ℕ). IsFoundOf (y ∷ []) reported) (sym (same ne)) (subst (IsFoundOf (byte ∷ [])) (sym (of_rest other)) is)
         ]
 
-    fault_plain : FaultBehind led_by ended rejects halted limit before (without_returns bytes) f now found → FaultBehind led_by ended rejects halted limit before bytes f now told
+    fault_plain : FaultBehind led_by ended rejects halted limit before (without_returns bytes) f now found → FaultBehind led_by ended rejects halted limit before bytes f now reported
     fault_plain h =
         let a = h.front in
         let byte = h.byte in
@@ -145,7 +139,7 @@ module _ {M : Type 0} (led_by : List (List ℕ) → M → Type 0) (ended : M →
                 whole = r.whole ∙ ap (λ (x : List ℕ). r.front ++ x) next.2;
                 reached = reached_same led_by ended h.machine (before ++ a) (before ++ r.front) more_lines more_rest h.reached;
                 line = h.line ∙ ap (λ (x : List (List ℕ)). length x + 1) (sym more_lines);
-                stops = over (omega (arith, l, room, length-append before r.front)) d k stays (byte_told a byte r next.0 next.1 next.2 next.3 (h.reached.rest d) h.line is);
+                stops = over (omega (arith, l, room, length-append before r.front)) d k stays (byte_reported a byte r next.0 next.1 next.2 next.3 (h.reached.rest d) h.line is);
               }
           | rejected fits going lf refused behind is ↦
               let front = r.front ++ r.between in
@@ -162,7 +156,7 @@ module _ {M : Type 0} (led_by : List (List ℕ) → M → Type 0) (ended : M →
                 whole = r.whole ∙ sym (append_assoc r.front r.between (byte ∷ r.after));
                 reached = record { led = subst (λ (x : List (List ℕ)). led_by x h.machine) (sym more_lines) h.reached.led; rest = λ d. absurd (going d) };
                 line = h.line ∙ ap (λ (x : List (List ℕ)). length x + 1) (sym more_lines);
-                stops = rejected (omega (arith, l, room, length-append before front, length-append r.front r.between)) going lf (subst (λ (x : List ℕ). rejects h.machine x f.kind) (sym line_is) refused) (subst (λ (x : List ℕ). halted h.machine x f.kind now) (sym line_is) behind) (subst (λ (x : List ℕ). IsFoundOf x told) (sym line_is) (subst (IsFoundOf line) (sym (of_rest other)) is));
+                stops = rejected (omega (arith, l, room, length-append before front, length-append r.front r.between)) going lf (subst (λ (x : List ℕ). rejects h.machine x f.kind) (sym line_is) refused) (subst (λ (x : List ℕ). halted h.machine x f.kind now) (sym line_is) behind) (subst (λ (x : List ℕ). IsFoundOf x reported) (sym line_is) (subst (IsFoundOf line) (sym (of_rest other)) is));
               }
         ]
 

@@ -1,8 +1,5 @@
 -- Inputs whose bytes are known: the bytes read are all of them, or the first of them.
-use Rattle.std.proofs.Common.{◌≡◌, ◌≢◌, ℕ, List, ◌++◌, sym, ap, subst, ◌∙◌, inl, inr, Ok, Err, Option, Some, None}
-use Rattle.std.specs.Io.KnownBytes.{Consumes, IsAtEnd}
-use Rattle.std.proofs.lemmas.List.{append-nil}
-use Rattle.sas_lines.specs.Device.{Device}
+use Rattle.sas_reader.proofs.Imports.{◌≡◌, ◌≢◌, ℕ, List, ◌++◌, sym, ap, subst, ◌∙◌, inl, inr, Ok, Err, Option, Some, None, Consumes, IsAtEnd, append-nil, Device}
 use Rattle.sas_reader.specs.declared.fault.Fault.{Fault}
 use Rattle.sas_reader.specs.declared.fault.Kind.TheVariants as kinds
 use Rattle.sas_reader.specs.Devices.{Refuses, unread_at, ended_at, faulty_at, ReadsAll}

@@ -1,7 +1,5 @@
 -- Inputs whose bytes are known: a refusal explains the fault of all their bytes.
-use Rattle.std.proofs.Common.{◌≡◌, ◌≢◌, ℕ, List, subst, Err, Option, Some}
-use Rattle.std.specs.Io.KnownBytes.{Consumes, IsAtEnd}
-use Rattle.sas_lines.specs.Device.{Device}
+use Rattle.sas_reader.proofs.Imports.{◌≡◌, ◌≢◌, ℕ, List, subst, Err, Option, Some, Consumes, IsAtEnd, Device}
 use Rattle.sas_reader.specs.declared.fault.Fault.{Fault}
 use Rattle.sas_reader.specs.declared.fault.Kind.TheVariants as kinds
 use Rattle.sas_reader.specs.declared.found.Found.{Found}
@@ -21,13 +19,13 @@ known_about F laws known new input bytes f a t e c (faulty_at h k) ne about =
 
 module _ {D V I S A R : Type 0} (left : D → Option (List ℕ)) (F : Format V I S) (fault : R → Fault) (found : R → Found) (Why : List (List ℕ) → List ℕ → R → Type 0) (Gives : List ℕ → A → Type 0) where
   pub known_explained : (old new : Device D) (r : R) (input : List ℕ) → AboutLaws F → ReadsOrExplains F fault found Why left Gives old new (Err r) → left old.device ≡ Some input → ConcernsText (fault r).kind → ExplainsRefusal F fault found Why input r
-  known_explained old new r input laws h known told =
-      let t = h.explained told in
+  known_explained old new r input laws h known reported =
+      let t = h.explained reported in
       let e = t.3 in
       record {
         accepted = e.accepted;
         text = e.text;
-        about = known_about F laws (left old.device) (left new.device) input t.0 (fault r) e.accepted e.text known t.1 t.2 told.0 e.about;
+        about = known_about F laws (left old.device) (left new.device) input t.0 (fault r) e.accepted e.text known t.1 t.2 reported.0 e.about;
         kept = e.kept;
         why = e.why;
       }

@@ -21,3 +21,4 @@ mod BehindEnds
 mod Copying
 mod WithLfAlone
 mod FeedingPlain
+mod Imports

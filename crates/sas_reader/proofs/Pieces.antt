@@ -1,11 +1,6 @@
 -- One line of a piece, or a part of one.
-use Rattle.std.proofs.Common.{◌≡◌, ℕ, ◌+◌, ◌<◌, ◌≤◌, Bool, true, false, List, [], ◌∷◌, ◌++◌, length, take, drop, refl, sym, ap, subst, ◌∙◌, append_assoc, arith, length-append, length-drop}
-use Rattle.std.proofs.lemmas.List.{append-nil, length-take, take-append-drop, take-append-le}
-use Rattle.std.proofs.Math.Seq.{take-add, take-append-add}
-use Rattle.sas_lines.specs.Lines.{without_return, lines, unfinished, NoEnd}
-use Rattle.sas_lines.specs.FirstLines.{TakesLine}
-use Rattle.sas_lines.specs.Progress.{completed}
-use Rattle.sas_lines.proofs.Splitting.{lines-none, unfinished-none, lines-append, unfinished-append, lines-part, lines-end, unfinished-plain_all, lines-without}
+use Rattle.sas_reader.proofs.Imports.{◌≡◌, ℕ, ◌+◌, ◌<◌, ◌≤◌, Bool, true, false, List, [], ◌∷◌, ◌++◌, length, take, drop, refl, sym, ap, subst, ◌∙◌, append_assoc, arith, length-append, length-drop, append-nil, length-take, take-append-drop, take-append-le, take-add, take-append-add, without_return, lines, unfinished, NoEnd, TakesLine, completed, lines-none, unfinished-none, lines-append}
+use Rattle.sas_reader.proofs.Imports.{unfinished-append, lines-part, lines-end, unfinished-plain_all, lines-without}
 use Rattle.sas_reader.specs.declared.fault.Fault.{Fault}
 use Rattle.sas_reader.specs.declared.fault.Kind.{Kind}
 use Rattle.sas_reader.specs.declared.fault.Kind.TheVariants as kinds

@@ -1,16 +1,5 @@
 -- Bytes without LF and CR.
-use Rattle.std.proofs.Common.{◌≡◌, ◌≢◌, ℕ, ◌+◌, Bool, true, false, List, [], ◌∷◌, ◌++◌, take, refl, sym, ap, ◌∙◌, append_assoc, arith, IsTrue, not}
-use Rattle.std.specs.Prelude.{◌==◌, ◌&&◌, length}
-use Rattle.std.specs.List.{list_all}
-use Rattle.std.specs.Fmt.{decimal}
-use Rattle.std.proofs.lemmas.Bool.{eq-eqb, ne_eqb}
-use Rattle.std.proofs.lemmas.List.{take_at, length_push}
-use Rattle.sas_core.specs.Names.{is_plain, IsName}
-use Rattle.sas_lines.specs.Parts.{Without}
-use Rattle.sas_lines.specs.Lines.{NoEnd, without_return, lines, unfinished}
-use Rattle.sas_lines.specs.FirstLines.{LineStandsFirst}
-use Rattle.sas_lines.proofs.Words.{Without-decimal}
-use Rattle.sas_lines.proofs.Splitting.{Plain, lines-one, unfinished-one}
+use Rattle.sas_reader.proofs.Imports.{◌≡◌, ◌≢◌, ℕ, ◌+◌, Bool, true, false, List, [], ◌∷◌, ◌++◌, take, refl, sym, ap, ◌∙◌, append_assoc, arith, IsTrue, not, ◌==◌, ◌&&◌, length, list_all, decimal, eq-eqb, ne_eqb, take_at, length_push, is_plain, IsName, Without, NoEnd, without_return, lines, unfinished, LineStandsFirst, Without-decimal, Plain, lines-one, unfinished-one}
 use Rattle.sas_reader.specs.System.{IsPlain}
 
 -- ---- the digits of a number

@@ -1,9 +1,5 @@
 -- What a refusal explains, for a machine that follows a grammar.
-use Rattle.std.proofs.Common.{◌≡◌, ℕ, ◌≤◌, List, [], ◌∷◌, ◌++◌, length, refl, sym, ap, subst, ◌∙◌, arith, inl, inr, Option, Ok, Err}
-use Rattle.std.specs.Io.KnownBytes.{IsAtEnd}
-use Rattle.sas_lines.specs.Device.{Device}
-use Rattle.sas_lines.specs.Lines.{without_return, lines, unfinished}
-use Rattle.sas_lines.proofs.Splitting.{lines-end}
+use Rattle.sas_reader.proofs.Imports.{◌≡◌, ℕ, ◌≤◌, List, [], ◌∷◌, ◌++◌, length, refl, sym, ap, subst, ◌∙◌, arith, inl, inr, Option, Ok, Err, IsAtEnd, Device, without_return, lines, unfinished, lines-end}
 use Rattle.sas_reader.specs.declared.fault.Fault.{Fault}
 use Rattle.sas_reader.specs.declared.fault.Kind.{Kind}
 use Rattle.sas_reader.specs.declared.found.Found.{Found}
@@ -22,7 +18,7 @@ use Rattle.sas_reader.proofs.Reading.{reads_all, refuses_all}
 
 module _ {T V I S M : Type 0} (F : Format V I S) (Fits : I → Type 0) (node : T → Node T V I S) (start : T) (g : Grammar F Fits node start) (led_by : List (List ℕ) → M → Type 0) (Ended : M → Type 0) (rejects : M → List ℕ → Kind → Type 0) (halted : M → List ℕ → Kind → M → Type 0) (follows : Follows F Fits node start led_by Ended rejects) where
   -- what the fault is about, the kept text, and the state of the machine after the fault
-  pub record Told (limit : ℕ) (bytes : List ℕ) (f : Fault) (now : M) (found : Found) : Type 0 where
+  pub record Answer (limit : ℕ) (bytes : List ℕ) (f : Fault) (now : M) (found : Found) : Type 0 where
     pub accepted : List (List ℕ)
     pub text : List ℕ
     pub about : IsAbout F limit bytes f accepted text
@@ -32,9 +28,9 @@ module _ {T V I S M : Type 0} (F : Format V I S) (Fits : I → Type 0) (node : T
   abbrev go_on : (m : M) (bytes : List ℕ) → Reached led_by Ended m bytes → At F Fits node start Ended rejects (lines bytes) m
   go_on m bytes h = at F Fits node start g led_by Ended rejects follows m bytes h
 
-  fault_told : (limit : ℕ) (bytes : List ℕ) (f : Fault) (now : M) (found : Found) → ConcernsText f.kind → (h : FaultIn led_by Ended rejects halted limit bytes f now found) → Stops led_by Ended rejects halted limit h.machine h.before h.byte f.kind now found → Told limit bytes f now found
-  fault_told limit bytes f now found told h (full l k) = absurd (told.1 k)
-  fault_told limit bytes f now found told h (over l d k stays is) =
+  fault_reported : (limit : ℕ) (bytes : List ℕ) (f : Fault) (now : M) (found : Found) → ConcernsText f.kind → (h : FaultIn led_by Ended rejects halted limit bytes f now found) → Stops led_by Ended rejects halted limit h.machine h.before h.byte f.kind now found → Answer limit bytes f now found
+  fault_reported limit bytes f now found reported h (full l k) = absurd (reported.1 k)
+  fault_reported limit bytes f now found reported h (over l d k stays is) =
       let a = go_on h.machine h.before h.reached in
       let path = path_of F Fits node start g led_by Ended rejects follows h.machine h.before h.reached in
       let v = a.value d in
@@ -47,7 +43,7 @@ module _ {T V I S M : Type 0} (F : Format V I S) (Fits : I → Type 0) (node : T
         kept = is;
         stands = behind_text (subst (λ (m : M). led_by (lines h.before) m) (sym stays) h.reached.led) (subst Ended (sym stays) d) k;
       }
-  fault_told limit bytes f now found told h (rejected l going b r behind is) =
+  fault_reported limit bytes f now found reported h (rejected l going b r behind is) =
       let line = without_return (unfinished h.before) in
       let a = go_on h.machine h.before h.reached in
       let path = path_of F Fits node start g led_by Ended rejects follows h.machine h.before h.reached in
@@ -65,8 +61,8 @@ module _ {T V I S M : Type 0} (F : Format V I S) (Fits : I → Type 0) (node : T
         stands = behind_line h.machine h.reached.led going r behind;
       }
 
-  end_told : (limit : ℕ) (bytes : List ℕ) (f : Fault) (now : M) (found : Found) → EndsEarly led_by Ended limit bytes f now found → Told limit bytes f now found
-  end_told limit bytes f now found h = record {
+  end_reported : (limit : ℕ) (bytes : List ℕ) (f : Fault) (now : M) (found : Found) → EndsEarly led_by Ended limit bytes f now found → Answer limit bytes f now found
+  end_reported limit bytes f now found h = record {
     accepted = lines bytes;
     text = unfinished bytes;
     about = of_end (end_of_format F Fits node start g led_by Ended rejects follows limit bytes f now found h) refl refl;
@@ -74,20 +70,20 @@ module _ {T V I S M : Type 0} (F : Format V I S) (Fits : I → Type 0) (node : T
     stands = at_end h.reached.led h.open_still h.kind;
   }
 
-  pub told_by : (limit : ℕ) (bytes : List ℕ) (r : Refused M) → ConcernsText r.fault.kind → IsRefused led_by Ended rejects halted limit bytes r → Told limit bytes r.fault r.machine r.found
-  told_by limit bytes r told (inl h) = fault_told limit bytes r.fault r.machine r.found told h h.stops
-  told_by limit bytes r told (inr h) = end_told limit bytes r.fault r.machine r.found h
+  pub reported_by : (limit : ℕ) (bytes : List ℕ) (r : Refused M) → ConcernsText r.fault.kind → IsRefused led_by Ended rejects halted limit bytes r → Answer limit bytes r.fault r.machine r.found
+  reported_by limit bytes r reported (inl h) = fault_reported limit bytes r.fault r.machine r.found reported h h.stops
+  reported_by limit bytes r reported (inr h) = end_reported limit bytes r.fault r.machine r.found h
 
-  device_told : (bytes : List ℕ) (End : Type 0) (r : Refused M) → ConcernsText r.fault.kind → ReadFails led_by Ended rejects halted most_bytes bytes End r → Told most_bytes bytes r.fault r.machine r.found
-  device_told bytes End r told (unread m h l n k) = absurd (told.0 k)
-  device_told bytes End r told (early e h) = told_by most_bytes bytes r told (inr h)
-  device_told bytes End r told (faulty h ne) = told_by most_bytes bytes r told (inl h)
+  device_reported : (bytes : List ℕ) (End : Type 0) (r : Refused M) → ConcernsText r.fault.kind → ReadFails led_by Ended rejects halted most_bytes bytes End r → Answer most_bytes bytes r.fault r.machine r.found
+  device_reported bytes End r reported (unread m h l n k) = absurd (reported.0 k)
+  device_reported bytes End r reported (early e h) = reported_by most_bytes bytes r reported (inr h)
+  device_reported bytes End r reported (faulty h ne) = reported_by most_bytes bytes r reported (inl h)
 
   -- ---- a refusal X that is made from that of the machine
 
   module _ {X : Type 0} (fault : X → Fault) (found : X → Found) (Why : List (List ℕ) → List ℕ → X → Type 0) (r : Refused M) (x : X) (same : fault x ≡ r.fault) (same_found : found x ≡ r.found)
       (why : (a : List (List ℕ)) (t : List ℕ) → StandsBehind led_by Ended rejects halted a t r.fault.kind r.machine → Why a t x) where
-    pub explains : (bytes : List ℕ) → Told most_bytes bytes r.fault r.machine r.found → ExplainsRefusal F fault found Why bytes x
+    pub explains : (bytes : List ℕ) → Answer most_bytes bytes r.fault r.machine r.found → ExplainsRefusal F fault found Why bytes x
     explains bytes w = record {
       accepted = w.accepted;
       text = w.text;
@@ -99,14 +95,14 @@ module _ {T V I S M : Type 0} (F : Format V I S) (Fits : I → Type 0) (node : T
     pub refuses_explained : {D A : Type 0} (left : D → Option (List ℕ)) (Gives : List ℕ → A → Type 0) (old new : Device D) → FeedsMachine led_by Ended rejects halted left most_bytes old new (Err r) → ReadsOrExplains F fault found Why left Gives old new (Err x)
     refuses_explained left Gives old new h = record {
       plain = subst (λ (f : Fault). ReadsAll left F Gives old new (Err f)) (sym same) (refuses_all F Fits node start g led_by Ended rejects halted follows left Gives old new r h);
-      explained = λ is_told.
-          let told : ConcernsText r.fault.kind = subst (λ (f : Fault). ConcernsText f.kind) same is_told in
-          let t = h.refused told.2 in
+      explained = λ is_reported.
+          let reported : ConcernsText r.fault.kind = subst (λ (f : Fault). ConcernsText f.kind) same is_reported in
+          let t = h.refused reported.2 in
           let End = IsAtEnd (left new.device) in (
             t.0,
             t.1,
             subst (λ (f : Fault). Refuses F t.0 End f) (sym same) (device_refusal F Fits node start g led_by Ended rejects halted follows t.0 End r t.2),
-            explains t.0 (device_told t.0 End r told t.2),
+            explains t.0 (device_reported t.0 End r reported t.2),
           );
     }
 

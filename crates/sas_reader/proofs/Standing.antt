@@ -1,5 +1,5 @@
 -- What a reader represents, by its fault.
-use Rattle.std.proofs.Common.{◌≡◌, ◌≢◌, ℕ, List, ◌∷◌, ◌++◌, sym, ap, subst, ◌∙◌, append_assoc, Some, None}
+use Rattle.sas_reader.proofs.Imports.{◌≡◌, ◌≢◌, ℕ, List, ◌∷◌, ◌++◌, sym, ap, subst, ◌∙◌, append_assoc, Some, None}
 use Rattle.sas_reader.specs.declared.fault.Fault.{Fault}
 use Rattle.sas_reader.specs.declared.fault.Kind.{Kind}
 use Rattle.sas_reader.specs.declared.fault.Kind.TheVariants as kinds

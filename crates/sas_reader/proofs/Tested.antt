@@ -1,8 +1,5 @@
 -- The results of a reader's tests, and of its calls that fail.
-use Rattle.std.proofs.Common.{◌≡◌, ℕ, ◌<◌, ◌∙◌, Bool, true, false, List, [], length, eqb, sym, ap, subst, arith, Result, Ok, Err, IfOk, IsErr, IsErrAnd}
-use Rattle.std.proofs.lemmas.Bool.{eqb-true, eqb-false, false≢true}
-use Rattle.std.proofs.lemmas.List.{nil_from_length, append-nil}
-use Rattle.sas_lines.specs.Progress.{Progress}
+use Rattle.sas_reader.proofs.Imports.{◌≡◌, ℕ, ◌<◌, ◌∙◌, Bool, true, false, List, [], length, eqb, sym, ap, subst, arith, Result, Ok, Err, IfOk, IsErr, IsErrAnd, eqb-true, eqb-false, false≢true, nil_from_length, append-nil, Progress}
 use Rattle.sas_reader.specs.declared.fault.Kind.{Kind}
 use Rattle.sas_reader.specs.declared.fault.Kind.TheVariants as kinds
 use Rattle.sas_reader.specs.declared.reader.Reader.{Reader}

@@ -1,10 +1,5 @@
 -- The texts of a value are its lines, each with a line end.
-use Rattle.std.proofs.Common.{◌≡◌, ◌≢◌, ℕ, List, [], ◌∷◌, ◌++◌, refl, sym, ap, subst, ◌∙◌, append_assoc, ◌⊎◌, inl, inr, arith}
-use Rattle.std.specs.List.{AllByRecursion}
-use Rattle.std.proofs.lemmas.Bool.{ne_eqb}
-use Rattle.sas_lines.specs.Lines.{without_return, lines, unfinished, text, NoEnd, EndedLines}
-use Rattle.sas_lines.proofs.EndedLines.{ended_lines}
-use Rattle.sas_lines.proofs.Splitting.{lines-none, unfinished-none, lines-append, unfinished-append, lines-one, unfinished-one}
+use Rattle.sas_reader.proofs.Imports.{◌≡◌, ◌≢◌, ℕ, List, [], ◌∷◌, ◌++◌, refl, sym, ap, subst, ◌∙◌, append_assoc, ◌⊎◌, inl, inr, arith, AllByRecursion, ne_eqb, without_return, lines, unfinished, text, NoEnd, EndedLines, ended_lines, lines-none, unfinished-none, lines-append, unfinished-append, lines-one, unfinished-one}
 use Rattle.sas_reader.specs.Texts.{lines_of, Reads}
 use Rattle.sas_reader.specs.Format.{Format}
 use Rattle.sas_reader.specs.System.{Node, Grammar, IsPlain}

@@ -1,26 +1,7 @@
 -- The rules that concern a fact that doesn't hold. A fact has exactly one cause.
-use Rattle.std.proofs.Common.{◌≡◌, ℕ, ◌<◌, Bool, true, false, List, [], ◌∷◌, ◌++◌, length, get_or, slice_index, Some, refl, sym, ◌∙◌, ap, subst, inl, inr}
-use Rattle.std.specs.Prelude.{◌==◌, ◌&&◌, is_some, find, map}
-use Rattle.std.proofs.lemmas.Bool.{false≢true, and_parts, eqb-true, not-true, eqb-false}
-use Rattle.std.proofs.lemmas.Bool.Decides.{eqb_tells, Decides-eqb, Decides-not}
-use Rattle.std.proofs.lemmas.List.Elements.{All-nil, All-cons}
-use Rattle.std.proofs.lemmas.List.Folds.{Any-from_list_any}
-use Rattle.sas_core.specs.declared.parts.Fact.{Fact}
-use Rattle.sas_core.specs.declared.parts.Rule.{Rule}
-use Rattle.sas_core.specs.declared.parts.Parts.{Parts}
-use Rattle.sas_core.specs.Grounded.{rule_at}
-use Rattle.sas_meaning.specs.States.{Holds, AllHold}
-use Rattle.sas_meaning.specs.Layers.{IsOnLayer, default_of, CanFire, can_fire, IsLayered}
-use Rattle.sas_meaning.specs.Settled.{new_value_of, differs, IsSettled}
-use Rattle.sas_meaning.proofs.Facts.{hold_or_not}
-use Rattle.sas_meaning.proofs.Layers.{layer_cases}
-use Rattle.sas_meaning.proofs.Rules.{new_value_is}
-use Rattle.sas_meaning.proofs.Unique.{differs_tells}
-use Rattle.sas_meaning.proofs.Forced.{differs_not}
-use Rattle.sas_meaning.specs.Places.{can_give}
-use Rattle.sas_output.specs.declared.line.Line.{Line}
+use Rattle.sas_reasons.proofs.Imports.{◌≡◌, ℕ, ◌<◌, Bool, true, false, List, [], ◌∷◌, ◌++◌, length, get_or, slice_index, Some, refl, sym, ◌∙◌, ap, subst, inl, inr, ◌==◌, ◌&&◌, is_some, find, map, false≢true, and_parts, eqb-true, not-true, eqb-false, eqb_tells, Decides-eqb, Decides-not, All-nil, All-cons, Any-from_list_any, Fact, Rule, Parts, rule_at, Holds, AllHold, IsOnLayer, default_of, CanFire}
+use Rattle.sas_reasons.proofs.Imports.{can_fire, IsLayered, new_value_of, differs, IsSettled, hold_or_not, layer_cases, new_value_is, differs_decides, differs_not, can_give, Line, Run, last_state}
 use Rattle.sas_output.specs.declared.line.Line.TheVariants as line
-use Rattle.sas_run.specs.Runs.{Run, last_state}
 use Rattle.sas_reasons.specs.Cause.{fails, is_derived, is_given, AreDerivationLines, since_line, missing_lines, IsCause}
 use Rattle.sas_reasons.specs.Laws.{DefaultIfNotGiven, EachRuleFails}
 use Rattle.sas_reasons.proofs.Derivation.{value_is}
@@ -36,7 +17,7 @@ on_some_layer p var derived = elim (layer_cases p var) [
 ]
 
 pub default_if_not_given : DefaultIfNotGiven
-default_if_not_given p s fact layered settled derived given missed = elim (differs_tells p s fact.var) [
+default_if_not_given p s fact layered settled derived given missed = elim (differs_decides p s fact.var) [
   | inl w ↦ w.0
   | inr w ↦ absurd (missing (on_some_layer p fact.var derived) w.1)
 ]

@@ -1,12 +1,5 @@
 -- Effects that fire agree, or two of them conflict. The reported pair is unique.
-use Rattle.std.proofs.Common.{◌≡◌, ℕ, ◌<◌, ◌⊎◌, List, [], length, get_or, None, slice_index, sym, ap, subst, inl, inr, arith}
-use Rattle.std.proofs.lemmas.Bool.{cases_eq, cases_lt, cases_order}
-use Rattle.std.proofs.lemmas.List.{get_or_default}
-use Rattle.sas_core.specs.declared.parts.Effect.{Effect}
-use Rattle.sas_core.specs.declared.parts.Operator.{Operator}
-use Rattle.sas_core.specs.Grounded.{effect_at}
-use Rattle.sas_meaning.specs.Steps.{Fires, Agree}
-use Rattle.sas_meaning.proofs.Facts.{hold_or_not}
+use Rattle.sas_reasons.proofs.Imports.{◌≡◌, ℕ, ◌<◌, ◌⊎◌, List, [], length, get_or, None, slice_index, sym, ap, subst, inl, inr, arith, cases_eq, cases_lt, cases_order, get_or_default, Effect, Operator, effect_at, Fires, Agree, hold_or_not}
 use Rattle.sas_reasons.specs.WhyPlan.{ConflictsWith}
 use Rattle.sas_reasons.specs.Laws.{SomeConflict, OneConflict}
 use Rattle.sas_reasons.proofs.Lowest.{are_lowest_one, some_are_lowest}

@@ -1,20 +1,6 @@
 -- What gives the derived variables their values, and in what order.
-use Rattle.std.proofs.Common.{◌≡◌, ◌≢◌, ℕ, zero, suc, ◌+◌, ◌<◌, ◌≤◌, ◌⊎◌, true, false, cond, List, length, get_or, None, refl, sym, ◌∙◌, ap, subst, inl, inr, arith}
-use Rattle.std.specs.Prelude.{is_some}
-use Rattle.std.specs.List.{All}
-use Rattle.std.proofs.lemmas.Bool.{cases_eq, cases_lt, cases_Bool, false≢true}
-use Rattle.std.proofs.lemmas.List.Elements.{All-contains}
-use Rattle.sas_core.specs.declared.parts.Fact.{Fact}
-use Rattle.sas_core.specs.declared.parts.Parts.{Parts}
-use Rattle.sas_core.specs.Grounded.{rule_at}
-use Rattle.sas_core.specs.Variables.{layer_of}
-use Rattle.sas_meaning.specs.States.{AllHold}
-use Rattle.sas_meaning.specs.Layers.{IsBasic, IsOnLayer, default_of, LooksDown, IsLayered}
-use Rattle.sas_meaning.specs.Settled.{new_value_of, value_with, differs, IsSettled}
-use Rattle.sas_meaning.proofs.Layers.{layer_tells, layer_cases, given_on, given_off, one_layer}
-use Rattle.sas_meaning.proofs.Rules.{new_value_is}
-use Rattle.sas_meaning.proofs.Unique.{differs_tells}
-use Rattle.sas_meaning.proofs.Forced.{differs_true}
+use Rattle.sas_reasons.proofs.Imports.{◌≡◌, ◌≢◌, ℕ, zero, suc, ◌+◌, ◌<◌, ◌≤◌, ◌⊎◌, true, false, cond, List, length, get_or, None, refl, sym, ◌∙◌, ap, subst, inl, inr, arith, is_some, All, cases_eq, cases_lt, cases_Bool, false≢true, All-contains, Fact, Parts, rule_at, layer_of, AllHold, IsBasic, IsOnLayer, default_of, LooksDown, IsLayered, new_value_of, value_with, differs, IsSettled, layer_decides}
+use Rattle.sas_reasons.proofs.Imports.{layer_cases, given_on, given_off, one_layer, new_value_is, differs_decides, differs_true}
 use Rattle.sas_reasons.specs.Lowest.{IsLowest}
 use Rattle.sas_reasons.specs.Derivation.{fires_with, reached, IsRank, HasLayerAndRank, FiresNext, IsGivenBy, DependsOn, Itself, Below, IsLess, ComesBefore}
 use Rattle.sas_reasons.specs.Laws.{RankIfDiffers, OneRank, SomeGiver, OneGiver, GiverFires, RequiresLower, RequiresEarlier, GiverLooksDown, ItselfIsLast, NoCircle, AllDiffer}
@@ -114,9 +100,9 @@ giver_on p s var rule given = ((fires_decides p given.layer s (reached p given.l
 module _ (p : Parts) (s : List ℕ) (layered : IsLayered p) (settled : IsSettled p s) where
   -- with the members that differ from their defaults, each variable has its value
   pub value_is : (layer var : ℕ) → value_with p layer s (differs p s) var ≡ get_or s var 0
-  value_is layer v = elim (layer_tells p layer v) [
+  value_is layer v = elim (layer_decides p layer v) [
     | inr w ↦ given_off p layer s (differs p s) v w.0
-    | inl w ↦ given_on p layer s (differs p s) v w.0 ∙ elim (differs_tells p s v) [
+    | inl w ↦ given_on p layer s (differs p s) v w.0 ∙ elim (differs_decides p s v) [
       | inl q ↦ ap (λ b. cond b (new_value_of p v) (default_of p v)) q.1 ∙ sym q.0
       | inr q ↦ ap (λ b. cond b (new_value_of p v) (default_of p v)) q.1 ∙ sym ((settled layer).new v w.0 q.1)
     ]

@@ -11,3 +11,4 @@ pub mod Repeats
 pub mod Causes
 pub mod Places
 pub mod WhyPlan
+mod Imports

@@ -1,16 +1,6 @@
 -- Folded names, and the operator with a similar name.
-use Rattle.std.proofs.Common.{◌≡◌, ℕ, suc, ◌+◌, ◌<◌, ◌≤◌, Bool, false, cond, List, [], ◌∷◌, ◌++◌, map, length, bytes_eq, refl, sym, ◌∙◌, ap, subst, inl, inr, arith, Option, Some, None}
-use Rattle.std.specs.Prelude.{◌==◌, ◌&&◌, nat_lt}
-use Rattle.std.specs.Char.{to_ascii_lowercase}
-use Rattle.std.specs.List.{list_all, position_or_len}
-use Rattle.std.proofs.lemmas.Bool.{true≢false, lt-ltb, ltb-true, cases_lt, cases_Bool}
-use Rattle.std.proofs.lemmas.Bool.Decides.{eqb_tells, leb_tells}
-use Rattle.std.specs.Bool.{Decides}
-use Rattle.std.proofs.lemmas.List.Sums.{fails_before_first, passes_at_first}
-use Rattle.std.proofs.lemmas.Slice.Eq.{bytes_eq-Decides}
-use Rattle.sas_core.specs.declared.parts.Operator.{Operator}
-use Rattle.sas_core.specs.declared.parts.Parts.{Parts}
-use Rattle.sas_core.specs.Grounded.{operator_at}
+use Rattle.sas_reasons.proofs.Imports.{◌≡◌, ℕ, suc, ◌+◌, ◌<◌, ◌≤◌, Bool, false, cond, List, [], ◌∷◌, ◌++◌, map, length, bytes_eq, refl, sym, ◌∙◌, ap, subst, inl, inr, arith, Option, Some, None, ◌==◌, ◌&&◌, nat_lt, to_ascii_lowercase, list_all, position_or_len, true≢false, lt-ltb, ltb-true, cases_lt, cases_Bool, eqb_tells, leb_tells, Decides, fails_before_first, passes_at_first, bytes_eq-Decides}
+use Rattle.sas_reasons.proofs.Imports.{Operator, Parts, operator_at}
 use Rattle.sas_reasons.specs.MayMean.{trimmed, folded, similar_operator}
 use Rattle.sas_reasons.specs.Laws.{SpaceFolds, FoldsOnce, IsAlike, IsLowestIfAny}
 use Rattle.sas_reasons.proofs.Lowest.{lowest_if_any_is_one}
@@ -115,18 +105,18 @@ module _ (p : Parts) (name : List ℕ) where
   abbrev no_operator : Operator
   no_operator = record { name = []; prevail = []; effects = []; cost = 0 }
 
-  tells : (operator : ℕ) → Decides (is_alike (operator_at p operator)) (folded (operator_at p operator).name ≡ folded name)
-  tells operator = bytes_eq-Decides (folded (operator_at p operator).name) (folded name)
+  reports : (operator : ℕ) → Decides (is_alike (operator_at p operator)) (folded (operator_at p operator).name ≡ folded name)
+  reports operator = bytes_eq-Decides (folded (operator_at p operator).name) (folded name)
 
   none_before : (operator : ℕ) → operator < first → IsAlike p name operator → ⊥
-  none_before operator lt is = true≢false (sym ((tells operator).1 is.alike) ∙ fails_before_first is_alike p.operators operator no_operator lt)
+  none_before operator lt is = true≢false (sym ((reports operator).1 is.alike) ∙ fails_before_first is_alike p.operators operator no_operator lt)
 
   pub lowest_like : IsLowestIfAny (IsAlike p name) (similar_operator p name)
   lowest_like = elim (cases_Bool (nat_lt first (length p.operators))) [
     | inl is ↦
         let lt = ltb-true first (length p.operators) is in
         subst (IsLowestIfAny (IsAlike p name)) (sym (ap (λ (b : Bool). cond b (Some first) None) is)) (record {
-          has = record { exists = lt; alike = (tells first).0 (passes_at_first is_alike p.operators no_operator lt) };
+          has = record { exists = lt; alike = (reports first).0 (passes_at_first is_alike p.operators no_operator lt) };
           first = none_before;
         })
     | inr isnt ↦ subst (IsLowestIfAny (IsAlike p name)) (sym (ap (λ (b : Bool). cond b (Some first) None) isnt)) (λ operator is. none_before operator (past isnt operator is.exists) is)

@@ -1,17 +1,7 @@
 -- A variable that differs from its default has a derivation: its rule, and the rules of the
 -- variables on which this rule rests, which come before it.
-use Rattle.std.proofs.Common.{◌≡◌, ◌≢◌, ℕ, zero, suc, ◌<◌, ◌⊎◌, List, [], ◌∷◌, ◌++◌, get_or, refl, sym, ◌∙◌, subst, inl, inr, arith}
-use Rattle.std.specs.Prelude.{is_some}
-use Rattle.std.specs.List.{Contains}
-use Rattle.std.proofs.lemmas.Bool.{cases_eq, cases_Bool, false≢true}
-use Rattle.std.proofs.lemmas.List.Elements.{Contains-append_left, Contains-append_right, Contains-append_cases, Contains-get_or}
-use Rattle.sas_core.specs.declared.parts.Fact.{Fact}
-use Rattle.sas_core.specs.declared.parts.Parts.{Parts}
-use Rattle.sas_core.specs.Grounded.{rule_at}
-use Rattle.sas_core.specs.Variables.{layer_of, IsDerived}
-use Rattle.sas_meaning.specs.Layers.{default_of, IsLayered}
-use Rattle.sas_meaning.specs.Settled.{IsSettled}
-use Rattle.sas_meaning.proofs.Members.{contains_head, contains_tail, contains_cases, contains_none}
+use Rattle.sas_reasons.proofs.Imports.{◌≡◌, ◌≢◌, ℕ, zero, suc, ◌<◌, ◌⊎◌, List, [], ◌∷◌, ◌++◌, get_or, refl, sym, ◌∙◌, subst, inl, inr, arith, is_some, Contains, cases_eq, cases_Bool, false≢true, Contains-append_left, Contains-append_right, Contains-append_cases, Contains-get_or, Fact, Parts, rule_at, layer_of, IsDerived, default_of, IsLayered, IsSettled, contains_head, contains_tail}
+use Rattle.sas_reasons.proofs.Imports.{contains_cases, contains_none}
 use Rattle.sas_reasons.specs.Derivation.{HasLayerAndRank, IsGivenBy, DependsOn, InDerivation, Itself, Below, IsLess, ComesBefore, IsRuleOf, IsDerivation}
 use Rattle.sas_reasons.specs.Laws.{SomeDerivation}
 use Rattle.sas_reasons.proofs.Derivation.{stands_one, giver_at, giver_on, one_giver, rests_on_earlier, rank_if_differs}

@@ -1,20 +1,5 @@
 -- The places of the items that pass a test, and what fails.
-use Rattle.std.proofs.Common.{◌≡◌, ℕ, zero, suc, ◌+◌, not, List, [], ◌∷◌, slice_index, bytes_eq, ◌∙◌, ap, subst, inl, inr, arith}
-use Rattle.std.specs.Prelude.{filter}
-use Rattle.std.specs.List.{Contains}
-use Rattle.std.proofs.lemmas.Bool.{eq-eqb, ne_eqb}
-use Rattle.std.proofs.lemmas.Bool.Decides.{eqb_tells}
-use Rattle.std.proofs.lemmas.List.Elements.{All-nil, All-cons}
-use Rattle.std.proofs.lemmas.Slice.Eq.{bytes_eq-Decides}
-use Rattle.sas_core.specs.declared.parts.Fact.{Fact}
-use Rattle.sas_core.specs.declared.parts.Operator.{Operator}
-use Rattle.sas_core.specs.Grounded.{operator_at}
-use Rattle.sas_meaning.specs.States.{Holds, AllHold}
-use Rattle.sas_meaning.specs.Steps.{preconditions}
-use Rattle.sas_meaning.specs.Places.{places_from, places}
-use Rattle.sas_meaning.proofs.Places.{takes, passes_by, place_is, is_place}
-use Rattle.sas_names.specs.Named.{IsNamed}
-use Rattle.sas_run.specs.Verdicts.{IsFirstMissed}
+use Rattle.sas_reasons.proofs.Imports.{◌≡◌, ℕ, zero, suc, ◌+◌, not, List, [], ◌∷◌, slice_index, bytes_eq, ◌∙◌, ap, subst, inl, inr, arith, filter, Contains, eq-eqb, ne_eqb, eqb_tells, All-nil, All-cons, bytes_eq-Decides, Fact, Operator, operator_at, Holds, AllHold, preconditions, places_from, places, takes, passes_by, place_is, is_place, IsNamed, IsFirstMissed}
 use Rattle.sas_reasons.specs.Cause.{fails}
 use Rattle.sas_reasons.specs.Laws.{SomePreconditionFails, OperatorsHaveName, FirstGoalFact}
 

@@ -1,15 +1,6 @@
 -- Removing repeated lines of rules: no line is lost, and no line of a rule remains twice.
-use Rattle.std.proofs.Common.{◌≡◌, ◌≢◌, suc, ◌<◌, ◌⊎◌, Bool, true, false, List, [], ◌∷◌, ◌++◌, get_or, sym, ◌∙◌, ap, subst, inl, inr, arith}
-use Rattle.std.specs.Prelude.{if◌then◌else◌}
-use Rattle.std.specs.List.{Contains, AllPairs, list_any}
-use Rattle.std.proofs.lemmas.Bool.{cases_Bool, false≢true}
-use Rattle.std.proofs.lemmas.List.Elements.{Contains-append_left, Contains-append_right, Contains-append_cases, Contains-get_or, All-contains}
-use Rattle.std.proofs.lemmas.List.Kept.{AllPairs-cons}
-use Rattle.std.proofs.lemmas.List.Folds.{Any-from_list_any, list_any_at}
-use Rattle.sas_meaning.proofs.Members.{contains_head, contains_tail, contains_cases, contains_none}
-use Rattle.sas_output.specs.declared.line.Line.{Line}
-use Rattle.sas_output.specs.Line.{is_rule_line, is_same_rule_line}
-use Rattle.sas_output.proofs.RuleLines.{same_is, is_same}
+use Rattle.sas_reasons.proofs.Imports.{◌≡◌, ◌≢◌, suc, ◌<◌, ◌⊎◌, Bool, true, false, List, [], ◌∷◌, ◌++◌, get_or, sym, ◌∙◌, ap, subst, inl, inr, arith, if◌then◌else◌, Contains, AllPairs, list_any, cases_Bool, false≢true, Contains-append_left, Contains-append_right, Contains-append_cases, Contains-get_or, All-contains, AllPairs-cons, Any-from_list_any, list_any_at, contains_head, contains_tail}
+use Rattle.sas_reasons.proofs.Imports.{contains_cases, contains_none, Line, is_rule_line, is_same_rule_line, same_is, is_same}
 use Rattle.sas_reasons.specs.Lines.{with_line, with_lines}
 use Rattle.sas_reasons.specs.Laws.{NoneIsLost, RulesStandOnce}
 

@@ -1,22 +1,7 @@
 -- The rounds in which the rules of a layer fire. The set of reached variables grows, and in the end
 -- contains exactly those that differ from their defaults.
-use Rattle.std.proofs.Common.{◌≡◌, ℕ, zero, suc, ◌+◌, ◌<◌, ◌≤◌, ◌⊎◌, Bool, true, false, cond, List, length, get_or, refl, sym, ◌∙◌, ap, subst, inl, inr, arith}
-use Rattle.std.specs.Prelude.{◌==◌}
-use Rattle.std.specs.Bool.{Decides}
-use Rattle.std.specs.List.{list_all, list_any, HoldsAt}
-use Rattle.std.proofs.lemmas.Bool.{cases_eq, cases_Bool, false≢true, and_from, and_parts}
-use Rattle.std.proofs.lemmas.Bool.Decides.{Decides-eqb, Decides-not, Decides-and, Decides-like, Decides-by_and, Decides-by_or}
-use Rattle.std.proofs.lemmas.List.{get_or_default}
-use Rattle.std.proofs.lemmas.List.Folds.{list_any_at}
-use Rattle.sas_core.specs.declared.parts.Fact.{Fact}
-use Rattle.sas_core.specs.declared.parts.Rule.{Rule}
-use Rattle.sas_core.specs.declared.parts.Parts.{Parts}
-use Rattle.sas_core.specs.Grounded.{rule_at}
-use Rattle.sas_meaning.specs.States.{Holds, AllHold}
-use Rattle.sas_meaning.specs.Layers.{IsOnLayer, default_of, CanFire, can_fire, IsLayered}
-use Rattle.sas_meaning.specs.Settled.{is_on_layer, new_value_of, value_with, IsClosed, differs, IsSettledAt}
-use Rattle.sas_meaning.proofs.Layers.{layer_tells, given_on, given_off, on_layer_within}
-use Rattle.sas_meaning.specs.Places.{can_give}
+use Rattle.sas_reasons.proofs.Imports.{◌≡◌, ℕ, zero, suc, ◌+◌, ◌<◌, ◌≤◌, ◌⊎◌, Bool, true, false, cond, List, length, get_or, refl, sym, ◌∙◌, ap, subst, inl, inr, arith, ◌==◌, Decides, list_all, list_any, HoldsAt, cases_eq, cases_Bool, false≢true, and_from, and_parts, Decides-eqb, Decides-not, Decides-and, Decides-like, Decides-by_and, Decides-by_or, get_or_default, list_any_at, Fact, Rule, Parts}
+use Rattle.sas_reasons.proofs.Imports.{rule_at, Holds, AllHold, IsOnLayer, default_of, CanFire, can_fire, IsLayered, is_on_layer, new_value_of, value_with, IsClosed, differs, IsSettledAt, layer_decides, given_on, given_off, on_layer_within, can_give}
 use Rattle.sas_reasons.specs.Derivation.{fires_with, reached}
 
 -- ---- the meaning of the tests
@@ -111,7 +96,7 @@ module _ (p : Parts) (layer : ℕ) (s : List ℕ) where
       from : is_on_layer p layer var ≡ true
           → (k : ℕ) × (k < length p.rules) × HoldsAt (Fires p layer s (reached p layer s rounds) var) p.rules k → ReachedBy (reached p layer s rounds) var
       from on w = record {
-        on = elim (layer_tells p layer var) [ inl t ↦ t.0 | inr t ↦ absurd (false≢true (sym t.1 ∙ on)) ];
+        on = elim (layer_decides p layer var) [ inl t ↦ t.0 | inr t ↦ absurd (false≢true (sym t.1 ∙ on)) ];
         rule = w.0;
         exists = w.1;
         fires = w.2 _;
@@ -119,7 +104,7 @@ module _ (p : Parts) (layer : ℕ) (s : List ℕ) where
 
   pub reach : (rounds var : ℕ) → ReachedBy (reached p layer s rounds) var → reached p layer s (suc rounds) var ≡ true
   reach rounds var by = and_from (is_on_layer p layer var) (list_any (fires_with p layer s (reached p layer s rounds) var) p.rules)
-      (elim (layer_tells p layer var) [ inl t ↦ t.1 | inr t ↦ absurd (t.0 by.on) ])
+      (elim (layer_decides p layer var) [ inl t ↦ t.1 | inr t ↦ absurd (t.0 by.on) ])
       (list_any_at (fires_with p layer s (reached p layer s rounds) var) p.rules by.rule _ by.exists
       ((fires_decides p layer s (reached p layer s rounds) var (rule_at p by.rule)).1 by.fires))
 
@@ -133,7 +118,7 @@ module _ (p : Parts) (layer : ℕ) (s : List ℕ) where
         at : (c : Fact) → value_with p layer s a c.var ≡ c.value
             → ((here there : ℕ) → IsOnLayer p here (rule_at p rule).var → IsOnLayer p there c.var → (there ≤ here) × (c.value ≡ default_of p c.var → there < here))
             → value_with p layer s b c.var ≡ c.value
-        at c h down = elim (layer_tells p layer c.var) [
+        at c h down = elim (layer_decides p layer c.var) [
           | inr w ↦ given_off p layer s b c.var w.0 ∙ (sym (given_off p layer s a c.var w.0) ∙ h)
           | inl w ↦ elim (cases_Bool (a c.var)) [
             | inl y ↦ given_on p layer s b c.var w.0 ∙ (ap (λ t. cond t (new_value_of p c.var) (default_of p c.var)) (more c.var w.0 y ∙ sym y)

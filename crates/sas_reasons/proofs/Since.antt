@@ -1,7 +1,5 @@
 -- In a run each variable has exactly one last change.
-use Rattle.std.proofs.Common.{◌≡◌, ◌≢◌, ℕ, zero, suc, ◌+◌, ◌-◌, ◌<◌, ◌≤◌, length, refl, sym, ◌∙◌, ap, subst, inl, inr, arith}
-use Rattle.std.proofs.lemmas.Bool.{cases_eq, cases_lt}
-use Rattle.sas_run.specs.Runs.{Run}
+use Rattle.sas_reasons.proofs.Imports.{◌≡◌, ◌≢◌, ℕ, zero, suc, ◌+◌, ◌-◌, ◌<◌, ◌≤◌, length, refl, sym, ◌∙◌, ap, subst, inl, inr, arith, cases_eq, cases_lt, Run}
 use Rattle.sas_reasons.specs.Cause.{value_at, IsSince}
 use Rattle.sas_reasons.specs.Laws.{SomeSince, OneSince, SameSince}
 

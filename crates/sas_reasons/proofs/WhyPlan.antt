@@ -1,54 +1,37 @@
 -- The fault of a plan has exactly one list of reasons.
-use Rattle.std.proofs.Common.{◌≡◌, ℕ, ◌-◌, ◌<◌, List, [], ◌∷◌, ◌++◌, length, take, refl, sym, ◌∙◌, ap, subst, inl, inr, arith}
-use Rattle.std.proofs.Math.Seq.{take-append_seam}
-use Rattle.std.specs.Prelude.{filter, bytes_eq}
-use Rattle.sas_core.specs.declared.parts.Operator.{Operator}
-use Rattle.sas_core.specs.declared.parts.Parts.{Parts}
-use Rattle.sas_core.specs.PlanParts.{PlanParts}
-use Rattle.sas_core.specs.Stepwise.{step_at}
-use Rattle.sas_core.specs.Grounded.{operator_at}
-use Rattle.sas_meaning.specs.Layers.{IsLayered}
-use Rattle.sas_meaning.specs.Settled.{IsSettled}
-use Rattle.sas_meaning.specs.Steps.{preconditions}
-use Rattle.sas_meaning.specs.Places.{places}
-use Rattle.sas_run.specs.declared.plan_check.PlanFault.{PlanFault}
-use Rattle.sas_run.specs.declared.plan_check.PlanFault.TheVariants.{Memory, NoOperator, NotApplicable, Conflict, GoalMissed, CostDiffers}
-use Rattle.sas_run.specs.Plans.{LeadTo, LeadsTo}
-use Rattle.sas_run.specs.Verdicts.{ComesTo, IsFaultOf}
-use Rattle.sas_output.specs.declared.line.Line.{Line}
+use Rattle.sas_reasons.proofs.Imports.{◌≡◌, ℕ, ◌-◌, ◌<◌, List, [], ◌∷◌, ◌++◌, length, take, refl, sym, ◌∙◌, ap, subst, inl, inr, arith, take-append_seam, filter, bytes_eq, Operator, Parts, PlanParts, step_at, operator_at, IsLayered, IsSettled, preconditions, places, PlanFault, Memory, NoOperator, NotApplicable, Conflict, GoalMissed, CostDiffers, LeadTo, LeadsTo, ComesTo, IsFaultOf, Line, Run}
+use Rattle.sas_reasons.proofs.Imports.{last_state, StepsSucceed, steps_before, some_run, one_run}
 use Rattle.sas_output.specs.declared.line.Line.TheVariants as line
 use Rattle.sas_reasons.specs.Lines.{with_lines, LineThen, LinesOfEach}
-use Rattle.sas_run.specs.Runs.{Run, last_state, StepsSucceed, steps_before}
 use Rattle.sas_reasons.specs.Cause.{fails, IsCause}
 use Rattle.sas_reasons.specs.WhyPlan.{AreFailedPreconditionLines, AreConflictLines, goal_fact_at, AreGoalFactLines, cost_lines, AreCouldBeLines, AreFaultLines, IsWhy}
 use Rattle.sas_reasons.specs.Laws.{SomeWhy, OneWhy}
-use Rattle.sas_run.proofs.Runs.{some_run, one_run}
 use Rattle.sas_reasons.proofs.MayMean.{some_may_mean, one_may_mean}
 use Rattle.sas_reasons.proofs.Causes.{some_cause, one_cause}
 use Rattle.sas_reasons.proofs.Conflicts.{some_conflict, one_conflict}
 
 -- ---- the lines of each item
 
-each_one : {A : Type 0} (Tells : A → List Line → Type 0) → ((item : A) (a b : List Line) → Tells item a → Tells item b → a ≡ b)
-    → (items : List A) (a b : List Line) → LinesOfEach Tells items a → LinesOfEach Tells items b → a ≡ b
-each_one Tells one [] a b x y = x ∙ sym y
-each_one Tells one (item ∷ items) a b x y = x.4
+each_one : {A : Type 0} (Reports : A → List Line → Type 0) → ((item : A) (a b : List Line) → Reports item a → Reports item b → a ≡ b)
+    → (items : List A) (a b : List Line) → LinesOfEach Reports items a → LinesOfEach Reports items b → a ≡ b
+each_one Reports one [] a b x y = x ∙ sym y
+each_one Reports one (item ∷ items) a b x y = x.4
     ∙ (ap (λ (its : List Line). its ++ x.1) (one item x.0 y.0 x.2 y.2)
-    ∙ (ap (λ (others : List Line). y.0 ++ others) (each_one Tells one items x.1 y.1 x.3 y.3) ∙ sym y.4))
+    ∙ (ap (λ (others : List Line). y.0 ++ others) (each_one Reports one items x.1 y.1 x.3 y.3) ∙ sym y.4))
 
-some_each : {A : Type 0} (Tells : A → List Line → Type 0) → ((item : A) → (lines : List Line) × Tells item lines)
-    → (items : List A) → (lines : List Line) × LinesOfEach Tells items lines
-some_each Tells some [] = ([], refl)
-some_each Tells some (item ∷ items) =
+some_each : {A : Type 0} (Reports : A → List Line → Type 0) → ((item : A) → (lines : List Line) × Reports item lines)
+    → (items : List A) → (lines : List Line) × LinesOfEach Reports items lines
+some_each Reports some [] = ([], refl)
+some_each Reports some (item ∷ items) =
     let its = some item in
-    let others = some_each Tells some items in
+    let others = some_each Reports some items in
     (its.0 ++ others.0, (its.0, others.0, its.1, others.1, refl))
 
 -- ---- at most one list
 
-behind_one : (first : Line) (Tells : List Line → Type 0) → ((a b : List Line) → Tells a → Tells b → a ≡ b) → (a b : List Line)
-    → LineThen first Tells a → LineThen first Tells b → a ≡ b
-behind_one first Tells one a b x y = x.2 ∙ (ap (λ (behind : List Line). first ∷ behind) (one x.0 y.0 x.1 y.1) ∙ sym y.2)
+behind_one : (first : Line) (Reports : List Line → Type 0) → ((a b : List Line) → Reports a → Reports b → a ≡ b) → (a b : List Line)
+    → LineThen first Reports a → LineThen first Reports b → a ≡ b
+behind_one first Reports one a b x y = x.2 ∙ (ap (λ (behind : List Line). first ∷ behind) (one x.0 y.0 x.1 y.1) ∙ sym y.2)
 
 module _ (p : Parts) (run : Run) where
   inapplicable_one : (operator : ℕ) (a b : List Line) → AreFailedPreconditionLines p run operator a → AreFailedPreconditionLines p run operator b → a ≡ b

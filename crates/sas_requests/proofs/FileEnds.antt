@@ -1,53 +1,15 @@
 -- How the output about one file goes out.
-use Rattle.std.proofs.Common.{◌≡◌, ◌≢◌, ℕ, ◌<◌, Bool, true, false, IsTrue, List, [], length, take, refl, sym, ap, subst, ◌∙◌, inl, inr, ◌⊎◌, codes, Option, Some, None, Result, Ok, Err}
-use Rattle.std.specs.Prelude.{nat_lt, IfErr, IsErrOf, IsSomeAnd, ◌↔◌}
-use Rattle.std.specs.Io.KnownBytes.{Consumes, IsAtEnd}
-use Rattle.sas_core.specs.declared.parts.Parts.{Parts}
-use Rattle.sas_core.specs.PlanParts.{PlanParts}
-use Rattle.sas_core.specs.FirstFault.{first_fault}
-use Rattle.sas_meaning.specs.declared.layered.LayerFault.{LayerFault}
+use Rattle.sas_requests.proofs.Imports.{◌≡◌, ◌≢◌, ℕ, ◌<◌, Bool, true, false, IsTrue, List, [], length, take, refl, sym, ap, subst, ◌∙◌, inl, inr, ◌⊎◌, codes, Option, Some, None, Result, Ok, Err, nat_lt, IfErr, IsErrOf, IsSomeAnd, ◌↔◌, Consumes, IsAtEnd, Parts, PlanParts, first_fault, LayerFault, layer_checks, Device, Fault, Kind, TooLong, Read, Memory, Found, ReadsAll, ValueOf, Format, ReadsAs}
+use Rattle.sas_requests.proofs.Imports.{IsFoundOf, most_bytes, ConcernsText, AboutLaws, ExplainsRefusal, ReadsOrExplains, known_answer, known_fault, known_explained, PlanRefusal, plan_format, fault_of, found_of, nothing_else, ReadsPlan, less, is_less, task_format, IsTaskReason, TaskRefusal, fault_in, found_in, HasReason, ReadsTask, FileLine, task_reasons, plan_reasons, file_text, Status}
+use Rattle.sas_requests.proofs.Imports.{ToolFault, Output, Ends, EndsCounting, IsDecided, IsWrite, counting_ends, ends_counting_as, not_memory, refusal, IsAnswerOrRefusal, FileOut, ends_counting_by, refused_kind, too_long_else, reading_of_refusal, reported_fault, EndsFile}
 use Rattle.sas_meaning.specs.declared.layered.LayerFault.TheVariants as layer_fault
-use Rattle.sas_meaning.specs.LayerChecks.{layer_checks}
-use Rattle.sas_lines.specs.Device.{Device}
-use Rattle.sas_reader.specs.declared.fault.Fault.{Fault}
-use Rattle.sas_reader.specs.declared.fault.Kind.{Kind}
-use Rattle.sas_reader.specs.declared.fault.Kind.TheVariants.{TooLong, Read, Memory}
-use Rattle.sas_reader.specs.declared.found.Found.{Found}
-use Rattle.sas_reader.specs.Devices.{ReadsAll, ValueOf}
-use Rattle.sas_reader.specs.Format.{Format, ReadsAs}
-use Rattle.sas_reader.specs.Found.{IsFoundOf}
-use Rattle.sas_reader.specs.Limit.{most_bytes}
-use Rattle.sas_reader.specs.About.{ConcernsText, AboutLaws}
-use Rattle.sas_reader.specs.Refusals.{ExplainsRefusal, ReadsOrExplains}
-use Rattle.sas_reader.proofs.Known.{known_answer, known_fault}
-use Rattle.sas_reader.proofs.KnownRefusals.{known_explained}
-use Rattle.sas_plan_file.specs.declared.plan_refusal.PlanRefusal.{PlanRefusal}
-use Rattle.sas_plan_file.specs.PlanFormat.{plan_format}
-use Rattle.sas_plan_file.specs.PlanRefusal.{fault_of, found_of, nothing_else, ReadsPlan}
-use Rattle.sas_task_format.proofs.TaskSections.{less, is_less}
-use Rattle.sas_task_format.specs.TaskFormat.{task_format}
-use Rattle.sas_task_format.specs.TaskReasons.{IsTaskReason}
-use Rattle.sas_task_reader.specs.declared.task_refusal.TaskRefusal.{TaskRefusal}
-use Rattle.sas_task_reader.specs.TaskRefusal.{fault_in, found_in, HasReason, ReadsTask}
-use Rattle.sas_outputs.specs.FileLine.{FileLine}
-use Rattle.sas_outputs.specs.FileReasons.{task_reasons, plan_reasons, file_text}
-use Rattle.sas_output.specs.declared.ending.Status.{Status}
-use Rattle.sas_output.specs.declared.ending.ToolFault.{ToolFault}
 use Rattle.sas_output.specs.declared.ending.ToolFault.TheVariants as tool_fault
-use Rattle.sas_output.specs.Ending.{Output, Ends, EndsCounting, IsDecided, IsWrite}
-use Rattle.sas_output.proofs.Sent.{counting_ends, ends_counting_as}
-use Rattle.sas_task_reasons.proofs.TaskAnswers.{not_memory}
-use Rattle.sas_outputs.specs.Output.{refusal, IsAnswerOrRefusal, FileOut}
-use Rattle.sas_outputs.proofs.Endings.{ends_counting_by}
-use Rattle.sas_outputs.proofs.Outputs.{refused_kind, too_long_else, reading_of_refusal}
-use Rattle.sas_outputs.proofs.PlanOutputs.{told_fault}
 use Rattle.sas_requests.specs.declared.detail.Detail.{Detail}
 use Rattle.sas_requests.specs.declared.detail.Detail.TheVariants.{Plain, Reasons, Trace}
-use Rattle.sas_outputs.specs.EndsFile.{EndsFile}
 use Rattle.sas_requests.specs.Answering.{FileBy, TaskBy, PlanBy, UnlayeredBy, layers_by, refusal_by, task_refusal_lines, plan_refusal_lines}
-use Rattle.sas_requests.specs.FileReasons.{FaultReasons, told, past_limit, FileReasons, AreTaskReasons, ArePlanReasons}
-use Rattle.sas_requests.proofs.RefusalLaws.{task_telling, plan_telling}
-use Rattle.sas_requests.proofs.RefusalReasons.{some_of, reasoned_by, more_reasoned, told_alone}
+use Rattle.sas_requests.specs.FileReasons.{FaultReasons, reported, past_limit, FileReasons, AreTaskReasons, ArePlanReasons}
+use Rattle.sas_requests.proofs.RefusalLaws.{task_reporting, plan_reporting}
+use Rattle.sas_requests.proofs.RefusalReasons.{some_of, reasoned_by, more_reasoned, reported_alone}
 
 -- ---- outputs that went out
 
@@ -71,50 +33,50 @@ module _ (Sent : List ℕ → Type 0) where
 
 -- ---- the output about the bytes of a file
 
-module _ {V I S : Type 0} (F : Format V I S) (Tells : Kind → List (List ℕ) → List ℕ → List FileLine → Type 0) (name : List ℕ) where
+module _ {V I S : Type 0} (F : Format V I S) (Reports : Kind → List (List ℕ) → List ℕ → List FileLine → Type 0) (name : List ℕ) where
   -- an answer about their value
-  value_by : (detail : Detail) (IsAnswer : V → Output → Type 0) (b : List ℕ) (v : V) (o : Output) → ReadsAs F most_bytes b (Ok v) → IsAnswer v o → FileBy F Tells name detail IsAnswer b (Some o)
+  value_by : (detail : Detail) (IsAnswer : V → Output → Type 0) (b : List ℕ) (v : V) (o : Output) → ReadsAs F most_bytes b (Ok v) → IsAnswer v o → FileBy F Reports name detail IsAnswer b (Some o)
   value_by detail IsAnswer b v o reads is =
-      reasoned_by detail (FileOut F name IsAnswer b) (FileReasons F Tells b) (Some o) (Some o) [] (Ok v, reads, (o, is, refl)) (Ok v, reads, refl) (told_alone detail (Some o))
+      reasoned_by detail (FileOut F name IsAnswer b) (FileReasons F Reports b) (Some o) (Some o) [] (Ok v, reads, (o, is, refl)) (Ok v, reads, refl) (reported_alone detail (Some o))
 
   -- other answers that follow
   more_read : (A B : V → Output → Type 0) → ((v : V) (o : Output) → A v o → B v o) → (r : Result V Fault) (o : Option Output) → IsAnswerOrRefusal name A r o → IsAnswerOrRefusal name B r o
   more_read A B to (Ok v) o (answer, is, same) = (answer, to v answer is, same)
   more_read A B to (Err fault) o is = is
 
-  more_by : (detail : Detail) (A B : V → Output → Type 0) → ((v : V) (o : Output) → A v o → B v o) → (b : List ℕ) (o : Option Output) → FileBy F Tells name detail A b o → FileBy F Tells name detail B b o
+  more_by : (detail : Detail) (A B : V → Output → Type 0) → ((v : V) (o : Output) → A v o → B v o) → (b : List ℕ) (o : Option Output) → FileBy F Reports name detail A b o → FileBy F Reports name detail B b o
   more_by detail A B to b =
-      more_reasoned detail (FileOut F name A b) (FileOut F name B b) (FileReasons F Tells b) (FileReasons F Tells b) (λ o (r, reads, is). (r, reads, more_read A B to r o is)) (λ o reasons out why. why)
+      more_reasoned detail (FileOut F name A b) (FileOut F name B b) (FileReasons F Reports b) (FileReasons F Reports b) (λ o (r, reads, is). (r, reads, more_read A B to r o is)) (λ o reasons out why. why)
 
   module _ (f : Fault) (reasons : List FileLine) where
     plain_kind : (o : Output) → refusal name f ≡ Some o → ConcernsText f.kind
     plain_kind o refused = (refused_kind f.kind Read _ o refl refused, refused_kind f.kind TooLong _ o refl refused, refused_kind f.kind Memory _ o refl refused)
 
     -- the kind of a fault that is refused
-    told_kind : (detail : Detail) (o : Output) → Some o ≡ refusal_by detail name f reasons → ConcernsText f.kind
-    told_kind Plain o is = plain_kind o (sym is)
-    told_kind Trace o is = plain_kind o (sym is)
-    told_kind Reasons o is = let (plain, refused, same) = some_of (file_text reasons) (refusal name f) o is in plain_kind plain refused
+    reported_kind : (detail : Detail) (o : Output) → Some o ≡ refusal_by detail name f reasons → ConcernsText f.kind
+    reported_kind Plain o is = plain_kind o (sym is)
+    reported_kind Trace o is = plain_kind o (sym is)
+    reported_kind Reasons o is = let (plain, refused, same) = some_of (file_text reasons) (refusal name f) o is in plain_kind plain refused
 
     module _ (detail : Detail) (IsAnswer : V → Output → Type 0) (b : List ℕ) (reads : ReadsAs F most_bytes b (Err f)) where
       -- the refusal
-      refused_by : (o : Output) → Some o ≡ refusal_by detail name f reasons → FaultReasons F Tells b f reasons → FileBy F Tells name detail IsAnswer b (Some o)
-      refused_by o is why = reasoned_by detail (FileOut F name IsAnswer b) (FileReasons F Tells b) (refusal name f) (Some o) reasons (Err f, reads, refl) (Err f, reads, why) is
+      refused_by : (o : Output) → Some o ≡ refusal_by detail name f reasons → FaultReasons F Reports b f reasons → FileBy F Reports name detail IsAnswer b (Some o)
+      refused_by o is why = reasoned_by detail (FileOut F name IsAnswer b) (FileReasons F Reports b) (refusal name f) (Some o) reasons (Err f, reads, refl) (Err f, reads, why) is
 
       -- or none, past the limit
-      long_by : f.kind ≡ TooLong → FileBy F Tells name detail IsAnswer b None
-      long_by long = reasoned_by detail (FileOut F name IsAnswer b) (FileReasons F Tells b) None None [] (Err f, reads, rw long refl) (Err f, reads, past_limit long refl) (told_alone detail None)
+      long_by : f.kind ≡ TooLong → FileBy F Reports name detail IsAnswer b None
+      long_by long = reasoned_by detail (FileOut F name IsAnswer b) (FileReasons F Reports b) None None [] (Err f, reads, rw long refl) (Err f, reads, past_limit long refl) (reported_alone detail None)
 
 -- ---- how it goes out
 
-module _ {D V I S A : Type 0} (left : D → Option (List ℕ)) (F : Format V I S) (Tells : Kind → List (List ℕ) → List ℕ → List FileLine → Type 0) (Gives : List ℕ → A → Type 0) (name : List ℕ)
+module _ {D V I S A : Type 0} (left : D → Option (List ℕ)) (F : Format V I S) (Reports : Kind → List (List ℕ) → List ℕ → List FileLine → Type 0) (Gives : List ℕ → A → Type 0) (name : List ℕ)
     (Sent : List ℕ → Type 0) (detail : Detail) (IsAnswer : V → Output → Type 0) (old new : Device D) where
   abbrev FileOutput : List ℕ → Option Output → Type 0
-  FileOutput = FileBy F Tells name detail IsAnswer
+  FileOutput = FileBy F Reports name detail IsAnswer
 
   module _ (a : A) (Is : Output → Type 0) (gives : (b : List ℕ) → Gives b a → (o : Output) → Is o → (v : V) × ReadsAs F most_bytes b (Ok v) × IsAnswer v o) where
     value_out : (b : List ℕ) → Gives b a → (o : Option Output) → IsSomeAnd o Is → FileOutput b o
-    value_out b given (Some o) is = let (v, reads, answer) = gives b given o is in value_by F Tells name detail IsAnswer b v o reads answer
+    value_out b given (Some o) is = let (v, reads, answer) = gives b given o is in value_by F Reports name detail IsAnswer b v o reads answer
     value_out b given None is = absurd is
 
     -- what was read is answered
@@ -140,35 +102,35 @@ module _ {D V I S A : Type 0} (left : D → Option (List ℕ)) (F : Format V I S
   ends_exactly a x r read gives ends never = ends_text a x r read gives (counting_ends (λ o. o ≡ Some x) Sent r ends) never
 
   -- and where the answers are others that follow
-  pub ends_more : (Other : V → Output → Type 0) → ((v : V) (o : Output) → IsAnswer v o → Other v o) → (r : Result Status ToolFault) → EndsFile left FileOutput Sent old new r → EndsFile left (FileBy F Tells name detail Other) Sent old new r
+  pub ends_more : (Other : V → Output → Type 0) → ((v : V) (o : Output) → IsAnswer v o → Other v o) → (r : Result Status ToolFault) → EndsFile left FileOutput Sent old new r → EndsFile left (FileBy F Reports name detail Other) Sent old new r
   ends_more Other to r one = record {
-    output = λ b known. ends_by Sent (FileOutput b) (FileBy F Tells name detail Other b) r (more_by F Tells name detail IsAnswer Other to b) (one.output b known);
+    output = λ b known. ends_by Sent (FileOutput b) (FileBy F Reports name detail Other b) r (more_by F Reports name detail IsAnswer Other to b) (one.output b known);
     taken = λ decided.
         let (b, consumed, ends) = one.taken decided in
-        (b, consumed, ends_by Sent (FileOutput b) (FileBy F Tells name detail Other b) r (more_by F Tells name detail IsAnswer Other to b) ends);
+        (b, consumed, ends_by Sent (FileOutput b) (FileBy F Reports name detail Other b) r (more_by F Reports name detail IsAnswer Other to b) ends);
     reads = one.reads;
   }
 
-  module _ {R : Type 0} (telling : AboutLaws F) (fault : R → Fault) (found : R → Found) (Told : List (List ℕ) → List ℕ → R → Type 0)
-      (r : R) (reasons : List FileLine) (tells : (accepted : List (List ℕ)) (text : List ℕ) → IsFoundOf text (found r) → Told accepted text r → Tells (fault r).kind accepted text reasons)
-      (h : ReadsOrExplains F fault found Told left Gives old new (Err r)) where
+  module _ {R : Type 0} (reporting : AboutLaws F) (fault : R → Fault) (found : R → Found) (Answer : List (List ℕ) → List ℕ → R → Type 0)
+      (r : R) (reasons : List FileLine) (reports : (accepted : List (List ℕ)) (text : List ℕ) → IsFoundOf text (found r) → Answer accepted text r → Reports (fault r).kind accepted text reasons)
+      (h : ReadsOrExplains F fault found Answer left Gives old new (Err r)) where
     plain : ReadsAll left F Gives old new (Err (fault r))
     plain = h.plain
 
-    reasons_of : (b : List ℕ) → ExplainsRefusal F fault found Told b r → FaultReasons F Tells b (fault r) reasons
-    reasons_of b e = told e.accepted e.text e.about (tells e.accepted e.text e.kept e.why)
+    reasons_of : (b : List ℕ) → ExplainsRefusal F fault found Answer b r → FaultReasons F Reports b (fault r) reasons
+    reasons_of b e = reported e.accepted e.text e.about (reports e.accepted e.text e.kept e.why)
 
     known_out : (b : List ℕ) → left old.device ≡ Some b → (o : Output) → Some o ≡ refusal_by detail name (fault r) reasons → FileOutput b (Some o)
     known_out b known o is =
-        let kind = told_kind F Tells name (fault r) reasons detail o is in
-        refused_by F Tells name (fault r) reasons detail IsAnswer b (known_fault left F Gives old new (fault r) b plain known kind.2 kind.0) o is
-        (reasons_of b (known_explained left F fault found Told Gives old new r b telling h known kind))
+        let kind = reported_kind F Reports name (fault r) reasons detail o is in
+        refused_by F Reports name (fault r) reasons detail IsAnswer b (known_fault left F Gives old new (fault r) b plain known kind.2 kind.0) o is
+        (reasons_of b (known_explained left F fault found Answer Gives old new r b reporting h known kind))
 
     taken_out : (o : Output) → Some o ≡ refusal_by detail name (fault r) reasons → (b : List ℕ) × Consumes (left old.device) (left new.device) b × FileOutput b (Some o)
     taken_out o is =
-        let kind = told_kind F Tells name (fault r) reasons detail o is in
+        let kind = reported_kind F Reports name (fault r) reasons detail o is in
         let x = h.explained kind in
-        (x.0, x.1, refused_by F Tells name (fault r) reasons detail IsAnswer x.0 (reading_of_refusal F x.0 (IsAtEnd (left new.device)) (fault r) x.2 kind.0) o is (reasons_of x.0 x.3))
+        (x.0, x.1, refused_by F Reports name (fault r) reasons detail IsAnswer x.0 (reading_of_refusal F x.0 (IsAtEnd (left new.device)) (fault r) x.2 kind.0) o is (reasons_of x.0 x.3))
 
     long_memory : (fault r).kind ≡ TooLong → (fault r).kind ≢ Memory
     long_memory long = too_long_else (fault r).kind Memory long (λ e. absurd cc)
@@ -177,24 +139,24 @@ module _ {D V I S A : Type 0} (left : D → Option (List ℕ)) (F : Format V I S
     long_read long = too_long_else (fault r).kind Read long (λ e. absurd cc)
 
     known_long : (b : List ℕ) → left old.device ≡ Some b → (fault r).kind ≡ TooLong → FileOutput b None
-    known_long b known long = long_by F Tells name (fault r) reasons detail IsAnswer b (known_fault left F Gives old new (fault r) b plain known (long_memory long) (long_read long)) long
+    known_long b known long = long_by F Reports name (fault r) reasons detail IsAnswer b (known_fault left F Gives old new (fault r) b plain known (long_memory long) (long_read long)) long
 
     taken_long : (fault r).kind ≡ TooLong → (b : List ℕ) × Consumes (left old.device) (left new.device) b × FileOutput b None
     taken_long long =
         let x = plain.fault (long_memory long) in
-        (x.0, x.1, long_by F Tells name (fault r) reasons detail IsAnswer x.0 (reading_of_refusal F x.0 (IsAtEnd (left new.device)) (fault r) x.2 (long_read long)) long)
+        (x.0, x.1, long_by F Reports name (fault r) reasons detail IsAnswer x.0 (reading_of_refusal F x.0 (IsAtEnd (left new.device)) (fault r) x.2 (long_read long)) long)
 
-    abbrev TellsFault : Result Status ToolFault → Type 0
-    TellsFault result = Ends (λ o. o ≡ refusal_by detail name (fault r) reasons) Sent result
+    abbrev ReportsFault : Result Status ToolFault → Type 0
+    ReportsFault result = Ends (λ o. o ≡ refusal_by detail name (fault r) reasons) Sent result
 
-    known_ends : (result : Result Status ToolFault) → TellsFault result → (IsErrOf result tool_fault.TooLong → (fault r).kind ≡ TooLong) → (b : List ℕ) → left old.device ≡ Some b → EndsCounting (FileOutput b) Sent result
+    known_ends : (result : Result Status ToolFault) → ReportsFault result → (IsErrOf result tool_fault.TooLong → (fault r).kind ≡ TooLong) → (b : List ℕ) → left old.device ≡ Some b → EndsCounting (FileOutput b) Sent result
     known_ends (Ok status) (o, is, same, sent) long b known = (o, known_out b known o is, same, sent)
     known_ends (Err (tool_fault.Write written)) (o, is, less, sent) long b known = (written, λ _. refl, (o, known_out b known o is, less, sent))
     known_ends (Err tool_fault.TooLong) is long b known = known_long b known (long refl)
     known_ends (Err tool_fault.Memory) is long b known = tt
     known_ends (Err tool_fault.Read) is long b known = tt
 
-    taken_ends : (result : Result Status ToolFault) → TellsFault result → (IsErrOf result tool_fault.TooLong → (fault r).kind ≡ TooLong) → IsDecided result
+    taken_ends : (result : Result Status ToolFault) → ReportsFault result → (IsErrOf result tool_fault.TooLong → (fault r).kind ≡ TooLong) → IsDecided result
         → (b : List ℕ) × Consumes (left old.device) (left new.device) b × EndsCounting (FileOutput b) Sent result
     taken_ends (Ok status) (o, is, same, sent) long decided = let (b, consumed, out) = taken_out o is in (b, consumed, (o, out, same, sent))
     taken_ends (Err (tool_fault.Write written)) (o, is, less, sent) long decided = let (b, consumed, out) = taken_out o is in (b, consumed, (written, λ _. refl, (o, out, less, sent)))
@@ -203,7 +165,7 @@ module _ {D V I S A : Type 0} (left : D → Option (List ℕ)) (F : Format V I S
     taken_ends (Err tool_fault.Read) is long decided = absurd decided
 
     -- a fault is refused, or the run ends at it
-    pub ends_refused : (result : Result Status ToolFault) → TellsFault result → (IsErrOf result tool_fault.TooLong → (fault r).kind ≡ TooLong) → IsErrOf result tool_fault.Read ↔ ((fault r).kind ≡ Read) → EndsFile left FileOutput Sent old new result
+    pub ends_refused : (result : Result Status ToolFault) → ReportsFault result → (IsErrOf result tool_fault.TooLong → (fault r).kind ≡ TooLong) → IsErrOf result tool_fault.Read ↔ ((fault r).kind ≡ Read) → EndsFile left FileOutput Sent old new result
     ends_refused result ends long reads = record {
       output = λ b known. known_ends result ends long b known;
       taken = λ decided. taken_ends result ends long decided;
@@ -220,9 +182,9 @@ more_is : (m : Bool) (n : ℕ) → IsTrue m ↔ (64 < n) → m ≡ nat_lt 64 n
 more_is true n h = sym (less 64 n (h.0 refl))
 more_is false n h = not_true (nat_lt 64 n) (λ t. h.1 (is_less 64 n t))
 
--- what a refusal tells of a task, and of a plan
-task_refusal_tells : (r : TaskRefusal) (accepted : List (List ℕ)) (text : List ℕ) → IsFoundOf text r.found → IsTaskReason (r.fault).kind accepted text r.mark r.word → AreTaskReasons (r.fault).kind accepted text (task_refusal_lines r)
-task_refusal_tells r accepted text is reason = record {
+-- what a refusal says of a task, and of a plan
+task_refusal_shows : (r : TaskRefusal) (accepted : List (List ℕ)) (text : List ℕ) → IsFoundOf text r.found → IsTaskReason (r.fault).kind accepted text r.mark r.word → AreTaskReasons (r.fault).kind accepted text (task_refusal_lines r)
+task_refusal_shows r accepted text is reason = record {
   mark = r.mark;
   word = r.word;
   reason = reason;
@@ -231,8 +193,8 @@ task_refusal_tells r accepted text is reason = record {
       ∙ ap (λ (more : Bool). task_reasons (r.fault).kind r.mark r.word (take 64 text) more) (more_is (r.found).more (length text) is.longer);
 }
 
-plan_refusal_tells : (r : PlanRefusal) (accepted : List (List ℕ)) (text : List ℕ) → IsFoundOf text r.found → ArePlanReasons (r.fault).kind accepted text (plan_refusal_lines r)
-plan_refusal_tells r accepted text is =
+plan_refusal_shows : (r : PlanRefusal) (accepted : List (List ℕ)) (text : List ℕ) → IsFoundOf text r.found → ArePlanReasons (r.fault).kind accepted text (plan_refusal_lines r)
+plan_refusal_shows r accepted text is =
     ap (λ (bytes : List ℕ). plan_reasons (r.fault).kind bytes (r.found).more) is.front
     ∙ ap (λ (more : Bool). plan_reasons (r.fault).kind (take 64 text) more) (more_is (r.found).more (length text) is.longer)
 
@@ -244,19 +206,19 @@ module _ {D A : Type 0} (left : D → Option (List ℕ)) (Gives : List ℕ → A
       → Ends (λ o. o ≡ refusal_by detail (codes "task") r.fault (task_refusal_lines r)) Sent result → IsErrOf result tool_fault.TooLong ↔ ((r.fault).kind ≡ TooLong) → IsErrOf result tool_fault.Read ↔ ((r.fault).kind ≡ Read)
       → EndsFile left (TaskBy detail IsAnswer) Sent old new result
   task_refused IsAnswer r result h ends long reads =
-      ends_refused left task_format AreTaskReasons Gives (codes "task") Sent detail IsAnswer old new task_telling fault_in found_in HasReason r (task_refusal_lines r) (task_refusal_tells r) h result ends long.0 reads
+      ends_refused left task_format AreTaskReasons Gives (codes "task") Sent detail IsAnswer old new task_reporting fault_in found_in HasReason r (task_refusal_lines r) (task_refusal_shows r) h result ends long.0 reads
 
   -- and a plan file
   pub plan_refused : (IsAnswer : PlanParts → Output → Type 0) (r : PlanRefusal) (result : Result Status ToolFault) → ReadsPlan left Gives old new (Err r)
       → Ends (λ o. o ≡ refusal_by detail (codes "plan") r.fault (plan_refusal_lines r)) Sent result → IsErrOf result tool_fault.TooLong ↔ ((r.fault).kind ≡ TooLong) → IsErrOf result tool_fault.Read ↔ ((r.fault).kind ≡ Read)
       → EndsFile left (PlanBy detail IsAnswer) Sent old new result
   plan_refused IsAnswer r result h ends long reads =
-      ends_refused left plan_format ArePlanReasons Gives (codes "plan") Sent detail IsAnswer old new plan_telling fault_of found_of nothing_else r (plan_refusal_lines r) (λ accepted text is other. plan_refusal_tells r accepted text is) h result ends long.0 reads
+      ends_refused left plan_format ArePlanReasons Gives (codes "plan") Sent detail IsAnswer old new plan_reporting fault_of found_of nothing_else r (plan_refusal_lines r) (λ accepted text is other. plan_refusal_shows r accepted text is) h result ends long.0 reads
 
 -- a task that isn't layered is refused for its first fault
 not_memory_by : (detail : Detail) (p : Parts) (fault : LayerFault) (o : Output) → layers_by detail p fault ≡ Some o → fault ≢ layer_fault.Memory
-not_memory_by Plain p fault o is = told_fault fault o is
-not_memory_by Trace p fault o is = told_fault fault o is
+not_memory_by Plain p fault o is = reported_fault fault o is
+not_memory_by Trace p fault o is = reported_fault fault o is
 not_memory_by Reasons p fault o is = not_memory p o fault is
 
 module _ {D : Type 0} (left : D → Option (List ℕ)) (Sent : List ℕ → Type 0) (detail : Detail) (old new : Device D) (p : Parts) where

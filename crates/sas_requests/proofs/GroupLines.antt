@@ -1,25 +1,9 @@
--- Each line behind that of a group tells a reason; and what is left of the lines of groups when reasons are taken away.
-use Rattle.std.proofs.Common.{map, ◌≡◌, ℕ, suc, ◌+◌, ◌<◌, List, [], ◌∷◌, ◌++◌, length, get_or, refl, ap, subst, ◌∙◌, arith, Bool, Option, Some, None}
-use Rattle.std.specs.Prelude.{not, filter, if◌then◌else◌}
-use Rattle.std.specs.List.{AllByRecursion}
-use Rattle.std.specs.Option.{option_map_or}
-use Rattle.sas_core.specs.declared.parts.Parts.{Parts}
-use Rattle.sas_core.specs.WellRanged.{WellRanged}
-use Rattle.sas_lines.specs.Lines.{text, lines}
-use Rattle.sas_lines.proofs.Splitting.{Plain, lines-text}
-use Rattle.sas_task_format.proofs.TaskSections.{all_map}
-use Rattle.sas_groups.specs.declared.verdict.Verdict.{Verdict}
-use Rattle.sas_groups.specs.declared.verdict.Verdict.TheVariants.{Exclusive, Derived, Initial, Broken}
-use Rattle.sas_output.specs.Line.{line_bytes}
-use Rattle.sas_task_reasons.specs.declared.reason.Reason.{Reason}
-use Rattle.sas_task_reasons.specs.GroupReasons.{IsReasonIfAny, reason_at}
-use Rattle.sas_output.specs.declared.ending.Status.TheVariants.{Yes}
-use Rattle.sas_answers.specs.GroupWords.{group_line, verdict_lines_from, verdict_lines, groups_status}
-use Rattle.sas_task_reasons.specs.WhyGroups.{reason_lines, explained_group_lines, why_lines_from, why_lines}
-use Rattle.sas_task_reasons.proofs.GroupAnswers.{no_reason}
+-- Each line behind that of a group is a reason; and what is left of the lines of groups when reasons are taken away.
+use Rattle.sas_requests.proofs.Imports.{map, ◌≡◌, ℕ, suc, ◌+◌, ◌<◌, List, [], ◌∷◌, ◌++◌, length, get_or, refl, ap, subst, ◌∙◌, arith, Bool, Option, Some, None, not, filter, if◌then◌else◌, AllByRecursion, option_map_or, Parts, WellRanged, text, lines, Plain, lines-text, all_map, Verdict, Exclusive, Derived, Initial, Broken, line_bytes, Reason, IsReasonIfAny, reason_at, Yes, group_line}
+use Rattle.sas_requests.proofs.Imports.{verdict_lines_from, verdict_lines, groups_status, reason_lines, explained_group_lines, why_lines_from, why_lines, no_reason}
 use Rattle.sas_requests.specs.Why.{is_reason, without_reasons}
-use Rattle.sas_requests.proofs.ReasonLines.{IsReason, AreReasons, lines_tell}
-use Rattle.sas_requests.proofs.ToldLines.{kept_first, plain_told, plain_reason, group_told}
+use Rattle.sas_requests.proofs.ReasonLines.{IsReason, AreReasons, lines_report}
+use Rattle.sas_requests.proofs.PlainAnswers.{kept_first, plain_reported, plain_reason, group_reported}
 
 all_both : {A : Type 0} (P : A → Type 0) (a b : List A) → AllByRecursion P a → AllByRecursion P b → AllByRecursion P (a ++ b)
 all_both P [] b h g = g
@@ -29,21 +13,21 @@ all_both P (first ∷ a) b h g = (h.0, all_both P a b h.1 g)
 reasons_gone : (reasons behind : List (List ℕ)) → AreReasons reasons → filter (λ line. not (is_reason line)) (reasons ++ behind) ≡ filter (λ line. not (is_reason line)) behind
 reasons_gone [] behind h = refl
 reasons_gone (first ∷ reasons) behind h =
-    let tells : IsReason first = h.0 in
+    let reports : IsReason first = h.0 in
     let rest = filter (λ line. not (is_reason line)) (reasons ++ behind) in
-    ap (λ (b : Bool). if not b then first ∷ rest else rest) tells.tells ∙ reasons_gone reasons behind h.1
+    ap (λ (b : Bool). if not b then first ∷ rest else rest) reports.reports ∙ reasons_gone reasons behind h.1
 
 -- an exclusive group has no reason
 none_if_exclusive : (p : Parts) (group : ℕ) (found : Option Reason) → IsReasonIfAny p group Exclusive found → found ≡ None
 none_if_exclusive p group None is = refl
-none_if_exclusive p group (Some reason) is = absurd (no_reason reason is.told)
+none_if_exclusive p group (Some reason) is = absurd (no_reason reason is.reported)
 
 module _ (p : Parts) (ranged : WellRanged p) where
   abbrev why_group : ℕ → Option Reason → List (List ℕ)
   why_group group found = map (line_bytes p []) (option_map_or (reason_lines p group) found [])
 
-  pub any_tells : (group : ℕ) (found : Option Reason) → AreReasons (why_group group found)
-  any_tells group found = lines_tell p [] ranged tt (option_map_or (reason_lines p group) found [])
+  pub any_shows : (group : ℕ) (found : Option Reason) → AreReasons (why_group group found)
+  any_shows group found = lines_report p [] ranged tt (option_map_or (reason_lines p group) found [])
 
   module _ (reasons : List (Option Reason)) where
     abbrev pub behind : ℕ → List (List ℕ)
@@ -54,9 +38,9 @@ module _ (p : Parts) (ranged : WellRanged p) where
     plain_from : (group : ℕ) (verdicts : List Verdict) → AllByRecursion Plain (why_lines_from p reasons group verdicts)
     plain_from group [] = tt
     plain_from group (verdict ∷ verdicts) = (
-      plain_told (group_line group verdict) (group_told group verdict),
+      plain_reported (group_line group verdict) (group_reported group verdict),
       all_both Plain (behind group) (why_lines_from p reasons (group + 1) verdicts)
-          (all_map IsReason Plain plain_reason (behind group) (any_tells group (reason_at reasons group)))
+          (all_map IsReason Plain plain_reason (behind group) (any_shows group (reason_at reasons group)))
           (plain_from (group + 1) verdicts),
     )
 
@@ -69,9 +53,9 @@ module _ (p : Parts) (ranged : WellRanged p) where
     kept_from group [] = refl
     kept_from group (verdict ∷ verdicts) =
         let later = why_lines_from p reasons (group + 1) verdicts in
-        kept_first (group_line group verdict) (behind group ++ later) (group_told group verdict)
+        kept_first (group_line group verdict) (behind group ++ later) (group_reported group verdict)
         ∙ ap (λ (l : List (List ℕ)). group_line group verdict ∷ l)
-        (reasons_gone (behind group) later (any_tells group (reason_at reasons group)) ∙ kept_from (group + 1) verdicts)
+        (reasons_gone (behind group) later (any_shows group (reason_at reasons group)) ∙ kept_from (group + 1) verdicts)
 
     pub groups_kept : (verdicts : List Verdict) → without_reasons (text (why_lines p verdicts reasons)) ≡ text (verdict_lines verdicts)
     groups_kept verdicts =

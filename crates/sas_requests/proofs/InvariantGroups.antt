@@ -1,56 +1,20 @@
 -- A group that is reported as exclusive is an invariant of a task that the bytes are a text of.
-use Rattle.std.proofs.Common.{◌≡◌, ℕ, suc, ◌+◌, ◌<◌, ◌^◌, List, [], ◌∷◌, ◌++◌, length, map, get_or, drop, codes, append_assoc, append-nil, true, ◌⊎◌, refl, sym, ap, subst, ◌∙◌, arith, Option, Some, None, Result, Ok, Err, inl, inr}
+use Rattle.sas_requests.proofs.Imports.{◌≡◌, ℕ, suc, ◌+◌, ◌<◌, ◌^◌, List, [], ◌∷◌, ◌++◌, length, map, get_or, drop, codes, append_assoc, append-nil, true, ◌⊎◌, refl, sym, ap, subst, ◌∙◌, arith, Option, Some, None, Result, Ok, Err, inl, inr, AllByRecursion, Contains, Appends, append_cancel_left, Contains-append_cases, All-contains, All-cons, All-nil, Parts, first_fault, WellRanged, LayerFault}
+use Rattle.sas_requests.proofs.Imports.{IsLayered, layer_checks, checks_are_rules, contains_cases, contains_none, lines, text, Plain, lines-text, same_first, NoSpace-decimal, own_decimal, Fault, most_bytes, Reads, ReadsAs, plain_bytes, task_texts, task_format, Verdict, Exclusive, Derived, Initial, Broken, AreJointVerdicts, listed_invariants, Reason, reason_at, HasInvariant, Invariants}
+use Rattle.sas_requests.proofs.Imports.{verdict_words, group_line, verdict_lines_from, verdict_lines, layer_words, layers_line, layers_refusal, GroupsAnswer, LayeredGroupsAnswer, MutexAnswer, line_bytes, why_lines_from, why_lines, WhyGroupsAnswer, layer_reasons, why_refusal, WhyAnswer, WhyMutexAnswer, Output, word_of, refusal, refusal_line, IsAnswerOrRefusal, FileOut, sent_same, file_words}
+use Rattle.sas_requests.proofs.Imports.{file_plain, kind_plain, worded}
 use Rattle.std.specs.Fmt.{decimal}
-use Rattle.std.specs.List.{AllByRecursion, Contains}
-use Rattle.std.specs.Io.KnownBytes.{Appends}
-use Rattle.std.proofs.lemmas.List.{append_cancel_left}
-use Rattle.std.proofs.lemmas.List.Elements.{Contains-append_cases, All-contains, All-cons, All-nil}
-use Rattle.sas_core.specs.declared.parts.Parts.{Parts}
-use Rattle.sas_core.specs.FirstFault.{first_fault}
-use Rattle.sas_core.specs.WellRanged.{WellRanged}
-use Rattle.sas_meaning.specs.declared.layered.LayerFault.{LayerFault}
-use Rattle.sas_meaning.specs.Layers.{IsLayered}
-use Rattle.sas_meaning.specs.LayerChecks.{layer_checks}
-use Rattle.sas_meaning.proofs.LayerChecksAreRules.{checks_are_rules}
-use Rattle.sas_meaning.proofs.Members.{contains_cases, contains_none}
-use Rattle.sas_lines.specs.Lines.{lines, text}
-use Rattle.sas_lines.proofs.Splitting.{Plain, lines-text}
-use Rattle.sas_lines.proofs.Words.{same_first, NoSpace-decimal, own_decimal}
-use Rattle.sas_reader.specs.declared.fault.Fault.{Fault}
-use Rattle.sas_reader.specs.Limit.{most_bytes}
-use Rattle.sas_reader.specs.Texts.{Reads}
-use Rattle.sas_reader.specs.Format.{ReadsAs}
-use Rattle.sas_reader.proofs.Plain.{plain_bytes}
-use Rattle.sas_task_format.specs.TaskFormat.{task_texts, task_format}
-use Rattle.sas_groups.specs.declared.verdict.Verdict.{Verdict}
-use Rattle.sas_groups.specs.declared.verdict.Verdict.TheVariants.{Exclusive, Derived, Initial, Broken}
-use Rattle.sas_groups.specs.Joint.{AreJointVerdicts}
-use Rattle.sas_groups.proofs.JointLists.{listed_invariants}
-use Rattle.sas_task_reasons.specs.declared.reason.Reason.{Reason}
-use Rattle.sas_task_reasons.specs.GroupReasons.{reason_at}
-use Rattle.sas_outputs.specs.Headline.{HasInvariant, Invariants}
-use Rattle.sas_answers.specs.GroupWords.{verdict_words, group_line, verdict_lines_from, verdict_lines}
-use Rattle.sas_answers.specs.LayerWords.{layer_words, layers_line}
-use Rattle.sas_answers.specs.Answers.{layers_refusal, GroupsAnswer, LayeredGroupsAnswer, MutexAnswer}
-use Rattle.sas_output.specs.Line.{line_bytes}
-use Rattle.sas_task_reasons.specs.WhyGroups.{why_lines_from, why_lines, WhyGroupsAnswer}
-use Rattle.sas_task_reasons.specs.WhyLayers.{layer_reasons, why_refusal, WhyAnswer, WhyMutexAnswer}
-use Rattle.sas_output.specs.Ending.{Output}
-use Rattle.sas_outputs.specs.Output.{word_of, refusal, refusal_line, IsAnswerOrRefusal, FileOut}
 use Rattle.sas_requests.specs.Why.{is_reason}
-use Rattle.sas_outputs.proofs.Headlines.{sent_same}
-use Rattle.sas_requests.proofs.ReasonLines.{IsReason, AreReasons, lines_tell}
-use Rattle.sas_requests.proofs.GroupLines.{any_tells, behind, lines_of_groups}
-use Rattle.sas_outputs.proofs.PlainLines.{file_words, file_plain, kind_plain}
-use Rattle.sas_requests.proofs.ToldLines.{IsTold, plain_told as plain_line, lines_of_first, layer_told, group_told}
-use Rattle.sas_answers.proofs.WordedLines.{worded}
+use Rattle.sas_requests.proofs.ReasonLines.{IsReason, AreReasons, lines_report}
+use Rattle.sas_requests.proofs.GroupLines.{any_shows, behind, lines_of_groups}
+use Rattle.sas_requests.proofs.PlainAnswers.{IsReported, plain_reported as plain_line, lines_of_first, layer_reported, group_reported}
 use Rattle.sas_requests.proofs.WhyAnswers.{why_is}
 
 -- ---- the lines of verdicts
 
 lines_plain : (n : ℕ) (verdicts : List Verdict) → AllByRecursion Plain (verdict_lines_from n verdicts)
 lines_plain n [] = tt
-lines_plain n (v ∷ verdicts) = (plain_line (group_line n v) (group_told n v), lines_plain (n + 1) verdicts)
+lines_plain n (v ∷ verdicts) = (plain_line (group_line n v) (group_reported n v), lines_plain (n + 1) verdicts)
 
 -- ---- which line says that a group is exclusive
 
@@ -98,12 +62,12 @@ line_said n place (v ∷ verdicts) few h =
 -- ---- which groups a text calls exclusive
 
 -- each line of the text that says that a group is exclusive is one of these verdicts
-pub record TellsVerdicts (p : Parts) (out : List ℕ) : Type 0 where
+pub record ReportsVerdicts (p : Parts) (out : List ℕ) : Type 0 where
   pub verdicts : List Verdict
   pub are : AreJointVerdicts p verdicts
   pub said : (place : ℕ) → Contains (lines out) (group_line place Exclusive) → IsSaid 0 place verdicts
 
-plain_verdicts : (p : Parts) (o : Output) → WellRanged p → GroupsAnswer p o → TellsVerdicts p o.text
+plain_verdicts : (p : Parts) (o : Output) → WellRanged p → GroupsAnswer p o → ReportsVerdicts p o.text
 plain_verdicts p o ranged (verdicts, are, e) =
     let few = ranged.groups.count in
     let one_each = are.one_each in
@@ -125,7 +89,7 @@ first_apart words place e = apart_at 0 (group_line place Exclusive) (codes "task
 
 reason_apart : (line : List ℕ) (place : ℕ) → IsReason line → line ≡ group_line place Exclusive → ⊥
 reason_apart line place reason e =
-    let tells : is_reason (group_line place Exclusive) ≡ true = subst (λ (l : List ℕ). is_reason l ≡ true) e reason.tells in
+    let reports : is_reason (group_line place Exclusive) ≡ true = subst (λ (l : List ℕ). is_reason l ≡ true) e reason.reports in
     absurd cc
 
 pub reasons_apart : (reasons : List (List ℕ)) → AreReasons reasons → (place : ℕ) → Contains reasons (group_line place Exclusive) → ⊥
@@ -136,10 +100,10 @@ reasons_apart (line ∷ reasons) are place has = elim (contains_cases line reaso
 ]
 
 -- nor of another line, and of reasons behind it
-module _ (line : List ℕ) (told : IsTold line) (apart : (place : ℕ) → line ≡ group_line place Exclusive → ⊥) where
+module _ (line : List ℕ) (reported : IsReported line) (apart : (place : ℕ) → line ≡ group_line place Exclusive → ⊥) where
   pub line_says_none : (reasons : List (List ℕ)) → AreReasons reasons → SaysNone ((line ++ 10 ∷ []) ++ text reasons)
   line_says_none reasons are place has =
-      let among = subst (λ (ls : List (List ℕ)). Contains ls (group_line place Exclusive)) (lines_of_first line reasons told are) has in
+      let among = subst (λ (ls : List (List ℕ)). Contains ls (group_line place Exclusive)) (lines_of_first line reasons reported are) has in
       elim (contains_cases line reasons (group_line place Exclusive) among) [
         | inl here ↦ apart place here
         | inr behind ↦ reasons_apart reasons are place behind
@@ -160,12 +124,12 @@ module _ (p : Parts) (ranged : WellRanged p) (reasons : List (Option Reason)) wh
             (let same = same_line n place v (omega arith) here in
             record { behind = 0; is = omega (arith, same.0); below = omega arith; exclusive = same.1 })
         | inr others ↦ elim (Contains-append_cases its later (group_line place Exclusive) others) [
-          | inl among ↦ absurd (reasons_apart its (any_tells p ranged n (reason_at reasons n)) place among)
+          | inl among ↦ absurd (reasons_apart its (any_shows p ranged n (reason_at reasons n)) place among)
           | inr more ↦ said_later n place v verdicts (why_said (n + 1) place verdicts (omega arith) more)
         ]
       ]
 
-why_verdicts : (p : Parts) (o : Output) → WellRanged p → WhyGroupsAnswer p o → TellsVerdicts p o.text
+why_verdicts : (p : Parts) (o : Output) → WellRanged p → WhyGroupsAnswer p o → ReportsVerdicts p o.text
 why_verdicts p o ranged (verdicts, reasons, joint, are, e) =
     let few = ranged.groups.count in
     let one_each = joint.one_each in
@@ -180,53 +144,53 @@ why_verdicts p o ranged (verdicts, reasons, joint, are, e) =
 file_says_none : (fault : Fault) (o : Output) → Some o ≡ refusal (codes "task") fault → SaysNone o.text
 file_says_none fault o is =
     let w = worded (word_of fault.kind) (refusal_line (codes "task") fault.line) o (sym is) in
-    let told : IsTold (file_words (codes "task") fault.line w.said) = record {
+    let reported : IsReported (file_words (codes "task") fault.line w.said) = record {
       plain = file_plain (codes "task") fault.line w.said (plain_bytes (codes "task") refl) (kind_plain fault.kind w.said w.among);
       no_reason = refl;
     } in
-    alone_says_none (file_words (codes "task") fault.line w.said) told (first_apart (drop 14 (file_words (codes "task") fault.line w.said))) o.text w.text
+    alone_says_none (file_words (codes "task") fault.line w.said) reported (first_apart (drop 14 (file_words (codes "task") fault.line w.said))) o.text w.text
 
 -- the refusal of a task that isn't layered, without and with reasons
 layers_say_none : (fault : LayerFault) (o : Output) → layers_refusal fault ≡ Some o → SaysNone o.text
 layers_say_none fault o is =
     let w = worded (layer_words fault) layers_line o is in
-    alone_says_none (codes "task refused: " ++ w.said) (layer_told fault w.said w.among) (first_apart w.said) o.text w.text
+    alone_says_none (codes "task refused: " ++ w.said) (layer_reported fault w.said w.among) (first_apart w.said) o.text w.text
 
 why_says_none : (p : Parts) (fault : LayerFault) (o : Output) → WellRanged p → why_refusal p fault ≡ Some o → SaysNone o.text
-why_says_none p fault o ranged told =
-    let (plain_one, is, same) = why_is p fault o told in
+why_says_none p fault o ranged reported =
+    let (plain_one, is, same) = why_is p fault o reported in
     let w = worded (layer_words fault) layers_line plain_one is in
     let reasons = map (line_bytes p []) (layer_reasons p fault) in
     let whole : o.text ≡ layers_line w.said ++ text reasons = ap (λ (x : Output). x.text) same ∙ ap (λ (t : List ℕ). t ++ text reasons) w.text in
-    subst SaysNone (sym whole) (line_says_none (codes "task refused: " ++ w.said) (layer_told fault w.said w.among) (first_apart w.said) reasons (lines_tell p [] ranged tt (layer_reasons p fault)))
+    subst SaysNone (sym whole) (line_says_none (codes "task refused: " ++ w.said) (layer_reported fault w.said w.among) (first_apart w.said) reasons (lines_report p [] ranged tt (layer_reasons p fault)))
 
 -- ---- answers about groups
 
--- an answer tells the verdicts on the groups of a layered task, or says of no group that it is exclusive
-abbrev pub TellsGroups : (Parts → Output → Type 0) → Type 0
-TellsGroups IsAnswer = (p : Parts) (o : Output) → WellRanged p → IsAnswer p o → (IsLayered p × TellsVerdicts p o.text) ⊎ SaysNone o.text
+-- an answer reports the verdicts on the groups of a layered task, or says of no group that it is exclusive
+abbrev pub ReportsGroups : (Parts → Output → Type 0) → Type 0
+ReportsGroups IsAnswer = (p : Parts) (o : Output) → WellRanged p → IsAnswer p o → (IsLayered p × ReportsVerdicts p o.text) ⊎ SaysNone o.text
 
-plain_told : (p : Parts) (first : Option LayerFault) (o : Output) → WellRanged p → (first ≡ None → IsLayered p) → LayeredGroupsAnswer p first o → (IsLayered p × TellsVerdicts p o.text) ⊎ SaysNone o.text
-plain_told p (Some fault) o ranged layered refused = inr (layers_say_none fault o refused)
-plain_told p None o ranged layered answer = inl (layered refl, plain_verdicts p o ranged answer)
+plain_reported : (p : Parts) (first : Option LayerFault) (o : Output) → WellRanged p → (first ≡ None → IsLayered p) → LayeredGroupsAnswer p first o → (IsLayered p × ReportsVerdicts p o.text) ⊎ SaysNone o.text
+plain_reported p (Some fault) o ranged layered refused = inr (layers_say_none fault o refused)
+plain_reported p None o ranged layered answer = inl (layered refl, plain_verdicts p o ranged answer)
 
-pub plain_groups : TellsGroups MutexAnswer
-plain_groups p o ranged answer = plain_told p (first_fault (layer_checks p)) o ranged (checks_are_rules p).0 answer
+pub plain_groups : ReportsGroups MutexAnswer
+plain_groups p o ranged answer = plain_reported p (first_fault (layer_checks p)) o ranged (checks_are_rules p).0 answer
 
-why_told : (p : Parts) (first : Option LayerFault) (o : Output) → WellRanged p → (first ≡ None → IsLayered p) → WhyAnswer p (WhyGroupsAnswer p) first o → (IsLayered p × TellsVerdicts p o.text) ⊎ SaysNone o.text
-why_told p (Some fault) o ranged layered refused = inr (why_says_none p fault o ranged refused)
-why_told p None o ranged layered answer = inl (layered refl, why_verdicts p o ranged answer)
+why_reported : (p : Parts) (first : Option LayerFault) (o : Output) → WellRanged p → (first ≡ None → IsLayered p) → WhyAnswer p (WhyGroupsAnswer p) first o → (IsLayered p × ReportsVerdicts p o.text) ⊎ SaysNone o.text
+why_reported p (Some fault) o ranged layered refused = inr (why_says_none p fault o ranged refused)
+why_reported p None o ranged layered answer = inl (layered refl, why_verdicts p o ranged answer)
 
-pub why_groups : TellsGroups WhyMutexAnswer
-why_groups p o ranged answer = why_told p (first_fault (layer_checks p)) o ranged (checks_are_rules p).0 answer
+pub why_groups : ReportsGroups WhyMutexAnswer
+why_groups p o ranged answer = why_reported p (first_fault (layer_checks p)) o ranged (checks_are_rules p).0 answer
 
 -- ---- what was printed of the bytes
 
 module _ (b : List ℕ) (o : Output) (place : ℕ) (has : Contains (lines o.text) (group_line place Exclusive)) where
-  groups_have : (p : Parts) → Reads task_texts b p → IsLayered p → TellsVerdicts p o.text → HasInvariant b place
-  groups_have p is layered told =
-      let one_each = told.are.one_each in
-      let said = told.said place has in
+  groups_have : (p : Parts) → Reads task_texts b p → IsLayered p → ReportsVerdicts p o.text → HasInvariant b place
+  groups_have p is layered reported =
+      let one_each = reported.are.one_each in
+      let said = reported.said place has in
       let same : place ≡ said.behind = omega (arith, said.is) in
       let exists : place < length p.groups = omega (arith, same, said.below) in
       record {
@@ -234,25 +198,25 @@ module _ (b : List ℕ) (o : Output) (place : ℕ) (has : Contains (lines o.text
         is_task = is;
         layered = layered;
         exists = exists;
-        invariant = listed_invariants p told.verdicts told.are place exists (ap (λ (k : ℕ). get_or told.verdicts k Exclusive) same ∙ said.exclusive);
+        invariant = listed_invariants p reported.verdicts reported.are place exists (ap (λ (k : ℕ). get_or reported.verdicts k Exclusive) same ∙ said.exclusive);
       }
 
-  answer_has : (p : Parts) → Reads task_texts b p → (IsLayered p × TellsVerdicts p o.text) ⊎ SaysNone o.text → HasInvariant b place
-  answer_has p is told = elim told [
+  answer_has : (p : Parts) → Reads task_texts b p → (IsLayered p × ReportsVerdicts p o.text) ⊎ SaysNone o.text → HasInvariant b place
+  answer_has p is reported = elim reported [
     | inl groups ↦ groups_have p is groups.0 groups.1
     | inr none ↦ absurd (none place has)
   ]
 
-  read_have : (IsAnswer : Parts → Output → Type 0) → TellsGroups IsAnswer → (r : Result Parts Fault) → ReadsAs task_format most_bytes b r → IsAnswerOrRefusal (codes "task") IsAnswer r (Some o) → HasInvariant b place
-  read_have IsAnswer tells (Ok p) reads (answer, told, is) =
+  read_have : (IsAnswer : Parts → Output → Type 0) → ReportsGroups IsAnswer → (r : Result Parts Fault) → ReadsAs task_format most_bytes b r → IsAnswerOrRefusal (codes "task") IsAnswer r (Some o) → HasInvariant b place
+  read_have IsAnswer reports (Ok p) reads (answer, reported, is) =
       let same : answer ≡ o = cc in
-      answer_has p reads.0 (tells p o reads.0.good (subst (λ (x : Output). IsAnswer p x) same told))
-  read_have IsAnswer tells (Err fault) reads is = absurd (file_says_none fault o is place has)
+      answer_has p reads.0 (reports p o reads.0.good (subst (λ (x : Output). IsAnswer p x) same reported))
+  read_have IsAnswer reports (Err fault) reads is = absurd (file_says_none fault o is place has)
 
-pub invariants_of : (IsAnswer : Parts → Output → Type 0) → TellsGroups IsAnswer → (b : List ℕ) (o : Output) → FileOut task_format (codes "task") IsAnswer b (Some o)
+pub invariants_of : (IsAnswer : Parts → Output → Type 0) → ReportsGroups IsAnswer → (b : List ℕ) (o : Output) → FileOut task_format (codes "task") IsAnswer b (Some o)
     → (old new : Option (List ℕ)) (before : List ℕ) → old ≡ Some before → Appends old new o.text → Invariants b (Appends old new)
-invariants_of IsAnswer tells b o out old new before known sent = record {
+invariants_of IsAnswer reports b o out old new before known sent = record {
   line = λ place printed sent_too has.
       read_have b o place (subst (λ (t : List ℕ). Contains (lines t) (group_line place Exclusive)) (sent_same old new before printed o.text known sent_too sent) has)
-      IsAnswer tells out.0 out.1 out.2;
+      IsAnswer reports out.0 out.1 out.2;
 }

@@ -3,7 +3,7 @@ mod SummaryLengths
 mod ShortOutputs
 mod WhyAnswers
 mod ReasonLines
-mod ToldLines
+mod PlainAnswers
 mod GroupLines
 mod SameAnswers
 pub mod RefusalReasons
@@ -12,3 +12,4 @@ pub mod ReasonedOutputs
 pub mod TraceLaws
 mod FileEnds
 pub mod RequestEnds
+mod Imports

@@ -1,40 +1,17 @@
 -- The output with reasons behind refusals of files: it is the same answer as the one without, there is one, and always some; and
 -- what it says of plans and groups holds.
-use Rattle.std.proofs.Common.{◌≡◌, ◌⊎◌, ℕ, ◌<◌, append-nil, List, [], ◌∷◌, ◌++◌, get_or, arith, codes, refl, sym, ap, subst, ◌∙◌, inl, inr, Option, Some, false}
-use Rattle.std.specs.Prelude.{option_map, Contains}
-use Rattle.std.specs.Io.KnownBytes.{Appends}
-use Rattle.sas_lines.specs.Lines.{text, lines}
-use Rattle.sas_reader.specs.declared.fault.Fault.{Fault}
-use Rattle.sas_reader.specs.System.{IsPlain}
-use Rattle.sas_reader.proofs.Plain.{plain_bytes}
-use Rattle.sas_groups.specs.declared.verdict.Verdict.TheVariants.{Exclusive}
-use Rattle.sas_outputs.specs.FileLine.{FileLine}
-use Rattle.sas_outputs.specs.FileReasons.{file_lines, file_text}
-use Rattle.sas_output.specs.declared.ending.Status.{Status}
-use Rattle.sas_output.specs.declared.ending.Status.TheVariants.{Yes, No}
-use Rattle.sas_output.specs.Ending.{Output}
-use Rattle.sas_answers.specs.GroupWords.{group_line}
-use Rattle.sas_answers.specs.PlanWords.{valid_line}
-use Rattle.sas_task_reasons.specs.WhyLayers.{with_reasons, why_refusal, WhyCheckAnswer, WhyMutexAnswer}
-use Rattle.sas_task_reasons.proofs.TaskAnswers.{one_why_check, some_why_check, one_why_mutex, some_why_mutex}
-use Rattle.sas_why.specs.Verdict.{WhyVerdict}
-use Rattle.sas_outputs.specs.declared.Request.{Request}
-use Rattle.sas_outputs.specs.declared.Request.TheVariants.{Plan, Mutex}
-use Rattle.sas_outputs.specs.Headline.{Solves, Headline, Invariants}
-use Rattle.sas_outputs.specs.Output.{word_of, refusal, refusal_line, HasOneOutput, IsLong}
+use Rattle.sas_requests.proofs.Imports.{◌≡◌, ◌⊎◌, ℕ, ◌<◌, append-nil, List, [], ◌∷◌, ◌++◌, get_or, arith, codes, refl, sym, ap, subst, ◌∙◌, inl, inr, Option, Some, false, option_map, Appends, text, lines, Fault, IsPlain, plain_bytes, Exclusive, FileLine, file_lines, file_text, Status, Yes, No, Output, group_line, valid_line, with_reasons, why_refusal, WhyCheckAnswer, WhyMutexAnswer, one_why_check}
+use Rattle.sas_requests.proofs.Imports.{some_why_check, one_why_mutex, some_why_mutex, WhyVerdict, Request, Plan, Mutex, Solves, Headline, Invariants, word_of, refusal, refusal_line, HasOneOutput, IsLong, IsSolved, IsOther, sent_same, headline_by, out_reported, out_solved, output_for, file_words, file_plain, kind_plain, worded}
+use Rattle.std.specs.Prelude.{Contains}
 use Rattle.sas_requests.specs.Why.{is_reason, without_reasons, OutOfRead, OutWhy, WithReasons, IsSameAnswer, SameAnswer}
 use Rattle.sas_requests.specs.FileReasons.{RefusalReasons}
-use Rattle.sas_outputs.proofs.Headlines.{IsSolved, IsOther, sent_same, headline_by, out_told, out_solved}
-use Rattle.sas_outputs.proofs.PlanOutputs.{output_of}
 use Rattle.sas_requests.proofs.InvariantGroups.{SaysNone, line_says_none, why_groups, invariants_of}
-use Rattle.sas_requests.proofs.ReasonLines.{AreReasons, file_lines_tell}
+use Rattle.sas_requests.proofs.ReasonLines.{AreReasons, file_lines_report}
 use Rattle.sas_requests.proofs.RefusalReasons.{no_reasons, none_of, some_of, IsFileRefusal, stand_behind}
 use Rattle.sas_requests.proofs.RefusalLaws.{HasOneList, reasons_of}
 use Rattle.sas_requests.proofs.SameAnswers.{same_of_read}
-use Rattle.sas_outputs.proofs.PlainLines.{file_words, file_plain, kind_plain}
-use Rattle.sas_requests.proofs.ToldLines.{IsTold, stays, first_stays}
-use Rattle.sas_answers.proofs.WordedLines.{worded}
-use Rattle.sas_requests.proofs.WhyAnswers.{one_why_verdict, some_why_verdict, why_tells_valid, why_refuses}
+use Rattle.sas_requests.proofs.PlainAnswers.{IsReported, stays, first_stays}
+use Rattle.sas_requests.proofs.WhyAnswers.{one_why_verdict, some_why_verdict, why_reports_valid, why_refuses}
 
 -- ---- one output, always some, and none only where an input is too long
 
@@ -57,15 +34,15 @@ module _ (IsOut : Option Output → Type 0) (Long : Type 0) (AreReasons : List F
 
 pub why_output : (request : Request) (b c : List ℕ) → HasOneOutput (OutWhy request b c) (IsLong request b c)
 why_output request b c =
-    let output = output_of WhyVerdict one_why_verdict some_why_verdict WhyCheckAnswer WhyMutexAnswer one_why_check some_why_check one_why_mutex some_why_mutex why_refusal why_refuses request b c in
+    let output = output_for WhyVerdict one_why_verdict some_why_verdict WhyCheckAnswer WhyMutexAnswer one_why_check some_why_check one_why_mutex some_why_mutex why_refusal why_refuses request b c in
     reasoned_output (OutOfRead request b c) (IsLong request b c) (RefusalReasons request b c) output (reasons_of request b c)
 
 -- ---- the refusal of a file is one line
 
--- the text is this line, which tells no reason, and says no
+-- the text is this line, which is no reason, and says no
 pub record IsRefusalLine (o : Output) : Type 0 where
   pub line : List ℕ
-  pub told : IsTold line
+  pub reported : IsReported line
   pub status : o.status ≡ No
   pub text : o.text ≡ line ++ 10 ∷ []
   -- it begins like neither the line of a valid plan nor that of a group
@@ -81,7 +58,7 @@ file_line name plain no_reason no_plan no_group fault o is =
     let w = worded (word_of fault.kind) (refusal_line name fault.line) o (sym is) in
     record {
       line = file_words name fault.line w.said;
-      told = record { plain = file_plain name fault.line w.said plain (kind_plain fault.kind w.said w.among); no_reason = no_reason fault.line w.said };
+      reported = record { plain = file_plain name fault.line w.said plain (kind_plain fault.kind w.said w.among); no_reason = no_reason fault.line w.said };
       status = w.status;
       text = w.text;
       no_plan = no_plan fault.line w.said;
@@ -102,32 +79,32 @@ refusal_line_of o (fault, inr plan) =
 
 -- ---- the same answer
 
-module _ (o told : Output) (reasons : List FileLine) (whole : o ≡ with_reasons (file_text reasons) told) where
-  as_it_was : reasons ≡ [] → o ≡ told
-  as_it_was none = whole ∙ (ap (λ (r : List FileLine). with_reasons (file_text r) told) none ∙ no_reasons told)
+module _ (o reported : Output) (reasons : List FileLine) (whole : o ≡ with_reasons (file_text reasons) reported) where
+  as_it_was : reasons ≡ [] → o ≡ reported
+  as_it_was none = whole ∙ (ap (λ (r : List FileLine). with_reasons (file_text r) reported) none ∙ no_reasons reported)
 
-  module _ (l : IsRefusalLine told) where
+  module _ (l : IsRefusalLine reported) where
     says_no : o.status ≡ No
     says_no = ap (λ (x : Output). x.status) whole ∙ l.status
 
     text_is : o.text ≡ (l.line ++ 10 ∷ []) ++ file_text reasons
     text_is = ap (λ (x : Output). x.text) whole ∙ ap (λ (t : List ℕ). t ++ file_text reasons) l.text
 
-    left : without_reasons o.text ≡ told.text
-    left = ap without_reasons text_is ∙ (first_stays l.line (file_lines reasons) l.told (file_lines_tell reasons) ∙ sym l.text)
+    left : without_reasons o.text ≡ reported.text
+    left = ap without_reasons text_is ∙ (first_stays l.line (file_lines reasons) l.reported (file_lines_report reasons) ∙ sym l.text)
 
-  same_with : (plain : Output) → IsSameAnswer plain told → IsRefusalLine told → IsSameAnswer plain o
+  same_with : (plain : Output) → IsSameAnswer plain reported → IsRefusalLine reported → IsSameAnswer plain o
   same_with plain same l =
       let no : plain.status ≡ No = sym same.status ∙ l.status in
       record {
         status = says_no l ∙ sym no;
         yes = λ is_yes. absurd (let apart : Yes ≡ No = sym is_yes ∙ no in cc);
-        no = λ _. left l ∙ (sym (stays told.text (record { told = l.line ∷ []; each = (l.told, tt); whole = l.text ∙ sym (append-nil (l.line ++ 10 ∷ [])) })) ∙ same.no no);
+        no = λ _. left l ∙ (sym (stays reported.text (record { reported = l.line ∷ []; each = (l.reported, tt); whole = l.text ∙ sym (append-nil (l.line ++ 10 ∷ [])) })) ∙ same.no no);
       }
 
 module _ (request : Request) (b c : List ℕ) (o : Output) (out : OutWhy request b c (Some o)) where
   -- the output of what was read, behind which the reasons stand
-  came : (told : Output) × (out.of_read ≡ Some told) × (o ≡ with_reasons (file_text out.reasons) told)
+  came : (reported : Output) × (out.of_read ≡ Some reported) × (o ≡ with_reasons (file_text out.reasons) reported)
   came = some_of (file_text out.reasons) out.of_read o out.whole
 
   came_out : OutOfRead request b c (Some came.0)
@@ -157,22 +134,22 @@ module _ (b c : List ℕ) (o : Output) (out : OutWhy Plan b c (Some o)) where
   abbrev read : Output
   read = (came Plan b c o out).0
 
-  told : (o ≡ read) ⊎ IsRefusalLine read → IsSolved b c o ⊎ IsOther o
-  told (inl same) = subst (λ (x : Output). IsSolved b c x ⊎ IsOther x) (sym same) (out_told WhyVerdict why_refusal why_tells_valid why_refuses b c read (came_out Plan b c o out))
-  told (inr l) =
+  reported : (o ≡ read) ⊎ IsRefusalLine read → IsSolved b c o ⊎ IsOther o
+  reported (inl same) = subst (λ (x : Output). IsSolved b c x ⊎ IsOther x) (sym same) (out_reported WhyVerdict why_refusal why_reports_valid why_refuses b c read (came_out Plan b c o out))
+  reported (inr l) =
       let whole = (came Plan b c o out).2 in
       inr (record { status = says_no o read out.reasons whole l; text = λ steps cost e. l.no_plan (file_text out.reasons) steps cost (sym (text_is o read out.reasons whole l) ∙ e) })
 
   solved : (o ≡ read) ⊎ IsRefusalLine read → (line : List ℕ) → Solves b c line → (o.status ≡ Yes) × (o.text ≡ line)
   solved is line solves =
-      let its = out_solved WhyVerdict why_refusal why_tells_valid why_refuses b c line read solves (came_out Plan b c o out) in
+      let its = out_solved WhyVerdict why_refusal why_reports_valid why_refuses b c line read solves (came_out Plan b c o out) in
       elim is [
         | inl same ↦ subst (λ (x : Output). (x.status ≡ Yes) × (x.text ≡ line)) (sym same) its
         | inr l ↦ (let apart : Yes ≡ No = sym its.0 ∙ l.status in absurd cc)
       ]
 
   pub headline_why : (old new : Option (List ℕ)) (before : List ℕ) (status : Status) → old ≡ Some before → status ≡ o.status → Appends old new o.text → Headline b c (Appends old new) status
-  headline_why = headline_by b c o (told (as_read Plan b c o out)) (solved (as_read Plan b c o out))
+  headline_why = headline_by b c o (reported (as_read Plan b c o out)) (solved (as_read Plan b c o out))
 
 -- ---- which groups are exclusive
 
@@ -181,7 +158,7 @@ module _ (b c : List ℕ) (o : Output) (out : OutWhy Mutex b c (Some o)) where
   read_of = (came Mutex b c o out).0
 
   refused_says : IsRefusalLine read_of → SaysNone o.text
-  refused_says l = subst SaysNone (sym (text_is o read_of out.reasons (came Mutex b c o out).2 l)) (line_says_none l.line l.told l.no_group (file_lines out.reasons) (file_lines_tell out.reasons))
+  refused_says l = subst SaysNone (sym (text_is o read_of out.reasons (came Mutex b c o out).2 l)) (line_says_none l.line l.reported l.no_group (file_lines out.reasons) (file_lines_report out.reasons))
 
   pub invariants_why : (old new : Option (List ℕ)) (before : List ℕ) → old ≡ Some before → Appends old new o.text → Invariants b (Appends old new)
   invariants_why old new before known sent = elim (as_read Mutex b c o out) [

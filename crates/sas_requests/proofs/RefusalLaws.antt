@@ -1,41 +1,14 @@
 -- Why a file is refused: one list of reasons, and always some.
-use Rattle.std.proofs.Common.{◌≡◌, ◌≢◌, ℕ, List, [], ◌∷◌, length, take, refl, sym, ap, subst, ◌∙◌, inl, inr, Option, Result, Ok, Err}
-use Rattle.std.specs.Prelude.{nat_lt}
-use Rattle.sas_lines.specs.Lines.{lines, unfinished}
-use Rattle.sas_reader.specs.declared.fault.Fault.{Fault}
-use Rattle.sas_reader.specs.declared.fault.Kind.{Kind}
+use Rattle.sas_requests.proofs.Imports.{◌≡◌, ◌≢◌, ℕ, List, [], ◌∷◌, length, take, refl, sym, ap, subst, ◌∙◌, inl, inr, Option, Result, Ok, Err, nat_lt, lines, unfinished, Fault, Kind, Format, FaultOf, KindAt, too_long, trailing, wrong, ReadsAs, Laws, most_bytes, IsAbout, of_line, of_byte, of_end, AboutLaws, about_laws_of, plan_format, PlanLineFits, plan_node, plan_start, plan_grammar}
+use Rattle.sas_requests.proofs.Imports.{plan_laws_hold, Mark, WrongWord, process_node, task_format, TaskLineFits, task_start, one_task_reason, some_task_reason, task_grammar, task_laws_hold, FileLine, task_reasons, Request, Show, Print, Steps, Check, Plan, Mutex, IsLayeredText, Worded, plan_worded, task_worded}
 use Rattle.sas_reader.specs.declared.fault.Kind.TheVariants as kinds
-use Rattle.sas_reader.specs.Format.{Format, FaultOf, KindAt, too_long, trailing, wrong, ReadsAs}
-use Rattle.sas_reader.specs.Laws.{Laws}
-use Rattle.sas_reader.specs.Limit.{most_bytes}
-use Rattle.sas_reader.specs.About.{IsAbout, of_line, of_byte, of_end, AboutLaws}
-use Rattle.sas_reader.proofs.About.{about_laws_of}
-use Rattle.sas_plan_file.specs.PlanFormat.{plan_format, PlanLineFits}
-use Rattle.sas_plan_file.specs.PlanMachine.{plan_node, plan_start}
-use Rattle.sas_plan_file.proofs.PlanGrammar.{plan_grammar}
-use Rattle.sas_plan_file.proofs.PlanLaws.{plan_laws_hold}
-use Rattle.sas_task_format.specs.declared.marks.Mark.{Mark}
-use Rattle.sas_task_format.specs.declared.marks.WrongWord.{WrongWord}
-use Rattle.sas_task_format.specs.Process.{process_node}
-use Rattle.sas_task_format.specs.TaskFormat.{task_format, TaskLineFits}
-use Rattle.sas_task_format.specs.TaskProcess.{task_start}
-use Rattle.sas_task_format.proofs.MarkLaws.{one_task_reason}
-use Rattle.sas_task_format.proofs.SomeReason.{some_task_reason}
-use Rattle.sas_task_format.proofs.TaskGrammar.{task_grammar}
-use Rattle.sas_task_format.proofs.TaskLaws.{task_laws_hold}
-use Rattle.sas_outputs.specs.FileLine.{FileLine}
-use Rattle.sas_outputs.specs.FileReasons.{task_reasons}
-use Rattle.sas_outputs.specs.declared.Request.{Request}
-use Rattle.sas_outputs.specs.declared.Request.TheVariants.{Show, Print, Steps, Check, Plan, Mutex}
-use Rattle.sas_requests.specs.FileReasons.{FaultReasons, told, past_limit, ReadReasons, FileReasons, AreTaskReasons, ArePlanReasons, TaskFileReasons, PlanFileReasons, RefusalReasons}
-use Rattle.sas_outputs.specs.Output.{IsLayeredText}
-use Rattle.sas_outputs.proofs.Outputs.{Worded, plan_worded, task_worded}
+use Rattle.sas_requests.specs.FileReasons.{FaultReasons, reported, past_limit, ReadReasons, FileReasons, AreTaskReasons, ArePlanReasons, TaskFileReasons, PlanFileReasons, RefusalReasons}
 
-pub task_telling : AboutLaws task_format
-task_telling = about_laws_of task_format TaskLineFits process_node task_start task_grammar
+pub task_reporting : AboutLaws task_format
+task_reporting = about_laws_of task_format TaskLineFits process_node task_start task_grammar
 
-pub plan_telling : AboutLaws plan_format
-plan_telling = about_laws_of plan_format PlanLineFits plan_node plan_start plan_grammar
+pub plan_reporting : AboutLaws plan_format
+plan_reporting = about_laws_of plan_format PlanLineFits plan_node plan_start plan_grammar
 
 -- ---- one file
 
@@ -44,69 +17,69 @@ pub record HasOneList (AreReasons : List FileLine → Type 0) : Type 0 where
   pub one : (r s : List FileLine) → AreReasons r → AreReasons s → r ≡ s
   pub some : ((r : List FileLine) → AreReasons r → ⊥) → ⊥
 
--- what a fault is about is told in one way, and can be told
-module _ {V I S : Type 0} (F : Format V I S) (Tells : Kind → List (List ℕ) → List ℕ → List FileLine → Type 0) (laws : Laws F) (telling : AboutLaws F) (worded : Worded F)
-    (one : (kind : Kind) (begun : List (List ℕ)) (found : List ℕ) (r s : List FileLine) → Tells kind begun found r → Tells kind begun found s → r ≡ s)
-    (some : (bytes : List ℕ) (f : Fault) (begun : List (List ℕ)) (found : List ℕ) → IsAbout F most_bytes bytes f begun found → (r : List FileLine) × Tells f.kind begun found r) (bytes : List ℕ) where
+-- what a fault is about is reported in one way, and can be reported
+module _ {V I S : Type 0} (F : Format V I S) (Reports : Kind → List (List ℕ) → List ℕ → List FileLine → Type 0) (laws : Laws F) (reporting : AboutLaws F) (worded : Worded F)
+    (one : (kind : Kind) (begun : List (List ℕ)) (found : List ℕ) (r s : List FileLine) → Reports kind begun found r → Reports kind begun found s → r ≡ s)
+    (some : (bytes : List ℕ) (f : Fault) (begun : List (List ℕ)) (found : List ℕ) → IsAbout F most_bytes bytes f begun found → (r : List FileLine) × Reports f.kind begun found r) (bytes : List ℕ) where
   -- what a fault is about has a word
   about_short : (f : Fault) (begun : List (List ℕ)) (found : List ℕ) → IsAbout F most_bytes bytes f begun found → f.kind ≢ kinds.TooLong
   about_short f begun found (of_line h ha ht s n k) e = worded s found f.kind k (rw e refl)
   about_short f begun found (of_byte h ha ht v r k) e = absurd (let apart : kinds.Trailing ≡ kinds.TooLong = sym k ∙ e in cc)
   about_short f begun found (of_end h ha ht) e = absurd (let apart : kinds.End ≡ kinds.TooLong = sym h.kind ∙ e in cc)
 
-  one_fault : (f : Fault) (r s : List FileLine) → FaultReasons F Tells bytes f r → FaultReasons F Tells bytes f s → r ≡ s
-  one_fault f r s (told a t h x) (told b u j y) =
-      let same = telling.one_about most_bytes bytes f a b t u h j in
-      let here : Tells f.kind b u r = subst (λ (k : List (List ℕ)). Tells f.kind k u r) same.0 (subst (λ (w : List ℕ). Tells f.kind a w r) same.1 x) in
+  one_fault : (f : Fault) (r s : List FileLine) → FaultReasons F Reports bytes f r → FaultReasons F Reports bytes f s → r ≡ s
+  one_fault f r s (reported a t h x) (reported b u j y) =
+      let same = reporting.one_about most_bytes bytes f a b t u h j in
+      let here : Reports f.kind b u r = subst (λ (k : List (List ℕ)). Reports f.kind k u r) same.0 (subst (λ (w : List ℕ). Reports f.kind a w r) same.1 x) in
       one f.kind b u r s here y
-  one_fault f r s (told a t h x) (past_limit k e) = absurd (about_short f a t h k)
-  one_fault f r s (past_limit k e) (told b u j y) = absurd (about_short f b u j k)
+  one_fault f r s (reported a t h x) (past_limit k e) = absurd (about_short f a t h k)
+  one_fault f r s (past_limit k e) (reported b u j y) = absurd (about_short f b u j k)
   one_fault f r s (past_limit k e) (past_limit l d) = e ∙ sym d
 
-  one_read : (read : Result V Fault) (r s : List FileLine) → ReadReasons F Tells bytes read r → ReadReasons F Tells bytes read s → r ≡ s
+  one_read : (read : Result V Fault) (r s : List FileLine) → ReadReasons F Reports bytes read r → ReadReasons F Reports bytes read s → r ≡ s
   one_read (Ok v) r s x y = x ∙ sym y
   one_read (Err f) r s x y = one_fault f r s x y
 
-  about_reasons : (f : Fault) (a : List (List ℕ)) (t : List ℕ) → IsAbout F most_bytes bytes f a t → (r : List FileLine) × FaultReasons F Tells bytes f r
-  about_reasons f a t h = let r = some bytes f a t h in (r.0, told a t h r.1)
+  about_reasons : (f : Fault) (a : List (List ℕ)) (t : List ℕ) → IsAbout F most_bytes bytes f a t → (r : List FileLine) × FaultReasons F Reports bytes f r
+  about_reasons f a t h = let r = some bytes f a t h in (r.0, reported a t h r.1)
 
-  some_at : (f : Fault) (h : FaultOf F most_bytes bytes f) → KindAt F most_bytes h.before h.byte f.kind → (r : List FileLine) × FaultReasons F Tells bytes f r
+  some_at : (f : Fault) (h : FaultOf F most_bytes bytes f) → KindAt F most_bytes h.before h.byte f.kind → (r : List FileLine) × FaultReasons F Reports bytes f r
   some_at f h (too_long long k) = ([], past_limit k refl)
   some_at f h (trailing short v reads k) = about_reasons f (lines h.before) (h.byte ∷ []) (of_byte h refl refl v reads k)
   some_at f h (wrong short line is s next k) = about_reasons f (lines h.before) line (of_line h refl is s next k)
 
-  some_read : (read : Result V Fault) → ReadsAs F most_bytes bytes read → (r : List FileLine) × ReadReasons F Tells bytes read r
+  some_read : (read : Result V Fault) → ReadsAs F most_bytes bytes read → (r : List FileLine) × ReadReasons F Reports bytes read r
   some_read (Ok v) reads = ([], refl)
   some_read (Err f) (inl h) = some_at f h h.kind
   some_read (Err f) (inr h) = about_reasons f (lines bytes) (unfinished bytes) (of_end h refl refl)
 
-  file_list : HasOneList (FileReasons F Tells bytes)
+  file_list : HasOneList (FileReasons F Reports bytes)
   file_list = record {
     one = λ r s (read, reads, x) (other, other_reads, y).
-        one_read read r s x (subst (λ (q : Result V Fault). ReadReasons F Tells bytes q s) (laws.one_reading most_bytes bytes other read other_reads reads) y);
+        one_read read r s x (subst (λ (q : Result V Fault). ReadReasons F Reports bytes q s) (laws.one_reading most_bytes bytes other read other_reads reads) y);
     some = λ none. laws.some_reading most_bytes bytes (λ read reads. let r = some_read read reads in none r.0 (read, reads, r.1));
   }
 
--- ---- what is told of a task, and of a plan
+-- ---- what is reported of a task, and of a plan
 
-one_task_telling : (kind : Kind) (begun : List (List ℕ)) (found : List ℕ) (r s : List FileLine) → AreTaskReasons kind begun found r → AreTaskReasons kind begun found s → r ≡ s
-one_task_telling kind begun found r s x y =
+one_task_reporting : (kind : Kind) (begun : List (List ℕ)) (found : List ℕ) (r s : List FileLine) → AreTaskReasons kind begun found r → AreTaskReasons kind begun found s → r ≡ s
+one_task_reporting kind begun found r s x y =
     let same = one_task_reason kind begun found x.mark y.mark x.word y.word x.reason y.reason in
     let lines_of = λ (m : Mark) (w : Option WrongWord). task_reasons kind m w (take 64 found) (nat_lt 64 (length found)) in
     x.lines ∙ (ap (λ (m : Mark). lines_of m x.word) same.0 ∙ (ap (lines_of y.mark) same.1 ∙ sym y.lines))
 
-some_task_telling : (bytes : List ℕ) (f : Fault) (begun : List (List ℕ)) (found : List ℕ) → IsAbout task_format most_bytes bytes f begun found → (r : List FileLine) × AreTaskReasons f.kind begun found r
-some_task_telling bytes f begun found h =
+some_task_reporting : (bytes : List ℕ) (f : Fault) (begun : List (List ℕ)) (found : List ℕ) → IsAbout task_format most_bytes bytes f begun found → (r : List FileLine) × AreTaskReasons f.kind begun found r
+some_task_reporting bytes f begun found h =
     let (m, w, reason) = some_task_reason bytes f begun found h in
     (_, record { mark = m; word = w; reason = reason; lines = refl })
 
 -- ---- the files of a request
 
 of_task : (b : List ℕ) → HasOneList (TaskFileReasons b)
-of_task = file_list task_format AreTaskReasons task_laws_hold task_telling task_worded one_task_telling some_task_telling
+of_task = file_list task_format AreTaskReasons task_laws_hold task_reporting task_worded one_task_reporting some_task_reporting
 
 of_plan : (c : List ℕ) → HasOneList (PlanFileReasons c)
-of_plan = file_list plan_format ArePlanReasons plan_laws_hold plan_telling plan_worded (λ kind begun found r s x y. x ∙ sym y) (λ bytes f begun found h. (_, refl))
+of_plan = file_list plan_format ArePlanReasons plan_laws_hold plan_reporting plan_worded (λ kind begun found r s x y. x ∙ sym y) (λ bytes f begun found h. (_, refl))
 
 one_of_both : (b c : List ℕ) (r s : List FileLine) → RefusalReasons Plan b c r → RefusalReasons Plan b c s → r ≡ s
 one_of_both b c r s (inl x) (inl y) = (of_plan c).one r s x.1 y.1

@@ -1,30 +1,10 @@
 -- Why a file is refused: one set of lines, and always some; and behind which refusal they stand.
-use Rattle.std.proofs.Common.{◌≡◌, ◌⊎◌, ℕ, List, [], codes, append-nil, refl, sym, ap, subst, inl, inr, Option, Some, None, Result, Ok, Err}
-use Rattle.std.specs.Prelude.{option_map}
-use Rattle.std.proofs.lemmas.Option.{none-some}
-use Rattle.sas_core.specs.declared.parts.Parts.{Parts}
-use Rattle.sas_core.specs.PlanParts.{PlanParts}
-use Rattle.sas_reader.specs.declared.fault.Fault.{Fault}
-use Rattle.sas_reader.specs.declared.fault.Kind.{Kind}
-use Rattle.sas_reader.specs.Format.{Format}
-use Rattle.sas_reader.specs.Laws.{Laws}
-use Rattle.sas_reader.specs.Limit.{most_bytes}
-use Rattle.sas_plan_file.specs.PlanFormat.{plan_format}
-use Rattle.sas_plan_file.proofs.PlanLaws.{plan_laws_hold}
-use Rattle.sas_task_format.specs.TaskFormat.{task_format}
-use Rattle.sas_task_format.proofs.TaskLaws.{task_laws_hold}
-use Rattle.sas_outputs.specs.FileLine.{FileLine}
-use Rattle.sas_output.specs.Ending.{Output}
-use Rattle.sas_task_reasons.specs.WhyLayers.{with_reasons, why_refusal, WhyCheckAnswer, WhyMutexAnswer}
-use Rattle.sas_why.specs.Verdict.{WhyVerdict}
-use Rattle.sas_outputs.specs.declared.Request.{Request}
-use Rattle.sas_outputs.specs.declared.Request.TheVariants.{Show, Print, Steps, Check, Plan, Mutex}
+use Rattle.sas_requests.proofs.Imports.{◌≡◌, ◌⊎◌, ℕ, List, [], codes, append-nil, refl, sym, ap, subst, inl, inr, Option, Some, None, Result, Ok, Err, option_map, none-some, Parts, PlanParts, Fault, Kind, Format, Laws, most_bytes, plan_format, plan_laws_hold, task_format, task_laws_hold, FileLine, Output, with_reasons, why_refusal, WhyCheckAnswer, WhyMutexAnswer, WhyVerdict, Request, Show, Print}
+use Rattle.sas_requests.proofs.Imports.{Steps, Check, Plan, Mutex, refusal, IsAnswerOrRefusal, FileOut, TaskOut, UnlayeredAnswer, ShowAnswer, PrintAnswer, not_refused}
 use Rattle.sas_requests.specs.FileReasons.{ReadReasons, FileReasons, AreTaskReasons, ArePlanReasons, TaskFileReasons, PlanFileReasons, RefusalReasons}
-use Rattle.sas_outputs.specs.Output.{refusal, IsAnswerOrRefusal, FileOut, TaskOut, UnlayeredAnswer, ShowAnswer, PrintAnswer}
-use Rattle.sas_outputs.proofs.PlanOutputs.{not_refused}
 use Rattle.sas_requests.specs.declared.detail.Detail.{Detail}
 use Rattle.sas_requests.specs.declared.detail.Detail.TheVariants.{Plain, Reasons, Trace}
-use Rattle.sas_requests.specs.Answering.{told_by, ReasonedBy}
+use Rattle.sas_requests.specs.Answering.{reported_by, ReasonedBy}
 use Rattle.sas_requests.specs.Why.{OutOfRead}
 
 -- ---- an output with reasons behind
@@ -42,7 +22,7 @@ some_of reasons None o e = absurd (none-some o (sym e))
 some_of reasons (Some plain) o e = (plain, refl, let same : o ≡ with_reasons reasons plain = cc in same)
 
 -- an output with such reasons behind it, at each detail
-pub reasoned_by : (detail : Detail) (IsOut : Option Output → Type 0) (AreReasons : List FileLine → Type 0) (q o : Option Output) (reasons : List FileLine) → IsOut q → AreReasons reasons → o ≡ told_by detail reasons q → ReasonedBy detail IsOut AreReasons o
+pub reasoned_by : (detail : Detail) (IsOut : Option Output → Type 0) (AreReasons : List FileLine → Type 0) (q o : Option Output) (reasons : List FileLine) → IsOut q → AreReasons reasons → o ≡ reported_by detail reasons q → ReasonedBy detail IsOut AreReasons o
 reasoned_by Plain IsOut AreReasons q o reasons out why is = subst IsOut (sym is) out
 reasoned_by Trace IsOut AreReasons q o reasons out why is = subst IsOut (sym is) out
 reasoned_by Reasons IsOut AreReasons q o reasons out why is = record { of_read = q; reasons = reasons; is_out = out; are_reasons = why; whole = is }
@@ -60,11 +40,11 @@ more_reasoned Reasons A B R S to behind o out = record {
 }
 
 -- no reasons change nothing
-pub told_alone : (detail : Detail) (o : Option Output) → o ≡ told_by detail [] o
-told_alone Plain o = refl
-told_alone Trace o = refl
-told_alone Reasons None = refl
-told_alone Reasons (Some o) = ap Some (sym (no_reasons o))
+pub reported_alone : (detail : Detail) (o : Option Output) → o ≡ reported_by detail [] o
+reported_alone Plain o = refl
+reported_alone Trace o = refl
+reported_alone Reasons None = refl
+reported_alone Reasons (Some o) = ap Some (sym (no_reasons o))
 
 -- ---- behind which refusal they stand
 
@@ -75,15 +55,15 @@ IsFileRefusal o = (fault : Fault) × ((o ≡ refusal (codes "task") fault) ⊎ (
 abbrev pub StandBehind : List FileLine → Option Output → Type 0
 StandBehind reasons o = (reasons ≡ []) ⊎ IsFileRefusal o
 
-module _ {V I S : Type 0} (F : Format V I S) (Tells : Kind → List (List ℕ) → List ℕ → List FileLine → Type 0) (laws : Laws F) (name : List ℕ) (IsAnswer : V → Output → Type 0) (is_file : (fault : Fault) (o : Option Output) → o ≡ refusal name fault → IsFileRefusal o) where
-  by_reading : (bytes : List ℕ) (r : Result V Fault) (o : Option Output) (reasons : List FileLine) → IsAnswerOrRefusal name IsAnswer r o → ReadReasons F Tells bytes r reasons → StandBehind reasons o
+module _ {V I S : Type 0} (F : Format V I S) (Reports : Kind → List (List ℕ) → List ℕ → List FileLine → Type 0) (laws : Laws F) (name : List ℕ) (IsAnswer : V → Output → Type 0) (is_file : (fault : Fault) (o : Option Output) → o ≡ refusal name fault → IsFileRefusal o) where
+  by_reading : (bytes : List ℕ) (r : Result V Fault) (o : Option Output) (reasons : List FileLine) → IsAnswerOrRefusal name IsAnswer r o → ReadReasons F Reports bytes r reasons → StandBehind reasons o
   by_reading bytes (Ok v) o reasons out why = inl why
   by_reading bytes (Err fault) o reasons out why = inr (is_file fault o out)
 
-  file_behind : (bytes : List ℕ) (o : Option Output) (reasons : List FileLine) → FileOut F name IsAnswer bytes o → FileReasons F Tells bytes reasons → StandBehind reasons o
+  file_behind : (bytes : List ℕ) (o : Option Output) (reasons : List FileLine) → FileOut F name IsAnswer bytes o → FileReasons F Reports bytes reasons → StandBehind reasons o
   file_behind bytes o reasons out why =
       let same = laws.one_reading most_bytes bytes why.0 out.0 why.1 out.1 in
-      by_reading bytes out.0 o reasons out.2 (subst (λ (r : Result V Fault). ReadReasons F Tells bytes r reasons) same why.2)
+      by_reading bytes out.0 o reasons out.2 (subst (λ (r : Result V Fault). ReadReasons F Reports bytes r reasons) same why.2)
 
 of_task : (fault : Fault) (o : Option Output) → o ≡ refusal (codes "task") fault → IsFileRefusal o
 of_task fault o is = (fault, inl is)

@@ -1,37 +1,9 @@
 -- How the output of a request goes out.
-use Rattle.std.proofs.Common.{◌≡◌, ℕ, false, true, List, [], codes, inl, inr, refl, sym, ap, subst, ◌∙◌, Option, Some, None, Result, Ok, Err}
-use Rattle.std.specs.Prelude.{IsTrue, IfOk, IsSomeAnd}
-use Rattle.std.specs.Io.KnownBytes.{Appends}
-use Rattle.sas_core.specs.declared.parts.Parts.{Parts}
-use Rattle.sas_core.specs.PlanParts.{PlanParts}
-use Rattle.sas_meaning.specs.declared.layered.LayerFault.{LayerFault}
-use Rattle.sas_meaning.specs.Layers.{IsLayered}
-use Rattle.sas_lines.specs.Device.{Device}
-use Rattle.sas_reader.specs.Devices.{ValueOf, ReadsAll}
-use Rattle.sas_reader.specs.Format.{ReadsAs}
-use Rattle.sas_reader.specs.Limit.{most_bytes}
-use Rattle.sas_reader.proofs.Known.{known_answer}
-use Rattle.sas_plan_file.specs.PlanFormat.{plan_format}
-use Rattle.sas_task_format.specs.TaskFormat.{task_format}
-use Rattle.sas_output.specs.declared.ending.Status.{Status}
-use Rattle.sas_output.specs.declared.ending.Status.TheVariants.{Yes}
-use Rattle.sas_output.specs.declared.ending.ToolFault.{ToolFault}
-use Rattle.sas_output.specs.Ending.{Output, EndsCounting}
-use Rattle.sas_answers.specs.Answers.{layers_verdict, LayeredGroupsAnswer}
-use Rattle.sas_answers.proofs.CheckAnswers.{layered_answer}
-use Rattle.sas_task_reasons.specs.WhyGroups.{WhyGroupsAnswer}
-use Rattle.sas_task_reasons.specs.WhyLayers.{WhyMutexAnswer}
-use Rattle.sas_task_reasons.proofs.TaskAnswers.{check_layered, check_refused, groups_layered, groups_refused}
-use Rattle.sas_trace.specs.Traced.{IsTraced, TraceVerdict}
-use Rattle.sas_outputs.specs.declared.Request.{Request}
+use Rattle.sas_requests.proofs.Imports.{◌≡◌, ℕ, false, true, List, [], codes, inl, inr, refl, sym, ap, subst, ◌∙◌, Option, Some, None, Result, Ok, Err, IsTrue, IfOk, IsSomeAnd, Appends, Parts, PlanParts, LayerFault, IsLayered, Device, ValueOf, ReadsAll, ReadsAs, most_bytes, known_answer, plan_format, task_format, Status, Yes, ToolFault, Output, EndsCounting, layers_verdict, LayeredGroupsAnswer}
+use Rattle.sas_requests.proofs.Imports.{layered_answer, WhyGroupsAnswer, WhyMutexAnswer, check_layered, check_refused, groups_layered, groups_refused, IsTraced, TraceVerdict, Request, Headline, Invariants, TaskOut, VerdictOut, PlanOutBy, PrintAnswer, AreInputs, reads_task, takes_nothing, first_alone, second_alone, not_refused, EndsFile}
 use Rattle.sas_outputs.specs.declared.Request.TheVariants as request
-use Rattle.sas_outputs.specs.Headline.{Headline, Invariants}
-use Rattle.sas_outputs.specs.Output.{TaskOut, VerdictOut, PlanOutBy, PrintAnswer, AreInputs, reads_task}
-use Rattle.sas_outputs.proofs.Outputs.{takes_nothing}
-use Rattle.sas_outputs.proofs.PlanOutputs.{first_alone, second_alone, not_refused}
 use Rattle.sas_requests.specs.declared.detail.Detail.{Detail}
 use Rattle.sas_requests.specs.declared.detail.Detail.TheVariants.{Plain, Reasons, Trace}
-use Rattle.sas_outputs.specs.EndsFile.{EndsFile}
 use Rattle.sas_requests.specs.Answering.{CheckBy, MutexBy, VerdictBy, UnlayeredBy, layers_by, TaskBy, PlanBy, OutBy}
 use Rattle.sas_requests.specs.EndsRequest.{EndsRequest}
 use Rattle.sas_requests.specs.FileReasons.{TaskFileReasons, PlanFileReasons, RefusalReasons}
@@ -52,8 +24,8 @@ check_no Reasons p o (fault, first, is) = check_refused p o fault is first
 
 -- of the groups of a layered task
 pub mutex_yes : (p : Parts) → IsLayered p → (o : Option Output) → IsSomeAnd o (WhyGroupsAnswer p) → IsSomeAnd o (WhyMutexAnswer p)
-mutex_yes p layered (Some o) told = groups_layered p o layered told
-mutex_yes p layered None told = told
+mutex_yes p layered (Some o) reported = groups_layered p o layered reported
+mutex_yes p layered None reported = reported
 
 pub mutex_no : (detail : Detail) (p : Parts) (o : Output) → UnlayeredBy detail p o → MutexBy detail p o
 mutex_no Plain p o (fault, first, is) = subst (λ (f : Option LayerFault). LayeredGroupsAnswer p f o) (sym first) is
@@ -118,13 +90,13 @@ module _ {T P : Type 0} (left_task : T → Option (List ℕ)) (left_plan : P →
   -- `steps`, which reads the plan alone
   pub of_steps : (task : Device T) (old new : Device P) (r : Result Status ToolFault) → task.failed ≡ false → EndsFile left_plan (PlanBy detail (PrintAnswer plan_format)) Sent old new r → EndsAsked request.Steps task task old new r
   of_steps task old new r working one =
-      let Told = PlanBy detail (PrintAnswer plan_format) in
+      let Answer = PlanBy detail (PrintAnswer plan_format) in
       let alone = second_alone task.failed new.failed (λ t. let apart : true ≡ false = sym t ∙ working in cc) in
       record {
-        output = λ b c inputs. ends_by Sent (Told c) (OutBy detail request.Steps b c) r (λ o out. out) (one.output c (inputs.1 refl));
+        output = λ b c inputs. ends_by Sent (Answer c) (OutBy detail request.Steps b c) r (λ o out. out) (one.output c (inputs.1 refl));
         taken = λ decided.
             let (c, consumed, ends) = one.taken decided in
-            ([], c, takes_nothing _, consumed, ends_by Sent (Told c) (OutBy detail request.Steps [] c) r (λ o out. out) ends);
+            ([], c, takes_nothing _, consumed, ends_by Sent (Answer c) (OutBy detail request.Steps [] c) r (λ o out. out) ends);
         task_spared = λ _. refl;
         plan_spared = λ spared. absurd cc;
         plan_waits = λ is. absurd cc;
@@ -135,16 +107,16 @@ module _ {T P : Type 0} (left_task : T → Option (List ℕ)) (left_plan : P →
   pub of_both : (p : Parts) (old new : Device T) → ReadsAll left_task task_format (ValueOf task_format) old new (Ok p) → IsLayered p
       → (plan_old plan_new : Device P) (r : Result Status ToolFault) → EndsFile left_plan (PlanBy detail (VerdictBy detail p)) Sent plan_old plan_new r → EndsAsked request.Plan old new plan_old plan_new r
   of_both p old new read layered plan_old plan_new r one =
-      let Told = PlanBy detail (VerdictBy detail p) in
+      let Answer = PlanBy detail (VerdictBy detail p) in
       let alone = second_alone new.failed plan_new.failed (λ t. read.note.1 t) in
       record {
         output = λ b c inputs.
             let value = known_answer left_task task_format (ValueOf task_format) old new p b read (inputs.0 refl) in
-            ends_by Sent (Told c) (OutBy detail request.Plan b c) r (λ o. judged_by detail b c o p layered value) (one.output c (inputs.1 refl));
+            ends_by Sent (Answer c) (OutBy detail request.Plan b c) r (λ o. judged_by detail b c o p layered value) (one.output c (inputs.1 refl));
         taken = λ decided.
             let (b, consumed, value) = read.read in
             let (c, consumed_plan, ends) = one.taken decided in
-            (b, c, consumed.0, consumed_plan, ends_by Sent (Told c) (OutBy detail request.Plan b c) r (λ o. judged_by detail b c o p layered value) ends);
+            (b, c, consumed.0, consumed_plan, ends_by Sent (Answer c) (OutBy detail request.Plan b c) r (λ o. judged_by detail b c o p layered value) ends);
         task_spared = λ spared. absurd cc;
         plan_spared = λ spared. absurd cc;
         plan_waits = λ _ b known none. absurd (none (p, known_answer left_task task_format (ValueOf task_format) old new p b read known, layered));
@@ -157,19 +129,19 @@ module _ (Outputs : Request → List ℕ → List ℕ → Option Output → Type
   abbrev Ended : Result Status ToolFault → Type 0
   Ended r = (b c : List ℕ) → AreInputs asked task plan b c → EndsCounting (Outputs asked b c) (Appends old new) r
 
-  pub headline_told : ((b c : List ℕ) (o : Output) → Outputs request.Plan b c (Some o) → (old new : Option (List ℕ)) (before : List ℕ) (status : Status)
+  pub headline_reported : ((b c : List ℕ) (o : Output) → Outputs request.Plan b c (Some o) → (old new : Option (List ℕ)) (before : List ℕ) (status : Status)
       → old ≡ Some before → status ≡ o.status → Appends old new o.text → Headline b c (Appends old new) status) → (r : Result Status ToolFault) → Ended r
       → IfOk r (λ status. asked ≡ request.Plan → (b c before : List ℕ) → task ≡ Some b → plan ≡ Some c → old ≡ Some before → Headline b c (Appends old new) status)
-  headline_told heads (Ok status) ends = λ is b c before known_task known_plan known.
+  headline_reported heads (Ok status) ends = λ is b c before known_task known_plan known.
       let (o, out, same, sent) = ends b c (λ _. known_task, λ _. known_plan) in
       heads b c o (subst (λ (q : Request). Outputs q b c (Some o)) is out) old new before status known same sent
-  headline_told heads (Err why) ends = tt
+  headline_reported heads (Err why) ends = tt
 
-  pub invariants_told : ((b c : List ℕ) (o : Output) → Outputs request.Mutex b c (Some o) → (old new : Option (List ℕ)) (before : List ℕ)
+  pub invariants_reported : ((b c : List ℕ) (o : Output) → Outputs request.Mutex b c (Some o) → (old new : Option (List ℕ)) (before : List ℕ)
       → old ≡ Some before → Appends old new o.text → Invariants b (Appends old new)) → (r : Result Status ToolFault) → Ended r
       → IfOk r (λ status. asked ≡ request.Mutex → (b before : List ℕ) → task ≡ Some b → old ≡ Some before → Invariants b (Appends old new))
-  invariants_told holds (Ok status) ends = λ is b before known_task known.
+  invariants_reported holds (Ok status) ends = λ is b before known_task known.
       let inputs = subst (λ (q : Request). AreInputs q task plan b []) (sym is) (λ _. known_task, λ e. absurd cc) in
       let (o, out, same, sent) = ends b [] inputs in
       holds b [] o (subst (λ (q : Request). Outputs q b [] (Some o)) is out) old new before known sent
-  invariants_told holds (Err why) ends = tt
+  invariants_reported holds (Err why) ends = tt

@@ -1,42 +1,11 @@
 -- An output with the reasons of what was read is the same answer as the output without them.
-use Rattle.std.proofs.Common.{◌≡◌, ℕ, ◌+◌, ◌<◌, List, [], ◌++◌, length, map, get_or, arith, codes, refl, sym, ap, subst, ◌∙◌, inl, inr, Option, Some, None, Result, Ok, Err}
-use Rattle.sas_core.specs.declared.parts.Parts.{Parts}
-use Rattle.sas_core.specs.FirstFault.{first_fault}
-use Rattle.sas_core.specs.PlanParts.{PlanParts}
-use Rattle.sas_core.specs.Plans.{WellNamed}
-use Rattle.sas_core.specs.WellRanged.{WellRanged}
-use Rattle.sas_meaning.specs.declared.layered.LayerFault.{LayerFault}
-use Rattle.sas_meaning.specs.LayerChecks.{layer_checks}
-use Rattle.sas_lines.specs.Lines.{text}
-use Rattle.sas_groups.specs.declared.verdict.Verdict.{Verdict}
-use Rattle.sas_groups.specs.declared.verdict.Verdict.TheVariants.{Exclusive}
-use Rattle.sas_groups.specs.Joint.{AreJointVerdicts}
-use Rattle.sas_task_reasons.specs.declared.reason.Reason.{Reason}
-use Rattle.sas_task_reasons.specs.GroupReasons.{IsReasonIfAny, AreReasons, reason_at}
-use Rattle.sas_reader.specs.declared.fault.Fault.{Fault}
-use Rattle.sas_reader.specs.Format.{Format, ReadsAs}
-use Rattle.sas_reader.specs.Limit.{most_bytes}
-use Rattle.sas_plan_file.specs.PlanFormat.{plan_format}
-use Rattle.sas_task_format.specs.TaskFormat.{task_format}
-use Rattle.sas_run.specs.declared.plan_check.PlanFault.{PlanFault}
-use Rattle.sas_output.specs.declared.ending.Status.TheVariants.{Yes, No}
-use Rattle.sas_output.specs.Ending.{Output}
-use Rattle.sas_answers.specs.Answers.{layers_refusal, layers_verdict, LayeredGroupsAnswer, CheckAnswer, MutexAnswer, VerdictAnswer}
-use Rattle.sas_answers.specs.GroupWords.{verdict_lines, groups_status}
-use Rattle.sas_answers.specs.LayerWords.{layer_words, layers_line}
-use Rattle.sas_answers.specs.PlanWords.{fault_words, invalid_line}
-use Rattle.sas_task_reasons.specs.WhyGroups.{why_lines, WhyGroupsAnswer}
-use Rattle.sas_task_reasons.specs.WhyLayers.{layer_reasons, why_refusal, WhyAnswer, WhyCheckAnswer, WhyMutexAnswer}
-use Rattle.sas_output.specs.Line.{line_bytes, reasons_text}
-use Rattle.sas_why.specs.Verdict.{WhyVerdict, Explains}
-use Rattle.sas_outputs.specs.declared.Request.{Request}
-use Rattle.sas_outputs.specs.declared.Request.TheVariants.{Show, Print, Steps, Check, Plan, Mutex}
-use Rattle.sas_outputs.specs.Output.{Out, IsAnswerOrRefusal, FileOut, TaskOut, UnlayeredAnswer, plain_refusal, ShowAnswer, PrintAnswer}
+use Rattle.sas_requests.proofs.Imports.{◌≡◌, ℕ, ◌+◌, ◌<◌, List, [], ◌++◌, length, map, get_or, arith, codes, refl, sym, ap, subst, ◌∙◌, inl, inr, Option, Some, None, Result, Ok, Err, Parts, first_fault, PlanParts, WellNamed, WellRanged, LayerFault, layer_checks, text, Verdict, Exclusive, AreJointVerdicts, Reason, IsReasonIfAny, AreReasons, reason_at, Fault, Format, ReadsAs, most_bytes}
+use Rattle.sas_requests.proofs.Imports.{plan_format, task_format, PlanFault, Yes, No, Output, layers_refusal, layers_verdict, LayeredGroupsAnswer, CheckAnswer, MutexAnswer, VerdictAnswer, verdict_lines, groups_status, layer_words, layers_line, fault_words, invalid_line, why_lines, WhyGroupsAnswer, layer_reasons, why_refusal, WhyAnswer, WhyCheckAnswer, WhyMutexAnswer, line_bytes, reasons_text}
+use Rattle.sas_requests.proofs.Imports.{WhyVerdict, Explains, Request, Show, Print, Steps, Check, Plan, Mutex, Out, IsAnswerOrRefusal, FileOut, TaskOut, UnlayeredAnswer, plain_refusal, ShowAnswer, PrintAnswer, worded}
 use Rattle.sas_requests.specs.Why.{without_reasons, IsSameAnswer, OutOfRead}
-use Rattle.sas_requests.proofs.ReasonLines.{lines_tell}
+use Rattle.sas_requests.proofs.ReasonLines.{lines_report}
 use Rattle.sas_requests.proofs.GroupLines.{groups_kept, all_exclusive}
-use Rattle.sas_requests.proofs.ToldLines.{IsToldText, stays, first_stays, AreRefusalsTold, task_refusals_told, plan_refusals_told, layer_told, layers_told, verdict_told}
-use Rattle.sas_answers.proofs.WordedLines.{worded}
+use Rattle.sas_requests.proofs.PlainAnswers.{IsReportedText, stays, first_stays, AreRefusalsReported, task_refusals_reported, plan_refusals_reported, layer_reported, layers_reported, verdict_reported}
 use Rattle.sas_requests.proofs.WhyAnswers.{why_is}
 
 -- ---- an output is the same answer as itself
@@ -48,8 +17,8 @@ Stays o = o.status ≡ No → without_reasons o.text ≡ o.text
 itself : (o : Output) → Stays o → IsSameAnswer o o
 itself o left = record { status = refl; yes = λ _. refl; no = left }
 
-told_stays : (o : Output) → IsToldText o.text → Stays o
-told_stays o told = λ _. stays o.text told
+reported_stays : (o : Output) → IsReportedText o.text → Stays o
+reported_stays o reported = λ _. stays o.text reported
 
 yes_stays : (o : Output) → o.status ≡ Yes → Stays o
 yes_stays o is_yes = λ is_no. absurd (let apart : Yes ≡ No = sym is_yes ∙ is_no in cc)
@@ -60,22 +29,22 @@ yes_stays o is_yes = λ is_no. absurd (let apart : Yes ≡ No = sym is_yes ∙ i
 abbrev SameOfEach : {V : Type 0} → (V → Type 0) → (V → Output → Type 0) → (V → Output → Type 0) → Type 0
 SameOfEach {V} Good Plain Why = (v : V) (o : Output) → Good v → Why v o → (plain : Output) × Plain v plain × IsSameAnswer plain o
 
-module _ {V I S : Type 0} (F : Format V I S) (name : List ℕ) (refusals : AreRefusalsTold name) (Plain Why : V → Output → Type 0) (each : SameOfEach F.texts.Good Plain Why) (bytes : List ℕ) where
+module _ {V I S : Type 0} (F : Format V I S) (name : List ℕ) (refusals : AreRefusalsReported name) (Plain Why : V → Output → Type 0) (each : SameOfEach F.texts.Good Plain Why) (bytes : List ℕ) where
   reading_same : (r : Result V Fault) (o : Output) → ReadsAs F most_bytes bytes r → IsAnswerOrRefusal name Why r (Some o) → (plain : Output) × IsAnswerOrRefusal name Plain r (Some plain) × IsSameAnswer plain o
-  reading_same (Ok v) o reads (answer, told, is) =
+  reading_same (Ok v) o reads (answer, reported, is) =
       let same : answer ≡ o = cc in
-      let it = each v o reads.0.good (subst (λ (x : Output). Why v x) same told) in
+      let it = each v o reads.0.good (subst (λ (x : Output). Why v x) same reported) in
       (it.0, (it.0, it.1, refl), it.2)
-  reading_same (Err fault) o reads is = (o, is, itself o (told_stays o (refusals fault o is)))
+  reading_same (Err fault) o reads is = (o, is, itself o (reported_stays o (refusals fault o is)))
 
   file_same : (o : Output) → FileOut F name Why bytes (Some o) → (plain : Output) × FileOut F name Plain bytes (Some plain) × IsSameAnswer plain o
   file_same o (r, reads, is) = let it = reading_same r o reads is in (it.0, (r, reads, it.1), it.2)
 
 task_same : (Plain Why : Parts → Output → Type 0) → SameOfEach WellRanged Plain Why → (b : List ℕ) (o : Output) → TaskOut Why b (Some o) → (plain : Output) × TaskOut Plain b (Some plain) × IsSameAnswer plain o
-task_same = file_same task_format (codes "task") task_refusals_told
+task_same = file_same task_format (codes "task") task_refusals_reported
 
 plan_same : (Plain Why : PlanParts → Output → Type 0) → SameOfEach WellNamed Plain Why → (c : List ℕ) (o : Output) → FileOut plan_format (codes "plan") Why c (Some o) → (plain : Output) × FileOut plan_format (codes "plan") Plain c (Some plain) × IsSameAnswer plain o
-plan_same = file_same plan_format (codes "plan") plan_refusals_told
+plan_same = file_same plan_format (codes "plan") plan_refusals_reported
 
 -- a text that is printed is a yes
 yes_same : {V : Type 0} (Good : V → Type 0) (printed : V → List ℕ) → SameOfEach Good (λ v o. o ≡ record { text = printed v; status = Yes }) (λ v o. o ≡ record { text = printed v; status = Yes })
@@ -85,18 +54,18 @@ layers_stay : (first : Option LayerFault) (o : Output) → layers_verdict first 
 layers_stay None o is =
     let same : (record { text = codes "task layered\n"; status = Yes }) ≡ o = cc in
     yes_stays o (sym (ap (λ (x : Output). x.status) same))
-layers_stay (Some fault) o is = told_stays o (layers_told fault o is)
+layers_stay (Some fault) o is = reported_stays o (layers_reported fault o is)
 
 -- ---- answers about a task
 
 -- the refusal is what is left of one with reasons
 refused_same : (p : Parts) (fault : LayerFault) (o : Output) → WellRanged p → why_refusal p fault ≡ Some o → (plain : Output) × (layers_refusal fault ≡ Some plain) × IsSameAnswer plain o
-refused_same p fault o ranged told =
-    let (plain, is, same) = why_is p fault o told in
+refused_same p fault o ranged reported =
+    let (plain, is, same) = why_is p fault o reported in
     let w = worded (layer_words fault) layers_line plain is in
     let reasons = map (line_bytes p []) (layer_reasons p fault) in
-    let are = lines_tell p [] ranged tt (layer_reasons p fault) in
-    let left = first_stays (codes "task refused: " ++ w.said) reasons (layer_told fault w.said w.among) are in
+    let are = lines_report p [] ranged tt (layer_reasons p fault) in
+    let left = first_stays (codes "task refused: " ++ w.said) reasons (layer_reported fault w.said w.among) are in
     let whole : o.text ≡ layers_line w.said ++ text reasons = ap (λ (x : Output). x.text) same ∙ ap (λ (t : List ℕ). t ++ text reasons) w.text in (
       plain,
       is,
@@ -133,16 +102,16 @@ mutex_same p None o ranged (verdicts, reasons, joint, are, is) =
 mutex_same p (Some fault) o ranged is = refused_same p fault o ranged is
 
 unlayered_same : SameOfEach WellRanged (UnlayeredAnswer plain_refusal) (UnlayeredAnswer why_refusal)
-unlayered_same p o ranged (fault, first, told) = let it = refused_same p fault o ranged told in (it.0, (fault, first, it.1), it.2)
+unlayered_same p o ranged (fault, first, reported) = let it = refused_same p fault o ranged reported in (it.0, (fault, first, it.1), it.2)
 
 -- ---- answers about a plan
 
 -- the verdict is what is left of a text with reasons
 explained_same : (p : Parts) (plan : PlanParts) (fault : PlanFault) (o : Output) → WellRanged p → WellNamed plan → (e : Explains p plan fault o.text) → o.status ≡ No → IsSameAnswer e.verdict o
 explained_same p plan fault o ranged named e is_no =
-    let w = worded (fault_words plan.cost fault) invalid_line e.verdict e.told in
-    let reasons = lines_tell p plan.steps ranged named.steps e.reasons in
-    let left = first_stays (codes "plan invalid: " ++ w.said) (map (line_bytes p plan.steps) e.reasons) (verdict_told plan.cost fault w.said w.among) reasons in
+    let w = worded (fault_words plan.cost fault) invalid_line e.verdict e.reported in
+    let reasons = lines_report p plan.steps ranged named.steps e.reasons in
+    let left = first_stays (codes "plan invalid: " ++ w.said) (map (line_bytes p plan.steps) e.reasons) (verdict_reported plan.cost fault w.said w.among) reasons in
     record {
       status = is_no ∙ sym w.status;
       yes = λ is_yes. absurd (let apart : Yes ≡ No = sym is_yes ∙ w.status in cc);
@@ -151,7 +120,7 @@ explained_same p plan fault o ranged named e is_no =
 
 verdict_same : (p : Parts) → WellRanged p → SameOfEach WellNamed (VerdictAnswer p) (WhyVerdict p)
 verdict_same p ranged plan o named (inl (valid, is)) = (o, inl (valid, is), itself o (yes_stays o (ap (λ (x : Output). x.status) is)))
-verdict_same p ranged plan o named (inr (fault, is_fault, e, is_no)) = (e.verdict, inr (fault, is_fault, e.told), explained_same p plan fault o ranged named e is_no)
+verdict_same p ranged plan o named (inr (fault, is_fault, e, is_no)) = (e.verdict, inr (fault, is_fault, e.reported), explained_same p plan fault o ranged named e is_no)
 
 -- ---- all of them
 

@@ -1,37 +1,10 @@
 -- Each output without reasons is shorter than 2 ^ 64 bytes.
-use Rattle.std.proofs.Common.{◌≡◌, ℕ, suc, zero, ◌+◌, ◌*◌, ◌^◌, ◌<◌, ◌≤◌, Bool, true, false, if◌then◌else◌, List, [], ◌∷◌, ◌++◌, length, codes, length-append, arith, refl, sym, subst, inl, inr, Option, Some, None, Result, Ok, Err}
-use Rattle.std.specs.Prelude.{decimal, option_map, ◌==◌, ◌/◌, ◌%◌}
-use Rattle.std.specs.Fmt.{digits, digits_onto, digit_glyph}
-use Rattle.std.proofs.lemmas.Option.{none-some}
-use Rattle.sas_core.specs.declared.parts.Parts.{Parts}
-use Rattle.sas_core.specs.PlanParts.{PlanParts}
-use Rattle.sas_core.specs.FirstFault.{first_fault}
-use Rattle.sas_lines.specs.Lines.{text}
-use Rattle.sas_meaning.specs.declared.layered.LayerFault.{LayerFault}
+use Rattle.sas_requests.proofs.Imports.{◌≡◌, ℕ, suc, zero, ◌+◌, ◌*◌, ◌^◌, ◌<◌, ◌≤◌, Bool, true, false, if◌then◌else◌, List, [], ◌∷◌, ◌++◌, length, codes, length-append, arith, refl, sym, subst, inl, inr, Option, Some, None, Result, Ok, Err, decimal, option_map, ◌==◌, ◌/◌, ◌%◌, digits, digits_onto, digit_glyph, none-some, Parts, PlanParts, first_fault, text, LayerFault, layer_checks, Verdict}
+use Rattle.sas_requests.proofs.Imports.{Exclusive, Derived, Initial, Broken, PlanFault, Fault, Kind, ValueOf, Format, ReadsAs, most_bytes, plan_format, task_format, outline_of, Yes, No, Output, layers_refusal, layers_verdict, CheckAnswer, LayeredGroupsAnswer, MutexAnswer, valid_answer, VerdictAnswer, words_at_part, layer_words, layers_line, step_words, goal_words, sum_words, fault_words}
+use Rattle.sas_requests.proofs.Imports.{invalid_line, verdict_words, group_line, verdict_lines_from, Show, Print, Steps, Check, Plan, Mutex, word_of, refusal_line, refusal, IsAnswerOrRefusal, ShowAnswer, PrintAnswer, FileOut, UnlayeredAnswer, plain_refusal, ShortOutput, text_short}
 use Rattle.sas_meaning.specs.declared.layered.LayerFault.TheVariants as layer_fault
-use Rattle.sas_meaning.specs.LayerChecks.{layer_checks}
-use Rattle.sas_groups.specs.declared.verdict.Verdict.{Verdict}
-use Rattle.sas_groups.specs.declared.verdict.Verdict.TheVariants.{Exclusive, Derived, Initial, Broken}
-use Rattle.sas_run.specs.declared.plan_check.PlanFault.{PlanFault}
 use Rattle.sas_run.specs.declared.plan_check.PlanFault.TheVariants as plan_fault
-use Rattle.sas_reader.specs.declared.fault.Fault.{Fault}
-use Rattle.sas_reader.specs.declared.fault.Kind.{Kind}
 use Rattle.sas_reader.specs.declared.fault.Kind.TheVariants as kinds
-use Rattle.sas_reader.specs.Devices.{ValueOf}
-use Rattle.sas_reader.specs.Format.{Format, ReadsAs}
-use Rattle.sas_reader.specs.Limit.{most_bytes}
-use Rattle.sas_plan_file.specs.PlanFormat.{plan_format}
-use Rattle.sas_task_format.specs.TaskFormat.{task_format}
-use Rattle.sas_flat.specs.Outlines.{outline_of}
-use Rattle.sas_output.specs.declared.ending.Status.TheVariants.{Yes, No}
-use Rattle.sas_output.specs.Ending.{Output}
-use Rattle.sas_answers.specs.Answers.{layers_refusal, layers_verdict, CheckAnswer, LayeredGroupsAnswer, MutexAnswer, valid_answer, VerdictAnswer}
-use Rattle.sas_answers.specs.LayerWords.{words_at_part, layer_words, layers_line}
-use Rattle.sas_answers.specs.PlanWords.{step_words, goal_words, sum_words, fault_words, invalid_line}
-use Rattle.sas_answers.specs.GroupWords.{verdict_words, group_line, verdict_lines_from}
-use Rattle.sas_outputs.specs.declared.Request.TheVariants.{Show, Print, Steps, Check, Plan, Mutex}
-use Rattle.sas_outputs.specs.Output.{word_of, refusal_line, refusal, IsAnswerOrRefusal, ShowAnswer, PrintAnswer, FileOut, UnlayeredAnswer, plain_refusal, ShortOutput}
-use Rattle.sas_outputs.proofs.Lengths.{text_short}
 use Rattle.sas_requests.proofs.SummaryLengths.{summary_fits}
 
 -- ---- numbers
@@ -225,7 +198,7 @@ short_output Print b c = file_short task_format (codes "task") (omega arith) (Pr
 short_output Steps b c = file_short plan_format (codes "plan") (omega arith) (PrintAnswer plan_format) c (printed_short plan_format c)
 short_output Check b c = file_short task_format (codes "task") (omega arith) CheckAnswer b (λ p value. layered_short (first_fault (layer_checks p)))
 short_output Plan b c = λ o out. elim out [
-  | inl refused ↦ file_short task_format (codes "task") (omega arith) (UnlayeredAnswer plain_refusal) b (λ p value o (fault, first, told). layers_short fault o told) o refused
+  | inl refused ↦ file_short task_format (codes "task") (omega arith) (UnlayeredAnswer plain_refusal) b (λ p value o (fault, first, reported). layers_short fault o reported) o refused
   | inr (p, reads, layered, judged) ↦ file_short plan_format (codes "plan") (omega arith) (VerdictAnswer p) c (λ plan value. verdict_short p plan) o judged
 ]
 short_output Mutex b c = file_short task_format (codes "task") (omega arith) MutexAnswer b (λ p value. mutex_short b p value (first_fault (layer_checks p)))

@@ -1,30 +1,8 @@
--- How long a summary is. What is read of a task is at most 4 GiB, and so a `usize` tells the length of its summary.
-use Rattle.std.proofs.Common.{◌≡◌, ℕ, suc, zero, ◌+◌, ◌*◌, ◌^◌, ◌<◌, ◌≤◌, Bool, true, false, if◌then◌else◌, List, [], ◌∷◌, ◌++◌, length, map, codes, length-append, arith, refl, sym, ap, subst, ◌∙◌, inl, inr, Option, Some, None}
-use Rattle.std.specs.Prelude.{◌⊎◌, decimal, slice_get, is_some}
-use Rattle.std.specs.Option.{option_map_or}
-use Rattle.std.specs.List.{enumerate_from, flat_map}
-use Rattle.std.proofs.lemmas.Fmt.{length-decimal-le}
-use Rattle.std.proofs.lemmas.Grind.{flat_map-append}
-use Rattle.std.proofs.lemmas.List.{map-append}
-use Rattle.std.proofs.lemmas.Bool.{cases_lt}
-use Rattle.std.proofs.lemmas.List.Sums.{count_by-le-length}
-use Rattle.std.proofs.lemmas.Option.{none-some}
-use Rattle.std.proofs.Math.Nat.{mul-le-mul_left}
-use Rattle.sas_core.specs.declared.parts.Fact.{Fact}
-use Rattle.sas_core.specs.declared.parts.Variable.{Variable}
-use Rattle.sas_core.specs.declared.parts.Parts.{Parts}
-use Rattle.sas_core.specs.WellRanged.{WellRanged}
-use Rattle.sas_lines.specs.Lines.{text}
-use Rattle.sas_reader.specs.Devices.{ValueOf}
-use Rattle.sas_task_format.specs.TaskFormat.{TaskLine, word, name, number, signed, fact, task_line_bytes, line, between, counted, version_lines, metric_lines, variable_lines, group_lines, state_lines, operator_lines, rule_lines, task_layout, task_format}
+-- How long a summary is. What is read of a task is at most 4 GiB, and so a `usize` holds the length of its summary.
+use Rattle.sas_requests.proofs.Imports.{◌≡◌, ℕ, suc, zero, ◌+◌, ◌*◌, ◌^◌, ◌<◌, ◌≤◌, Bool, true, false, if◌then◌else◌, List, [], ◌∷◌, ◌++◌, length, map, codes, length-append, arith, refl, sym, ap, subst, ◌∙◌, inl, inr, Option, Some, None, ◌⊎◌, decimal, slice_get, is_some, option_map_or, enumerate_from, flat_map, length-decimal-le, flat_map-append, map-append, cases_lt, count_by-le-length}
+use Rattle.sas_requests.proofs.Imports.{none-some, mul-le-mul_left, Fact, Variable, Parts, WellRanged, text, ValueOf, TaskLine, word, name, number, signed, fact, task_line_bytes, line, between, counted, version_lines, metric_lines, variable_lines, group_lines, state_lines, operator_lines, rule_lines, task_layout, task_format, Outline, OutlineOf, outline_of, value_name, fact_line, fact_lines}
+use Rattle.sas_requests.proofs.Imports.{derived_count, number_line, number_lines, initial_lines, goal_fact_lines, summary_lines, text_short, goal_text, initial_text, goal_is, initial_is, summary_is}
 use Rattle.sas_task_format.specs.TaskFormat as file
-use Rattle.sas_flat.specs.declared.outline.Outline.{Outline}
-use Rattle.sas_task_reader.specs.Outline.{OutlineOf}
-use Rattle.sas_flat.specs.Outlines.{outline_of}
-use Rattle.sas_core.specs.Variables.{value_name}
-use Rattle.sas_outputs.specs.Summary.{fact_line, fact_lines, derived_count, number_line, number_lines, initial_lines, goal_fact_lines, summary_lines}
-use Rattle.sas_outputs.proofs.Lengths.{text_short}
-use Rattle.sas_outputs.proofs.Summaries.{goal_text, initial_text, goal_is, initial_is, summary_is}
 
 -- ---- how many bytes lines of a file take
 

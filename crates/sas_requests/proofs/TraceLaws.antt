@@ -1,14 +1,5 @@
 -- Behind a trace stands the output of `plan`.
-use Rattle.std.proofs.Common.{◌≡◌, ℕ, List, [], ◌++◌, codes, refl, subst, inl, inr, Some, Result, Ok, Err}
-use Rattle.sas_core.specs.declared.parts.Parts.{Parts}
-use Rattle.sas_core.specs.PlanParts.{PlanParts}
-use Rattle.sas_lines.specs.Lines.{text}
-use Rattle.sas_reader.specs.declared.fault.Fault.{Fault}
-use Rattle.sas_output.specs.Ending.{Output}
-use Rattle.sas_answers.specs.Answers.{VerdictAnswer}
-use Rattle.sas_outputs.specs.Output.{IsAnswerOrRefusal, PlanOut}
-use Rattle.sas_trace.specs.Trace.{run_lines}
-use Rattle.sas_trace.specs.Traced.{EndsWith, TraceVerdict}
+use Rattle.sas_requests.proofs.Imports.{◌≡◌, ℕ, List, [], ◌++◌, codes, refl, subst, inl, inr, Some, Result, Ok, Err, Parts, PlanParts, text, Fault, Output, VerdictAnswer, IsAnswerOrRefusal, PlanOut, run_lines, EndsWith, TraceVerdict}
 use Rattle.sas_requests.specs.TraceOut.{EndsAsPlan, TraceOut}
 
 -- the output is some lines, and behind them this one, with its status

@@ -1,31 +1,8 @@
 -- What is said of a plan with reasons: one thing, and always something; and that it is valid exactly where it is. And what is said
 -- of a task that isn't layered.
-use Rattle.std.proofs.Common.{◌≡◌, ℕ, ◌<◌, List, [], ◌++◌, get_or, refl, sym, ap, subst, ◌∙◌, inl, inr, Some, None, Option, arith}
-use Rattle.std.specs.Prelude.{option_map}
-use Rattle.std.proofs.lemmas.Option.{none-some}
-use Rattle.sas_core.specs.declared.parts.Parts.{Parts}
-use Rattle.sas_core.specs.PlanParts.{PlanParts}
-use Rattle.sas_lines.specs.Lines.{text}
-use Rattle.sas_meaning.specs.declared.layered.LayerFault.{LayerFault}
-use Rattle.sas_meaning.specs.Layers.{IsLayered}
-use Rattle.sas_run.specs.declared.plan_check.PlanFault.{PlanFault}
-use Rattle.sas_run.specs.declared.plan_check.PlanFault.TheVariants.{Memory, NoOperator, NotApplicable, Conflict, GoalMissed, CostDiffers}
-use Rattle.sas_run.specs.Verdicts.{IsFaultOf}
-use Rattle.sas_run.proofs.PlanVerdicts.{some_verdict, valid_has_no_fault, fault_is_one}
-use Rattle.sas_output.specs.declared.ending.Status.TheVariants.{No}
-use Rattle.sas_output.specs.Ending.{Output}
-use Rattle.sas_answers.specs.Answers.{layers_refusal, valid_answer, invalid_answer}
-use Rattle.sas_answers.specs.PlanWords.{valid_line, fault_words, invalid_line}
-use Rattle.sas_task_reasons.specs.WhyLayers.{layer_reasons, with_reasons, why_refusal}
-use Rattle.sas_task_reasons.proofs.TaskAnswers.{refused_why}
-use Rattle.sas_output.specs.declared.line.Line.{Line}
-use Rattle.sas_output.specs.Line.{reasons_text}
-use Rattle.sas_reasons.proofs.WhyPlan.{one_why, some_why}
-use Rattle.sas_why.specs.Verdict.{WhyVerdict, Explains}
-use Rattle.sas_outputs.proofs.Headlines.{TellsValid}
-use Rattle.sas_outputs.proofs.Outputs.{same_output}
-use Rattle.sas_outputs.proofs.PlanOutputs.{OneVerdictAnswer, SomeVerdictAnswer, IsRefusal, Refuses}
-use Rattle.sas_answers.proofs.WordedLines.{worded}
+use Rattle.sas_requests.proofs.Imports.{◌≡◌, ℕ, ◌<◌, List, [], ◌++◌, get_or, refl, sym, ap, subst, ◌∙◌, inl, inr, Some, None, Option, arith, option_map, none-some, Parts, PlanParts, text, LayerFault, IsLayered, PlanFault, NoOperator, NotApplicable, Conflict, GoalMissed, CostDiffers, IsFaultOf, some_verdict, valid_has_no_fault, fault_is_one, No, Output, layers_refusal, valid_answer, invalid_answer}
+use Rattle.sas_requests.proofs.Imports.{valid_line, fault_words, invalid_line, layer_reasons, with_reasons, why_refusal, refused_why, Line, reasons_text, one_why, some_why, WhyVerdict, Explains, ReportsValid, same_output, OneVerdictAnswer, SomeVerdictAnswer, IsRefusal, Refuses, worded}
+use Rattle.sas_run.specs.declared.plan_check.PlanFault.TheVariants.{Memory}
 
 -- ---- the verdict on a plan is the text's first line
 
@@ -37,14 +14,14 @@ line_apart words behind steps cost e = not_same 105 118 (omega arith) (sym (ap (
 
 explained_apart : (p : Parts) (plan : PlanParts) (fault : PlanFault) (bytes : List ℕ) (steps cost : ℕ) → Explains p plan fault bytes → bytes ≡ valid_line steps cost → ⊥
 explained_apart p plan fault bytes steps cost e is =
-    let w = worded (fault_words plan.cost fault) invalid_line e.verdict e.told in
+    let w = worded (fault_words plan.cost fault) invalid_line e.verdict e.reported in
     line_apart w.said (reasons_text p plan.steps e.reasons) steps cost (ap (λ (t : List ℕ). t ++ reasons_text p plan.steps e.reasons) (sym w.text) ∙ (sym e.whole ∙ is))
 
 -- ---- one answer
 
 explained_one : (p : Parts) (plan : PlanParts) (fault : PlanFault) (a b : List ℕ) → IsLayered p → Explains p plan fault a → Explains p plan fault b → a ≡ b
 explained_one p plan fault a b layered x y =
-    let told : Some x.verdict ≡ Some y.verdict = sym x.told ∙ y.told in
+    let reported : Some x.verdict ≡ Some y.verdict = sym x.reported ∙ y.reported in
     let verdict : x.verdict ≡ y.verdict = cc in
     let reasons = one_why p plan fault x.reasons y.reasons layered x.why y.why in
     x.whole
@@ -68,34 +45,34 @@ one_why_verdict p layered plan o q a b = elim a [
 
 -- ---- and always some answer
 
--- each fault is told
-some_told : (p : Parts) (plan : PlanParts) (fault : PlanFault) → IsFaultOf p plan fault → (o : Output) × (invalid_answer plan.cost fault ≡ Some o)
-some_told p plan Memory f = absurd f
-some_told p plan (NoOperator step) f = (_, refl)
-some_told p plan (NotApplicable step) f = (_, refl)
-some_told p plan (Conflict step operator) f = (_, refl)
-some_told p plan (GoalMissed index) f = (_, refl)
-some_told p plan (CostDiffers sum) f = (_, refl)
+-- each fault is reported
+some_reported : (p : Parts) (plan : PlanParts) (fault : PlanFault) → IsFaultOf p plan fault → (o : Output) × (invalid_answer plan.cost fault ≡ Some o)
+some_reported p plan Memory f = absurd f
+some_reported p plan (NoOperator step) f = (_, refl)
+some_reported p plan (NotApplicable step) f = (_, refl)
+some_reported p plan (Conflict step operator) f = (_, refl)
+some_reported p plan (GoalMissed index) f = (_, refl)
+some_reported p plan (CostDiffers sum) f = (_, refl)
 
 explained : (p : Parts) (plan : PlanParts) (fault : PlanFault) → IsLayered p → IsFaultOf p plan fault → (o : Output) × WhyVerdict p plan o
 explained p plan fault layered is =
-    let told = some_told p plan fault is in
+    let reported = some_reported p plan fault is in
     let why = some_why p plan fault layered is in (
-      record { text = told.0.text ++ reasons_text p plan.steps why.0; status = No },
-      inr (fault, is, record { verdict = told.0; told = told.1; reasons = why.0; why = why.1; whole = refl }, refl),
+      record { text = reported.0.text ++ reasons_text p plan.steps why.0; status = No },
+      inr (fault, is, record { verdict = reported.0; reported = reported.1; reasons = why.0; why = why.1; whole = refl }, refl),
     )
 
 pub some_why_verdict : SomeVerdictAnswer WhyVerdict
 some_why_verdict p ranged layered plan none = elim (some_verdict p plan ranged layered) [
   | inl valid ↦ none (valid_answer plan) (inl (valid, refl))
-  | inr fault ↦ (let told = explained p plan fault.0 layered fault.1 in none told.0 told.1)
+  | inr fault ↦ (let reported = explained p plan fault.0 layered fault.1 in none reported.0 reported.1)
 ]
 
 -- ---- valid or not
 
-pub why_tells_valid : TellsValid WhyVerdict
-why_tells_valid = record {
-  told = λ p plan o verdict. elim verdict [
+pub why_reports_valid : ReportsValid WhyVerdict
+why_reports_valid = record {
+  reported = λ p plan o verdict. elim verdict [
     | inl x ↦ inl x
     | inr x ↦ inr (record { status = x.3; text = λ steps cost. explained_apart p plan x.0 o.text steps cost x.2 })
   ];
@@ -106,17 +83,17 @@ why_tells_valid = record {
 
 why_of : (p : Parts) (fault : LayerFault) (found : Option Output) (o : Output) → layers_refusal fault ≡ found → option_map (with_reasons (reasons_text p [] (layer_reasons p fault))) found ≡ Some o
     → (plain : Output) × (layers_refusal fault ≡ Some plain) × (o ≡ with_reasons (reasons_text p [] (layer_reasons p fault)) plain)
-why_of p fault None o is told = absurd (none-some o told)
-why_of p fault (Some plain) o is told = (plain, is, let same : with_reasons (reasons_text p [] (layer_reasons p fault)) plain ≡ o = cc in sym same)
+why_of p fault None o is reported = absurd (none-some o reported)
+why_of p fault (Some plain) o is reported = (plain, is, let same : with_reasons (reasons_text p [] (layer_reasons p fault)) plain ≡ o = cc in sym same)
 
 -- its refusal is the one without reasons, with them behind
 pub why_is : (p : Parts) (fault : LayerFault) (o : Output) → why_refusal p fault ≡ Some o → (plain : Output) × (layers_refusal fault ≡ Some plain) × (o ≡ with_reasons (reasons_text p [] (layer_reasons p fault)) plain)
-why_is p fault o told = why_of p fault (layers_refusal fault) o refl told
+why_is p fault o reported = why_of p fault (layers_refusal fault) o refl reported
 
 refusal_is : (p : Parts) (fault : LayerFault) (o : Output) → why_refusal p fault ≡ Some o → IsRefusal fault o
-refusal_is p fault o told =
-    let (plain, is, same) = why_is p fault o told in
+refusal_is p fault o reported =
+    let (plain, is, same) = why_is p fault o reported in
     record { plain = plain; is = is; status = ap (λ (x : Output). x.status) same; behind = reasons_text p [] (layer_reasons p fault); text = ap (λ (x : Output). x.text) same }
 
 pub why_refuses : Refuses why_refusal
-why_refuses = record { some = λ p fault plain is. (_, refused_why p fault plain is); told = refusal_is }
+why_refuses = record { some = λ p fault plain is. (_, refused_why p fault plain is); reported = refusal_is }

@@ -53,13 +53,13 @@ abbrev pub UnlayeredBy : Detail → Parts → Output → Type 0
 UnlayeredBy detail = UnlayeredAnswer (layers_by detail)
 
 -- an output, behind which these reasons may stand
-abbrev pub told_by : Detail → List FileLine → Option Output → Option Output
-told_by Reasons reasons output = option_map (with_reasons (file_text reasons)) output
-told_by detail reasons output = output
+abbrev pub reported_by : Detail → List FileLine → Option Output → Option Output
+reported_by Reasons reasons output = option_map (with_reasons (file_text reasons)) output
+reported_by detail reasons output = output
 
 -- the refusal of the file of this name for its fault
 abbrev pub refusal_by : Detail → List ℕ → Fault → List FileLine → Option Output
-refusal_by detail name fault reasons = told_by detail reasons (refusal name fault)
+refusal_by detail name fault reasons = reported_by detail reasons (refusal name fault)
 
 -- the reasons why a task is refused, and a plan
 abbrev pub task_refusal_lines : TaskRefusal → List FileLine

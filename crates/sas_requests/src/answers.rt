@@ -21,7 +21,7 @@ use sas_answers::accept_layers;
 use sas_flat::FlatTask;
 use sas_lines::Watched;
 use sas_meaning::Layered;
-use sas_output::Told;
+use sas_output::Answer;
 use sas_outputs::Summary;
 use sas_plan_file::read_plan_text;
 use sas_task_reader::{read_outline, read_task_text};
@@ -101,11 +101,11 @@ fn print<R: Read, W: Write>(
 {
     match read_task_text(alloc, task) {
         Ok(text) => {
-            let told = Told {
+            let reported = Answer {
                 text,
                 status: Status::Yes,
             };
-            told.write(out)
+            reported.write(out)
         }
         Err(refusal) => refuse_task(alloc, detail, refusal, out),
     }
@@ -128,11 +128,11 @@ fn steps<R: Read, W: Write>(
 {
     match read_plan_text(alloc, plan) {
         Ok(text) => {
-            let told = Told {
+            let reported = Answer {
                 text,
                 status: Status::Yes,
             };
-            told.write(out)
+            reported.write(out)
         }
         Err(refusal) => refuse_plan(alloc, detail, refusal, out),
     }

@@ -68,7 +68,7 @@ fn refuse_unlayered<W: Write>(
 ) -> Result<Status, ToolFault>
     requires { out.old.failed ≡ false }
     ensures ends { EndsCounting
-        (λ output. IsSomeAnd output (λ told. layers_by detail task.now fault ≡ Some told))
+        (λ output. IsSomeAnd output (λ reported. layers_by detail task.now fault ≡ Some reported))
         (Appends (W.contents out.old.device) (W.contents out.new.device)) result }
     ensures nothing { IfErr result (λ e. IsWrite e
         ⊎ ((e ≡ ToolFault.Memory) × (out.new ≡ out.old))) }

@@ -1,15 +1,5 @@
 -- It is decidable which operator a name means, and which fact is the first that doesn't hold.
-use Rattle.std.proofs.Common.{◌≡◌, ℕ, zero, suc, ◌<◌, ◌⊎◌, List, [], ◌∷◌, length, slice_index, slice_index_or, bytes_eq, subst, inl, inr, arith}
-use Rattle.std.proofs.lemmas.Bool.{cases_eq, cases_lt, cases_Bool}
-use Rattle.std.proofs.lemmas.Slice.Eq.{bytes_eq-Decides}
-use Rattle.std.proofs.lemmas.List.Elements.{All-nil, All-cons}
-use Rattle.sas_core.specs.declared.parts.Fact.{Fact}
-use Rattle.sas_core.specs.declared.parts.Parts.{Parts}
-use Rattle.sas_core.specs.Grounded.{operator_at}
-use Rattle.sas_meaning.specs.States.{Holds, AllHold}
-use Rattle.sas_meaning.specs.Steps.{preconditions}
-use Rattle.sas_meaning.proofs.Facts.{hold_or_not}
-use Rattle.sas_names.specs.Named.{IsNamed}
+use Rattle.sas_run.proofs.Imports.{◌≡◌, ℕ, zero, suc, ◌<◌, ◌⊎◌, List, [], ◌∷◌, length, slice_index, slice_index_or, bytes_eq, subst, inl, inr, arith, cases_eq, cases_lt, cases_Bool, bytes_eq-Decides, All-nil, All-cons, Fact, Parts, operator_at, Holds, AllHold, preconditions, hold_or_not, IsNamed}
 use Rattle.sas_run.specs.Plans.{IsApplicable, NoneApplicable, IsChosen}
 use Rattle.sas_run.specs.Verdicts.{IsFirstMissed}
 

@@ -1,15 +1,5 @@
 -- The facts that are deleted while given values are written into a state.
-use Rattle.std.proofs.Common.{◌≡◌, ◌≢◌, ℕ, ◌+◌, ◌<◌, ◌≤◌, List, [], ◌∷◌, ◌++◌, length, get_or, set, Option, None, Some, refl, sym, ◌∙◌, ap, subst, inl, inr, arith}
-use Rattle.std.specs.List.{All, AllPairs}
-use Rattle.std.proofs.lemmas.Bool.{cases_eq}
-use Rattle.std.proofs.lemmas.List.{get_or-set_same, get_or-set_other, get_or_append_left, get_or_push, length-append}
-use Rattle.std.proofs.lemmas.List.Elements.{All-nil, All-push, All-weaker}
-use Rattle.std.proofs.lemmas.List.Quantifiers.{all_pairs_push}
-use Rattle.sas_core.specs.declared.parts.Fact.{Fact}
-use Rattle.sas_core.specs.declared.parts.Parts.{Parts}
-use Rattle.sas_meaning.specs.States.{Holds, AllHold}
-use Rattle.sas_meaning.specs.Layers.{IsBasic}
-use Rattle.sas_meaning.specs.Following.{HaveGone}
+use Rattle.sas_run.proofs.Imports.{◌≡◌, ◌≢◌, ℕ, ◌+◌, ◌<◌, ◌≤◌, List, [], ◌∷◌, ◌++◌, length, get_or, set, Option, None, Some, refl, sym, ◌∙◌, ap, subst, inl, inr, arith, All, AllPairs, cases_eq, get_or-set_same, get_or-set_other, get_or_append_left, get_or_push, length-append, All-nil, All-push, All-weaker, all_pairs_push, Fact, Parts, Holds, AllHold, IsBasic, HaveGone}
 use Rattle.sas_run.specs.declared.deletions.Deleted.{Deleted}
 use Rattle.sas_run.specs.Deletions.{HasRoom, NotesOn}
 use Rattle.sas_run.specs.Given.{given_to, Replaces}

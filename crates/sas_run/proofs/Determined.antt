@@ -1,12 +1,5 @@
 -- Steps are executable in at most one way.
-use Rattle.std.proofs.Common.{◌≡◌, ℕ, ◌<◌, List, [], ◌∷◌, ◌++◌, length, refl, sym, ◌∙◌, ap, subst, inl, inr, arith}
-use Rattle.std.proofs.lemmas.Bool.{cases_lt}
-use Rattle.sas_core.specs.declared.parts.Parts.{Parts}
-use Rattle.sas_core.specs.Grounded.{operator_at}
-use Rattle.sas_meaning.specs.Layers.{IsLayered}
-use Rattle.sas_meaning.specs.Steps.{Step}
-use Rattle.sas_meaning.specs.Reachable.{IsInitial}
-use Rattle.sas_meaning.proofs.Unique.{settled_is_one, step_is_one}
+use Rattle.sas_run.proofs.Imports.{◌≡◌, ℕ, ◌<◌, List, [], ◌∷◌, ◌++◌, length, refl, sym, ◌∙◌, ap, subst, inl, inr, arith, cases_lt, Parts, operator_at, IsLayered, Step, IsInitial, settled_is_one, step_is_one}
 use Rattle.sas_run.specs.Plans.{IsChosen, LeadTo, LeadsTo}
 use Rattle.sas_run.specs.Verdicts.{ComesTo}
 

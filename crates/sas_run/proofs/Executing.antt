@@ -1,20 +1,5 @@
 -- An execution advances along its run.
-use Rattle.std.proofs.Common.{◌≡◌, ℕ, ◌+◌, ◌<◌, ◌≤◌, List, [], length, get_or, Option, None, Result, Ok, Err, refl, sym, ◌∙◌, ap, subst, inl, inr, arith, rules}
-use Rattle.std.specs.Prelude.{IsTrue, vec_capacity}
-use Rattle.std.specs.Result.{IsOk}
-use Rattle.std.proofs.lemmas.Bool.{cases_lt}
-use Rattle.std.proofs.lemmas.List.{get_or-take, get_or_default, length-take}
-use Rattle.sas_core.specs.declared.parts.Parts.{Parts}
-use Rattle.sas_core.specs.Grounded.{operator_at}
-use Rattle.sas_core.specs.PlanParts.{PlanParts}
-use Rattle.sas_core.specs.Variables.{IsState}
-use Rattle.sas_meaning.specs.Layers.{IsLayered}
-use Rattle.sas_meaning.specs.Reachable.{IsInitial}
-use Rattle.sas_meaning.specs.Steps.{Step}
-use Rattle.sas_meaning.proofs.Unique.{step_is_one}
-use Rattle.sas_names.specs.Chains.{IsChain, HaveChains}
-use Rattle.sas_names.specs.Named.{IsNamed}
-use Rattle.sas_names.specs.Names.{AreFirsts, IsNextNamed}
+use Rattle.sas_run.proofs.Imports.{◌≡◌, ℕ, ◌+◌, ◌<◌, ◌≤◌, List, [], length, get_or, Option, None, Result, Ok, Err, refl, sym, ◌∙◌, ap, subst, inl, inr, arith, rules, IsTrue, vec_capacity, IsOk, cases_lt, get_or-take, get_or_default, length-take, Parts, operator_at, PlanParts, IsState, IsLayered, IsInitial, Step, step_is_one, IsChain, HaveChains, IsNamed, AreFirsts, IsNextNamed}
 use Rattle.sas_run.specs.declared.plan_check.PlanFault.{PlanFault}
 use Rattle.sas_run.specs.declared.progress.Progress.{Progress}
 use Rattle.sas_run.specs.declared.stepper.Stepper.{Stepper}

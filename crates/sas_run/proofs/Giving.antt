@@ -1,16 +1,5 @@
 -- The values that effects give, for one more effect, and the state after they are written.
-use Rattle.std.proofs.Common.{◌≡◌, ◌≢◌, ℕ, ◌+◌, ◌<◌, ◌≤◌, List, length, get_or, set, Option, None, Some, refl, sym, ◌∙◌, ap, subst, inl, inr, arith}
-use Rattle.std.specs.Prelude.{unwrap_or}
-use Rattle.std.proofs.lemmas.Bool.{cases_eq}
-use Rattle.std.proofs.lemmas.List.{get_or_default, get_or-set_same, get_or-set_other, length-set}
-use Rattle.sas_core.specs.declared.parts.Effect.{Effect}
-use Rattle.sas_core.specs.declared.parts.Operator.{Operator}
-use Rattle.sas_core.specs.declared.parts.Parts.{Parts}
-use Rattle.sas_core.specs.Grounded.{effect_at}
-use Rattle.sas_core.specs.Variables.{HasValue, IsState}
-use Rattle.sas_core.specs.WellRanged.{EffectFits}
-use Rattle.sas_meaning.specs.States.{AllHold}
-use Rattle.sas_meaning.specs.Steps.{preconditions, Fires}
+use Rattle.sas_run.proofs.Imports.{◌≡◌, ◌≢◌, ℕ, ◌+◌, ◌<◌, ◌≤◌, List, length, get_or, set, Option, None, Some, refl, sym, ◌∙◌, ap, subst, inl, inr, arith, unwrap_or, cases_eq, get_or_default, get_or-set_same, get_or-set_other, length-set, Effect, Operator, Parts, effect_at, HasValue, IsState, EffectFits, AllHold, preconditions, Fires}
 use Rattle.sas_run.specs.Given.{given_to, value_after, NothingGiven, IsGiven, IsGivenTo, GivesValue, GivesOther}
 use Rattle.sas_run.specs.Running.{IsApplied, IsFirstConflict}
 use Rattle.sas_run.proofs.Ranges.{no_effect}

@@ -1,10 +1,5 @@
 -- One more step succeeds or fails.
-use Rattle.std.proofs.Common.{◌≡◌, ℕ, Result, Err, ◌+◌, ◌<◌, List, [], ◌∷◌, ◌++◌, length, take, drop, get_or, sym, subst, ap, refl, ◌∙◌, arith}
-use Rattle.std.proofs.lemmas.List.{take-append-drop, drop_more}
-use Rattle.std.proofs.lemmas.Grind.{common_steps}
-use Rattle.sas_core.specs.declared.parts.Parts.{Parts}
-use Rattle.sas_core.specs.Grounded.{operator_at}
-use Rattle.sas_meaning.specs.Steps.{Step}
+use Rattle.sas_run.proofs.Imports.{◌≡◌, ℕ, Result, Err, ◌+◌, ◌<◌, List, [], ◌∷◌, ◌++◌, length, take, drop, get_or, sym, subst, ap, refl, ◌∙◌, arith, take-append-drop, drop_more, common_steps, Parts, operator_at, Step}
 use Rattle.sas_run.specs.Plans.{IsChosen, LeadTo, LeadsTo}
 use Rattle.sas_run.specs.Running.{MakesStep}
 

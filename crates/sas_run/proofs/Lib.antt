@@ -13,3 +13,4 @@ pub mod PlanStates
 pub mod Runs
 pub mod Endings
 pub mod Executing
+mod Imports

@@ -1,9 +1,5 @@
 -- The index of the first fact that doesn't hold, in a list of several parts.
-use Rattle.std.proofs.Common.{◌≡◌, ◌≢◌, ℕ, ◌+◌, ◌-◌, List, ◌∷◌, ◌++◌, length, get_or, refl, sym, ◌∙◌, ap, subst, inl, inr, arith}
-use Rattle.std.proofs.lemmas.Bool.{cases_lt}
-use Rattle.std.proofs.lemmas.List.{get_or_append_left, get_or-append-add, length-append}
-use Rattle.sas_core.specs.declared.parts.Fact.{Fact}
-use Rattle.sas_meaning.specs.States.{Holds, AllHold}
+use Rattle.sas_run.proofs.Imports.{◌≡◌, ◌≢◌, ℕ, ◌+◌, ◌-◌, List, ◌∷◌, ◌++◌, length, get_or, refl, sym, ◌∙◌, ap, subst, inl, inr, arith, cases_lt, get_or_append_left, get_or-append-add, length-append, Fact, Holds, AllHold}
 use Rattle.sas_run.specs.Running.{IsFirstMissedFact}
 
 -- the first such fact after facts that hold is the first in the whole list

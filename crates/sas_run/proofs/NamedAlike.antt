@@ -1,12 +1,5 @@
 -- The operators of one name, in order.
-use Rattle.std.proofs.Common.{◌≡◌, ℕ, ◌+◌, ◌<◌, ◌≤◌, List, get_or, Option, None, Some, sym, subst, inl, inr, arith}
-use Rattle.std.proofs.lemmas.Bool.{cases_eq, cases_lt}
-use Rattle.sas_core.specs.declared.parts.Parts.{Parts}
-use Rattle.sas_core.specs.Grounded.{operator_at}
-use Rattle.sas_names.proofs.Searching.{left}
-use Rattle.sas_names.specs.Chains.{IsChain}
-use Rattle.sas_names.specs.Named.{IsNamed}
-use Rattle.sas_names.specs.Names.{IsNextNamed}
+use Rattle.sas_run.proofs.Imports.{◌≡◌, ℕ, ◌+◌, ◌<◌, ◌≤◌, List, get_or, Option, None, Some, sym, subst, inl, inr, arith, cases_eq, cases_lt, Parts, operator_at, left, IsChain, IsNamed, IsNextNamed}
 use Rattle.sas_run.specs.Plans.{IsApplicable}
 use Rattle.sas_run.specs.Running.{IsFirstChosen}
 

@@ -1,24 +1,7 @@
 -- An applicable operator whose effects agree has a step. It is decidable whether an operator has a
 -- step.
-use Rattle.std.proofs.Common.{◌≡◌, ℕ, zero, suc, ◌<◌, ◌⊎◌, List, [], ◌∷◌, length, get_or, set, slice_index, None, refl, sym, ◌∙◌, subst, inl, inr, arith}
-use Rattle.std.specs.List.{All}
-use Rattle.std.proofs.lemmas.Bool.{cases_eq}
-use Rattle.std.proofs.lemmas.List.{get_or-set_same, get_or-set_other}
-use Rattle.std.proofs.lemmas.List.Elements.{All-nil, All-cons, All-head, All-tail}
-use Rattle.sas_core.specs.declared.parts.Effect.{Effect}
-use Rattle.sas_core.specs.declared.parts.Operator.{Operator}
-use Rattle.sas_core.specs.declared.parts.Parts.{Parts}
-use Rattle.sas_core.specs.Grounded.{operator_at}
-use Rattle.sas_core.specs.Variables.{HasValue, IsState}
-use Rattle.sas_core.specs.WellRanged.{EffectFits, OperatorFits, WellRanged}
-use Rattle.sas_core.proofs.Places.{holds_at}
-use Rattle.sas_meaning.specs.Layers.{IsBasic, IsLayered}
-use Rattle.sas_meaning.specs.Settled.{Settles}
-use Rattle.sas_meaning.specs.Steps.{Fires, Agree, Step}
-use Rattle.sas_meaning.proofs.Facts.{hold_or_not, Untouched}
-use Rattle.sas_meaning.proofs.Forced.{state_set, fact_within}
-use Rattle.sas_meaning.proofs.Exists.{settled_exists}
-use Rattle.sas_meaning.proofs.Settling.{settled_where_empty}
+use Rattle.sas_run.proofs.Imports.{◌≡◌, ℕ, zero, suc, ◌<◌, ◌⊎◌, List, [], ◌∷◌, length, get_or, set, slice_index, None, refl, sym, ◌∙◌, subst, inl, inr, arith, All, cases_eq, get_or-set_same, get_or-set_other, All-nil, All-cons, All-head, All-tail, Effect, Operator, Parts, operator_at, HasValue, IsState, EffectFits, OperatorFits, WellRanged, holds_at, IsBasic, IsLayered, Settles, Fires, Agree}
+use Rattle.sas_run.proofs.Imports.{Step, hold_or_not, Untouched, state_set, fact_within, settled_exists, settled_where_empty}
 use Rattle.sas_run.specs.Plans.{IsApplicable}
 use Rattle.sas_run.specs.declared.steps.StepFault.{StepFault}
 use Rattle.sas_run.specs.declared.steps.StepFault.TheVariants.{NotApplicable, Conflict}

@@ -1,25 +1,6 @@
 -- Making changes on different variables one after another.
-use Rattle.std.proofs.Common.{◌≡◌, ◌≢◌, ℕ, ◌+◌, ◌<◌, ◌≤◌, List, [], ◌∷◌, ◌++◌, length, get_or, set, Option, None, Some, refl, sym, ◌∙◌, ap, subst, inl, inr, arith}
-use Rattle.std.specs.Prelude.{filter_map, option_map}
-use Rattle.std.specs.List.{All, cons_option}
-use Rattle.std.proofs.lemmas.Bool.{cases_eq}
-use Rattle.std.proofs.lemmas.List.{get_or-set_same, get_or-set_other, get_or-map, length-map}
-use Rattle.std.proofs.lemmas.List.Elements.{All-nil, All-cons, All-head, All-tail, All-push, All-map, All-append, All-weaker, All-from_recursion}
-use Rattle.std.proofs.lemmas.List.Quantifiers.{all_pairs_push}
-use Rattle.sas_core.specs.declared.grounded.Change.{Change}
-use Rattle.sas_core.specs.declared.parts.Effect.{Effect}
-use Rattle.sas_core.specs.declared.parts.Fact.{Fact}
-use Rattle.sas_core.specs.declared.parts.Operator.{Operator}
-use Rattle.sas_core.specs.declared.parts.Parts.{Parts}
-use Rattle.sas_core.specs.Changes.{plain_effect, plain_effects}
-use Rattle.sas_core.specs.Grounded.{operator_at, effect_at}
-use Rattle.sas_core.specs.Variables.{HasValue, IsState}
-use Rattle.sas_core.specs.WellRanged.{EffectFits, WellRanged}
-use Rattle.sas_meaning.specs.Following.{HaveGone}
-use Rattle.sas_meaning.specs.Layers.{IsBasic, IsLayered}
-use Rattle.sas_meaning.specs.States.{Holds, AllHold}
-use Rattle.sas_meaning.specs.Steps.{preconditions, old_fact, Fires}
-use Rattle.sas_meaning.proofs.Forced.{fact_within, state_set}
+use Rattle.sas_run.proofs.Imports.{◌≡◌, ◌≢◌, ℕ, ◌+◌, ◌<◌, ◌≤◌, List, [], ◌∷◌, ◌++◌, length, get_or, set, Option, None, Some, refl, sym, ◌∙◌, ap, subst, inl, inr, arith, filter_map, option_map, All, cons_option, cases_eq, get_or-set_same, get_or-set_other, get_or-map, length-map, All-nil, All-cons, All-head, All-tail, All-push, All-map, All-append, All-weaker, All-from_recursion, all_pairs_push}
+use Rattle.sas_run.proofs.Imports.{Change, Effect, Fact, Operator, Parts, plain_effect, plain_effects, operator_at, effect_at, HasValue, IsState, EffectFits, WellRanged, HaveGone, IsBasic, IsLayered, Holds, AllHold, preconditions, old_fact, Fires, fact_within, state_set}
 use Rattle.sas_run.specs.Given.{Replaces}
 use Rattle.sas_run.specs.PlainSteps.{AreApart, AreMade, IsPlainStep, OldHolds}
 use Rattle.sas_run.specs.Running.{IsApplied}

@@ -1,12 +1,5 @@
 -- All states of a plan's execution are reachable, and so settled states of the task.
-use Rattle.std.proofs.Common.{ℕ, ◌<◌, List, [], ◌∷◌, length, sym, subst}
-use Rattle.std.specs.List.{All}
-use Rattle.std.proofs.lemmas.List.Elements.{All-nil, All-cons, Contains-get_or}
-use Rattle.sas_core.specs.declared.parts.Parts.{Parts}
-use Rattle.sas_core.specs.Grounded.{operator_at}
-use Rattle.sas_core.specs.Variables.{IsState}
-use Rattle.sas_meaning.specs.Reachable.{Reachable, Initial, Next}
-use Rattle.sas_meaning.specs.Settled.{IsSettled}
+use Rattle.sas_run.proofs.Imports.{ℕ, ◌<◌, List, [], ◌∷◌, length, sym, subst, All, All-nil, All-cons, Contains-get_or, Parts, operator_at, IsState, Reachable, Initial, Next, IsSettled}
 use Rattle.sas_run.specs.Plans.{LeadTo, LeadsTo}
 use Rattle.sas_run.specs.Laws.{LeadsToReachable, LastIsReachable}
 

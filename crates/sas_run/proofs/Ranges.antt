@@ -1,20 +1,5 @@
 -- The operators of a task and their effects are well ranged, and their variables exist.
-use Rattle.std.proofs.Common.{◌≡◌, ℕ, ◌<◌, List, [], ◌∷◌, length, Option, None, Some, sym, subst}
-use Rattle.std.specs.Prelude.{filter_map, option_map}
-use Rattle.std.specs.List.{All, AllByRecursion, cons_option}
-use Rattle.std.proofs.lemmas.List.Elements.{All-append, All-weaker, All-from_recursion}
-use Rattle.sas_core.specs.declared.parts.Fact.{Fact}
-use Rattle.sas_core.specs.declared.parts.Variable.{Variable}
-use Rattle.sas_core.specs.Variables.{FactExists, MayHaveValue}
-use Rattle.sas_core.specs.declared.parts.Effect.{Effect}
-use Rattle.sas_core.specs.declared.parts.Parts.{Parts}
-use Rattle.sas_core.specs.declared.grounded.Change.{Change}
-use Rattle.sas_core.specs.Changes.{effect_change}
-use Rattle.sas_core.specs.Grounded.{operator_at, effect_at}
-use Rattle.sas_core.specs.WellRanged.{WellRanged, OperatorFits, EffectFits}
-use Rattle.sas_core.proofs.Places.{holds_at}
-use Rattle.sas_meaning.specs.Steps.{old_fact, preconditions}
-use Rattle.sas_meaning.proofs.Forced.{fact_within}
+use Rattle.sas_run.proofs.Imports.{◌≡◌, ℕ, ◌<◌, List, [], ◌∷◌, length, Option, None, Some, sym, subst, filter_map, option_map, All, AllByRecursion, cons_option, All-append, All-weaker, All-from_recursion, Fact, Variable, FactExists, MayHaveValue, Effect, Parts, Change, effect_change, operator_at, effect_at, WellRanged, OperatorFits, EffectFits, holds_at, old_fact, preconditions, fact_within}
 
 -- a default for indices that are out of range
 abbrev pub no_effect : Effect

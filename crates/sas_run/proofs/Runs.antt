@@ -1,14 +1,5 @@
 -- Executable steps are those of exactly one run. Laws about runs.
-use Rattle.std.proofs.Common.{◌≡◌, ℕ, zero, suc, ◌+◌, ◌-◌, ◌<◌, ◌≤◌, List, [], ◌∷◌, ◌++◌, length, take, get_or, refl, sym, ◌∙◌, ap, subst, arith}
-use Rattle.std.specs.List.{All}
-use Rattle.std.proofs.Math.Seq.{take-append_seam, get_or-append_seam}
-use Rattle.std.proofs.lemmas.List.{same_lists, take_all, take_more, get_or_default, get_or-take}
-use Rattle.sas_core.specs.declared.parts.Parts.{Parts}
-use Rattle.sas_core.specs.PlanParts.{PlanParts}
-use Rattle.sas_core.specs.Variables.{IsState}
-use Rattle.sas_meaning.specs.Layers.{IsLayered}
-use Rattle.sas_meaning.specs.Reachable.{IsInitial}
-use Rattle.sas_meaning.specs.Settled.{IsSettled}
+use Rattle.sas_run.proofs.Imports.{◌≡◌, ℕ, zero, suc, ◌+◌, ◌-◌, ◌<◌, ◌≤◌, List, [], ◌∷◌, ◌++◌, length, take, get_or, refl, sym, ◌∙◌, ap, subst, arith, All, take-append_seam, get_or-append_seam, same_lists, take_all, take_more, get_or_default, get_or-take, Parts, PlanParts, IsState, IsLayered, IsInitial, IsSettled}
 use Rattle.sas_run.specs.Plans.{LeadTo, LeadsTo}
 use Rattle.sas_run.specs.Running.{MakesStep}
 use Rattle.sas_run.proofs.Determined.{leads_on, leads_one_way, initial_is_one}

@@ -1,8 +1,5 @@
 -- What is expected after the first lines of a task, by a tracker over them.
-use Rattle.std.proofs.Common.{◌≡◌, ℕ, zero, suc, List, [], ◌∷◌, ◌++◌, length, map, refl, sym, ap, subst, ◌∙◌, slice_get, Some, None}
-use Rattle.std.proofs.lemmas.List.{append-nil, map-append, length-map}
-use Rattle.sas_core.specs.declared.parts.Parts.{Parts}
-use Rattle.sas_core.specs.WellRanged.{WellRanged}
+use Rattle.sas_task_format.proofs.Imports.{◌≡◌, ℕ, zero, suc, List, [], ◌∷◌, ◌++◌, length, map, refl, sym, ap, subst, ◌∙◌, slice_get, Some, None, append-nil, map-append, length-map, Parts, WellRanged, cut_at}
 use Rattle.sas_task_format.specs.declared.places.Place.{Place}
 use Rattle.sas_task_format.specs.declared.places.Place.TheVariants as place
 use Rattle.sas_task_format.specs.declared.marks.Due.{Due}
@@ -13,7 +10,6 @@ use Rattle.sas_task_format.specs.declared.marks.Mark.{Mark}
 use Rattle.sas_task_format.specs.TaskFormat.{TaskLine, task_slot, task_line_bytes, task_layout}
 use Rattle.sas_task_format.specs.Marks.{any_number, slot_of_due, task_marks, IsDue}
 use Rattle.sas_task_format.specs.Tracker.{Tracker, tracker_start, by_count, step, track, mark, mark_at, mark_in, next_number}
-use Rattle.sas_reader.proofs.Paths.{cut_at}
 use Rattle.sas_task_format.proofs.Tracking.{track_marks, IsBehindVariables, Known, Along}
 use Rattle.sas_task_format.proofs.TrackedTask.{ranges_in, behind_all, task_scan}
 use Rattle.sas_task_format.proofs.WrongWords.{HasBounds}

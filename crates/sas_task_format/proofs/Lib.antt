@@ -15,3 +15,4 @@ pub mod MarkLaws
 pub mod SomeReason
 pub mod MayStand
 pub mod SomeWrongWord
+mod Imports

@@ -1,5 +1,5 @@
 -- The grammar of task files.
-use Rattle.sas_reader.specs.System.{Grammar}
+use Rattle.sas_task_format.proofs.Imports.{Grammar}
 use Rattle.sas_task_format.specs.Process.{process_node}
 use Rattle.sas_task_format.specs.TaskFormat.{task_format, TaskLineFits}
 use Rattle.sas_task_format.specs.TaskProcess.{task_start}

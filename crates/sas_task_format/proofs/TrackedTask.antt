@@ -1,12 +1,6 @@
 -- A tracker over all lines of a task: its marks are those of the task.
-use Rattle.std.proofs.Common.{◌≡◌, ℕ, ◌+◌, ◌-◌, Bool, true, false, nat_lt, List, [], ◌∷◌, ◌++◌, length, map, refl, sym, ap, ◌∙◌, append_assoc, append-nil, arith, codes, length-append, slice_index_or}
-use Rattle.std.specs.Prelude.{if◌then◌else◌}
-use Rattle.std.specs.List.{flat_map}
-use Rattle.std.proofs.lemmas.Bool.{lt-ltb, le-ltb}
-use Rattle.std.proofs.lemmas.List.{map-append, get_or-append-add}
-use Rattle.sas_core.specs.declared.parts.Variable.{Variable}
-use Rattle.sas_core.specs.declared.parts.Parts.{Parts}
-use Rattle.sas_core.specs.WellRanged.{WellRanged}
+use Rattle.sas_task_format.proofs.Imports.{◌≡◌, ℕ, ◌+◌, ◌-◌, Bool, true, false, nat_lt, List, [], ◌∷◌, ◌++◌, length, map, refl, sym, ap, ◌∙◌, append_assoc, arith, codes, length-append, slice_index_or, if◌then◌else◌, flat_map, lt-ltb, le-ltb, map-append, get_or-append-add, Variable, Parts, WellRanged}
+use Rattle.std.proofs.Common.{append-nil}
 use Rattle.sas_task_format.specs.declared.places.Place.TheVariants as place
 use Rattle.sas_task_format.specs.declared.marks.Due.{Due}
 use Rattle.sas_task_format.specs.declared.marks.Due.TheVariants as due

@@ -1,11 +1,5 @@
 -- The numbers of a line: if none is wrong, all are allowed. The ranges of the variables decide.
-use Rattle.std.proofs.Common.{◌≡◌, ℕ, zero, suc, ◌+◌, ◌-◌, Bool, true, false, IsTrue, List, [], ◌∷◌, refl, ap, subst, sym, Some, None, nat_lt}
-use Rattle.std.specs.Prelude.{if◌then◌else◌, slice_index}
-use Rattle.std.specs.Option.{option_map_or}
-use Rattle.std.specs.List.{AllByRecursion}
-use Rattle.std.proofs.lemmas.Option.{none-some}
-use Rattle.sas_core.specs.declared.parts.Variable.{Variable}
-use Rattle.sas_core.specs.Variables.{range_of}
+use Rattle.sas_task_format.proofs.Imports.{◌≡◌, ℕ, zero, suc, ◌+◌, ◌-◌, Bool, true, false, IsTrue, List, [], ◌∷◌, refl, ap, subst, sym, Some, None, nat_lt, if◌then◌else◌, slice_index, option_map_or, AllByRecursion, none-some, Variable, range_of}
 use Rattle.sas_task_format.specs.declared.marks.WrongWord.{WrongWord}
 use Rattle.sas_task_format.specs.TaskFormat.{TaskLine, fact, effect, head, TaskSlot, fact_slot, effect_slot, head_slot, task_slot}
 use Rattle.sas_task_format.specs.TaskReasons.{Bounded, first_wrong, line_bounds}

@@ -9,3 +9,4 @@ pub mod SectionTracks
 pub mod SectionSteps
 pub mod Marking
 pub mod Reasons
+mod Imports

@@ -1,19 +1,6 @@
 -- The location of the next line and what is expected there, by the tracker.
-use Rattle.std.proofs.Common.{◌≡◌, ℕ, List, Option, Some, None, Result, refl, sym, ap, subst, ◌∙◌}
-use Rattle.std.proofs.lemmas.Option.{none-some}
-use Rattle.std.specs.Prelude.{IfOk}
-use Rattle.sas_task_format.specs.declared.marks.Due.{Due}
+use Rattle.sas_task_judge.proofs.Imports.{◌≡◌, ℕ, List, Option, Some, None, Result, refl, sym, ap, subst, ◌∙◌, none-some, IfOk, Due, Location, WrongWord, Place, slot_of_due, TaskLine, word, name, number, signed, fact, effect, head, TaskSlot, task_slot, first_wrong, line_bounds, mark_at, HasFacts, HasBounds, HasWrong, FirstWrong}
 use Rattle.sas_task_format.specs.declared.marks.Due.TheVariants as due
-use Rattle.sas_task_format.specs.declared.marks.Location.{Location}
-use Rattle.sas_task_format.specs.declared.marks.WrongWord.{WrongWord}
-use Rattle.sas_task_format.specs.declared.places.Place.{Place}
-use Rattle.sas_task_format.specs.Marks.{slot_of_due}
-use Rattle.sas_task_format.specs.TaskFormat.{TaskLine, word, name, number, signed, fact, effect, head, TaskSlot, task_slot}
-use Rattle.sas_task_format.specs.TaskReasons.{first_wrong, line_bounds}
-use Rattle.sas_task_format.specs.Tracker.{mark_at}
-use Rattle.sas_task_format.proofs.DueBehind.{HasFacts}
-use Rattle.sas_task_format.proofs.WrongWords.{HasBounds}
-use Rattle.sas_task_line.specs.FirstWrong.{HasWrong, FirstWrong}
 use Rattle.sas_task_judge.specs.declared.task_judge.TaskJudge.{TaskJudge}
 use Rattle.sas_task_judge.specs.Marks.{due_slot, DueIs, LocationIs}
 use Rattle.sas_task_judge.specs.TaskJudge.{tracker_at}

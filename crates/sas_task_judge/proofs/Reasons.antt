@@ -1,32 +1,8 @@
 -- Why a line is refused: what the machine expects, and which number of the line is wrong.
-use Rattle.std.proofs.Common.{◌≡◌, ◌≢◌, ℕ, List, [], ◌∷◌, ◌++◌, Option, None, refl, sym, ap, subst, ◌∙◌}
-use Rattle.sas_core.specs.declared.parts.Parts.{Parts}
-use Rattle.sas_core.specs.WellRanged.{WellRanged}
-use Rattle.sas_reader.specs.declared.fault.Kind.{Kind}
+use Rattle.sas_task_judge.proofs.Imports.{◌≡◌, ◌≢◌, ℕ, List, [], ◌∷◌, ◌++◌, Option, None, refl, sym, ap, subst, ◌∙◌, Parts, WellRanged, Kind, IsBegun, LeadsToEnd, cut_at, after_ends, Mark, WrongWord, Place, IsDue, process_node, TaskLine, task_line_bytes, task_layout, task_format, TaskLineFits, HasShape, task_start, first_wrong, IsFirstWrong, IsTaskReason, Tracker, tracker_start, track, mark_in}
+use Rattle.sas_task_judge.proofs.Imports.{mark_at, end_mark, ranges_behind, is_due, HasFacts, speaks_behind_variables, same_items, task_grammar, IsBehindVariables, same_bounds, SoFar, Said, FirstWrong, ranges_of, first_back}
 use Rattle.sas_reader.specs.declared.fault.Kind.TheVariants as kinds
-use Rattle.sas_reader.specs.Format.{IsBegun}
-use Rattle.sas_reader.specs.System.{LeadsToEnd}
-use Rattle.sas_reader.proofs.Paths.{cut_at, after_ends}
-use Rattle.sas_task_format.specs.declared.marks.Mark.{Mark}
-use Rattle.sas_task_format.specs.declared.marks.WrongWord.{WrongWord}
-use Rattle.sas_task_format.specs.declared.places.Place.{Place}
 use Rattle.sas_task_format.specs.declared.places.Place.TheVariants as at
-use Rattle.sas_task_format.specs.Marks.{IsDue}
-use Rattle.sas_task_format.specs.Process.{process_node}
-use Rattle.sas_task_format.specs.TaskFormat.{TaskLine, task_line_bytes, task_layout, task_format, TaskLineFits, HasShape}
-use Rattle.sas_task_format.specs.TaskProcess.{task_start}
-use Rattle.sas_task_format.specs.TaskReasons.{first_wrong, IsFirstWrong, IsTaskReason}
-use Rattle.sas_task_format.specs.Tracker.{Tracker, tracker_start, track, mark_in, mark_at}
-use Rattle.sas_task_format.proofs.DueBehind.{end_mark, ranges_behind, is_due, HasFacts, speaks_behind_variables}
-use Rattle.sas_task_format.proofs.MarkLaws.{same_items}
-use Rattle.sas_task_format.proofs.TaskGrammar.{task_grammar}
-use Rattle.sas_task_format.proofs.Tracking.{IsBehindVariables}
-use Rattle.sas_task_format.proofs.WrongWords.{same_bounds}
-use Rattle.sas_task_line.specs.declared.so_far.SoFar.{SoFar}
-use Rattle.sas_task_line.specs.declared.task_events.Said.{Said}
-use Rattle.sas_task_line.specs.FirstWrong.{FirstWrong}
-use Rattle.sas_task_line.specs.TaskRanges.{ranges_of}
-use Rattle.sas_task_line.proofs.WrongWords.{first_back}
 use Rattle.sas_task_judge.specs.declared.task_judge.TaskJudge.{TaskJudge}
 use Rattle.sas_task_judge.specs.declared.task_machine.TaskMachine.{TaskMachine}
 use Rattle.sas_task_judge.specs.Marks.{mark_of, due_slot, WrongWordIn}

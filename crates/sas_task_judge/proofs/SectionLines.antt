@@ -1,21 +1,6 @@
 -- The lines of a variable, a mutex group, an operator or a rule lead through this part of a task.
-use Rattle.std.proofs.Common.{◌≡◌, ℕ, Bool, List, [], ◌∷◌, ◌++◌, length, refl, sym, ap, subst, ◌∙◌, append_assoc, IsTrue, codes}
-use Rattle.std.proofs.lemmas.List.{append-nil}
-use Rattle.std.specs.List.{AllByRecursion, flat_map, list_all}
-use Rattle.sas_core.specs.declared.parts.Fact.{Fact}
-use Rattle.sas_core.specs.declared.parts.Effect.{Effect}
-use Rattle.sas_core.specs.declared.parts.Operator.{Operator}
-use Rattle.sas_core.specs.declared.parts.Rule.{Rule}
-use Rattle.sas_core.specs.declared.parts.Variable.{Variable}
-use Rattle.sas_reader.specs.System.{After}
-use Rattle.sas_task_format.specs.Process.{process_node, a_line, repeat}
-use Rattle.sas_task_format.specs.TaskFormat.{TaskLine, word, name, number, name_slot, fact, effect, head, TaskSlot, task_slot, fact_slot, effect_slot, task_format, TaskLineFits, line, variable_lines, group_lines, operator_lines, rule_lines}
-use Rattle.sas_task_format.specs.TaskProcess.{TaskProcess, name_in, fact_in, effect_in, effect_may_stand, a_name, a_fact, an_effect, a_variable, a_group, an_operator, a_rule}
-use Rattle.sas_task_format.proofs.TaskSections.{less, and_both, and_parts}
-use Rattle.sas_core.specs.Names.{IsName, is_name}
-use Rattle.sas_core.specs.Variables.{fact_exists}
-use Rattle.sas_task_line.specs.Sections.{HasNames, OperatorInRanges, RuleInRanges}
-use Rattle.sas_task_line.specs.TaskRanges.{ranges_of, fact_in_ranges, effect_in_ranges}
+use Rattle.sas_task_judge.proofs.Imports.{◌≡◌, ℕ, Bool, List, [], ◌∷◌, ◌++◌, length, refl, sym, ap, subst, ◌∙◌, append_assoc, IsTrue, codes, append-nil, AllByRecursion, flat_map, list_all, Fact, Effect, Operator, Rule, Variable, After, process_node, a_line, repeat, TaskLine, word, name, number, name_slot, fact, effect, head, TaskSlot, task_slot, fact_slot, effect_slot, task_format, TaskLineFits}
+use Rattle.sas_task_judge.proofs.Imports.{line, variable_lines, group_lines, operator_lines, rule_lines, TaskProcess, name_in, fact_in, effect_in, effect_may_stand, a_name, a_fact, an_effect, a_variable, a_group, an_operator, a_rule, less, and_both, and_parts, IsName, is_name, fact_exists, HasNames, OperatorInRanges, RuleInRanges, ranges_of, fact_in_ranges, effect_in_ranges}
 use Rattle.sas_task_judge.proofs.TaskRanges.{facts_are, effects_are, change_is}
 
 -- the lines lead from one state to the other

@@ -1,26 +1,11 @@
 -- The judge and the machine move past a section that is stored at once.
-use Rattle.std.proofs.Common.{◌≡◌, ℕ, suc, ◌<◌, ◌-◌, List, [], ◌∷◌, ◌++◌, length, refl, sym, ap, subst, ◌∙◌, IsTrue, arith, Ok}
-use Rattle.std.specs.List.{list_all}
-use Rattle.sas_core.specs.declared.parts.Fact.{Fact}
-use Rattle.sas_core.specs.declared.parts.Operator.{Operator}
-use Rattle.sas_core.specs.declared.parts.Rule.{Rule}
-use Rattle.sas_core.specs.declared.parts.Variable.{Variable}
-use Rattle.sas_reader.specs.declared.reader.Front.{Front}
-use Rattle.sas_reader.specs.Machine.{IsFront, AcceptsAhead}
-use Rattle.sas_reader.proofs.Paths.{map-append, after_append}
-use Rattle.sas_task_format.specs.Process.{process_node}
-use Rattle.sas_task_format.specs.TaskFormat.{TaskLine, task_line_bytes, task_format, TaskLineFits, variable_lines, group_lines, operator_lines, rule_lines}
-use Rattle.sas_task_format.specs.TaskProcess.{TaskProcess, task_start}
-use Rattle.sas_task_line.specs.Sections.{spelled, HasNames, OperatorInRanges, RuleInRanges}
-use Rattle.sas_task_line.specs.TaskRanges.{ranges_of, fact_in_ranges}
-use Rattle.sas_task_line.specs.declared.so_far.SoFar.{SoFar}
-use Rattle.sas_task_format.specs.declared.places.Place.{Place}
+use Rattle.sas_task_judge.proofs.Imports.{◌≡◌, ℕ, suc, ◌<◌, ◌-◌, List, [], ◌∷◌, ◌++◌, length, refl, sym, ap, subst, ◌∙◌, IsTrue, arith, Ok, list_all, Fact, Operator, Rule, Variable, Front, IsFront, AcceptsAhead, map-append, after_append, process_node, TaskLine, task_line_bytes, task_format, TaskLineFits, variable_lines, group_lines, operator_lines, rule_lines, TaskProcess, task_start, spelled}
+use Rattle.sas_task_judge.proofs.Imports.{HasNames, OperatorInRanges, RuleInRanges, ranges_of, fact_in_ranges, SoFar, Place, Tracker, tracker_start, track}
 use Rattle.sas_task_format.specs.declared.places.Place.TheVariants as at
 use Rattle.sas_task_judge.specs.declared.task_judge.TaskJudge.{TaskJudge}
 use Rattle.sas_task_judge.specs.declared.task_judge.sections.Section.TheVariants as section
 use Rattle.sas_task_judge.specs.declared.task_machine.TaskMachine.{TaskMachine}
 use Rattle.sas_task_judge.specs.Sections.{behind_variable, behind_group, behind_operator, behind_rule}
-use Rattle.sas_task_format.specs.Tracker.{Tracker, tracker_start, track}
 use Rattle.sas_task_judge.specs.TaskJudge.{process_at, state_of, tracker_of, KnownTo, SectionDue}
 use Rattle.sas_task_judge.specs.TaskMachine.{LedBy}
 use Rattle.sas_task_judge.proofs.TaskMoves.{next_of}

@@ -1,14 +1,6 @@
 -- What is expected after a whole section: the tracker follows all its lines.
-use Rattle.std.proofs.Common.{◌≡◌, ℕ, suc, ◌<◌, ◌-◌, List, [], ◌∷◌, ◌++◌, length, refl, sym, ap, ◌∙◌, arith, codes}
-use Rattle.std.specs.List.{flat_map}
-use Rattle.sas_core.specs.declared.parts.Fact.{Fact}
-use Rattle.sas_core.specs.declared.parts.Operator.{Operator}
-use Rattle.sas_core.specs.declared.parts.Rule.{Rule}
-use Rattle.sas_core.specs.declared.parts.Variable.{Variable}
-use Rattle.sas_task_format.specs.declared.places.Place.{Place}
+use Rattle.sas_task_judge.proofs.Imports.{◌≡◌, ℕ, suc, ◌<◌, ◌-◌, List, [], ◌∷◌, ◌++◌, length, refl, sym, ap, ◌∙◌, arith, codes, flat_map, Fact, Operator, Rule, Variable, Place, TaskLine, word, name, number, signed, fact, effect, head, line, variable_lines, group_lines, Tracker, track}
 use Rattle.sas_task_format.specs.declared.places.Place.TheVariants as at
-use Rattle.sas_task_format.specs.TaskFormat.{TaskLine, word, name, number, signed, fact, effect, head, line, variable_lines, group_lines}
-use Rattle.sas_task_format.specs.Tracker.{Tracker, track}
 use Rattle.sas_task_judge.specs.declared.task_judge.TaskJudge.{TaskJudge}
 use Rattle.sas_task_judge.specs.TaskJudge.{tracker_at, tracker_of}
 use Rattle.sas_task_judge.proofs.TaskMoves.{next_of}

@@ -1,11 +1,6 @@
 -- The tracker follows the judge.
-use Rattle.std.proofs.Common.{◌≡◌, ℕ, suc, ◌<◌, ◌≤◌, ◌+◌, ◌-◌, List, [], ◌∷◌, ◌++◌, Bool, true, false, nat_lt, length, refl, sym, ap, ◌∙◌, arith}
-use Rattle.std.proofs.lemmas.Bool.Decides.{nat_tests}
-use Rattle.std.specs.Prelude.{if◌then◌else◌}
-use Rattle.sas_task_format.specs.declared.places.Place.{Place}
+use Rattle.sas_task_judge.proofs.Imports.{◌≡◌, ℕ, suc, ◌<◌, ◌≤◌, ◌+◌, ◌-◌, List, [], ◌∷◌, ◌++◌, Bool, true, false, nat_lt, length, refl, sym, ap, ◌∙◌, arith, nat_tests, if◌then◌else◌, Place, TaskLine, Tracker, tracker_start, step, step_from, track, goes_to}
 use Rattle.sas_task_format.specs.declared.places.Place.TheVariants as at
-use Rattle.sas_task_format.specs.TaskFormat.{TaskLine}
-use Rattle.sas_task_format.specs.Tracker.{Tracker, tracker_start, step, step_from, track, goes_to}
 use Rattle.sas_task_judge.specs.declared.task_judge.TaskJudge.{TaskJudge}
 use Rattle.sas_task_judge.specs.TaskJudge.{more_in, tracker_at, tracker_of}
 use Rattle.sas_task_judge.proofs.TaskMoves.{next_of}

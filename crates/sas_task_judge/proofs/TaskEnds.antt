@@ -1,17 +1,7 @@
 -- The judge has ended exactly if no line of a task may follow.
-use Rattle.std.proofs.Common.{◌≡◌, ℕ, zero, suc, List, [], ◌∷◌, Option, refl, ap, ◌∙◌}
-use Rattle.std.specs.Prelude.{length, drop}
-use Rattle.sas_core.specs.declared.parts.Fact.{Fact}
-use Rattle.sas_core.specs.declared.parts.Variable.{Variable}
-use Rattle.sas_core.specs.declared.parts.Effect.{Effect}
-use Rattle.sas_core.specs.declared.parts.Parts.{Parts}
-use Rattle.sas_task_format.specs.declared.places.Place.{Place}
+use Rattle.sas_task_judge.proofs.Imports.{◌≡◌, ℕ, zero, suc, List, [], ◌∷◌, Option, refl, ap, ◌∙◌, length, drop, Fact, Variable, Effect, Parts, Place, SoFar, done, read, process_node, TaskProcess, ended}
 use Rattle.sas_task_format.specs.declared.places.Place.TheVariants as at
-use Rattle.sas_task_line.specs.declared.so_far.SoFar.{SoFar}
 use Rattle.sas_task_judge.specs.declared.task_judge.TaskJudge.{TaskJudge}
-use Rattle.sas_task_format.specs.Process.{done, read, process_node}
-use Rattle.sas_task_format.specs.TaskProcess.{TaskProcess}
-use Rattle.sas_reader.specs.System.{ended}
 use Rattle.sas_task_judge.specs.TaskJudge.{process_at, state_of, HasEnded}
 use Rattle.sas_task_judge.specs.TaskPlaces.{variable_begin, variable_values, group_begin, group_facts, state_values_of, goal_facts, operator_begin, operator_prevail, operator_effects, rule_begin, rule_conditions}
 

@@ -1,36 +1,13 @@
 -- One line of a task moves the judge.
-use Rattle.std.proofs.Common.{IsTrue, ◌≡◌, ◌≢◌, ℕ, zero, suc, ◌<◌, ◌≤◌, ◌-◌, Bool, nat_lt, length, List, [], ◌∷◌, ◌++◌, refl, sym, ap, subst, ◌∙◌, arith, codes, Result, Ok, Err}
-use Rattle.std.specs.Prelude.{take, drop, Option, Some, None}
-use Rattle.std.specs.Result.{result_err}
-use Rattle.std.proofs.lemmas.Option.{none-some}
-use Rattle.sas_reader.specs.declared.fault.Kind.{Kind}
+use Rattle.sas_task_judge.proofs.Imports.{IsTrue, ◌≡◌, ◌≢◌, ℕ, zero, suc, ◌<◌, ◌≤◌, ◌-◌, Bool, nat_lt, length, List, [], ◌∷◌, ◌++◌, refl, sym, ap, subst, ◌∙◌, arith, codes, Result, Ok, Err, take, drop, Option, Some, None, result_err, none-some, Kind, IsOfBytes, IsAllowed, OneLine, IsRejected, Rejects, read, process_node, TaskLine, effect, TaskSlot, number_slot, task_line_bytes, task_format}
+use Rattle.sas_task_judge.proofs.Imports.{TaskLineFits, Parts, Variable, range_of, Event, Said, SoFar, Place, step, Effect, LineStandsFirst, Change, plain_effect, SpellsAhead, change_in_ranges, effect_in_ranges, IsOfLine, TaskProcess, a_word, a_number, number_in, effect_in}
 use Rattle.sas_reader.specs.declared.fault.Kind.TheVariants as kinds
-use Rattle.sas_reader.specs.Faults.{IsOfBytes}
-use Rattle.sas_reader.specs.System.{IsAllowed, OneLine, IsRejected, Rejects}
-use Rattle.sas_task_format.specs.Process.{read, process_node}
-use Rattle.sas_task_format.specs.TaskFormat.{TaskLine, effect, TaskSlot, number_slot, task_line_bytes, task_format, TaskLineFits}
-use Rattle.sas_core.specs.declared.parts.Parts.{Parts}
-use Rattle.sas_core.specs.declared.parts.Variable.{Variable}
-use Rattle.sas_core.specs.Variables.{range_of}
-use Rattle.sas_task_line.specs.declared.task_events.Event.{Event}
-use Rattle.sas_task_line.specs.declared.task_events.Said.{Said}
-use Rattle.sas_task_line.specs.declared.so_far.SoFar.{SoFar}
-use Rattle.sas_task_format.specs.declared.places.Place.{Place}
 use Rattle.sas_task_format.specs.declared.places.Place.TheVariants as at
 use Rattle.sas_task_judge.specs.declared.task_judge.TaskJudge.{TaskJudge}
 use Rattle.sas_task_judge.specs.TaskPlaces.{state_values, state_values_of, goal_begin}
-use Rattle.sas_task_format.specs.Tracker.{step}
 use Rattle.sas_task_judge.specs.TaskJudge.{process_at, state_of, tracker_of, KnownTo, LeadsOn, RejectsLine, StandsAsBefore, TakesMemory, JudgesLine, MovesBy, MovesAhead}
-use Rattle.sas_core.specs.declared.parts.Effect.{Effect}
-use Rattle.sas_lines.specs.FirstLines.{LineStandsFirst}
-use Rattle.sas_core.specs.declared.grounded.Change.{Change}
-use Rattle.sas_core.specs.Changes.{plain_effect}
-use Rattle.sas_task_line.specs.Ahead.{SpellsAhead}
-use Rattle.sas_task_line.specs.TaskRanges.{change_in_ranges, effect_in_ranges}
-use Rattle.sas_task_line.specs.TaskLine.{IsOfLine}
 use Rattle.sas_task_judge.proofs.TaskRanges.{many_same}
 use Rattle.sas_task_judge.proofs.VariablesBehind.{behind}
-use Rattle.sas_task_format.specs.TaskProcess.{TaskProcess, a_word, a_number, number_in, effect_in}
 
 -- a line that may stand leads to a next state
 pub on : (j k : TaskJudge) (s t : SoFar) (slot : TaskSlot) (test : TaskLine → Bool) (next : TaskLine → TaskProcess) (i : TaskLine) (line : List ℕ)

@@ -1,20 +1,8 @@
 -- The ranges of the variables and the variables themselves give the same answers.
-use Rattle.std.proofs.Common.{◌≡◌, ℕ, Bool, List, [], ◌∷◌, ◌++◌, refl, sym, ap, subst, ◌∙◌, Option, Some, None, IsTrue, length}
-use Rattle.std.specs.Prelude.{nat_lt, ◌&&◌}
-use Rattle.std.specs.List.{list_all}
-use Rattle.sas_core.specs.declared.parts.Effect.{Effect}
-use Rattle.sas_core.specs.declared.parts.Fact.{Fact}
-use Rattle.sas_core.specs.declared.parts.Variable.{Variable}
-use Rattle.sas_core.specs.Variables.{range_of, has_value, fact_exists}
-use Rattle.sas_reader.specs.declared.fault.Kind.{Kind}
-use Rattle.sas_task_line.specs.declared.so_far.SoFar.{SoFar}
+use Rattle.sas_task_judge.proofs.Imports.{◌≡◌, ℕ, Bool, List, [], ◌∷◌, ◌++◌, refl, sym, ap, subst, ◌∙◌, Option, Some, None, IsTrue, length, nat_lt, ◌&&◌, list_all, Effect, Fact, Variable, range_of, has_value, fact_exists, Kind, SoFar, IsAllowed, IsRejected, TaskLine, TaskSlot, task_format, TaskLineFits, may_change, effect_may_stand, head_may_stand, fact_in, effect_in, head_in, ranges_of, range_in}
+use Rattle.sas_task_judge.proofs.Imports.{value_in, fact_in_ranges, change_in_ranges, effect_in_ranges, range_is, ranges_many}
 use Rattle.sas_task_judge.specs.declared.task_judge.TaskJudge.{TaskJudge}
-use Rattle.sas_reader.specs.System.{IsAllowed, IsRejected}
-use Rattle.sas_task_format.specs.TaskFormat.{TaskLine, TaskSlot, task_format, TaskLineFits}
 use Rattle.sas_task_judge.specs.TaskJudge.{KnownTo}
-use Rattle.sas_task_format.specs.TaskProcess.{may_change, effect_may_stand, head_may_stand, fact_in, effect_in, head_in}
-use Rattle.sas_task_line.specs.TaskRanges.{ranges_of, range_in, value_in, fact_in_ranges, change_in_ranges, effect_in_ranges}
-use Rattle.sas_task_line.proofs.WrongWords.{range_is, ranges_many}
 
 pub ranges_push : (vs : List Variable) (v : Variable) → ranges_of (vs ++ v ∷ []) ≡ ranges_of vs ++ length v.values ∷ []
 ranges_push [] v = refl

@@ -1,19 +1,9 @@
 -- One more line of a task moves the machine.
-use Rattle.std.proofs.Common.{◌≡◌, ℕ, List, [], ◌∷◌, ◌++◌, ap, ◌∙◌, Ok}
-use Rattle.sas_reader.specs.System.{Leads}
-use Rattle.sas_task_format.specs.Process.{process_node}
-use Rattle.sas_task_format.specs.TaskFormat.{task_line_bytes, task_format, TaskLineFits}
-use Rattle.sas_task_format.specs.Tracker.{Tracker, tracker_start, track, step}
-use Rattle.sas_task_format.specs.TaskProcess.{TaskProcess, task_start}
-use Rattle.sas_task_line.specs.declared.so_far.SoFar.{SoFar}
-use Rattle.sas_task_line.specs.declared.task_events.Event.{Event}
-use Rattle.sas_task_line.specs.declared.task_events.Said.{Said}
+use Rattle.sas_task_judge.proofs.Imports.{◌≡◌, ℕ, List, [], ◌∷◌, ◌++◌, ap, ◌∙◌, Ok, Leads, process_node, task_line_bytes, task_format, TaskLineFits, Tracker, tracker_start, track, step, TaskProcess, task_start, SoFar, Event, Said, after, map-append, after_append}
 use Rattle.sas_task_judge.specs.declared.task_judge.TaskJudge.{TaskJudge}
-use Rattle.sas_task_line.specs.TaskEvents.{after}
 use Rattle.sas_task_judge.specs.TaskJudge.{state_of, tracker_of, LeadsOn, JudgesLine}
 use Rattle.sas_task_judge.specs.declared.task_machine.TaskMachine.{TaskMachine}
 use Rattle.sas_task_judge.specs.TaskMachine.{LedBy}
-use Rattle.sas_reader.proofs.Paths.{map-append, after_append}
 use Rattle.sas_task_judge.proofs.Stepping.{track_append}
 
 -- the lines lead from the start to the state

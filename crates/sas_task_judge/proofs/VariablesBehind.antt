@@ -1,8 +1,5 @@
 -- The variables after the first n.
-use Rattle.std.proofs.Common.{◌≡◌, ℕ, zero, suc, ◌<◌, List, [], ◌∷◌, length, refl, arith}
-use Rattle.std.specs.Prelude.{drop}
-use Rattle.sas_core.specs.declared.parts.Variable.{Variable}
-use Rattle.sas_core.specs.Variables.{range_of}
+use Rattle.sas_task_judge.proofs.Imports.{◌≡◌, ℕ, zero, suc, ◌<◌, List, [], ◌∷◌, length, refl, arith, drop, Variable, range_of}
 
 -- the variables after the first n: one with this range, and those after the first n + 1
 pub record Behind (vs : List Variable) (i : ℕ) : Type 0 where

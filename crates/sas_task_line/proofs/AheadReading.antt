@@ -1,23 +1,8 @@
 -- Reading the first line of some bytes up to its LF.
-use Rattle.std.proofs.Common.{◌≡◌, ℕ, zero, suc, ◌+◌, ◌*◌, ◌-◌, ◌<◌, ◌≤◌, ◌^◌, List, [], ◌∷◌, ◌++◌, length, take, drop, refl, sym, ap, subst, ◌∙◌, append_assoc, length-append, arith, Option, None, get_or, true, false, Bool, not, ◌&&◌, ◌==◌, IsTrue}
-use Rattle.std.specs.Fmt.{decimal}
-use Rattle.std.specs.List.{list_all}
-use Rattle.std.proofs.lemmas.Fmt.{decimal_digit}
-use Rattle.std.proofs.lemmas.List.{length-take-le, take_rest, take_at, get_or-take, take-append-drop, drop_more}
-use Rattle.memchr.specs.Find.{Nowhere, NoneBefore, Passes, is_byte2}
-use Rattle.sas_core.specs.Names.{is_plain, IsName}
-use Rattle.sas_core.proofs.PlainBytes.{is_none-search}
-use Rattle.std.proofs.lemmas.Bool.{ne_eqb}
-use Rattle.sas_core.specs.declared.parts.Fact.{Fact}
-use Rattle.sas_lines.specs.FirstLines.{LineStandsFirst}
-use Rattle.sas_lines.proofs.Beginnings.{stands_first}
-use Rattle.sas_reader.proofs.Plain.{plain}
-use Rattle.sas_task_format.specs.TaskFormat.{TaskLine, word, name, number, signed, fact, effect, head, task_line_bytes, TaskLineFits, EffectNumbers}
-use Rattle.sas_task_format.proofs.TaskPlain.{Sayable, plain-line}
-use Rattle.sas_core.specs.declared.grounded.Change.{Change}
+use Rattle.sas_task_line.proofs.Imports.{◌≡◌, ℕ, zero, suc, ◌+◌, ◌*◌, ◌-◌, ◌<◌, ◌≤◌, ◌^◌, List, [], ◌∷◌, ◌++◌, length, take, drop, refl, sym, ap, subst, ◌∙◌, append_assoc, length-append, arith, Option, None, get_or, true, false, Bool, not, ◌&&◌, ◌==◌, IsTrue, decimal, list_all, decimal_digit, length-take-le, take_rest, take_at, get_or-take, take-append-drop, drop_more, Nowhere, NoneBefore, Passes}
+use Rattle.sas_task_line.proofs.Imports.{is_byte2, is_plain, IsName, is_none-search, ne_eqb, Fact, LineStandsFirst, stands_first, plain, TaskLine, word, name, number, signed, fact, effect, head, task_line_bytes, TaskLineFits, EffectNumbers, Sayable, plain-line, Change, plain_effect}
 use Rattle.sas_task_line.proofs.Digits.{digit_is, digit_more}
 use Rattle.sas_task_line.specs.Ahead.{SpellsAhead, LineAhead, NumberAhead, SignedAhead, ChangeAhead}
-use Rattle.sas_core.specs.Changes.{plain_effect}
 
 -- ---- a line and its LF
 

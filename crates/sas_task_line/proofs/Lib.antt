@@ -4,3 +4,4 @@ mod Digits
 mod AheadReading
 mod LinesReading
 pub mod WrongWords
+mod Imports

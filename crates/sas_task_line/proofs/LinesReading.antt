@@ -1,24 +1,8 @@
 -- Reading several lines, each up to its LF.
-use Rattle.std.proofs.Common.{◌≡◌, ℕ, ◌+◌, ◌-◌, ◌<◌, Bool, ◌&&◌, List, [], ◌∷◌, ◌++◌, length, map, take, Option, refl, sym, ap, subst, ◌∙◌, append_assoc, length-append, arith, IsTrue, codes}
-use Rattle.std.specs.List.{flat_map, list_all, AllByRecursion}
-use Rattle.std.proofs.lemmas.Bool.{and_parts}
-use Rattle.std.proofs.lemmas.Grind.{flat_map-append}
-use Rattle.std.proofs.lemmas.List.{map-append, take_at, length-map}
-use Rattle.std.proofs.lemmas.List.Folds.{list_all-append}
-use Rattle.sas_core.specs.declared.parts.Fact.{Fact}
-use Rattle.sas_core.specs.Names.{is_name, IsName}
-use Rattle.sas_core.specs.declared.grounded.Change.{Change}
-use Rattle.sas_lines.specs.Lines.{text}
-use Rattle.sas_lines.specs.FirstLines.{LinesStandFirst}
-use Rattle.sas_lines.proofs.Beginnings.{lines_stand_first}
-use Rattle.sas_lines.proofs.Splitting.{Plain}
-use Rattle.sas_reader.specs.declared.reader.Front.{Front}
-use Rattle.sas_reader.proofs.Plain.{plain}
-use Rattle.sas_reader.specs.System.{IsPlain}
-use Rattle.sas_task_format.specs.TaskFormat.{TaskLine, word, name, number, signed, fact, effect, head, line, task_line_bytes, TaskLineFits, variable_lines, group_lines, operator_lines, rule_lines}
+use Rattle.sas_task_line.proofs.Imports.{◌≡◌, ℕ, ◌+◌, ◌-◌, ◌<◌, Bool, ◌&&◌, List, [], ◌∷◌, ◌++◌, length, map, take, Option, refl, sym, ap, subst, ◌∙◌, append_assoc, length-append, arith, IsTrue, codes, flat_map, list_all, AllByRecursion, and_parts, flat_map-append, map-append, take_at, length-map, list_all-append, Fact, is_name, IsName, Change, text, LinesStandFirst, lines_stand_first, Plain}
+use Rattle.sas_task_line.proofs.Imports.{Front, plain, IsPlain, TaskLine, word, name, number, signed, fact, effect, head, line, task_line_bytes, TaskLineFits, variable_lines, group_lines, operator_lines, rule_lines, plain_effect}
 use Rattle.sas_task_line.specs.declared.sections.Gathered.{Gathered}
 use Rattle.sas_task_line.specs.Ahead.{LineAhead, NumberAhead}
-use Rattle.sas_core.specs.Changes.{plain_effect}
 use Rattle.sas_task_line.specs.LinesBefore.{LinesBefore, CountedBefore, NamesBefore, FactsBefore, ChangesBefore}
 use Rattle.sas_task_line.specs.Sections.{spelled, LinesAhead, VariableAhead, GroupAhead, OperatorAhead, RuleAhead, gathered_variable, gathered_operator, gathered_rule}
 use Rattle.sas_task_line.specs.TaskRanges.{effect_in_ranges, change_in_ranges}

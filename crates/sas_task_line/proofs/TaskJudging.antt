@@ -1,20 +1,8 @@
 -- Why a line may not stand in a task.
-use Rattle.std.proofs.Common.{◌≡◌, ◌≢◌, ℕ, Bool, List, refl, sym, ap, subst, ◌∙◌, IsTrue, Option}
-use Rattle.std.specs.Fmt.{decimal}
-use Rattle.sas_core.specs.declared.parts.Fact.{Fact}
-use Rattle.sas_core.specs.declared.parts.Effect.{Effect}
-use Rattle.sas_core.specs.Numbers.{IsNumber, IsSigned}
-use Rattle.sas_lines.specs.Spelling.{signed_decimal}
-use Rattle.sas_reader.specs.declared.fault.Kind.{Kind}
-use Rattle.sas_reader.specs.declared.fault.Kind.TheVariants.{Shape, Value, Memory}
-use Rattle.sas_reader.specs.Faults.{IsOfBytes}
-use Rattle.sas_task_format.specs.TaskFormat.{TaskLine, number, signed, fact, effect, head, TaskSlot, number_slot, signed_slot, fact_slot, effect_slot, head_slot, task_slot, task_line_bytes, TaskLineFits, HasShape, NumbersKind, no_shape, no_value, TaskKind, task_format}
-use Rattle.sas_task_format.specs.TaskProcess.{number_in, signed_in, fact_in, effect_in, head_in}
+use Rattle.sas_task_line.proofs.Imports.{◌≡◌, ◌≢◌, ℕ, Bool, List, refl, sym, ap, subst, ◌∙◌, IsTrue, Option, decimal, Fact, Effect, IsNumber, IsSigned, signed_decimal, Kind, Shape, Value, Memory, IsOfBytes, TaskLine, number, signed, fact, effect, head, TaskSlot, number_slot, signed_slot, fact_slot, effect_slot, head_slot, task_slot, task_line_bytes, TaskLineFits, HasShape, NumbersKind, no_shape}
+use Rattle.sas_task_line.proofs.Imports.{no_value, TaskKind, task_format, number_in, signed_in, fact_in, effect_in, head_in, IsRejected, number_is, signed_is, fact_is, effect_is, head_is, one_task_line}
 use Rattle.sas_task_line.specs.TaskLine.{IsOfLine}
 use Rattle.sas_task_line.specs.TaskWords.{Spells}
-use Rattle.sas_reader.specs.System.{IsRejected}
-use Rattle.sas_task_format.proofs.TaskSections.{number_is, signed_is, fact_is, effect_is, head_is}
-use Rattle.sas_task_format.proofs.TaskLines.{one_task_line}
 
 abbrev pub Refused : TaskSlot → (TaskLine → Bool) → List ℕ → Kind → Type 0
 Refused slot ok line kind = IsOfLine kind × IsRejected task_format TaskLineFits slot ok line kind

@@ -1,15 +1,6 @@
 -- A line of several numbers spells exactly the content that is parsed from its words, if no word is
 -- left.
-use Rattle.std.proofs.Common.{◌≡◌, ℕ, ◌+◌, ◌<◌, ◌≤◌, List, [], ◌∷◌, ◌++◌, length, refl, sym, ap, ◌∙◌, arith, Option}
-use Rattle.std.specs.List.{flat_map, AllByRecursion}
-use Rattle.std.specs.Fmt.{decimal}
-use Rattle.sas_core.specs.declared.parts.Fact.{Fact}
-use Rattle.sas_core.specs.declared.parts.Effect.{Effect}
-use Rattle.sas_core.specs.Numbers.{IsNumber}
-use Rattle.sas_lines.specs.Parts.{parts}
-use Rattle.sas_lines.specs.Spelling.{signed_decimal, joined}
-use Rattle.sas_lines.proofs.Words.{NoSpace, NoSpace-number, NoSpace-signed, words-joined, joined-words, same_number}
-use Rattle.sas_task_format.specs.TaskFormat.{fact, effect, head, fact_words, head_words, FactNumbers, EffectNumbers}
+use Rattle.sas_task_line.proofs.Imports.{◌≡◌, ℕ, ◌+◌, ◌<◌, ◌≤◌, List, [], ◌∷◌, ◌++◌, length, refl, sym, ap, ◌∙◌, arith, Option, flat_map, AllByRecursion, decimal, Fact, Effect, IsNumber, parts, signed_decimal, joined, NoSpace, NoSpace-number, NoSpace-signed, words-joined, joined-words, same_number, fact, effect, head, fact_words, head_words, FactNumbers, EffectNumbers}
 use Rattle.sas_task_line.specs.TaskWords.{Spells, TakesNumber, TakesFact, TakesFacts, TakesHead}
 
 module _ (line : List ℕ) (words : List (List ℕ)) (parted : words ≡ parts 32 line) where

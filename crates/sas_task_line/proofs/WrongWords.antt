@@ -1,19 +1,7 @@
 -- The first wrong number in a list of numbers.
-use Rattle.std.proofs.Common.{◌≡◌, ℕ, zero, suc, ◌+◌, ◌*◌, Bool, true, false, List, [], ◌∷◌, ◌++◌, length, Option, Some, None, refl, sym, ap, ◌∙◌, arith}
-use Rattle.std.proofs.lemmas.Option.{none-some}
-use Rattle.std.specs.List.{flat_map}
-use Rattle.std.specs.Prelude.{if◌then◌else◌, drop, slice_get}
-use Rattle.std.proofs.lemmas.Bool.Decides.{nat_tests}
-use Rattle.sas_core.specs.declared.parts.Fact.{Fact}
-use Rattle.sas_core.specs.declared.parts.Variable.{Variable}
-use Rattle.sas_core.specs.declared.parts.Effect.{Effect}
-use Rattle.sas_core.specs.Variables.{range_of}
-use Rattle.sas_task_format.specs.declared.marks.WrongWord.{WrongWord}
-use Rattle.sas_task_format.specs.TaskFormat.{TaskLine, effect, TaskSlot, task_slot}
-use Rattle.sas_task_format.specs.TaskReasons.{Bounded, below, first_wrong, fact_bounds, change_bounds, line_bounds}
-use Rattle.sas_task_format.proofs.WrongWords.{may_stand, wrong_at}
+use Rattle.sas_task_line.proofs.Imports.{◌≡◌, ℕ, zero, suc, ◌+◌, ◌*◌, Bool, true, false, List, [], ◌∷◌, ◌++◌, length, Option, Some, None, refl, sym, ap, ◌∙◌, arith, none-some, flat_map, if◌then◌else◌, drop, slice_get, nat_tests, Fact, Variable, Effect, range_of, WrongWord, TaskLine, effect, TaskSlot, task_slot, Bounded, below, first_wrong, fact_bounds, change_bounds, line_bounds, may_stand}
+use Rattle.sas_task_line.proofs.Imports.{wrong_at, task_grammar}
 use Rattle.sas_task_line.specs.FirstWrong.{HasWrong, FirstWrong}
-use Rattle.sas_task_format.proofs.TaskGrammar.{task_grammar}
 use Rattle.sas_task_line.specs.TaskRanges.{ranges_of, range_in}
 use Rattle.sas_task_line.specs.TaskWords.{Spells}
 

@@ -1,3 +1,4 @@
 mod TaskStanding
 mod Outlines
 mod Reasons
+mod Imports

@@ -1,16 +1,6 @@
 -- What is stored for an outline, after a line and after a variable.
-use Rattle.std.proofs.Common.{◌≡◌, ◌-◌, ◌^◌, ℕ, List, length, refl, ap, ◌∙◌, arith}
-use Rattle.std.specs.Prelude.{min}
-use Rattle.sas_core.specs.Numbers.{IsNumber}
-use Rattle.sas_core.specs.WellRanged.{WellRanged}
-use Rattle.sas_flat.specs.Outlines.{outline_of}
-use Rattle.sas_core.specs.declared.parts.Variable.{Variable}
-use Rattle.sas_task_line.specs.declared.task_events.Event.{Event}
+use Rattle.sas_task_reader.proofs.Imports.{◌≡◌, ◌-◌, ◌^◌, ℕ, List, length, refl, ap, ◌∙◌, arith, min, IsNumber, WellRanged, outline_of, Variable, Event, Said, SoFar, after, behind_variable}
 use Rattle.sas_task_line.specs.declared.task_events.Event.TheVariants as event
-use Rattle.sas_task_line.specs.declared.task_events.Said.{Said}
-use Rattle.sas_task_line.specs.declared.so_far.SoFar.{SoFar}
-use Rattle.sas_task_line.specs.TaskEvents.{after}
-use Rattle.sas_task_judge.specs.Sections.{behind_variable}
 use Rattle.sas_task_reader.specs.declared.task_outline.Seen.{Seen}
 use Rattle.sas_task_reader.specs.TaskOutline.{outline_in, kept_of}
 

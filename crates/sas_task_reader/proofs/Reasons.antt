@@ -1,26 +1,7 @@
 -- A task file is refused for the reason that its machine knows.
-use Rattle.std.proofs.Common.{◌≡◌, ◌≢◌, ℕ, List, Option, None, refl, sym, subst, ◌∙◌}
-use Rattle.sas_core.specs.declared.parts.Parts.{Parts}
-use Rattle.sas_reader.specs.declared.fault.Kind.{Kind}
+use Rattle.sas_task_reader.proofs.Imports.{◌≡◌, ◌≢◌, ℕ, List, Option, None, refl, sym, subst, ◌∙◌, Parts, Kind, Node, ended, before, After, Rejects, behind_line, behind_text, at_end, Mark, WrongWord, process_node, TaskLine, TaskSlot, word_slot, name_slot, number_slot, signed_slot, fact_slot, effect_slot, head_slot, HasShape, NumbersKind, no_shape, no_value, TaskKind, task_format, TaskLineFits}
+use Rattle.sas_task_reader.proofs.Imports.{TaskProcess, task_start, slot_of_due, IsTaskReason, Tracker, tracker_start, track, mark_in, due_after, shape_of_value, SoFar, FirstWrong, TaskMachine, mark_of, due_slot, WrongWordIn, state_of, task_reason, trailing_reason, led_still, ended_still, shape_still, wrong_still}
 use Rattle.sas_reader.specs.declared.fault.Kind.TheVariants as kinds
-use Rattle.sas_reader.specs.System.{Node, ended, before, After, Rejects}
-use Rattle.sas_reader.specs.Refusals.{behind_line, behind_text, at_end}
-use Rattle.sas_task_format.specs.declared.marks.Mark.{Mark}
-use Rattle.sas_task_format.specs.declared.marks.WrongWord.{WrongWord}
-use Rattle.sas_task_format.specs.Process.{process_node}
-use Rattle.sas_task_format.specs.TaskFormat.{TaskLine, TaskSlot, word_slot, name_slot, number_slot, signed_slot, fact_slot, effect_slot, head_slot, HasShape, NumbersKind, no_shape, no_value, TaskKind, task_format, TaskLineFits}
-use Rattle.sas_task_format.specs.TaskProcess.{TaskProcess, task_start}
-use Rattle.sas_task_format.specs.Marks.{slot_of_due}
-use Rattle.sas_task_format.specs.TaskReasons.{IsTaskReason}
-use Rattle.sas_task_format.specs.Tracker.{Tracker, tracker_start, track, mark_in}
-use Rattle.sas_task_format.proofs.DueAfter.{due_after}
-use Rattle.sas_task_format.proofs.SomeWrongWord.{shape_of_value}
-use Rattle.sas_task_line.specs.declared.so_far.SoFar.{SoFar}
-use Rattle.sas_task_line.specs.FirstWrong.{FirstWrong}
-use Rattle.sas_task_judge.specs.declared.task_machine.TaskMachine.{TaskMachine}
-use Rattle.sas_task_judge.specs.Marks.{mark_of, due_slot, WrongWordIn}
-use Rattle.sas_task_judge.specs.TaskJudge.{state_of}
-use Rattle.sas_task_judge.proofs.Reasons.{task_reason, trailing_reason, led_still, ended_still, shape_still, wrong_still}
 use Rattle.sas_task_reader.specs.TaskRefusal.{StandsRefused}
 
 -- ---- a refused line isn't after the last line
@@ -56,8 +37,8 @@ module _ {K : Type 0} (keeps : List (List ℕ) → SoFar → K → Type 0) (line
   with_mark : IsTaskReason kind lines text (mark_of m.judge) word → IsTaskReason kind lines text mark word
   with_mark h = subst (λ (k : Mark). IsTaskReason kind lines text k word) (sym marks) h
 
-  pub told_reason : StandsRefused keeps lines text kind m → IsTaskReason kind lines text mark word
-  told_reason (behind_line old led going_on rejects stopped) =
+  pub reported_reason : StandsRefused keeps lines text kind m → IsTaskReason kind lines text mark word
+  reported_reason (behind_line old led going_on rejects stopped) =
       let still = led_still keeps lines old m text kind stopped led in
       let known = wrong_still keeps lines old m text kind stopped in
       let is : WrongWordIn m.judge text kind word = record { of_value = λ v. subst (FirstWrong m.judge.ranges (due_slot m.judge) text) (sym (of_value v)) (known.of_value v); of_another = of_another } in
@@ -65,13 +46,13 @@ module _ {K : Type 0} (keeps : List (List ℕ) → SoFar → K → Type 0) (line
       let shape : kind ≡ kinds.Value → HasShape (due_slot m.judge) text = λ v. shape_still keeps lines old m text kind stopped
       (subst (λ (t : Tracker). HasShape (slot_of_due (mark_in t).due) text) led.tracked (rejects_shape p led.leads.items led.leads.after (process_node p) refl text kind (rejects led.so_far led.known) v)) in
       with_mark (task_reason keeps lines m still (λ e. going_on (ended_still keeps lines old m text kind stopped e)) text kind word (rejects_apart (process_node p) text kind (rejects led.so_far led.known)) shape is)
-  told_reason (behind_text led ends trailing) =
+  reported_reason (behind_text led ends trailing) =
       let none : word ≡ None = of_another (λ v. let other : kinds.Trailing ≡ kinds.Value = sym trailing ∙ v in cc) in
       with_mark
       (subst (λ (w : Option WrongWord). IsTaskReason kind lines text (mark_of m.judge) w) (sym none)
       (subst (λ (k : Kind). IsTaskReason k lines text (mark_of m.judge) None) (sym trailing)
       (trailing_reason keeps lines m led text ends)))
-  told_reason (at_end led goes_on is_end) =
+  reported_reason (at_end led goes_on is_end) =
       let apart : kind ≢ kinds.Value = λ v. let other : kinds.End ≡ kinds.Value = sym is_end ∙ v in cc in
       let is : WrongWordIn m.judge text kind word = record { of_value = λ v. absurd (apart v); of_another = of_another } in
       with_mark (task_reason keeps lines m led goes_on text kind word (λ t. let other : kinds.End ≡ kinds.Trailing = sym is_end ∙ t in cc) (λ v. absurd (apart v)) is)

@@ -1,23 +1,6 @@
 -- What a reader of tasks represents, in terms of the task format.
-use Rattle.std.proofs.Common.{◌≡◌, ℕ, ◌≤◌, List, length, sym, subst, Ok}
-use Rattle.std.proofs.Math.Logic.{∥∥₁_elim}
-use Rattle.std.proofs.Props.{props}
-use Rattle.sas_core.proofs.ChecksAreRules.{checks_are_the_rules}
-use Rattle.sas_core.specs.WellRanged.{WellRanged}
-use Rattle.sas_task_line.specs.declared.so_far.SoFar.{SoFar}
-use Rattle.sas_task_judge.specs.declared.task_machine.TaskMachine.{TaskMachine}
-use Rattle.sas_reader.specs.Texts.{Reads}
-use Rattle.sas_reader.specs.Format.{ReadsAs}
-use Rattle.sas_task_format.specs.Process.{process_node}
+use Rattle.sas_task_reader.proofs.Imports.{◌≡◌, ℕ, ◌≤◌, List, length, sym, subst, Ok, ∥∥₁_elim, props, checks_are_the_rules, WellRanged, SoFar, TaskMachine, Reads, ReadsAs, process_node, task_texts, task_format, TaskLineFits, state_of, HasEnded, RejectsLine, LedBy, task_start, LedTo, EndedAt, RejectsAt, Follows, reads_of_format, done_is, ended_if_done, ends_with, task_grammar}
 use Rattle.sas_reader.specs.Reader as reading
-use Rattle.sas_task_format.specs.TaskFormat.{task_texts, task_format, TaskLineFits}
-use Rattle.sas_task_judge.specs.TaskJudge.{state_of, HasEnded, RejectsLine}
-use Rattle.sas_task_judge.specs.TaskMachine.{LedBy}
-use Rattle.sas_task_format.specs.TaskProcess.{task_start}
-use Rattle.sas_task_judge.specs.TaskMachine.{LedTo, EndedAt, RejectsAt}
-use Rattle.sas_reader.proofs.Conversion.{Follows, reads_of_format}
-use Rattle.sas_task_judge.proofs.TaskEnds.{done_is, ended_if_done, ends_with}
-use Rattle.sas_task_format.proofs.TaskGrammar.{task_grammar}
 
 module _ {K : Type 0} (keeps : List (List ℕ) → SoFar → K → Type 0) where
   pub machine_follows : Follows task_format TaskLineFits process_node task_start (LedBy keeps) (λ (m : TaskMachine K). HasEnded m.judge) (λ (m : TaskMachine K) line kind. RejectsLine m.judge line kind)

@@ -1,19 +1,6 @@
 -- An operator doesn't preserve a group if and only if it has a failure. Then it has exactly one
 -- first failure.
-use Rattle.std.proofs.Common.{◌≡◌, ℕ, ◌<◌, ◌≤◌, ◌⊎◌, List, [], ◌∷◌, length, Some, refl, sym, ◌∙◌, ap, subst, inl, inr, arith}
-use Rattle.std.proofs.lemmas.Bool.{cases_eq, cases_lt, cases_order}
-use Rattle.std.proofs.lemmas.Option.{slice_get-get_or}
-use Rattle.std.specs.List.{Contains}
-use Rattle.std.specs.Prelude.{slice_get}
-use Rattle.sas_core.specs.declared.parts.Fact.{Fact}
-use Rattle.sas_core.specs.declared.parts.Operator.{Operator}
-use Rattle.sas_core.specs.Grounded.{effect_at}
-use Rattle.sas_groups.specs.Clashes.{Keeps, sets}
-use Rattle.sas_groups.specs.Checks.{NotBoth, IsGone}
-use Rattle.sas_groups.specs.Lists.{known}
-use Rattle.sas_groups.proofs.GreatestFamily.{clash_more}
-use Rattle.sas_mutex.specs.Effects.{EffectKeeps}
-use Rattle.sas_mutex.proofs.Keeping.{keeps_from_effects, effect_of_keeps}
+use Rattle.sas_task_reasons.proofs.Imports.{◌≡◌, ℕ, ◌<◌, ◌≤◌, ◌⊎◌, List, [], ◌∷◌, length, Some, refl, sym, ◌∙◌, ap, subst, inl, inr, arith, cases_eq, cases_lt, cases_order, slice_get-get_or, Contains, slice_get, Fact, Operator, effect_at, Keeps, sets, NotBoth, IsGone, known, clash_more, EffectKeeps, keeps_from_effects, effect_of_keeps}
 use Rattle.sas_task_reasons.specs.declared.reason.Failure.{Failure}
 use Rattle.sas_task_reasons.specs.declared.reason.Failure.TheVariants.{SetsTwo, MayStay}
 use Rattle.sas_task_reasons.specs.Failures.{IsFailure, IsEarlier, IsFirstFailure}

@@ -1,11 +1,5 @@
 -- Which check fails, where a fault is the first of some checks.
-use Rattle.std.proofs.Common.{◌≡◌, ℕ, suc, ◌+◌, ◌<◌, ◌⊎◌, Bool, true, false, List, [], ◌∷◌, ◌++◌, length, get_or, flat_map, refl, subst, inl, inr, arith, Option, Some, None}
-use Rattle.std.specs.Prelude.{if◌then◌else◌}
-use Rattle.std.specs.List.{enumerate_from}
-use Rattle.std.proofs.lemmas.Option.{none-some}
-use Rattle.sas_core.specs.FirstFault.{Check, first_fault, check}
-use Rattle.sas_meaning.specs.declared.layered.LayerFault.{LayerFault}
-use Rattle.sas_meaning.specs.LayerChecks.{numbered_checks}
+use Rattle.sas_task_reasons.proofs.Imports.{◌≡◌, ℕ, suc, ◌+◌, ◌<◌, ◌⊎◌, Bool, true, false, List, [], ◌∷◌, ◌++◌, length, get_or, flat_map, refl, subst, inl, inr, arith, Option, Some, None, if◌then◌else◌, enumerate_from, none-some, Check, first_fault, check, LayerFault, numbered_checks}
 
 -- the fault is the first of these checks
 abbrev pub IsFirst : List (Check LayerFault) → LayerFault → Type 0

@@ -1,15 +1,6 @@
 -- The first failure of one effect, from the lowest effect that may set another fact and the first
 -- fact that may remain.
-use Rattle.std.proofs.Common.{◌≡◌, ℕ, ◌<◌, ◌≤◌, Bool, List, length, get_or, Option, None, Some, refl, sym, ap, subst, inl, inr, arith}
-use Rattle.std.proofs.lemmas.Option.{slice_get-get_or, get_or_from_slice_get, slice_get_within}
-use Rattle.std.specs.List.{Contains}
-use Rattle.std.specs.Prelude.{slice_get, IfSome, IfNone}
-use Rattle.sas_core.specs.declared.parts.Fact.{Fact}
-use Rattle.sas_core.specs.Grounded.{effect_at, group_at}
-use Rattle.sas_groups.specs.Clashes.{sets}
-use Rattle.sas_mutex.specs.Effects.{IsKept}
-use Rattle.sas_mutex.specs.Firing.{EffectPlace, operator_of}
-use Rattle.sas_mutex.specs.ByNotes.{NotBothAt, IsGoneAt, EffectKeepsGroup}
+use Rattle.sas_task_reasons.proofs.Imports.{◌≡◌, ℕ, ◌<◌, ◌≤◌, Bool, List, length, get_or, Option, None, Some, refl, sym, ap, subst, inl, inr, arith, slice_get-get_or, get_or_from_slice_get, slice_get_within, Contains, slice_get, IfSome, IfNone, Fact, effect_at, group_at, sets, IsKept, EffectPlace, operator_of, NotBothAt, IsGoneAt, EffectKeepsGroup}
 use Rattle.sas_task_reasons.specs.declared.reason.Failure.{Failure}
 use Rattle.sas_task_reasons.specs.declared.reason.Failure.TheVariants.{SetsTwo, MayStay}
 use Rattle.sas_task_reasons.specs.Failures.{IsFailure, IsEarlier}

@@ -1,17 +1,5 @@
 -- The groups with the joint verdict `Exclusive` are the greatest family.
-use Rattle.std.proofs.Common.{◌≡◌, ℕ, ◌<◌, Bool, List, length, refl, subst}
-use Rattle.std.specs.Prelude.{◌↔◌, IsTrue}
-use Rattle.sas_core.specs.declared.parts.Parts.{Parts}
-use Rattle.sas_core.specs.Grounded.{operator_at, group_at}
-use Rattle.sas_groups.specs.declared.verdict.Verdict.{Verdict}
-use Rattle.sas_groups.specs.declared.verdict.Verdict.TheVariants.{Exclusive, Derived, Initial, Broken}
-use Rattle.sas_groups.specs.Clashes.{Keeps}
-use Rattle.sas_groups.specs.Families.{IsIn, IsGroupOf, IsGroupOfOr, IsKeptJointly, IsGreatest}
-use Rattle.sas_groups.specs.Verdicts.{IsJointVerdict}
-use Rattle.sas_groups.proofs.GreatestFamily.{keeps_more, all_keep_more, group_of_larger}
-use Rattle.sas_groups.specs.Kept.{family_of}
-use Rattle.sas_groups.specs.Joint.{verdict_at, AreJointVerdicts}
-use Rattle.sas_groups.proofs.JointVerdicts.{same_or_itself}
+use Rattle.sas_task_reasons.proofs.Imports.{◌≡◌, ℕ, ◌<◌, Bool, List, length, refl, subst, ◌↔◌, IsTrue, Parts, operator_at, group_at, Verdict, Exclusive, Derived, Initial, Broken, Keeps, IsIn, IsGroupOf, IsGroupOfOr, IsKeptJointly, IsGreatest, IsJointVerdict, keeps_more, all_keep_more, group_of_larger, family_of, verdict_at, AreJointVerdicts, same_or_itself}
 
 module _ (p : Parts) (verdicts : List Verdict) (kept : List Bool) (joint : AreJointVerdicts p verdicts)
     (exclusive : (place : ℕ) → place < length p.groups → IsTrue (family_of kept place) ↔ (verdict_at verdicts place ≡ Exclusive)) where

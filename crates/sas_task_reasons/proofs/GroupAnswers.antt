@@ -1,21 +1,10 @@
 -- A layered task has an answer about its groups with reasons, and only one.
-use Rattle.std.proofs.Common.{◌≡◌, ℕ, zero, suc, ◌<◌, ◌≤◌, List, [], ◌∷◌, ◌++◌, length, refl, sym, ap, ◌∙◌, subst, inl, inr, arith, Option, Some, None}
-use Rattle.std.proofs.lemmas.Bool.{cases_eq}
-use Rattle.std.proofs.lemmas.List.{ext_get_or, length_push, get_or_push, get_or_append_left}
-use Rattle.sas_core.specs.declared.parts.Parts.{Parts}
-use Rattle.sas_groups.specs.declared.verdict.Verdict.{Verdict}
-use Rattle.sas_groups.specs.declared.verdict.Verdict.TheVariants.{Exclusive, Derived, Initial, Broken}
-use Rattle.sas_groups.specs.Verdicts.{IsJointVerdict}
-use Rattle.sas_groups.specs.Joint.{verdict_at, AreJointVerdicts}
-use Rattle.sas_groups.proofs.JointLists.{one_list, some_list}
+use Rattle.sas_task_reasons.proofs.Imports.{◌≡◌, ℕ, zero, suc, ◌<◌, ◌≤◌, List, [], ◌∷◌, ◌++◌, length, refl, sym, ap, ◌∙◌, subst, inl, inr, arith, Option, Some, None, cases_eq, ext_get_or, length_push, get_or_push, get_or_append_left, Parts, Verdict, Exclusive, Derived, Initial, Broken, IsJointVerdict, verdict_at, AreJointVerdicts, one_list, some_list, OneAnswer, SomeAnswer, text, groups_status}
+use Rattle.sas_task_reasons.proofs.Imports.{Output}
 use Rattle.sas_task_reasons.specs.declared.reason.Reason.{Reason}
 use Rattle.sas_task_reasons.specs.declared.reason.Reason.TheVariants.{OnDerived, HoldsTwo, Breaks}
 use Rattle.sas_task_reasons.specs.GroupReasons.{verdict_of, IsReasonIfAny, reason_at, AreReasons}
 use Rattle.sas_task_reasons.proofs.GroupReasons.{one_reason, some_reason}
-use Rattle.sas_answers.proofs.AnswerLaws.{OneAnswer, SomeAnswer}
-use Rattle.sas_lines.specs.Lines.{text}
-use Rattle.sas_answers.specs.GroupWords.{groups_status}
-use Rattle.sas_output.specs.Ending.{Output}
 use Rattle.sas_task_reasons.specs.WhyGroups.{why_lines, WhyGroupsAnswer}
 
 -- ---- one reason
@@ -28,8 +17,8 @@ no_reason (Breaks operator failure) is = absurd cc
 
 same_if_any : (p : Parts) (place : ℕ) (verdict : Verdict) (a b : Option Reason) → IsReasonIfAny p place verdict a → IsReasonIfAny p place verdict b → a ≡ b
 same_if_any p place verdict None None is_a is_b = refl
-same_if_any p place verdict None (Some b) is_a is_b = absurd (no_reason b (sym is_a ∙ is_b.told))
-same_if_any p place verdict (Some a) None is_a is_b = absurd (no_reason a (sym is_b ∙ is_a.told))
+same_if_any p place verdict None (Some b) is_a is_b = absurd (no_reason b (sym is_a ∙ is_b.reported))
+same_if_any p place verdict (Some a) None is_a is_b = absurd (no_reason a (sym is_b ∙ is_a.reported))
 same_if_any p place verdict (Some a) (Some b) is_a is_b = ap (λ (r : Reason). Some r) (one_reason p place verdict a b is_a is_b)
 
 pub one_reasons : (p : Parts) (verdicts : List Verdict) (a b : List (Option Reason)) → AreReasons p verdicts a → AreReasons p verdicts b → a ≡ b

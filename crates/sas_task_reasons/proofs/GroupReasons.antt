@@ -1,23 +1,8 @@
 -- Each group that isn't exclusive has exactly one reason; that it exists is stated as a double
 -- negation.
-use Rattle.std.proofs.Common.{◌≡◌, ℕ, ◌==◌, ◌⊎◌, Bool, true, false, List, length, Option, None, Some, refl, sym, ◌∙◌, ap, subst, inl, inr, arith, eqb-true, eq-eqb}
-use Rattle.std.proofs.lemmas.Bool.{true≢false, cases_lt}
-use Rattle.std.proofs.lemmas.List.Folds.{find_at}
-use Rattle.std.proofs.lemmas.List.Sums.{fails_before_first}
-use Rattle.std.proofs.lemmas.Option.{none-some, slice_get-get_or}
-use Rattle.std.proofs.lemmas.List.Elements.{All-contains}
-use Rattle.std.specs.List.{All, Contains, find, position_or_len}
-use Rattle.std.specs.Prelude.{◌&&◌, not, is_some, slice_index}
-use Rattle.sas_core.specs.declared.parts.Fact.{Fact}
-use Rattle.sas_core.specs.declared.parts.Parts.{Parts}
-use Rattle.sas_core.specs.Grounded.{operator_at, group_at}
-use Rattle.sas_core.specs.Variables.{layer_of}
-use Rattle.sas_meaning.specs.States.{Holds}
-use Rattle.sas_groups.specs.declared.verdict.Verdict.TheVariants.{Exclusive, Derived, Initial, Broken}
-use Rattle.sas_groups.specs.Groups.{IsExclusiveIn}
-use Rattle.sas_groups.specs.Families.{IsOnBasic, IsGroupOfOr}
-use Rattle.sas_groups.proofs.Invariance.{fact_same}
-use Rattle.sas_groups.proofs.JointVerdicts.{same_or_itself}
+use Rattle.sas_task_reasons.proofs.Imports.{◌≡◌, ℕ, ◌==◌, ◌⊎◌, Bool, true, false, List, length, Option, None, Some, refl, sym, ◌∙◌, ap, subst, inl, inr, arith, eqb-true, eq-eqb, true≢false, cases_lt, find_at, fails_before_first, none-some, slice_get-get_or, All-contains, All, Contains, position_or_len, ◌&&◌, not, is_some, slice_index, Fact, Parts, operator_at, group_at, layer_of, Holds, Exclusive}
+use Rattle.sas_task_reasons.proofs.Imports.{Derived, Initial, Broken, IsExclusiveIn, IsOnBasic, IsGroupOfOr, fact_same, same_or_itself}
+use Rattle.std.specs.List.{find}
 use Rattle.sas_task_reasons.specs.declared.reason.Failure.{Failure}
 use Rattle.sas_task_reasons.specs.declared.reason.Reason.{Reason}
 use Rattle.sas_task_reasons.specs.declared.reason.Reason.TheVariants.{OnDerived, HoldsTwo, Breaks}
@@ -126,22 +111,22 @@ one_says p place (Breaks operator failure) (Breaks operator' failure') same (fam
     is = cc
 
 pub one_reason : OneReason
-one_reason p place verdict a b reason reason' = one_says p place a b (sym reason.told ∙ reason'.told) reason.says reason'.says
+one_reason p place verdict a b reason reason' = one_says p place a b (sym reason.reported ∙ reason'.reported) reason.says reason'.says
 
 pub some_reason : SomeReason
 some_reason p place Exclusive exists joint apart none = apart refl
 some_reason p place Derived exists joint apart none =
     elim (found_or_not (find (λ (f : Fact). is_some (layer_of p.variables f.var)) (group_at p place))) [
       | inl nothing ↦ joint (all_basic p (group_at p place) nothing)
-      | inr (fact, found) ↦ none (OnDerived fact) (record { told = refl; says = found })
+      | inr (fact, found) ↦ none (OnDerived fact) (record { reported = refl; says = found })
     ]
 some_reason p place Initial exists joint apart none = elim (found_or_not (find (holds p.init) (group_at p place))) [
   | inl nothing ↦ joint.1 (exclusive_without p.init (group_at p place) nothing)
   | inr (first, found) ↦ elim (found_or_not (find (λ (f : Fact). holds p.init f && not (f.var == first.var)) (group_at p place))) [
     | inl nothing ↦ joint.1 (exclusive_beside p.init (group_at p place) first.var nothing)
-    | inr (second, found') ↦ none (HoldsTwo first second) (record { told = refl; says = (found, found') })
+    | inr (second, found') ↦ none (HoldsTwo first second) (record { reported = refl; says = (found, found') })
   ]
 ]
 some_reason p place (Broken operator) exists (family, greatest, outside, basic, initial, breaking) apart none =
     some_first (IsGroupOfOr p family (group_at p place)) (operator_at p operator) (group_at p place) breaking.breaks
-    (λ failure first. none (Breaks operator failure) (record { told = refl; says = (family, greatest, first) }))
+    (λ failure first. none (Breaks operator failure) (record { reported = refl; says = (family, greatest, first) }))

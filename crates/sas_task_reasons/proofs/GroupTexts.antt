@@ -1,12 +1,7 @@
 -- The text of groups with reasons, group by group.
-use Rattle.std.proofs.Common.{◌≡◌, ℕ, ◌+◌, ◌<◌, ◌≤◌, List, [], ◌∷◌, ◌++◌, length, take, get_or, append_assoc, append-nil, sym, ap, ◌∙◌, arith, Option}
-use Rattle.std.proofs.lemmas.List.{take_more, take_all, length-take}
-use Rattle.sas_core.specs.declared.parts.Parts.{Parts}
-use Rattle.sas_lines.specs.Lines.{text}
-use Rattle.sas_groups.specs.declared.verdict.Verdict.{Verdict}
+use Rattle.sas_task_reasons.proofs.Imports.{◌≡◌, ℕ, ◌+◌, ◌<◌, ◌≤◌, List, [], ◌∷◌, ◌++◌, length, take, get_or, append_assoc, append-nil, sym, ap, ◌∙◌, arith, Option, take_more, take_all, length-take, Parts, text, Verdict, text_of_both}
 use Rattle.sas_task_reasons.specs.declared.reason.Reason.{Reason}
 use Rattle.sas_task_reasons.specs.GroupReasons.{reason_at}
-use Rattle.sas_output.proofs.Texts.{text_of_both}
 use Rattle.sas_task_reasons.specs.WhyGroups.{explained_group_lines, why_lines_from, why_lines}
 
 -- ---- group after group

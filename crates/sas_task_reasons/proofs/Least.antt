@@ -1,12 +1,6 @@
 -- Double negations: if each of some properties can't fail, they can't all fail together, and a
 -- nonempty set of numbers can't lack a least one. Also items of lists and their indexes.
-use Rattle.std.proofs.Common.{◌≡◌, ℕ, zero, suc, ◌<◌, ◌≤◌, ◌⊎◌, List, length, get_or, sym, ◌∙◌, ap, subst, inl, inr, arith, Some}
-use Rattle.std.proofs.lemmas.Bool.{cases_eq}
-use Rattle.std.proofs.lemmas.Option.{slice_get-get_or, get_or_from_slice_get, slice_get_within}
-use Rattle.std.specs.List.{Contains}
-use Rattle.std.specs.Prelude.{slice_get}
-use Rattle.sas_core.specs.declared.parts.Fact.{Fact}
-use Rattle.sas_groups.proofs.Invariance.{fact_same}
+use Rattle.sas_task_reasons.proofs.Imports.{◌≡◌, ℕ, zero, suc, ◌<◌, ◌≤◌, ◌⊎◌, List, length, get_or, sym, ◌∙◌, ap, subst, inl, inr, arith, Some, cases_eq, slice_get-get_or, get_or_from_slice_get, slice_get_within, Contains, slice_get, Fact, fact_same}
 
 -- each of the first n holds, or it can't be that each does
 pub all_below : (n : ℕ) (P : ℕ → Type 0) → ((k : ℕ) → k < n → (P k → ⊥) → ⊥) → (((k : ℕ) → k < n → P k) → ⊥) → ⊥

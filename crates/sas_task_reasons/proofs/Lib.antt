@@ -12,3 +12,4 @@ mod WholeReasons
 mod GroupTexts
 pub mod GroupAnswers
 pub mod TaskAnswers
+mod Imports

@@ -1,14 +1,5 @@
 -- The lowest effect that may set another fact of a group, as more effects are checked.
-use Rattle.std.proofs.Common.{◌≡◌, ℕ, ◌+◌, ◌<◌, ◌≤◌, ◌⊎◌, min, Bool, List, length, get_or, Some, refl, sym, ◌∙◌, ap, subst, inl, inr, arith}
-use Rattle.std.proofs.lemmas.Bool.{cases_eq}
-use Rattle.std.proofs.lemmas.Option.{slice_get-get_or, get_or_from_slice_get}
-use Rattle.std.specs.List.{Contains}
-use Rattle.std.specs.Prelude.{slice_get}
-use Rattle.sas_core.specs.declared.parts.Fact.{Fact}
-use Rattle.sas_core.specs.Grounded.{effect_at, group_at}
-use Rattle.sas_groups.specs.Clashes.{sets}
-use Rattle.sas_mutex.specs.Firing.{EffectPlace, operator_of}
-use Rattle.sas_mutex.specs.ByNotes.{NotBothAt}
+use Rattle.sas_task_reasons.proofs.Imports.{◌≡◌, ℕ, ◌+◌, ◌<◌, ◌≤◌, ◌⊎◌, min, Bool, List, length, get_or, Some, refl, sym, ◌∙◌, ap, subst, inl, inr, arith, cases_eq, slice_get-get_or, get_or_from_slice_get, Contains, slice_get, Fact, effect_at, group_at, sets, EffectPlace, operator_of, NotBothAt}
 use Rattle.sas_task_reasons.specs.Lowest.{IsLowestPartner, IsAny, SetsVariable, IsOneOfFirst, SetsOneOfFirst, FollowsOnVariable}
 use Rattle.sas_task_reasons.proofs.Least.{stands_at}
 

@@ -1,15 +1,5 @@
 -- The other giver of a rule's variable, where a rule before it has another new value.
-use Rattle.std.proofs.Common.{◌≡◌, ◌≢◌, ℕ, ◌<◌, ◌≤◌, ◌==◌, Bool, true, false, cond, [], length, take, refl, sym, ap, ◌∙◌, inl, inr, arith, eqb-true, eq-eqb, Some, None}
-use Rattle.std.specs.Prelude.{◌&&◌, not}
-use Rattle.std.specs.List.{position_or_len}
-use Rattle.std.proofs.lemmas.Bool.{lt-ltb, cases_Bool, cases_lt}
-use Rattle.std.proofs.lemmas.List.Sums.{fails_before_first, passes_at_first}
-use Rattle.sas_core.specs.declared.parts.Rule.{Rule}
-use Rattle.sas_core.specs.declared.parts.Parts.{Parts}
-use Rattle.sas_core.specs.Grounded.{rule_at}
-use Rattle.sas_meaning.specs.Layers.{CanFire, can_fire}
-use Rattle.sas_meaning.specs.LayerChecks.{agrees_with}
-use Rattle.sas_meaning.proofs.RuleTests.{fires, agrees_with_earlier}
+use Rattle.sas_task_reasons.proofs.Imports.{◌≡◌, ◌≢◌, ℕ, ◌<◌, ◌≤◌, ◌==◌, Bool, true, false, cond, [], length, take, refl, sym, ap, ◌∙◌, inl, inr, arith, eqb-true, eq-eqb, Some, None, ◌&&◌, not, position_or_len, lt-ltb, cases_Bool, cases_lt, fails_before_first, passes_at_first, Rule, Parts, rule_at, CanFire, can_fire, agrees_with, fires, agrees_with_earlier}
 use Rattle.sas_task_reasons.specs.LayerLaws.{IsOtherGiver, IsReportedOther}
 
 abbrev none : Rule
@@ -46,8 +36,8 @@ differs : (m n : ℕ) → m ≢ n → (m == n) ≡ false
 differs m n other = elim (cases_Bool (m == n)) [ inl y ↦ absurd (other (eqb-true m n y)) | inr isnt ↦ isnt ]
 
 module _ (p : Parts) (rule other : Rule) where
-  pub gives_tells : gives_other p rule other ≡ true → IsOtherGiver p rule other
-  gives_tells e =
+  pub gives_shows : gives_other p rule other ≡ true → IsOtherGiver p rule other
+  gives_shows e =
       let all = all_true (other.var == rule.var) (can_fire p other) (other.new == rule.new) e in
       record { its_var = eqb-true _ _ all.0; can_fire = (fires p other).0 all.1; differs = differ _ _ all.2 }
 
@@ -81,7 +71,7 @@ module _ (p : Parts) (place : ℕ) (within : place < length p.rules) where
       let exists : lowest < length p.rules = omega (arith, before, within) in record {
         reported = ap (λ (b : Bool). cond b (Some lowest) None) (lt-ltb lowest (length p.rules) exists);
         before = before;
-        gives = gives_tells p rule (rule_at p lowest) (passes_at_first (gives_other p rule) p.rules none exists);
+        gives = gives_shows p rule (rule_at p lowest) (passes_at_first (gives_other p rule) p.rules none exists);
         lowest = λ lower less gives.
             let passes = giver_passes p rule (rule_at p lower) gives in
             let fails = below lower less in

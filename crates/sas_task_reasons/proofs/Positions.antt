@@ -1,8 +1,5 @@
 -- The first place at which a test passes.
-use Rattle.std.proofs.Common.{◌≡◌, ℕ, ◌<◌, Bool, true, false, cond, List, length, get_or, Some, None, inl, inr, sym, ap, ◌∙◌, arith}
-use Rattle.std.specs.Prelude.{position, nat_lt}
-use Rattle.std.proofs.lemmas.Bool.{lt-ltb, cases_Bool, ltb-true}
-use Rattle.std.proofs.lemmas.List.Sums.{position_or_len_is}
+use Rattle.sas_task_reasons.proofs.Imports.{◌≡◌, ℕ, ◌<◌, Bool, true, false, cond, List, length, get_or, Some, None, inl, inr, sym, ap, ◌∙◌, arith, position, nat_lt, lt-ltb, cases_Bool, ltb-true, position_or_len_is}
 
 module _ {X : Type 0} (p : X → Bool) (xs : List X) (d : X) where
   -- at this place it passes, and at no lower one

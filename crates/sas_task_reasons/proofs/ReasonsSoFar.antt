@@ -1,21 +1,6 @@
 -- The reasons after each effect and each operator.
-use Rattle.std.proofs.Common.{◌≡◌, ℕ, ◌+◌, ◌<◌, Bool, List, [], ◌∷◌, ◌++◌, length, set, Option, None, Some, refl, sym, ◌∙◌, ap, subst, inl, inr, arith}
-use Rattle.std.proofs.lemmas.Bool.{cases_eq}
-use Rattle.std.proofs.lemmas.List.{length_push, get_or_push, get_or_append_left, length-set, get_or-set_same, get_or-set_other}
-use Rattle.std.specs.List.{Contains}
-use Rattle.std.specs.Prelude.{IsTrue}
-use Rattle.sas_core.specs.declared.parts.Parts.{Parts}
-use Rattle.sas_core.specs.Grounded.{operator_at, effect_at, group_at}
-use Rattle.sas_groups.specs.declared.verdict.Verdict.{Verdict}
-use Rattle.sas_groups.specs.declared.verdict.Verdict.TheVariants.{Exclusive, Derived, Initial, Broken}
-use Rattle.sas_groups.specs.Clashes.{sets}
-use Rattle.sas_groups.specs.Families.{IsGroupOfOr, IsGreatest}
-use Rattle.sas_groups.specs.Verdicts.{IsJointVerdict}
-use Rattle.sas_groups.specs.Index.{HasFact}
-use Rattle.sas_groups.specs.Kept.{family_of}
-use Rattle.sas_mutex.specs.Effects.{KeepsWithItself}
-use Rattle.sas_groups.specs.Joint.{verdict_at, AreJointVerdicts}
-use Rattle.sas_mutex.proofs.Keeping.{keeps_from_effects}
+use Rattle.sas_task_reasons.proofs.Imports.{◌≡◌, ℕ, ◌+◌, ◌<◌, Bool, List, [], ◌∷◌, ◌++◌, length, set, Option, None, Some, refl, sym, ◌∙◌, ap, subst, inl, inr, arith, cases_eq, length_push, get_or_push, get_or_append_left, length-set, get_or-set_same, get_or-set_other, Contains, IsTrue, Parts, operator_at, effect_at, group_at, Verdict, Exclusive, Derived, Initial, Broken, sets, IsGroupOfOr}
+use Rattle.sas_task_reasons.proofs.Imports.{IsGreatest, IsJointVerdict, HasFact, family_of, KeepsWithItself, verdict_at, AreJointVerdicts, keeps_from_effects}
 use Rattle.sas_task_reasons.specs.declared.reason.Failure.{Failure}
 use Rattle.sas_task_reasons.specs.declared.reason.Reason.{Reason}
 use Rattle.sas_task_reasons.specs.declared.reason.Reason.TheVariants.{Breaks}
@@ -100,10 +85,10 @@ module _ (p : Parts) (kept : List Bool) where
       → ((place : ℕ) → HasFact p place (sets (effect_at (operator_at p operator) effect))
       → IsReasonSoFar p kept operator (effect + 1) place (verdict_at verdicts place) (reason_at reasons place))
       → AreReasonsSoFar p kept operator effect verdicts reasons → AreReasonsSoFar p kept operator (effect + 1) verdicts reasons
-  next_effect operator effect verdicts reasons told so_far = record {
+  next_effect operator effect verdicts reasons reported so_far = record {
     one_each = so_far.one_each;
     are = λ place lt. elim (has_or_not (group_at p place) (sets (effect_at (operator_at p operator) effect))) [
-      | inl has ↦ told place (record { exists = lt; among = has })
+      | inl has ↦ reported place (record { exists = lt; among = has })
       | inr has_not ↦ pending_more operator effect place (verdict_at verdicts place) (reason_at reasons place) (λ has. absurd (has_not has)) (so_far.are place lt)
     ];
   }
@@ -143,7 +128,7 @@ module _ (p : Parts) (kept : List Bool) where
       → IsFirstOfEffect (IsGroupOfOr p (family_of kept) (group_at p place)) (operator_at p operator) (group_at p place) effect failure
       → IsReason p place verdict (Breaks operator failure)
   failure_is_reason operator effect place verdict failure greatest breaks below first = record {
-    told = breaks;
+    reported = breaks;
     says = (
       family_of kept,
       greatest,
@@ -213,16 +198,16 @@ pub none_broken : (p : Parts) (verdicts : List Verdict) (reasons : List (Option 
     → AreReasonsSoFar p [] 0 0 verdicts reasons → AreReasons p verdicts reasons
 none_broken p verdicts reasons none so_far = record {
   one_each = so_far.one_each;
-  are = λ place lt. told place (verdict_at verdicts place) (reason_at reasons place) (none place lt) (so_far.are place lt);
+  are = λ place lt. reported place (verdict_at verdicts place) (reason_at reasons place) (none place lt) (so_far.are place lt);
 }
   where
-    told : (place : ℕ) (verdict : Verdict) (reason : Option Reason) → (IsBroken verdict → ⊥)
+    reported : (place : ℕ) (verdict : Verdict) (reason : Option Reason) → (IsBroken verdict → ⊥)
         → IsReasonSoFar p [] 0 0 place verdict reason → IsReasonIfAny p place verdict reason
-    told place verdict (Some reason) not is = is
-    told place Exclusive None not is = refl
-    told place Derived None not is = absurd is
-    told place Initial None not is = absurd is
-    told place (Broken breaking) None not is = absurd (not (record { operator = breaking; is = refl }))
+    reported place verdict (Some reason) not is = is
+    reported place Exclusive None not is = refl
+    reported place Derived None not is = absurd is
+    reported place Initial None not is = absurd is
+    reported place (Broken breaking) None not is = absurd (not (record { operator = breaking; is = refl }))
 
 -- each operator that breaks one of the first groups is marked
 pub record MarkedUpTo (verdicts : List Verdict) (n : ℕ) (operators : ℕ) (marked : List Bool) : Type 0 where

@@ -1,19 +1,5 @@
 -- A task has an answer with reasons, and only one; and how the answer comes about.
-use Rattle.std.proofs.Common.{◌≡◌, [], refl, sym, ap, subst, Option, Some, None}
-use Rattle.std.specs.Prelude.{option_map}
-use Rattle.std.proofs.lemmas.Option.{none-some}
-use Rattle.sas_core.specs.declared.parts.Parts.{Parts}
-use Rattle.sas_core.specs.FirstFault.{first_fault}
-use Rattle.sas_meaning.specs.declared.layered.LayerFault.{LayerFault}
-use Rattle.sas_meaning.specs.declared.layered.LayerFault.TheVariants.{Memory}
-use Rattle.sas_meaning.specs.LayerChecks.{layer_checks}
-use Rattle.sas_meaning.specs.Layers.{IsLayered}
-use Rattle.sas_meaning.proofs.LayerChecksAreRules.{checks_are_rules}
-use Rattle.sas_output.specs.Ending.{Output}
-use Rattle.sas_answers.specs.Answers.{layers_refusal, layers_verdict}
-use Rattle.sas_answers.proofs.AnswerLaws.{OneAnswer, SomeAnswer}
-use Rattle.sas_answers.proofs.CheckAnswers.{some_check_answer}
-use Rattle.sas_output.specs.Line.{reasons_text}
+use Rattle.sas_task_reasons.proofs.Imports.{◌≡◌, [], refl, sym, ap, subst, Option, Some, None, option_map, none-some, Parts, first_fault, LayerFault, Memory, layer_checks, IsLayered, checks_are_rules, Output, layers_refusal, layers_verdict, OneAnswer, SomeAnswer, some_check_answer, reasons_text}
 use Rattle.sas_task_reasons.specs.WhyGroups.{WhyGroupsAnswer}
 use Rattle.sas_task_reasons.specs.WhyLayers.{layer_reasons, with_reasons, why_refusal, WhyAnswer, WhyCheckAnswer, WhyMutexAnswer}
 use Rattle.sas_task_reasons.proofs.GroupAnswers.{one_groups_answer, some_groups_answer}

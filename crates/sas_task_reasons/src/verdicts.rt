@@ -2,7 +2,7 @@
 ghost use Rattle.std.specs.Prelude.{◌≡◌, [], ◌∷◌, ◌++◌, IfOk, OnOk};
 ghost use Rattle.sas_lines.specs.Lines.{text};
 ghost use Rattle.sas_answers.specs.Answers.{GroupsAnswer};
-ghost use Rattle.sas_output.specs.Ending.{output_told};
+ghost use Rattle.sas_output.specs.Ending.{output_of};
 ghost use Rattle.sas_answers.specs.GroupWords as spec;
 ghost use Rattle.sas_answers.specs.GroupWords.{verdict_lines};
 
@@ -10,15 +10,15 @@ use sas_flat::FlatTask;
 use sas_lines::{push_line, push_number};
 use sas_meaning::Layered;
 use sas_mutex::{Verdict, check_groups};
-use sas_output::{Status, Told};
+use sas_output::{Status, Answer};
 use std::alloc::{AllocError, Global};
 
 /// Returns the answer about the mutex groups of a layered task.
-pub fn groups_answer(alloc: Global, task: &Layered<FlatTask>) -> Result<Told, AllocError>
-    ensures { IfOk result (λ a. GroupsAnswer task.now (output_told a)) }
+pub fn groups_answer(alloc: Global, task: &Layered<FlatTask>) -> Result<Answer, AllocError>
+    ensures { IfOk result (λ a. GroupsAnswer task.now (output_of a)) }
 {
     let verdicts = check_groups(alloc, task)?;
-    Ok(Told {
+    Ok(Answer {
         text: groups_text(alloc, verdicts.as_slice())?,
         status: groups_status(verdicts.as_slice()),
     })

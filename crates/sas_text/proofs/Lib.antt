@@ -1,1 +1,2 @@
 pub mod TaskTexts
+mod Imports

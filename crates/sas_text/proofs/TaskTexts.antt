@@ -1,13 +1,5 @@
 -- The text of lines of a task file, part by part.
-use Rattle.std.proofs.Common.{◌≡◌, ℕ, List, [], ◌∷◌, ◌++◌, length, map, refl, sym, ap, ◌∙◌, append_assoc, Result, Ok, Err}
-use Rattle.std.specs.List.{flat_map}
-use Rattle.std.specs.Result.{OnOk}
-use Rattle.std.proofs.lemmas.Grind.{flat_map-append}
-use Rattle.std.proofs.lemmas.List.{map-append}
-use Rattle.std.specs.Fmt.{decimal}
-use Rattle.sas_core.specs.declared.parts.Effect.{Effect}
-use Rattle.sas_lines.specs.Spelling.{signed_decimal, joined}
-use Rattle.sas_task_format.specs.TaskFormat.{TaskLine, word, effect, head, fact_words, task_line_bytes, line, between}
+use Rattle.sas_text.proofs.Imports.{◌≡◌, ℕ, List, [], ◌∷◌, ◌++◌, length, map, refl, sym, ap, ◌∙◌, append_assoc, Result, Ok, Err, flat_map, OnOk, flat_map-append, map-append, decimal, Effect, signed_decimal, joined, TaskLine, word, effect, head, fact_words, task_line_bytes, line, between}
 use Rattle.sas_text.specs.TaskText.{text_of, spaced}
 
 -- lines one after another

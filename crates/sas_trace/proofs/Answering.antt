@@ -1,24 +1,6 @@
 -- The answer about a plan with its trace: there is one, it ends with the answer about the plan, and the costs add up.
-use Rattle.std.proofs.Common.{◌≡◌, ℕ, List, ◌++◌, Option, Some, None, refl, sym, ◌∙◌, ap, subst, inl, inr}
-use Rattle.std.specs.Prelude.{option_map}
-use Rattle.std.proofs.lemmas.Option.{same_Some}
-use Rattle.sas_core.specs.declared.parts.Parts.{Parts}
-use Rattle.sas_core.specs.PlanParts.{PlanParts}
-use Rattle.sas_lines.specs.Lines.{text}
-use Rattle.sas_meaning.specs.Layers.{IsLayered}
-use Rattle.sas_run.specs.declared.plan_check.PlanFault.{PlanFault}
-use Rattle.sas_run.specs.declared.plan_check.PlanFault.TheVariants.{Memory, NoOperator, NotApplicable, Conflict, GoalMissed, CostDiffers}
-use Rattle.sas_run.specs.Plans.{IsValid}
-use Rattle.sas_run.specs.Verdicts.{IsFaultOf}
-use Rattle.sas_run.proofs.PlanVerdicts.{some_verdict, valid_has_no_fault, fault_is_one}
-use Rattle.sas_output.specs.declared.ending.Status.{Status}
-use Rattle.sas_output.specs.declared.ending.Status.TheVariants.{Yes, No}
-use Rattle.sas_output.specs.Ending.{Output}
-use Rattle.sas_answers.specs.Answers.{valid_answer, invalid_answer}
-use Rattle.sas_answers.specs.PlanWords.{fault_words, invalid_line}
-use Rattle.sas_run.specs.Runs.{Run, StepsSucceed, steps_before}
-use Rattle.sas_answers.proofs.WordedLines.{worded}
-use Rattle.sas_run.proofs.Runs.{some_run, one_run, to_fault}
+use Rattle.sas_trace.proofs.Imports.{◌≡◌, ℕ, List, ◌++◌, Option, Some, None, refl, sym, ◌∙◌, ap, subst, inl, inr, option_map, same_Some, Parts, PlanParts, text, IsLayered, PlanFault, Memory, NoOperator, NotApplicable, Conflict, GoalMissed, CostDiffers, IsValid, IsFaultOf, some_verdict, valid_has_no_fault, fault_is_one, Status, Yes, No, Output, valid_answer, invalid_answer, fault_words}
+use Rattle.sas_trace.proofs.Imports.{invalid_line, Run, StepsSucceed, steps_before, worded, some_run, one_run, to_fault}
 use Rattle.sas_trace.specs.Trace.{run_lines}
 use Rattle.sas_trace.specs.Traced.{EndsWith, TraceVerdict}
 use Rattle.sas_trace.specs.Laws.{EndsWithVerdict, CostsAddUp, SomeTrace, OneTrace}

@@ -1,16 +1,6 @@
 -- The changes that were printed so far, in the order of the variables.
-use Rattle.std.proofs.Common.{◌≡◌, ℕ, ◌+◌, ◌-◌, ◌<◌, ◌≤◌, Bool, true, false, not, ◌==◌, List, [], ◌∷◌, ◌++◌, length, map, filter, flat_map, get_or, append-nil, codes, decimal, refl, sym, ◌∙◌, ap, subst, inl, inr, arith, get_or-set_other, get_or-set_same, length-set}
-use Rattle.std.specs.Prelude.{if◌then◌else◌, slice_index, slice_set, cond}
-use Rattle.std.specs.List.{Contains}
-use Rattle.std.specs.List.Sorted.{IsNonDecreasing}
-use Rattle.std.specs.Option.{unwrap_or}
-use Rattle.std.proofs.lemmas.Bool.{cases_eq, cases_lt, cases_Bool, eq-eqb, eqb-true}
-use Rattle.std.proofs.lemmas.Grind.{same_number_lists}
-use Rattle.sas_core.specs.declared.parts.Parts.{Parts}
-use Rattle.sas_core.specs.Variables.{value_name}
-use Rattle.std.proofs.lemmas.List.{get_or_default}
-use Rattle.sas_lines.specs.Lines.{text}
-use Rattle.sas_output.specs.Words.{line}
+use Rattle.sas_trace.proofs.Imports.{◌≡◌, ℕ, ◌+◌, ◌-◌, ◌<◌, ◌≤◌, Bool, true, false, not, ◌==◌, List, [], ◌∷◌, ◌++◌, length, map, filter, flat_map, get_or, append-nil, codes, decimal, refl, sym, ◌∙◌, ap, subst, inl, inr, arith, get_or-set_other, get_or-set_same, length-set, if◌then◌else◌, slice_index, slice_set, cond, Contains, IsNonDecreasing, unwrap_or, cases_eq, cases_lt, cases_Bool, eq-eqb}
+use Rattle.sas_trace.proofs.Imports.{eqb-true, same_number_lists, Parts, value_name, get_or_default, text, line}
 use Rattle.sas_trace.specs.Trace.{variables_of, is_changed, change_line, change_lines}
 use Rattle.sas_trace.specs.Changes.{change_text, ListCoversChanges}
 use Rattle.sas_trace.proofs.Numbers.{said, said_more, said_quiet}

@@ -5,3 +5,4 @@ mod RunTexts
 mod Standing
 mod Replaying
 pub mod Answering
+mod Imports

@@ -1,17 +1,5 @@
 -- A list of variables that grows.
-use Rattle.std.proofs.Common.{◌≡◌, ℕ, ◌+◌, ◌<◌, List, [], length, get_or, sym, ◌∙◌, ap, subst, inl, inr, arith}
-use Rattle.std.specs.Prelude.{IsFalse}
-use Rattle.std.specs.List.{All}
-use Rattle.std.specs.List.Sorted.{IsPermutation}
-use Rattle.std.proofs.lemmas.Bool.{cases_eq, false≢true}
-use Rattle.std.proofs.lemmas.List.Elements.{All-nil, All-contains}
-use Rattle.std.proofs.lemmas.List.Sorted.{All-permutation, Contains-permutation}
-use Rattle.std.proofs.lemmas.List.{get_or_default}
-use Rattle.sas_core.specs.declared.parts.Fact.{Fact}
-use Rattle.sas_core.specs.declared.parts.Parts.{Parts}
-use Rattle.sas_meaning.specs.declared.touched.Touched.{Touched}
-use Rattle.sas_meaning.proofs.DerivedVariables.{derived_within}
-use Rattle.sas_run.specs.Stepping.{ListsChanges}
+use Rattle.sas_trace.proofs.Imports.{◌≡◌, ℕ, ◌+◌, ◌<◌, List, [], length, get_or, sym, ◌∙◌, ap, subst, inl, inr, arith, IsFalse, All, IsPermutation, cases_eq, false≢true, All-nil, All-contains, All-permutation, Contains-permutation, get_or_default, Fact, Parts, Touched, derived_within, ListsChanges}
 use Rattle.sas_trace.specs.Changes.{IsListedIfChanged, Grows, ListCoversChanges}
 
 module _ (n : ℕ) (xs ys zs : List ℕ) (first : Grows n xs ys) (second : Grows n ys zs) where
@@ -44,17 +32,17 @@ covers_permuted s s' xs ys same covers = record {
 
 -- ---- what a step may have changed
 
-module _ (p : Parts) (s s' : List ℕ) (deleted : List Fact) (touched : Touched) (tells : ListsChanges p s s' deleted touched) where
+module _ (p : Parts) (s s' : List ℕ) (deleted : List Fact) (touched : Touched) (reports : ListsChanges p s s' deleted touched) where
   -- its derived variables have values in a state
   pub touched_exist : length s' ≡ length p.variables → (k d : ℕ) → k < length touched.vars.items → get_or touched.vars.items k d < length s'
-  touched_exist fits k d lt = let within = derived_within p (get_or touched.vars.items k d) (tells.derived k d lt) in omega (arith, fits, within)
+  touched_exist fits k d lt = let within = derived_within p (get_or touched.vars.items k d) (reports.derived k d lt) in omega (arith, fits, within)
 
   -- where the facts that are deleted are noted, and then the variables on the list
   pub covers_both : (xs ys : List ℕ) → length s ≡ length s' → Grows (length s') [] xs → All (λ (f : Fact). IsListedIfChanged s s' xs f.var) deleted
       → Grows (length s') xs ys → All (IsListedIfChanged s s' ys) touched.vars.items → IsFalse touched.any → ListCoversChanges s s' ys
   covers_both xs ys fits first of_deleted second of_list not_any = record {
     exist = subst (λ n. All (λ (var : ℕ). var < n) ys) (sym fits) (second.exist (first.exist (All-nil (λ (var : ℕ). var < length s'))));
-    each = λ var. elim (tells.each var) [
+    each = λ var. elim (reports.each var) [
       | inl same ↦ inl same
       | inr (inl there) ↦ still_noted (length s') s s' xs ys second var
           (subst (IsListedIfChanged s s' xs) there.2 (All-contains (λ (f : Fact). IsListedIfChanged s s' xs f.var) deleted there.0 of_deleted there.1))

@@ -1,17 +1,8 @@
 -- The changes, written over the values before, give the values behind the step.
-use Rattle.std.proofs.Common.{◌≡◌, ℕ, zero, suc, ◌+◌, ◌<◌, ◌≤◌, Bool, true, false, List, ◌∷◌, length, map, filter, get_or, refl, sym, ◌∙◌, ap, subst, inl, inr, arith, get_or-set_other, get_or-set_same, length-set}
-use Rattle.std.specs.Prelude.{fold, slice_set, slice_index, cond}
-use Rattle.std.specs.List.{range_with_len}
-use Rattle.std.proofs.lemmas.Bool.{cases_eq}
-use Rattle.std.proofs.lemmas.Grind.{same_number_lists}
-use Rattle.std.proofs.lemmas.List.FromFn.{length-map-range_with_len, get_or-map-range_with_len}
-use Rattle.std.proofs.Math.Numerals.{add-one}
-use Rattle.sas_core.specs.declared.parts.Fact.{Fact}
-use Rattle.sas_run.specs.Runs.{state_at}
+use Rattle.sas_trace.proofs.Imports.{◌≡◌, ℕ, zero, suc, ◌+◌, ◌<◌, ◌≤◌, Bool, true, false, List, ◌∷◌, length, map, filter, get_or, refl, sym, ◌∙◌, ap, subst, inl, inr, arith, get_or-set_other, get_or-set_same, length-set, fold, slice_set, slice_index, cond, range_with_len, cases_eq, same_number_lists, length-map-range_with_len, get_or-map-range_with_len, add-one, Fact, state_at, state_fits}
 use Rattle.sas_trace.specs.Trace.{is_changed}
 use Rattle.sas_trace.specs.Laws.{facts_printed, Replays}
 use Rattle.sas_trace.proofs.Changing.{is_same, is_other}
-use Rattle.sas_run.proofs.Runs.{state_fits}
 
 -- a fact comes into a state
 abbrev put : List ℕ → Fact → List ℕ

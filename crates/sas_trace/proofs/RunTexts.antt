@@ -1,11 +1,5 @@
 -- The text of a run: of its initial state, and of its steps.
-use Rattle.std.proofs.Common.{◌≡◌, ℕ, List, [], ◌∷◌, ◌++◌, flat_map, length, sym, ◌∙◌, ap}
-use Rattle.std.specs.List.{range_with_len}
-use Rattle.std.proofs.lemmas.List.Folds.{flat_map-map}
-use Rattle.sas_core.specs.declared.parts.Parts.{Parts}
-use Rattle.sas_lines.specs.Lines.{text}
-use Rattle.sas_output.proofs.Texts.{text_of_both, text_of_each}
-use Rattle.sas_run.specs.Runs.{Run, state_at}
+use Rattle.sas_trace.proofs.Imports.{◌≡◌, ℕ, List, [], ◌∷◌, ◌++◌, flat_map, length, sym, ◌∙◌, ap, range_with_len, flat_map-map, Parts, text, text_of_both, text_of_each, Run, state_at}
 use Rattle.sas_trace.specs.Trace.{variables_of, initial_line, initial_lines, step_lines, run_lines}
 use Rattle.sas_trace.proofs.Numbers.{said}
 

@@ -1,13 +1,5 @@
 -- A trace stands at a step of a run, and what is written of the next one is what the run has there.
-use Rattle.std.proofs.Common.{◌≡◌, ℕ, ◌+◌, List, ◌∷◌, ◌++◌, length, get_or, refl, sym, ◌∙◌, ap, subst}
-use Rattle.sas_core.specs.declared.parts.Parts.{Parts}
-use Rattle.sas_core.specs.PlanParts.{PlanParts}
-use Rattle.sas_lines.specs.Lines.{text}
-use Rattle.sas_output.specs.declared.told.Told.{Told}
-use Rattle.sas_output.specs.Ending.{Output, output_told}
-use Rattle.sas_run.specs.Executions.{Executed, Executes, Advances, next_operator}
-use Rattle.sas_run.specs.Runs.{Run, state_at, StepsSucceed}
-use Rattle.sas_run.proofs.Executing.{executed_fits}
+use Rattle.sas_trace.proofs.Imports.{◌≡◌, ℕ, ◌+◌, List, ◌∷◌, ◌++◌, length, get_or, refl, sym, ◌∙◌, ap, subst, Parts, PlanParts, text, Answer, Output, output_of, Executed, Executes, Advances, next_operator, Run, state_at, StepsSucceed, executed_fits}
 use Rattle.sas_trace.specs.Trace.{step_line, change_lines, step_lines, run_lines}
 use Rattle.sas_trace.specs.Traced.{TraceVerdict}
 use Rattle.sas_trace.specs.Tracing.{HasTraced, HasVerdict}
@@ -33,18 +25,18 @@ module _ (p : Parts) (run : Run) (e : Executed) (printed : List ℕ) (at : HasTr
         ∙ ap (λ (s : List ℕ). text (step_line p (k + 1) (get_or run.operators k 0) ∷ change_lines p (state_at run k) s)) (along.state ∙ ap (state_at run) (advances.made ∙ ap (λ n. n + 1) made)))
 
 -- where the answer was found, a trace stands before the first step
-pub stands_first : (p : Parts) (plan : PlanParts) (run : Run) (verdict : Told) (e : Executed) (printed : List ℕ) → HasVerdict p plan run verdict e → printed ≡ e.state → HasTraced p run e printed
+pub stands_first : (p : Parts) (plan : PlanParts) (run : Run) (verdict : Answer) (e : Executed) (printed : List ℕ) → HasVerdict p plan run verdict e → printed ≡ e.state → HasTraced p run e printed
 stands_first p plan run verdict e printed has is = record { task = has.task; executes = has.executes; values = is }
 
 -- what was written, as an output
-abbrev pub written : Parts → Told → Run → Output
+abbrev pub written : Parts → Answer → Run → Output
 written p verdict run = record { text = text (run_lines p run) ++ verdict.text.items; status = verdict.status }
 
-pub is_traced : (p : Parts) (plan : PlanParts) (verdict : Told) (run : Run) (e : Executed) → HasVerdict p plan run verdict e → TraceVerdict p plan (written p verdict run)
+pub is_traced : (p : Parts) (plan : PlanParts) (verdict : Answer) (run : Run) (e : Executed) → HasVerdict p plan run verdict e → TraceVerdict p plan (written p verdict run)
 is_traced p plan verdict run e has = record {
   run = run;
   through = subst (λ q. StepsSucceed q run) has.task has.executes.of_plan.through;
-  verdict = output_told verdict;
+  verdict = output_of verdict;
   ends = has.ends;
   whole = refl;
   status = refl;

@@ -2,8 +2,8 @@
 use Rattle.std.specs.Prelude.{◌≡◌, ℕ, List}
 use Rattle.sas_core.specs.declared.parts.Parts.{Parts}
 use Rattle.sas_core.specs.PlanParts.{PlanParts}
-use Rattle.sas_output.specs.declared.told.Told.{Told}
-use Rattle.sas_output.specs.Ending.{output_told}
+use Rattle.sas_output.specs.declared.answer.Answer.{Answer}
+use Rattle.sas_output.specs.Ending.{output_of}
 use Rattle.sas_run.specs.Executions.{Executed, Executes}
 use Rattle.sas_run.specs.Runs.{Run}
 use Rattle.sas_trace.specs.Traced.{EndsWith}
@@ -15,9 +15,9 @@ pub record HasTraced (p : Parts) (run : Run) (e : Executed) (printed : List ℕ)
   pub values : printed ≡ e.state
 
 -- this is the answer about the plan, and none of the steps that succeed was made since
-pub record HasVerdict (p : Parts) (plan : PlanParts) (run : Run) (verdict : Told) (e : Executed)
+pub record HasVerdict (p : Parts) (plan : PlanParts) (run : Run) (verdict : Answer) (e : Executed)
     : Type 0 where
   pub task : e.task ≡ p
   pub made : e.made ≡ 0
   pub executes : Executes run e
-  pub ends : EndsWith p plan run (output_told verdict)
+  pub ends : EndsWith p plan run (output_of verdict)

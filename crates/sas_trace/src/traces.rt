@@ -14,7 +14,7 @@ use sas_core::{Grounded, Stepwise};
 use sas_flat::{FlatPlan, FlatTask};
 use sas_lines::Watched;
 use sas_meaning::{Layered, Settle};
-use sas_output::{Pieces, Sink, Status, Told, ToolFault};
+use sas_output::{Pieces, Sink, Status, Answer, ToolFault};
 use sas_run::Execution;
 use std::alloc::{AllocError, Global};
 use std::io::Write;
@@ -77,7 +77,7 @@ fn plan_verdict<E: Settle<T> + Drop, T: Grounded>(
     alloc: Global,
     plan: &FlatPlan,
     execution: &mut Execution<'_, '_, E, T, FlatPlan>,
-) -> Result<Told, AllocError>
+) -> Result<Answer, AllocError>
     requires { IsNew execution.old.task plan.now execution.old }
     ensures { IfOk result (λ verdict. (run : Run)
         × HasVerdict execution.old.task plan.now run verdict execution.new) }

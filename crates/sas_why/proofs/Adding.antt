@@ -1,26 +1,6 @@
 -- Reports with more lines.
-use Rattle.std.proofs.Common.{◌≡◌, ◌≢◌, ℕ, suc, ◌<◌, ◌⊎◌, Bool, true, false, not, List, [], ◌∷◌, ◌++◌, length, get_or, set, map, Option, None, Some, Vec, Global, refl, sym, ◌∙◌, ap, subst, inl, inr, arith}
-use Rattle.std.specs.Prelude.{flat_map, find, ◌↔◌, IsTrue}
-use Rattle.std.specs.List.{AllByRecursion, AllPairs, Contains}
-use Rattle.std.specs.Option.{option_map_or}
-use Rattle.std.proofs.lemmas.Bool.{cases_eq, cases_Bool, false≢true}
-use Rattle.std.proofs.lemmas.List.{get_or-set_same, get_or-set_other, length-set}
-use Rattle.std.proofs.lemmas.List.Concat.{flat_map-cons}
-use Rattle.std.proofs.lemmas.List.Elements.{Contains-append_left, Contains-append_right, Contains-append_cases}
-use Rattle.sas_core.specs.declared.parts.Fact.{Fact}
-use Rattle.sas_core.specs.declared.parts.Parts.{Parts}
-use Rattle.sas_core.specs.Grounded.{rule_at}
-use Rattle.sas_axioms.proofs.RulesOf.{of_variable}
-use Rattle.sas_meaning.specs.Places.{places, can_give}
-use Rattle.sas_meaning.proofs.Members.{contains_head, contains_tail, contains_cases, contains_none}
-use Rattle.sas_meaning.proofs.Places.{places_ascend}
-use Rattle.sas_output.specs.declared.line.Line.{Line}
-use Rattle.sas_output.specs.declared.line.Line.TheVariants.{RuleDerives, RuleRequires}
-use Rattle.sas_output.specs.Line.{rule_numbers, is_rule_line}
-use Rattle.sas_reasons.specs.Lines.{with_lines}
-use Rattle.sas_reasons.specs.Derivation.{ComesBefore, IsDerivation}
-use Rattle.sas_reasons.specs.Cause.{fails, failing_lines}
-use Rattle.sas_reasons.proofs.Derivation.{no_circle}
+use Rattle.sas_why.proofs.Imports.{◌≡◌, ◌≢◌, ℕ, suc, ◌<◌, ◌⊎◌, Bool, true, false, not, List, [], ◌∷◌, ◌++◌, length, get_or, set, map, Option, None, Some, Vec, Global, refl, sym, ◌∙◌, ap, subst, inl, inr, arith, flat_map, find, ◌↔◌, IsTrue, AllByRecursion, AllPairs, Contains, option_map_or, cases_eq, cases_Bool, false≢true, get_or-set_same, get_or-set_other, length-set, flat_map-cons}
+use Rattle.sas_why.proofs.Imports.{Contains-append_left, Contains-append_right, Contains-append_cases, Fact, Parts, rule_at, of_variable, places, can_give, contains_head, contains_tail, contains_cases, contains_none, places_ascend, Line, RuleDerives, RuleRequires, rule_numbers, is_rule_line, with_lines, ComesBefore, IsDerivation, fails, failing_lines, no_circle}
 use Rattle.sas_why.specs.declared.origins.Origins.{Origins}
 use Rattle.sas_why.specs.declared.report.Report.{Report}
 use Rattle.sas_why.specs.Origins.{is_reported, AreOrigins, ReportsDerivation}

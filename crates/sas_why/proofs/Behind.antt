@@ -1,24 +1,7 @@
 -- What is known of a run that was retraced up to a fault.
-use Rattle.std.proofs.Common.{◌≡◌, ℕ, ◌-◌, List, [], ◌∷◌, ◌++◌, length, take, Option, None, Some, refl, sym, ◌∙◌, ap, subst, inl, inr, arith}
-use Rattle.std.proofs.lemmas.List.{append-nil}
-use Rattle.std.proofs.Math.Seq.{take-append_seam}
-use Rattle.sas_core.specs.declared.parts.Parts.{Parts}
-use Rattle.sas_core.specs.PlanParts.{PlanParts}
-use Rattle.sas_core.specs.Grounded.{operator_at}
-use Rattle.sas_core.specs.Variables.{IsState}
-use Rattle.sas_meaning.specs.Layers.{IsLayered}
-use Rattle.sas_meaning.specs.Settled.{IsSettled}
-use Rattle.sas_meaning.specs.Steps.{Agree}
-use Rattle.sas_run.specs.declared.plan_check.PlanFault.{PlanFault}
-use Rattle.sas_run.specs.declared.plan_check.PlanFault.TheVariants.{Conflict}
-use Rattle.sas_run.specs.Plans.{LeadsTo}
-use Rattle.sas_run.specs.Verdicts.{ComesTo, IsFaultOf}
-use Rattle.sas_run.proofs.Determined.{leads_one_way}
-use Rattle.sas_output.specs.declared.line.Line.{Line}
+use Rattle.sas_why.proofs.Imports.{◌≡◌, ℕ, ◌-◌, List, [], ◌∷◌, ◌++◌, length, take, Option, None, Some, refl, sym, ◌∙◌, ap, subst, inl, inr, arith, append-nil, take-append_seam, Parts, PlanParts, operator_at, IsState, IsLayered, IsSettled, Agree, PlanFault, Conflict, LeadsTo, ComesTo, IsFaultOf, leads_one_way, Line, Run, last_state, StepsSucceed, steps_before, RunEndsWith, leads_to_last}
+use Rattle.sas_why.proofs.Imports.{last_rests, AreCouldBeLines, AreFaultLines, IsWhy}
 use Rattle.sas_output.specs.declared.line.Line.TheVariants as line
-use Rattle.sas_run.specs.Runs.{Run, last_state, StepsSucceed, steps_before, RunEndsWith}
-use Rattle.sas_run.proofs.Runs.{leads_to_last, last_rests}
-use Rattle.sas_reasons.specs.WhyPlan.{AreCouldBeLines, AreFaultLines, IsWhy}
 use Rattle.sas_why.specs.declared.retraced.Other.{Other}
 use Rattle.sas_why.specs.declared.retraced.Retraced.{Retraced}
 use Rattle.sas_why.specs.Retracing.{IsOtherIfAny, Retraces}

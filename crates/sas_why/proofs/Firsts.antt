@@ -1,15 +1,6 @@
 -- The first effects that fire on the variables, one effect more.
-use Rattle.std.proofs.Common.{◌≡◌, ◌≢◌, ℕ, ◌+◌, ◌<◌, ◌≤◌, List, length, set, Option, None, Some, refl, sym, ◌∙◌, ap, subst, inl, inr, arith}
-use Rattle.std.proofs.lemmas.Bool.{cases_eq}
-use Rattle.std.proofs.lemmas.List.{get_or-set_same, get_or-set_other, length-set}
-use Rattle.sas_core.specs.declared.parts.Operator.{Operator}
-use Rattle.sas_core.specs.declared.parts.Parts.{Parts}
-use Rattle.sas_core.specs.Grounded.{effect_at}
-use Rattle.sas_meaning.specs.Steps.{Fires, Agree}
-use Rattle.sas_run.proofs.Giving.{same_inside, not_both}
-use Rattle.sas_reasons.specs.Lowest.{IsLowest, AreLowest}
-use Rattle.sas_reasons.specs.WhyPlan.{ConflictsWith}
-use Rattle.sas_reasons.proofs.Conflicts.{some_conflict}
+use Rattle.sas_why.proofs.Imports.{◌≡◌, ◌≢◌, ℕ, ◌+◌, ◌<◌, ◌≤◌, List, length, set, Option, None, Some, refl, sym, ◌∙◌, ap, subst, inl, inr, arith, cases_eq, get_or-set_same, get_or-set_other, length-set, Operator, Parts, effect_at, Agree, same_inside, not_both, IsLowest, AreLowest, ConflictsWith, some_conflict}
+use Rattle.sas_meaning.specs.Steps.{Fires}
 use Rattle.sas_why.specs.Conflicts.{first_on, AgreesWithFirst, AreFirstEffects}
 
 module _ (p : Parts) (s : List ℕ) (o : Operator) where

@@ -1,10 +1,5 @@
 -- Trimming a name from its end.
-use Rattle.std.proofs.Common.{◌≡◌, ◌≢◌, ℕ, suc, ◌+◌, ◌≤◌, false, cond, List, [], ◌∷◌, ◌++◌, length, get_or, take, refl, sym, ◌∙◌, ap, arith}
-use Rattle.std.specs.Prelude.{◌==◌, ◌&&◌}
-use Rattle.std.proofs.lemmas.Bool.{ne_eqb}
-use Rattle.std.proofs.Math.Seq.{take-suc}
-use Rattle.sas_reasons.specs.MayMean.{trimmed}
-use Rattle.sas_reasons.proofs.Likeness.{is_blank, space_is_trimmed}
+use Rattle.sas_why.proofs.Imports.{◌≡◌, ◌≢◌, ℕ, suc, ◌+◌, ◌≤◌, false, cond, List, [], ◌∷◌, ◌++◌, length, get_or, take, refl, sym, ◌∙◌, ap, arith, ◌==◌, ◌&&◌, ne_eqb, take-suc, trimmed, is_blank, space_is_trimmed}
 
 -- bytes that end in no space are not blank
 not_blank : (bytes : List ℕ) (b : ℕ) → b ≢ 32 → is_blank (bytes ++ b ∷ []) ≡ false

@@ -18,3 +18,4 @@ pub mod RoundEnds
 pub mod ReportingSteps
 pub mod Placing
 pub mod ReportedRules
+mod Imports

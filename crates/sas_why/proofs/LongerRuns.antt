@@ -1,17 +1,6 @@
 -- The run of the first steps of a run, and the one that is a step longer.
-use Rattle.std.proofs.Common.{◌≡◌, ◌≢◌, ℕ, ◌+◌, ◌<◌, ◌≤◌, List, [], ◌∷◌, ◌++◌, length, take, get_or, refl, sym, ◌∙◌, ap, subst, inl, inr, arith}
-use Rattle.std.proofs.lemmas.Bool.{cases_lt}
-use Rattle.std.proofs.lemmas.List.{take_all, take_more, take-take, length-take-le, get_or-take}
-use Rattle.std.proofs.Math.ListN.{get_or-append, length-append}
-use Rattle.std.proofs.Math.Seq.{get_or-append_seam}
-use Rattle.sas_core.specs.declared.parts.Parts.{Parts}
-use Rattle.sas_core.specs.Grounded.{operator_at}
-use Rattle.sas_names.specs.Named.{IsNamed}
-use Rattle.sas_run.specs.Plans.{LeadsTo, IsApplicable}
-use Rattle.sas_run.specs.Running.{IsLater}
-use Rattle.sas_run.specs.Runs.{Run, state_at, last_state, StepsSucceed}
-use Rattle.sas_reasons.specs.Cause.{value_at, IsSince}
-use Rattle.sas_reasons.specs.MayMean.{IsOther, MayMean}
+use Rattle.sas_why.proofs.Imports.{◌≡◌, ◌≢◌, ℕ, ◌+◌, ◌<◌, ◌≤◌, List, [], ◌∷◌, ◌++◌, length, take, get_or, refl, sym, ◌∙◌, ap, subst, inl, inr, arith, cases_lt, take_all, take_more, take-take, length-take-le, get_or-take, get_or-append, get_or-append_seam, Parts, operator_at, IsNamed, LeadsTo, IsApplicable, IsLater, Run, state_at, last_state, StepsSucceed, value_at, IsSince, IsOther, MayMean}
+use Rattle.std.proofs.Math.ListN.{length-append}
 use Rattle.sas_why.specs.Retracing.{first_steps}
 
 abbrev run_of : List (List ℕ) → List ℕ → List (List ℕ) → Run

@@ -1,16 +1,5 @@
 -- It is enough to look at the variables that a step may have changed.
-use Rattle.std.proofs.Common.{◌≡◌, ◌≢◌, ◌⊎◌, ℕ, ◌<◌, true, false, IsFalse, List, length, get_or, sym, ◌∙◌, subst, inl, inr, arith}
-use Rattle.std.specs.List.{All, Contains}
-use Rattle.std.proofs.lemmas.Bool.{cases_eq, cases_Bool}
-use Rattle.std.proofs.lemmas.List.Elements.{All-contains}
-use Rattle.sas_core.specs.declared.parts.Fact.{Fact}
-use Rattle.sas_core.specs.declared.parts.Parts.{Parts}
-use Rattle.sas_core.specs.Variables.{IsDerived, IsState}
-use Rattle.sas_meaning.specs.declared.touched.Touched.{Touched}
-use Rattle.sas_meaning.specs.Touched.{MayHaveChanged}
-use Rattle.sas_meaning.specs.DerivedVariables.{AreDerived}
-use Rattle.sas_meaning.proofs.DerivedVariables.{derived_within}
-use Rattle.sas_run.specs.Stepping.{ListsChanges}
+use Rattle.sas_why.proofs.Imports.{◌≡◌, ◌≢◌, ◌⊎◌, ℕ, ◌<◌, true, false, IsFalse, List, length, get_or, sym, ◌∙◌, subst, inl, inr, arith, All, Contains, cases_eq, cases_Bool, All-contains, Fact, Parts, IsDerived, IsState, Touched, MayHaveChanged, AreDerived, derived_within, ListsChanges}
 use Rattle.sas_why.specs.declared.changes.Changes.{Changes}
 use Rattle.sas_why.specs.Noting.{HavePlaces, NotedAt, LeftAt, NotesSome, NotesChanges, looked_at, CoverChanges}
 

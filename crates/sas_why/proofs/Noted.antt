@@ -1,16 +1,5 @@
 -- What is noted of a run, step by step.
-use Rattle.std.proofs.Common.{◌≡◌, ℕ, ◌+◌, ◌<◌, ◌≤◌, List, length, get_or, Option, Some, None, sym, ◌∙◌, ap, subst, inl, inr, arith}
-use Rattle.std.proofs.lemmas.Bool.{cases_eq}
-use Rattle.std.proofs.lemmas.List.{same_lists, get_or_default}
-use Rattle.sas_core.specs.declared.parts.Parts.{Parts}
-use Rattle.sas_core.specs.Grounded.{operator_at}
-use Rattle.sas_core.specs.PlanParts.{PlanParts}
-use Rattle.sas_run.specs.Executions.{Executed, next_name, next_operator, Executes}
-use Rattle.sas_run.specs.Running.{IsLaterIfAny}
-use Rattle.sas_run.specs.Runs.{Run, state_at, last_state, StepsSucceed, RunEndsWith}
-use Rattle.sas_run.proofs.Executing.{as_many, executed_fits, name_is}
-use Rattle.sas_reasons.specs.Cause.{IsSince}
-use Rattle.sas_reasons.specs.MayMean.{MayMean}
+use Rattle.sas_why.proofs.Imports.{◌≡◌, ℕ, ◌+◌, ◌<◌, ◌≤◌, List, length, get_or, Option, Some, None, sym, ◌∙◌, ap, subst, inl, inr, arith, cases_eq, same_lists, get_or_default, Parts, operator_at, PlanParts, Executed, next_name, next_operator, Executes, IsLaterIfAny, Run, state_at, last_state, StepsSucceed, RunEndsWith, as_many, executed_fits, name_is, IsSince, MayMean}
 use Rattle.sas_why.specs.declared.changes.Changes.{Changes}
 use Rattle.sas_why.specs.declared.retraced.Other.{Other}
 use Rattle.sas_why.specs.declared.retraced.Retraced.{Retraced}

@@ -1,18 +1,6 @@
 -- Lines that are added to others, each line of a rule once.
-use Rattle.std.proofs.Common.{◌≡◌, ◌≢◌, ℕ, suc, Bool, true, false, not, List, [], ◌∷◌, ◌++◌, map, get_or, refl, sym, ◌∙◌, ap, subst, inl, inr, arith, append_assoc}
-use Rattle.std.proofs.lemmas.List.{append-nil}
-use Rattle.std.specs.Prelude.{◌||◌, ◌&&◌, if◌then◌else◌, bytes_eq, filter}
-use Rattle.std.specs.List.{Contains, AllByRecursion, AllPairs, list_any}
-use Rattle.std.proofs.lemmas.Bool.{cases_Bool}
-use Rattle.std.proofs.lemmas.Bool.Decides.{same_from_decides}
-use Rattle.std.proofs.lemmas.List.Elements.{All-contains}
-use Rattle.sas_meaning.proofs.Members.{contains_head, contains_tail, contains_cases, contains_none}
-use Rattle.sas_output.specs.declared.line.Line.{Line}
-use Rattle.sas_output.specs.declared.line.Line.TheVariants.{RuleDerives}
-use Rattle.sas_output.specs.Line.{rule_numbers, is_rule_line, is_same_rule_line}
-use Rattle.sas_output.proofs.RuleLines.{same_is}
-use Rattle.sas_reasons.specs.Lines.{with_line, with_lines}
-use Rattle.sas_reasons.proofs.Repeats.{is_among, among_is, is_among_when, line_then, line_else}
+use Rattle.sas_why.proofs.Imports.{◌≡◌, ◌≢◌, ℕ, suc, Bool, true, false, not, List, [], ◌∷◌, ◌++◌, map, get_or, refl, sym, ◌∙◌, ap, subst, inl, inr, arith, append_assoc, append-nil, ◌||◌, ◌&&◌, if◌then◌else◌, bytes_eq, filter, Contains, AllByRecursion, AllPairs, list_any, cases_Bool, same_from_decides, All-contains, contains_head, contains_tail, contains_cases, contains_none, Line, RuleDerives}
+use Rattle.sas_why.proofs.Imports.{rule_numbers, is_rule_line, is_same_rule_line, same_is, with_line, with_lines, is_among, among_is, is_among_when, line_then, line_else}
 
 -- one list behind another
 pub lines_append : (lines a b : List Line) → with_lines lines (a ++ b) ≡ with_lines (with_lines lines a) b

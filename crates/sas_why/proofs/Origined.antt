@@ -1,6 +1,5 @@
 -- How the origins change when a rule fires.
-use Rattle.std.proofs.Common.{◌≡◌, ℕ, zero, suc, ◌+◌, ◌<◌, ◌≤◌, ◌⊎◌, List, [], ◌∷◌, length, set, Option, None, Some, refl, subst, inl, inr, arith}
-use Rattle.std.proofs.lemmas.Bool.Decides.{eqb_tells, leb_tells}
+use Rattle.sas_why.proofs.Imports.{◌≡◌, ℕ, zero, suc, ◌+◌, ◌<◌, ◌≤◌, ◌⊎◌, List, [], ◌∷◌, length, set, Option, None, Some, refl, subst, inl, inr, arith, eqb_tells, leb_tells}
 use Rattle.sas_why.specs.declared.rounds.Origin.{Origin}
 use Rattle.sas_why.specs.Rounds.{origin_at, origin_now, origin_with_rule, unreached}
 

@@ -1,17 +1,7 @@
 -- What the rounds that are over reach, and what follows for the conditions of rules.
-use Rattle.std.proofs.Common.{◌≡◌, ◌≢◌, ℕ, zero, suc, ◌<◌, ◌≤◌, ◌⊎◌, true, false, cond, List, [], ◌∷◌, length, get_or, Option, None, Some, refl, sym, ◌∙◌, ap, subst, inl, inr, arith}
+use Rattle.sas_why.proofs.Imports.{◌≡◌, ◌≢◌, ℕ, zero, suc, ◌<◌, ◌≤◌, ◌⊎◌, true, false, cond, List, [], ◌∷◌, length, get_or, Option, None, Some, refl, sym, ◌∙◌, ap, subst, inl, inr, arith, option_eq, All, Contains, cases_eq, cases_Bool, eqb_tells, Fact, Parts, IsOnLayer, default_of, LooksDown, IsLayered, new_value_of, IsSettled, layer_decides, given_on, given_off, one_layer, reached, reached_more}
+use Rattle.sas_why.proofs.Imports.{reached_differs}
 use Rattle.std.specs.Bool.{◌==◌}
-use Rattle.std.specs.Option.{option_eq}
-use Rattle.std.specs.List.{All, Contains}
-use Rattle.std.proofs.lemmas.Bool.{cases_eq, cases_Bool}
-use Rattle.std.proofs.lemmas.Bool.Decides.{eqb_tells}
-use Rattle.sas_core.specs.declared.parts.Fact.{Fact}
-use Rattle.sas_core.specs.declared.parts.Parts.{Parts}
-use Rattle.sas_meaning.specs.Layers.{IsOnLayer, default_of, LooksDown, IsLayered}
-use Rattle.sas_meaning.specs.Settled.{new_value_of, IsSettled}
-use Rattle.sas_meaning.proofs.Layers.{layer_tells, given_on, given_off, one_layer}
-use Rattle.sas_reasons.specs.Derivation.{reached}
-use Rattle.sas_reasons.proofs.Rounds.{reached_more, reached_differs}
 use Rattle.sas_why.specs.Rounds.{IsReached, OriginsUpToRound, value_in_round}
 
 module _ (p : Parts) (s : List ℕ) (layered : IsLayered p) where
@@ -46,7 +36,7 @@ module _ (p : Parts) (s : List ℕ) (layered : IsLayered p) where
 
     module _ (origins : List _) (known : OriginsUpToRound p s over origins) where
       pub value_when_reached : (layer var : ℕ) → IsReached origins over var → value_in_round p layer s over var ≡ get_or s var 0
-      value_when_reached layer var at = elim (layer_tells p layer var) [
+      value_when_reached layer var at = elim (layer_decides p layer var) [
         | inl w ↦ value_reached layer var w.0 (reached_in over origins known layer var w.0 at)
         | inr w ↦ value_off layer var w.0
       ]
@@ -60,7 +50,7 @@ module _ (p : Parts) (s : List ℕ) (layered : IsLayered p) where
     -- a condition that holds in a round holds in the next one, where it looks down
     pub holds_on : (layer var : ℕ) (c : Fact) → IsOnLayer p layer var → LooksDown p var c
         → value_in_round p layer s over c.var ≡ c.value → value_in_round p layer s (suc over) c.var ≡ c.value
-    holds_on layer var c on down holds = elim (layer_tells p layer c.var) [
+    holds_on layer var c on down holds = elim (layer_decides p layer c.var) [
       | inr w ↦ given_off p layer s (reached p layer s (suc over)) c.var w.0 ∙ (sym (value_off layer c.var w.0) ∙ holds)
       | inl w ↦ elim (cases_Bool (reached p layer s over c.var)) [
         | inr n ↦ (let requires : c.value ≡ default_of p c.var = sym holds ∙ value_not layer c.var w.0 n in
@@ -75,7 +65,7 @@ module _ (p : Parts) (s : List ℕ) (layered : IsLayered p) where
     -- a condition that begins to hold is on a variable that was reached
     pub begins_to_hold : (layer : ℕ) (c : Fact) → value_in_round p layer s over c.var ≢ c.value → value_in_round p layer s (suc over) c.var ≡ c.value
         → IsOnLayer p layer c.var × (reached p layer s over c.var ≡ false) × (reached p layer s (suc over) c.var ≡ true)
-    begins_to_hold layer c fails holds = elim (layer_tells p layer c.var) [
+    begins_to_hold layer c fails holds = elim (layer_decides p layer c.var) [
       | inr w ↦ absurd (fails (value_off layer c.var w.0 ∙ (sym (given_off p layer s (reached p layer s (suc over)) c.var w.0) ∙ holds)))
       | inl w ↦ elim (cases_Bool (reached p layer s over c.var)) [
         | inl y ↦ absurd (fails (given_on p layer s (reached p layer s over) c.var w.0

@@ -1,19 +1,5 @@
 -- The entries of the rules under the derived variables on which they have conditions.
-use Rattle.std.proofs.Common.{◌≡◌, ℕ, ◌+◌, ◌<◌, ◌≤◌, List, [], ◌∷◌, ◌++◌, length, get_or, sym, ◌∙◌, ap, subst, inl, inr, arith}
-use Rattle.std.specs.List.{All, Contains}
-use Rattle.std.proofs.lemmas.Bool.{cases_eq}
-use Rattle.std.proofs.lemmas.List.{get_or_default}
-use Rattle.std.proofs.lemmas.List.Elements.{All-nil, All-push, All-weaker, Contains-push, Contains-append_left}
-use Rattle.sas_core.specs.declared.parts.Fact.{Fact}
-use Rattle.sas_core.specs.declared.parts.Parts.{Parts}
-use Rattle.sas_core.specs.Grounded.{rule_at}
-use Rattle.sas_core.specs.Variables.{IsDerived}
-use Rattle.sas_core.specs.WellRanged.{WellRanged}
-use Rattle.sas_flat.specs.declared.by_key.Entry.{Entry}
-use Rattle.sas_flat.specs.ByKey.{items_of, by_key}
-use Rattle.sas_flat.proofs.Tables.{length-table}
-use Rattle.sas_flat.proofs.ByKey.{under_key, all_items, holds}
-use Rattle.sas_meaning.proofs.Forced.{condition_within}
+use Rattle.sas_why.proofs.Imports.{◌≡◌, ℕ, ◌+◌, ◌<◌, ◌≤◌, List, [], ◌∷◌, ◌++◌, length, get_or, sym, ◌∙◌, ap, subst, inl, inr, arith, All, Contains, cases_eq, get_or_default, All-nil, All-push, All-weaker, Contains-push, Contains-append_left, Fact, Parts, rule_at, IsDerived, WellRanged, Entry, items_of, by_key, length-table, under_key, all_items, holds, condition_within}
 use Rattle.sas_why.specs.Requiring.{entry_of, HasConditionOn, IsEntryOfTask, AddsRequiring, requiring_at, IsRequiringIndex}
 
 -- ---- the conditions of one rule

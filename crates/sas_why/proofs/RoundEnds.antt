@@ -1,19 +1,6 @@
 -- How a round ends, how the first one begins, and what is known when no rule is left to look at.
-use Rattle.std.proofs.Common.{◌≡◌, ℕ, suc, ◌+◌, ◌<◌, ◌≤◌, true, false, List, [], ◌∷◌, length, get_or, replicate, Option, None, Some, refl, sym, ◌∙◌, ap, subst, inl, inr, arith}
-use Rattle.std.specs.Prelude.{is_some}
-use Rattle.std.specs.List.{Contains}
-use Rattle.std.proofs.lemmas.Bool.{cases_lt, cases_Bool, false≢true, and_parts}
-use Rattle.std.proofs.lemmas.List.{get_or-replicate, length-replicate, get_or_default, get_or_past}
-use Rattle.std.proofs.lemmas.List.Elements.{All-nil, All-contains}
-use Rattle.sas_core.specs.declared.parts.Parts.{Parts}
-use Rattle.sas_core.specs.Grounded.{rule_at}
-use Rattle.sas_meaning.specs.Layers.{IsOnLayer, IsLayered}
-use Rattle.sas_meaning.specs.Settled.{IsSettled, IsClosed, differs}
-use Rattle.sas_meaning.proofs.Layers.{layer_cases}
-use Rattle.sas_meaning.proofs.Members.{contains_none}
-use Rattle.sas_reasons.specs.Derivation.{reached, HasLayerAndRank, FiresNext}
-use Rattle.sas_reasons.specs.Cause.{is_derived, is_given}
-use Rattle.sas_reasons.proofs.Rounds.{Fires, ReachedBy, reached_by}
+use Rattle.sas_why.proofs.Imports.{◌≡◌, ℕ, suc, ◌+◌, ◌<◌, ◌≤◌, true, false, List, [], ◌∷◌, length, get_or, replicate, Option, None, Some, refl, sym, ◌∙◌, ap, subst, inl, inr, arith, is_some, Contains, cases_lt, cases_Bool, false≢true, and_parts, get_or-replicate, length-replicate, get_or_default, get_or_past, All-nil, All-contains, Parts, rule_at, IsOnLayer, IsLayered, IsSettled, IsClosed}
+use Rattle.sas_why.proofs.Imports.{differs, layer_cases, contains_none, reached, HasLayerAndRank, FiresNext, is_derived, is_given, Fires, ReachedBy, reached_by}
 use Rattle.sas_why.specs.declared.rounds.Origin.{Origin}
 use Rattle.sas_why.specs.declared.rounds.Rounds.{Rounds}
 use Rattle.sas_why.specs.Requiring.{requiring_at}

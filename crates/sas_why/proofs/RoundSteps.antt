@@ -1,18 +1,6 @@
 -- How a round goes on when a rule is looked at, and how it ends.
-use Rattle.std.proofs.Common.{◌≡◌, ◌≢◌, ℕ, suc, ◌<◌, ◌≤◌, ◌⊎◌, true, false, List, [], ◌∷◌, ◌++◌, length, get_or, set, Option, None, Some, refl, sym, ◌∙◌, ap, subst, inl, inr, arith}
-use Rattle.std.specs.List.{All, Contains}
-use Rattle.std.proofs.lemmas.Bool.{cases_eq, cases_lt, cases_Bool}
-use Rattle.std.proofs.lemmas.List.{get_or-set_same, get_or-set_other, length-set, append-nil}
-use Rattle.std.proofs.lemmas.List.Elements.{All-nil, All-append, All-weaker, Contains-push_cases, Contains-append_left, Contains-append_right, Contains-get_or}
-use Rattle.sas_core.specs.declared.grounded.Change.{Change}
-use Rattle.sas_core.specs.declared.parts.Fact.{Fact}
-use Rattle.sas_core.specs.declared.parts.Parts.{Parts}
-use Rattle.sas_core.specs.Changes.{rule_change}
-use Rattle.sas_core.specs.Grounded.{rule_at}
-use Rattle.sas_meaning.specs.Layers.{IsOnLayer, default_of, CanFire}
-use Rattle.sas_meaning.proofs.Layers.{one_layer}
-use Rattle.sas_reasons.specs.Derivation.{reached, FiresNext}
-use Rattle.sas_reasons.proofs.Rounds.{Fires, fires_decides, reach}
+use Rattle.sas_why.proofs.Imports.{◌≡◌, ◌≢◌, ℕ, suc, ◌<◌, ◌≤◌, ◌⊎◌, true, false, List, [], ◌∷◌, ◌++◌, length, get_or, set, Option, None, Some, refl, sym, ◌∙◌, ap, subst, inl, inr, arith, All, Contains, cases_eq, cases_lt, cases_Bool, get_or-set_same, get_or-set_other, length-set, append-nil, All-nil, All-append, All-weaker, Contains-push_cases, Contains-append_left, Contains-append_right}
+use Rattle.sas_why.proofs.Imports.{Contains-get_or, Change, Fact, Parts, rule_change, rule_at, IsOnLayer, default_of, CanFire, one_layer, reached, FiresNext, Fires, fires_decides, reach}
 use Rattle.sas_why.specs.declared.rounds.Origin.{Origin}
 use Rattle.sas_why.specs.declared.rounds.Rounds.{Rounds}
 use Rattle.sas_why.specs.Requiring.{requiring_at}

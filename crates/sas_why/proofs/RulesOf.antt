@@ -1,21 +1,6 @@
 -- The rules of a variable that can fire, and what values they give it.
-use Rattle.std.proofs.Common.{◌≡◌, ℕ, ◌+◌, ◌<◌, true, false, List, [], ◌∷◌, length, get_or, refl, sym, ◌∙◌, subst, inl, inr, arith}
-use Rattle.std.specs.Prelude.{◌==◌, ◌&&◌, slice_get, Some, None}
-use Rattle.std.specs.List.{Contains}
-use Rattle.std.proofs.lemmas.Bool.{cases_Bool, eqb-true, and_parts, and_from}
-use Rattle.std.proofs.lemmas.Bool.Decides.{eqb_tells}
-use Rattle.std.proofs.lemmas.List.{get_or_default}
-use Rattle.std.proofs.lemmas.List.Folds.{Any-from_list_any, list_any_at}
-use Rattle.sas_core.specs.declared.parts.Fact.{Fact}
-use Rattle.sas_core.specs.declared.parts.Rule.{Rule}
-use Rattle.sas_core.specs.declared.parts.Parts.{Parts}
-use Rattle.sas_core.specs.Grounded.{rule_at}
-use Rattle.sas_meaning.specs.Layers.{CanFire, IsLayered}
-use Rattle.sas_meaning.specs.Places.{places, can_give}
-use Rattle.sas_meaning.proofs.Members.{contains_none}
-use Rattle.sas_meaning.proofs.Places.{is_place}
-use Rattle.sas_axioms.proofs.RulesOf.{of_variable, can_of}
-use Rattle.sas_reasons.specs.Cause.{can_be_given}
+use Rattle.sas_why.proofs.Imports.{◌≡◌, ℕ, ◌+◌, ◌<◌, true, false, List, [], ◌∷◌, length, get_or, refl, sym, ◌∙◌, subst, inl, inr, arith, ◌==◌, ◌&&◌, slice_get, Some, None, Contains, cases_Bool, eqb-true, and_parts, and_from, eqb_tells, get_or_default, Any-from_list_any, list_any_at, Fact, Rule, Parts, rule_at, CanFire, IsLayered, places, can_give, contains_none, is_place, of_variable, can_of}
+use Rattle.sas_why.proofs.Imports.{can_be_given}
 
 module _ (p : Parts) where
   -- if the variable has no rule that can fire, it can't be given a value

@@ -1,17 +1,5 @@
 -- The variables of conditions, preconditions and goal facts have values in a state.
-use Rattle.std.proofs.Common.{ℕ, ◌<◌, length, sym, subst, List, [], None}
-use Rattle.std.specs.List.{All}
-use Rattle.std.proofs.lemmas.List.Elements.{All-weaker, All-from_recursion}
-use Rattle.sas_core.specs.declared.parts.Fact.{Fact}
-use Rattle.sas_core.specs.declared.parts.Rule.{Rule}
-use Rattle.sas_core.specs.declared.parts.Parts.{Parts}
-use Rattle.sas_core.specs.Variables.{FactExists, IsState}
-use Rattle.sas_core.specs.Grounded.{operator_at, rule_at}
-use Rattle.sas_core.specs.WellRanged.{WellRanged, RuleFits}
-use Rattle.sas_core.proofs.Places.{holds_at}
-use Rattle.sas_meaning.specs.Steps.{preconditions}
-use Rattle.sas_meaning.proofs.Forced.{fact_within}
-use Rattle.sas_run.proofs.Ranges.{preconditions_within}
+use Rattle.sas_why.proofs.Imports.{ℕ, ◌<◌, length, sym, subst, List, [], None, All, All-weaker, All-from_recursion, Fact, Rule, Parts, FactExists, IsState, operator_at, rule_at, WellRanged, RuleFits, holds_at, preconditions, fact_within, preconditions_within}
 
 module _ (p : Parts) (ranged : WellRanged p) (s : List ℕ) (state : IsState p.variables s) where
   -- facts that exist have variables with values

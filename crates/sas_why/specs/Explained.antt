@@ -3,7 +3,7 @@ use Rattle.std.specs.Prelude.{List, ◌++◌, Option, IsSomeAnd}
 use Rattle.sas_core.specs.declared.parts.Parts.{Parts}
 use Rattle.sas_core.specs.PlanParts.{PlanParts}
 use Rattle.sas_output.specs.declared.line.Line.{Line}
-use Rattle.sas_output.specs.declared.told.Told.{Told}
+use Rattle.sas_output.specs.declared.answer.Answer.{Answer}
 use Rattle.sas_output.specs.Ending.{Output}
 use Rattle.sas_output.specs.Line.{reasons_text}
 use Rattle.sas_why.specs.Verdict.{WhyVerdict}
@@ -13,7 +13,7 @@ abbrev pub IsExplained : Parts → PlanParts → Option Output → Type 0
 IsExplained p plan output = IsSomeAnd output (WhyVerdict p plan)
 
 -- the verdict and, behind it, these lines of reasons are this answer
-abbrev pub MakeAnswer : Parts → PlanParts → Told → List Line → Type 0
+abbrev pub MakeAnswer : Parts → PlanParts → Answer → List Line → Type 0
 MakeAnswer p plan verdict lines = WhyVerdict p plan (record {
   text = verdict.text.items ++ reasons_text p plan.steps lines;
   status = verdict.status;

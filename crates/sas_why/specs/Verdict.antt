@@ -16,7 +16,7 @@ use Rattle.sas_reasons.specs.WhyPlan.{IsWhy}
 pub record Explains (p : Parts) (plan : PlanParts) (fault : PlanFault) (bytes : List ℕ)
     : Type 0 where
   pub verdict : Output
-  pub told : invalid_answer plan.cost fault ≡ Some verdict
+  pub reported : invalid_answer plan.cost fault ≡ Some verdict
   pub reasons : List Line
   pub why : IsWhy p plan fault reasons
   pub whole : bytes ≡ verdict.text ++ reasons_text p plan.steps reasons

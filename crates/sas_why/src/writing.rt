@@ -17,7 +17,7 @@ use sas_core::Stepwise;
 use sas_flat::{FlatPlan, FlatTask};
 use sas_lines::Watched;
 use sas_meaning::Layered;
-use sas_output::{Line, Named, Status, Told, ToolFault, write_reasons};
+use sas_output::{Line, Named, Status, Answer, ToolFault, write_reasons};
 use sas_run::{Execution, PlanFault};
 use std::alloc::{AllocError, Global};
 use std::io::Write;
@@ -52,7 +52,7 @@ fn explain_plan(
     alloc: Global,
     task: &Layered<FlatTask>,
     plan: &FlatPlan,
-) -> Result<(Told, Vec<Line>), AllocError>
+) -> Result<(Answer, Vec<Line>), AllocError>
     ensures { IfOk result (λ found. MakeAnswer task.now plan.now found.0 found.1.items) }
 {
     let worklist = Worklist::new(alloc, task)?;
@@ -73,7 +73,7 @@ fn explain_execution(
     plan: &FlatPlan,
     execution: Execution<'_, '_, Worklist, FlatTask, FlatPlan>,
     fault: PlanFault,
-) -> Result<(Told, Vec<Line>), AllocError>
+) -> Result<(Answer, Vec<Line>), AllocError>
     requires { IsFound task.now plan.now (Some fault) execution }
     ensures { IfOk result (λ found. MakeAnswer task.now plan.now found.0 found.1.items) }
 {
@@ -90,7 +90,7 @@ fn explain_fault(
     plan: &FlatPlan,
     noted: &Retraced,
     fault: PlanFault,
-) -> Result<(Told, Vec<Line>), AllocError>
+) -> Result<(Answer, Vec<Line>), AllocError>
     requires noted { IsRetraced task.now plan.now noted.now }
     requires fault { noted.now.fault ≡ Some fault }
     requires is { IsFaultOf task.now plan.now fault }

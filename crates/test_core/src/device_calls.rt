@@ -3,7 +3,7 @@ use sas_lines::trial::{Breaks, Narrow};
 use sas_lines::{Opened, Short, Watched, write_out};
 use std::alloc::{AllocError, Global};
 use std::io::Read;
-use test_words::{Asked, ToldReader, ToldWriter, cut, say, say_bytes, say_number, say_right};
+use test_words::{Asked, ReportedReader, ReportedWriter, cut, say, say_bytes, say_number, say_right};
 
 /// Makes the call if it is defined in this file. Returns whether it is.
 pub fn call_of_devices<R: AllocGlobal + Print>(
@@ -15,10 +15,10 @@ pub fn call_of_devices<R: AllocGlobal + Print>(
             let device = Breaks::new(asked.bytes, asked.kind == "interrupted");
             say_taken(rt, device, &mut [0; 2], asked.bytes.len());
         }
-        "take-told" => take_told(rt, asked.kind, asked.bytes),
-        "give-told" => give_told(rt, asked.bytes),
+        "take-reported" => take_reported(rt, asked.kind, asked.bytes),
+        "give-reported" => give_reported(rt, asked.bytes),
         "write-out" => say_right(rt, wrong_room(rt.alloc(), asked.bytes)?),
-        "write-out-told" => write_out_told(rt, asked.bytes),
+        "write-out-reported" => write_out_reported(rt, asked.bytes),
         _ => return Ok(false),
     }
     Ok(true)
@@ -26,8 +26,8 @@ pub fn call_of_devices<R: AllocGlobal + Print>(
 
 /// Calls `Watched::take` of a reader that follows a text, or of an opened input over such a reader. Detects a read that is repeated after a
 /// failure, and then succeeds.
-fn take_told<P: Print>(out: &P, kind: &str, text: &[u8]) {
-    let device = ToldReader::new(text);
+fn take_reported<P: Print>(out: &P, kind: &str, text: &[u8]) {
+    let device = ReportedReader::new(text);
     match kind {
         "1" => say_taken(out, device, &mut [0; 1], text.len()),
         "2" => say_taken(out, device, &mut [0; 2], text.len()),
@@ -36,7 +36,7 @@ fn take_told<P: Print>(out: &P, kind: &str, text: &[u8]) {
 }
 
 /// Returns an opened input of this kind over the device.
-fn opened<'a>(kind: &str, device: ToldReader<'a>) -> Opened<ToldReader<'a>, ToldReader<'a>> {
+fn opened<'a>(kind: &str, device: ReportedReader<'a>) -> Opened<ReportedReader<'a>, ReportedReader<'a>> {
     match kind {
         "file" => Opened::File(device),
         "standard" => Opened::Standard(device),
@@ -65,17 +65,17 @@ fn say_taken<P: Print, D: Read + Drop>(out: &P, device: D, buffer: &mut [u8], mo
 
 /// Calls `Watched::give` of a writer that follows a text, each time with the remaining bytes: `TURNS|BYTES`. Detects a write that is
 /// repeated after it failed or took no bytes, and then succeeds.
-fn give_told<R: AllocGlobal + Print>(rt: &R, words: &[u8]) {
+fn give_reported<R: AllocGlobal + Print>(rt: &R, words: &[u8]) {
     let (turns, bytes) = cut(words, b'|');
-    let mut out = Watched::new(ToldWriter::new(rt.alloc(), turns));
+    let mut out = Watched::new(ReportedWriter::new(rt.alloc(), turns));
     say_given(rt, &mut out, bytes);
     let device = out.into_device();
     say_bytes(rt, device.kept());
     say(rt, "");
 }
 
-/// `give_told` for a writer that may have failed.
-fn say_given<P: Print>(rt: &P, out: &mut Watched<ToldWriter<'_>>, bytes: &[u8]) {
+/// `give_reported` for a writer that may have failed.
+fn say_given<P: Print>(rt: &P, out: &mut Watched<ReportedWriter<'_>>, bytes: &[u8]) {
     let mut left = bytes;
     for _ in 0..=bytes.len() {
         if out.failed() {
@@ -94,11 +94,11 @@ fn say_given<P: Print>(rt: &P, out: &mut Watched<ToldWriter<'_>>, bytes: &[u8]) 
     }
 }
 
-/// Calls `write_out` of a writer that follows a text: `TURNS|BYTES`. Detects the mistakes of `give_told`, and a count of bytes that weren't
+/// Calls `write_out` of a writer that follows a text: `TURNS|BYTES`. Detects the mistakes of `give_reported`, and a count of bytes that weren't
 /// written.
-fn write_out_told<R: AllocGlobal + Print>(rt: &R, words: &[u8]) {
+fn write_out_reported<R: AllocGlobal + Print>(rt: &R, words: &[u8]) {
     let (turns, bytes) = cut(words, b'|');
-    let mut out = Watched::new(ToldWriter::new(rt.alloc(), turns));
+    let mut out = Watched::new(ReportedWriter::new(rt.alloc(), turns));
     match write_out(&mut out, bytes) {
         Ok(()) => say(rt, "written"),
         Err(Short { written }) => say_number(rt, "short", written as u64),
@@ -123,11 +123,11 @@ fn is_written_out(
     let mut out = Watched::new(Narrow::new(alloc, piece, room, fails)?);
     let answer = write_out(&mut out, text);
     let short = room < text.len();
-    let told = match answer {
+    let reported = match answer {
         Ok(()) => !short,
         Err(Short { written }) => short && written == room,
     };
-    let stands = told && out.failed() == short;
+    let stands = reported && out.failed() == short;
     let written = out.into_device();
     Ok(stands && text.starts_with(written.kept()) && written.kept().len() == room)
 }

@@ -6,7 +6,7 @@ use sas_lines::trial::Breaks;
 use sas_text::{Fault, Kind, PlanReader, TaskReader, plan_laws, task_laws};
 use std::alloc::{AllocError, Global};
 use std::cell::Cell;
-use test_words::{Asked, NotingReader, ToldReader, longer_than, say, say_either, say_right, spend};
+use test_words::{Asked, NotingReader, ReportedReader, longer_than, say, say_either, say_right, spend};
 
 /// Makes the call if it is defined in this file. Returns whether it is.
 pub fn call_of_readers<R: AllocGlobal + Print>(
@@ -16,7 +16,7 @@ pub fn call_of_readers<R: AllocGlobal + Print>(
     match asked.call {
         "read" => read(rt, asked.number, way_of(asked.kind), asked.bytes)?,
         "read-broken" => read_broken(rt, way_of(asked.kind), asked.bytes),
-        "read-told" => read_told(rt, way_of(asked.kind), asked.bytes),
+        "read-reported" => read_reported(rt, way_of(asked.kind), asked.bytes),
         "longest" => say_longest(rt, way_of(asked.kind), asked.bytes),
         "feed-plan" => feed::<R, PlanReader>(rt, asked.number, asked.bytes)?,
         "feed-task" => feed::<R, TaskReader>(rt, asked.number, asked.bytes)?,
@@ -82,8 +82,8 @@ fn read_broken<R: AllocGlobal + Print>(rt: &R, way: Way, bytes: &[u8]) {
 }
 
 /// Reads a file from a device that follows a text. Detects a read that is repeated after a failure, and another read after the end.
-fn read_told<R: AllocGlobal + Print>(rt: &R, way: Way, text: &[u8]) {
-    let (read, failed) = read_from(rt.alloc(), way, ToldReader::new(text));
+fn read_reported<R: AllocGlobal + Print>(rt: &R, way: Way, text: &[u8]) {
+    let (read, failed) = read_from(rt.alloc(), way, ReportedReader::new(text));
     say_read(rt, read);
     say_either(rt, failed, "failed", "not failed");
 }

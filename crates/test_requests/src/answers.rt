@@ -31,9 +31,9 @@ pub fn say_exactly<P: Print, A: Debug>(out: &P, answer: &A, written: &[u8]) {
 /// Returns whether a writer with this room got as much of the text as fits, and the answer reports this.
 pub fn is_cut_off(text: &[u8], room: usize, answer: (Result<Status, ToolFault>, Narrow)) -> bool {
     let (result, written) = answer;
-    let told = match result {
+    let reported = match result {
         Ok(_) => room == text.len(),
         Err(fault) => room < text.len() && fault == ToolFault::Write { written: room },
     };
-    told && written.kept().len() == room && text.starts_with(written.kept())
+    reported && written.kept().len() == room && text.starts_with(written.kept())
 }

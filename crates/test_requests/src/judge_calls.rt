@@ -9,7 +9,7 @@ use sas_requests::{Status, ToolFault};
 use std::alloc::{AllocError, Global};
 use std::io::{Read, Write};
 use test_words::{
-    Asked, NotingReader, ToldReader, ToldWriter, cut, longer_than, say, say_either, say_number,
+    Asked, NotingReader, ReportedReader, ReportedWriter, cut, longer_than, say, say_either, say_number,
     say_right, spend,
 };
 
@@ -35,7 +35,7 @@ fn call_over<R: AllocGlobal + Print>(
     match asked.call {
         "judge" => judge_whole(rt, asked.number, given)?,
         "judge-slices" => judge_in_memory(rt, given)?,
-        "judge-told" => judge_told(rt, given)?,
+        "judge-reported" => judge_reported(rt, given)?,
         "judge-longest" => judge_longest(rt, given)?,
         "judge-narrow" => say_right(rt, wrong_room(rt.alloc(), given)?),
         "judge-unopened" => say_right(rt, wrong_unopened(rt.alloc(), given)?),
@@ -101,10 +101,10 @@ fn judge_whole<R: AllocGlobal + Print>(
 
 /// Calls `judge` with a task whose device follows a text as well. Detects the fault of another plan or of another kind; a plan that is
 /// opened out of order, twice, or although the task is refused; and a read that is repeated after a failure.
-fn judge_told<R: AllocGlobal + Print>(rt: &R, given: &Given<'_>) -> Result<(), AllocError> {
+fn judge_reported<R: AllocGlobal + Print>(rt: &R, given: &Given<'_>) -> Result<(), AllocError> {
     let notes = Notes::new();
     let out = Narrow::new(rt.alloc(), ROOM, ROOM, true)?;
-    let task = ToldReader::new(given.task);
+    let task = ReportedReader::new(given.task);
     let (result, written) = judge_over(rt.alloc(), task, given.plans.as_slice(), &notes, out);
     say_exactly(rt, &result, written.kept());
     say_opened(rt, &notes);
@@ -117,7 +117,7 @@ fn judge_into<R: AllocGlobal + Print>(rt: &R, bytes: &[u8]) -> Result<(), AllocE
     let (turns, bytes) = cut(bytes, b'|');
     let given = given_in(rt.alloc(), bytes)?;
     let notes = Notes::new();
-    let out = ToldWriter::new(rt.alloc(), turns);
+    let out = ReportedWriter::new(rt.alloc(), turns);
     let plans = given.plans.as_slice();
     let (result, written) = judge_over(rt.alloc(), given.task, plans, &notes, out);
     say_exactly(rt, &result, written.kept());
@@ -176,7 +176,7 @@ fn wrong_unopened<'x>(alloc: Global, given: &'x Given<'x>) -> Result<Option<usiz
         let other = GivenPlan {
             label: plan.label,
             front: &[],
-            told: b"?",
+            reported: b"?",
         };
         if !is_ended_by_other(alloc, given, number, other, InputFault::NotOpened)? {
             return Ok(Some(number));
@@ -189,7 +189,7 @@ fn wrong_unopened<'x>(alloc: Global, given: &'x Given<'x>) -> Result<Option<usiz
 /// mistakes of `wrong_unopened`, and a failure that is taken for the end.
 fn wrong_broken<'x>(alloc: Global, given: &'x Given<'x>) -> Result<Option<usize>, AllocError> {
     for (number, plan) in given.plans.iter().enumerate() {
-        for length in 0..=plan.told.len() {
+        for length in 0..=plan.reported.len() {
             if !is_ended_by_front(alloc, given, number, *plan, length)? {
                 return Ok(Some(number));
             }
@@ -206,16 +206,16 @@ fn is_ended_by_front<'x>(
     plan: GivenPlan<'x>,
     length: usize,
 ) -> Result<bool, AllocError> {
-    let (front, _) = plan.told.split_at(plan.told.len().min(length));
+    let (front, _) = plan.reported.split_at(plan.reported.len().min(length));
     let fails = GivenPlan {
         label: plan.label,
         front,
-        told: b"!",
+        reported: b"!",
     };
     let interrupted = GivenPlan {
         label: plan.label,
         front,
-        told: b"~",
+        reported: b"~",
     };
     Ok(
         is_ended_by_other(alloc, given, number, fails, InputFault::Read)?
@@ -312,7 +312,7 @@ fn in_memory<'a>(alloc: Global, plans: &[GivenPlan<'a>]) -> Result<Vec<PlanBytes
     for plan in plans {
         slices.push(PlanBytes {
             label: plan.label,
-            bytes: plan.told,
+            bytes: plan.reported,
         })?;
     }
     Ok(slices)
@@ -325,7 +325,7 @@ fn say_slices<R: AllocGlobal + Print>(rt: &R, task: &[u8], plans: &[PlanBytes<'_
         return;
     }
     match judge_slices(rt.alloc(), task, plans) {
-        Ok(told) => say_answer(rt, &Ok(told.status), told.text.as_slice()),
+        Ok(reported) => say_answer(rt, &Ok(reported.status), reported.text.as_slice()),
         Err(fault) => say_answer(rt, &over_files(Err(fault)), &[]),
     }
 }

@@ -8,15 +8,15 @@ use std::alloc::{AllocError, Global};
 use std::cell::Cell;
 use std::io;
 use std::io::Read;
-use test_words::{ToldReader, cut};
+use test_words::{ReportedReader, cut};
 
-/// A plan with its label. Its device returns the bytes of `front`, and then follows `told` like a `ToldReader`. A plan with `?` alone can't
+/// A plan with its label. Its device returns the bytes of `front`, and then follows `reported` like a `ReportedReader`. A plan with `?` alone can't
 /// be opened.
 #[derive(Clone, Copy)]
 pub struct GivenPlan<'a> {
     pub label: &'a [u8],
     pub front: &'a [u8],
-    pub told: &'a [u8],
+    pub reported: &'a [u8],
 }
 
 /// A task with plans.
@@ -35,11 +35,11 @@ pub fn given_in(alloc: Global, bytes: &[u8]) -> Result<Given<'_>, AllocError> {
         return Ok(Given { task, plans });
     }
     for word in words.split(|&byte| byte == b'&') {
-        let (label, told) = cut(word, b':');
+        let (label, reported) = cut(word, b':');
         plans.push(GivenPlan {
             label,
             front: &[],
-            told,
+            reported,
         })?;
     }
     Ok(Given { task, plans })
@@ -99,7 +99,7 @@ impl Notes {
 pub struct PlanDevice<'a> {
     number: usize,
     front: &'a [u8],
-    rest: ToldReader<'a>,
+    rest: ReportedReader<'a>,
     notes: &'a Notes,
 }
 
@@ -145,13 +145,13 @@ impl<'a> PlanInputs for PlanList<'a> {
     fn open(&mut self, number: usize) -> Option<PlanDevice<'a>> {
         self.notes.note_open(number);
         let plan = self.plans[number];
-        if plan.told == b"?".as_slice() {
+        if plan.reported == b"?".as_slice() {
             return None;
         }
         Some(PlanDevice {
             number,
             front: plan.front,
-            rest: ToldReader::new(plan.told),
+            rest: ReportedReader::new(plan.reported),
             notes: self.notes,
         })
     }

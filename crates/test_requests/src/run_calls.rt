@@ -10,7 +10,7 @@ use std::alloc::{AllocError, Global};
 use std::cell::Cell;
 use std::io::{Read, Write};
 use test_words::{
-    Asked, NotingReader, ToldReader, ToldWriter, cut, longer_than, number_in, say, say_either,
+    Asked, NotingReader, ReportedReader, ReportedWriter, cut, longer_than, number_in, say, say_either,
     say_right, spend,
 };
 
@@ -29,7 +29,7 @@ pub fn call_of_tool<R: AllocGlobal + Print>(rt: &R, asked: &Asked<'_>) -> Result
             say_right(rt, wrong_plan_front(rt.alloc(), question, asked.bytes)?)
         }
         "run-broken-fronts" => say_right(rt, wrong_front(rt.alloc(), question, asked.bytes)?),
-        "run-told" => run_told(rt, question, asked.bytes)?,
+        "run-reported" => run_reported(rt, question, asked.bytes)?,
         "run-into" => run_into(rt, question, asked.bytes),
         "run-longest" => run_longest(rt, question, asked.bytes)?,
         "run-narrow" => say_right(rt, wrong_room(rt.alloc(), question, asked.bytes, 0, ROOM)?),
@@ -178,14 +178,14 @@ fn run_broken_plan<R: AllocGlobal + Print>(
 }
 
 /// Answers a question over devices that follow a text. Detects a read that is repeated after a failure, and another read after the end.
-fn run_told<R: AllocGlobal + Print>(
+fn run_reported<R: AllocGlobal + Print>(
     rt: &R,
     question: Question,
     bytes: &[u8],
 ) -> Result<(), AllocError> {
     let (task, plan) = inputs(question, bytes);
     let out = Narrow::new(rt.alloc(), ROOM, ROOM, true)?;
-    let (task, plan) = (ToldReader::new(task), ToldReader::new(plan));
+    let (task, plan) = (ReportedReader::new(task), ReportedReader::new(plan));
     let (result, written) = answer_over(rt.alloc(), question, task, plan, out);
     say_exactly(rt, &result, written.kept());
     Ok(())
@@ -196,7 +196,7 @@ fn run_told<R: AllocGlobal + Print>(
 fn run_into<R: AllocGlobal + Print>(rt: &R, question: Question, bytes: &[u8]) {
     let (turns, bytes) = cut(bytes, b'|');
     let (task, plan) = inputs(question, bytes);
-    let out = ToldWriter::new(rt.alloc(), turns);
+    let out = ReportedWriter::new(rt.alloc(), turns);
     let (result, written) = answer_over(rt.alloc(), question, task, plan, out);
     say_exactly(rt, &result, written.kept());
 }

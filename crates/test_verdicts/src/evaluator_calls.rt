@@ -4,7 +4,7 @@ ghost use Rattle.sas_axioms.specs.Worklist.{IsReadyFor};
 
 use crate::axiom_calls::{say_state, settled};
 use crate::files::pieces_of;
-use crate::following_calls::{Telling, follow};
+use crate::following_calls::{Reporting, follow};
 use crate::runner_calls::call_with_runner;
 use sas_axioms::{Layered, Rounds, Settle, State, StateFault, Worklist};
 use sas_core::Task;
@@ -45,7 +45,7 @@ fn call_with<R: AllocGlobal + Print, E: Settle<Task> + Drop>(
     match asked.call {
         "settle" => settle(rt, &mut evaluator, layered, words),
         "follow" => follow(rt, &mut evaluator, layered, words),
-        "walk" => call_with_runner(rt, asked, words, layered, Telling::new(rt, evaluator)),
+        "walk" => call_with_runner(rt, asked, words, layered, Reporting::new(rt, evaluator)),
         _ => call_with_runner(rt, asked, words, layered, evaluator),
     }
 }

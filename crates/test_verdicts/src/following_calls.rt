@@ -12,21 +12,21 @@ use test_words::{cut, fact_of, say};
 
 /// An evaluator that prints each state after another evaluator has settled it. So it prints each state of a plan.
 #[derive(Drop)]
-pub struct Telling<'a, P: Print, E: Settle<Task> + Drop> {
+pub struct Reporting<'a, P: Print, E: Settle<Task> + Drop> {
     out: &'a P,
     evaluator: E,
 }
 
-impl<'a, P: Print, E: Settle<Task> + Drop> Telling<'a, P, E> {
+impl<'a, P: Print, E: Settle<Task> + Drop> Reporting<'a, P, E> {
     /// Returns an evaluator that prints the states which `evaluator` settles.
-    pub fn new(out: &'a P, evaluator: E) -> Telling<'a, P, E>
+    pub fn new(out: &'a P, evaluator: E) -> Reporting<'a, P, E>
         ensures { result.evaluator ≡ evaluator }
     {
-        Telling { out, evaluator }
+        Reporting { out, evaluator }
     }
 }
 
-impl<'a, P: Print, E: Settle<Task> + Drop> Settle<Task> for Telling<'a, P, E> {
+impl<'a, P: Print, E: Settle<Task> + Drop> Settle<Task> for Reporting<'a, P, E> {
     ghost ready = { λ t p. E.ready t.evaluator p };
 
     ghost follows = { λ t p s. E.follows t.evaluator p s };

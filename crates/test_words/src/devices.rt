@@ -9,16 +9,16 @@ use std::io::{Error, ErrorKind, Read, Write};
 /// fails, and for `~` it fails as interrupted. After each of these it continues with the next part. A part that is longer than the buffer
 /// takes several reads. After the last part it returns 0 bytes.
 #[derive(Drop)]
-pub struct ToldReader<'a> {
+pub struct ReportedReader<'a> {
     part: &'a [u8],
     rest: &'a [u8],
 }
 
-impl<'a> ToldReader<'a> {
+impl<'a> ReportedReader<'a> {
     /// Returns a reader that follows this text.
-    pub fn new(text: &'a [u8]) -> ToldReader<'a> {
+    pub fn new(text: &'a [u8]) -> ReportedReader<'a> {
         let (part, rest) = cut(text, b'#');
-        ToldReader { part, rest }
+        ReportedReader { part, rest }
     }
 
     /// Moves to the next part.
@@ -29,7 +29,7 @@ impl<'a> ToldReader<'a> {
     }
 }
 
-impl<'a> Read for ToldReader<'a> {
+impl<'a> Read for ReportedReader<'a> {
     fn read(&mut self, buf: &mut [u8]) -> io::Result<usize> {
         if let Some(kind) = failure(self.part) {
             self.go_on();
@@ -44,8 +44,8 @@ impl<'a> Read for ToldReader<'a> {
 }
 
 /// Returns the failure that these bytes describe, or `None`.
-fn failure(told: &[u8]) -> Option<ErrorKind> {
-    match told {
+fn failure(reported: &[u8]) -> Option<ErrorKind> {
+    match reported {
         [b'!'] => Some(ErrorKind::Other),
         [b'~'] => Some(ErrorKind::Interrupted),
         _ => None,
@@ -55,15 +55,15 @@ fn failure(told: &[u8]) -> Option<ErrorKind> {
 /// A writer that follows the bytes of a text, one at each write. For a digit it takes at most this many bytes, for `!` it fails, and for
 /// `~` it fails as interrupted. After each of these it continues with the next byte. After the last byte it takes everything.
 #[derive(Drop)]
-pub struct ToldWriter<'a> {
+pub struct ReportedWriter<'a> {
     kept: Vec<u8>,
     turns: &'a [u8],
 }
 
-impl<'a> ToldWriter<'a> {
+impl<'a> ReportedWriter<'a> {
     /// Returns a writer that follows `turns`.
-    pub fn new(alloc: Global, turns: &'a [u8]) -> ToldWriter<'a> {
-        ToldWriter {
+    pub fn new(alloc: Global, turns: &'a [u8]) -> ReportedWriter<'a> {
+        ReportedWriter {
             kept: Vec::new(alloc),
             turns,
         }
@@ -75,7 +75,7 @@ impl<'a> ToldWriter<'a> {
     }
 }
 
-impl<'a> Write for ToldWriter<'a> {
+impl<'a> Write for ReportedWriter<'a> {
     fn write(&mut self, buf: &[u8]) -> io::Result<usize> {
         let (turn, rest) = self.turns.split_at(self.turns.len().min(1));
         self.turns = rest;

@@ -14,7 +14,7 @@ mod given;
 mod saying;
 
 pub use asked::{Asked, LONGEST, asked_by, cut, number_in, spend, text_of};
-pub use devices::{NotingReader, ToldReader, ToldWriter, longer_than};
+pub use devices::{NotingReader, ReportedReader, ReportedWriter, longer_than};
 pub use given::{fact_of, is_same_task, plan_of, task_of};
 pub use saying::{
     say, say_bytes, say_either, say_made, say_number, say_right, say_text, say_want, say_whole,

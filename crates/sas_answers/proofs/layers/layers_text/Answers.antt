@@ -1,5 +1,4 @@
-use Rattle.std.proofs.Common.{arith}
-use Rattle.std.proofs.lemmas.Grind.{common_steps}
+use Rattle.sas_answers.proofs.Imports.{arith, common_steps}
 use Rattle.sas_answers.proofs.layers.layers_text.Goals as goal
 
 pub returns-in-OldValue : goal.returns-in-OldValue

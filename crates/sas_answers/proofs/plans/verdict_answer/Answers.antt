@@ -1,4 +1,4 @@
-use Rattle.std.proofs.Common.{rules}
+use Rattle.sas_answers.proofs.Imports.{rules}
 use Rattle.sas_answers.proofs.plans.verdict_answer.Goals as goal
 
 pub returns : goal.returns

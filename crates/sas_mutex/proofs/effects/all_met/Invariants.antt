@@ -1,6 +1,5 @@
 -- The conditions so far are met.
-use Rattle.std.proofs.Common.{ℕ, ◌<◌, get_or}
-use Rattle.sas_core.specs.declared.parts.Fact.{Fact}
+use Rattle.sas_mutex.proofs.Imports.{ℕ, ◌<◌, get_or, Fact}
 use Rattle.sas_mutex.specs.ByNotes.{IsMet}
 use Rattle.sas_mutex.proofs.effects.all_met.Given as goal
 

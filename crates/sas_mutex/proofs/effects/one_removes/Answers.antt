@@ -1,7 +1,5 @@
 -- An effect that removes the fact is on its variable, so it is one of these effects.
-use Rattle.std.proofs.Common.{ℕ, ◌<◌, length, sym, subst, ◌∙◌, arith}
-use Rattle.std.proofs.lemmas.List.{get_or_default}
-use Rattle.sas_core.specs.Grounded.{operator_at, effect_at}
+use Rattle.sas_mutex.proofs.Imports.{ℕ, ◌<◌, length, sym, subst, ◌∙◌, arith, get_or_default, operator_at, effect_at}
 use Rattle.sas_mutex.specs.ByNotes.{RemovesByNotes}
 use Rattle.sas_mutex.proofs.effects.one_removes.Goals as goal
 

@@ -1,6 +1,5 @@
 -- None of the effects so far removes the fact.
-use Rattle.std.proofs.Common.{ℕ, ◌<◌, length, get_or}
-use Rattle.sas_core.specs.Grounded.{operator_at, effect_at}
+use Rattle.sas_mutex.proofs.Imports.{ℕ, ◌<◌, length, get_or, operator_at, effect_at}
 use Rattle.sas_mutex.specs.ByNotes.{RemovesByNotes}
 use Rattle.sas_mutex.proofs.effects.one_removes.Given as goal
 

@@ -1,6 +1,5 @@
 -- None of the groups so far is in the family.
-use Rattle.std.proofs.Common.{ℕ, ◌<◌, get_or, IsFalse}
-use Rattle.sas_groups.specs.Kept.{family_of}
+use Rattle.sas_mutex.proofs.Imports.{ℕ, ◌<◌, get_or, IsFalse, family_of}
 use Rattle.sas_mutex.proofs.effects.some_kept.Given as goal
 
 abbrev pub invariant-loop-group : goal.invariant-loop-group

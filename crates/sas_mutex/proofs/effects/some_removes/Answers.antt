@@ -1,7 +1,5 @@
 -- An effect that removes the fact makes one of the changes.
-use Rattle.std.proofs.Common.{ℕ, ◌<◌, None, sym, ap, subst, ◌∙◌}
-use Rattle.sas_core.specs.declared.grounded.Change.{Change}
-use Rattle.sas_core.specs.Grounded.{operator_at}
+use Rattle.sas_mutex.proofs.Imports.{ℕ, ◌<◌, None, sym, ap, subst, ◌∙◌, Change, operator_at}
 use Rattle.sas_mutex.proofs.PlainEffects.{as_many, change_is}
 use Rattle.sas_mutex.proofs.effects.some_removes.Goals as goal
 

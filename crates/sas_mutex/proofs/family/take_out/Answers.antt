@@ -1,9 +1,5 @@
 -- One more group is removed.
-use Rattle.std.proofs.Common.{◌≡◌, ℕ, ◌<◌, false, length, get_or, set, ◌∙◌, arith}
-use Rattle.std.proofs.lemmas.List.{length-set}
-use Rattle.std.proofs.lemmas.List.Elements.{All-get_or}
-use Rattle.sas_core.proofs.Places.{each_more}
-use Rattle.sas_groups.specs.Kept.{family_of}
+use Rattle.sas_mutex.proofs.Imports.{◌≡◌, ℕ, ◌<◌, false, length, get_or, set, ◌∙◌, arith, length-set, All-get_or, each_more, family_of}
 use Rattle.sas_mutex.proofs.SetFacts.{at_item}
 use Rattle.sas_mutex.proofs.Supporting.{out_still, out_now, out_less}
 use Rattle.sas_mutex.proofs.family.take_out.Goals as goal

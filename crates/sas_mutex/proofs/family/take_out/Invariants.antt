@@ -1,6 +1,5 @@
 -- The groups so far are removed.
-use Rattle.std.proofs.Common.{◌≡◌, ℕ, ◌<◌, true, false, length, get_or}
-use Rattle.sas_groups.specs.Kept.{family_of}
+use Rattle.sas_mutex.proofs.Imports.{◌≡◌, ℕ, ◌<◌, true, false, length, get_or, family_of}
 use Rattle.sas_mutex.proofs.family.take_out.Given as goal
 
 abbrev pub invariant-loop-group : goal.invariant-loop-group

@@ -1,11 +1,7 @@
 -- The operator is at rest, and stays so while the groups of the basis are in the family, which it
 -- watches.
-use Rattle.std.proofs.Common.{◌≡◌, ℕ, ◌<◌, ◌^◌, Bool, true, List, [], length, refl, sym, subst, ◌∙◌}
-use Rattle.std.proofs.lemmas.Bool.{true≢false}
+use Rattle.sas_mutex.proofs.Imports.{◌≡◌, ℕ, ◌<◌, ◌^◌, Bool, true, List, [], length, refl, sym, subst, ◌∙◌, true≢false, All, All-nil, family_of}
 use Rattle.std.proofs.lemmas.List.{append-nil}
-use Rattle.std.specs.List.{All}
-use Rattle.std.proofs.lemmas.List.Elements.{All-nil}
-use Rattle.sas_groups.specs.Kept.{family_of}
 use Rattle.sas_mutex.specs.declared.watches.Watch.{Watch}
 use Rattle.sas_mutex.specs.declared.watches.Watches.{Watches}
 use Rattle.sas_mutex.specs.Watching.{AreChained, HasWatchFrom, WatchesMore}

@@ -1,6 +1,5 @@
 -- If no loose operator removed a group, all operators are at rest.
-use Rattle.std.proofs.Common.{◌≡◌, ℕ, ◌<◌, List, length, get_or, sym, ap, subst, ◌∙◌, arith}
-use Rattle.std.proofs.lemmas.List.{get_or_append_left}
+use Rattle.sas_mutex.proofs.Imports.{◌≡◌, ℕ, ◌<◌, List, length, get_or, sym, ap, subst, ◌∙◌, arith, get_or_append_left}
 use Rattle.sas_mutex.specs.Falling.{newly}
 use Rattle.sas_mutex.specs.Watching.{IsUnwatched, FallenAreUnwatched, AreLooseAtRest}
 use Rattle.sas_mutex.proofs.FallingGroups.{none_fell, fallen_grow, falls_then, greatest_in_the_end, none_newly, as_before}

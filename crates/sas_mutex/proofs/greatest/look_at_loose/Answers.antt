@@ -1,6 +1,5 @@
 -- One more operator is at rest, if it is loose.
-use Rattle.std.proofs.Common.{length, sym, ◌∙◌, ap, subst, inl, inr, arith}
-use Rattle.std.proofs.lemmas.Bool.{cases_eq}
+use Rattle.sas_mutex.proofs.Imports.{length, sym, ◌∙◌, ap, subst, inl, inr, arith, cases_eq}
 use Rattle.sas_mutex.specs.Falling.{IsAtRest}
 use Rattle.sas_mutex.specs.Watching.{since_of}
 use Rattle.sas_mutex.proofs.FallingGroups.{falls_then, rest_still, none_first, none_then}

@@ -1,5 +1,5 @@
 -- The operator depends on the groups that it now watches, or is loose.
-use Rattle.std.proofs.Common.{◌≡◌, ℕ, Option, Some, None, List, set, sym, ap, subst, ◌∙◌}
+use Rattle.sas_mutex.proofs.Imports.{◌≡◌, ℕ, Option, Some, None, List, set, sym, ap, subst, ◌∙◌}
 use Rattle.sas_mutex.specs.Watching.{RestsBy}
 use Rattle.sas_mutex.proofs.Watched.{watched_anew}
 use Rattle.sas_mutex.proofs.greatest.look_once.Goals as goal

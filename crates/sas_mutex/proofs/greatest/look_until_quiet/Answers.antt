@@ -1,6 +1,5 @@
 -- If no more groups were removed, the operator is at rest.
-use Rattle.std.proofs.Common.{ℕ, ◌≡◌, length, sym, subst, arith}
-use Rattle.std.specs.Global.{Vec}
+use Rattle.sas_mutex.proofs.Imports.{ℕ, ◌≡◌, length, sym, subst, arith, Vec}
 use Rattle.sas_mutex.specs.Basis.{IsBasis, IsOfNone}
 use Rattle.sas_mutex.specs.Falling.{Falls}
 use Rattle.sas_mutex.proofs.FallingGroups.{falls_then, none_newly}

@@ -1,5 +1,5 @@
 -- The operator may have removed groups.
-use Rattle.std.proofs.Common.{◌-◌, length}
+use Rattle.sas_mutex.proofs.Imports.{◌-◌, length}
 use Rattle.sas_mutex.specs.Falling.{FamilyHasRoom, Falls}
 use Rattle.sas_mutex.specs.Marks.{IsClean}
 use Rattle.sas_mutex.proofs.greatest.look_until_quiet.Given as goal

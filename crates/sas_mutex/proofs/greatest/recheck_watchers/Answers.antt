@@ -1,5 +1,5 @@
 -- The operator of one more watch was checked again, or the watch wasn't valid any more.
-use Rattle.std.proofs.Common.{ℕ, List, sym, ◌∙◌, ap, subst}
+use Rattle.sas_mutex.proofs.Imports.{ℕ, List, sym, ◌∙◌, ap, subst}
 use Rattle.sas_mutex.specs.declared.watches.Watch.{Watch}
 use Rattle.sas_mutex.specs.Watching.{watch_at, since_of, IsLastBelow, IsUnwatchedBehind}
 use Rattle.sas_mutex.proofs.FallingGroups.{falls_then}

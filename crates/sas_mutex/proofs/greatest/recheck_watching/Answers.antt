@@ -1,8 +1,5 @@
 -- All operators that watched one more removed group were checked again.
-use Rattle.std.proofs.Common.{ℕ, ◌+◌, ◌<◌, length, get_or, sym, ◌∙◌, subst, inl, inr, arith}
-use Rattle.std.proofs.lemmas.Bool.{cases_eq}
-use Rattle.std.proofs.lemmas.List.{get_or_default}
-use Rattle.std.proofs.lemmas.List.Elements.{Contains-get_or}
+use Rattle.sas_mutex.proofs.Imports.{ℕ, ◌+◌, ◌<◌, length, get_or, sym, ◌∙◌, subst, inl, inr, arith, cases_eq, get_or_default, Contains-get_or}
 use Rattle.sas_mutex.specs.Falling.{newly}
 use Rattle.sas_mutex.specs.Watching.{IsUnwatched, FallenAreUnwatched}
 use Rattle.sas_mutex.proofs.FallingGroups.{falls_then, fallen_grow}

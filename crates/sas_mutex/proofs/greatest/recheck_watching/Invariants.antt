@@ -1,5 +1,5 @@
 -- All operators that watched one of the removed groups so far were checked again.
-use Rattle.std.proofs.Common.{◌-◌, ◌≤◌, length}
+use Rattle.sas_mutex.proofs.Imports.{◌-◌, ◌≤◌, length}
 use Rattle.sas_mutex.specs.Falling.{Falls}
 use Rattle.sas_mutex.specs.Watching.{IsReady, FallenAreUnwatched}
 use Rattle.sas_mutex.proofs.greatest.recheck_watching.Given as goal

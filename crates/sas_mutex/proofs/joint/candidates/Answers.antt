@@ -1,9 +1,5 @@
 -- Each field of the family has the contract of the call that returned it.
-use Rattle.std.proofs.Common.{◌≡◌, Bool, false, List, length, replicate, ap, ◌∙◌, inl, inr, arith}
-use Rattle.std.proofs.Math.ListN.{get_or-eq_default}
-use Rattle.std.proofs.lemmas.Bool.{cases_lt}
-use Rattle.std.proofs.lemmas.List.{length-replicate, get_or-replicate}
-use Rattle.sas_groups.specs.Kept.{family_of}
+use Rattle.sas_mutex.proofs.Imports.{◌≡◌, Bool, false, List, length, replicate, ap, ◌∙◌, inl, inr, arith, get_or-eq_default, cases_lt, length-replicate, get_or-replicate, family_of}
 use Rattle.sas_mutex.proofs.joint.candidates.Goals as goal
 
 pub returns-clause-one_each : goal.returns-clause-one_each

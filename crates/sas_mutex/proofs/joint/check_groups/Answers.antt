@@ -1,11 +1,6 @@
 -- At first the family contains all groups that may be exclusive, with room for all that may be
 -- removed.
-use Rattle.std.proofs.Common.{◌≢◌, sym, subst}
-use Rattle.sas_groups.specs.declared.verdict.Verdict.{Verdict}
-use Rattle.sas_groups.specs.declared.verdict.Verdict.TheVariants.{Exclusive}
-use Rattle.std.specs.List.{All}
-use Rattle.sas_groups.specs.Joint.{AreJointVerdicts, AreInvariants}
-use Rattle.sas_groups.proofs.JointLists.{listed_invariants}
+use Rattle.sas_mutex.proofs.Imports.{◌≢◌, sym, subst, Verdict, Exclusive, All, AreJointVerdicts, AreInvariants, listed_invariants}
 use Rattle.sas_mutex.proofs.JointLists.{decided_at_first}
 use Rattle.sas_mutex.proofs.joint.check_groups.Goals as goal
 use Rattle.sas_mutex.proofs.joint.check_groups.Goals.{Then-not-some_exclusive}

@@ -1,5 +1,4 @@
-use Rattle.std.proofs.Common.{arith}
-use Rattle.std.proofs.lemmas.Grind.{common_steps}
+use Rattle.sas_mutex.proofs.Imports.{arith, common_steps}
 use Rattle.sas_mutex.proofs.joint.exclusive_of.Goals as goal
 
 pub loop-verdict-preserved : goal.loop-verdict-preserved

@@ -1,6 +1,5 @@
 -- All operators were checked.
-use Rattle.std.proofs.Common.{◌≡◌, length, subst, arith}
-use Rattle.sas_core.specs.declared.parts.Parts.{Parts}
+use Rattle.sas_mutex.proofs.Imports.{◌≡◌, length, subst, arith, Parts}
 use Rattle.sas_mutex.proofs.VerdictsSoFar.{joint_in_the_end}
 use Rattle.sas_mutex.proofs.joint.find_breaking.Goals as goal
 

@@ -1,5 +1,5 @@
 -- The verdicts consider the operators so far; the family is unchanged.
-use Rattle.std.proofs.Common.{◌≡◌}
+use Rattle.sas_mutex.proofs.Imports.{◌≡◌}
 use Rattle.sas_mutex.specs.Judging.{AreVerdictsSoFar}
 use Rattle.sas_mutex.specs.Marks.{IsClean}
 use Rattle.sas_mutex.proofs.joint.find_breaking.Given as goal

@@ -1,9 +1,5 @@
 -- All effects were checked.
-use Rattle.std.proofs.Common.{◌≡◌, ◌+◌, ◌<◌, Bool, List, length, refl, sym, ap, subst, ◌∙◌, arith}
-use Rattle.sas_core.specs.declared.parts.Parts.{Parts}
-use Rattle.sas_core.specs.Grounded.{operator_at}
-use Rattle.sas_groups.specs.Families.{IsGreatest}
-use Rattle.sas_groups.specs.Kept.{family_of}
+use Rattle.sas_mutex.proofs.Imports.{◌≡◌, ◌+◌, ◌<◌, Bool, List, length, refl, sym, ap, subst, ◌∙◌, arith, Parts, operator_at, IsGreatest, family_of}
 use Rattle.sas_mutex.specs.Judging.{AreVerdictsSoFar}
 use Rattle.sas_mutex.specs.Marks.{IsClean}
 use Rattle.sas_mutex.proofs.VerdictsSoFar.{next_operator}

@@ -1,7 +1,5 @@
 -- One more verdict.
-use Rattle.std.proofs.Common.{◌+◌, List, sym, subst}
-use Rattle.sas_core.specs.declared.parts.Fact.{Fact}
-use Rattle.sas_groups.specs.Checks.{IsFirstVerdict}
+use Rattle.sas_mutex.proofs.Imports.{◌+◌, List, sym, subst, Fact, IsFirstVerdict}
 use Rattle.sas_mutex.proofs.VerdictsSoFar.{FirstUpTo, first_more}
 use Rattle.sas_mutex.proofs.joint.first_verdicts.Goals as goal
 

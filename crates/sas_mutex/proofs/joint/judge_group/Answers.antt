@@ -1,13 +1,6 @@
 -- The effect breaks the group, or the verdict is unchanged.
-use Rattle.std.proofs.Common.{ℕ, ◌+◌, ◌<◌, length, Bool, List, get_or, sym, ap, ◌∙◌, subst, arith}
-use Rattle.std.proofs.lemmas.Bool.{both_ways}
-use Rattle.std.proofs.lemmas.List.{get_or-set_same}
-use Rattle.sas_groups.specs.declared.verdict.Verdict.{Verdict}
-use Rattle.sas_groups.specs.declared.verdict.Verdict.TheVariants.{Exclusive, Broken}
-use Rattle.sas_groups.specs.Verdicts.{IsJointVerdict}
-use Rattle.sas_groups.specs.Kept.{family_of}
+use Rattle.sas_mutex.proofs.Imports.{ℕ, ◌+◌, ◌<◌, length, Bool, List, get_or, sym, ap, ◌∙◌, subst, arith, both_ways, get_or-set_same, Verdict, Exclusive, Broken, IsJointVerdict, family_of, verdict_at}
 use Rattle.sas_mutex.specs.Firing.{EffectPlace, operator_of}
-use Rattle.sas_groups.specs.Joint.{verdict_at}
 use Rattle.sas_mutex.specs.Judging.{IsUndecided, IsVerdictSoFar, AreVerdictsSoFar}
 use Rattle.sas_mutex.proofs.VerdictsSoFar.{broken_here, one_judged, so_far_by, one_effect_more, decided_already}
 use Rattle.sas_mutex.proofs.joint.judge_group.Goals as goal

@@ -1,8 +1,5 @@
 -- The verdict on one more group considers the effect.
-use Rattle.std.proofs.Common.{ℕ, ◌+◌, Bool, List, get_or, sym, ◌∙◌, subst, below_more, inl, inr, arith}
-use Rattle.std.proofs.lemmas.Bool.{cases_eq}
-use Rattle.std.proofs.lemmas.List.Elements.{All-from_get_or}
-use Rattle.sas_groups.specs.Joint.{verdict_at}
+use Rattle.sas_mutex.proofs.Imports.{ℕ, ◌+◌, Bool, List, get_or, sym, ◌∙◌, subst, below_more, inl, inr, arith, cases_eq, All-from_get_or, verdict_at}
 use Rattle.sas_mutex.specs.Judging.{IsVerdictSoFar, AreVerdictsSoFar}
 use Rattle.sas_mutex.specs.ByNotes.{IsNotedAt}
 use Rattle.sas_mutex.proofs.joint.judge_groups.Goals as goal

@@ -1,11 +1,6 @@
 -- At first the family contains all groups that may be exclusive, with room for all that may be
 -- removed.
-use Rattle.std.proofs.Common.{◌≡◌, ◌<◌, ℕ, ◌∙◌, List, length, ap, subst, arith}
-use Rattle.std.specs.Prelude.{◌↔◌, IsTrue}
-use Rattle.sas_groups.specs.declared.verdict.Verdict.{Verdict}
-use Rattle.sas_groups.specs.declared.verdict.Verdict.TheVariants.{Exclusive}
-use Rattle.sas_groups.specs.Kept.{family_of}
-use Rattle.sas_groups.specs.Joint.{verdict_at}
+use Rattle.sas_mutex.proofs.Imports.{◌≡◌, ◌<◌, ℕ, ◌∙◌, List, length, ap, subst, arith, ◌↔◌, IsTrue, Verdict, Exclusive, family_of, verdict_at}
 use Rattle.sas_mutex.proofs.Counting.{count_within}
 use Rattle.sas_mutex.proofs.VerdictsSoFar.{candidates_from}
 use Rattle.sas_mutex.specs.Basis.{IsOfNone}

@@ -1,7 +1,5 @@
 -- None of the verdicts so far is exclusive.
-use Rattle.std.proofs.Common.{◌≢◌, ℕ, ◌<◌, get_or}
-use Rattle.sas_groups.specs.declared.verdict.Verdict.{Verdict}
-use Rattle.sas_groups.specs.declared.verdict.Verdict.TheVariants.{Exclusive}
+use Rattle.sas_mutex.proofs.Imports.{◌≢◌, ℕ, ◌<◌, get_or, Verdict, Exclusive}
 use Rattle.sas_mutex.proofs.joint.some_exclusive.Given as goal
 
 abbrev pub invariant-loop-verdict : goal.invariant-loop-verdict

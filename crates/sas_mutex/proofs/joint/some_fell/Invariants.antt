@@ -1,5 +1,5 @@
 -- None of the groups so far lacks a verdict.
-use Rattle.std.proofs.Common.{ℕ, ◌<◌}
+use Rattle.sas_mutex.proofs.Imports.{ℕ, ◌<◌}
 use Rattle.sas_mutex.specs.Judging.{IsUndecided}
 use Rattle.sas_mutex.proofs.joint.some_fell.Given as goal
 

@@ -1,6 +1,6 @@
 -- What the effect preserves assuming the basis, it preserves assuming the family, which contains
 -- the basis.
-use Rattle.std.proofs.Common.{length}
+use Rattle.sas_mutex.proofs.Imports.{length}
 use Rattle.sas_mutex.proofs.FallingGroups.{basis_keeps}
 use Rattle.sas_mutex.proofs.FromNotes.{noted_fewer}
 use Rattle.sas_mutex.proofs.looking.keeps_by_basis.Goals as goal

@@ -1,5 +1,5 @@
 -- The basis grows, and then the effect is tested by it.
-use Rattle.std.proofs.Common.{List, Bool, sym, subst}
+use Rattle.sas_mutex.proofs.Imports.{List, Bool, sym, subst}
 use Rattle.sas_mutex.specs.declared.family.Family.{Family}
 use Rattle.sas_mutex.specs.Basis.{HasGrown}
 use Rattle.sas_mutex.specs.ByNotes.{IsNotedAt, EffectKeepsGroupWithItself}

@@ -1,8 +1,5 @@
 -- One more effect was checked. Those without conditions were checked before.
-use Rattle.std.proofs.Common.{◌≡◌, ◌<◌, length, sym, subst, inl, inr, arith}
-use Rattle.std.proofs.lemmas.Bool.{and_parts, cases_eq}
-use Rattle.sas_core.specs.declared.parts.Parts.{Parts}
-use Rattle.sas_core.specs.Grounded.{operator_at}
+use Rattle.sas_mutex.proofs.Imports.{◌≡◌, ◌<◌, length, sym, subst, inl, inr, arith, and_parts, cases_eq, Parts, operator_at}
 use Rattle.sas_mutex.specs.Falling.{FamilyHasRoom}
 use Rattle.sas_mutex.specs.Looking.{Looked, IsOfEffect, IsOfOperator, IsOfUnconditional}
 use Rattle.sas_mutex.specs.Marks.{IsClean}

@@ -1,5 +1,5 @@
 -- The effects so far, and all effects without conditions, were checked.
-use Rattle.std.proofs.Common.{◌<◌, ◌⊎◌}
+use Rattle.sas_mutex.proofs.Imports.{◌<◌, ◌⊎◌}
 use Rattle.sas_mutex.specs.Looking.{Looked, IsOfUnconditional}
 use Rattle.sas_mutex.specs.Marks.{IsClean}
 use Rattle.sas_mutex.proofs.looking.look_at.Given as goal

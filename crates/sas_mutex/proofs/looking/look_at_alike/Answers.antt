@@ -1,5 +1,5 @@
 -- Effects that never fire, assuming the basis, preserve all groups under this assumption.
-use Rattle.std.proofs.Common.{length, ap, subst, ◌∙◌, inr}
+use Rattle.sas_mutex.proofs.Imports.{length, ap, subst, ◌∙◌, inr}
 use Rattle.sas_mutex.specs.ByNotes.{NeverFires}
 use Rattle.sas_mutex.specs.Looking.{IsOfAlike}
 use Rattle.sas_mutex.proofs.LookedAt.{looked_by, alike_never_fires}

@@ -1,10 +1,7 @@
 -- A group that the effect doesn't preserve is removed. One that it preserves assuming the basis
 -- isn't.
-use Rattle.std.proofs.Common.{◌≡◌, ◌<◌, Bool, true, false, List, length, sym, ap, subst, arith}
-use Rattle.std.proofs.lemmas.Bool.{both_ways}
-use Rattle.sas_groups.specs.Families.{IsIn}
+use Rattle.sas_mutex.proofs.Imports.{◌≡◌, ◌<◌, Bool, true, false, List, length, sym, ap, subst, arith, both_ways, IsIn, family_of}
 use Rattle.sas_mutex.specs.declared.family.Family.{Family}
-use Rattle.sas_groups.specs.Kept.{family_of}
 use Rattle.sas_mutex.specs.Firing.{EffectPlace, operator_of}
 use Rattle.sas_mutex.specs.Looking.{IsPair, Looked}
 use Rattle.sas_mutex.specs.Falling.{FamilyHasRoom}

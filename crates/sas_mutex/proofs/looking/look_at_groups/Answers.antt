@@ -1,7 +1,5 @@
 -- The effect was checked for one more group, and in the end for all groups that contain the fact.
-use Rattle.std.proofs.Common.{ℕ, get_or, true, inl, inr, arith, sym, ◌∙◌, ap}
-use Rattle.std.proofs.lemmas.Bool.{and_parts, cases_eq}
-use Rattle.std.proofs.lemmas.List.Elements.{Contains-get_or}
+use Rattle.sas_mutex.proofs.Imports.{ℕ, get_or, true, inl, inr, arith, sym, ◌∙◌, ap, and_parts, cases_eq, Contains-get_or}
 use Rattle.sas_mutex.specs.Looking.{IsPair}
 use Rattle.sas_mutex.proofs.LookedAt.{looked_none, looked_then, looked_all}
 use Rattle.sas_mutex.proofs.looking.look_at_groups.Goals as goal

@@ -1,5 +1,5 @@
 -- The groups so far were checked.
-use Rattle.std.proofs.Common.{◌≡◌, ◌<◌, ℕ, get_or}
+use Rattle.sas_mutex.proofs.Imports.{◌≡◌, ◌<◌, ℕ, get_or}
 use Rattle.sas_mutex.specs.Looking.{Looked, IsOfEffect}
 use Rattle.sas_mutex.specs.ByNotes.{IsNotedAt}
 use Rattle.sas_mutex.proofs.looking.look_at_groups.Given as goal

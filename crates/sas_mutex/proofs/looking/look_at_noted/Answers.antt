@@ -1,6 +1,5 @@
 -- One more effect without conditions was checked. Its known facts are the recorded ones.
-use Rattle.std.proofs.Common.{◌≡◌, length, sym, subst, inl, inr, arith}
-use Rattle.std.proofs.lemmas.Bool.{and_parts, cases_eq}
+use Rattle.sas_mutex.proofs.Imports.{◌≡◌, length, sym, subst, inl, inr, arith, and_parts, cases_eq}
 use Rattle.sas_mutex.specs.Effects.{IsUnconditional}
 use Rattle.sas_mutex.specs.Firing.{EffectPlace}
 use Rattle.sas_mutex.specs.ByNotes.{IsNotedFor}

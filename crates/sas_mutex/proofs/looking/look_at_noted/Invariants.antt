@@ -1,5 +1,5 @@
 -- The effects so far without conditions were checked.
-use Rattle.std.proofs.Common.{◌<◌}
+use Rattle.sas_mutex.proofs.Imports.{◌<◌}
 use Rattle.sas_mutex.specs.Effects.{IsUnconditional}
 use Rattle.sas_mutex.specs.Looking.{Looked}
 use Rattle.sas_mutex.specs.ByNotes.{IsNotedAt}

@@ -1,5 +1,5 @@
 -- An effect that sets no fact of a group in the family preserves all of them.
-use Rattle.std.proofs.Common.{List, Bool, true, subst, inl}
+use Rattle.sas_mutex.proofs.Imports.{List, Bool, true, subst, inl}
 use Rattle.sas_mutex.specs.Basis.{SetsNone}
 use Rattle.sas_mutex.specs.Looking.{IsOfEffect, IsOfAlike}
 use Rattle.sas_mutex.proofs.LookedAt.{looked_none, looked_by}

@@ -1,7 +1,5 @@
 -- Effects that never fire preserve all groups.
-use Rattle.std.proofs.Common.{List, Bool, length, false, ap, sym, subst, ◌∙◌}
-use Rattle.std.proofs.lemmas.Bool.{true≢false}
-use Rattle.sas_core.specs.Grounded.{operator_at, effect_at, group_at}
+use Rattle.sas_mutex.proofs.Imports.{List, Bool, length, false, ap, sym, subst, ◌∙◌, true≢false, operator_at, effect_at, group_at}
 use Rattle.sas_mutex.specs.Effects.{IsKept}
 use Rattle.sas_mutex.specs.ByNotes.{IsNotedAt, NeverFires}
 use Rattle.sas_mutex.specs.Looking.{IsOfAlike}

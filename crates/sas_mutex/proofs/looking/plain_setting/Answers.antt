@@ -1,7 +1,5 @@
 -- One more effect sets no fact of a group in the family, or has conditions.
-use Rattle.std.proofs.Common.{◌≡◌, ◌<◌, length, sym, subst, below_more, arith}
-use Rattle.sas_core.specs.declared.parts.Parts.{Parts}
-use Rattle.sas_core.specs.Grounded.{operator_at}
+use Rattle.sas_mutex.proofs.Imports.{◌≡◌, ◌<◌, length, sym, subst, below_more, arith, Parts, operator_at}
 use Rattle.sas_mutex.specs.Basis.{SetsNone}
 use Rattle.sas_mutex.specs.Effects.{IsUnconditional}
 use Rattle.sas_mutex.specs.Looking.{IsOfUnconditional}

@@ -1,5 +1,5 @@
 -- None of the effects so far without conditions sets a fact of a group in the family.
-use Rattle.std.proofs.Common.{ℕ, ◌<◌}
+use Rattle.sas_mutex.proofs.Imports.{ℕ, ◌<◌}
 use Rattle.sas_mutex.specs.Effects.{IsUnconditional}
 use Rattle.sas_mutex.specs.Basis.{SetsNone}
 use Rattle.sas_mutex.proofs.looking.plain_setting.Given as goal

@@ -1,13 +1,6 @@
 -- One more fact is removed from the notes.
-use Rattle.std.proofs.Common.{arith, length, refl}
-use Rattle.std.proofs.lemmas.List.Elements.{All-contains, All-weaker}
-use Rattle.sas_core.specs.Variables.{FactExists}
-use Rattle.sas_groups.specs.Lists.{known_on, known_left}
-use Rattle.sas_groups.proofs.Turns.{turn_has, turn_left, turn_more, turns_end}
-use Rattle.sas_groups.specs.Noting.{IsForgotten}
+use Rattle.sas_mutex.proofs.Imports.{arith, length, refl, All-contains, All-weaker, FactExists, known_on, known_left, turn_has, turn_left, turn_more, turns_end, IsForgotten, variable_below, groups_below, noted_less, forgotten_now, forgotten_still, blank_in_the_end}
 use Rattle.sas_mutex.proofs.TaskFacts.{known_exist}
-use Rattle.sas_groups.proofs.Existing.{variable_below, groups_below}
-use Rattle.sas_groups.proofs.NotesOfFacts.{noted_less, forgotten_now, forgotten_still, blank_in_the_end}
 use Rattle.sas_mutex.proofs.marks.forget_known.Goals as goal
 
 pub forget-requires-clause-value : goal.forget-requires-clause-value

@@ -1,9 +1,6 @@
 -- The facts so far aren't recorded any more.
-use Rattle.std.proofs.Common.{◌≡◌, ◌++◌}
-use Rattle.std.specs.List.{All}
-use Rattle.sas_groups.specs.Lists.{known_on, known_left}
+use Rattle.sas_mutex.proofs.Imports.{◌≡◌, ◌++◌, All, known_on, known_left, IsForgotten}
 use Rattle.sas_mutex.specs.Marks.{IsNotedFrom}
-use Rattle.sas_groups.specs.Noting.{IsForgotten}
 use Rattle.sas_mutex.proofs.marks.forget_known.Given as goal
 
 abbrev pub invariant-loop-fact : goal.invariant-loop-fact

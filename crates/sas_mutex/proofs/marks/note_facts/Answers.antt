@@ -1,11 +1,5 @@
 -- One more fact is recorded.
-use Rattle.std.proofs.Common.{◌<◌, List, get_or, length, take, sym, subst}
-use Rattle.std.proofs.lemmas.List.{take_more, take_all}
-use Rattle.std.proofs.lemmas.List.Elements.{Contains-get_or}
-use Rattle.sas_core.specs.declared.parts.Fact.{Fact}
-use Rattle.sas_core.specs.declared.parts.Parts.{Parts}
-use Rattle.sas_groups.specs.Index.{IsIndexOf}
-use Rattle.sas_groups.proofs.Existing.{variable_below, groups_below}
+use Rattle.sas_mutex.proofs.Imports.{◌<◌, List, get_or, length, take, sym, subst, take_more, take_all, Contains-get_or, Fact, Parts, IsIndexOf, variable_below, groups_below}
 use Rattle.sas_mutex.proofs.KnownFacts.{AreSoFar, none_so_far, one_so_far, refused_so_far, from_still, all_known}
 use Rattle.sas_mutex.proofs.marks.note_facts.Goals as goal
 

@@ -1,5 +1,5 @@
 -- The facts so far are recorded and don't clash.
-use Rattle.std.proofs.Common.{take}
+use Rattle.sas_mutex.proofs.Imports.{take}
 use Rattle.sas_mutex.proofs.KnownFacts.{AreSoFar}
 use Rattle.sas_mutex.proofs.marks.note_facts.Given as goal
 

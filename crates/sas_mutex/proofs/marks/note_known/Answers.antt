@@ -1,16 +1,6 @@
 -- One more fact is recorded.
-use Rattle.std.proofs.Common.{◌≡◌, ◌<◌, ℕ, List, [], ◌++◌, length, refl, ap, sym, ◌∙◌, append-nil, arith}
-use Rattle.std.specs.Prelude.{IfSome, Option, Some, None}
-use Rattle.std.specs.List.{All, Contains}
-use Rattle.std.proofs.lemmas.List.Elements.{All-contains}
-use Rattle.sas_core.specs.declared.parts.Fact.{Fact}
-use Rattle.sas_core.specs.declared.parts.Parts.{Parts}
-use Rattle.sas_core.specs.Variables.{FactExists}
-use Rattle.sas_groups.specs.Lists.{known_on, known_left}
-use Rattle.sas_groups.proofs.Turns.{turn_has, turn_left}
+use Rattle.sas_mutex.proofs.Imports.{◌≡◌, ◌<◌, ℕ, List, [], ◌++◌, length, refl, ap, sym, ◌∙◌, append-nil, arith, IfSome, Option, Some, None, All, Contains, All-contains, Fact, Parts, FactExists, known_on, known_left, turn_has, turn_left, variable_below, groups_below, blank_same}
 use Rattle.sas_mutex.proofs.TaskFacts.{known_exist}
-use Rattle.sas_groups.proofs.Existing.{variable_below, groups_below}
-use Rattle.sas_groups.proofs.NotesOfFacts.{blank_same}
 use Rattle.sas_mutex.proofs.KnownFacts.{none_so_far, one_so_far, refused_so_far, from_still, all_known}
 use Rattle.sas_mutex.proofs.marks.note_known.Goals as goal
 

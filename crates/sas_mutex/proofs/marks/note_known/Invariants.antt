@@ -1,7 +1,5 @@
 -- The facts so far are recorded and don't clash.
-use Rattle.std.proofs.Common.{◌≡◌, ◌++◌}
-use Rattle.sas_groups.specs.Lists.{known_on, known_left}
-use Rattle.sas_groups.specs.Notes.{AreBlank}
+use Rattle.sas_mutex.proofs.Imports.{◌≡◌, ◌++◌, known_on, known_left, AreBlank}
 use Rattle.sas_mutex.proofs.KnownFacts.{AreSoFar}
 use Rattle.sas_mutex.proofs.marks.note_known.Given as goal
 

@@ -1,10 +1,5 @@
 -- This fact is chosen, or the previous choice.
-use Rattle.std.proofs.Common.{sym, subst, inl, inr}
-use Rattle.std.specs.List.{Contains}
-use Rattle.std.specs.Prelude.{IfSome, Option}
-use Rattle.sas_core.specs.declared.parts.Fact.{Fact}
-use Rattle.sas_groups.specs.Lists.{known_on, known_left}
-use Rattle.sas_groups.proofs.Turns.{turn_has, turn_left}
+use Rattle.sas_mutex.proofs.Imports.{sym, subst, inl, inr, Contains, IfSome, Option, Fact, known_on, known_left, turn_has, turn_left}
 use Rattle.sas_mutex.proofs.marks.widest_known.Goals as goal
 
 pub loop-fact-preserved : goal.loop-fact-preserved

@@ -1,8 +1,5 @@
 -- The chosen fact is one of the known facts.
-use Rattle.std.proofs.Common.{◌≡◌, ◌++◌}
-use Rattle.std.specs.List.{Contains}
-use Rattle.std.specs.Prelude.{IfSome}
-use Rattle.sas_groups.specs.Lists.{known_on, known_left}
+use Rattle.sas_mutex.proofs.Imports.{◌≡◌, ◌++◌, Contains, IfSome, known_on, known_left}
 use Rattle.sas_mutex.proofs.marks.widest_known.Given as goal
 
 abbrev pub invariant-loop-fact : goal.invariant-loop-fact

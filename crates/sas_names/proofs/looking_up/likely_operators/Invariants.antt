@@ -1,6 +1,5 @@
 -- The names of all steps so far have a likely operator.
-use Rattle.std.proofs.Common.{◌≡◌, ℕ, ◌<◌, ◌≤◌, [], length, get_or}
-use Rattle.std.specs.Prelude.{vec_capacity}
+use Rattle.sas_names.proofs.Imports.{◌≡◌, ℕ, ◌<◌, ◌≤◌, [], length, get_or, vec_capacity}
 use Rattle.sas_names.specs.Likely.{IsLikely}
 use Rattle.sas_names.proofs.looking_up.likely_operators.Given as goal
 

@@ -1,6 +1,5 @@
 -- The names of the steps so far are numbered.
-use Rattle.std.proofs.Common.{◌≡◌, ◌≤◌, length}
-use Rattle.std.specs.Prelude.{vec_capacity}
+use Rattle.sas_names.proofs.Imports.{◌≡◌, ◌≤◌, length, vec_capacity}
 use Rattle.sas_names.specs.StepNames.{AreStepsOf, HaveNumbers}
 use Rattle.sas_names.proofs.step_names.number_all.Given as goal
 

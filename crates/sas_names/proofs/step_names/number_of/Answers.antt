@@ -1,5 +1,5 @@
 -- A new name has the number of its step.
-use Rattle.std.proofs.Common.{◌≡◌, None, rules}
+use Rattle.sas_names.proofs.Imports.{◌≡◌, None, rules}
 use Rattle.sas_names.specs.NameTable.{value_of}
 use Rattle.sas_names.specs.StepNames.{step_names}
 use Rattle.sas_names.proofs.StepNumbers.{Numbers-new}

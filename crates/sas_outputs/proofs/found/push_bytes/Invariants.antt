@@ -1,4 +1,4 @@
-use Rattle.std.proofs.Common.{◌≡◌, ◌++◌, take, flat_map}
+use Rattle.sas_outputs.proofs.Imports.{◌≡◌, ◌++◌, take, flat_map}
 use Rattle.sas_outputs.specs.ShownBytes.{shown_byte}
 use Rattle.sas_outputs.proofs.found.push_bytes.Given as goal
 

@@ -1,5 +1,4 @@
-use Rattle.std.proofs.Common.{arith}
-use Rattle.std.proofs.lemmas.Grind.{elements}
+use Rattle.sas_outputs.proofs.Imports.{arith, elements}
 use Rattle.sas_outputs.proofs.refusals.refusal_text.Goals as goal
 
 pub returns : goal.returns

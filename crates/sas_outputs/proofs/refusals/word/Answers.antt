@@ -1,4 +1,4 @@
-use Rattle.std.proofs.Common.{rules}
+use Rattle.sas_outputs.proofs.Imports.{rules}
 use Rattle.sas_outputs.proofs.refusals.word.Goals as goal
 
 pub returns-in-TooLong-clause-memory : goal.returns-in-TooLong-clause-memory

@@ -1,4 +1,4 @@
-use Rattle.std.proofs.Common.{◌≡◌, take}
+use Rattle.sas_outputs.proofs.Imports.{◌≡◌, take}
 use Rattle.sas_outputs.specs.Summary as spec
 use Rattle.sas_outputs.proofs.summary.derived_count.Given as goal
 

@@ -1,6 +1,4 @@
-use Rattle.std.proofs.Common.{arith, subst}
-use Rattle.sas_output.specs.Sink.{Pushes}
-use Rattle.sas_output.proofs.Pushed.{pushes_item}
+use Rattle.sas_outputs.proofs.Imports.{arith, subst, Pushes, pushes_item}
 use Rattle.sas_outputs.proofs.Summaries.{goal_text, goal_all}
 use Rattle.sas_outputs.proofs.summary.push_goal.Goals as goal
 

@@ -1,5 +1,4 @@
-use Rattle.std.proofs.Common.{take, flat_map}
-use Rattle.sas_output.specs.Sink.{Pushes}
+use Rattle.sas_outputs.proofs.Imports.{take, flat_map, Pushes}
 use Rattle.sas_outputs.proofs.Summaries.{goal_text}
 use Rattle.sas_outputs.proofs.summary.push_goal.Given as goal
 

@@ -1,6 +1,4 @@
-use Rattle.std.proofs.Common.{arith, subst}
-use Rattle.sas_output.specs.Sink.{Pushes}
-use Rattle.sas_output.proofs.Pushed.{pushes_item}
+use Rattle.sas_outputs.proofs.Imports.{arith, subst, Pushes, pushes_item}
 use Rattle.sas_outputs.proofs.Summaries.{initial_text, initial_all, item_is, within}
 use Rattle.sas_outputs.proofs.summary.push_state.Goals as goal
 

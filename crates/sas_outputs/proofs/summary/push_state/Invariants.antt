@@ -1,6 +1,4 @@
-use Rattle.std.proofs.Common.{take, flat_map}
-use Rattle.std.specs.List.{enumerate_from}
-use Rattle.sas_output.specs.Sink.{Pushes}
+use Rattle.sas_outputs.proofs.Imports.{take, flat_map, enumerate_from, Pushes}
 use Rattle.sas_outputs.proofs.Summaries.{initial_text}
 use Rattle.sas_outputs.proofs.summary.push_state.Given as goal
 

@@ -1,4 +1,4 @@
-use Rattle.sas_output.proofs.Pushed.{pushes_then}
+use Rattle.sas_outputs.proofs.Imports.{pushes_then}
 use Rattle.sas_outputs.proofs.summary.push_summary.Goals as goal
 
 pub returns : goal.returns

@@ -1,12 +1,5 @@
 -- All bytes were fed to the reader.
-use Rattle.std.proofs.Common.{[], Ok, Err, sym, ap, subst, ◌∙◌}
-use Rattle.sas_reader.specs.declared.fault.Fault.{Fault}
-use Rattle.sas_reader.specs.About.{ConcernsText}
-use Rattle.sas_reader.specs.Format.{ReadsAs}
-use Rattle.sas_reader.specs.Limit.{most_bytes}
-use Rattle.sas_reader.specs.Reader.{IsRefused}
-use Rattle.sas_reader.proofs.Reading.{end_fault}
-use Rattle.sas_reader.proofs.Refusals.{told_by, explains}
+use Rattle.sas_plan_file.proofs.Imports.{[], Ok, Err, sym, ap, subst, ◌∙◌, Fault, ConcernsText, ReadsAs, most_bytes, IsRefused, end_fault, reported_by, explains}
 use Rattle.sas_plan_file.specs.PlanFormat.{plan_format, PlanLineFits}
 use Rattle.sas_plan_file.specs.PlanMachine.{plan_node, plan_start, HasCostLine, plan_stays}
 use Rattle.sas_plan_file.specs.PlanReader.{plan_led, plan_rejects}
@@ -41,8 +34,8 @@ returns-in-Err-clause-explained c =
     let limit = c.feed.ensures.limit ∙ c.new-reader.ensures.limit in
     let r = c.in-Err.refused in
     let same = c.of.ensures.fault in
-    λ is_told.
-    let told = subst (λ (f : Fault). ConcernsText f.kind) same is_told in
+    λ is_reported.
+    let reported = subst (λ (f : Fault). ConcernsText f.kind) same is_reported in
     explains plan_format PlanLineFits plan_node plan_start plan_grammar plan_led HasCostLine plan_rejects plan_stays plan_follows fault_of found_of nothing_else r _ same c.of.ensures.found (λ a t s. tt) bytes
-    (told_by plan_format PlanLineFits plan_node plan_start plan_grammar plan_led HasCostLine plan_rejects plan_stays plan_follows most_bytes bytes r told
-    (subst (λ n. IsRefused plan_led HasCostLine plan_rejects plan_stays n bytes r) limit (c.in-Err.ensures.refused.fault told.2 bytes stands)))
+    (reported_by plan_format PlanLineFits plan_node plan_start plan_grammar plan_led HasCostLine plan_rejects plan_stays plan_follows most_bytes bytes r reported
+    (subst (λ n. IsRefused plan_led HasCostLine plan_rejects plan_stays n bytes r) limit (c.in-Err.ensures.refused.fault reported.2 bytes stands)))

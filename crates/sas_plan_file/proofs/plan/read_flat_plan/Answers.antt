@@ -1,4 +1,4 @@
-use Rattle.sas_reader.proofs.Refusals.{reads_explained, refuses_explained}
+use Rattle.sas_plan_file.proofs.Imports.{reads_explained, refuses_explained}
 use Rattle.sas_plan_file.specs.PlanFormat.{plan_format, PlanLineFits}
 use Rattle.sas_plan_file.specs.PlanMachine.{plan_node, plan_start, HasCostLine, plan_stays}
 use Rattle.sas_plan_file.specs.PlanReader.{plan_led, plan_rejects}

@@ -1,7 +1,4 @@
-use Rattle.std.proofs.Common.{sym, subst, Err}
-use Rattle.sas_reader.specs.Devices.{ReadsAll, ValueOf}
-use Rattle.sas_reader.specs.declared.fault.Fault.{Fault}
-use Rattle.sas_reader.proofs.Reading.{reads_all, refuses_all}
+use Rattle.sas_plan_file.proofs.Imports.{sym, subst, Err, ReadsAll, ValueOf, Fault, reads_all, refuses_all}
 use Rattle.sas_plan_file.specs.PlanFormat.{plan_format, PlanLineFits}
 use Rattle.sas_plan_file.specs.PlanMachine.{plan_node, plan_start, HasCostLine, plan_stays}
 use Rattle.sas_plan_file.specs.PlanReader.{plan_led, plan_rejects}

@@ -1,6 +1,4 @@
-use Rattle.std.proofs.Common.{◌∙◌}
-use Rattle.sas_reader.proofs.Conversion.{some_read}
-use Rattle.sas_reader.proofs.Refusals.{reads_explained, refuses_explained}
+use Rattle.sas_plan_file.proofs.Imports.{◌∙◌, some_read, reads_explained, refuses_explained}
 use Rattle.sas_plan_file.specs.PlanFormat.{plan_format, PlanLineFits}
 use Rattle.sas_plan_file.specs.PlanMachine.{plan_node, plan_start}
 use Rattle.sas_plan_file.specs.PlanRefusal.{fault_of, found_of, nothing_else}

@@ -1,4 +1,4 @@
-use Rattle.std.proofs.Common.{ℕ, List, Bor}
+use Rattle.sas_plan_file.proofs.Imports.{ℕ, List, Bor}
 use Rattle.sas_plan_file.proofs.Fronts.{match_option, begins, begins_not}
 use Rattle.sas_plan_file.proofs.plan_line.behind.Goals as goal
 

@@ -1,5 +1,4 @@
-use Rattle.std.proofs.Common.{◌≡◌, ℕ, ◌+◌, ◌-◌, ◌≤◌, List, ◌∷◌, length, get_or, take, drop, refl, ap, ◌∙◌, arith, rules, inl, inr}
-use Rattle.std.proofs.lemmas.List.{drop_more, take_rest}
+use Rattle.sas_plan_file.proofs.Imports.{◌≡◌, ℕ, ◌+◌, ◌-◌, ◌≤◌, List, ◌∷◌, length, get_or, take, drop, refl, ap, ◌∙◌, arith, rules, inl, inr, drop_more, take_rest}
 use Rattle.sas_plan_file.proofs.plan_line.end_of_line.Goals as goal
 
 pub returns-then-bytes-place-eq10 : goal.returns-then-bytes-place-eq10

@@ -1,4 +1,4 @@
-use Rattle.std.proofs.Common.{◌≡◌, ℕ, ◌+◌, ◌-◌, ◌<◌, get_or, length, take, drop, ap, ◌∙◌, arith, rules}
+use Rattle.sas_plan_file.proofs.Imports.{◌≡◌, ℕ, ◌+◌, ◌-◌, ◌<◌, get_or, length, take, drop, ap, ◌∙◌, arith, rules}
 use Rattle.sas_plan_file.proofs.PlanAhead.{between}
 use Rattle.sas_plan_file.proofs.plan_line.in_parentheses.Goals as goal
 

@@ -1,13 +1,7 @@
-use Rattle.std.proofs.Common.{◌≡◌, ℕ, List, [], ◌∷◌, ◌++◌, map, take, sym, ap, ◌∙◌, append-nil, arith}
-use Rattle.std.proofs.lemmas.Grind.{common_steps, flat_map-append}
-use Rattle.std.proofs.lemmas.List.{take_all, map-append}
-use Rattle.sas_core.specs.declared.plan.CostKind.{CostKind}
-use Rattle.sas_lines.specs.Lines.{text}
+use Rattle.sas_plan_file.proofs.Imports.{◌≡◌, ℕ, List, [], ◌∷◌, ◌++◌, map, take, sym, ap, ◌∙◌, arith, flat_map-append, take_all, map-append, CostKind, text}
+use Rattle.std.proofs.Common.{append-nil}
 use Rattle.sas_plan_file.specs.PlanFormat.{plan_line_bytes, step, cost}
 use Rattle.sas_plan_file.proofs.plan_writer.encode_plan.Goals as goal
-
-pub loop-name-preserved : goal.loop-name-preserved
-loop-name-preserved c = grind (arith, common_steps)
 
 -- the lines of the steps, followed by that of the cost
 cost_behind : (steps : List (List ℕ)) (n : ℕ) (kind : CostKind) → text (map plan_line_bytes (map step steps ++ cost n kind ∷ [])) ≡ text (map plan_line_bytes (map step steps)) ++ (plan_line_bytes (cost n kind) ++ 10 ∷ [])

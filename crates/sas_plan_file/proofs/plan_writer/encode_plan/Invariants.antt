@@ -1,5 +1,4 @@
-use Rattle.std.proofs.Common.{◌≡◌, map, take}
-use Rattle.sas_lines.specs.Lines.{text}
+use Rattle.sas_plan_file.proofs.Imports.{◌≡◌, map, take, text}
 use Rattle.sas_plan_file.specs.PlanFormat.{plan_line_bytes, step}
 use Rattle.sas_plan_file.proofs.plan_writer.encode_plan.Given as goal
 

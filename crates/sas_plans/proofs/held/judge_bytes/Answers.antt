@@ -1,4 +1,4 @@
-use Rattle.std.proofs.Common.{Ok, refl}
+use Rattle.sas_plans.proofs.Imports.{Ok, refl}
 use Rattle.sas_plans.proofs.Opened.{judged_refused, judged_long}
 use Rattle.sas_plans.proofs.held.judge_bytes.Goals as goal
 

@@ -1,10 +1,9 @@
-use Rattle.std.proofs.Common.{◌≡◌, ◌∙◌, Err, ap}
-use Rattle.sas_output.specs.declared.ending.ToolFault.TheVariants.{Read}
+use Rattle.sas_plans.proofs.Imports.{◌≡◌, ◌∙◌, Err, ap, Read}
 use Rattle.sas_plans.proofs.Opened.{opens_fault, opens_ready, opens_refused, opens_unlayered}
 use Rattle.sas_plans.proofs.held.open_device.Goals as goal
 
 pub returns-in-Ok-refuse_file : goal.returns-in-Ok-refuse_file
-returns-in-Ok-refuse_file g c = opens_refused g.R.Read.remaining _ _ c.in-Err.refusal.fault c.in-Err.ensures.plain c.in-Ok-refuse_file.told c.in-Ok-refuse_file.ensures.ok
+returns-in-Ok-refuse_file g c = opens_refused g.R.Read.remaining _ _ c.in-Err.refusal.fault c.in-Err.ensures.plain c.in-Ok-refuse_file.reported c.in-Ok-refuse_file.ensures.ok
 
 pub returns-in-Err-refuse_file : goal.returns-in-Err-refuse_file
 returns-in-Err-refuse_file g c =

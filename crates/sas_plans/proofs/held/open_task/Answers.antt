@@ -1,4 +1,4 @@
-use Rattle.std.proofs.Common.{List, ℕ, Bor, ap, Some}
+use Rattle.sas_plans.proofs.Imports.{List, ℕ, Bor, ap, Some}
 use Rattle.sas_plans.proofs.Opened.{opened_ok, opened_long}
 use Rattle.sas_plans.proofs.held.open_task.Goals as goal
 

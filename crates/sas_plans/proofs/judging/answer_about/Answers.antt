@@ -1,6 +1,4 @@
-use Rattle.std.proofs.Common.{inr, refl}
-use Rattle.sas_output.specs.declared.told.Told.{Told}
-use Rattle.sas_output.specs.Ending.{output_told}
+use Rattle.sas_plans.proofs.Imports.{inr, refl, Answer, output_of}
 use Rattle.sas_plans.proofs.TaskAnswers.{answers_layered, answers_refused, answers_fault, refused_unlayered}
 use Rattle.sas_plans.proofs.Turns.{in_turn_layered, in_turn_fault}
 use Rattle.sas_plans.proofs.judging.answer_about.Goals as goal
@@ -21,15 +19,15 @@ returns-in-Ok-Ready-clause-waits g c = λ b known none.
 
 pub returns-in-Ok-Refused-clause-answers : goal.returns-in-Ok-Refused-clause-answers
 returns-in-Ok-Refused-clause-answers g c =
-    answers_refused g.T.Read.remaining _ _ _ _ c.in-Ok-Refused.told (rw c.in-Ok-Refused.field-0-is at c.in-Ok-Refused.ensures)
+    answers_refused g.T.Read.remaining _ _ _ _ c.in-Ok-Refused.reported (rw c.in-Ok-Refused.field-0-is at c.in-Ok-Refused.ensures)
 
 pub returns-in-Ok-Refused-clause-opens : goal.returns-in-Ok-Refused-clause-opens
 returns-in-Ok-Refused-clause-opens g c =
     let opens = rw c.in-Ok-Refused.field-0-is at c.in-Ok-Refused.ensures in
-    inr (λ b known. (let (out, is_no) = opens.output b known in refused_unlayered b (output_told c.in-Ok-Refused.told) out is_no), refl)
+    inr (λ b known. (let (out, is_no) = opens.output b known in refused_unlayered b (output_of c.in-Ok-Refused.reported) out is_no), refl)
 
 pub returns-in-Err-clause-answers : goal.returns-in-Err-clause-answers
 returns-in-Err-clause-answers g c = answers_fault g.T.Read.remaining _ _ _ _ c.in-Err.fault c.in-Err.ensures
 
 pub returns-in-Err-clause-opens : goal.returns-in-Err-clause-opens
-returns-in-Err-clause-opens g c = in_turn_fault g.S.PlanInputs.open_gives Told _ _ _ c.in-Err.fault c.in-Err.ensures.writes
+returns-in-Err-clause-opens g c = in_turn_fault g.S.PlanInputs.open_gives Answer _ _ _ c.in-Err.fault c.in-Err.ensures.writes

@@ -1,5 +1,4 @@
-use Rattle.std.proofs.Common.{rules}
-use Rattle.std.proofs.lemmas.List.Elements.{All-map}
+use Rattle.sas_plans.proofs.Imports.{rules, All-map}
 use Rattle.sas_plans.specs.Inputs.{IsLabel}
 use Rattle.sas_plans.specs.declared.slices.PlanBytes.{PlanBytes}
 use Rattle.sas_plans.proofs.InMemory.{all_labels}

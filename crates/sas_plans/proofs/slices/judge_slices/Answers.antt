@@ -1,16 +1,15 @@
-use Rattle.std.proofs.Common.{List, ℕ, [], Bor, ap, Some}
-use Rattle.std.specs.Io.KnownBytes.{Appends}
+use Rattle.sas_plans.proofs.Imports.{List, ℕ, [], Bor, ap, Some, Appends}
 use Rattle.sas_plans.specs.Inputs.{tool_fault}
 use Rattle.sas_plans.specs.Judged.{JudgeOut}
 use Rattle.sas_plans.specs.PlansHeadline.{PlansHeadline}
 use Rattle.sas_plans.specs.Slices.{bytes_of, labels_of}
-use Rattle.sas_plans.proofs.InMemory.{have_bytes, sent_text, told_none, told_output}
+use Rattle.sas_plans.proofs.InMemory.{have_bytes, sent_text, reported_none, reported_output}
 use Rattle.sas_plans.proofs.slices.judge_slices.Goals as goal
 
 pub returns-in-Ok-clause-output : goal.returns-in-Ok-clause-output
 returns-in-Ok-clause-output c =
     let known = ap (λ (s : Bor (List ℕ)). Some s.now) c.new-device.ensures.device in
-    told_output (Some c.new-text.result.device.items) c.judge.new.out.device.items c.into_device.result.items (cc) (cc) (JudgeOut (labels_of c.args.plans.now) c.args.task.now (bytes_of c.args.plans.now)) c.in-Ok.status
+    reported_output (Some c.new-text.result.device.items) c.judge.new.out.device.items c.into_device.result.items (cc) (cc) (JudgeOut (labels_of c.args.plans.now) c.args.task.now (bytes_of c.args.plans.now)) c.in-Ok.status
     (c.in-Ok.ensures.output c.args.task.now (bytes_of c.args.plans.now) known (have_bytes c.args.plans.now))
 
 pub returns-in-Ok-clause-headline : goal.returns-in-Ok-clause-headline
@@ -23,5 +22,5 @@ returns-in-Ok-clause-headline c =
 pub returns-in-Err-clause-long : goal.returns-in-Err-clause-long
 returns-in-Err-clause-long c = λ long.
     let known = ap (λ (s : Bor (List ℕ)). Some s.now) c.new-device.ensures.device in
-    told_none (JudgeOut (labels_of c.args.plans.now) c.args.task.now (bytes_of c.args.plans.now)) (Appends (Some c.new-text.result.device.items) (Some c.judge.new.out.device.items)) (tool_fault c.in-Err.fault) long
+    reported_none (JudgeOut (labels_of c.args.plans.now) c.args.task.now (bytes_of c.args.plans.now)) (Appends (Some c.new-text.result.device.items) (Some c.judge.new.out.device.items)) (tool_fault c.in-Err.fault) long
     (c.in-Err.ensures.output c.args.task.now (bytes_of c.args.plans.now) known (have_bytes c.args.plans.now))

@@ -1,10 +1,4 @@
-use Rattle.std.proofs.Common.{refl, ◌≡◌, ◌≢◌, ◌≤◌, ◌<◌, Bool, true, false, [], ◌+◌, ◌++◌, ℕ, List, length, ap, subst, ◌∙◌, sym, arith, inl, inr, take, Result, Ok, Err, None, Some, Option}
-use Rattle.std.specs.Prelude.{IsTrue}
-use Rattle.std.specs.Io.KnownBytes.{Consumes, IsAtEnd}
-use Rattle.std.proofs.KnownBytes.{Consumes-nil, Consumes-trans, Consumes-kept}
-use Rattle.std.proofs.lemmas.List.{append-nil, length-take-le}
-use Rattle.std.proofs.lemmas.Bool.{false≢true}
-use Rattle.sas_lines.specs.Device.{Device}
+use Rattle.sas_reader.proofs.Imports.{refl, ◌≡◌, ◌≢◌, ◌≤◌, ◌<◌, Bool, true, false, [], ◌+◌, ◌++◌, ℕ, List, length, ap, subst, ◌∙◌, sym, arith, inl, inr, take, Result, Ok, Err, None, Some, Option, IsTrue, Consumes, IsAtEnd, Consumes-nil, Consumes-trans, Consumes-kept, append-nil, length-take-le, false≢true, Device}
 use Rattle.sas_reader.specs.declared.fault.Fault.{Fault}
 use Rattle.sas_reader.specs.declared.fault.Kind.{Kind}
 use Rattle.sas_reader.specs.declared.fault.Kind.TheVariants as kinds
@@ -111,12 +105,6 @@ loop-n-init g c = record {
   read = ([], Consumes-nil _, c.requires.stands);
 }
 
-pub slice_bounds-feed-end : goal.slice_bounds-feed-end
-slice_bounds-feed-end g c = c.in-Ok.ensures.bound
-
-pub slice_bounds-feed-end-in-loop-n : goal.slice_bounds-feed-end-in-loop-n
-slice_bounds-feed-end-in-loop-n g c = sym (length-take-le c.in-Ok.n c.take.new.buffer c.in-Ok.ensures.bound)
-
 pub loop-n-smaller : goal.loop-n-smaller
 loop-n-smaller g c =
     let takes = c.in_default.ensures in
@@ -136,6 +124,3 @@ loop-n-preserved g c =
       limit = takes.limit ∙ v.limit;
       read = (b ++ take c.in-Ok.n c.take.new.buffer, Consumes-trans _ _ _ b _ v.read.1 c.in-Ok.ensures.bytes.0, takes.stands b v.read.2);
     }
-
-pub overflow_add-line : goal.overflow_add-line
-overflow_add-line g c = let r = c.loop-n.reader in omega (arith, r.few, r.within, r.small)

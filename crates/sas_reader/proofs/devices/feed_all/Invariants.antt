@@ -1,5 +1,4 @@
-use Rattle.std.proofs.Common.{◌≡◌, ◌-◌, ◌<◌, ℕ, List, length, None, false}
-use Rattle.std.specs.Io.KnownBytes.{Consumes}
+use Rattle.sas_reader.proofs.Imports.{◌≡◌, ◌-◌, ◌<◌, ℕ, List, length, None, false, Consumes}
 use Rattle.sas_reader.specs.Reader.{Stands}
 use Rattle.sas_reader.proofs.devices.feed_all.Given as goal
 

@@ -1,4 +1,4 @@
-use Rattle.std.proofs.Common.{◌≡◌, drop}
+use Rattle.sas_reader.proofs.Imports.{◌≡◌, drop}
 use Rattle.sas_reader.specs.Found.{behind_ends}
 use Rattle.sas_reader.proofs.found.byte_behind.Given as goal
 

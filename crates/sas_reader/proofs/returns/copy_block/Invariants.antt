@@ -1,4 +1,4 @@
-use Rattle.std.proofs.Common.{◌≡◌, ◌+◌, ◌-◌, ◌≤◌, ◌++◌, take, drop}
+use Rattle.sas_reader.proofs.Imports.{◌≡◌, ◌+◌, ◌-◌, ◌≤◌, ◌++◌, take, drop}
 use Rattle.sas_reader.specs.Returns.{returns_in, CopiesSoFar}
 use Rattle.sas_reader.proofs.returns.copy_block.Given as goal
 

@@ -1,4 +1,4 @@
-use Rattle.std.proofs.Common.{◌-◌, length}
+use Rattle.sas_reader.proofs.Imports.{◌-◌, length}
 use Rattle.sas_reader.specs.Returns.{CopiesSoFar}
 use Rattle.sas_reader.proofs.returns.copy_many.Given as goal
 

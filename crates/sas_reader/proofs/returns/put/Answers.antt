@@ -1,5 +1,4 @@
-use Rattle.std.proofs.Common.{◌≡◌, ◌+◌, arith, length}
-use Rattle.std.proofs.lemmas.Simd.{length-chunk, take_more_put_chunk}
+use Rattle.sas_reader.proofs.Imports.{◌≡◌, ◌+◌, arith, length, length-chunk, take_more_put_chunk}
 use lib.Lanes.{chunk}
 use Rattle.sas_reader.proofs.returns.put.Goals as goal
 

@@ -1,5 +1,4 @@
-use Rattle.std.proofs.Common.{◌≡◌, ℕ, ◌==◌, ◌∙◌, length, arith}
-use Rattle.std.proofs.lemmas.Simd.{length-chunk, bitmask_splat}
+use Rattle.sas_reader.proofs.Imports.{◌≡◌, ℕ, ◌==◌, ◌∙◌, length, arith, length-chunk, bitmask_splat}
 use lib.Lanes.{chunk}
 use mir.Syntax.{w8}
 use Rattle.sas_reader.proofs.Copying.{returns_in_is}

@@ -1,7 +1,4 @@
-use Rattle.std.proofs.Common.{refl}
-use Rattle.sas_outputs.specs.declared.Request.TheVariants.{Show, Print, Check, Mutex}
-use Rattle.sas_task_format.specs.TaskFormat.{task_format}
-use Rattle.sas_outputs.specs.Output.{ShowAnswer, PrintAnswer}
+use Rattle.sas_requests.proofs.Imports.{refl, Show, Print, Check, Mutex, task_format, ShowAnswer, PrintAnswer}
 use Rattle.sas_requests.specs.Answering.{TaskBy, CheckBy, MutexBy}
 use Rattle.sas_requests.proofs.RequestEnds.{of_task, of_steps}
 use Rattle.sas_requests.proofs.answers.answer.Goals as goal

@@ -1,7 +1,4 @@
-use Rattle.std.proofs.Common.{inl, inr}
-use Rattle.sas_output.specs.Ending.{output_told}
-use Rattle.sas_answers.specs.Answers.{MutexAnswer}
-use Rattle.sas_answers.proofs.MutexAnswers.{groups_answered}
+use Rattle.sas_requests.proofs.Imports.{inl, inr, output_of, MutexAnswer, groups_answered}
 use Rattle.sas_requests.proofs.FileEnds.{ends_by, ends_some}
 use Rattle.sas_requests.proofs.RequestEnds.{mutex_yes}
 use Rattle.sas_requests.proofs.answers.answer_groups.Goals as goal
@@ -9,8 +6,8 @@ use Rattle.sas_requests.proofs.answers.answer_groups.Goals as goal
 pub returns-in_ok-groups_answer-in-Plain-clause-ends : goal.returns-in_ok-groups_answer-in-Plain-clause-ends
 returns-in_ok-groups_answer-in-Plain-clause-ends g c =
     let p = c.args.layered.now in
-    let told = output_told c.in_ok-groups_answer-in-Plain.field-0 in
-    let ends = ends_some _ (MutexAnswer p) told c.write.result (groups_answered p told c.requires.layered c.in_ok-groups_answer-in-Plain.ensures) c.write.ensures.ends in
+    let reported = output_of c.in_ok-groups_answer-in-Plain.field-0 in
+    let ends = ends_some _ (MutexAnswer p) reported c.write.result (groups_answered p reported c.requires.layered c.in_ok-groups_answer-in-Plain.ensures) c.write.ensures.ends in
     elim c.in-Plain.is [ inl is ↦ rw is ends | inr is ↦ rw is ends ]
 
 pub returns-in-Reasons-clause-ends : goal.returns-in-Reasons-clause-ends

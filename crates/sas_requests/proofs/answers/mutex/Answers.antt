@@ -1,6 +1,4 @@
-use Rattle.std.proofs.Common.{codes}
-use Rattle.sas_reader.specs.Devices.{ValueOf}
-use Rattle.sas_task_format.specs.TaskFormat.{task_format}
+use Rattle.sas_requests.proofs.Imports.{codes, ValueOf, task_format}
 use Rattle.sas_requests.specs.Answering.{MutexBy, UnlayeredBy}
 use Rattle.sas_requests.specs.FileReasons.{AreTaskReasons}
 use Rattle.sas_requests.proofs.FileEnds.{ends_value, ends_more, unread}

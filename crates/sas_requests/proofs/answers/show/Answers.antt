@@ -1,21 +1,13 @@
-use Rattle.std.proofs.Common.{ap, ◌∙◌, codes}
-use Rattle.sas_lines.specs.Lines.{text}
-use Rattle.sas_flat.specs.declared.outline.Outline.{Outline}
-use Rattle.sas_task_format.specs.TaskFormat.{task_format}
-use Rattle.sas_task_reader.specs.Outline.{OutlineOf}
-use Rattle.sas_output.specs.declared.ending.Status.TheVariants.{Yes}
-use Rattle.sas_output.specs.Ending.{Output}
-use Rattle.sas_outputs.specs.Summary.{summary_lines}
-use Rattle.sas_outputs.specs.Output.{ShowAnswer}
+use Rattle.sas_requests.proofs.Imports.{ap, ◌∙◌, codes, text, Outline, task_format, OutlineOf, Yes, Output, summary_lines, ShowAnswer}
 use Rattle.sas_requests.specs.FileReasons.{AreTaskReasons}
 use Rattle.sas_requests.proofs.FileEnds.{ends_text, task_refused, unread}
 use Rattle.sas_requests.proofs.answers.show.Goals as goal
 
 pub returns-in-Ok-clause-ends : goal.returns-in-Ok-clause-ends
 returns-in-Ok-clause-ends g c =
-    let told = λ (o : Outline). let x : Output = record { text = text (summary_lines o); status = Yes } in x in
-    ends_text g.R.Read.remaining task_format AreTaskReasons OutlineOf (codes "task") _ c.args.detail ShowAnswer _ _ c.in-Ok.outline (told c.new-summary.result) c.write-ended.result c.in-Ok.ensures.plain
-    (λ b outlined. (outlined.0, outlined.1, ap told (c.new-summary.ensures ∙ outlined.2))) c.write-ended.ensures.ends (unread _ c.write-ended.result c.write-ended.ensures.nothing)
+    let reported = λ (o : Outline). let x : Output = record { text = text (summary_lines o); status = Yes } in x in
+    ends_text g.R.Read.remaining task_format AreTaskReasons OutlineOf (codes "task") _ c.args.detail ShowAnswer _ _ c.in-Ok.outline (reported c.new-summary.result) c.write-ended.result c.in-Ok.ensures.plain
+    (λ b outlined. (outlined.0, outlined.1, ap reported (c.new-summary.ensures ∙ outlined.2))) c.write-ended.ensures.ends (unread _ c.write-ended.result c.write-ended.ensures.nothing)
 
 pub returns-in-Err-clause-ends : goal.returns-in-Err-clause-ends
 returns-in-Err-clause-ends g c =

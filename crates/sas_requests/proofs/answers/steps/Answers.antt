@@ -1,17 +1,12 @@
-use Rattle.std.proofs.Common.{codes, refl}
-use Rattle.sas_reader.specs.Devices.{TextOf}
-use Rattle.sas_plan_file.specs.PlanFormat.{plan_format}
-use Rattle.sas_output.specs.declared.ending.Status.TheVariants.{Yes}
-use Rattle.sas_output.specs.Ending.{Output}
-use Rattle.sas_outputs.specs.Output.{PrintAnswer}
+use Rattle.sas_requests.proofs.Imports.{codes, refl, TextOf, plan_format, Yes, Output, PrintAnswer}
 use Rattle.sas_requests.specs.FileReasons.{ArePlanReasons}
 use Rattle.sas_requests.proofs.FileEnds.{ends_exactly, plan_refused, written_unread}
 use Rattle.sas_requests.proofs.answers.steps.Goals as goal
 
 pub returns-in-Ok-clause-ends : goal.returns-in-Ok-clause-ends
 returns-in-Ok-clause-ends g c =
-    let told : Output = record { text = c.in-Ok.text.items; status = Yes } in
-    ends_exactly g.R.Read.remaining plan_format ArePlanReasons (λ b t. TextOf plan_format b t.items) (codes "plan") _ c.args.detail (PrintAnswer plan_format) _ _ c.in-Ok.text told c.write.result c.in-Ok.ensures.plain
+    let reported : Output = record { text = c.in-Ok.text.items; status = Yes } in
+    ends_exactly g.R.Read.remaining plan_format ArePlanReasons (λ b t. TextOf plan_format b t.items) (codes "plan") _ c.args.detail (PrintAnswer plan_format) _ _ c.in-Ok.text reported c.write.result c.in-Ok.ensures.plain
     (λ b text. (text.0, text.1, rw text.2 refl)) c.write.ensures.ends (written_unread c.write.result c.write.ensures.write)
 
 pub returns-in-Err-clause-ends : goal.returns-in-Err-clause-ends

@@ -1,7 +1,4 @@
-use Rattle.sas_outputs.specs.Output.{plain_refusal}
-use Rattle.sas_outputs.proofs.PlanOutputs.{plain_refuses, judged_output}
-use Rattle.sas_trace.specs.Traced.{TraceVerdict}
-use Rattle.sas_trace.proofs.Answering.{some_trace, one_trace}
+use Rattle.sas_requests.proofs.Imports.{plain_refusal, plain_refuses, judged_output, TraceVerdict, some_trace, one_trace}
 use Rattle.sas_requests.proofs.TraceLaws.{ends_as_plan}
 use Rattle.sas_requests.proofs.laws.trace_output_laws.Goals as goal
 

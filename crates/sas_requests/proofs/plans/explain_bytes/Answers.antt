@@ -1,4 +1,4 @@
-use Rattle.std.proofs.Common.{List, ℕ, Bor, ap, Some}
+use Rattle.sas_requests.proofs.Imports.{List, ℕ, Bor, ap, Some}
 use Rattle.sas_requests.proofs.plans.explain_bytes.Goals as goal
 
 pub returns-clause-ends : goal.returns-clause-ends

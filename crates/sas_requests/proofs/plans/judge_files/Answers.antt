@@ -1,5 +1,4 @@
-use Rattle.std.proofs.Common.{refl}
-use Rattle.sas_outputs.specs.declared.Request.TheVariants.{Plan}
+use Rattle.sas_requests.proofs.Imports.{refl, Plan}
 use Rattle.sas_requests.proofs.RequestEnds.{unlayered_by, of_task, of_both}
 use Rattle.sas_requests.proofs.plans.judge_files.Goals as goal
 

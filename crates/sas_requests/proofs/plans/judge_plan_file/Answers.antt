@@ -1,6 +1,4 @@
-use Rattle.std.proofs.Common.{codes}
-use Rattle.sas_reader.specs.Devices.{ValueOf}
-use Rattle.sas_plan_file.specs.PlanFormat.{plan_format}
+use Rattle.sas_requests.proofs.Imports.{codes, ValueOf, plan_format}
 use Rattle.sas_requests.specs.Answering.{VerdictBy}
 use Rattle.sas_requests.specs.FileReasons.{ArePlanReasons}
 use Rattle.sas_requests.proofs.FileEnds.{ends_value, plan_refused, unread}

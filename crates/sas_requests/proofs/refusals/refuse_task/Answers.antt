@@ -1,4 +1,4 @@
-use Rattle.std.proofs.Common.{inl, inr}
+use Rattle.sas_requests.proofs.Imports.{inl, inr}
 use Rattle.sas_requests.proofs.refusals.refuse_task.Goals as goal
 
 pub returns-in_ok-refuse_file-in-Plain-clause-ends : goal.returns-in_ok-refuse_file-in-Plain-clause-ends

@@ -1,8 +1,5 @@
 -- The facts so far hold.
-use Rattle.std.proofs.Common.{ℕ, ◌<◌, get_or}
-use Rattle.std.specs.Prelude.{slice_index}
-use Rattle.sas_core.specs.declared.parts.Fact.{Fact}
-use Rattle.sas_meaning.specs.States.{Holds}
+use Rattle.sas_run.proofs.Imports.{ℕ, ◌<◌, get_or, slice_index, Fact, Holds}
 use Rattle.sas_run.proofs.holding.first_missed.Given as goal
 
 abbrev pub invariant-loop-index : goal.invariant-loop-index

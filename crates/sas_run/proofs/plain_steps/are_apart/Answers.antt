@@ -1,8 +1,5 @@
 -- A change is on another variable than each later change.
-use Rattle.std.proofs.Common.{◌≡◌, length, ◌+◌, ◌-◌, get_or, take, drop, refl, sym, ap, ◌∙◌, inl, inr, arith}
-use Rattle.std.proofs.lemmas.Bool.{cases_eq}
-use Rattle.std.proofs.lemmas.List.{get_or-take, get_or-drop, get_or_default, length-take-le, length-drop}
-use Rattle.sas_core.specs.declared.grounded.Change.{Change}
+use Rattle.sas_run.proofs.Imports.{◌≡◌, length, ◌+◌, ◌-◌, get_or, take, drop, refl, sym, ap, ◌∙◌, inl, inr, arith, cases_eq, get_or-take, get_or-drop, get_or_default, length-take-le, length-drop, Change}
 use Rattle.sas_run.proofs.PlainSteps.{no_change}
 use Rattle.sas_run.proofs.plain_steps.are_apart.Goals as goal
 

@@ -1,6 +1,5 @@
 -- None of the changes so far is on the variable of a later one.
-use Rattle.std.proofs.Common.{ℕ, ◌<◌, ◌≢◌, length, get_or}
-use Rattle.sas_core.specs.declared.grounded.Change.{Change}
+use Rattle.sas_run.proofs.Imports.{ℕ, ◌<◌, ◌≢◌, length, get_or, Change}
 use Rattle.sas_run.proofs.plain_steps.are_apart.Given as goal
 
 abbrev pub invariant-loop-index : goal.invariant-loop-index

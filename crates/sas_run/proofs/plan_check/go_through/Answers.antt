@@ -1,11 +1,6 @@
 -- One more step succeeds or fails.
-use Rattle.std.proofs.Common.{Err, ◌≡◌, ℕ, ◌+◌, ◌<◌, ◌≤◌, List, [], ◌∷◌, ◌++◌, length, take, get_or, refl, sym, subst, ap, ◌∙◌, arith}
-use Rattle.std.specs.Prelude.{IfErr}
-use Rattle.std.proofs.lemmas.Result.{err_from_is_err_and}
-use Rattle.std.proofs.lemmas.List.{take_all, take_more}
+use Rattle.sas_run.proofs.Imports.{Err, ◌≡◌, ℕ, ◌+◌, ◌<◌, ◌≤◌, List, [], ◌∷◌, ◌++◌, length, take, get_or, refl, sym, subst, ap, ◌∙◌, arith, IfErr, err_from_is_err_and, take_all, take_more, operator_at, IsLowestNamed}
 use Rattle.std.proofs.Math.ListN.{length-append}
-use Rattle.sas_core.specs.Grounded.{operator_at}
-use Rattle.sas_names.specs.Names.{IsLowestNamed}
 use Rattle.sas_run.specs.declared.plan_check.PlanFault.TheVariants.{NoOperator}
 use Rattle.sas_run.specs.Plans.{LeadsTo}
 use Rattle.sas_run.specs.Running.{MakesStep, StepFails}
@@ -24,8 +19,8 @@ returns-in_err-operator-clause-ends g c =
     let fault = c.in_err-operator.field-0.0 in
     let below : n < length plan.steps = omega (arith, c.loop-before-test.true, c.requires.firsts.within) in
     let named : (operator_at p (get_or c.args.found.firsts.now n 0)).name ≡ get_or plan.steps n [] = (c.requires.firsts.each n c.loop-before-test.true).of_name.named in
-    let told : c.from_residual.result ≡ Err fault = passed_on c.from_residual.result fault (err_from_is_err_and c.from_residual.result c.from_residual.ensures.1) in
-    subst (λ r. IfErr r (λ f. IsEnding p plan progress.operators.items (Rattle.std.specs.Prelude.Some f))) (sym told)
+    let covered : c.from_residual.result ≡ Err fault = passed_on c.from_residual.result fault (err_from_is_err_and c.from_residual.result c.from_residual.ensures.1) in
+    subst (λ r. IfErr r (λ f. IsEnding p plan progress.operators.items (Rattle.std.specs.Prelude.Some f))) (sym covered)
     (stops_there p plan n below progress.operators.items progress.state c.loop-before.invariant.leads fault
     (subst (λ name. StepFails p progress.state name (n + 1) fault) named c.in_err-operator.ensures.err))
 
@@ -88,20 +83,11 @@ loop-before-init g c =
       kept = omega arith;
     }
 
-pub go_on-requires-clause-prepared : goal.go_on-requires-clause-prepared
-go_on-requires-clause-prepared g c = c.loop-before.invariant.prepared
-
-pub go_on-requires-clause-follows : goal.go_on-requires-clause-follows
-go_on-requires-clause-follows g c = c.loop-before.invariant.follows
-
 pub go_on-requires-clause-first : goal.go_on-requires-clause-first
 go_on-requires-clause-first g c =
     let n = c.loop-before.before in
     let first = c.requires.firsts.each n c.loop-before-test.true in
     subst (λ (name : List ℕ). IsLowestNamed c.args.layered.now name 0 (get_or c.args.found.firsts.now n 0)) (sym first.of_name.named) first
-
-pub go_on-requires-clause-chain : goal.go_on-requires-clause-chain
-go_on-requires-clause-chain g c = c.requires.chains c.loop-before.before c.loop-before-test.true
 
 pub go_on-requires-clause-state : goal.go_on-requires-clause-state
 go_on-requires-clause-state g c =
@@ -113,27 +99,12 @@ unwrap-requires g c =
     let inv = c.loop-before.invariant in
     c.push.ensures.succeeds (omega (arith, c.requires.firsts.within, inv.one_each, inv.room, c.loop-before.progress.operators.ok.0))
 
-pub returns-in_err-operator-clause-room : goal.returns-in_err-operator-clause-room
-returns-in_err-operator-clause-room g c = c.loop-before.invariant.kept
-
-pub returns-then-found-steps-clause-prepared : goal.returns-then-found-steps-clause-prepared
-returns-then-found-steps-clause-prepared g c = c.loop-before.invariant.prepared
-
 pub returns-then-found-steps-clause-state : goal.returns-then-found-steps-clause-state
 returns-then-found-steps-clause-state g c =
     let progress = c.loop-before.progress in
     (leads_to_rest c.args.layered.now (take c.loop-before.before (g.P.Stepwise.says c.args.plan.now).steps) progress.operators.items progress.state c.loop-before.invariant.leads).0
 
-pub returns-then-found-steps-clause-room : goal.returns-then-found-steps-clause-room
-returns-then-found-steps-clause-room g c = c.loop-before.invariant.kept
-
-pub returns-clause-prepared : goal.returns-clause-prepared
-returns-clause-prepared g c = c.loop-before.invariant.prepared
-
 pub returns-clause-state : goal.returns-clause-state
 returns-clause-state g c =
     let progress = c.loop-before.progress in
     (leads_to_rest c.args.layered.now (take c.loop-before.before (g.P.Stepwise.says c.args.plan.now).steps) progress.operators.items progress.state c.loop-before.invariant.leads).0
-
-pub returns-clause-room : goal.returns-clause-room
-returns-clause-room g c = c.loop-before.invariant.kept

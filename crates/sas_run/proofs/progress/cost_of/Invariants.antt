@@ -1,5 +1,5 @@
 -- The sum so far.
-use Rattle.std.proofs.Common.{◌≡◌, ◌+◌, ◌*◌, ◌^◌, ◌≤◌, drop}
+use Rattle.sas_run.proofs.Imports.{◌≡◌, ◌+◌, ◌*◌, ◌^◌, ◌≤◌, drop}
 use Rattle.sas_run.specs.Plans.{cost_of_all}
 use Rattle.sas_run.proofs.progress.cost_of.Given as goal
 

@@ -1,5 +1,5 @@
 -- One more operator isn't applicable.
-use Rattle.std.proofs.Common.{◌≡◌, get_or, None, Some, sym, ◌∙◌, true≢false}
+use Rattle.sas_run.proofs.Imports.{◌≡◌, get_or, None, Some, sym, ◌∙◌, true≢false}
 use Rattle.sas_run.proofs.NamedAlike.{SearchedTo, search_goes_on}
 use Rattle.sas_run.proofs.runner.first_applicable.Goals as goal
 

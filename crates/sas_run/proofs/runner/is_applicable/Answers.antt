@@ -1,11 +1,5 @@
 -- The prevail conditions, and the old values that effects without conditions require, are all preconditions.
-use Rattle.std.proofs.Common.{◌≡◌, Bool, true, false, ◌<◌, length, sym, subst, refl}
-use Rattle.std.specs.List.{All}
-use Rattle.std.specs.Prelude.{slice_index}
-use Rattle.sas_core.specs.declared.grounded.Change.{Change}
-use Rattle.sas_core.specs.declared.parts.Fact.{Fact}
-use Rattle.sas_core.specs.Grounded.{operator_at}
-use Rattle.sas_meaning.specs.States.{AllHold}
+use Rattle.sas_run.proofs.Imports.{◌≡◌, Bool, true, false, ◌<◌, length, sym, subst, refl, All, slice_index, Change, Fact, operator_at, AllHold}
 use Rattle.sas_run.proofs.Ranges.{preconditions_within}
 use Rattle.sas_run.proofs.PlainSteps.{changes_within, met, prevail_met, olds_met, prevail_within}
 use Rattle.sas_run.proofs.runner.is_applicable.Goals as goal

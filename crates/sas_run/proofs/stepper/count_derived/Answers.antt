@@ -1,9 +1,5 @@
 -- A variable is counted if it is derived.
-use Rattle.std.proofs.Common.{◌≡◌, ◌+◌, [], Option, None, is_some, get_or, sym, ◌∙◌, ap, arith}
-use Rattle.std.specs.Option.{option_and_then}
-use Rattle.std.proofs.lemmas.List.Sums.{count_by_more_no, count_by_more_yes}
-use Rattle.std.proofs.lemmas.Option.{slice_get-get_or}
-use Rattle.sas_core.specs.declared.parts.Variable.{Variable}
+use Rattle.sas_run.proofs.Imports.{◌≡◌, ◌+◌, [], Option, None, is_some, get_or, sym, ◌∙◌, ap, arith, option_and_then, count_by_more_no, count_by_more_yes, slice_get-get_or, Variable}
 use Rattle.sas_run.proofs.stepper.count_derived.Goals as goal
 use Rattle.sas_run.proofs.stepper.count_derived.Goals.{then-is_some, else-is_some}
 

@@ -1,17 +1,5 @@
 -- The effects are applied, and the result is settled from the state before.
-use Rattle.std.proofs.Common.{Err, ◌≡◌, ◌≢◌, ◌⊎◌, ℕ, ◌∷◌, List, [], is_some, sym, ◌∙◌, ap, subst, inl, inr}
-use Rattle.std.specs.List.{All}
-use Rattle.std.proofs.lemmas.Bool.{cases_eq}
-use Rattle.std.proofs.lemmas.Result.{err_from_is_err_and}
-use Rattle.std.proofs.lemmas.List.Elements.{All-nil, All-cons, Contains-append_left, Contains-append_right, Contains-push}
-use Rattle.sas_core.specs.declared.parts.Fact.{Fact}
-use Rattle.sas_core.specs.declared.parts.Parts.{Parts}
-use Rattle.sas_core.specs.Grounded.{operator_at}
-use Rattle.sas_meaning.specs.declared.touched.Touched.{Touched}
-use Rattle.sas_meaning.specs.Following.{HaveGone}
-use Rattle.sas_meaning.specs.Settled.{SameBasic}
-use Rattle.sas_meaning.specs.Touched.{TellsChanges}
-use Rattle.sas_meaning.proofs.Layers.{layer_cases}
+use Rattle.sas_run.proofs.Imports.{Err, ◌≡◌, ◌≢◌, ◌⊎◌, ℕ, ◌∷◌, List, [], is_some, sym, ◌∙◌, ap, subst, inl, inr, All, cases_eq, err_from_is_err_and, All-nil, All-cons, Contains-append_left, Contains-append_right, Contains-push, Fact, Parts, operator_at, Touched, HaveGone, SameBasic, CoversChanges, layer_cases}
 use Rattle.sas_run.specs.Stepping.{HasFactOn, ListsChanges}
 use Rattle.sas_run.specs.Running.{Steps}
 use Rattle.sas_run.proofs.Going.{passed_on}
@@ -53,19 +41,19 @@ of_one (fact ∷ facts) var = elim (cases_eq fact.var var) [
 ]
 
 -- from s the effects lead to m, which is settled in s'
-lists_step : (p : Parts) (s m s' : List ℕ) (deleted : List Fact) (touched : Touched) → HaveGone p deleted s m → SameBasic p m s' → TellsChanges p s s' touched → ListsChanges p s s' deleted touched
-lists_step p s m s' deleted touched have basic tells = record {
+lists_step : (p : Parts) (s m s' : List ℕ) (deleted : List Fact) (touched : Touched) → HaveGone p deleted s m → SameBasic p m s' → CoversChanges p s s' touched → ListsChanges p s s' deleted touched
+lists_step p s m s' deleted touched have basic covers = record {
   basic = have.basic;
   exist = have.exist;
   held = have.held;
   once = have.once;
-  derived = tells.only;
+  derived = covers.only;
   each = λ var. elim (layer_cases p var) [
     | inl b ↦ elim (of_one deleted var) [
       | inl there ↦ inr (inl there)
       | inr none ↦ inl (sym (basic var b) ∙ have.others var none)
     ]
-    | inr on ↦ elim (tells.each var (ap is_some on.1)) [
+    | inr on ↦ elim (covers.each var (ap is_some on.1)) [
       | inl same ↦ inl same
       | inr may ↦ inr (inr (ap is_some on.1, may))
     ]
@@ -79,14 +67,8 @@ returns-then-stepper-clause-lists g c noted =
     let deleted = c.apply.new.deleted.facts.items in
     let gone = c.in_ok-apply.ensures.gone noted in
     lists_step p s c.apply.new.state c.settle_on.new.state deleted c.settle_on.new.touched gone c.settle_on.ensures.settles.basic
-    (c.settle_on.ensures.told s (c.requires.follows (sym c.apply.ensures.notes.noted ∙ noted))
+    (c.settle_on.ensures.covered s (c.requires.follows (sym c.apply.ensures.notes.noted ∙ noted))
     (subst (λ (facts : List Fact). HaveGone p facts s c.apply.new.state) (sym c.as_slice.ensures.value) gone))
-
-pub apply-requires-clause-clean : goal.apply-requires-clause-clean
-apply-requires-clause-clean g c = c.requires.prepared.clean
-
-pub apply-requires-clause-room : goal.apply-requires-clause-room
-apply-requires-clause-room g c = c.requires.prepared.room c.args.operator c.requires.operator
 
 pub returns-in_err-apply-clause-prepared : goal.returns-in_err-apply-clause-prepared
 returns-in_err-apply-clause-prepared g c = record {
@@ -98,20 +80,14 @@ returns-in_err-apply-clause-prepared g c = record {
 
 pub returns-in_err-apply-clause-steps : goal.returns-in_err-apply-clause-steps
 returns-in_err-apply-clause-steps g c =
-    let told : c.from_residual.result ≡ Err c.in_err-apply.field-0.0 =
+    let covered : c.from_residual.result ≡ Err c.in_err-apply.field-0.0 =
     passed_on c.from_residual.result c.in_err-apply.field-0.0 (err_from_is_err_and c.from_residual.result c.from_residual.ensures.1) in
-    subst (Steps c.args.layered.now c.args.state.now c.args.operator c.apply.new.state) (sym told) c.in_err-apply.ensures.applies
+    subst (Steps c.args.layered.now c.args.state.now c.args.operator c.apply.new.state) (sym covered) c.in_err-apply.ensures.applies
 
 pub returns-in_err-apply-clause-follows : goal.returns-in_err-apply-clause-follows
 returns-in_err-apply-clause-follows g c noted =
     subst (λ (s : List ℕ). g.E.Settle.follows c.args.stepper.now.evaluator c.args.layered.now s) (sym c.in_err-apply.ensures.applies.1)
     (c.requires.follows (sym c.apply.ensures.notes.noted ∙ noted))
-
-pub settle_on-requires-clause-ready : goal.settle_on-requires-clause-ready
-settle_on-requires-clause-ready g c = c.requires.prepared.ready
-
-pub settle_on-requires-clause-state : goal.settle_on-requires-clause-state
-settle_on-requires-clause-state g c = c.in_ok-apply.ensures.applies.state
 
 pub returns-then-stepper-clause-prepared : goal.returns-then-stepper-clause-prepared
 returns-then-stepper-clause-prepared g c = record {

@@ -1,6 +1,5 @@
 -- No operator so far has more effects.
-use Rattle.std.proofs.Common.{ℕ, ◌<◌, ◌≤◌, length}
-use Rattle.sas_core.specs.Grounded.{operator_at}
+use Rattle.sas_run.proofs.Imports.{ℕ, ◌<◌, ◌≤◌, length, operator_at}
 use Rattle.sas_run.proofs.stepper.most_effects.Given as goal
 
 abbrev pub invariant-loop-operator : goal.invariant-loop-operator

@@ -1,5 +1,5 @@
 -- All variables so far have their values from the state section.
-use Rattle.std.proofs.Common.{◌≡◌, ℕ, ◌<◌, length, get_or}
+use Rattle.sas_run.proofs.Imports.{◌≡◌, ℕ, ◌<◌, length, get_or}
 use Rattle.sas_run.proofs.stepper.set_section.Given as goal
 
 abbrev pub invariant-loop-var : goal.invariant-loop-var

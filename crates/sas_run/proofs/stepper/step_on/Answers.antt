@@ -1,5 +1,5 @@
 -- The effects are applied, and the result is settled.
-use Rattle.sas_core.specs.Grounded.{operator_at}
+use Rattle.sas_run.proofs.Imports.{operator_at}
 use Rattle.sas_run.proofs.NextStates.{effects_basic, step_from_applied}
 use Rattle.sas_run.proofs.stepper.step_on.Goals as goal
 

@@ -1,10 +1,5 @@
 -- If no derived variable is counted, each variable is basic.
-use Rattle.std.proofs.Common.{◌≡◌, ℕ, zero, suc, List, [], ◌∷◌, cond, is_some, Option, None, Some, refl, arith}
-use Rattle.std.specs.List.{count_by}
-use Rattle.std.proofs.lemmas.Bool.{ltb-false}
-use Rattle.std.proofs.lemmas.List.Sums.{sum_by-cons}
-use Rattle.sas_core.specs.declared.parts.Variable.{Variable}
-use Rattle.sas_core.specs.Variables.{layer_of}
+use Rattle.sas_run.proofs.Imports.{◌≡◌, ℕ, zero, suc, List, [], ◌∷◌, cond, is_some, Option, None, Some, refl, arith, count_by, ltb-false, sum_by-cons, Variable, layer_of}
 use Rattle.sas_run.proofs.stepper.stepper_for.Goals as goal
 
 no_layer : (layer : Option ℕ) → ◌≡◌ {A = ℕ} (cond (is_some layer) 1 0) 0 → layer ≡ None

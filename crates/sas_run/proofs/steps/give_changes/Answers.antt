@@ -1,13 +1,9 @@
 -- One more change has given its value.
-use Rattle.std.proofs.Common.{◌≡◌, ◌<◌, [], length, get_or, sym, subst, arith}
-use Rattle.sas_core.specs.declared.parts.Effect.{Effect}
-use Rattle.sas_core.specs.Changes.{plain_effect}
-use Rattle.sas_core.specs.Grounded.{operator_at, effect_at}
-use Rattle.sas_meaning.specs.Steps.{Fires}
+use Rattle.sas_run.proofs.Imports.{◌≡◌, ◌<◌, [], length, get_or, sym, subst, arith, Effect, plain_effect, operator_at, effect_at, Fires}
 use Rattle.sas_run.specs.Given.{IsGiven, IsGivenTo, GivesValue, GivesOther}
 use Rattle.sas_run.proofs.PlainSteps.{no_change, effect_is, effect_number, fires}
 use Rattle.sas_run.proofs.Ranges.{effect_fits, effect_within}
-use Rattle.sas_run.proofs.Giving.{given_on_effects, gives_none, gives_one_more, conflicts_first}
+use Rattle.sas_run.proofs.Giving.{given_on_effects, gives_one_more, conflicts_first}
 use Rattle.sas_run.proofs.steps.give_changes.Goals as goal
 
 pub returns-clause-given_to : goal.returns-clause-given_to
@@ -22,9 +18,6 @@ returns-clause-none g c s =
     let o = operator_at p c.args.operator in
     let all : c.loop-effect.effect ≡ length o.effects = omega arith in
     subst (λ n. IsGiven p s o n c.loop-effect.given) all (c.loop-effect.invariant s)
-
-pub loop-effect-init : goal.loop-effect-init
-loop-effect-init g c s = gives_none c.args.task.now s (operator_at c.args.task.now c.args.operator) c.args.given.now c.requires.clean
 
 pub loop-effect-preserved : goal.loop-effect-preserved
 loop-effect-preserved g c s =

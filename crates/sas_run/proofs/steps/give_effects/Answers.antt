@@ -1,14 +1,8 @@
 -- One more effect has given its value, if it fires.
-use Rattle.std.proofs.Common.{◌≡◌, ◌+◌, ◌<◌, ℕ, List, Option, None, Some, length, sym, subst, arith, rules}
-use Rattle.std.specs.List.{All}
-use Rattle.sas_core.specs.declared.parts.Fact.{Fact}
-use Rattle.std.specs.Prelude.{IfNone, slice_index}
-use Rattle.sas_core.specs.declared.grounded.Change.{Change}
-use Rattle.sas_core.specs.Grounded.{operator_at, effect_at}
-use Rattle.sas_meaning.specs.States.{AllHold}
+use Rattle.sas_run.proofs.Imports.{◌≡◌, ◌+◌, ◌<◌, ℕ, List, Option, None, Some, length, sym, subst, arith, rules, All, Fact, IfNone, slice_index, Change, operator_at, effect_at, AllHold}
 use Rattle.sas_run.specs.Given.{IsGiven, IsGivenTo, GivesValue}
 use Rattle.sas_run.proofs.Ranges.{effect_fits, effect_within, conditions_within, change_within}
-use Rattle.sas_run.proofs.Giving.{given_on_effects, gives_none, gives_nothing, gives_one_more}
+use Rattle.sas_run.proofs.Giving.{given_on_effects, gives_nothing, gives_one_more}
 use Rattle.sas_run.proofs.steps.give_effects.Goals as goal
 use Rattle.sas_run.proofs.steps.give_effects.Goals.{then-holds_all+else-not-give, else-holds_all}
 
@@ -44,12 +38,6 @@ returns-clause-given_to g c =
     let p = c.args.task.now in
     let o = operator_at p c.args.operator in
     given_on_effects p c.args.state.now o c.loop-effect.effect c.loop-effect.given c.loop-effect.invariant (omega arith) (effect_fits p c.task.ensures.well_ranged c.args.operator c.requires.operator)
-
-pub returns-then-not-give-clause-some : goal.returns-then-not-give-clause-some
-returns-then-not-give-clause-some g c = search rules
-
-pub loop-effect-init : goal.loop-effect-init
-loop-effect-init g c = gives_none c.args.task.now c.args.state.now (operator_at c.args.task.now c.args.operator) c.args.given.now c.requires.clean
 
 pub holds_all-requires : goal.holds_all-requires
 holds_all-requires g c =

@@ -1,12 +1,5 @@
 -- One precondition after another is tested.
-use Rattle.std.proofs.Common.{◌≡◌, ◌∙◌, ◌<◌, List, [], ◌∷◌, ◌++◌, length, ap, sym, subst, append_assoc}
-use Rattle.std.specs.Prelude.{slice_index}
-use Rattle.std.specs.List.{All}
-use Rattle.std.proofs.lemmas.List.Elements.{All-nil, All-append, All-head, All-push, All-rest}
-use Rattle.sas_core.specs.declared.parts.Fact.{Fact}
-use Rattle.sas_core.specs.Grounded.{operator_at}
-use Rattle.sas_meaning.specs.States.{Holds}
-use Rattle.sas_meaning.specs.Steps.{preconditions}
+use Rattle.sas_run.proofs.Imports.{◌≡◌, ◌∙◌, ◌<◌, List, [], ◌∷◌, ◌++◌, length, ap, sym, subst, append_assoc, slice_index, All, All-nil, All-append, All-head, All-push, All-rest, Fact, operator_at, Holds, preconditions}
 use Rattle.sas_run.proofs.Ranges.{preconditions_within}
 use Rattle.sas_run.proofs.Missed.{missed_next}
 use Rattle.sas_run.proofs.steps.missed_precondition.Goals as goal

@@ -1,11 +1,5 @@
 -- The preconditions so far hold, and the variables of the remaining ones exist.
-use Rattle.std.proofs.Common.{◌≡◌, ◌<◌, length, ◌++◌}
-use Rattle.std.specs.Prelude.{slice_index}
-use Rattle.std.specs.List.{All}
-use Rattle.sas_core.specs.declared.parts.Fact.{Fact}
-use Rattle.sas_core.specs.Grounded.{operator_at}
-use Rattle.sas_meaning.specs.States.{AllHold}
-use Rattle.sas_meaning.specs.Steps.{preconditions}
+use Rattle.sas_run.proofs.Imports.{◌≡◌, ◌<◌, length, ◌++◌, slice_index, All, Fact, operator_at, AllHold, preconditions}
 use Rattle.sas_run.proofs.steps.missed_precondition.Given as goal
 
 abbrev pub invariant-loop-fact : goal.invariant-loop-fact

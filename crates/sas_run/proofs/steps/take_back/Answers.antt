@@ -1,7 +1,5 @@
 -- The given value of one more variable is removed.
-use Rattle.std.proofs.Common.{◌≡◌, ◌<◌, length, ap, arith}
-use Rattle.sas_core.specs.declared.grounded.Change.{Change}
-use Rattle.sas_core.specs.Grounded.{operator_at, effect_at}
+use Rattle.sas_run.proofs.Imports.{◌≡◌, ◌<◌, length, ap, arith, Change, operator_at, effect_at}
 use Rattle.sas_run.proofs.Ranges.{change_within}
 use Rattle.sas_run.proofs.Giving.{fewer_on_effects, one_more_taken, all_taken}
 use Rattle.sas_run.proofs.steps.take_back.Goals as goal

@@ -1,6 +1,5 @@
 -- The given values of the variables of the effects so far are removed.
-use Rattle.std.proofs.Common.{◌≡◌, ℕ, ◌<◌, None}
-use Rattle.sas_core.specs.Grounded.{operator_at, effect_at}
+use Rattle.sas_run.proofs.Imports.{◌≡◌, ℕ, ◌<◌, None, operator_at, effect_at}
 use Rattle.sas_run.specs.Given.{given_to, IsGivenTo}
 use Rattle.sas_run.proofs.steps.take_back.Given as goal
 

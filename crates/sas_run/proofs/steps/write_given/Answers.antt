@@ -1,11 +1,5 @@
 -- The given value of one more variable is written and removed.
-use Rattle.std.proofs.Common.{◌≡◌, ◌<◌, length, set, None, Some, refl, sym, ap, subst, ◌∙◌, inl, inr, arith}
-use Rattle.std.specs.Prelude.{IsTrue}
-use Rattle.std.proofs.lemmas.Bool.{cases_eq}
-use Rattle.sas_core.specs.declared.grounded.Change.{Change}
-use Rattle.sas_core.specs.Grounded.{operator_at, effect_at}
-use Rattle.sas_meaning.specs.Layers.{IsBasic}
-use Rattle.sas_meaning.proofs.Forced.{state_set}
+use Rattle.sas_run.proofs.Imports.{◌≡◌, ◌<◌, length, set, None, Some, refl, sym, ap, subst, ◌∙◌, inl, inr, arith, IsTrue, cases_eq, Change, operator_at, effect_at, IsBasic, state_set}
 use Rattle.sas_run.specs.declared.deletions.Deleted.{Deleted}
 use Rattle.sas_run.specs.Deletions.{NotesOn}
 use Rattle.sas_run.specs.Given.{given_to}
@@ -85,12 +79,6 @@ pub returns-clause-gone : goal.returns-clause-gone
 returns-clause-gone g c noted =
     deleted_in_the_end c.args.task.now c.loop-effect.given c.args.state.now c.loop-effect.state c.loop-effect.deleted.facts.items (c.loop-effect.invariant.deleted noted)
 
-pub effect_change-var-requires-clause-operator : goal.effect_change-var-requires-clause-operator
-effect_change-var-requires-clause-operator g c = c.requires.operator
-
-pub effect_change-var-requires-clause-effect : goal.effect_change-var-requires-clause-effect
-effect_change-var-requires-clause-effect g c = omega arith
-
 pub bounds : goal.bounds
 bounds g c =
     omega (
@@ -134,13 +122,7 @@ set-requires g c =
       c.loop-effect.invariant.on_effects.one_each,
     )
 
-pub returns-clause-state : goal.returns-clause-state
-returns-clause-state g c = c.loop-effect.invariant.state
-
 pub returns-clause-clean : goal.returns-clause-clean
 returns-clause-clean g c =
     let inv = c.loop-effect.invariant in
     all_taken c.args.task.now (operator_at c.args.task.now c.args.operator) c.loop-effect.effect c.loop-effect.given inv.on_effects (omega arith) inv.taken
-
-pub returns-clause-notes : goal.returns-clause-notes
-returns-clause-notes g c = c.loop-effect.invariant.notes

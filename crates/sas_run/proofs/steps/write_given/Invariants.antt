@@ -1,8 +1,5 @@
 -- The given values of the variables of the effects so far are written and removed.
-use Rattle.std.proofs.Common.{◌≡◌, ℕ, ◌<◌, ◌≤◌, length, None}
-use Rattle.std.specs.Prelude.{IsTrue}
-use Rattle.sas_core.specs.Grounded.{operator_at, effect_at}
-use Rattle.sas_core.specs.Variables.{IsState}
+use Rattle.sas_run.proofs.Imports.{◌≡◌, ℕ, ◌<◌, ◌≤◌, length, None, IsTrue, operator_at, effect_at, IsState}
 use Rattle.sas_run.specs.Deletions.{NotesOn}
 use Rattle.sas_run.specs.Given.{given_to, value_after, IsGivenTo}
 use Rattle.sas_run.proofs.Deleted.{DeletedSoFar}

@@ -1,4 +1,4 @@
-use Rattle.sas_reader.proofs.About.{about_laws_of}
+use Rattle.sas_task_format.proofs.Imports.{about_laws_of}
 use Rattle.sas_task_format.specs.Process.{process_node}
 use Rattle.sas_task_format.specs.TaskFormat.{TaskLineFits, task_format}
 use Rattle.sas_task_format.specs.TaskProcess.{task_start}

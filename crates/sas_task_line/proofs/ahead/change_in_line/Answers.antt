@@ -1,5 +1,4 @@
-use Rattle.std.proofs.Common.{arith}
-use Rattle.std.proofs.lemmas.Grind.{common_steps}
+use Rattle.sas_task_line.proofs.Imports.{arith, common_steps}
 use Rattle.sas_task_line.proofs.ahead.change_in_line.Goals as goal
 
 pub returns : goal.returns

@@ -1,5 +1,4 @@
-use Rattle.std.proofs.Common.{arith}
-use Rattle.std.proofs.lemmas.Option.{IfSome_then}
+use Rattle.sas_task_line.proofs.Imports.{arith, IfSome_then}
 use Rattle.sas_task_line.proofs.AheadReading.{bytes_in_front, effect_is_ahead}
 use Rattle.sas_task_line.proofs.ahead.effect_before.Goals as goal
 

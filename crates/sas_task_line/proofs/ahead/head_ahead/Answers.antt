@@ -1,4 +1,4 @@
-use Rattle.std.proofs.Common.{refl}
+use Rattle.sas_task_line.proofs.Imports.{refl}
 use Rattle.sas_task_line.proofs.AheadReading.{head_is_ahead, spells_ahead}
 use Rattle.sas_task_line.proofs.ahead.head_ahead.Goals as goal
 

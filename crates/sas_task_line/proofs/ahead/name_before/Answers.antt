@@ -1,5 +1,4 @@
-use Rattle.std.proofs.Common.{◌+◌}
-use Rattle.std.proofs.lemmas.List.{take_rest}
+use Rattle.sas_task_line.proofs.Imports.{◌+◌, take_rest}
 use Rattle.sas_task_line.proofs.AheadReading.{name_is_ahead}
 use Rattle.sas_task_line.proofs.ahead.name_before.Goals as goal
 

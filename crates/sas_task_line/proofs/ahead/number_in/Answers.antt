@@ -1,4 +1,4 @@
-use Rattle.std.proofs.Common.{◌≡◌, ◌≤◌, ◌^◌, arith}
+use Rattle.sas_task_line.proofs.Imports.{◌≡◌, ◌≤◌, ◌^◌, arith}
 use Rattle.sas_task_line.proofs.AheadReading.{one_digit_ahead, first_digit, digit_goes_on, number_ends, tens_grow, tens_more}
 use Rattle.sas_task_line.proofs.ahead.number_in.Goals as goal
 

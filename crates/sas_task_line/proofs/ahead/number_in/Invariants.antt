@@ -1,5 +1,4 @@
-use Rattle.std.proofs.Common.{◌≡◌, ◌<◌, ◌^◌, ◌++◌, drop}
-use Rattle.std.specs.Fmt.{decimal}
+use Rattle.sas_task_line.proofs.Imports.{◌≡◌, ◌<◌, ◌^◌, ◌++◌, drop, decimal}
 use Rattle.sas_task_line.proofs.ahead.number_in.Given as goal
 
 abbrev pub invariant-loop-at : goal.invariant-loop-at

@@ -1,6 +1,4 @@
-use Rattle.std.proofs.Common.{Some, ◌≡◌, ◌++◌, get_or, refl, ap, rules, ◌∙◌, drop}
-use Rattle.std.proofs.lemmas.Bool.Decides.{Decides-eqb}
-use Rattle.std.proofs.lemmas.Slice.Eq.{strip_prefix_is}
+use Rattle.sas_task_line.proofs.Imports.{Some, ◌≡◌, ◌++◌, get_or, refl, ap, rules, ◌∙◌, drop, Decides-eqb, strip_prefix_is}
 use Rattle.sas_task_line.proofs.AheadReading.{byte_in_front, word_is_ahead, line_is_ahead}
 use Rattle.sas_task_line.proofs.ahead.word_ahead.Goals as goal
 

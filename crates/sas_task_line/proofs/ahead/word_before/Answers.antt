@@ -1,9 +1,6 @@
-use Rattle.std.proofs.Common.{◌≡◌, ℕ, List, true, ◌++◌, get_or, refl, ap, ap₂, sym, rules, ◌∙◌, drop}
-use Rattle.std.proofs.lemmas.Bool.Decides.{Decides-eqb}
-use Rattle.std.proofs.lemmas.Slice.Eq.{slice_eq-Decides}
+use Rattle.sas_task_line.proofs.Imports.{◌≡◌, ℕ, List, true, ◌++◌, get_or, refl, ap, ap₂, sym, rules, ◌∙◌, drop, Decides-eqb, slice_eq-Decides, take_rest, take-append-drop}
 use lib.Dec.{eqb}
 use lib.Pointwise.{pointwise}
-use Rattle.std.proofs.lemmas.List.{take_rest, take-append-drop}
 use Rattle.sas_task_line.proofs.AheadReading.{byte_in_front, word_is_ahead}
 use Rattle.sas_task_line.proofs.ahead.word_before.Goals as goal
 

@@ -1,6 +1,4 @@
-use Rattle.std.proofs.Common.{refl, arith}
-use Rattle.std.specs.Prelude.{IsTrue}
-use Rattle.std.proofs.lemmas.List.{length_push}
+use Rattle.sas_task_line.proofs.Imports.{refl, arith, IsTrue, length_push}
 use Rattle.sas_task_line.specs.TaskRanges.{change_in_ranges}
 use Rattle.sas_task_line.proofs.LinesReading.{none_yet, one_change_more}
 use Rattle.sas_task_line.proofs.sections.changes_before.Goals as goal

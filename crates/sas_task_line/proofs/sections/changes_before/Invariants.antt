@@ -1,5 +1,5 @@
 -- The bytes so far are the number and the changes so far, and the rest is left.
-use Rattle.std.proofs.Common.{◌≡◌, length}
+use Rattle.sas_task_line.proofs.Imports.{◌≡◌, length}
 use Rattle.sas_task_line.specs.LinesBefore.{ChangesBefore}
 use Rattle.sas_task_line.proofs.sections.changes_before.Given as goal
 

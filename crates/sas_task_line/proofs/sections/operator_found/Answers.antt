@@ -1,4 +1,4 @@
-use Rattle.std.proofs.Common.{refl, arith}
+use Rattle.sas_task_line.proofs.Imports.{refl, arith}
 use Rattle.sas_task_line.specs.declared.sections.Gathered.{Gathered}
 use Rattle.sas_task_line.proofs.LinesReading.{operator_is_ahead}
 use Rattle.sas_task_line.proofs.sections.operator_found.Goals as goal

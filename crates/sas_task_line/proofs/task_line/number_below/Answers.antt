@@ -1,5 +1,4 @@
-use Rattle.std.proofs.Common.{arith, rules}
-use Rattle.sas_task_format.proofs.TaskSections.{is_less}
+use Rattle.sas_task_line.proofs.Imports.{arith, is_less}
 use Rattle.sas_task_line.proofs.TaskJudging.{refused_number_shape, refused_number_value}
 use Rattle.sas_task_line.proofs.task_line.number_below.Goals as goal
 
@@ -11,6 +10,3 @@ returns-in-Some-2 c =
     let n = c.in-Some.n in
     let spelled = c.in-Some.ensures.found in
     refused_number_value _ c.args.line.now n spelled.0 spelled.1 (λ t. omega (arith, is_less n c.args.bound t, c.if-n-bound.false))
-
-pub returns-in-Some : goal.returns-in-Some
-returns-in-Some c = search rules

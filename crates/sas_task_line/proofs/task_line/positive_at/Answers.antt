@@ -1,5 +1,4 @@
-use Rattle.std.proofs.Common.{arith}
-use Rattle.sas_task_format.proofs.TaskSections.{is_less}
+use Rattle.sas_task_line.proofs.Imports.{arith, is_less}
 use Rattle.sas_task_line.proofs.TaskJudging.{refused_number_shape, refused_number_value}
 use Rattle.sas_task_line.proofs.task_line.positive_at.Goals as goal
 

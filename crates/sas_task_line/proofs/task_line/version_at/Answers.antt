@@ -1,4 +1,4 @@
-use Rattle.std.proofs.lemmas.Bool.{eqb-true}
+use Rattle.sas_task_line.proofs.Imports.{eqb-true}
 use Rattle.sas_task_line.proofs.TaskJudging.{refused_number_shape, refused_number_value}
 use Rattle.sas_task_line.proofs.task_line.version_at.Goals as goal
 

@@ -1,4 +1,4 @@
-use Rattle.std.proofs.Common.{refl, arith}
+use Rattle.sas_task_line.proofs.Imports.{refl, arith}
 use Rattle.sas_task_line.proofs.LinesReading.{group_is_ahead}
 use Rattle.sas_task_line.proofs.variables_and_groups.group_found.Goals as goal
 

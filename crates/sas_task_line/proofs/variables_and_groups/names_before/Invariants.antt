@@ -1,5 +1,5 @@
 -- The bytes so far are the number and the names so far, and the rest is left.
-use Rattle.std.proofs.Common.{◌≡◌, length}
+use Rattle.sas_task_line.proofs.Imports.{◌≡◌, length}
 use Rattle.sas_task_line.specs.LinesBefore.{NamesBefore}
 use Rattle.sas_task_line.proofs.variables_and_groups.names_before.Given as goal
 

@@ -1,7 +1,5 @@
 -- No number before the fact with this number is wrong.
-use Rattle.std.specs.Prelude.{◌≡◌}
-use Rattle.sas_task_format.specs.TaskFormat.{effect}
-use Rattle.sas_task_format.specs.TaskReasons.{first_wrong, line_bounds}
+use Rattle.sas_task_line.proofs.Imports.{◌≡◌, effect, first_wrong, line_bounds}
 use Rattle.sas_task_line.proofs.WrongWords.{wrong_from}
 use Rattle.sas_task_line.proofs.wrong_word.effect_wrong.Given as goal
 

@@ -1,5 +1,4 @@
-use Rattle.std.proofs.Common.{refl}
-use Rattle.sas_task_format.specs.TaskFormat.{fact}
+use Rattle.sas_task_line.proofs.Imports.{refl, fact}
 use Rattle.sas_task_line.proofs.WrongWords.{first_is}
 use Rattle.sas_task_line.proofs.wrong_word.wrong_in_fact.Goals as goal
 

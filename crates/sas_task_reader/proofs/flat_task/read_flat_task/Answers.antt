@@ -1,15 +1,5 @@
-use Rattle.std.proofs.Common.{sym, ap, subst, ◌∙◌}
-use Rattle.sas_core.specs.declared.parts.Parts.{Parts}
-use Rattle.sas_core.specs.WellRanged.{WellRanged}
-use Rattle.sas_reader.specs.Devices.{ValueOf}
-use Rattle.sas_task_line.specs.declared.so_far.SoFar.{SoFar}
-use Rattle.sas_task_judge.specs.TaskMachine.{LedTo, EndedAt, RejectsAt, MachineStopped}
+use Rattle.sas_task_reader.proofs.Imports.{sym, ap, subst, ◌∙◌, Parts, WellRanged, ValueOf, SoFar, LedTo, EndedAt, RejectsAt, MachineStopped, reads_explained, refuses_explained, process_node, task_format, TaskLineFits, task_start, task_grammar}
 use Rattle.sas_task_reader.proofs.TaskStanding.{reader_follows, read_task_parts, well_ranged}
-use Rattle.sas_reader.proofs.Refusals.{reads_explained, refuses_explained}
-use Rattle.sas_task_format.specs.Process.{process_node}
-use Rattle.sas_task_format.specs.TaskFormat.{task_format, TaskLineFits}
-use Rattle.sas_task_format.specs.TaskProcess.{task_start}
-use Rattle.sas_task_format.proofs.TaskGrammar.{task_grammar}
 use Rattle.sas_task_reader.specs.TaskRefusal.{fault_in, found_in, HasReason}
 use Rattle.sas_task_reader.proofs.flat_task.read_flat_task.Goals as goal
 

@@ -1,18 +1,8 @@
-use Rattle.std.proofs.Common.{◌≡◌, List, ℕ, ap, ◌∙◌}
+use Rattle.sas_task_reader.proofs.Imports.{◌≡◌, List, ℕ, ap, ◌∙◌, Kind, SoFar, TaskMachine, HasEnded, RejectsLine, LedBy, MachineStopped, process_node, task_format, TaskLineFits, task_start, task_grammar, reads_explained, refuses_explained}
 use Rattle.sas_task_reader.specs.declared.task_outline.Seen.{Seen}
 use Rattle.sas_task_reader.specs.TaskOutline.{outline_in, kept_of}
-use Rattle.sas_reader.specs.declared.fault.Kind.{Kind}
-use Rattle.sas_task_line.specs.declared.so_far.SoFar.{SoFar}
-use Rattle.sas_task_judge.specs.declared.task_machine.TaskMachine.{TaskMachine}
-use Rattle.sas_task_judge.specs.TaskJudge.{HasEnded, RejectsLine}
-use Rattle.sas_task_judge.specs.TaskMachine.{LedBy, MachineStopped}
 use Rattle.sas_task_reader.proofs.Outlines.{outline_is}
 use Rattle.sas_task_reader.proofs.TaskStanding.{machine_follows, reads_so_far}
-use Rattle.sas_task_format.specs.Process.{process_node}
-use Rattle.sas_task_format.specs.TaskFormat.{task_format, TaskLineFits}
-use Rattle.sas_task_format.specs.TaskProcess.{task_start}
-use Rattle.sas_task_format.proofs.TaskGrammar.{task_grammar}
-use Rattle.sas_reader.proofs.Refusals.{reads_explained, refuses_explained}
 use Rattle.sas_task_reader.specs.TaskRefusal.{fault_in, found_in, HasReason}
 use Rattle.sas_task_reader.proofs.outline.read_outline.Goals as goal
 
@@ -25,9 +15,6 @@ Ended m = HasEnded m.judge
 
 abbrev Refused : TaskMachine Seen → List ℕ → Kind → Type 0
 Refused m line kind = RejectsLine m.judge line kind
-
-pub new-start-requires : goal.new-start-requires
-new-start-requires g c = (c.args.alloc, c.new.ensures)
 
 pub returns-in-Ok : goal.returns-in-Ok
 returns-in-Ok g c =

@@ -1,16 +1,5 @@
-use Rattle.std.proofs.Common.{sym, ap, subst, ◌∙◌, Err}
-use Rattle.sas_core.specs.declared.parts.Parts.{Parts}
-use Rattle.sas_core.specs.WellRanged.{WellRanged}
-use Rattle.sas_reader.specs.Devices.{ReadsAll, ValueOf}
-use Rattle.sas_reader.specs.declared.fault.Fault.{Fault}
-use Rattle.sas_task_line.specs.declared.so_far.SoFar.{SoFar}
-use Rattle.sas_task_judge.specs.TaskMachine.{LedTo, EndedAt, RejectsAt, MachineStopped}
+use Rattle.sas_task_reader.proofs.Imports.{sym, ap, subst, ◌∙◌, Err, Parts, WellRanged, ReadsAll, ValueOf, Fault, SoFar, LedTo, EndedAt, RejectsAt, MachineStopped, process_node, task_format, TaskLineFits, task_start, task_grammar, reads_all, refuses_all}
 use Rattle.sas_task_reader.proofs.TaskStanding.{reader_follows, read_task_parts, well_ranged}
-use Rattle.sas_task_format.specs.Process.{process_node}
-use Rattle.sas_task_format.specs.TaskFormat.{task_format, TaskLineFits}
-use Rattle.sas_task_format.specs.TaskProcess.{task_start}
-use Rattle.sas_task_format.proofs.TaskGrammar.{task_grammar}
-use Rattle.sas_reader.proofs.Reading.{reads_all, refuses_all}
 use Rattle.sas_task_reader.proofs.task.read_task.Goals as goal
 
 pub of_parts-requires : goal.of_parts-requires

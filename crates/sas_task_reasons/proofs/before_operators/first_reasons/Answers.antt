@@ -1,5 +1,5 @@
 -- One more group.
-use Rattle.std.proofs.Common.{◌+◌, sym, subst, arith}
+use Rattle.sas_task_reasons.proofs.Imports.{◌+◌, sym, subst, arith}
 use Rattle.sas_task_reasons.proofs.ReasonsSoFar.{FirstUpTo, first_more, first_all}
 use Rattle.sas_task_reasons.proofs.before_operators.first_reasons.Goals as goal
 

@@ -1,10 +1,5 @@
 -- Where no fact holds, or none on another variable than the first, no two different ones hold.
-use Rattle.std.proofs.Common.{◌≡◌, ◌<◌, ◌==◌, None, List, length, sym, subst, ◌∙◌}
-use Rattle.std.specs.List.{All}
-use Rattle.std.specs.Prelude.{◌&&◌, find, not}
-use Rattle.sas_core.specs.declared.parts.Fact.{Fact}
-use Rattle.sas_meaning.proofs.Forced.{fact_within}
-use Rattle.sas_mutex.proofs.TaskFacts.{group_facts}
+use Rattle.sas_task_reasons.proofs.Imports.{◌≡◌, ◌<◌, ◌==◌, None, List, length, sym, subst, ◌∙◌, All, ◌&&◌, find, not, Fact, fact_within, group_facts}
 use Rattle.sas_task_reasons.specs.GroupReasons.{holds}
 use Rattle.sas_task_reasons.proofs.GroupReasons.{exclusive_without, exclusive_beside}
 use Rattle.sas_task_reasons.proofs.before_operators.holds_two.Goals as goal

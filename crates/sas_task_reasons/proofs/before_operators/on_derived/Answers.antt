@@ -1,8 +1,5 @@
 -- Where no fact is on a derived variable, all are on basic ones.
-use Rattle.std.proofs.Common.{◌≡◌, None, List, sym, subst, ◌∙◌}
-use Rattle.std.specs.Prelude.{find, is_some}
-use Rattle.sas_core.specs.declared.parts.Fact.{Fact}
-use Rattle.sas_core.specs.Variables.{layer_of}
+use Rattle.sas_task_reasons.proofs.Imports.{◌≡◌, None, List, sym, subst, ◌∙◌, find, is_some, Fact, layer_of}
 use Rattle.sas_task_reasons.proofs.GroupReasons.{all_basic}
 use Rattle.sas_task_reasons.proofs.before_operators.on_derived.Goals as goal
 

@@ -1,11 +1,6 @@
 -- The reason of each group that contains the fact set by the effect considers the effect: the notes
 -- decide, the effect never fires, or the reason isn't missing.
-use Rattle.std.proofs.Common.{ℕ, ◌+◌, Bool, List, Option, length, ap, subst, sym, ◌∙◌, arith}
-use Rattle.std.proofs.lemmas.List.Elements.{Contains-get_or, All-contains}
-use Rattle.sas_mutex.specs.ByNotes.{IsNotedAt, NeverFires}
-use Rattle.sas_mutex.specs.Firing.{EffectPlace}
-use Rattle.sas_groups.specs.Joint.{verdict_at}
-use Rattle.sas_mutex.proofs.VerdictsSoFar.{clash_never_fires}
+use Rattle.sas_task_reasons.proofs.Imports.{ℕ, ◌+◌, Bool, List, Option, length, ap, subst, sym, ◌∙◌, arith, Contains-get_or, All-contains, IsNotedAt, NeverFires, EffectPlace, verdict_at, clash_never_fires}
 use Rattle.sas_task_reasons.specs.declared.broken.Greatest.{Greatest}
 use Rattle.sas_task_reasons.specs.declared.reason.Reason.{Reason}
 use Rattle.sas_task_reasons.specs.GroupReasons.{reason_at}
@@ -67,23 +62,11 @@ returns-clause-so_far g c =
           (c.requires.so_far.are place has.exists)) c.requires.so_far))
     ]
 
-pub returns-then-not-some_lacks_reason-clause-clean : goal.returns-then-not-some_lacks_reason-clause-clean
-returns-then-not-some_lacks_reason-clause-clean g c = c.requires.clean
-
 pub note-requires-clause-one_each : goal.note-requires-clause-one_each
 note-requires-clause-one_each g c = ap length c.as_slice-kept.ensures ∙ c.requires.one_each
 
 pub note-requires-clause-clean : goal.note-requires-clause-clean
 note-requires-clause-clean g c = c.requires.clean
-
-pub report_groups-requires-clause-verdicts : goal.report_groups-requires-clause-verdicts
-report_groups-requires-clause-verdicts g c = c.requires.verdicts
-
-pub report_groups-requires-clause-greatest : goal.report_groups-requires-clause-greatest
-report_groups-requires-clause-greatest g c = c.requires.greatest
-
-pub report_groups-requires-clause-so_far : goal.report_groups-requires-clause-so_far
-report_groups-requires-clause-so_far g c = c.requires.so_far
 
 pub forget-requires : goal.forget-requires
 forget-requires g c = elim c.if-not-note.branch [
@@ -97,6 +80,3 @@ returns-clause-kept g c =
       | then-not-note w ↦ ap (λ (greatest : Greatest). greatest.kept) w.greatest-is ∙ w.report_groups.ensures.kept
       | else-not-note w ↦ ap (λ (greatest : Greatest). greatest.kept) w.greatest-is
     ]
-
-pub returns-clause-clean : goal.returns-clause-clean
-returns-clause-clean g c = c.forget.ensures

@@ -1,7 +1,5 @@
 -- The reasons consider all effects.
-use Rattle.std.proofs.Common.{◌≡◌, length, subst, arith}
-use Rattle.sas_core.specs.declared.parts.Parts.{Parts}
-use Rattle.sas_core.specs.Grounded.{operator_at}
+use Rattle.sas_task_reasons.proofs.Imports.{◌≡◌, length, subst, arith, Parts, operator_at}
 use Rattle.sas_task_reasons.proofs.ReasonsSoFar.{next_operator}
 use Rattle.sas_task_reasons.proofs.broken.report_failures_of.Goals as goal
 

@@ -1,8 +1,5 @@
 -- The first failure is the reason, or the effect preserves the group.
-use Rattle.std.proofs.Common.{ℕ, ◌+◌, List, Option, None, Some, get_or, sym, ap, ◌∙◌, subst, arith}
-use Rattle.std.proofs.lemmas.List.{get_or-set_same}
-use Rattle.sas_mutex.specs.Firing.{EffectPlace}
-use Rattle.sas_groups.specs.Joint.{verdict_at}
+use Rattle.sas_task_reasons.proofs.Imports.{ℕ, ◌+◌, List, Option, None, Some, get_or, sym, ap, ◌∙◌, subst, arith, get_or-set_same, EffectPlace, verdict_at}
 use Rattle.sas_task_reasons.specs.declared.reason.Reason.{Reason}
 use Rattle.sas_task_reasons.specs.declared.reason.Reason.TheVariants.{Breaks}
 use Rattle.sas_task_reasons.specs.GroupReasons.{IsReason, reason_at}

@@ -1,9 +1,5 @@
 -- The reason of one more group considers the effect.
-use Rattle.std.proofs.Common.{ℕ, ◌+◌, Bool, List, get_or, sym, ◌∙◌, subst, below_more, inl, inr, arith}
-use Rattle.std.proofs.lemmas.Bool.{cases_eq}
-use Rattle.std.proofs.lemmas.List.Elements.{All-from_get_or}
-use Rattle.sas_groups.specs.Joint.{verdict_at}
-use Rattle.sas_mutex.specs.ByNotes.{IsNotedAt}
+use Rattle.sas_task_reasons.proofs.Imports.{ℕ, ◌+◌, Bool, List, get_or, sym, ◌∙◌, subst, below_more, inl, inr, arith, cases_eq, All-from_get_or, verdict_at, IsNotedAt}
 use Rattle.sas_task_reasons.specs.GroupReasons.{reason_at}
 use Rattle.sas_task_reasons.specs.Reporting.{IsReasonSoFar, AreReasonsSoFar}
 use Rattle.sas_task_reasons.proofs.broken.report_groups.Goals as goal

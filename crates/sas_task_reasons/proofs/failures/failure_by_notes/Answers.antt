@@ -1,7 +1,6 @@
 -- The first failure is the lowest effect that may set another fact, else the first fact that may
 -- remain. Without either the effect preserves the group.
-use Rattle.std.proofs.Common.{◌<◌, ◌≤◌, List, length, subst}
-use Rattle.sas_core.specs.declared.parts.Fact.{Fact}
+use Rattle.sas_task_reasons.proofs.Imports.{◌<◌, ◌≤◌, List, length, subst, Fact}
 use Rattle.sas_task_reasons.proofs.FirstOfEffect.{no_other, two_first, stay_first, keeps_group}
 use Rattle.sas_task_reasons.proofs.failures.failure_by_notes.Goals as goal
 

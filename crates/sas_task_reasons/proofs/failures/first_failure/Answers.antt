@@ -1,17 +1,6 @@
 -- The family with the group consists of the groups of the family and this one.
-use Rattle.std.proofs.Common.{◌≢◌, Bool, true, false, List, length, get_or, set, sym, ap, ◌∙◌, subst}
-use Rattle.std.proofs.lemmas.Bool.{both_ways}
-use Rattle.std.proofs.lemmas.List.{length-set}
-use Rattle.sas_core.specs.Grounded.{operator_at, effect_at, group_at}
-use Rattle.sas_groups.specs.Families.{IsGroupOfOr}
-use Rattle.sas_groups.specs.declared.notes.Noted.TheVariants.{Several}
-use Rattle.sas_groups.specs.Kept.{family_of}
-use Rattle.sas_mutex.specs.Effects.{IsKept, EffectKeeps}
-use Rattle.sas_mutex.specs.Firing.{operator_of}
-use Rattle.sas_groups.specs.Notes.{IsGroupNote}
-use Rattle.sas_mutex.specs.ByNotes.{IsNotedFor, EffectKeepsGroup, EffectKeepsGroupWithItself, known_at}
-use Rattle.sas_mutex.proofs.VerdictsSoFar.{keeps_itself, put_back, several_never_fire, noted_with, with_place, or_itself, is_more}
-use Rattle.sas_mutex.proofs.FromNotes.{noted_fewer}
+use Rattle.sas_task_reasons.proofs.Imports.{◌≢◌, Bool, true, false, List, length, get_or, set, sym, ap, ◌∙◌, subst, both_ways, length-set, operator_at, effect_at, group_at, IsGroupOfOr, Several, family_of, IsKept, EffectKeeps, operator_of, IsGroupNote, IsNotedFor, EffectKeepsGroup, EffectKeepsGroupWithItself, known_at, keeps_itself, put_back, several_never_fire, noted_with, with_place, or_itself}
+use Rattle.sas_task_reasons.proofs.Imports.{is_more, noted_fewer}
 use Rattle.sas_task_reasons.specs.Lowest.{IsFirstOfEffect}
 use Rattle.sas_task_reasons.proofs.Failing.{first_of_effect_too}
 use Rattle.sas_task_reasons.proofs.FirstOfEffect.{if_some_so, if_none_so}

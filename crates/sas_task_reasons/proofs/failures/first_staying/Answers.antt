@@ -1,13 +1,5 @@
 -- One more fact, which can't remain or may.
-use Rattle.std.proofs.Common.{◌≡◌, ◌<◌, List, length, get_or, sym, ap, subst, ◌∙◌, arith}
-use Rattle.std.specs.List.{All, Contains}
-use Rattle.sas_core.specs.declared.parts.Fact.{Fact}
-use Rattle.sas_core.specs.Grounded.{group_at}
-use Rattle.sas_core.specs.Variables.{FactExists}
-use Rattle.sas_core.proofs.Places.{each_more}
-use Rattle.sas_mutex.specs.Firing.{EffectPlace}
-use Rattle.sas_mutex.proofs.TaskFacts.{group_facts}
-use Rattle.sas_mutex.specs.ByNotes.{IsGoneAt}
+use Rattle.sas_task_reasons.proofs.Imports.{◌≡◌, ◌<◌, List, length, get_or, sym, ap, subst, ◌∙◌, arith, All, Contains, Fact, group_at, FactExists, each_more, EffectPlace, group_facts, IsGoneAt}
 use Rattle.sas_task_reasons.proofs.FirstOfEffect.{none_stays, one_stays}
 use Rattle.sas_task_reasons.proofs.failures.first_staying.Goals as goal
 
@@ -25,21 +17,6 @@ returns-then-not-is_gone g c =
 pub loop-place-preserved : goal.loop-place-preserved
 loop-place-preserved g c = each_more (IsGoneAt c.args.firing.now c.args.kept.now) c.group-facts.result.now c.loop-place.place _ c.loop-place-test.true c.loop-place.invariant
     (c.is_gone.ensures.yes c.if-not-is_gone.false)
-
-pub group-facts-requires : goal.group-facts-requires
-group-facts-requires g c = subst (λ (f : EffectPlace). c.args.group < length f.task.groups) (sym c.firing.view_is) c.requires.group.exists
-
-pub removes_others-requires-clause-notes : goal.removes_others-requires-clause-notes
-removes_others-requires-clause-notes g c = c.requires.notes
-
-pub removes_others-requires-clause-group : goal.removes_others-requires-clause-group
-removes_others-requires-clause-group g c = c.requires.group
-
-pub loop-place-init : goal.loop-place-init
-loop-place-init g c = λ k d lt. absurd (omega arith)
-
-pub is_gone-requires-clause-notes : goal.is_gone-requires-clause-notes
-is_gone-requires-clause-notes g c = c.requires.notes
 
 pub is_gone-requires-clause-fact : goal.is_gone-requires-clause-fact
 is_gone-requires-clause-fact g c =

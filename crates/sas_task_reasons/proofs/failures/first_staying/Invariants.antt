@@ -1,7 +1,5 @@
 -- None of the facts so far may remain.
-use Rattle.std.proofs.Common.{ℕ, ◌<◌, get_or}
-use Rattle.sas_core.specs.declared.parts.Fact.{Fact}
-use Rattle.sas_mutex.specs.ByNotes.{IsGoneAt}
+use Rattle.sas_task_reasons.proofs.Imports.{ℕ, ◌<◌, get_or, Fact, IsGoneAt}
 use Rattle.sas_task_reasons.proofs.failures.first_staying.Given as goal
 
 abbrev pub invariant-loop-place : goal.invariant-loop-place

@@ -1,9 +1,4 @@
-use Rattle.std.proofs.Common.{◌≡◌, ◌==◌, true, ap, sym, ◌∙◌, arith}
-use Rattle.std.specs.Prelude.{◌&&◌, not, [], None}
-use Rattle.sas_core.specs.declared.grounded.Change.{Change}
-use Rattle.sas_core.specs.declared.parts.Rule.{Rule}
-use Rattle.sas_core.specs.Grounded.{rule_at}
-use Rattle.sas_meaning.specs.Layers.{can_fire}
+use Rattle.sas_task_reasons.proofs.Imports.{◌≡◌, ◌==◌, true, ap, sym, ◌∙◌, arith, ◌&&◌, not, [], None, Change, Rule, rule_at, can_fire}
 use Rattle.sas_task_reasons.proofs.OtherGivers.{gives_other}
 use Rattle.sas_task_reasons.proofs.Positions.{position_at, position_none}
 use Rattle.sas_task_reasons.proofs.giver.other_giver.Goals as goal

@@ -1,6 +1,5 @@
 -- No lower rule gives another value.
-use Rattle.std.proofs.Common.{◌≡◌, ℕ, ◌<◌, false}
-use Rattle.sas_core.specs.Grounded.{rule_at}
+use Rattle.sas_task_reasons.proofs.Imports.{◌≡◌, ℕ, ◌<◌, false, rule_at}
 use Rattle.sas_task_reasons.proofs.OtherGivers.{gives_other}
 use Rattle.sas_task_reasons.proofs.giver.other_giver.Given as goal
 

@@ -1,4 +1,4 @@
-use Rattle.sas_output.proofs.Pushed.{pushes_then}
+use Rattle.sas_task_reasons.proofs.Imports.{pushes_then}
 use Rattle.sas_task_reasons.proofs.groups.push_group.Goals as goal
 
 pub returns-in-Some : goal.returns-in-Some

@@ -1,7 +1,4 @@
-use Rattle.std.proofs.Common.{arith, subst, sym}
-use Rattle.sas_groups.specs.declared.verdict.Verdict.TheVariants.{Exclusive}
-use Rattle.sas_output.specs.Sink.{Pushes}
-use Rattle.sas_output.proofs.Pushed.{pushes_then}
+use Rattle.sas_task_reasons.proofs.Imports.{arith, subst, sym, Exclusive, Pushes, pushes_then}
 use Rattle.sas_task_reasons.proofs.GroupTexts.{text_next, all_groups}
 use Rattle.sas_task_reasons.proofs.groups.push_groups.Goals as goal
 

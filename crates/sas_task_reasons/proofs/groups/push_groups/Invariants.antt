@@ -1,6 +1,4 @@
-use Rattle.std.proofs.Common.{take}
-use Rattle.sas_lines.specs.Lines.{text}
-use Rattle.sas_output.specs.Sink.{Pushes}
+use Rattle.sas_task_reasons.proofs.Imports.{take, text, Pushes}
 use Rattle.sas_task_reasons.specs.WhyGroups.{why_lines}
 use Rattle.sas_task_reasons.proofs.groups.push_groups.Given as goal
 

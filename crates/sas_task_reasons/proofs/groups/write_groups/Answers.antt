@@ -1,12 +1,5 @@
-use Rattle.std.proofs.Common.{ℕ, rules, List, sym, subst, ap, ◌∙◌, Option}
-use Rattle.std.specs.Prelude.{IsSomeAnd}
-use Rattle.sas_core.specs.declared.parts.Parts.{Parts}
-use Rattle.sas_lines.specs.Lines.{text}
-use Rattle.sas_groups.specs.Joint.{AreJointVerdicts}
+use Rattle.sas_task_reasons.proofs.Imports.{ℕ, rules, List, sym, subst, ap, ◌∙◌, Option, IsSomeAnd, Parts, text, AreJointVerdicts, Status, Output, ends_counting_as}
 use Rattle.sas_task_reasons.specs.declared.reason.Reason.{Reason}
-use Rattle.sas_output.specs.declared.ending.Status.{Status}
-use Rattle.sas_output.specs.Ending.{Output}
-use Rattle.sas_output.proofs.Sent.{ends_counting_as}
 use Rattle.sas_task_reasons.specs.WhyGroups.{WhyGroupsAnswer, why_lines}
 use Rattle.sas_task_reasons.proofs.groups.write_groups.Goals as goal
 

@@ -1,5 +1,5 @@
 -- One more effect, which is the lowest that may set another fact, or isn't.
-use Rattle.std.proofs.Common.{arith}
+use Rattle.sas_task_reasons.proofs.Imports.{arith}
 use Rattle.sas_task_reasons.proofs.LowestEffects.{lower_found, none_lower, all_looked_at}
 use Rattle.sas_task_reasons.proofs.lowest.lowest_among.Goals as goal
 use Rattle.sas_task_reasons.proofs.lowest.lowest_among.Goals.{then-other-lowest+then-not-not_both, else-other-lowest, else-other-lowest-via-then-other-lowest+else-not-not_both, else-other-lowest-via-else-other-lowest}

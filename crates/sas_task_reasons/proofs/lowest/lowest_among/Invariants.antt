@@ -1,5 +1,5 @@
 -- The lowest of the effects so far that may set another fact of the group.
-use Rattle.sas_mutex.specs.ByNotes.{IsNotedAt}
+use Rattle.sas_task_reasons.proofs.Imports.{IsNotedAt}
 use Rattle.sas_task_reasons.specs.Lowest.{IsLowestPartner, IsOneOfFirst}
 use Rattle.sas_task_reasons.proofs.lowest.lowest_among.Given as goal
 

@@ -1,8 +1,5 @@
 -- One more fact, which may be the first on its variable.
-use Rattle.std.proofs.Common.{List, sym, subst}
-use Rattle.sas_core.specs.declared.parts.Fact.{Fact}
-use Rattle.sas_core.specs.Grounded.{group_at}
-use Rattle.sas_groups.specs.Distinct.{AreDistinct}
+use Rattle.sas_task_reasons.proofs.Imports.{List, sym, subst, Fact, group_at, AreDistinct}
 use Rattle.sas_task_reasons.proofs.LowestEffects.{one_more_fact, one_fact_more, all_facts_looked_at}
 use Rattle.sas_task_reasons.proofs.lowest.lowest_by_facts.Goals as goal
 use Rattle.sas_task_reasons.proofs.lowest.lowest_by_facts.Goals.{then-begins_run, else-begins_run}

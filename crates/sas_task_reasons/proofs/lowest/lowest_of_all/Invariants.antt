@@ -1,6 +1,5 @@
 -- None of the effects so far may set another fact of the group.
-use Rattle.std.proofs.Common.{ℕ, ◌<◌}
-use Rattle.sas_mutex.specs.ByNotes.{IsNotedAt, NotBothAt}
+use Rattle.sas_task_reasons.proofs.Imports.{ℕ, ◌<◌, IsNotedAt, NotBothAt}
 use Rattle.sas_task_reasons.proofs.lowest.lowest_of_all.Given as goal
 
 abbrev pub invariant-loop-other : goal.invariant-loop-other

@@ -1,7 +1,5 @@
 -- If no operator breaks a group, the first reasons are complete.
-use Rattle.std.proofs.Common.{◌<◌, [], List, sym, subst}
-use Rattle.std.specs.Prelude.{Option}
-use Rattle.sas_groups.specs.declared.verdict.Verdict.TheVariants.{Exclusive}
+use Rattle.sas_task_reasons.proofs.Imports.{◌<◌, [], List, sym, subst, Option, Exclusive}
 use Rattle.sas_task_reasons.specs.declared.reason.Reason.{Reason}
 use Rattle.sas_task_reasons.specs.GroupReasons.{AreReasons}
 use Rattle.sas_task_reasons.proofs.ReasonsSoFar.{none_broken}
@@ -14,6 +12,3 @@ returns-then-not-some_broken g c =
     subst (λ (reasons : List (Option Reason)). AreReasons p verdicts reasons) (sym c.into_vec.ensures) (none_broken p verdicts c.in_ok-reasons.reasons
     (λ place lt. c.some_broken.ensures c.if-not-some_broken.true place Exclusive (subst (λ n. place < n) (sym c.requires.one_each) lt))
     (c.in_ok-reasons.ensures []))
-
-pub report_breaking-ended-requires-clause-so_far : goal.report_breaking-ended-requires-clause-so_far
-report_breaking-ended-requires-clause-so_far g c = c.in_ok-reasons.ensures

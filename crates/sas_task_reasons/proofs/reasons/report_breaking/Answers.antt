@@ -1,5 +1,5 @@
 -- The groups that are exclusive by the verdicts are the greatest family.
-use Rattle.std.proofs.Common.{◌<◌, sym, subst}
+use Rattle.sas_task_reasons.proofs.Imports.{◌<◌, sym, subst}
 use Rattle.sas_task_reasons.proofs.GreatestOfVerdicts.{exclusive_is_greatest}
 use Rattle.sas_task_reasons.proofs.reasons.report_breaking.Goals as goal
 

@@ -1,6 +1,5 @@
 -- None of the verdicts so far is `Broken`.
-use Rattle.std.proofs.Common.{ℕ, ◌<◌, get_or}
-use Rattle.sas_groups.specs.declared.verdict.Verdict.{Verdict}
+use Rattle.sas_task_reasons.proofs.Imports.{ℕ, ◌<◌, get_or, Verdict}
 use Rattle.sas_task_reasons.specs.Reporting.{IsBroken}
 use Rattle.sas_task_reasons.proofs.reasons.some_broken.Given as goal
 

@@ -1,9 +1,4 @@
-use Rattle.std.proofs.Common.{◌≡◌, List, [], sym, subst, ◌∙◌, Option, Some}
-use Rattle.std.specs.Prelude.{IsSomeAnd}
-use Rattle.sas_output.specs.Ending.{Output, output_told}
-use Rattle.sas_output.specs.declared.line.Line.{Line}
-use Rattle.sas_output.specs.Line.{reasons_text}
-use Rattle.sas_output.proofs.Sent.{ends_counting_as}
+use Rattle.sas_task_reasons.proofs.Imports.{◌≡◌, List, [], sym, subst, ◌∙◌, Option, Some, IsSomeAnd, Output, output_of, Line, reasons_text, ends_counting_as}
 use Rattle.sas_task_reasons.specs.WhyLayers.{with_reasons, why_refusal}
 use Rattle.sas_task_reasons.proofs.TaskAnswers.{refused_why}
 use Rattle.sas_task_reasons.proofs.unlayered.write_unlayered.Goals as goal
@@ -11,7 +6,7 @@ use Rattle.sas_task_reasons.proofs.unlayered.write_unlayered.Goals as goal
 pub returns-clause-ends : goal.returns-clause-ends
 returns-clause-ends g c =
     let p = c.args.task.now in
-    let refusal = output_told c.in_ok-refusal.refusal in
+    let refusal = output_of c.in_ok-refusal.refusal in
     let whole = subst (λ (lines : List Line). why_refusal p c.args.fault ≡ Some (with_reasons (reasons_text p [] lines) refusal)) (sym (c.as_slice.ensures ∙ c.in_ok-reasons.ensures))
     (refused_why p c.args.fault refusal c.in_ok-refusal.ensures) in
     ends_counting_as _ _ (λ (output : Option Output). IsSomeAnd output (λ refusal. why_refusal p c.args.fault ≡ Some refusal)) c.write_reasons.result whole c.write_reasons.ensures.ends

@@ -1,4 +1,4 @@
-use Rattle.std.proofs.Common.{◌≡◌, drop}
+use Rattle.sas_task_reasons.proofs.Imports.{◌≡◌, drop}
 use Rattle.sas_answers.specs.GroupWords as spec
 use Rattle.sas_task_reasons.proofs.verdicts.groups_status.Given as goal
 

@@ -1,4 +1,4 @@
-use Rattle.sas_answers.proofs.MutexAnswers.{lines_behind}
+use Rattle.sas_task_reasons.proofs.Imports.{lines_behind}
 use Rattle.sas_task_reasons.proofs.verdicts.groups_text.Goals as goal
 
 pub loop-place-preserved : goal.loop-place-preserved

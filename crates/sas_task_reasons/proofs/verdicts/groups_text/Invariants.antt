@@ -1,6 +1,4 @@
-use Rattle.std.proofs.Common.{◌≡◌, take}
-use Rattle.sas_lines.specs.Lines.{text}
-use Rattle.sas_answers.specs.GroupWords.{verdict_lines}
+use Rattle.sas_task_reasons.proofs.Imports.{◌≡◌, take, text, verdict_lines}
 use Rattle.sas_task_reasons.proofs.verdicts.groups_text.Given as goal
 
 -- the lines of the groups so far

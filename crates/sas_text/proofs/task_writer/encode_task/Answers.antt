@@ -1,6 +1,4 @@
-use Rattle.std.proofs.Common.{List, ℕ, ap, ◌++◌, ◌∙◌}
-use Rattle.sas_core.specs.declared.parts.Parts.{Parts}
-use Rattle.sas_task_format.specs.TaskFormat.{task_layout, version_lines, metric_lines, counted, variable_lines, group_lines, state_lines, goal_lines, operator_lines, rule_lines}
+use Rattle.sas_text.proofs.Imports.{List, ℕ, ap, ◌++◌, ◌∙◌, Parts, task_layout, version_lines, metric_lines, counted, variable_lines, group_lines, state_lines, goal_lines, operator_lines, rule_lines}
 use Rattle.sas_text.specs.TaskText.{text_of}
 use Rattle.sas_text.proofs.TaskTexts.{lines_after}
 use Rattle.sas_text.proofs.task_writer.encode_task.Goals as goal

@@ -1,6 +1,4 @@
-use Rattle.std.proofs.Common.{◌≡◌, ◌++◌, take}
-use Rattle.std.specs.List.{flat_map}
-use Rattle.sas_task_format.specs.TaskFormat.{fact_words}
+use Rattle.sas_text.proofs.Imports.{◌≡◌, ◌++◌, take, flat_map, fact_words}
 use Rattle.sas_text.specs.TaskText.{spaced}
 use Rattle.sas_text.proofs.task_writer.push_conditions.Given as goal
 

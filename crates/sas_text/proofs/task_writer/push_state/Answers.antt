@@ -1,6 +1,4 @@
-use Rattle.std.proofs.Common.{codes}
-use Rattle.std.specs.List.{flat_map}
-use Rattle.sas_task_format.specs.TaskFormat.{number, line}
+use Rattle.sas_text.proofs.Imports.{codes, flat_map, number, line}
 use Rattle.sas_text.proofs.TaskTexts.{between_on_ok}
 use Rattle.sas_text.proofs.task_writer.push_state.Goals as goal
 

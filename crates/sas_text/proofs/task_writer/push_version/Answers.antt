@@ -1,5 +1,4 @@
-use Rattle.std.proofs.Common.{arith}
-use Rattle.std.proofs.lemmas.Grind.{common_steps}
+use Rattle.sas_text.proofs.Imports.{arith, common_steps}
 use Rattle.sas_text.proofs.task_writer.push_version.Goals as goal
 
 pub returns : goal.returns

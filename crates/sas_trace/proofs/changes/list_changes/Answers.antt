@@ -1,9 +1,5 @@
 -- The facts that are deleted are noted, and then the derived variables.
-use Rattle.std.proofs.Common.{◌<◌, ◌∙◌, sym, ap, subst}
-use Rattle.std.specs.List.{All}
-use Rattle.std.proofs.lemmas.Bool.{false≢true}
-use Rattle.sas_core.specs.declared.parts.Fact.{Fact}
-use Rattle.sas_meaning.specs.declared.touched.Touched.{Touched}
+use Rattle.sas_trace.proofs.Imports.{◌<◌, ◌∙◌, sym, ap, subst, All, false≢true, Fact, Touched}
 use Rattle.sas_trace.proofs.Listing.{touched_exist, covers_both}
 use Rattle.sas_trace.proofs.changes.list_changes.Goals as goal
 

@@ -1,6 +1,5 @@
 -- One fact more is noted.
-use Rattle.std.proofs.Common.{length, refl}
-use Rattle.sas_core.specs.declared.parts.Fact.{Fact}
+use Rattle.sas_trace.proofs.Imports.{length, refl, Fact}
 use Rattle.sas_trace.proofs.Listing.{grows_then, noted_more}
 use Rattle.sas_trace.proofs.changes.list_deleted.Goals as goal
 

@@ -1,5 +1,5 @@
 -- One variable more is noted.
-use Rattle.std.proofs.Common.{ℕ, length, refl}
+use Rattle.sas_trace.proofs.Imports.{ℕ, length, refl}
 use Rattle.sas_trace.proofs.Listing.{grows_then, noted_more}
 use Rattle.sas_trace.proofs.changes.list_touched.Goals as goal
 

@@ -1,5 +1,5 @@
 -- The variables so far are noted.
-use Rattle.std.proofs.Common.{ℕ, ◌<◌, length, get_or}
+use Rattle.sas_trace.proofs.Imports.{ℕ, ◌<◌, length, get_or}
 use Rattle.sas_trace.specs.Changes.{IsListedIfChanged, Grows}
 use Rattle.sas_trace.proofs.changes.list_touched.Given as goal
 

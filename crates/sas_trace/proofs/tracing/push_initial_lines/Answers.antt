@@ -1,7 +1,5 @@
 -- One line more is pushed.
-use Rattle.std.proofs.Common.{◌≡◌, length, subst, arith}
-use Rattle.sas_output.specs.Sink.{Pushes}
-use Rattle.sas_output.proofs.Pushed.{pushes_then}
+use Rattle.sas_trace.proofs.Imports.{◌≡◌, length, subst, arith, Pushes, pushes_then}
 use Rattle.sas_trace.proofs.Numbers.{said_more}
 use Rattle.sas_trace.proofs.RunTexts.{initial_text, initial_all}
 use Rattle.sas_trace.proofs.tracing.push_initial_lines.Goals as goal

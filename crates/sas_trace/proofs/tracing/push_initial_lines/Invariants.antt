@@ -1,5 +1,5 @@
 -- The lines so far were pushed.
-use Rattle.sas_output.specs.Sink.{Pushes}
+use Rattle.sas_trace.proofs.Imports.{Pushes}
 use Rattle.sas_trace.proofs.Numbers.{said}
 use Rattle.sas_trace.proofs.RunTexts.{initial_text}
 use Rattle.sas_trace.proofs.tracing.push_initial_lines.Given as goal

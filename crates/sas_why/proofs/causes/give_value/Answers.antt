@@ -1,9 +1,5 @@
 -- All rules derive the value that the first derives.
-use Rattle.std.proofs.Common.{sym, ◌∙◌, ap, subst}
-use Rattle.std.specs.Prelude.{◌==◌}
-use Rattle.std.specs.List.{Contains}
-use Rattle.sas_core.specs.declared.grounded.Change.{Change}
-use Rattle.sas_axioms.proofs.RulesOf.{of_variable}
+use Rattle.sas_why.proofs.Imports.{sym, ◌∙◌, ap, subst, ◌==◌, Contains, Change, of_variable}
 use Rattle.sas_why.proofs.RulesOf.{none_gives, one_gives, first_is, first_is_none}
 use Rattle.sas_why.proofs.causes.give_value.Goals as goal
 

@@ -1,20 +1,9 @@
 -- One rule more, which has a condition that fails or none.
-use Rattle.std.proofs.Common.{◌≡◌, ℕ, ◌<◌, List, [], ◌∷◌, ◌++◌, length, get_or, Option, sym, ◌∙◌, ap, subst}
-use Rattle.std.specs.Prelude.{flat_map, find}
-use Rattle.std.specs.List.{All}
-use Rattle.std.specs.Option.{option_map_or}
-use Rattle.std.proofs.lemmas.List.{append-nil, take_all}
-use Rattle.sas_core.specs.declared.parts.Fact.{Fact}
-use Rattle.sas_core.specs.Grounded.{rule_at}
-use Rattle.sas_output.specs.declared.line.Line.TheVariants.{RuleRequires}
-use Rattle.sas_reasons.specs.Cause.{fails, failing_lines}
+use Rattle.sas_why.proofs.Imports.{◌≡◌, ℕ, ◌<◌, List, [], ◌∷◌, ◌++◌, length, get_or, Option, sym, ◌∙◌, ap, subst, flat_map, find, All, option_map_or, append-nil, take_all, Fact, rule_at, RuleRequires, fails, failing_lines}
 use Rattle.sas_why.proofs.Composing.{flat_more}
 use Rattle.sas_why.proofs.Within.{conditions_within}
 use Rattle.sas_why.proofs.causes.push_keepers.Goals as goal
 use Rattle.sas_why.proofs.causes.push_keepers.Goals.{in-Some+in_ok-push, in_default}
-
-pub loop-rule-init : goal.loop-rule-init
-loop-rule-init g c = sym (append-nil c.args.lines.now)
 
 pub first_failing-requires : goal.first_failing-requires
 first_failing-requires g c = subst (All (λ (f : Fact). f.var < length c.args.state.now)) (sym c.rule_conditions.ensures)

@@ -1,7 +1,5 @@
 -- One behind the other.
-use Rattle.std.proofs.lemmas.Result.{on_ok_weaker}
-use Rattle.sas_run.specs.Runs.{last_state}
-use Rattle.sas_reasons.specs.Cause.{is_given, AreDerivationLines}
+use Rattle.sas_why.proofs.Imports.{on_ok_weaker, last_state, is_given, AreDerivationLines}
 use Rattle.sas_why.proofs.Composing.{first_lines, first_plain, plain_is_report, more_is_report, cause_added}
 use Rattle.sas_why.proofs.causes.report_cause.Goals as goal
 

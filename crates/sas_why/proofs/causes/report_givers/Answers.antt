@@ -1,13 +1,8 @@
 -- The rules of the derivation, and their lines.
-use Rattle.std.proofs.Common.{◌≡◌, ℕ, List, ◌++◌, map, sym, ◌∙◌, subst}
-use Rattle.std.proofs.lemmas.Result.{on_ok_weaker}
-use Rattle.sas_output.specs.declared.line.Line.TheVariants.{RuleDerives}
+use Rattle.sas_why.proofs.Imports.{◌≡◌, ℕ, List, ◌++◌, map, sym, ◌∙◌, subst, on_ok_weaker, RuleDerives}
 use Rattle.sas_why.specs.Origins.{ReportsDerivation}
-use Rattle.sas_why.proofs.Composing.{no_givers, some_givers}
+use Rattle.sas_why.proofs.Composing.{some_givers}
 use Rattle.sas_why.proofs.causes.report_givers.Goals as goal
-
-pub returns-then-not-has_givers : goal.returns-then-not-has_givers
-returns-then-not-has_givers g c = no_givers c.args.task.now c.args.noted.now c.args.report.now c.args.var (sym c.has_givers.ensures ∙ c.if-not-has_givers.true)
 
 pub returns : goal.returns
 returns g c =

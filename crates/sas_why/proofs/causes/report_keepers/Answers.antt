@@ -1,19 +1,8 @@
 -- No rule derives the value, or all of the variable's rules were reported before, or they are reported now.
-use Rattle.std.proofs.Common.{◌≡◌, ◌<◌, ℕ, Bool, List, ◌++◌, length, get_or, false, sym, ◌∙◌, ap, subst}
-use Rattle.std.specs.Prelude.{flat_map}
-use Rattle.std.specs.List.{All}
-use Rattle.std.proofs.lemmas.Result.{on_ok_weaker}
-use Rattle.std.proofs.lemmas.List.Elements.{Contains-get_or}
-use Rattle.sas_axioms.proofs.RulesOf.{of_variable}
-use Rattle.sas_meaning.specs.Places.{places, can_give}
-use Rattle.sas_reasons.specs.Cause.{failing_lines, keeping_lines}
-use Rattle.sas_run.specs.Runs.{last_state}
+use Rattle.sas_why.proofs.Imports.{◌≡◌, ◌<◌, ℕ, Bool, List, ◌++◌, length, get_or, false, sym, ◌∙◌, ap, subst, flat_map, All, on_ok_weaker, Contains-get_or, of_variable, places, can_give, failing_lines, keeping_lines, last_state}
 use Rattle.sas_why.specs.Report.{Adds}
 use Rattle.sas_why.proofs.Composing.{no_rule, reported_before, reported_now, rules_of_report}
 use Rattle.sas_why.proofs.causes.report_keepers.Goals as goal
-
-pub give_value-requires : goal.give_value-requires
-give_value-requires g c = c.get-rules.ensures ∙ rules_of_report c.args.task.now c.args.noted.now c.args.report.now c.args.fact.var c.requires.fact c.requires.report
 
 pub returns-then-not-give_value : goal.returns-then-not-give_value
 returns-then-not-give_value g c = on_ok_weaker c.push.result

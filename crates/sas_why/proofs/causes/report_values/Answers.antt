@@ -1,11 +1,5 @@
 -- Three lines, one behind the other.
-use Rattle.std.proofs.Common.{◌≡◌, ℕ, zero, suc, List, [], ◌∷◌, ◌++◌, refl, sym, ◌∙◌, ap, append_assoc}
-use Rattle.std.proofs.lemmas.Result.{on_ok_weaker}
-use Rattle.std.proofs.lemmas.List.{get_or_default}
-use Rattle.sas_core.specs.declared.parts.Fact.{Fact}
-use Rattle.sas_output.specs.declared.line.Line.{Line}
-use Rattle.sas_output.specs.declared.line.Line.TheVariants.{Requires, Actual, SinceStep}
-use Rattle.sas_reasons.specs.Cause.{since_line}
+use Rattle.sas_why.proofs.Imports.{◌≡◌, ℕ, zero, suc, List, [], ◌∷◌, ◌++◌, refl, sym, ◌∙◌, ap, append_assoc, on_ok_weaker, get_or_default, Fact, Line, Requires, Actual, SinceStep, since_line}
 use Rattle.sas_why.proofs.Composing.{actual_fact}
 use Rattle.sas_why.proofs.causes.report_values.Goals as goal
 use Rattle.sas_why.proofs.causes.report_values.Goals.{then-since-eq0, else-since-eq0}

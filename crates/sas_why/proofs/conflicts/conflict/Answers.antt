@@ -1,7 +1,5 @@
 -- If no effect is contradicted, all agree.
-use Rattle.std.proofs.Common.{rules, ◌≡◌, ◌∙◌, ℕ, zero, suc, Option, None, List, length, get_or, replicate, refl, ap, arith}
-use Rattle.std.proofs.lemmas.List.{length-replicate}
-use Rattle.sas_core.specs.Grounded.{operator_at}
+use Rattle.sas_why.proofs.Imports.{rules, ◌≡◌, ◌∙◌, ℕ, zero, suc, Option, None, List, length, get_or, replicate, refl, ap, arith, length-replicate, operator_at}
 use Rattle.sas_why.proofs.Firsts.{no_firsts, agree, is_conflict}
 use Rattle.sas_why.proofs.conflicts.conflict.Goals as goal
 
@@ -18,12 +16,6 @@ loop-later-init g c =
     no_firsts c.args.task.now c.args.state.now (operator_at c.args.task.now c.args.operator) c.from_vec-firsts.result
     (ap length is ∙ length-replicate n None ∙ c.variables.ensures.count)
     (λ var. ap (λ (l : List (Option ℕ)). get_or l var None) is ∙ none_there n var)
-
-pub contradicting-requires-clause-effect : goal.contradicting-requires-clause-effect
-contradicting-requires-clause-effect g c = omega (arith, c.effects-later-end.ensures, c.loop-later-test.true)
-
-pub loop-later-preserved : goal.loop-later-preserved
-loop-later-preserved g c = c.in_default.ensures.none
 
 pub unreachable-requires : goal.unreachable-requires
 unreachable-requires g c =

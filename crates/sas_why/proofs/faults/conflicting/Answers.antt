@@ -1,7 +1,6 @@
 -- The two effects, behind the step and the operator.
-use Rattle.std.proofs.Common.{List, [], ◌∷◌, ◌++◌, refl, ◌∙◌, ap}
-use Rattle.sas_output.specs.declared.line.Line.{Line}
-use Rattle.sas_output.specs.declared.line.Line.TheVariants.{Step, Operator, ConflictingEffect}
+use Rattle.sas_why.proofs.Imports.{List, [], ◌∷◌, ◌++◌, refl, ◌∙◌, ap, Line, Step, ConflictingEffect}
+use Rattle.sas_output.specs.declared.line.Line.TheVariants.{Operator}
 use Rattle.sas_why.proofs.faults.conflicting.Goals as goal
 
 pub returns : goal.returns

@@ -1,16 +1,6 @@
 -- What each fault gives is known of the run.
-use Rattle.std.proofs.Common.{◌≡◌, ◌<◌, ℕ, ◌∷◌, List, length, Some, refl, sym, ◌∙◌, ap, subst}
-use Rattle.std.specs.List.{All}
-use Rattle.std.proofs.lemmas.Result.{IfOk-weaker}
-use Rattle.sas_core.specs.Grounded.{operator_at}
-use Rattle.sas_meaning.specs.Steps.{Agree}
-use Rattle.sas_run.specs.declared.plan_check.PlanFault.{PlanFault}
-use Rattle.sas_run.specs.declared.plan_check.PlanFault.TheVariants.{Conflict}
-use Rattle.sas_output.specs.declared.line.Line.TheVariants.{Step}
-use Rattle.sas_reasons.specs.Lines.{LineThen}
-use Rattle.sas_reasons.specs.WhyPlan.{similar_name_lines, AreOperatorLines, AreConflictLines, AreFaultLines, cost_lines}
+use Rattle.sas_why.proofs.Imports.{◌≡◌, ◌<◌, ℕ, ◌∷◌, List, length, Some, refl, sym, ◌∙◌, ap, subst, All, IfOk-weaker, operator_at, Agree, PlanFault, Conflict, Step, LineThen, similar_name_lines, AreOperatorLines, AreConflictLines, AreFaultLines, cost_lines, operators_exist}
 use Rattle.sas_why.specs.Report.{ReportsOnce}
-use Rattle.sas_run.proofs.Runs.{operators_exist}
 use Rattle.sas_why.proofs.Behind.{ends, behind, conflict_clashes, last_is, operators_are, operators_as_many}
 use Rattle.sas_why.proofs.faults.lines_of_fault.Goals as goal
 

@@ -1,10 +1,7 @@
 -- All is reported of a state of which nothing was.
-use Rattle.sas_reasons.specs.WhyPlan.{AreGoalLines}
+use Rattle.sas_why.proofs.Imports.{AreGoalLines}
 use Rattle.sas_why.proofs.Faulty.{all_reported}
 use Rattle.sas_why.proofs.faults.missed.Goals as goal
-
-pub report_missed-requires : goal.report_missed-requires
-report_missed-requires g c = (c.requires.0, c.requires.1, c.in_ok-report.ensures.report)
 
 pub returns-in-Ok : goal.returns-in-Ok
 returns-in-Ok g c = rw c.into_lines.ensures (all_reported c.args.task.now c.args.noted.now (AreGoalLines c.args.task.now) c.in_ok-report.report c.report_missed.new.report

@@ -1,11 +1,5 @@
 -- The step, and then each operator of its name.
-use Rattle.std.proofs.Common.{◌≡◌, ◌<◌, ℕ, ◌+◌, List, [], ◌∷◌, ◌++◌, length, bytes_eq, refl, sym, ◌∙◌, ap, subst, arith}
-use Rattle.sas_core.specs.Grounded.{operator_at}
-use Rattle.sas_meaning.specs.Places.{places}
-use Rattle.sas_meaning.proofs.Places.{places_to, places_all}
-use Rattle.sas_reasons.specs.Lines.{LinesOfEach}
-use Rattle.sas_reasons.specs.WhyPlan.{AreFailedPreconditionLines, AreOperatorLines}
-use Rattle.sas_output.specs.declared.line.Line.TheVariants.{Step}
+use Rattle.sas_why.proofs.Imports.{◌≡◌, ◌<◌, ℕ, ◌+◌, List, [], ◌∷◌, ◌++◌, length, bytes_eq, refl, sym, ◌∙◌, ap, subst, arith, operator_at, places, places_to, places_all, LinesOfEach, AreFailedPreconditionLines, AreOperatorLines, Step}
 use Rattle.sas_why.specs.declared.report.Report.{Report}
 use Rattle.sas_why.specs.Report.{Adds}
 use Rattle.sas_why.proofs.Composing.{more_is_report, plain_is_report, line_and_more, one_more}

@@ -1,9 +1,5 @@
 -- Why the operators so far aren't applicable is reported.
-use Rattle.std.proofs.Common.{bytes_eq}
-use Rattle.sas_core.specs.declared.parts.Operator.{Operator}
-use Rattle.sas_meaning.proofs.Places.{places_to}
-use Rattle.sas_reasons.specs.Lines.{LinesOfEach}
-use Rattle.sas_reasons.specs.WhyPlan.{AreFailedPreconditionLines}
+use Rattle.sas_why.proofs.Imports.{bytes_eq, Operator, places_to, LinesOfEach, AreFailedPreconditionLines}
 use Rattle.sas_why.specs.Report.{Adds}
 use Rattle.sas_why.proofs.faults.report_blocked.Given as goal
 

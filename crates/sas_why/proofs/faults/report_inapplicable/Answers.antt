@@ -1,15 +1,5 @@
 -- The operator, and then each precondition in turn.
-use Rattle.std.proofs.Common.{◌≡◌, ◌<◌, List, [], ◌∷◌, ◌++◌, length, refl, sym, ◌∙◌, ap, subst, append_assoc}
-use Rattle.std.specs.Prelude.{filter}
-use Rattle.std.specs.List.{All}
-use Rattle.std.proofs.lemmas.List.{append-nil}
-use Rattle.std.proofs.lemmas.List.Elements.{All-head, All-rest}
-use Rattle.sas_core.specs.declared.parts.Fact.{Fact}
-use Rattle.sas_core.specs.Grounded.{operator_at}
-use Rattle.sas_meaning.specs.Steps.{preconditions}
-use Rattle.sas_reasons.specs.Lines.{LinesOfEach}
-use Rattle.sas_run.specs.Runs.{last_state}
-use Rattle.sas_reasons.specs.Cause.{fails, IsCause}
+use Rattle.sas_why.proofs.Imports.{◌≡◌, ◌<◌, List, [], ◌∷◌, ◌++◌, length, refl, sym, ◌∙◌, ap, subst, append_assoc, filter, All, append-nil, All-head, All-rest, Fact, operator_at, preconditions, LinesOfEach, last_state, fails, IsCause}
 use Rattle.sas_output.specs.declared.line.Line.TheVariants.{Operator}
 use Rattle.sas_why.proofs.Within.{preconditions_have_values}
 use Rattle.sas_why.proofs.Composing.{more_is_report, plain_is_report, line_and_more, none_yet, one_more}

@@ -1,12 +1,5 @@
 -- The causes of the preconditions so far are reported, and the variables of those that are left have values.
-use Rattle.std.proofs.Common.{◌≡◌, ◌<◌, length, ◌++◌}
-use Rattle.std.specs.Prelude.{filter}
-use Rattle.std.specs.List.{All}
-use Rattle.sas_core.specs.declared.parts.Fact.{Fact}
-use Rattle.sas_core.specs.Grounded.{operator_at}
-use Rattle.sas_meaning.specs.Steps.{preconditions}
-use Rattle.sas_reasons.specs.Lines.{LinesOfEach}
-use Rattle.sas_reasons.specs.Cause.{fails, IsCause}
+use Rattle.sas_why.proofs.Imports.{◌≡◌, ◌<◌, length, ◌++◌, filter, All, Fact, operator_at, preconditions, LinesOfEach, fails, IsCause}
 use Rattle.sas_why.specs.Report.{Adds}
 use Rattle.sas_why.proofs.faults.report_inapplicable.Given as goal
 

@@ -1,14 +1,5 @@
 -- Each goal fact in turn.
-use Rattle.std.proofs.Common.{◌≡◌, ◌<◌, ◌≤◌, ◌+◌, List, [], ◌∷◌, ◌++◌, length, get_or, refl, sym, ◌∙◌, subst}
-use Rattle.std.specs.Prelude.{slice_index}
-use Rattle.std.specs.List.{All}
-use Rattle.sas_core.specs.declared.parts.Fact.{Fact}
-use Rattle.sas_meaning.specs.Places.{places}
-use Rattle.sas_meaning.proofs.Places.{places_to, places_all}
-use Rattle.sas_reasons.specs.Lines.{LinesOfEach}
-use Rattle.sas_reasons.specs.Cause.{fails, IsCause}
-use Rattle.sas_reasons.specs.WhyPlan.{goal_fact_at, AreGoalFactLines}
-use Rattle.sas_output.specs.declared.line.Line.TheVariants.{GoalFact}
+use Rattle.sas_why.proofs.Imports.{◌≡◌, ◌<◌, ◌≤◌, ◌+◌, List, [], ◌∷◌, ◌++◌, length, get_or, refl, sym, ◌∙◌, subst, slice_index, All, Fact, places, places_to, places_all, LinesOfEach, fails, IsCause, goal_fact_at, AreGoalFactLines, GoalFact}
 use Rattle.sas_why.specs.declared.report.Report.{Report}
 use Rattle.sas_why.specs.Report.{Adds}
 use Rattle.sas_why.proofs.Within.{goal_within}

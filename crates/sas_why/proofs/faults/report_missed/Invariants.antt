@@ -1,8 +1,5 @@
 -- The causes of the goal facts so far are reported.
-use Rattle.sas_reasons.specs.Lines.{LinesOfEach}
-use Rattle.sas_reasons.specs.Cause.{fails}
-use Rattle.sas_reasons.specs.WhyPlan.{AreGoalFactLines}
-use Rattle.sas_meaning.proofs.Places.{places_to}
+use Rattle.sas_why.proofs.Imports.{LinesOfEach, fails, AreGoalFactLines, places_to}
 use Rattle.sas_why.specs.Report.{Adds}
 use Rattle.sas_why.proofs.faults.report_missed.Given as goal
 

@@ -1,6 +1,5 @@
 -- The sum so far.
-use Rattle.std.proofs.Common.{◌≡◌, ◌+◌, ◌*◌, ◌^◌, ◌≤◌, drop}
-use Rattle.sas_reasons.specs.WhyPlan.{cost_lines_sum}
+use Rattle.sas_why.proofs.Imports.{◌≡◌, ◌+◌, ◌*◌, ◌^◌, ◌≤◌, drop, cost_lines_sum}
 use Rattle.sas_why.proofs.faults.sum_of_cost_lines.Given as goal
 
 abbrev pub invariant-loop-operator : goal.invariant-loop-operator

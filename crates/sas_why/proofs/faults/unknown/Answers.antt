@@ -1,7 +1,5 @@
 -- The operator of nearly that name, if there is one.
-use Rattle.std.proofs.Common.{◌≡◌, List, [], ◌∷◌, ◌++◌, None, Some, ◌∙◌, ap, sym}
-use Rattle.sas_output.specs.declared.line.Line.{Line}
-use Rattle.sas_output.specs.declared.line.Line.TheVariants.{Step, SimilarOperator}
+use Rattle.sas_why.proofs.Imports.{◌≡◌, List, [], ◌∷◌, ◌++◌, None, Some, ◌∙◌, ap, sym, Line, Step, SimilarOperator}
 use Rattle.sas_why.proofs.Faulty.{unknown_reported}
 use Rattle.sas_why.proofs.faults.unknown.Goals as goal
 use Rattle.sas_why.proofs.faults.unknown.Goals.{in-Some+in_ok-push-2, in_default}

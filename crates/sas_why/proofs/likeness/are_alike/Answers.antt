@@ -1,6 +1,5 @@
 -- The names trimmed are the same in small letters.
-use Rattle.std.proofs.Common.{◌∙◌, map, sym, ap}
-use Rattle.std.specs.Char.{to_ascii_lowercase}
+use Rattle.sas_why.proofs.Imports.{◌∙◌, map, sym, ap, to_ascii_lowercase}
 use Rattle.sas_why.proofs.likeness.are_alike.Goals as goal
 
 pub returns : goal.returns

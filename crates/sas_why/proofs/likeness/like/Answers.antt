@@ -1,7 +1,5 @@
 -- The first operator with such a name is the lowest.
-use Rattle.std.proofs.Common.{None, Some, sym, ap, ◌∙◌, arith}
-use Rattle.sas_reasons.specs.MayMean.{folded}
-use Rattle.sas_reasons.proofs.Likeness.{like_is}
+use Rattle.sas_why.proofs.Imports.{None, Some, sym, ap, ◌∙◌, arith, folded, like_is}
 use Rattle.sas_why.proofs.likeness.like.Goals as goal
 
 pub returns-then-are_alike : goal.returns-then-are_alike

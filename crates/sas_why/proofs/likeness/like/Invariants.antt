@@ -1,6 +1,5 @@
 -- No lower operator has a name like this one.
-use Rattle.std.proofs.Common.{ℕ, ◌<◌}
-use Rattle.sas_reasons.specs.Laws.{IsAlike}
+use Rattle.sas_why.proofs.Imports.{ℕ, ◌<◌, IsAlike}
 use Rattle.sas_why.proofs.likeness.like.Given as goal
 
 abbrev pub invariant-loop-operator : goal.invariant-loop-operator

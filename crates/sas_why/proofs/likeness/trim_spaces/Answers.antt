@@ -1,5 +1,5 @@
 -- A space less, until none is left.
-use Rattle.std.proofs.Common.{◌≡◌, ◌+◌, ◌-◌, ◌∙◌, take, ap, subst, arith}
+use Rattle.sas_why.proofs.Imports.{◌≡◌, ◌+◌, ◌-◌, ◌∙◌, take, ap, subst, arith}
 use Rattle.sas_why.proofs.Folding.{TrimmedTo, one_less, ends, none_left}
 use Rattle.sas_why.proofs.likeness.trim_spaces.Goals as goal
 use Rattle.sas_why.proofs.likeness.trim_spaces.Goals.{then-loop-end-test+else-name-end-eq32, else-loop-end-test}

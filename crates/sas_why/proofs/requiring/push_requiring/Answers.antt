@@ -1,15 +1,9 @@
 -- Each turn adds an entry, or passes a condition on a basic variable.
-use Rattle.std.proofs.Common.{◌≡◌, ◌<◌, List, length, get_or, true, false, ap, sym, ◌∙◌, arith}
+use Rattle.sas_why.proofs.Imports.{◌≡◌, ◌<◌, List, length, get_or, true, false, ap, sym, ◌∙◌, arith, Fact, rule_at, layer_of}
 use Rattle.std.specs.Option.{is_some}
-use Rattle.sas_core.specs.declared.parts.Fact.{Fact}
-use Rattle.sas_core.specs.Grounded.{rule_at}
-use Rattle.sas_core.specs.Variables.{layer_of}
-use Rattle.sas_why.proofs.RequiringEntries.{adds_none, adds_skip, adds_more, adds_all}
+use Rattle.sas_why.proofs.RequiringEntries.{adds_skip, adds_more, adds_all}
 use Rattle.sas_why.proofs.requiring.push_requiring.Goals as goal
 use Rattle.sas_why.proofs.requiring.push_requiring.Goals.{then-is_some+in_ok-push, else-is_some}
-
-pub loop-condition-init : goal.loop-condition-init
-loop-condition-init g c = adds_none c.args.task.now c.args.rule c.args.entries.now.items
 
 pub loop-condition-preserved : goal.loop-condition-preserved
 loop-condition-preserved g c =

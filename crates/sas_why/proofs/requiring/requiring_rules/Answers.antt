@@ -1,19 +1,11 @@
 -- Each turn adds the entries of a rule.
-use Rattle.std.proofs.Common.{◌≡◌, sym, ap, subst, ◌∙◌, arith}
-use Rattle.std.proofs.lemmas.Result.{IfOk-weaker}
-use Rattle.sas_flat.specs.ByKey.{by_key}
+use Rattle.sas_why.proofs.Imports.{◌≡◌, sym, ap, subst, ◌∙◌, arith, IfOk-weaker, by_key}
 use Rattle.sas_why.specs.Requiring.{IsRequiringIndex}
-use Rattle.sas_why.proofs.RequiringEntries.{requiring_none, requiring_more, requiring_exist, requiring_index}
+use Rattle.sas_why.proofs.RequiringEntries.{requiring_more, requiring_index}
 use Rattle.sas_why.proofs.requiring.requiring_rules.Goals as goal
-
-pub loop-rule-init : goal.loop-rule-init
-loop-rule-init g c = rw c.new-entries.ensures.items (requiring_none c.args.task.now)
 
 pub loop-rule-preserved : goal.loop-rule-preserved
 loop-rule-preserved g c = requiring_more c.args.task.now c.loop-rule.rule c.loop-rule.entries.items c.push_requiring.new.entries.items c.in_ok-push_requiring.ensures c.loop-rule.invariant
-
-pub by_key-requires : goal.by_key-requires
-by_key-requires g c = rw (c.as_slice.ensures.value, c.variables.ensures.count) (requiring_exist c.args.task.now c.loop-rule.rule c.loop-rule.entries.items c.loop-rule.invariant)
 
 pub returns : goal.returns
 returns g c =

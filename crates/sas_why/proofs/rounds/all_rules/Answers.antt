@@ -1,8 +1,5 @@
 -- One more rule.
-use Rattle.std.proofs.Common.{ℕ, ◌∷◌, [], ◌++◌, ◌<◌, length, subst, sym, inl, inr, arith}
-use Rattle.std.specs.List.{Contains}
-use Rattle.std.proofs.lemmas.Bool.{cases_eq}
-use Rattle.std.proofs.lemmas.List.Elements.{All-push, Contains-push, Contains-append_left}
+use Rattle.sas_why.proofs.Imports.{ℕ, ◌∷◌, [], ◌++◌, ◌<◌, length, subst, sym, inl, inr, arith, Contains, cases_eq, All-push, Contains-push, Contains-append_left}
 use Rattle.sas_why.proofs.rounds.all_rules.Goals as goal
 
 pub loop-rule-preserved : goal.loop-rule-preserved

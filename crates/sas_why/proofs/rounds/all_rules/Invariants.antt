@@ -1,6 +1,5 @@
 -- The rules so far.
-use Rattle.std.proofs.Common.{ℕ, ◌<◌, length}
-use Rattle.std.specs.List.{All, Contains}
+use Rattle.sas_why.proofs.Imports.{ℕ, ◌<◌, length, All, Contains}
 use Rattle.sas_why.proofs.rounds.all_rules.Given as goal
 
 abbrev pub invariant-loop-rule : goal.invariant-loop-rule

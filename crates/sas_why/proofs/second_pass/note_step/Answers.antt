@@ -1,7 +1,5 @@
 -- What the step may have changed is looked at, and noted.
-use Rattle.std.proofs.Common.{◌∙◌, length, sym, ap, subst}
-use Rattle.sas_core.specs.declared.parts.Parts.{Parts}
-use Rattle.sas_core.specs.Variables.{IsState}
+use Rattle.sas_why.proofs.Imports.{◌∙◌, length, sym, ap, subst, Parts, IsState}
 use Rattle.sas_why.specs.Noting.{HavePlaces}
 use Rattle.sas_why.proofs.Looking.{covers}
 use Rattle.sas_why.proofs.second_pass.note_step.Goals as goal

@@ -1,7 +1,5 @@
 -- One step more is noted.
-use Rattle.std.proofs.Common.{◌+◌, ◌<◌, ◌∙◌, length, ap, sym, subst, arith}
-use Rattle.sas_core.specs.declared.parts.Parts.{Parts}
-use Rattle.sas_meaning.specs.DerivedVariables.{AreDerived}
+use Rattle.sas_why.proofs.Imports.{◌+◌, ◌<◌, ◌∙◌, length, ap, arith}
 use Rattle.sas_why.proofs.Noted.{places, notes_longer}
 use Rattle.sas_why.proofs.second_pass.note_steps.Goals as goal
 
@@ -9,16 +7,10 @@ pub note_step-requires-clause-left : goal.note_step-requires-clause-left
 note_step-requires-clause-left g c =
     omega (arith, c.loop-before.invariant.made, ap length c.loop-before.invariant.operators, c.loop-before-test.true, ap length c.operators-before-end.ensures)
 
-pub note_step-requires-clause-derived : goal.note_step-requires-clause-derived
-note_step-requires-clause-derived g c = subst (λ (p : Parts). AreDerived p c.args.derived.now) (sym c.loop-before.invariant.task) c.requires.derived
-
 pub note_step-requires-clause-places : goal.note_step-requires-clause-places
 note_step-requires-clause-places g c =
     let w = c.requires.notes in
     places w.0 c.loop-before.execution c.loop-before.notes (c.loop-before.invariant.notes w.0 w.1)
-
-pub note_step-requires-clause-values : goal.note_step-requires-clause-values
-note_step-requires-clause-values g c = (let w = c.requires.notes in (c.loop-before.invariant.notes w.0 w.1).values)
 
 pub loop-before-preserved : goal.loop-before-preserved
 loop-before-preserved g c =

@@ -1,5 +1,5 @@
 -- Before the first step nothing is noted; in the end all steps are.
-use Rattle.std.proofs.Common.{length, refl, sym, ◌∙◌, ap}
+use Rattle.sas_why.proofs.Imports.{length, refl, sym, ◌∙◌, ap}
 use Rattle.sas_why.proofs.Noted.{notes_start, retraced}
 use Rattle.sas_why.proofs.second_pass.retrace.Goals as goal
 

@@ -1,10 +1,5 @@
-use Rattle.std.proofs.Common.{List, ℕ, ◌++◌, ap, subst, ◌∙◌, inl, append-nil}
-use Rattle.sas_core.specs.declared.parts.Parts.{Parts}
-use Rattle.sas_core.specs.PlanParts.{PlanParts}
-use Rattle.sas_run.specs.Plans.{IsValid}
-use Rattle.sas_output.specs.declared.line.Line.{Line}
-use Rattle.sas_output.specs.Ending.{Output}
-use Rattle.sas_output.specs.Line.{reasons_text}
+use Rattle.sas_why.proofs.Imports.{List, ℕ, ◌++◌, ap, subst, ◌∙◌, inl, Parts, PlanParts, IsValid, Line, Output, reasons_text}
+use Rattle.std.proofs.Common.{append-nil}
 use Rattle.sas_why.proofs.writing.explain_plan.Goals as goal
 
 pub returns-in_ok-accept_plan-in-None : goal.returns-in_ok-accept_plan-in-None

@@ -1,7 +1,4 @@
-use Rattle.std.proofs.Common.{List, ℕ, ◌++◌, subst, ap, sym, ◌∙◌}
-use Rattle.sas_core.specs.declared.parts.Parts.{Parts}
-use Rattle.sas_output.specs.Line.{reasons_text}
-use Rattle.sas_output.proofs.Sent.{ends_counting_as}
+use Rattle.sas_why.proofs.Imports.{List, ℕ, ◌++◌, subst, ap, sym, ◌∙◌, Parts, reasons_text, ends_counting_as}
 use Rattle.sas_why.specs.Explained.{IsExplained}
 use Rattle.sas_why.specs.Verdict.{WhyVerdict}
 use Rattle.sas_why.proofs.writing.write_explained.Goals as goal

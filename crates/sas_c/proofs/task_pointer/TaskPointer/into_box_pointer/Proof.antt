@@ -1,5 +1,5 @@
 -- `into_box_pointer`.
-use Rattle.std.proofs.Common.{◌≡◌, List, [], ◌∷◌, ◌++◌, refl, sym, ap, subst, ◌∙◌, true≢false}
+use Rattle.sas_c.proofs.Imports.{◌≡◌, List, [], ◌∷◌, ◌++◌, refl, sym, ap, subst, ◌∙◌, true≢false, Goes-blank, one, proved_at, leaves, Option, Some, IsSome, ghosts, box_owns}
 use mir.Syntax.{Fn}
 use mir.Val.{Val, vptr}
 use base.Logic.{SProp, emp, never, fst∗}
@@ -20,17 +20,11 @@ use denote.Steps.{nothing, heard}
 use denote.Triple.Entry.{alive}
 use denote.Triple.Walked.{Stays, stay_dropped, walk_of, Goes-dropped}
 use mir.Raw.{raw as bare}
-use Rattle.core.proofs.alloc.Calls.{Goes-blank}
-use Rattle.core.proofs.cell.Inside.{one}
-use Rattle.std.proofs.raw_atomic.Walks.{proved_at, leaves}
-use Rattle.std.specs.Prelude.{Option, Some, IsSome}
 use Rattle.std.specs.contracts.alloc.Global as heap
 use Rattle.std.proofs.alloc.Global.TheLaws as heap_laws
-use Rattle.std.specs.contracts.impls.GlobalAllocator.TheImpl.{ghosts}
-use Rattle.std_alloc.specs.Box.Ownership.{box_owns}
 use Rattle.sas_c.specs.contracts.prepared.Prepared as prepared
 use Rattle.sas_c.specs.TaskPointers.{owns_task}
-use Rattle.sas_c.proofs.PointerValues.{both, BoxPointer, pointer_good, pointer_in, one_val, one_told, slot_at, by_option}
+use Rattle.sas_c.proofs.PointerValues.{both, BoxPointer, pointer_good, pointer_in, one_val, one_reported, slot_at, by_option}
 use Rattle.sas_c.specs.contracts.task_pointer.TaskPointer.into_box_pointer.{ended, clauses}
 use Rattle.sas_c.specs.contracts.task_pointer.TaskPointer.into_box_pointer.Key.{name as #self}
 use Rattle.sas_c.proofs.task_pointer.TaskPointer.into_box_pointer.Statement.{statement}
@@ -64,7 +58,7 @@ into_box_pointer_spec 𝓤 𝓛 𝓜 𝓡 wired =
     rewrite ! 1 (λ (ws : List Val). ‵ (Z.own_val alloc ws)) h.1 refl $ keep ! (0 ∷ 1 ∷ 2 ∷ []) $
     let p : Ptr = block_ptr b o in
     let y : (BoxPointer R Z LZ ghosts).Denot = record { at = p; alloc = alloc; value = v } in
-    regoal ! (λ (us : List Val). prop (WpFn 𝓤 H C Λ fn us Post)) (λ i. (one_told x.at vss.0 are.0.0 ∙ ap (λ (q : Ptr). one_val q ∷ []) e) i ++ (h.1 i ++ [])) refl $
+    regoal ! (λ (us : List Val). prop (WpFn 𝓤 H C Λ fn us Post)) (λ i. (one_reported x.at vss.0 are.0.0 ∙ ap (λ (q : Ptr). one_val q ∷ []) e) i ++ (h.1 i ++ [])) refl $
     enter ! C Λ fn (one_val p ∷ h.0 ∷ []) Post $
     alloc_all ! (λ l. pass_all ! refl ((tt, (tt, tt)), (h.2, tt)) $ let En : Env 𝓤 𝓛.H = env fn.locals l in
     sets ! (of_opd ! (get_in ! (fld ! refl (stop !)) (sub ! 0 refl (whole !)))) refl (tt, tt) $

@@ -1,5 +1,5 @@
 -- `none`.
-use Rattle.std.proofs.Common.{◌≡◌, [], ◌∷◌, refl, lit<}
+use Rattle.sas_c.proofs.Imports.{◌≡◌, [], ◌∷◌, refl, lit<, proved_at, leaves, None}
 use mir.Syntax.{Fn}
 use mir.Val.{Val}
 use base.Logic.{SProp, emp}
@@ -16,8 +16,6 @@ use denote.RawPtr.{Ptr, null_ptr}
 use denote.Steps.{nothing}
 use denote.Triple.Entry.{alive}
 use denote.Triple.Walked.{Stays, walk_of}
-use Rattle.std.proofs.raw_atomic.Walks.{proved_at, leaves}
-use Rattle.std.specs.Prelude.{None}
 use Rattle.std.specs.contracts.alloc.Global as heap
 use Rattle.std.proofs.alloc.Global.TheLaws as heap_laws
 use Rattle.sas_c.specs.contracts.prepared.Prepared as prepared

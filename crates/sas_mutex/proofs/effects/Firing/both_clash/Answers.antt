@@ -1,12 +1,6 @@
 -- A condition of the other effect clashes with the known facts, or its conditions clash with each
 -- other.
-use Rattle.std.proofs.Common.{◌<◌, List, length, sym, subst, inl, inr}
-use Rattle.std.specs.List.{All, Contains}
-use Rattle.sas_core.specs.declared.parts.Fact.{Fact}
-use Rattle.sas_core.specs.Grounded.{operator_at, effect_at}
-use Rattle.sas_core.specs.Variables.{FactExists}
-use Rattle.sas_groups.specs.Clashes.{Clash}
-use Rattle.sas_groups.specs.Notes.{AreBlank}
+use Rattle.sas_mutex.proofs.Imports.{◌<◌, List, length, sym, subst, inl, inr, All, Contains, Fact, operator_at, effect_at, FactExists, Clash, AreBlank}
 use Rattle.sas_mutex.specs.Firing.{EffectPlace, operator_of}
 use Rattle.sas_mutex.specs.Effects.{IsKept}
 use Rattle.sas_mutex.proofs.TaskFacts.{conditions_exist}

@@ -1,10 +1,5 @@
 -- What is recorded are the known facts of the effect.
-use Rattle.std.proofs.Common.{List, [], subst, sym}
-use Rattle.std.specs.List.{All}
-use Rattle.sas_core.specs.declared.parts.Fact.{Fact}
-use Rattle.sas_core.specs.Grounded.{operator_at}
-use Rattle.sas_core.specs.Variables.{FactExists}
-use Rattle.sas_groups.specs.Lists.{known}
+use Rattle.sas_mutex.proofs.Imports.{List, [], subst, sym, All, Fact, operator_at, FactExists, known}
 use Rattle.sas_mutex.specs.Firing.{EffectPlace}
 use Rattle.sas_mutex.specs.Marks.{IsClean, IsNotedFrom}
 use Rattle.sas_mutex.specs.ByNotes.{known_at}

@@ -1,5 +1,5 @@
 -- The notes decide whether the fact can remain.
-use Rattle.std.proofs.Common.{◌∙◌, subst, inl, inr}
+use Rattle.sas_mutex.proofs.Imports.{◌∙◌, subst, inl, inr}
 use Rattle.sas_mutex.specs.Firing.{EffectPlace}
 use Rattle.sas_mutex.proofs.FromNotes.{IsFiring, removes_is_removed, removed_is_removes}
 use Rattle.sas_mutex.proofs.effects.Firing.goes.Goals as goal

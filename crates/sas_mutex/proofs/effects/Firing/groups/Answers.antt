@@ -1,7 +1,5 @@
 -- The fact that the effect sets exists, so the index contains all groups with it.
-use Rattle.std.proofs.Common.{ap, ◌∙◌}
-use Rattle.sas_core.specs.declared.parts.Fact.{Fact}
-use Rattle.sas_groups.specs.Index.{groups_of}
+use Rattle.sas_mutex.proofs.Imports.{ap, ◌∙◌, Fact, groups_of}
 use Rattle.sas_mutex.proofs.SetFacts.{groups_setting}
 use Rattle.sas_mutex.proofs.effects.Firing.groups.Goals as goal
 

@@ -1,12 +1,5 @@
 -- The other effect sets a fact of the group on another variable, or doesn't.
-use Rattle.std.proofs.Common.{◌≡◌, sym, ap, subst, ◌∙◌}
-use Rattle.std.specs.List.{Contains}
-use Rattle.sas_core.specs.declared.grounded.Change.{Change}
-use Rattle.sas_core.specs.declared.parts.Fact.{Fact}
-use Rattle.sas_core.specs.Grounded.{operator_at, effect_at}
-use Rattle.sas_groups.specs.Clashes.{sets}
-use Rattle.sas_groups.proofs.Effects.{set_is}
-use Rattle.sas_groups.specs.Index.{HasFact, groups_of}
+use Rattle.sas_mutex.proofs.Imports.{◌≡◌, sym, ap, subst, ◌∙◌, Contains, Change, Fact, operator_at, effect_at, sets, set_is, HasFact, groups_of}
 use Rattle.sas_mutex.proofs.TaskFacts.{effect_fits}
 use Rattle.sas_mutex.proofs.effects.Firing.is_apart.Goals as goal
 

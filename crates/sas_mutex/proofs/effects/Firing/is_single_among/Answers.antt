@@ -1,6 +1,5 @@
 -- One more effect sets no other fact of the group, or doesn't exist.
-use Rattle.std.proofs.Common.{◌≡◌, ◌<◌, length, get_or, below_more, subst, arith}
-use Rattle.std.proofs.lemmas.List.{get_or_default}
+use Rattle.sas_mutex.proofs.Imports.{◌≡◌, ◌<◌, length, get_or, below_more, subst, arith, get_or_default}
 use Rattle.sas_mutex.specs.Firing.{EffectPlace, operator_of}
 use Rattle.sas_mutex.specs.ByNotes.{IsApartAt}
 use Rattle.sas_mutex.proofs.effects.Firing.is_single_among.Goals as goal

@@ -1,5 +1,5 @@
 -- None of the effects so far sets another fact of the group.
-use Rattle.std.proofs.Common.{ℕ, ◌<◌, get_or}
+use Rattle.sas_mutex.proofs.Imports.{ℕ, ◌<◌, get_or}
 use Rattle.sas_mutex.specs.ByNotes.{IsNotedAt, IsApartAt}
 use Rattle.sas_mutex.proofs.effects.Firing.is_single_among.Given as goal
 

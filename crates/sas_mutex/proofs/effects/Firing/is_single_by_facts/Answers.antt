@@ -1,12 +1,6 @@
 -- One more fact, which may be the first on its variable. An effect that sets a fact of the group is
 -- on the variable of one of them.
-use Rattle.std.proofs.Common.{List, sym, subst, ap, inl, inr, get_or, ℕ, arith}
-use Rattle.std.proofs.lemmas.Bool.{cases_eq}
-use Rattle.std.proofs.lemmas.List.{get_or_default}
-use Rattle.sas_core.specs.declared.parts.Fact.{Fact}
-use Rattle.sas_core.specs.Grounded.{effect_at, group_at}
-use Rattle.sas_groups.specs.Clashes.{sets}
-use Rattle.sas_groups.specs.Distinct.{AreDistinct}
+use Rattle.sas_mutex.proofs.Imports.{List, sym, subst, ap, inl, inr, get_or, ℕ, arith, cases_eq, get_or_default, Fact, effect_at, group_at, sets, AreDistinct}
 use Rattle.sas_mutex.specs.Firing.{EffectPlace, operator_of}
 use Rattle.sas_mutex.specs.ByNotes.{IsSingleOn}
 use Rattle.sas_mutex.proofs.effects.Firing.is_single_by_facts.Goals as goal

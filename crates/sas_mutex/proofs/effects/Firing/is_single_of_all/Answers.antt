@@ -1,5 +1,5 @@
 -- One more effect sets no other fact of the group.
-use Rattle.std.proofs.Common.{below_more, rules}
+use Rattle.sas_mutex.proofs.Imports.{below_more, rules}
 use Rattle.sas_mutex.proofs.effects.Firing.is_single_of_all.Goals as goal
 
 pub loop-other-preserved : goal.loop-other-preserved

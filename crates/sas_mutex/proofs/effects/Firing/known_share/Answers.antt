@@ -1,12 +1,5 @@
 -- One more known fact shares no group with the fact, or is the one set apart.
-use Rattle.std.proofs.Common.{◌≢◌, Some, subst}
-use Rattle.std.proofs.lemmas.Bool.{both_ways}
-use Rattle.std.specs.List.{Contains}
-use Rattle.sas_core.specs.declared.parts.Fact.{Fact}
-use Rattle.sas_core.specs.Variables.{FactExists}
-use Rattle.sas_groups.specs.Index.{IsIndexOf}
-use Rattle.sas_groups.specs.Lists.{known_left}
-use Rattle.sas_groups.proofs.Turns.{turn_has, turn_left, turn_more}
+use Rattle.sas_mutex.proofs.Imports.{◌≢◌, Some, subst, both_ways, Contains, Fact, FactExists, IsIndexOf, known_left, turn_has, turn_left, turn_more}
 use Rattle.sas_mutex.specs.Firing.{EffectPlace}
 use Rattle.sas_mutex.specs.ByNotes.{ShareOne, known_at}
 use Rattle.sas_mutex.proofs.TaskFacts.{known_at_exist}

@@ -1,9 +1,6 @@
 -- No group of the family contains the fact and one of the known facts so far, except perhaps the
 -- one set apart.
-use Rattle.std.proofs.Common.{◌≡◌, ◌≢◌, ◌++◌, Some}
-use Rattle.std.specs.List.{All}
-use Rattle.sas_core.specs.declared.parts.Fact.{Fact}
-use Rattle.sas_groups.specs.Lists.{known_left}
+use Rattle.sas_mutex.proofs.Imports.{◌≡◌, ◌≢◌, ◌++◌, Some, All, Fact, known_left}
 use Rattle.sas_mutex.specs.ByNotes.{ShareOne, known_at}
 use Rattle.sas_mutex.proofs.effects.Firing.known_share.Given as goal
 

@@ -1,21 +1,9 @@
 -- One more run can't remain, or a fact of the group is known.
-use Rattle.std.proofs.Common.{◌≡◌, ◌<◌, ℕ, List, [], length, get_or, drop, sym, ap, subst, ◌∙◌, arith, refl}
-use Rattle.std.proofs.lemmas.List.{get_or_default, drop_all}
-use Rattle.sas_core.specs.declared.parts.Fact.{Fact}
-use Rattle.sas_core.specs.Grounded.{operator_at, effect_at, group_at}
-use Rattle.sas_core.specs.Variables.{FactExists}
-use Rattle.sas_groups.specs.Checks.{IsGone}
-use Rattle.sas_groups.specs.Lists.{known}
-use Rattle.sas_core.specs.WellRanged.{WellRanged}
+use Rattle.sas_mutex.proofs.Imports.{◌≡◌, ◌<◌, ℕ, List, [], length, get_or, drop, sym, ap, subst, ◌∙◌, arith, refl, get_or_default, drop_all, Fact, operator_at, effect_at, group_at, FactExists, IsGone, known, WellRanged, One, facts_at, AreDistinct, AreRuns, group_fact_exists, one_note_shows}
 use Rattle.sas_mutex.specs.Firing.{EffectPlace}
 use Rattle.sas_mutex.specs.Effects.{IsKept}
-use Rattle.sas_groups.specs.declared.notes.Noted.TheVariants.{One}
 use Rattle.sas_mutex.specs.ByNotes.{IsUnknown}
-use Rattle.sas_groups.specs.Distinct.{facts_at, AreDistinct}
-use Rattle.sas_groups.specs.Runs.{AreRuns}
-use Rattle.sas_groups.proofs.Entering.{group_fact_exists}
 use Rattle.sas_mutex.proofs.GoneRuns.{SuchBefore, such_none, such_all, next_within, next_on_one, next_too, such_more}
-use Rattle.sas_groups.proofs.NotesOfFacts.{one_note_tells}
 use Rattle.sas_mutex.proofs.KnownFacts.{none_if_not_one}
 use Rattle.sas_mutex.proofs.FromNotes.{known_one_is_all}
 use Rattle.sas_mutex.proofs.effects.Firing.none_stays.Goals as goal
@@ -26,7 +14,7 @@ is_gone-requires-clause-fact g c =
     let o = operator_at p c.args.self.now.operator in
     let e = effect_at o c.args.self.now.effect in
     let place = c.args.group in
-    let of = (one_note_tells p (known o e.conditions []) place c.in-Some.fact c.noted.result
+    let of = (one_note_shows p (known o e.conditions []) place c.in-Some.fact c.noted.result
     (c.noted.ensures c.args.kept.now c.requires.notes) (c.only.ensures.some c.in-Some.fact c.in-Some.is)).0 in
     group_fact_exists p place c.in-Some.fact (subst (λ (s : EffectPlace). WellRanged s.task) c.self.view_is c.self.invariant.0) c.requires.group.exists of.has.among
 
@@ -36,7 +24,7 @@ returns-in-Some-clause-yes g c =
     let o = operator_at p c.args.self.now.operator in
     let e = effect_at o c.args.self.now.effect in
     let place = c.args.group in
-    let of = (one_note_tells p (known o e.conditions []) place c.in-Some.fact c.noted.result
+    let of = (one_note_shows p (known o e.conditions []) place c.in-Some.fact c.noted.result
     (c.noted.ensures c.args.kept.now c.requires.notes) (c.only.ensures.some c.in-Some.fact c.in-Some.is)).0 in
     λ t. known_one_is_all p c.args.kept.now o place e c.in-Some.fact c.requires.group of.among of.has.among (c.is_gone.ensures.yes t)
 

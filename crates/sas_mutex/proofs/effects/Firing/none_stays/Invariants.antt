@@ -1,7 +1,5 @@
 -- The facts so far can't remain.
-use Rattle.std.proofs.Common.{drop}
-use Rattle.sas_core.specs.Grounded.{operator_at, effect_at, group_at}
-use Rattle.sas_groups.specs.Checks.{IsGone}
+use Rattle.sas_mutex.proofs.Imports.{drop, operator_at, effect_at, group_at, IsGone}
 use Rattle.sas_mutex.specs.Effects.{IsKept}
 use Rattle.sas_mutex.proofs.GoneRuns.{SuchBefore}
 use Rattle.sas_mutex.proofs.effects.Firing.none_stays.Given as goal

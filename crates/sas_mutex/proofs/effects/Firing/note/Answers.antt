@@ -1,11 +1,5 @@
 -- The known facts of the effect are recorded.
-use Rattle.std.proofs.Common.{List, [], length, ap, subst, sym, ◌∙◌}
-use Rattle.std.specs.List.{All}
-use Rattle.sas_core.specs.declared.parts.Fact.{Fact}
-use Rattle.sas_core.specs.Grounded.{operator_at}
-use Rattle.sas_core.specs.Variables.{FactExists}
-use Rattle.sas_groups.specs.Clashes.{Clash}
-use Rattle.sas_groups.specs.Lists.{known}
+use Rattle.sas_mutex.proofs.Imports.{List, [], length, ap, subst, sym, ◌∙◌, All, Fact, operator_at, FactExists, Clash, known}
 use Rattle.sas_mutex.specs.Effects.{IsKept}
 use Rattle.sas_mutex.specs.Firing.{EffectPlace}
 use Rattle.sas_mutex.specs.Marks.{IsClean, IsNoted, IsNotedFrom}

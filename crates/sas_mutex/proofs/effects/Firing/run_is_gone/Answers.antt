@@ -1,10 +1,6 @@
 -- The first fact decides for the whole run, or one more fact can't remain.
-use Rattle.std.proofs.Common.{◌<◌, get_or, sym, subst, arith}
-use Rattle.sas_core.specs.Grounded.{operator_at, effect_at}
-use Rattle.sas_groups.specs.Checks.{IsGone}
-use Rattle.sas_core.proofs.Places.{each_more}
+use Rattle.sas_mutex.proofs.Imports.{◌<◌, get_or, sym, subst, arith, operator_at, effect_at, IsGone, each_more, variable_below}
 use Rattle.sas_mutex.specs.Firing.{EffectPlace}
-use Rattle.sas_groups.proofs.Existing.{variable_below}
 use Rattle.sas_mutex.specs.Effects.{IsKept}
 use Rattle.sas_mutex.proofs.FromNotes.{IsFiring}
 use Rattle.sas_mutex.proofs.GoneRuns.{settled_are_gone}

@@ -1,8 +1,5 @@
 -- The facts so far can't remain.
-use Rattle.std.proofs.Common.{ℕ, ◌<◌, get_or}
-use Rattle.sas_core.specs.declared.parts.Fact.{Fact}
-use Rattle.sas_core.specs.Grounded.{operator_at, effect_at}
-use Rattle.sas_groups.specs.Checks.{IsGone}
+use Rattle.sas_mutex.proofs.Imports.{ℕ, ◌<◌, get_or, Fact, operator_at, effect_at, IsGone}
 use Rattle.sas_mutex.specs.Effects.{IsKept}
 use Rattle.sas_mutex.proofs.effects.Firing.run_is_gone.Given as goal
 

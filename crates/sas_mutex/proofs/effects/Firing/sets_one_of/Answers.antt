@@ -1,8 +1,5 @@
 -- The index contains all groups with the fact that the effect sets.
-use Rattle.std.proofs.Common.{◌≡◌, ℕ, true, false, sym, ◌∙◌, arith}
-use Rattle.std.specs.Prelude.{IsFalse}
-use Rattle.std.proofs.lemmas.List.Elements.{Contains-get_or, All-contains}
-use Rattle.sas_groups.specs.Kept.{family_of}
+use Rattle.sas_mutex.proofs.Imports.{◌≡◌, ℕ, true, false, sym, ◌∙◌, arith, IsFalse, Contains-get_or, All-contains, family_of}
 use Rattle.sas_mutex.proofs.effects.Firing.sets_one_of.Goals as goal
 
 pub some_kept-requires : goal.some_kept-requires

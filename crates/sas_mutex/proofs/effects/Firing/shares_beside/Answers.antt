@@ -1,10 +1,6 @@
 -- A known fact other than the one set apart is recorded for each group that contains it.
-use Rattle.std.proofs.Common.{ℕ, List, length, sym, subst, ◌∙◌, ap}
+use Rattle.sas_mutex.proofs.Imports.{ℕ, List, length, sym, subst, ◌∙◌, ap, groups_of, Noted, AreBelow, HasNotedGroup, groups_below}
 use Rattle.sas_mutex.specs.Firing.{EffectPlace}
-use Rattle.sas_groups.specs.Index.{groups_of}
-use Rattle.sas_groups.specs.declared.notes.Noted.{Noted}
-use Rattle.sas_groups.specs.Noting.{AreBelow, HasNotedGroup}
-use Rattle.sas_groups.proofs.Existing.{groups_below}
 use Rattle.sas_mutex.proofs.FromNotes.{IsFiring, noted_beside, beside_noted}
 use Rattle.sas_mutex.proofs.effects.Firing.shares_beside.Goals as goal
 

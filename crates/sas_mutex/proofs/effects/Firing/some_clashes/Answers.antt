@@ -1,7 +1,5 @@
 -- One more fact doesn't clash.
-use Rattle.std.proofs.Common.{sym, subst, arith}
-use Rattle.sas_core.specs.declared.parts.Fact.{Fact}
-use Rattle.sas_core.proofs.Places.{each_more}
+use Rattle.sas_mutex.proofs.Imports.{sym, subst, arith, Fact, each_more}
 use Rattle.sas_mutex.specs.ByNotes.{ClashesAt}
 use Rattle.sas_mutex.proofs.effects.Firing.some_clashes.Goals as goal
 

@@ -1,7 +1,5 @@
 -- Each group of the basis is one of the supports, and all of these are in the family.
-use Rattle.std.proofs.Common.{◌≡◌, ℕ, true, List, get_or, length, ap, subst, arith}
-use Rattle.sas_core.proofs.Places.{each_more}
-use Rattle.sas_groups.specs.Kept.{family_of}
+use Rattle.sas_mutex.proofs.Imports.{◌≡◌, ℕ, true, List, get_or, length, ap, subst, arith, each_more, family_of}
 use Rattle.sas_mutex.proofs.SetFacts.{at_item}
 use Rattle.sas_mutex.proofs.family.Family.has_basis.Goals as goal
 

@@ -1,6 +1,5 @@
 -- The groups so far are in the family.
-use Rattle.std.proofs.Common.{◌≡◌, ℕ, ◌<◌, true, get_or}
-use Rattle.sas_groups.specs.Kept.{family_of}
+use Rattle.sas_mutex.proofs.Imports.{◌≡◌, ℕ, ◌<◌, true, get_or, family_of}
 use Rattle.sas_mutex.proofs.family.Family.has_basis.Given as goal
 
 abbrev pub invariant-loop-support : goal.invariant-loop-support

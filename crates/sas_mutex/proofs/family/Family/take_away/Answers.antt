@@ -1,5 +1,5 @@
 -- There is room for one more removed group, since the family has one less.
-use Rattle.std.proofs.Common.{arith, rules}
+use Rattle.sas_mutex.proofs.Imports.{arith, rules}
 use Rattle.sas_mutex.proofs.Counting.{count_fell}
 use Rattle.sas_mutex.proofs.family.Family.take_away.Goals as goal
 

@@ -1,6 +1,5 @@
 -- One more group is watched.
-use Rattle.std.proofs.Common.{◌≡◌, ℕ, ◌+◌, ◌<◌, ◌++◌, ◌∷◌, [], List, None, length, get_or, subst, sym, refl, arith}
-use Rattle.sas_core.proofs.Places.{each_more}
+use Rattle.sas_mutex.proofs.Imports.{◌≡◌, ℕ, ◌+◌, ◌<◌, ◌++◌, ◌∷◌, [], List, None, length, get_or, subst, sym, refl, arith, each_more}
 use Rattle.sas_mutex.specs.declared.watches.Watch.{Watch}
 use Rattle.sas_mutex.specs.Watching.{HasWatchFrom}
 use Rattle.sas_mutex.proofs.WatchChains.{watches_one_more, has_still, has_now, grown}

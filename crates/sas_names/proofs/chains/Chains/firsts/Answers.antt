@@ -1,7 +1,5 @@
 -- One more operator is found, or the list ends.
-use Rattle.std.proofs.Common.{◌≡◌, ℕ, ◌<◌, List, [], ◌∷◌, ◌++◌, length, get_or, Option, None, Some, sym, ap, ◌∙◌, inl, inr, arith}
-use Rattle.std.proofs.lemmas.Bool.{cases_lt}
-use Rattle.std.proofs.lemmas.List.{get_or_append_left, get_or_push, get_or_read, length-append}
+use Rattle.sas_names.proofs.Imports.{◌≡◌, ℕ, ◌<◌, List, [], ◌∷◌, ◌++◌, length, get_or, Option, None, Some, sym, ap, ◌∙◌, inl, inr, arith, cases_lt, get_or_append_left, get_or_push, get_or_read, length-append}
 use Rattle.sas_names.proofs.chains.Chains.firsts.Goals as goal
 
 -- the operators found for each number, with one more

@@ -1,6 +1,5 @@
 -- The operators of all numbers so far are found.
-use Rattle.std.proofs.Common.{◌≡◌, ℕ, ◌<◌, ◌≤◌, length, get_or, None, Some}
-use Rattle.std.specs.Prelude.{vec_capacity}
+use Rattle.sas_names.proofs.Imports.{◌≡◌, ℕ, ◌<◌, ◌≤◌, length, get_or, None, Some, vec_capacity}
 use Rattle.sas_names.proofs.chains.Chains.firsts.Given as goal
 
 abbrev pub invariant-loop-number : goal.invariant-loop-number

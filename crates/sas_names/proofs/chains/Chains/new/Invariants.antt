@@ -1,5 +1,5 @@
 -- All operators from this one on are stored.
-use Rattle.std.proofs.Common.{◌≡◌, ◌≤◌, length}
+use Rattle.sas_names.proofs.Imports.{◌≡◌, ◌≤◌, length}
 use Rattle.sas_names.specs.NameTable.{value_of}
 use Rattle.sas_names.specs.StepNames.{step_names}
 use Rattle.sas_names.proofs.ChainsFrom.{AreChainsFrom}

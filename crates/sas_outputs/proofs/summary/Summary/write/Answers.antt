@@ -1,9 +1,4 @@
-use Rattle.std.proofs.Common.{◌≡◌, ℕ, List, rules, ap, subst, ◌∙◌, Option, Some}
-use Rattle.std.specs.Io.KnownBytes.{Appends}
-use Rattle.sas_lines.specs.Lines.{text}
-use Rattle.sas_flat.specs.declared.outline.Outline.{Outline}
-use Rattle.sas_output.specs.declared.ending.Status.TheVariants.{Yes}
-use Rattle.sas_output.specs.Ending.{Output, EndsCounting}
+use Rattle.sas_outputs.proofs.Imports.{◌≡◌, ℕ, List, rules, ap, subst, ◌∙◌, Option, Some, Appends, text, Outline, Yes, Output, EndsCounting}
 use Rattle.sas_outputs.specs.Summary.{summary_lines}
 use Rattle.sas_outputs.proofs.Summaries.{summary_is}
 use Rattle.sas_outputs.proofs.summary.Summary.write.Goals as goal

@@ -1,4 +1,4 @@
-use Rattle.std.proofs.lemmas.Result.{on_ok_weaker}
+use Rattle.sas_plan_file.proofs.Imports.{on_ok_weaker}
 use Rattle.sas_plan_file.proofs.PlanSteps.{step_led, cost_led}
 use Rattle.sas_plan_file.proofs.plan_machine.PlanMachineMachine.accept.Goals as goal
 

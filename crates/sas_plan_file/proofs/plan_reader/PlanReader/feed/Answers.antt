@@ -3,7 +3,7 @@ use Rattle.sas_plan_file.specs.PlanMachine.{plan_node, plan_start, HasCostLine, 
 use Rattle.sas_plan_file.specs.PlanReader.{plan_led, plan_rejects}
 use Rattle.sas_plan_file.proofs.PlanGrammar.{plan_grammar}
 use Rattle.sas_plan_file.proofs.PlanStanding.{plan_follows}
-use Rattle.sas_reader.proofs.Reading.{feeds}
+use Rattle.sas_plan_file.proofs.Imports.{feeds}
 use Rattle.sas_plan_file.proofs.plan_reader.PlanReader.feed.Goals as goal
 
 pub returns : goal.returns

@@ -1,7 +1,4 @@
-use Rattle.std.proofs.Common.{sym, ap, subst, Err}
-use Rattle.sas_reader.specs.declared.fault.Fault.{Fault}
-use Rattle.sas_reader.specs.Reading.{Finishes}
-use Rattle.sas_reader.proofs.Reading.{end_fault}
+use Rattle.sas_plan_file.proofs.Imports.{sym, ap, subst, Err, Fault, Finishes, end_fault}
 use Rattle.sas_plan_file.specs.PlanFormat.{plan_format, PlanLineFits}
 use Rattle.sas_plan_file.specs.PlanMachine.{plan_node, plan_start, HasCostLine, plan_stays}
 use Rattle.sas_plan_file.specs.PlanReader.{plan_led, plan_rejects, plan_view}

@@ -1,4 +1,4 @@
-use Rattle.std.proofs.Common.{[], refl}
+use Rattle.sas_plan_file.proofs.Imports.{[], refl}
 use Rattle.sas_plan_file.specs.PlanMachine.{plan_start}
 use Rattle.sas_plan_file.proofs.plan_text.PlanText.new.Goals as goal
 

@@ -1,5 +1,4 @@
-use Rattle.std.proofs.Common.{◌∙◌, sym}
-use Rattle.std.proofs.lemmas.Bool.{false_from_ne_true}
+use Rattle.sas_plan_file.proofs.Imports.{◌∙◌, sym, false_from_ne_true}
 use Rattle.sas_plan_file.proofs.PlanKeeping.{keeps_step, keeps_cost}
 use Rattle.sas_plan_file.proofs.plan_text.PlanTextMachine.accept.Goals as goal
 use Rattle.sas_plan_file.proofs.plan_text.PlanTextMachine.accept.Goals.{in-Cost, in_default}

@@ -1,4 +1,4 @@
-use Rattle.std.proofs.Common.{◌∙◌, ap, ◌∷◌, [], ◌++◌, refl}
+use Rattle.sas_plan_file.proofs.Imports.{◌∙◌, ap, ◌∷◌, [], ◌++◌, refl}
 use Rattle.sas_plan_file.specs.PlanText.{KeepsLines}
 use Rattle.sas_plan_file.proofs.PlanAhead.{accepts_step, step_ahead_taken, bytes_of_line}
 use Rattle.sas_plan_file.proofs.PlanKeeping.{keeps_step}

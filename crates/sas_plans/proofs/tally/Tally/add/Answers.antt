@@ -1,4 +1,4 @@
-use Rattle.std.proofs.Common.{refl, ◌∙◌}
+use Rattle.sas_plans.proofs.Imports.{refl, ◌∙◌}
 use Rattle.sas_plans.proofs.Tallying.{tally_invalid, tally_better, tally_no_better}
 use Rattle.sas_plans.proofs.tally.Tally.add.Goals as goal
 

@@ -1,6 +1,4 @@
-use Rattle.std.proofs.Common.{ap, ◌∙◌, take, ℕ, length}
-use Rattle.std.proofs.lemmas.List.{take_min}
-use Rattle.std.proofs.Math.Nat.{min_comm}
+use Rattle.sas_reader.proofs.Imports.{ap, ◌∙◌, take, ℕ, length, take_min, min_comm}
 use Rattle.sas_reader.proofs.Keeping.{kept}
 use Rattle.sas_reader.proofs.found.Found.of.Goals as goal
 

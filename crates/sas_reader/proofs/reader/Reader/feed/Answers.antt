@@ -1,6 +1,4 @@
-use Rattle.std.proofs.Common.{ℕ, ◌+◌, ◌≡◌, List, ◌++◌, refl, sym, ap, subst, ◌∙◌, arith}
-use Rattle.std.proofs.lemmas.List.{take_all}
-use Rattle.std.specs.Prelude.{Some, None}
+use Rattle.sas_reader.proofs.Imports.{ℕ, ◌+◌, ◌≡◌, List, ◌++◌, refl, sym, ap, subst, ◌∙◌, arith, take_all, Some, None}
 use Rattle.sas_reader.specs.declared.fault.Fault.{Fault}
 use Rattle.sas_reader.specs.Faults.{answer}
 use Rattle.sas_reader.specs.Reader.{Accepted, FaultIn}

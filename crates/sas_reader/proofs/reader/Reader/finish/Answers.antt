@@ -1,5 +1,4 @@
-use Rattle.std.proofs.Common.{arith, sym, ◌≡◌, ◌∙◌}
-use Rattle.std.specs.Prelude.{Some, None}
+use Rattle.sas_reader.proofs.Imports.{arith, sym, ◌≡◌, ◌∙◌, Some, None}
 use Rattle.sas_reader.specs.declared.fault.Fault.{Fault}
 use Rattle.sas_reader.proofs.Standing.{accepted_of}
 use Rattle.sas_reader.proofs.Ending.{refused_at_end}

@@ -1,5 +1,4 @@
-use Rattle.std.proofs.Common.{◌≡◌, ◌+◌, ℕ, ap, rules, length, sym, subst, Err, Ok, ◌∙◌, refl, arith, length-drop}
-use Rattle.sas_lines.specs.Progress.{Progress}
+use Rattle.sas_reader.proofs.Imports.{◌≡◌, ◌+◌, ℕ, ap, rules, length, sym, subst, Err, Ok, ◌∙◌, refl, arith, length-drop, Progress}
 use Rattle.sas_reader.specs.Reader.{TookFront}
 use Rattle.sas_reader.proofs.Advancing.{advances_no_more, took_none, took_behind, stopped_behind, advances_wider, within_fits, rest_is}
 use Rattle.sas_reader.proofs.Tested.{nil_when}
@@ -33,9 +32,6 @@ take_ahead-requires-clause-some g c =
     let within = c.within_limit-within.result.now in
     omega (arith, ap length (rest_is c.loop-at.at within), length-drop c.loop-at.at within)
 
-pub take_ahead-requires-clause-whole : goal.take_ahead-requires-clause-whole
-take_ahead-requires-clause-whole g c = c.loop-at.invariant.whole
-
 pub returns-then-taken-eq0 : goal.returns-then-taken-eq0
 returns-then-taken-eq0 g c =
     let v = c.loop-at.invariant in
@@ -59,9 +55,6 @@ returns g c =
       fault = v.fault;
       limit = v.limit;
     })
-
-pub loop-at-smaller : goal.loop-at-smaller
-loop-at-smaller g c = omega (arith, c.if-taken-eq0.false, c.loop-at-test.true)
 
 pub overflow_add-at : goal.overflow_add-at
 overflow_add-at g c =

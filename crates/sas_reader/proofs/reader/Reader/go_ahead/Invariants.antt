@@ -1,4 +1,4 @@
-use Rattle.std.proofs.Common.{length, ◌-◌, ◌≡◌, ◌≤◌, ◌+◌, []}
+use Rattle.sas_reader.proofs.Imports.{length, ◌-◌, ◌≡◌, ◌≤◌, ◌+◌, []}
 use Rattle.sas_reader.specs.Reader.{TookFront}
 use Rattle.sas_reader.proofs.reader.Reader.go_ahead.Given as goal
 

@@ -1,8 +1,8 @@
-use Rattle.std.proofs.Common.{◌∙◌, ◌<◌, sym, subst, ℕ, List, refl, arith}
+use Rattle.sas_reader.proofs.Imports.{◌∙◌, sym, subst, ℕ, List, refl, arith}
 use Rattle.sas_reader.specs.Found.{IsFoundOf}
 use Rattle.sas_reader.proofs.Advancing.{accepted_part, accepted_line, stopped_at, takes_some}
 use Rattle.sas_reader.proofs.Pieces.{takes_bound}
-use Rattle.sas_reader.proofs.Tested.{err_only, advances_refused}
+use Rattle.sas_reader.proofs.Tested.{advances_refused}
 use Rattle.sas_reader.proofs.reader.Reader.go_on.Goals as goal
 
 pub returns-then-not-fed-clause-advances : goal.returns-then-not-fed-clause-advances
@@ -47,22 +47,10 @@ returns-in-Ok-clause-advances g c =
       limit = refl;
     }
 
-pub invariant_of-self : goal.invariant_of-self
-invariant_of-self g c = let r = c.args.self.now in record { within = r.within; small = r.small; few = r.few }
-
-pub invariant_of-self-in-Err : goal.invariant_of-self-in-Err
-invariant_of-self-in-Err g c = let r = c.args.self.now in record { within = r.within; small = r.small; few = r.few }
-
-pub accept-requires : goal.accept-requires
-accept-requires g c = c.requires.going
-
 pub returns-in_err-fed-clause-advances : goal.returns-in_err-fed-clause-advances
 returns-in_err-fed-clause-advances g c =
     let r = c.args.self.now in
     advances_refused g.M.Machine.led_by g.M.Machine.ended g.M.Machine.rejects g.M.Machine.stopped r _ c.args.piece.now c.from_residual.result c.from_residual.ensures.0 c.from_residual.ensures.1 c.requires.some c.requires.going (omega (arith, c.requires.some, c.requires.room)) refl refl
-
-pub returns-in_err-fed-clause-some : goal.returns-in_err-fed-clause-some
-returns-in_err-fed-clause-some g c = err_only (λ (n : ℕ). 0 < n) c.from_residual.result c.from_residual.ensures.0
 
 pub overflow_add-self : goal.overflow_add-self
 overflow_add-self g c =
@@ -79,12 +67,6 @@ invariant_of-self-then-not-fed g c =
       few = omega (arith, r.few);
     }
 
-pub returns-then-not-fed-clause-some : goal.returns-then-not-fed-clause-some
-returns-then-not-fed-clause-some g c = takes_some c.args.piece.now c.in_ok-fed.fed.taken c.in_ok-fed.fed.complete c.in_ok-fed.ensures.taken c.requires.some
-
-pub overflow_add-self-in-Ok : goal.overflow_add-self-in-Ok
-overflow_add-self-in-Ok g c = let r = c.args.self.now in omega (arith, r.few, r.within, r.small)
-
 pub overflow_add-self-in-Ok-2 : goal.overflow_add-self-in-Ok-2
 overflow_add-self-in-Ok-2 g c =
     let bound = takes_bound c.args.piece.now c.in_ok-fed.fed.taken c.in_ok-fed.fed.complete c.in_ok-fed.ensures.taken in
@@ -100,9 +82,3 @@ invariant_of-self-in-Ok g c =
       small = r.small;
       few = omega (arith, r.few, some);
     }
-
-pub returns-in-Ok-clause-some : goal.returns-in-Ok-clause-some
-returns-in-Ok-clause-some g c = takes_some c.args.piece.now c.in_ok-fed.fed.taken c.in_ok-fed.fed.complete c.in_ok-fed.ensures.taken c.requires.some
-
-pub returns-in-Err-clause-some : goal.returns-in-Err-clause-some
-returns-in-Err-clause-some g c = tt

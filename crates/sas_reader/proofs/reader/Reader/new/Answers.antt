@@ -1,5 +1,4 @@
-use Rattle.std.proofs.Common.{[], refl, sym, ap, ◌∙◌, length}
-use Rattle.sas_lines.proofs.Splitting.{lines-none, unfinished-none}
+use Rattle.sas_reader.proofs.Imports.{[], refl, sym, ap, ◌∙◌, length, lines-none, unfinished-none}
 use Rattle.sas_reader.proofs.Standing.{stands_accepted}
 use Rattle.sas_reader.proofs.Pieces.{reached_start}
 use Rattle.sas_reader.proofs.reader.Reader.new.Goals as goal

@@ -1,4 +1,4 @@
-use Rattle.std.proofs.Common.{◌≡◌, rules, Err, ◌∙◌}
+use Rattle.sas_reader.proofs.Imports.{◌≡◌, rules, Err, ◌∙◌}
 use Rattle.sas_reader.proofs.Advancing.{advances_no_more, took_behind, stopped_behind}
 use Rattle.sas_reader.proofs.reader.Reader.run.Goals as goal
 

@@ -1,5 +1,4 @@
-use Rattle.std.proofs.Common.{◌≡◌, ◌+◌, ◌-◌, ◌≤◌, ℕ, List, length, take, refl, ap, subst, sym, ◌∙◌, Ok, Err, arith}
-use Rattle.std.proofs.lemmas.List.{length-take, length-take-le}
+use Rattle.sas_reader.proofs.Imports.{◌≡◌, ◌+◌, ◌-◌, ◌≤◌, ℕ, List, length, take, refl, ap, subst, sym, ◌∙◌, Ok, Err, arith, length-take, length-take-le}
 use Rattle.sas_reader.specs.Reader.{TookFront, Stopped}
 use Rattle.sas_reader.specs.Returns.{without_returns}
 use Rattle.sas_reader.proofs.Advancing.{took_none, advances_wider, within_fits}
@@ -21,10 +20,10 @@ returns-in-Err g c =
     let copy = c.in-Some.ensures in
     let is : take c.in-Some.kept c.deref.result.now ≡ without_returns bytes = ap (take c.in-Some.kept) c.deref.ensures.value ∙ copy.front in
     let k = c.in-Err.kind in
-    let told = c.as_it_stood-self.ensures in
+    let reported = c.as_it_stood-self.ensures in
     advances_wider g.M.Machine.led_by g.M.Machine.ended g.M.Machine.rejects g.M.Machine.stopped old _ c.args.piece.now bytes front.0 (Err k) front.1 (record {
       took = tt;
-      stopped = stopped_plain g.M.Machine.led_by g.M.Machine.ended g.M.Machine.rejects g.M.Machine.stopped old _ bytes nothing (each_ends bytes copy.ends) mid k c.saturating_sub.result room (subst (λ x. Stopped g.M.Machine.led_by g.M.Machine.ended g.M.Machine.rejects g.M.Machine.stopped old mid x k) is step.stopped) refl refl c.saturating_sub.ensures told.byte told.same;
+      stopped = stopped_plain g.M.Machine.led_by g.M.Machine.ended g.M.Machine.rejects g.M.Machine.stopped old _ bytes nothing (each_ends bytes copy.ends) mid k c.saturating_sub.result room (subst (λ x. Stopped g.M.Machine.led_by g.M.Machine.ended g.M.Machine.rejects g.M.Machine.stopped old mid x k) is step.stopped) refl refl c.saturating_sub.ensures reported.byte reported.same;
       fault = step.fault;
       limit = step.limit;
     })
@@ -107,6 +106,3 @@ invariant_of-self g c =
       small = new.small;
       few = omega (arith, new.few);
     }
-
-pub invariant_of-self-in-Err : goal.invariant_of-self-in-Err
-invariant_of-self-in-Err g c = let r = c.run.new.self in record { within = r.within; small = r.small; few = r.few }

@@ -1,4 +1,4 @@
-use Rattle.std.proofs.Common.{refl}
+use Rattle.sas_reader.proofs.Imports.{refl}
 use Rattle.sas_reader.proofs.FeedingPlain.{advances_alike}
 use Rattle.sas_reader.proofs.reader.Reader.run_with_lf_alone.Goals as goal
 

@@ -1,5 +1,4 @@
-use Rattle.std.proofs.Common.{◌+◌, refl, ap, sym, arith}
-use Rattle.std.proofs.lemmas.Bool.{false≢true}
+use Rattle.sas_reader.proofs.Imports.{◌+◌, refl, ap, sym, arith, false≢true}
 use Rattle.sas_reader.proofs.Advancing.{took_none, took_lines, front_few}
 use Rattle.sas_reader.proofs.Tested.{memory_is, advances_refused, took_nothing}
 use Rattle.sas_reader.proofs.reader.Reader.take_ahead.Goals as goal
@@ -43,15 +42,6 @@ returns-then-has_ended-clause-advances g c = record {
   fault = refl;
   limit = refl;
 }
-
-pub accept_ahead-requires : goal.accept_ahead-requires
-accept_ahead-requires g c = λ d. false≢true (c.if-has_ended.ensures.1 d)
-
-pub invariant_of-self : goal.invariant_of-self
-invariant_of-self g c = let r = c.args.self.now in record { within = r.within; small = r.small; few = r.few }
-
-pub invariant_of-self-then-front-eq0 : goal.invariant_of-self-then-front-eq0
-invariant_of-self-then-front-eq0 g c = let r = c.args.self.now in record { within = r.within; small = r.small; few = r.few }
 
 pub returns-in_err-front-clause-advances : goal.returns-in_err-front-clause-advances
 returns-in_err-front-clause-advances g c =

@@ -1,5 +1,4 @@
-use Rattle.std.proofs.Common.{◌≤◌, ◌+◌, ◌∙◌, true, length, refl, ap, sym, arith}
-use Rattle.std.proofs.lemmas.Bool.{false≢true}
+use Rattle.sas_reader.proofs.Imports.{◌≤◌, ◌+◌, ◌∙◌, true, length, refl, ap, sym, arith, false≢true}
 use Rattle.sas_reader.proofs.Advancing.{takes_some, took_whole, stopped_whole, stopped_full, stopped_over, advances_wider, within_fits, within_none}
 use Rattle.sas_reader.proofs.Pieces.{takes_bound}
 use Rattle.sas_reader.proofs.Tested.{nil_when, some_when}
@@ -58,48 +57,6 @@ returns-in-Ok-clause-advances g c =
       limit = refl;
     })
 
-pub invariant_of-self : goal.invariant_of-self
-invariant_of-self g c = let r = c.args.self.now in record { within = r.within; small = r.small; few = r.few }
-
-pub invariant_of-self-in-Err : goal.invariant_of-self-in-Err
-invariant_of-self-in-Err g c = let r = c.args.self.now in record { within = r.within; small = r.small; few = r.few }
-
-pub returns-then-is_empty-clause-some : goal.returns-then-is_empty-clause-some
-returns-then-is_empty-clause-some g c = tt
-
-pub returns-then-has_ended-clause-some : goal.returns-then-has_ended-clause-some
-returns-then-has_ended-clause-some g c = tt
-
-pub go_on-requires-clause-some : goal.go_on-requires-clause-some
-go_on-requires-clause-some g c = some_when _ _ c.is_empty.ensures c.if-is_empty.false
-
-pub go_on-requires-clause-room : goal.go_on-requires-clause-room
-go_on-requires-clause-room g c = within_fits _ _ c.args.piece.now _ c.within_limit-within.ensures c.args.self.now.within
-
-pub go_on-requires-clause-going : goal.go_on-requires-clause-going
-go_on-requires-clause-going g c = λ d. false≢true (c.if-has_ended.ensures.1 d)
-
-pub returns-then-not-is_empty-clause-some : goal.returns-then-not-is_empty-clause-some
-returns-then-not-is_empty-clause-some g c = c.go_on.ensures.some
-
-pub go_on-requires-in_default-clause-some : goal.go_on-requires-in_default-clause-some
-go_on-requires-in_default-clause-some g c = some_when _ _ c.is_empty.ensures c.if-is_empty.false
-
-pub go_on-requires-in_default-clause-room : goal.go_on-requires-in_default-clause-room
-go_on-requires-in_default-clause-room g c = within_fits _ _ c.args.piece.now _ c.within_limit-within.ensures c.args.self.now.within
-
-pub go_on-requires-in_default-clause-going : goal.go_on-requires-in_default-clause-going
-go_on-requires-in_default-clause-going g c = λ d. false≢true (c.if-has_ended.ensures.1 d)
-
-pub returns-in_default-clause-some : goal.returns-in_default-clause-some
-returns-in_default-clause-some g c = c.go_on-in_default.ensures.some
-
-pub accept-requires : goal.accept-requires
-accept-requires g c = λ d. false≢true (c.if-has_ended.ensures.1 d)
-
-pub overflow_add-self : goal.overflow_add-self
-overflow_add-self g c = let r = c.args.self.now in omega (arith, r.few, r.within, r.small)
-
 pub overflow_add-self-in-Ok : goal.overflow_add-self-in-Ok
 overflow_add-self-in-Ok g c =
     let r = c.args.self.now in
@@ -118,9 +75,3 @@ invariant_of-self-in-Ok g c =
       small = r.small;
       few = omega (arith, r.few, some);
     }
-
-pub returns-in-Ok-clause-some : goal.returns-in-Ok-clause-some
-returns-in-Ok-clause-some g c = takes_some c.within_limit-within.result.now c.in-Some.first.taken true c.in-Some.ensures.some.taken (some_when _ _ c.is_empty.ensures c.if-is_empty.false)
-
-pub returns-in-Err-clause-some : goal.returns-in-Err-clause-some
-returns-in-Err-clause-some g c = tt

@@ -1,6 +1,6 @@
-use Rattle.std.proofs.Common.{◌≡◌, ◌+◌, ◌∙◌, ℕ, length, ap, arith, length-drop}
+use Rattle.sas_reader.proofs.Imports.{◌+◌, ◌∙◌, length, ap, arith, length-drop}
 use Rattle.sas_reader.proofs.Advancing.{advances_no_more, took_behind, stopped_behind, rest_is}
-use Rattle.sas_reader.proofs.Tested.{err_only, err_is}
+use Rattle.sas_reader.proofs.Tested.{err_is}
 use Rattle.sas_reader.proofs.reader.Reader.take_piece.Goals as goal
 
 pub returns-in_err-at-clause-advances : goal.returns-in_err-at-clause-advances
@@ -47,15 +47,6 @@ returns-in_err-begun-clause-advances g c =
     let same = err_is c.from_residual.result c.in_err-begun.field-0.0 c.from_residual.ensures.0 c.from_residual.ensures.1 in
     advances_no_more g.M.Machine.led_by g.M.Machine.ended g.M.Machine.rejects g.M.Machine.stopped c.args.self.now _ c.args.piece.now _ _ same c.in_err-begun.ensures
 
-pub returns-in_err-begun-clause-all : goal.returns-in_err-begun-clause-all
-returns-in_err-begun-clause-all g c = err_only (λ (n : ℕ). n ≡ length c.args.piece.now) c.from_residual.result c.from_residual.ensures.0
-
-pub slice_bounds-run_with_lf_alone-count : goal.slice_bounds-run_with_lf_alone-count
-slice_bounds-run_with_lf_alone-count g c = c.in_ok-begun.ensures.took.within
-
-pub returns-in_err-at-clause-all : goal.returns-in_err-at-clause-all
-returns-in_err-at-clause-all g c = err_only (λ (n : ℕ). n ≡ length c.args.piece.now) c.from_residual-in_err-at.result c.from_residual-in_err-at.ensures.0
-
 pub slice_bounds-run-count : goal.slice_bounds-run-count
 slice_bounds-run-count g c =
     let both = took_behind g.M.Machine.led_by g.M.Machine.ended g.M.Machine.rejects g.M.Machine.stopped c.args.self.now c.end_line.new.self c.run_with_lf_alone.new.self c.args.piece.now c.in_ok-begun.begun c.in_ok-at.field-0 c.in_ok-begun.ensures.took c.in_ok-at.ensures.took in
@@ -65,9 +56,6 @@ pub overflow_add-at : goal.overflow_add-at
 overflow_add-at g c =
     let both = took_behind g.M.Machine.led_by g.M.Machine.ended g.M.Machine.rejects g.M.Machine.stopped c.args.self.now c.end_line.new.self c.run_with_lf_alone.new.self c.args.piece.now c.in_ok-begun.begun c.in_ok-at.field-0 c.in_ok-begun.ensures.took c.in_ok-at.ensures.took in
     omega (arith, both.within)
-
-pub returns-in_err-run-clause-all : goal.returns-in_err-run-clause-all
-returns-in_err-run-clause-all g c = err_only (λ (n : ℕ). n ≡ length c.args.piece.now) c.from_residual-in_err-run.result c.from_residual-in_err-run.ensures.0
 
 pub overflow_add-result : goal.overflow_add-result
 overflow_add-result g c =

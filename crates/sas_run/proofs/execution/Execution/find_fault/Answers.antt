@@ -1,5 +1,5 @@
 -- The plan ends, and the execution returns to its start.
-use Rattle.std.proofs.Common.{subst, ap, ◌∙◌, arith}
+use Rattle.sas_run.proofs.Imports.{subst, ap, ◌∙◌, arith}
 use Rattle.sas_run.specs.declared.deletions.Deleted.{Deleted}
 use Rattle.sas_run.specs.declared.progress.Progress.{Progress}
 use Rattle.sas_run.specs.Executions.{Executed, executed_of, IsFound}

@@ -1,6 +1,5 @@
-use Rattle.std.proofs.Common.{refl, true}
+use Rattle.sas_task_judge.proofs.Imports.{refl, true, word}
 use Rattle.sas_task_judge.proofs.TaskMoves.{on, moves_ahead}
-use Rattle.sas_task_format.specs.TaskFormat.{word}
 use Rattle.sas_task_judge.proofs.task_judge.TaskJudge.begin_ahead.Goals as goal
 
 pub returns-clause-some : goal.returns-clause-some

@@ -1,6 +1,4 @@
-use Rattle.std.proofs.Common.{rules, ◌≡◌, sym, ap, ◌∙◌, ◌∷◌, [], ◌++◌, ◌-◌, refl}
-use Rattle.std.specs.Prelude.{Some}
-use Rattle.std.specs.Result.{result_err}
+use Rattle.sas_task_judge.proofs.Imports.{rules, ◌≡◌, sym, ap, ◌∙◌, ◌∷◌, [], ◌++◌, ◌-◌, refl, Some, result_err}
 use Rattle.sas_task_judge.specs.TaskJudge.{process_at}
 use Rattle.sas_task_judge.proofs.TaskMoves.{on, off, next_of, refused_line}
 use Rattle.sas_task_judge.proofs.TaskRanges.{takes_as, judged_as, fact_same}

@@ -1,6 +1,5 @@
-use Rattle.std.proofs.Common.{refl, true, ap, ◌∙◌, codes}
+use Rattle.sas_task_judge.proofs.Imports.{refl, true, ap, ◌∙◌, codes, word}
 use Rattle.sas_task_judge.proofs.TaskMoves.{on, moves_ahead}
-use Rattle.sas_task_format.specs.TaskFormat.{word}
 use Rattle.sas_task_judge.specs.TaskJudge.{process_at}
 use Rattle.sas_task_judge.specs.TaskPlaces.{group_facts}
 use Rattle.sas_task_judge.proofs.Stepping.{group_end_steps}

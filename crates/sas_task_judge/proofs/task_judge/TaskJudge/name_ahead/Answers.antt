@@ -1,6 +1,5 @@
-use Rattle.std.proofs.Common.{refl}
+use Rattle.sas_task_judge.proofs.Imports.{refl, name}
 use Rattle.sas_task_judge.proofs.TaskMoves.{on}
-use Rattle.sas_task_format.specs.TaskFormat.{name}
 use Rattle.sas_task_judge.proofs.task_judge.TaskJudge.name_ahead.Goals as goal
 
 pub returns-clause-some : goal.returns-clause-some

@@ -1,6 +1,4 @@
-use Rattle.std.proofs.Common.{rules, ◌≡◌, refl, ap, ◌∙◌}
-use Rattle.std.specs.Prelude.{Some}
-use Rattle.std.specs.Result.{result_err}
+use Rattle.sas_task_judge.proofs.Imports.{rules, ◌≡◌, refl, ap, ◌∙◌, Some, result_err}
 use Rattle.sas_task_judge.specs.TaskJudge.{process_at}
 use Rattle.sas_task_judge.specs.TaskPlaces.{rule_conditions}
 use Rattle.sas_task_judge.proofs.TaskMoves.{off, refused_line}
@@ -13,6 +11,3 @@ returns-in_err-head c =
     refused_line c.args.self.now _ c.args.line.now _ _ same c.in_err-head.ensures.0
     (λ s f. off _ _ _ _ _ _ ((ap (λ place. process_at place c.args.self.now.left c.args.self.now.more s) c.requires.place) ∙ ap (λ more. rule_conditions c.args.self.now.left s.parts more s.facts) c.requires.all)
     (judged_as _ _ _ (head_same s c.args.self.now f) _ _ c.in_err-head.ensures.1)) refl
-
-pub returns : goal.returns
-returns c = c.took_head.ensures _ c.in_ok-head.ensures

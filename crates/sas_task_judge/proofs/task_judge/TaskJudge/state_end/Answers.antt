@@ -1,4 +1,4 @@
-use Rattle.std.proofs.Common.{refl}
+use Rattle.sas_task_judge.proofs.Imports.{refl}
 use Rattle.sas_task_judge.proofs.TaskMoves.{on, state_is_over}
 use Rattle.sas_task_judge.proofs.Stepping.{state_end_steps}
 use Rattle.sas_task_judge.proofs.task_judge.TaskJudge.state_end.Goals as goal

@@ -1,6 +1,4 @@
-use Rattle.std.proofs.Common.{◌≡◌, true, nat_lt, arith, rules}
-use Rattle.std.proofs.lemmas.Bool.Decides.{nat_tests}
-use Rattle.sas_task_line.specs.TaskRanges.{range_in}
+use Rattle.sas_task_judge.proofs.Imports.{◌≡◌, true, nat_lt, arith, nat_tests, range_in}
 use Rattle.sas_task_judge.proofs.TaskMoves.{moves_ahead}
 use Rattle.sas_task_judge.proofs.task_judge.TaskJudge.state_value_ahead.Goals as goal
 
@@ -8,6 +6,3 @@ pub returns-clause-some : goal.returns-clause-some
 returns-clause-some c =
     let below : nat_lt c.in_ok-ahead.ahead.said (range_in c.args.self.now.ranges c.args.self.now.valued) ≡ true = grind (arith, nat_tests) in
     moves_ahead _ _ _ _ _ _ _ c.in_ok-ahead.ensures below c.took_state_value.ensures
-
-pub returns-then-ahead-next_range-clause-none : goal.returns-then-ahead-next_range-clause-none
-returns-then-ahead-next_range-clause-none g c = search rules

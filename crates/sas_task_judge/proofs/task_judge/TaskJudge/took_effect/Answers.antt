@@ -1,4 +1,4 @@
-use Rattle.std.proofs.Common.{refl, sym, ap, ◌∙◌, ◌∷◌, [], ◌++◌, ◌-◌}
+use Rattle.sas_task_judge.proofs.Imports.{refl, sym, ap, ◌∙◌, ◌∷◌, [], ◌++◌, ◌-◌}
 use Rattle.sas_task_judge.specs.TaskJudge.{process_at}
 use Rattle.sas_task_judge.proofs.TaskMoves.{on, next_of}
 use Rattle.sas_task_judge.proofs.TaskRanges.{takes_as, effect_same}

@@ -1,4 +1,4 @@
-use Rattle.std.proofs.Common.{refl}
+use Rattle.sas_task_judge.proofs.Imports.{refl}
 use Rattle.sas_task_judge.proofs.TaskMoves.{on}
 use Rattle.sas_task_judge.proofs.TaskRanges.{takes_as, fact_same}
 use Rattle.sas_task_judge.proofs.task_judge.TaskJudge.took_fact.Goals as goal

@@ -1,6 +1,5 @@
-use Rattle.std.proofs.Common.{sym, ap, ◌∙◌, ◌∷◌, [], ◌++◌, nat_lt, arith, length-append}
+use Rattle.sas_task_judge.proofs.Imports.{sym, ap, ◌∙◌, ◌∷◌, [], ◌++◌, nat_lt, arith, length-append, number_in}
 use Rattle.sas_task_judge.specs.TaskJudge.{process_at}
-use Rattle.sas_task_format.specs.TaskProcess.{number_in}
 use Rattle.sas_task_judge.proofs.TaskMoves.{on, state_goes_on}
 use Rattle.sas_task_judge.proofs.TaskRanges.{takes_as, range_same}
 use Rattle.sas_task_judge.proofs.Stepping.{value_steps}

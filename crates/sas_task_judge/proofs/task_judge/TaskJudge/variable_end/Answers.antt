@@ -1,6 +1,5 @@
-use Rattle.std.proofs.Common.{refl, sym, ap, ◌∙◌, ◌∷◌, [], ◌++◌, arith}
+use Rattle.sas_task_judge.proofs.Imports.{refl, sym, ap, ◌∙◌, ◌∷◌, [], ◌++◌, arith, ranges_of}
 use Rattle.sas_task_judge.specs.TaskJudge.{process_at}
-use Rattle.sas_task_line.specs.TaskRanges.{ranges_of}
 use Rattle.sas_task_judge.specs.TaskPlaces.{variable_values}
 use Rattle.sas_task_judge.proofs.TaskMoves.{on}
 use Rattle.sas_task_judge.proofs.TaskRanges.{ranges_push}

@@ -1,4 +1,4 @@
-use Rattle.std.proofs.Common.{refl, ap}
+use Rattle.sas_task_judge.proofs.Imports.{refl, ap}
 use Rattle.sas_task_judge.specs.TaskJudge.{process_at}
 use Rattle.sas_task_judge.proofs.TaskMoves.{on}
 use Rattle.sas_task_judge.proofs.Stepping.{steps_here}

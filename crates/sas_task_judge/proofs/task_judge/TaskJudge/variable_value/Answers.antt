@@ -1,6 +1,4 @@
-use Rattle.std.proofs.Common.{rules, ◌≡◌, sym, ap, ◌∙◌, ◌∷◌, [], ◌++◌, ◌-◌, arith, length-append, refl}
-use Rattle.std.specs.Prelude.{Some}
-use Rattle.std.specs.Result.{result_err}
+use Rattle.sas_task_judge.proofs.Imports.{rules, ◌≡◌, sym, ap, ◌∙◌, ◌∷◌, [], ◌++◌, ◌-◌, arith, length-append, refl, Some, result_err}
 use Rattle.sas_task_judge.specs.TaskJudge.{process_at}
 use Rattle.sas_task_judge.specs.TaskPlaces.{variable_values}
 use Rattle.sas_task_judge.proofs.TaskMoves.{on, off, next_of, refused_line}

@@ -1,4 +1,4 @@
-use Rattle.std.proofs.Common.{refl, None}
+use Rattle.sas_task_judge.proofs.Imports.{refl, None}
 use Rattle.sas_task_format.specs.declared.marks.Due.TheVariants as due
 use Rattle.sas_task_judge.proofs.Marking.{where_due, where_due_if, quiet, not_speaks}
 use Rattle.sas_task_judge.proofs.task_judge.TaskJudge.wrong_word.Goals as goal

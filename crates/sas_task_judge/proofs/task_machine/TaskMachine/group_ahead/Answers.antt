@@ -1,7 +1,4 @@
-use Rattle.std.proofs.Common.{ℕ, List, subst, IsTrue}
-use Rattle.std.specs.List.{list_all}
-use Rattle.sas_task_format.specs.TaskFormat.{group_lines}
-use Rattle.sas_task_line.specs.TaskRanges.{fact_in_ranges}
+use Rattle.sas_task_judge.proofs.Imports.{ℕ, List, subst, IsTrue, list_all, group_lines, fact_in_ranges}
 use Rattle.sas_task_judge.specs.Sections.{behind_group}
 use Rattle.sas_task_judge.proofs.SectionSteps.{group_leads, accepts}
 use Rattle.sas_task_judge.proofs.task_machine.TaskMachine.group_ahead.Goals as goal

@@ -1,5 +1,4 @@
-use Rattle.std.proofs.Common.{take, ◌-◌, [], ◌∷◌, refl, arith}
-use Rattle.sas_lines.proofs.Beginnings.{one_stands_first}
+use Rattle.sas_task_judge.proofs.Imports.{take, ◌-◌, [], ◌∷◌, refl, arith, one_stands_first}
 use Rattle.sas_task_judge.proofs.TaskMoves.{taken_line, some_taken}
 use Rattle.sas_task_judge.proofs.TaskSteps.{led_on}
 use Rattle.sas_task_judge.proofs.task_machine.TaskMachine.line_ahead.Goals as goal

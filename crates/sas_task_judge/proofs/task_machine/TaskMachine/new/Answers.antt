@@ -1,5 +1,4 @@
-use Rattle.std.proofs.Common.{refl, sym, ap, ◌∙◌, []}
-use Rattle.sas_task_line.specs.TaskEvents.{nothing_yet}
+use Rattle.sas_task_judge.proofs.Imports.{refl, sym, ap, ◌∙◌, [], nothing_yet}
 use Rattle.sas_task_judge.specs.TaskJudge.{process_at}
 use Rattle.sas_task_judge.proofs.Stepping.{starts}
 use Rattle.sas_task_judge.proofs.task_machine.TaskMachine.new.Goals as goal

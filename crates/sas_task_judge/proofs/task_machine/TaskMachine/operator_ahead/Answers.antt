@@ -1,6 +1,4 @@
-use Rattle.std.proofs.Common.{ℕ, List, subst}
-use Rattle.sas_task_format.specs.TaskFormat.{operator_lines}
-use Rattle.sas_task_line.specs.Sections.{OperatorInRanges}
+use Rattle.sas_task_judge.proofs.Imports.{ℕ, List, subst, operator_lines, OperatorInRanges}
 use Rattle.sas_task_judge.specs.Sections.{behind_operator}
 use Rattle.sas_task_judge.proofs.SectionSteps.{operator_leads, accepts}
 use Rattle.sas_task_judge.proofs.task_machine.TaskMachine.operator_ahead.Goals as goal

@@ -1,4 +1,4 @@
-use Rattle.std.proofs.lemmas.Result.{on_ok_weaker}
+use Rattle.sas_task_judge.proofs.Imports.{on_ok_weaker}
 use Rattle.sas_task_judge.proofs.TaskSteps.{led_on}
 use Rattle.sas_task_judge.proofs.task_machine.TaskMachineMachine.accept.Goals as goal
 

@@ -1,4 +1,3 @@
-use Rattle.std.proofs.Common.{rules}
 use Rattle.sas_task_reader.proofs.flat_so_far.FlatSoFar.add.Goals as goal
 
 pub returns-in-Name : goal.returns-in-Name
@@ -9,6 +8,3 @@ returns-in-Variable c = rw c.in-Variable.is (c.variable.ensures c.args.said.now)
 
 pub returns-in-Group : goal.returns-in-Group
 returns-in-Group c = rw c.in-Group.is (c.group.ensures c.args.said.now)
-
-pub returns-in-Values : goal.returns-in-Values
-returns-in-Values c = search rules

@@ -1,6 +1,4 @@
-use Rattle.std.proofs.Common.{ap, ◌∙◌}
-use Rattle.std.proofs.lemmas.Result.{IfOk-weaker}
-use Rattle.sas_task_line.specs.declared.so_far.SoFar.{SoFar}
+use Rattle.sas_task_reader.proofs.Imports.{ap, ◌∙◌, IfOk-weaker, SoFar}
 use Rattle.sas_task_reader.specs.declared.task_outline.Seen.{Seen}
 use Rattle.sas_task_reader.specs.TaskOutline.{kept_of}
 use Rattle.sas_task_reader.proofs.Outlines.{seen_variable}

@@ -1,11 +1,4 @@
-use Rattle.std.proofs.Math.Logic.{∥∥₁_map}
-use Rattle.std.proofs.Common.{◌++◌}
-use Rattle.sas_task_format.specs.Process.{process_node}
-use Rattle.sas_task_format.specs.TaskFormat.{task_format, TaskLineFits}
-use Rattle.sas_task_format.specs.TaskProcess.{task_start}
-use Rattle.sas_task_format.proofs.TaskGrammar.{task_grammar}
-use Rattle.sas_task_judge.specs.TaskMachine.{LedTo, EndedAt, RejectsAt, MachineStopped}
-use Rattle.sas_reader.proofs.Reading.{feeds}
+use Rattle.sas_task_reader.proofs.Imports.{∥∥₁_map, ◌++◌, process_node, task_format, TaskLineFits, task_start, task_grammar, LedTo, EndedAt, RejectsAt, MachineStopped, feeds}
 use Rattle.sas_task_reader.proofs.TaskStanding.{reader_follows}
 use Rattle.sas_task_reader.proofs.task_reader.TaskReader.feed.Goals as goal
 

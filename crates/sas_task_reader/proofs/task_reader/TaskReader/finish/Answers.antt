@@ -1,18 +1,5 @@
-use Rattle.std.proofs.Common.{sym, ap, subst, ◌∙◌, Ok, Err}
-use Rattle.std.proofs.Math.Logic.{∥∥₁_map}
-use Rattle.sas_core.specs.declared.parts.Parts.{Parts}
-use Rattle.sas_core.specs.WellRanged.{WellRanged}
-use Rattle.sas_reader.specs.declared.fault.Fault.{Fault}
-use Rattle.sas_reader.specs.Format.{ReadsAs}
-use Rattle.sas_task_format.specs.Process.{process_node}
-use Rattle.sas_task_format.specs.TaskFormat.{task_format, TaskLineFits}
-use Rattle.sas_task_format.specs.TaskProcess.{task_start}
-use Rattle.sas_task_format.proofs.TaskGrammar.{task_grammar}
-use Rattle.sas_task_line.specs.declared.so_far.SoFar.{SoFar}
-use Rattle.sas_task_judge.specs.TaskMachine.{LedTo, EndedAt, RejectsAt, MachineStopped}
-use Rattle.sas_reader.specs.Reading.{Finishes}
+use Rattle.sas_task_reader.proofs.Imports.{sym, ap, subst, ◌∙◌, Ok, Err, ∥∥₁_map, Parts, WellRanged, Fault, ReadsAs, process_node, task_format, TaskLineFits, task_start, task_grammar, SoFar, LedTo, EndedAt, RejectsAt, MachineStopped, Finishes, end_fault}
 use Rattle.sas_task_reader.specs.TaskReader.{task_view}
-use Rattle.sas_reader.proofs.Reading.{end_fault}
 use Rattle.sas_task_reader.proofs.TaskStanding.{reader_follows, read_task_parts, ranged}
 use Rattle.sas_task_reader.proofs.task_reader.TaskReader.finish.Goals as goal
 

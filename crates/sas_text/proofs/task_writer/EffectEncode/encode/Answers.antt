@@ -1,5 +1,4 @@
-use Rattle.std.proofs.Common.{ℕ, ◌++◌, ap, ◌∙◌}
-use Rattle.std.specs.Fmt.{decimal}
+use Rattle.sas_text.proofs.Imports.{ℕ, ◌++◌, ap, ◌∙◌, decimal}
 use Rattle.sas_text.proofs.TaskTexts.{effect_on_ok}
 use Rattle.sas_text.proofs.task_writer.EffectEncode.encode.Goals as goal
 

@@ -1,5 +1,4 @@
-use Rattle.std.proofs.Common.{codes}
-use Rattle.sas_task_format.specs.TaskFormat.{fact, line, counted}
+use Rattle.sas_text.proofs.Imports.{codes, fact, line, counted}
 use Rattle.sas_text.proofs.TaskTexts.{between_on_ok}
 use Rattle.sas_text.proofs.task_writer.ItemsFactEncode.encode.Goals as goal
 

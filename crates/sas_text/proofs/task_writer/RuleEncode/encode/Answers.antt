@@ -1,5 +1,4 @@
-use Rattle.std.proofs.Common.{codes, [], ◌∷◌, ◌++◌}
-use Rattle.sas_task_format.specs.TaskFormat.{fact, head, line, counted}
+use Rattle.sas_text.proofs.Imports.{codes, [], ◌∷◌, ◌++◌, fact, head, line, counted}
 use Rattle.sas_text.proofs.TaskTexts.{lines_after, between_on_ok}
 use Rattle.sas_text.proofs.task_writer.RuleEncode.encode.Goals as goal
 

@@ -1,5 +1,4 @@
-use Rattle.std.proofs.Common.{codes, ◌++◌}
-use Rattle.sas_task_format.specs.TaskFormat.{name, signed, line, counted}
+use Rattle.sas_text.proofs.Imports.{codes, ◌++◌, name, signed, line, counted}
 use Rattle.sas_text.proofs.TaskTexts.{lines_after, between_on_ok}
 use Rattle.sas_text.proofs.task_writer.VariableEncode.encode.Goals as goal
 

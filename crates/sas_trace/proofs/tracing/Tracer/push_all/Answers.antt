@@ -1,7 +1,5 @@
 -- One variable more is printed.
-use Rattle.std.proofs.Common.{◌≡◌, ℕ, ◌<◌, ◌≤◌, length, get_or, subst, arith}
-use Rattle.sas_output.specs.Sink.{Pushes}
-use Rattle.sas_output.proofs.Pushed.{pushes_then}
+use Rattle.sas_trace.proofs.Imports.{◌≡◌, ℕ, ◌<◌, ◌≤◌, length, get_or, subst, arith, Pushes, pushes_then}
 use Rattle.sas_trace.proofs.Changing.{next_itself, printed_next, text_next, printed_all, text_all}
 use Rattle.sas_trace.proofs.tracing.Tracer.push_all.Goals as goal
 

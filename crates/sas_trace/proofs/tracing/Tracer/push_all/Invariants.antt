@@ -1,5 +1,5 @@
 -- The variables so far were printed.
-use Rattle.sas_output.specs.Sink.{Pushes}
+use Rattle.sas_trace.proofs.Imports.{Pushes}
 use Rattle.sas_trace.proofs.Numbers.{said}
 use Rattle.sas_trace.proofs.Changing.{says, PrintedUpTo}
 use Rattle.sas_trace.proofs.tracing.Tracer.push_all.Given as goal

@@ -1,6 +1,5 @@
 -- The variables that were listed, in order.
-use Rattle.std.proofs.Common.{ℕ, List, refl, subst}
-use Rattle.std.proofs.lemmas.List.Sorted.{IsNonDecreasingBy-from_sort}
+use Rattle.sas_trace.proofs.Imports.{ℕ, List, refl, subst, IsNonDecreasingBy-from_sort}
 use Rattle.sas_trace.specs.Changes.{ListCoversChanges}
 use Rattle.sas_trace.proofs.Listing.{covers_permuted}
 use Rattle.sas_trace.proofs.tracing.Tracer.push_changes.Goals as goal

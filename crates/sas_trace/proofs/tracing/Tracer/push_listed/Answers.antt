@@ -1,8 +1,5 @@
 -- The variable at the next place of the list is printed.
-use Rattle.std.proofs.Common.{◌≡◌, ℕ, ◌+◌, ◌<◌, ◌≤◌, List, length, get_or, sym, ◌∙◌, ap, subst, arith}
-use Rattle.std.proofs.lemmas.List.{get_or_default}
-use Rattle.sas_output.specs.Sink.{Pushes}
-use Rattle.sas_output.proofs.Pushed.{pushes_then}
+use Rattle.sas_trace.proofs.Imports.{◌≡◌, ℕ, ◌+◌, ◌<◌, ◌≤◌, List, length, get_or, sym, ◌∙◌, ap, subst, arith, get_or_default, Pushes, pushes_then}
 use Rattle.sas_trace.proofs.Changing.{IsNext, listed_next, listed_more, listed_all, printed_next, text_next, printed_all, text_all}
 use Rattle.sas_trace.proofs.tracing.Tracer.push_listed.Goals as goal
 

@@ -1,6 +1,5 @@
 -- The variables up to a place of the list were printed.
-use Rattle.std.proofs.Common.{◌≡◌, ℕ}
-use Rattle.sas_output.specs.Sink.{Pushes}
+use Rattle.sas_trace.proofs.Imports.{◌≡◌, ℕ, Pushes}
 use Rattle.sas_trace.proofs.Numbers.{said}
 use Rattle.sas_trace.proofs.Changing.{says, PrintedUpTo, ListedUpTo}
 use Rattle.sas_trace.proofs.tracing.Tracer.push_listed.Given as goal

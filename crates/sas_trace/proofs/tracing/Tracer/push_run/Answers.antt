@@ -1,8 +1,5 @@
 -- The lines of the initial state, and behind them those of the steps.
-use Rattle.std.proofs.Common.{◌∙◌, ap, subst, length}
-use Rattle.sas_output.specs.Sink.{Pushes}
-use Rattle.sas_output.proofs.Pushed.{pushes_then}
-use Rattle.sas_run.specs.Runs.{state_at}
+use Rattle.sas_trace.proofs.Imports.{◌∙◌, ap, subst, length, Pushes, pushes_then, state_at}
 use Rattle.sas_trace.proofs.RunTexts.{run_text}
 use Rattle.sas_trace.proofs.Standing.{stands_fits}
 use Rattle.sas_trace.proofs.tracing.Tracer.push_run.Goals as goal

@@ -1,8 +1,5 @@
 -- The line of the step, and behind it those of its changes.
-use Rattle.std.proofs.Common.{ℕ, List, subst}
-use Rattle.sas_lines.specs.Lines.{text}
-use Rattle.sas_output.specs.Sink.{Pushes}
-use Rattle.sas_output.proofs.Pushed.{pushes_then}
+use Rattle.sas_trace.proofs.Imports.{ℕ, List, subst, text, Pushes, pushes_then}
 use Rattle.sas_trace.specs.Trace.{change_lines}
 use Rattle.sas_trace.proofs.tracing.Tracer.push_step.Goals as goal
 

@@ -1,8 +1,5 @@
 -- One step more is made, and its lines pushed, as in the run.
-use Rattle.std.proofs.Common.{◌≡◌, ◌+◌, ◌-◌, ◌<◌, length, sym, ap, subst, ◌∙◌, arith}
-use Rattle.sas_output.specs.Sink.{Pushes}
-use Rattle.sas_output.proofs.Pushed.{pushes_lost, pushes_then}
-use Rattle.sas_run.specs.Executions.{next_operator}
+use Rattle.sas_trace.proofs.Imports.{◌≡◌, ◌+◌, ◌-◌, ◌<◌, length, sym, ap, subst, ◌∙◌, arith, Pushes, pushes_lost, pushes_then, next_operator}
 use Rattle.sas_trace.proofs.Numbers.{said_more, said_rest}
 use Rattle.sas_trace.proofs.RunTexts.{step_text, steps_all}
 use Rattle.sas_trace.proofs.Standing.{stands_fits, stands_all, stands_next, step_is}

@@ -1,7 +1,5 @@
 -- The steps so far were made, and their lines pushed.
-use Rattle.std.proofs.Common.{◌≡◌}
-use Rattle.sas_output.specs.Sink.{Pushes}
-use Rattle.sas_run.specs.Runs.{Run}
+use Rattle.sas_trace.proofs.Imports.{◌≡◌, Pushes, Run}
 use Rattle.sas_trace.specs.Tracing.{HasTraced}
 use Rattle.sas_trace.proofs.Numbers.{said}
 use Rattle.sas_trace.proofs.RunTexts.{step_text}

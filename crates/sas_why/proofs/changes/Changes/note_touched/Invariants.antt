@@ -1,5 +1,5 @@
 -- The step is noted for the variables so far.
-use Rattle.std.proofs.Common.{ℕ, ◌<◌, get_or}
+use Rattle.sas_why.proofs.Imports.{ℕ, ◌<◌, get_or}
 use Rattle.sas_why.specs.Noting.{NotedAt, NotesSome}
 use Rattle.sas_why.proofs.changes.Changes.note_touched.Given as goal
 

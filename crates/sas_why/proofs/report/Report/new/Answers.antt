@@ -1,10 +1,5 @@
 -- Nothing is reported.
-use Rattle.std.proofs.Common.{rules, ◌≡◌, ℕ, zero, suc, ◌∙◌, Bool, false, List, length, get_or, replicate, refl, sym, ap, subst}
-use Rattle.std.specs.List.{Contains}
-use Rattle.std.proofs.lemmas.Bool.{false≢true}
-use Rattle.std.proofs.lemmas.List.{length-replicate}
-use Rattle.sas_meaning.proofs.Members.{contains_none}
-use Rattle.sas_output.specs.declared.line.Line.{Line}
+use Rattle.sas_why.proofs.Imports.{rules, ◌≡◌, ℕ, zero, suc, ◌∙◌, Bool, false, List, length, get_or, replicate, refl, sym, ap, subst, Contains, false≢true, length-replicate, contains_none, Line}
 use Rattle.sas_why.proofs.report.Report.new.Goals as goal
 
 none_kept : (n var : ℕ) → get_or (replicate n false) var false ≡ false

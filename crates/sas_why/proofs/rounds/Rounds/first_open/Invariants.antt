@@ -1,6 +1,5 @@
 -- The conditions so far hold.
-use Rattle.std.proofs.Common.{◌≤◌, ◌-◌, length, get_or}
-use Rattle.sas_core.specs.Grounded.{rule_at}
+use Rattle.sas_why.proofs.Imports.{◌≤◌, ◌-◌, length, get_or, rule_at}
 use Rattle.sas_why.specs.Rounds.{HoldFrom}
 use Rattle.sas_why.proofs.rounds.Rounds.first_open.Given as goal
 

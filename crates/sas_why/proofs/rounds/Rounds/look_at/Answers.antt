@@ -1,13 +1,5 @@
 -- A rule that doesn't fire reaches nothing, and one that fires reaches its variable.
-use Rattle.std.proofs.Common.{ℕ, ◌<◌, List, ◌∷◌, [], ◌++◌, length, refl, sym, ap, subst, ◌∙◌, arith}
-use Rattle.std.proofs.lemmas.Result.{on_ok_weaker}
-use Rattle.sas_core.specs.declared.grounded.Change.{Change}
-use Rattle.sas_core.specs.declared.parts.Parts.{Parts}
-use Rattle.sas_core.specs.Grounded.{rule_at}
-use Rattle.sas_core.specs.Variables.{layer_of}
-use Rattle.sas_meaning.specs.Layers.{IsOnLayer}
-use Rattle.sas_meaning.proofs.Layers.{on_layer_within}
-use Rattle.sas_reasons.specs.Derivation.{FiresNext}
+use Rattle.sas_why.proofs.Imports.{ℕ, ◌<◌, List, ◌∷◌, [], ◌++◌, length, refl, sym, ap, subst, ◌∙◌, arith, on_ok_weaker, Change, Parts, rule_at, layer_of, IsOnLayer, on_layer_within, FiresNext}
 use Rattle.sas_why.specs.declared.rounds.Rounds.{Rounds}
 use Rattle.sas_why.specs.Rounds.{InRound}
 use Rattle.sas_why.proofs.RoundSteps.{fires_now, looked_none, passed_set, passed_round, reach_round, reach_goes_on, goes_as, sets_default, fails_now, all_hold_now, sets_new}

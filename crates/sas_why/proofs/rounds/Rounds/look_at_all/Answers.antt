@@ -1,12 +1,8 @@
 -- One more rule was looked at.
-use Rattle.std.proofs.Common.{ℕ, List, take, sym, subst}
-use Rattle.std.proofs.lemmas.List.{take_more}
+use Rattle.sas_why.proofs.Imports.{ℕ, List, take, sym, subst, take_more}
 use Rattle.sas_why.specs.Rounds.{InRound}
-use Rattle.sas_why.proofs.RoundSteps.{goes_on_still, goes_on_more}
+use Rattle.sas_why.proofs.RoundSteps.{goes_on_more}
 use Rattle.sas_why.proofs.rounds.Rounds.look_at_all.Goals as goal
-
-pub loop-rule-init : goal.loop-rule-init
-loop-rule-init g c = record { looked = c.requires.begins; goes_on = goes_on_still c.args.self.now }
 
 pub loop-rule-preserved : goal.loop-rule-preserved
 loop-rule-preserved g c =

@@ -1,0 +1,60 @@
+-- What the proofs use of other crates.
+pub use Rattle.std.proofs.Common.{◌≡◌, ℕ, zero, suc, List, [], ◌∷◌, ◌++◌, refl, subst, Option, Some, None, ◌<◌, length, take, drop, codes, arith, sym}
+pub use Rattle.std.proofs.Common.{ap, ◌∙◌, inr, Result, Ok, Err, IfSome, decimal, inl, Bor, true≢false, IsSome, lit<}
+pub use Rattle.std.proofs.lemmas.List.{same_from_push}
+pub use Rattle.std.proofs.raw_atomic.Walks.{proved_at, leaves}
+pub use Rattle.std.specs.Global.{Vec}
+pub use Rattle.std.specs.Io.KnownBytes.{Appends}
+pub use Rattle.std.specs.contracts.impls.GlobalAllocator.TheImpl.{ghosts}
+pub use Rattle.std.specs.declared.alloc.Global.{Global}
+pub use Rattle.core.proofs.alloc.Calls.{Al, handle_shows, Goes-blank}
+pub use Rattle.core.proofs.alloc.Shapes.{after}
+pub use Rattle.core.proofs.atomic.Steps.{fm}
+pub use Rattle.core.proofs.cell.Inside.{Good, one}
+pub use Rattle.core.specs.declared.alloc.Allocator.{Ghosts}
+pub use Rattle.sas_answers.specs.Answers.{layers_verdict, VerdictAnswer, MutexAnswer}
+pub use Rattle.sas_answers.specs.PlanWords.{valid_line}
+pub use Rattle.sas_core.specs.PlanParts.{PlanParts}
+pub use Rattle.sas_core.specs.declared.parts.Parts.{Parts}
+pub use Rattle.sas_lines.proofs.Splitting.{lines-append, lines-one, unfinished-text}
+pub use Rattle.sas_lines.specs.Lines.{text}
+unfoldable pub use Rattle.sas_lines.specs.Lines.{lines}
+pub use Rattle.sas_meaning.proofs.LayerChecksAreRules.{checks_are_rules}
+pub use Rattle.sas_meaning.specs.Layers.{IsLayered}
+pub use Rattle.sas_meaning.specs.declared.layered.LayerFault.{LayerFault}
+pub use Rattle.sas_output.proofs.Sent.{counting_ends}
+pub use Rattle.sas_output.specs.Ending.{Output, EndsCounting, output_of}
+pub use Rattle.sas_output.specs.declared.ending.Status.{Status}
+pub use Rattle.sas_output.specs.declared.ending.Status.TheVariants.{Yes, No}
+pub use Rattle.sas_output.specs.declared.ending.ToolFault.{ToolFault}
+pub use Rattle.sas_output.specs.declared.ending.ToolFault.TheVariants.{Memory, Read, TooLong, Write}
+pub use Rattle.sas_output.specs.declared.answer.Answer.{Answer}
+pub use Rattle.sas_outputs.proofs.Headlines.{ReportsValid, headline_of, reports_valid}
+pub use Rattle.sas_outputs.proofs.Outputs.{same_output}
+pub use Rattle.sas_outputs.proofs.PlanOutputs.{Refuses, plain_refuses}
+pub use Rattle.sas_outputs.specs.Headline.{Headline, Invariants}
+pub use Rattle.sas_outputs.specs.Output.{CheckOut, FileOut, PlanOut, PlanOutBy, VerdictOut, plain_refusal, Out}
+pub use Rattle.sas_outputs.specs.declared.Request.{Request}
+pub use Rattle.sas_outputs.specs.declared.Request.TheVariants.{Plan, Mutex}
+pub use Rattle.sas_plans.proofs.PlanLines.{IsLine, valid_plain, verdict_line, task_refused}
+pub use Rattle.sas_plans.specs.Opened.{Opens}
+pub use Rattle.sas_plans.specs.declared.held.Opening.{Opening}
+pub use Rattle.sas_plans.specs.declared.held.Opening.TheVariants.{Ready, Refused}
+pub use Rattle.sas_reader.proofs.Plain.{plain}
+pub use Rattle.sas_reader.specs.Format.{ReadsAs}
+pub use Rattle.sas_reader.specs.Limit.{most_bytes}
+pub use Rattle.sas_requests.proofs.InvariantGroups.{ReportsGroups, invariants_of, plain_groups}
+pub use Rattle.sas_requests.proofs.ReasonedOutputs.{headline_why, invariants_why}
+pub use Rattle.sas_requests.proofs.RequestEnds.{judged_by}
+pub use Rattle.sas_requests.proofs.TraceLaws.{trace_ends}
+pub use Rattle.sas_requests.specs.FileReasons.{PlanFileReasons}
+pub use Rattle.sas_requests.specs.TraceOut.{TraceOut}
+pub use Rattle.sas_requests.specs.Why.{OutWhy, WithReasons}
+pub use Rattle.sas_requests.specs.declared.detail.Detail.TheVariants.{Reasons}
+pub use Rattle.sas_task_format.specs.TaskFormat.{task_format}
+pub use Rattle.sas_trace.specs.Traced.{TraceVerdict}
+pub use Rattle.sas_why.specs.Verdict.{WhyVerdict}
+pub use Rattle.std_alloc.proofs.BoxSteps.Steps.{box_out, box_in}
+pub use Rattle.std_alloc.proofs.ResultValues.{and_tt}
+pub use Rattle.std_alloc.proofs.boxed.Box.from_raw.Met.{met}
+pub use Rattle.std_alloc.specs.Box.Ownership.{box_owns}

@@ -1,0 +1,198 @@
+-- What is returned follows from how a run ended.
+use Rattle.sas_c.proofs.Imports.{◌≡◌, ℕ, ◌<◌, List, [], ◌++◌, length, take, drop, codes, arith, refl, sym, ap, subst, ◌∙◌, inr, Option, Some, None, Result, Ok, Err, IfSome, Appends, Parts, LayerFault, IsLayered, checks_are_rules, ReadsAs, most_bytes, task_format, Status, Yes, No, ToolFault, Memory, Read, TooLong, Write, Answer, Output, EndsCounting, output_of, layers_verdict, VerdictAnswer}
+use Rattle.sas_c.proofs.Imports.{PlanParts, WhyVerdict, TraceVerdict, Request, Plan, Mutex, Headline, Invariants, CheckOut, FileOut, PlanOut, PlanOutBy, VerdictOut, same_output, ReportsValid, headline_of, Refuses, ReportsGroups, invariants_of, headline_why, invariants_why, judged_by, Reasons, PlanFileReasons, OutWhy, WithReasons, Opening, Ready, Refused, Opens, TraceOut}
+use Rattle.sas_c.specs.declared.prepared.Prepared.{Prepared}
+use Rattle.sas_c.specs.Holding.{HoldsTask}
+use Rattle.sas_c.specs.Written.{IsWritten}
+use Rattle.sas_c.specs.Reporting.{Returns, ReturnsHeadline, EndsInLine, ReturnsLastLine, ReturnsInvariants, number_of_fault, number_of_status}
+use Rattle.sas_c.proofs.TracedPlans.{traced_headline}
+
+same_number : (s t : Status) → number_of_status s ≡ number_of_status t → s ≡ t
+same_number Yes Yes e = refl
+same_number No No e = refl
+same_number Yes No e = absurd (omega arith)
+same_number No Yes e = absurd (omega arith)
+
+low_number : (s : Status) → number_of_status s < 2
+low_number Yes = omega arith
+low_number No = omega arith
+
+-- ---- a text
+
+module _ (text : List ℕ) (status : Status) (before room : List ℕ) (size : ℕ) (long : size ≡ length text) where
+  abbrev ReportsText : ℕ → Type 0
+  ReportsText number = Returns (λ (o : Option Output). o ≡ Some (record { text = text; status = status })) before room size number
+
+  -- that was copied is returned
+  pub reports_copied : (number : ℕ) → number ≡ number_of_status status → take (length text) room ≡ text → drop (length text) room ≡ drop (length text) before → length room ≡ length before → ReportsText number
+  reports_copied number is copied behind as_long =
+      let low = low_number status in record {
+        reported = λ s e. (record { text = text; status = status }, refl, same_number status s (sym is ∙ e), long, subst (λ (n : ℕ). take n room ≡ text) (sym long) copied);
+        longer = λ e. absurd (omega arith);
+        none = λ e. absurd (omega arith);
+        known = omega arith;
+        behind = λ e. subst (λ (n : ℕ). drop n room ≡ drop n before) (sym long) behind;
+        same = λ e. absurd (omega arith);
+        as_long = as_long;
+      }
+
+  -- and so is one that was too long for that
+  pub reports_longer : length before < length text → room ≡ before → ReportsText 2
+  reports_longer longer same =
+      let as_long : length room ≡ length before = ap (λ (xs : List ℕ). length xs) same in record {
+        reported = λ s e. let low = low_number s in absurd (omega arith);
+        longer = λ e. (record { text = text; status = status }, refl, long, omega arith);
+        none = λ e. absurd (omega arith);
+        known = omega arith;
+        behind = λ e. absurd (omega arith);
+        same = λ e. same;
+        as_long = as_long;
+      }
+
+-- ---- an end without one, which leaves the room as it was
+
+module _ (Out : Option Output → Type 0) (room : List ℕ) (size : ℕ) where
+  reports_too_long : Out None → Returns Out room room size 4
+  reports_too_long none = record {
+    reported = λ s e. let low = low_number s in absurd (omega arith);
+    longer = λ e. absurd (omega arith);
+    none = λ e. none;
+    known = omega arith;
+    behind = λ e. refl;
+    same = λ e. refl;
+    as_long = refl;
+  }
+
+  reports_nothing : Returns Out room room size 3
+  reports_nothing = record {
+    reported = λ s e. let low = low_number s in absurd (omega arith);
+    longer = λ e. absurd (omega arith);
+    none = λ e. absurd (omega arith);
+    known = omega arith;
+    behind = λ e. refl;
+    same = λ e. refl;
+    as_long = refl;
+  }
+
+  by_fault : (why : ToolFault) → (why ≡ TooLong → Out None) → Returns Out room room size (number_of_fault why)
+  by_fault TooLong long = reports_too_long (long refl)
+  by_fault Memory long = reports_nothing
+  by_fault Read long = reports_nothing
+  by_fault (Write written) long = reports_nothing
+
+  pub reports_fault : (why : ToolFault) (number : ℕ) → number ≡ number_of_fault why → (why ≡ TooLong → Out None) → Returns Out room room size number
+  reports_fault why number is long = subst (λ (n : ℕ). Returns Out room room size n) (sym is) (by_fault why long)
+
+-- ---- what is returned for one output is returned for another that follows from it
+
+module _ (A B : Option Output → Type 0) (to : (o : Option Output) → A o → B o) (before room : List ℕ) (size number : ℕ) where
+  pub reports_by : Returns A before room size number → Returns B before room size number
+  reports_by t = record {
+    reported = λ status is. let x = t.reported status is in (x.0, to (Some x.0) x.1, x.2, x.3, x.4);
+    longer = λ is. let x = t.longer is in (x.0, to (Some x.0) x.1, x.2, x.3);
+    none = λ is. to None (t.none is);
+    known = t.known;
+    behind = t.behind;
+    same = t.same;
+    as_long = t.as_long;
+  }
+
+-- what is returned for a text is returned for the same text
+pub reports_same : (text other : List ℕ) (status : Status) (before room : List ℕ) (size number : ℕ) → text ≡ other
+    → Returns (λ o. o ≡ Some (record { text = text; status = status })) before room size number → Returns (λ o. o ≡ Some (record { text = other; status = status })) before room size number
+reports_same text other status before room size number same t = subst (λ (xs : List ℕ). Returns (λ (o : Option Output). o ≡ Some (record { text = xs; status = status })) before room size number) same t
+
+-- what is known to be the output is returned
+pub reports_output : (Out : Option Output → Type 0) (o : Output) → Out (Some o) → (before room : List ℕ) (size number : ℕ) → Returns (λ x. x ≡ Some o) before room size number → Returns Out before room size number
+reports_output Out o is before room size number t = reports_by (λ x. x ≡ Some o) Out (λ x e. subst Out (sym e) is) before room size number t
+
+-- what was written into memory is the output
+module _ (Out : Option Output → Type 0) (was items : List ℕ) (empty : was ≡ []) where
+  written : (r : Result Status ToolFault) → EndsCounting Out (Appends (Some was) (Some items)) r → (o : Option Output) → IsWritten items r o → Out o
+  written (Ok status) (output, out, same, sent) o is =
+      let all : items ≡ output.text = sent ∙ ap (λ (xs : List ℕ). xs ++ output.text) empty in
+      subst Out (sym (is ∙ ap Some (same_output (record { text = items; status = status }) output all same))) out
+  written (Err why) ends o (long, is) = subst Out (sym is) (subst (λ (w : ToolFault). EndsCounting Out (Appends (Some was) (Some items)) (Err w)) long ends)
+
+  pub reports_ended : (r : Result Status ToolFault) (before room : List ℕ) (size number : ℕ) → EndsCounting Out (Appends (Some was) (Some items)) r → Returns (IsWritten items r) before room size number → Returns Out before room size number
+  reports_ended r before room size number ends = reports_by (IsWritten items r) Out (written r ends) before room size number
+
+-- what is returned for a request is returned for the same request and bytes
+pub asked_reported : (F : Request → List ℕ → List ℕ → Option Output → Type 0) (asked request : Request) (task b plan c before room : List ℕ) (size number : ℕ)
+    → asked ≡ request → task ≡ b → plan ≡ c → Returns (F asked task plan) before room size number → Returns (F request b c) before room size number
+asked_reported F asked request task b plan c before room size number is same_task same_plan t =
+    subst (λ (r : Request). Returns (F r b c) before room size number) is
+    (subst (λ (xs : List ℕ). Returns (F asked xs c) before room size number) same_task (subst (λ (xs : List ℕ). Returns (F asked task xs) before room size number) same_plan t))
+
+-- ---- whether a plan solves a task
+
+pub headline_reported : (Verdict : Parts → PlanParts → Output → Type 0) (refused : Parts → LayerFault → Option Output) → ReportsValid Verdict → Refuses refused → (b c before room : List ℕ) (size number : ℕ) → Returns (PlanOutBy Verdict refused b c) before room size number → ReturnsHeadline b c room size number
+headline_reported Verdict refused reports refuses b c before room size number t = λ status is.
+    let x = t.reported status is in
+    subst (λ (text : List ℕ). Headline b c (λ line. text ≡ line) status) (sym x.4) (headline_of Verdict refused reports refuses b c x.0 x.1 (Some []) (Some (x.0).text) [] status refl (sym x.2) refl)
+
+-- the same with reasons
+pub headline_why_reported : (b c before room : List ℕ) (size number : ℕ) → Returns (OutWhy Plan b c) before room size number → ReturnsHeadline b c room size number
+headline_why_reported b c before room size number t = λ status is.
+    let x = t.reported status is in
+    subst (λ (text : List ℕ). Headline b c (λ line. text ≡ line) status) (sym x.4) (headline_why b c x.0 x.1 (Some []) (Some (x.0).text) [] status refl (sym x.2) refl)
+
+-- the same behind a trace
+pub last_line_reported : (b c before room : List ℕ) (size number : ℕ) → Returns (TraceOut b c) before room size number → ReturnsLastLine b c room size number
+last_line_reported b c before room size number t = λ status is.
+    let x = t.reported status is in
+    subst (λ (text : List ℕ). Headline b c (EndsInLine text) status) (sym x.4) (subst (λ (s : Status). Headline b c (EndsInLine (x.0).text) s) x.2 (traced_headline b c x.0 x.1))
+
+-- ---- a plan of a task that is held
+
+-- what is returned for the task that is held is returned for the bytes that it was read from
+module _ (For : Parts → Option Output → Type 0) (Out : Option Output → Type 0) (b before room : List ℕ) (size number : ℕ) (to : (p : Parts) → IsLayered p → ReadsAs task_format most_bytes b (Ok p) → (o : Option Output) → For p o → Out o) where
+  held_reported : (held : Option Prepared) → HoldsTask b held → IfSome held (λ prepared. Returns (For prepared.held) before room size number) → Returns Out before room size number
+  held_reported None holds t = absurd holds
+  held_reported (Some prepared) (reads, layered) t = reports_by (For prepared.held) Out (to prepared.held layered reads) before room size number t
+
+module _ (b c before room : List ℕ) (size number : ℕ) (held : Option Prepared) (holds : HoldsTask b held) where
+  pub plan_reported : IfSome held (λ prepared. Returns (VerdictOut VerdictAnswer prepared.held c) before room size number) → Returns (PlanOut b c) before room size number
+  plan_reported t = held_reported (λ p. VerdictOut VerdictAnswer p c) (PlanOut b c) b before room size number (λ p layered reads o out. inr (p, reads, layered, out)) held holds t
+
+  abbrev PlanWhy : Parts → Option Output → Type 0
+  PlanWhy p = WithReasons (VerdictOut WhyVerdict p c) (PlanFileReasons c)
+
+  pub why_reported : IfSome held (λ prepared. Returns (PlanWhy prepared.held) before room size number) → Returns (OutWhy Plan b c) before room size number
+  why_reported t = held_reported PlanWhy (OutWhy Plan b c) b before room size number (λ p layered reads o. judged_by Reasons b c o p layered reads) held holds t
+
+  pub trace_reported : IfSome held (λ prepared. Returns (VerdictOut TraceVerdict prepared.held c) before room size number) → Returns (TraceOut b c) before room size number
+  trace_reported t = held_reported (λ p. VerdictOut TraceVerdict p c) (TraceOut b c) b before room size number (λ p layered reads o out. inr (p, reads, layered, out)) held holds t
+
+-- ---- which mutex groups are exclusive
+
+pub invariants_reported : (IsAnswer : Parts → Output → Type 0) → ReportsGroups IsAnswer → (b before room : List ℕ) (size number : ℕ) → Returns (FileOut task_format (codes "task") IsAnswer b) before room size number → ReturnsInvariants b room size number
+invariants_reported IsAnswer reports b before room size number t = λ status is.
+    let x = t.reported status is in
+    subst (λ (text : List ℕ). Invariants b (λ out. text ≡ out)) (sym x.4) (invariants_of IsAnswer reports b x.0 x.1 (Some []) (Some (x.0).text) [] refl refl)
+
+-- the same with reasons
+pub invariants_why_reported : (b c before room : List ℕ) (size number : ℕ) → Returns (OutWhy Mutex b c) before room size number → ReturnsInvariants b room size number
+invariants_why_reported b c before room size number t = λ status is.
+    let x = t.reported status is in
+    subst (λ (text : List ℕ). Invariants b (λ out. text ≡ out)) (sym x.4) (invariants_why b c x.0 x.1 (Some []) (Some (x.0).text) [] refl refl)
+
+-- ---- a task that was opened
+
+-- what isn't yes is never returned as yes
+pub never_yes : (o : Output) (before room : List ℕ) (size number : ℕ) → o.status ≡ No → Returns (λ x. x ≡ Some o) before room size number → number ≡ 0 → ⊥
+never_yes o before room size number refused t zero =
+    let x = t.reported Yes zero in
+    let same : x.0 ≡ o = cc in
+    let wrong : number_of_status No ≡ number_of_status Yes = ap number_of_status (sym refused ∙ ap (λ (y : Output). y.status) (sym same) ∙ x.2) in
+    omega arith
+
+-- a layered task is reported as one
+pub layered_out : (p : Parts) (b : List ℕ) → ReadsAs task_format most_bytes b (Ok p) → IsLayered p → (o : Option Output) → o ≡ layers_verdict None → CheckOut b o
+layered_out p b reads layered o is = (Ok p, reads, (record { text = codes "task layered\n"; status = Yes }, ap layers_verdict ((checks_are_rules p).1 layered), is))
+
+pub opens_ready : (b : List ℕ) (opening : Opening) (p : Parts) → opening ≡ Ready p → Opens b opening → ReadsAs task_format most_bytes b (Ok p) × IsLayered p
+opens_ready b opening p is opens = subst (Opens b) is opens
+
+pub opens_refused : (b : List ℕ) (opening : Opening) (reported : Answer) → opening ≡ Refused reported → Opens b opening → CheckOut b (Some (output_of reported)) × (reported.status ≡ No)
+opens_refused b opening reported is opens = subst (Opens b) is opens

@@ -1,0 +1,65 @@
+-- What a call of the library returns: a number, and an answer in the caller's memory.
+use Rattle.std.specs.Prelude.{◌≡◌, ℕ, ◌<◌, ◌≤◌, List, ◌++◌, length, take, drop, Option, Some, None}
+use Rattle.sas_lines.specs.Lines.{text}
+use Rattle.sas_output.specs.declared.ending.Status.{Status}
+use Rattle.sas_output.specs.declared.ending.Status.TheVariants.{Yes, No}
+use Rattle.sas_output.specs.declared.ending.ToolFault.{ToolFault}
+use Rattle.sas_output.specs.declared.ending.ToolFault.TheVariants.{Memory, Read, TooLong, Write}
+use Rattle.sas_output.specs.Ending.{Output}
+use Rattle.sas_outputs.specs.Headline.{Headline, Invariants}
+
+-- the number of an answer that is written
+abbrev pub number_of_status : Status → ℕ
+number_of_status Yes = 0
+number_of_status No = 1
+
+-- the number of a run that ended without an answer; of bytes in memory no read or write fails
+abbrev pub number_of_fault : ToolFault → ℕ
+number_of_fault TooLong = 4
+number_of_fault Memory = 3
+number_of_fault Read = 3
+number_of_fault (Write written) = 3
+
+-- What a call returns: its number, `size`, and the caller's memory for the answer, which held
+-- `before` and now holds `room`. `Out` holds of the right output, or of none if there is none.
+pub record Returns (Out : Option Output → Type 0) (before room : List ℕ) (size number : ℕ)
+    : Type 0 where
+  -- 0 and 1: the output's text is at the front of the room, and the number is its status
+  pub reported : (status : Status) → number ≡ number_of_status status → (output : Output)
+      × Out (Some output)
+      × (output.status ≡ status)
+      × (size ≡ length output.text)
+      × (take size room ≡ output.text)
+  -- 2: it is longer than the room, and `size` is its length
+  pub longer : number ≡ 2 → (output : Output)
+      × Out (Some output)
+      × (size ≡ length output.text)
+      × (length room < size)
+  -- 4: there is none, as an input is too long; 3, refused memory, says nothing of the output
+  pub none : number ≡ 4 → Out None
+  pub known : number < 5
+  -- the room behind a text is as it was; from 2 on all of it is; its length never changes
+  pub behind : number < 2 → drop size room ≡ drop size before
+  pub same : 2 ≤ number → room ≡ before
+  pub as_long : length room ≡ length before
+
+-- If an answer about the bytes b of the task and c of the plan is written, `plan valid` is in
+-- the room exactly if the plan solves the task at that cost, and exactly then the answer is yes.
+abbrev pub ReturnsHeadline : List ℕ → List ℕ → List ℕ → ℕ → ℕ → Type 0
+ReturnsHeadline b c room size number = (status : Status) → number ≡ number_of_status status
+    → Headline b c (λ line. take size room ≡ line) status
+
+-- the bytes are some lines, each ended by LF, and behind them this one
+abbrev pub EndsInLine : List ℕ → List ℕ → Type 0
+EndsInLine bytes line = (front : List (List ℕ)) × (bytes ≡ text front ++ line)
+
+-- If an answer is written behind a trace, the same holds of the last line in the room.
+abbrev pub ReturnsLastLine : List ℕ → List ℕ → List ℕ → ℕ → ℕ → Type 0
+ReturnsLastLine b c room size number = (status : Status) → number ≡ number_of_status status
+    → Headline b c (EndsInLine (take size room)) status
+
+-- If an answer is written about the mutex groups of the task b, `group K exclusive` is a line of it
+-- only if group K is an invariant of the task.
+abbrev pub ReturnsInvariants : List ℕ → List ℕ → ℕ → ℕ → Type 0
+ReturnsInvariants b room size number = (status : Status) → number ≡ number_of_status status
+    → Invariants b (λ out. take size room ≡ out)

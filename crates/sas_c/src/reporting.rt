@@ -1,0 +1,65 @@
+// How an answer goes into the caller's memory.
+ghost use Rattle.std.specs.Prelude.{◌≡◌, ◌<◌, length, take, drop, IsTrue, IsFalse, Some};
+ghost use Rattle.sas_output.specs.Ending.{output_of};
+ghost use Rattle.sas_c.specs.Reporting.{Returns};
+ghost use Rattle.sas_c.specs.Written.{IsWritten};
+
+use crate::numbers::{ROOM_TOO_SHORT, number_of, number_without};
+use sas_lines::Watched;
+use sas_output::{Status, Answer, ToolFault};
+
+/// Writes an answer with this text and this status. Returns the status as a number, or that the text is longer than the room.
+pub fn report(text: &[u8], status: Status, room: &mut [u8], size: &mut usize) -> u32
+    ensures { Returns (λ output. output ≡ Some (record { text = text.now; status = status }))
+        room.old room.new size.new result }
+{
+    if copy(text, room, size) {
+        number_of(status)
+    } else {
+        ROOM_TOO_SHORT
+    }
+}
+
+/// Writes an answer, and drops it.
+pub fn return_answer(reported: Answer, room: &mut [u8], size: &mut usize) -> u32
+    ensures { Returns (λ output. output ≡ Some (output_of reported))
+        room.old room.new size.new result }
+{
+    let number = report(reported.text.as_slice(), reported.status, room, size);
+    drop(reported);
+    number
+}
+
+/// Writes the answer of a run that wrote this text and ended so, or returns why there is none.
+pub fn report_ended(
+    ended: Result<Status, ToolFault>,
+    text: Watched<Vec<u8>>,
+    room: &mut [u8],
+    size: &mut usize,
+) -> u32
+    ensures { Returns (IsWritten text.device.items ended)
+        room.old room.new size.new result }
+{
+    match ended {
+        Ok(status) => report(text.into_device().as_slice(), status, room, size),
+        Err(fault) => number_without(fault),
+    }
+}
+
+/// Copies the text to the front of the room, if it fits. `size` gets its length in any case. Nothing else in the room changes.
+fn copy(text: &[u8], room: &mut [u8], size: &mut usize) -> bool
+    ensures size { size.new ≡ length text.now }
+    ensures same { length room.new ≡ length room.old }
+    ensures copied { IsTrue result → take (length text.now) room.new ≡ text.now }
+    ensures behind { IsTrue result
+        → drop (length text.now) room.new ≡ drop (length text.now) room.old }
+    ensures longer { IsFalse result → length room.old < length text.now }
+    ensures spared { IsFalse result → room.new ≡ room.old }
+{
+    *size = text.len();
+    if text.len() > room.len() {
+        return false;
+    }
+    room[..text.len()].copy_from_slice(text);
+    true
+}

@@ -1,0 +1,19 @@
+-- What the proofs use of other crates.
+pub use Rattle.std.proofs.Common.{◌≡◌, ℕ, ◌+◌, ◌<◌, ◌≤◌, ◌≢◌, List, length, get_or, slice_set, Option, None, Some, sym, ap, subst, ◌∙◌, inl, inr}
+pub use Rattle.std.proofs.Common.{arith, [], Bool, true, false, nat_eq, refl, if◌then◌else◌, true≢false, option_map, ◌-◌, ◌⊎◌, ◌∷◌, ◌++◌}
+pub use Rattle.std.proofs.Common.{vec_capacity, rules}
+pub use Rattle.std.proofs.Math.Nat.{eq-or-lt_of_le}
+pub use Rattle.std.proofs.lemmas.Bool.{cases_eq, eqb-true, eq-eqb, cases_lt}
+pub use Rattle.std.proofs.lemmas.List.{get_or-set_same, get_or-set_other, length-set, get_or_append_left, get_or_push, get_or_read, length-append}
+pub use Rattle.std.proofs.lemmas.Map.Text.{is_eq-slice_cmp}
+pub use Rattle.std.proofs.lemmas.Option.{none-some, same_Some}
+pub use Rattle.std.specs.BTreeMap.{BTreeMap, is_at}
+pub use Rattle.std.specs.Cmp.{nat_eq_equiv}
+pub use Rattle.std.specs.Cmp.Lexicographic.{pointwise, bytes_decides, slice_cmp, lists_equiv}
+pub use Rattle.std.specs.Global.{Vec}
+pub use Rattle.std.specs.Map.{IsKeyTest, AreApart}
+unfoldable pub use Rattle.std.specs.Map.{KeepsOthers}
+pub use Rattle.std.specs.Ordering.{eq_by_cmp, nat_cmp}
+pub use Rattle.indexmap.specs.IndexMap.{get, IndexMap, UpdatesBy}
+pub use Rattle.sas_core.specs.Grounded.{operator_at}
+pub use Rattle.sas_core.specs.declared.parts.Parts.{Parts}

@@ -1,0 +1,69 @@
+-- What the proofs use of other crates.
+pub use Rattle.std.proofs.Common.{◌≡◌, ℕ, List, ap, sym, subst, ◌∙◌, Option, Some, None, Result, Ok, Err, IfOk, ◌≢◌, ◌<◌, ◌⊎◌, [], ◌∷◌, ◌++◌, length}
+pub use Rattle.std.proofs.Common.{codes, get_or, arith, refl, inl, inr, option_map, append-nil, ◌+◌, ◌≤◌, Bool, true, false, ◌==◌, if◌then◌else◌}
+pub use Rattle.std.proofs.Common.{length-append, decimal, ◌↔◌, ◌||◌, IsTrue, ◌/◌, ◌%◌, flat_map, not, nat_lt, ◌&&◌, ◌-◌, take, drop, append_assoc}
+pub use Rattle.std.proofs.Common.{eqb-true, nat_eq, zero-add, rules, is_some, option_and_then}
+pub use Rattle.std.proofs.Math.Seq.{drop-append_seam}
+pub use Rattle.std.proofs.lemmas.Bool.{and_from, ne_eqb, ltb-true}
+pub use Rattle.std.proofs.lemmas.Grind.{elements, common_steps}
+pub use Rattle.std.proofs.lemmas.List.{append_cancel_left, take-append-drop, take_all}
+pub use Rattle.std.proofs.lemmas.List.FromFn.{length-enumerate_from, get_or-enumerate_from}
+pub use Rattle.std.proofs.lemmas.List.Sums.{count_by_more_no, count_by_more_yes}
+pub use Rattle.std.proofs.lemmas.Option.{none-some, slice_get-get_or}
+pub use Rattle.std.specs.Cmp.Lexicographic.{pointwise, same_text, other_text}
+pub use Rattle.std.specs.Io.KnownBytes.{Appends, Consumes}
+pub use Rattle.std.specs.List.{list_all, enumerate_from}
+pub use Rattle.sas_answers.proofs.AnswerLaws.{OneAnswer, SomeAnswer}
+pub use Rattle.sas_answers.proofs.CheckAnswers.{some_check_answer}
+pub use Rattle.sas_answers.proofs.VerdictAnswers.{one_verdict_answer}
+pub use Rattle.sas_answers.proofs.WordedLines.{worded}
+pub use Rattle.sas_answers.specs.Answers.{valid_answer, VerdictAnswer, layers_refusal, layers_verdict}
+pub use Rattle.sas_answers.specs.LayerWords.{layer_words, layers_line, words_at_part}
+pub use Rattle.sas_answers.specs.PlanWords.{valid_line, fault_words, invalid_line, step_words, goal_words, sum_words}
+pub use Rattle.sas_core.specs.FirstFault.{first_fault}
+pub use Rattle.sas_core.specs.Names.{is_plain}
+pub use Rattle.sas_core.specs.PlanParts.{PlanParts}
+pub use Rattle.sas_core.specs.Variables.{layer_of}
+pub use Rattle.sas_core.specs.WellRanged.{WellRanged}
+pub use Rattle.sas_core.specs.declared.parts.Fact.{Fact}
+pub use Rattle.sas_core.specs.declared.parts.Parts.{Parts}
+pub use Rattle.sas_core.specs.declared.parts.Variable.{Variable}
+pub use Rattle.sas_flat.specs.declared.outline.Outline.{Outline}
+pub use Rattle.sas_lines.specs.Lines.{text, lines_among, without_return}
+unfoldable pub use Rattle.sas_lines.specs.Lines.{lines}
+pub use Rattle.sas_lines.specs.Parts.{onto_first}
+unfoldable pub use Rattle.sas_lines.specs.Parts.{parts}
+pub use Rattle.sas_meaning.proofs.LayerChecksAreRules.{checks_are_rules}
+pub use Rattle.sas_meaning.specs.LayerChecks.{layer_checks}
+pub use Rattle.sas_meaning.specs.Layers.{IsLayered}
+pub use Rattle.sas_meaning.specs.declared.layered.LayerFault.{LayerFault}
+pub use Rattle.sas_output.proofs.PlainLines.{number, number_then, two}
+pub use Rattle.sas_output.proofs.Pushed.{pushes_item, pushes_then}
+pub use Rattle.sas_output.proofs.Sent.{counting_ends}
+pub use Rattle.sas_output.proofs.Texts.{text_of_both, text_of_each}
+pub use Rattle.sas_output.specs.Ending.{Output, Ends, EndsCounting, IsDecided}
+pub use Rattle.sas_output.specs.Sink.{Pushes}
+pub use Rattle.sas_output.specs.declared.ending.Status.{Status}
+pub use Rattle.sas_output.specs.declared.ending.Status.TheVariants.{Yes, No}
+pub use Rattle.sas_output.specs.declared.ending.ToolFault.{ToolFault}
+pub use Rattle.sas_plan_file.proofs.PlanLaws.{plan_laws_hold}
+pub use Rattle.sas_plan_file.specs.PlanFormat.{plan_texts, plan_format, PlanKind, like_step, like_cost, like_none}
+pub use Rattle.sas_reader.proofs.Plain.{plain-decimal, plain_bytes, plain-append}
+pub use Rattle.sas_reader.specs.Devices.{Refuses, unread_at, ended_at, faulty_at}
+pub use Rattle.sas_reader.specs.Format.{Format, ReadsAs, FaultOf, KindAt, too_long, trailing, wrong}
+pub use Rattle.sas_reader.specs.Laws.{Laws}
+pub use Rattle.sas_reader.specs.Limit.{most_bytes}
+pub use Rattle.sas_reader.specs.System.{IsPlain}
+pub use Rattle.sas_reader.specs.Texts.{Reads}
+pub use Rattle.sas_reader.specs.declared.fault.Fault.{Fault}
+pub use Rattle.sas_reader.specs.declared.fault.Kind.{Kind}
+pub use Rattle.sas_reader.specs.declared.fault.Kind.TheVariants.{TooLong, Read, Memory}
+pub use Rattle.sas_run.specs.Plans.{IsValid}
+pub use Rattle.sas_run.specs.declared.plan_check.PlanFault.{PlanFault}
+pub use Rattle.sas_task_format.proofs.TaskLaws.{task_laws_hold}
+pub use Rattle.sas_task_format.specs.Marks.{fixed_word_bytes}
+pub use Rattle.sas_task_format.specs.TaskFormat.{task_texts, task_format, TaskSlot, word_slot, name_slot, number_slot, signed_slot, fact_slot}
+pub use Rattle.sas_task_format.specs.TaskFormat.{effect_slot, head_slot, NumbersKind, no_shape, no_value}
+pub use Rattle.sas_task_format.specs.declared.marks.Due.{Due}
+pub use Rattle.sas_task_format.specs.declared.marks.FixedWord.{FixedWord}
+pub use Rattle.sas_task_format.specs.declared.marks.Location.{Location}

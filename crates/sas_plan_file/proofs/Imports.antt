@@ -1,0 +1,49 @@
+-- What the proofs use of other crates.
+pub use Rattle.std.proofs.Common.{◌≡◌, ℕ, ◌-◌, true, false, List, ◌++◌, length, take, drop, sym, ap, ◌∙◌, arith, length-append, Option, None, Some}
+pub use Rattle.std.proofs.Common.{nat_eq, ◌⊎◌, inl, inr, suc, ◌+◌, ◌<◌, ◌≤◌, [], ◌∷◌, get_or, refl, subst, Ok, append_assoc, Bool, not, ◌&&◌, ◌==◌}
+pub use Rattle.std.proofs.Common.{codes, map, IsTrue, ◌↔◌, Err, Bor, rules}
+pub use Rattle.std.proofs.Math.ListN.{get_or-append}
+pub use Rattle.std.proofs.Math.Seq.{drop-append_seam, take-append_seam}
+pub use Rattle.std.proofs.lemmas.Bool.{ne_eqb, false_from_ne_true}
+pub use Rattle.std.proofs.lemmas.Fmt.{decimal_injective}
+pub use Rattle.std.proofs.lemmas.Grind.{flat_map-append}
+pub use Rattle.std.proofs.lemmas.List.{take-append-drop, length-take-le, get_or-take, take_at, drop_more, drop_all, append-nil, append_cancel_left}
+pub use Rattle.std.proofs.lemmas.List.{append_cancel_right, take_rest, take_all, map-append}
+pub use Rattle.std.proofs.lemmas.Result.{on_ok_weaker}
+pub use Rattle.std.specs.Cmp.Lexicographic.{pointwise, same_text, other_text}
+pub use Rattle.std.specs.Fmt.{decimal}
+pub use Rattle.std.specs.List.{list_all, AllByRecursion}
+pub use Rattle.std.specs.Option.{MatchOption}
+pub use Rattle.memchr.specs.Find.{Nowhere, NoneBefore, Passes, is_byte2}
+pub use Rattle.sas_core.proofs.PlainBytes.{is_none-search}
+pub use Rattle.sas_core.specs.Names.{is_plain, IsName}
+pub use Rattle.sas_core.specs.Numbers.{IsPlanCost}
+pub use Rattle.sas_core.specs.PlanParts.{PlanParts}
+pub use Rattle.sas_core.specs.Plans.{WellNamed}
+pub use Rattle.sas_core.specs.declared.plan.CostKind.{CostKind}
+pub use Rattle.sas_lines.proofs.Beginnings.{stands_first, one_stands_first}
+pub use Rattle.sas_lines.proofs.Words.{NoSpace, NoSpace-decimal}
+pub use Rattle.sas_lines.specs.FirstLines.{LineStandsFirst}
+pub use Rattle.sas_lines.specs.Lines.{text}
+unfoldable pub use Rattle.sas_lines.specs.Lines.{lines}
+pub use Rattle.sas_reader.proofs.About.{about_laws_of}
+pub use Rattle.sas_reader.proofs.Conversion.{Follows, reads_of_format, some_read}
+pub use Rattle.sas_reader.proofs.Every.{laws_of}
+pub use Rattle.sas_reader.proofs.Live.{leads_line}
+pub use Rattle.sas_reader.proofs.Paths.{one_ended}
+pub use Rattle.sas_reader.proofs.Plain.{plain, return_stands_first, plain-decimal, plain_bytes, plain-name, plain-append}
+pub use Rattle.sas_reader.proofs.Reading.{end_fault, reads_all, refuses_all, feeds}
+pub use Rattle.sas_reader.proofs.Refusals.{reported_by, explains, reads_explained, refuses_explained}
+pub use Rattle.sas_reader.specs.About.{ConcernsText}
+pub use Rattle.sas_reader.specs.Devices.{ReadsAll, ValueOf}
+pub use Rattle.sas_reader.specs.Format.{ReadsAs}
+pub use Rattle.sas_reader.specs.Laws.{Laws}
+pub use Rattle.sas_reader.specs.Limit.{most_bytes}
+pub use Rattle.sas_reader.specs.Machine.{AcceptsAhead}
+pub use Rattle.sas_reader.specs.Reader.{IsRefused}
+pub use Rattle.sas_reader.specs.Reading.{Finishes}
+pub use Rattle.sas_reader.specs.System.{IsAllowed, Node, ended, LeadsToEnd, Grammar, IsPlain, IsRejected, Leads, Rejects}
+pub use Rattle.sas_reader.specs.Texts.{lines_of, Reads}
+pub use Rattle.sas_reader.specs.declared.fault.Fault.{Fault}
+pub use Rattle.sas_reader.specs.declared.fault.Kind.{Kind}
+pub use Rattle.sas_reader.specs.declared.fault.Kind.TheVariants.{Keyword, Name, Shape}

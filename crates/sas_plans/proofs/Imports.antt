@@ -1,0 +1,64 @@
+-- What the proofs use of other crates.
+pub use Rattle.std.proofs.Common.{◌≡◌, ℕ, ◌<◌, ◌≤◌, ◌⊎◌, List, [], ◌∷◌, ◌++◌, length, append_assoc, refl, sym, ap, ◌∙◌, arith, inl, inr, Option, Some}
+pub use Rattle.std.proofs.Common.{None, All, codes, decimal, subst, Ok, Err, slice_index_or, Result, IfOk, zip, flat_map, Contains, if◌then◌else◌}
+pub use Rattle.std.proofs.Common.{zero, suc, ◌+◌, Bool, true, false, cond, eqb, ◌/◌, ◌%◌, nat_lt, ◌≢◌, ◌↔◌, IsErrOf, IsTrue, get_or, IfErr, is_some}
+pub use Rattle.std.proofs.Common.{append-nil, count_by, min, IfSome, add-one, Bor, rules}
+pub use Rattle.std.proofs.Math.ListN.{get_or-map, get_or-append}
+pub use Rattle.std.proofs.Math.Nat.{le-min, min-le_left, min-le_right}
+pub use Rattle.std.proofs.Math.Seq.{get_or-append_seam}
+pub use Rattle.std.proofs.lemmas.Bool.{cases_lt, lt-ltb}
+pub use Rattle.std.proofs.lemmas.Grind.{flat_map-append}
+pub use Rattle.std.proofs.lemmas.List.{length-map, append_cancel_left, append_cancel_right, length_push}
+pub use Rattle.std.proofs.lemmas.List.Elements.{All-nil, All-cons, All-head, All-tail, All-same, All-append, All-push, All-weaker, All-contains}
+pub use Rattle.std.proofs.lemmas.List.Elements.{Contains-append_right, Contains-append_left, Contains-push, recursion_from_All, All-get_or}
+pub use Rattle.std.proofs.lemmas.List.Elements.{All-from_get_or, Contains-get_or, All-map}
+pub use Rattle.std.proofs.lemmas.List.Sums.{AllPass-from_list_all, list_all-from_AllPass, count_by-le-length, sum_by-cons, sum_by_push}
+pub use Rattle.std.proofs.lemmas.Option.{none-some, same_Some}
+pub use Rattle.std.proofs.lemmas.Slice.Zip.{length-zip, get_or-zip}
+pub use Rattle.std.specs.Fmt.{digits_onto, digit_glyph}
+unfoldable pub use Rattle.std.specs.Fmt.{digits}
+pub use Rattle.std.specs.Io.KnownBytes.{Appends, IsAtEnd, Consumes}
+pub use Rattle.std.specs.List.{AllZip, list_all, AllByRecursion}
+pub use Rattle.sas_answers.proofs.VerdictAnswers.{one_verdict_answer, some_verdict_answer}
+pub use Rattle.sas_answers.proofs.WordedLines.{worded}
+pub use Rattle.sas_answers.specs.Answers.{VerdictAnswer, CheckAnswer, layers_refusal, layers_verdict}
+pub use Rattle.sas_answers.specs.LayerWords.{layer_words, words_at_part, layers_line}
+pub use Rattle.sas_answers.specs.PlanWords.{fault_words, invalid_line, valid_line}
+pub use Rattle.sas_core.specs.FirstFault.{first_fault}
+pub use Rattle.sas_core.specs.PlanParts.{PlanParts}
+pub use Rattle.sas_core.specs.WellRanged.{WellRanged}
+pub use Rattle.sas_core.specs.declared.parts.Parts.{Parts}
+pub use Rattle.sas_lines.proofs.Splitting.{Plain, lines-append, lines-text, unfinished-text, lines-one}
+pub use Rattle.sas_lines.specs.Device.{Device}
+pub use Rattle.sas_lines.specs.Lines.{text}
+unfoldable pub use Rattle.sas_lines.specs.Lines.{lines}
+pub use Rattle.sas_meaning.specs.LayerChecks.{layer_checks}
+pub use Rattle.sas_meaning.specs.Layers.{IsLayered}
+pub use Rattle.sas_meaning.specs.declared.layered.LayerFault.{LayerFault}
+pub use Rattle.sas_output.specs.Ending.{Ends, Output, IsWrite, output_of, IsDecided}
+pub use Rattle.sas_output.specs.declared.ending.Status.{Status}
+pub use Rattle.sas_output.specs.declared.ending.Status.TheVariants.{Yes, No}
+pub use Rattle.sas_output.specs.declared.ending.ToolFault.{ToolFault}
+pub use Rattle.sas_output.specs.declared.ending.ToolFault.TheVariants.{Read}
+pub use Rattle.sas_output.specs.declared.answer.Answer.{Answer}
+pub use Rattle.sas_outputs.proofs.Endings.{ends_as, ends_well}
+pub use Rattle.sas_outputs.proofs.Headlines.{reports_valid, headline_of, sent_same}
+pub use Rattle.sas_outputs.proofs.Outputs.{same_output, refused_kind, too_long_else, reading_of_refusal, file_refused, file_too_long, long_file}
+pub use Rattle.sas_outputs.proofs.Outputs.{plan_worded}
+pub use Rattle.sas_outputs.proofs.PlainLines.{file_words, file_plain, kind_plain, layer_plain, invalid_plain}
+pub use Rattle.sas_outputs.proofs.PlanOutputs.{plain_refuses, not_refused, verdict_output, layered_output, reported_fault}
+pub use Rattle.sas_outputs.specs.Headline.{Solves, Headline}
+pub use Rattle.sas_outputs.specs.Output.{Out, VerdictOut, plain_refusal, IsAnswerOrRefusal, HasOneOutput, refusal_line, word_of, CheckOut, refusal}
+pub use Rattle.sas_outputs.specs.Output.{TaskOut, UnlayeredAnswer, IsLayeredText}
+pub use Rattle.sas_outputs.specs.declared.Request.TheVariants.{Plan}
+pub use Rattle.sas_plan_file.proofs.PlanLaws.{plan_laws_hold}
+pub use Rattle.sas_plan_file.specs.PlanFormat.{plan_format}
+pub use Rattle.sas_reader.proofs.Known.{known_answer, known_fault}
+pub use Rattle.sas_reader.proofs.Plain.{plain, plain-decimal, plain_bytes, plain-append}
+pub use Rattle.sas_reader.specs.Devices.{ValueOf, ReadsAll}
+pub use Rattle.sas_reader.specs.Format.{ReadsAs}
+pub use Rattle.sas_reader.specs.Limit.{most_bytes}
+pub use Rattle.sas_reader.specs.System.{IsPlain}
+pub use Rattle.sas_reader.specs.declared.fault.Fault.{Fault}
+pub use Rattle.sas_reader.specs.declared.fault.Kind.{Kind}
+pub use Rattle.sas_task_format.specs.TaskFormat.{task_format}

@@ -1,0 +1,125 @@
+-- Lines that are no reasons: an answer of such lines stays as it is when reasons are taken away.
+use Rattle.sas_requests.proofs.Imports.{◌≡◌, ℕ, List, [], ◌∷◌, ◌++◌, codes, refl, sym, ap, ◌∙◌, Bool, false, Some, not, filter, if◌then◌else◌, decimal, AllByRecursion, LayerFault, text, lines, Plain, lines-text, Fault, IsPlain, plain, plain-decimal, plain_bytes, plain-append, all_map, Verdict, Exclusive, Derived, Initial, Broken, PlanFault, Output, layers_refusal, verdict_words, group_line}
+use Rattle.sas_requests.proofs.Imports.{layer_words, layers_line, fault_words, word_of, refusal, refusal_line, file_words, file_plain, kind_plain, layer_plain, invalid_plain, worded}
+use Rattle.std.proofs.lemmas.List.{append-nil}
+use Rattle.sas_requests.specs.Why.{is_reason, without_reasons}
+use Rattle.sas_requests.proofs.ReasonLines.{IsReason, AreReasons}
+
+-- ---- lines without and with reasons
+
+-- the line is no reason
+pub record IsReported (line : List ℕ) : Type 0 where
+  pub plain : IsPlain line
+  pub no_reason : is_reason line ≡ false
+
+-- the text is such lines, each ended by LF
+pub record IsReportedText (bytes : List ℕ) : Type 0 where
+  pub reported : List (List ℕ)
+  pub each : AllByRecursion IsReported reported
+  pub whole : bytes ≡ text reported
+
+pub kept_first : (first : List ℕ) (behind : List (List ℕ)) → IsReported first → filter (λ line. not (is_reason line)) (first ∷ behind) ≡ first ∷ filter (λ line. not (is_reason line)) behind
+kept_first first behind reported =
+    let rest = filter (λ line. not (is_reason line)) behind in
+    ap (λ (b : Bool). if not b then first ∷ rest else rest) reported.no_reason
+
+all_kept : (reported : List (List ℕ)) → AllByRecursion IsReported reported → filter (λ line. not (is_reason line)) reported ≡ reported
+all_kept [] h = refl
+all_kept (first ∷ reported) h = kept_first first reported h.0 ∙ ap (λ (x : List (List ℕ)). first ∷ x) (all_kept reported h.1)
+
+none_kept : (reasons : List (List ℕ)) → AreReasons reasons → filter (λ line. not (is_reason line)) reasons ≡ []
+none_kept [] h = refl
+none_kept (first ∷ reasons) h =
+    let reports : IsReason first = h.0 in
+    let rest = filter (λ line. not (is_reason line)) reasons in
+    ap (λ (b : Bool). if not b then first ∷ rest else rest) reports.reports ∙ none_kept reasons h.1
+
+pub plain_reported : (line : List ℕ) → IsReported line → Plain line
+plain_reported line reported = plain line reported.plain
+
+pub plain_reason : (line : List ℕ) → IsReason line → Plain line
+plain_reason line reason = plain line reason.plain
+
+-- a text without reasons stays
+pub stays : (bytes : List ℕ) → IsReportedText bytes → without_reasons bytes ≡ bytes
+stays bytes t =
+    let are = lines-text t.reported (all_map IsReported Plain plain_reported t.reported t.each) in
+    ap without_reasons t.whole
+    ∙ (ap (λ (ls : List (List ℕ)). text (filter (λ line. not (is_reason line)) ls)) are
+    ∙ (ap (λ (ls : List (List ℕ)). text ls) (all_kept t.reported t.each) ∙ sym t.whole))
+
+-- the lines of one with reasons behind it
+pub lines_of_first : (line : List ℕ) (reasons : List (List ℕ)) → IsReported line → AreReasons reasons → lines ((line ++ 10 ∷ []) ++ text reasons) ≡ line ∷ reasons
+lines_of_first line reasons reported are = lines-text (line ∷ reasons) (plain_reported line reported, all_map IsReason Plain plain_reason reasons are)
+
+-- and of these the first one stays
+pub first_stays : (line : List ℕ) (reasons : List (List ℕ)) → IsReported line → AreReasons reasons → without_reasons ((line ++ 10 ∷ []) ++ text reasons) ≡ line ++ 10 ∷ []
+first_stays line reasons reported are =
+    let read = lines_of_first line reasons reported are in
+    let one = kept_first line reasons reported ∙ ap (λ (x : List (List ℕ)). line ∷ x) (none_kept reasons are) in
+    ap (λ (ls : List (List ℕ)). text (filter (λ l. not (is_reason l)) ls)) read
+    ∙ (ap (λ (ls : List (List ℕ)). text ls) one ∙ append-nil (line ++ 10 ∷ []))
+
+-- ---- one line
+
+reported_line : (line out : List ℕ) → IsReported line → out ≡ line ++ 10 ∷ [] → IsReportedText out
+reported_line line out reported is = record { reported = line ∷ []; each = (reported, tt); whole = is ∙ sym (append-nil (line ++ 10 ∷ [])) }
+
+-- ---- refusals of files
+
+-- the refusal of a file whose name is plain and begins with no space
+abbrev pub AreRefusalsReported : List ℕ → Type 0
+AreRefusalsReported name = (fault : Fault) (o : Output) → Some o ≡ refusal name fault → IsReportedText o.text
+
+refusals_reported : (name : List ℕ) → IsPlain name → ((line : ℕ) (w : List ℕ) → is_reason (file_words name line w) ≡ false) → AreRefusalsReported name
+refusals_reported name h no_reason fault o is =
+    let w = worded (word_of fault.kind) (refusal_line name fault.line) o (sym is) in
+    let reported : IsReported (file_words name fault.line w.said) = record { plain = file_plain name fault.line w.said h (kind_plain fault.kind w.said w.among); no_reason = no_reason fault.line w.said } in
+    reported_line (file_words name fault.line w.said) o.text reported w.text
+
+pub task_refusals_reported : AreRefusalsReported (codes "task")
+task_refusals_reported = refusals_reported (codes "task") (plain_bytes (codes "task") refl) (λ line w. refl)
+
+pub plan_refusals_reported : AreRefusalsReported (codes "plan")
+plan_refusals_reported = refusals_reported (codes "plan") (plain_bytes (codes "plan") refl) (λ line w. refl)
+
+-- ---- refusals of layers
+
+-- such a refusal, without the end of its line
+pub layer_reported : (fault : LayerFault) (w : List ℕ) → layer_words fault ≡ Some w → IsReported (codes "task refused: " ++ w)
+layer_reported fault w e = record {
+  plain = plain-append (codes "task refused: ") w (plain_bytes (codes "task refused: ") refl) (layer_plain fault w e);
+  no_reason = refl;
+}
+
+pub layers_reported : (fault : LayerFault) (o : Output) → layers_refusal fault ≡ Some o → IsReportedText o.text
+layers_reported fault o is =
+    let w = worded (layer_words fault) layers_line o is in
+    reported_line (codes "task refused: " ++ w.said) o.text (layer_reported fault w.said w.among) w.text
+
+-- ---- verdicts on groups
+
+verdict_plain : (verdict : Verdict) → IsPlain (verdict_words verdict)
+verdict_plain Exclusive = plain_bytes (codes "exclusive") refl
+verdict_plain Derived = plain_bytes (codes "derived") refl
+verdict_plain Initial = plain_bytes (codes "not shown: initial state") refl
+verdict_plain (Broken operator) = plain-append (codes "not shown: operator ") (decimal operator) (plain_bytes (codes "not shown: operator ") refl) (plain-decimal operator)
+
+pub group_reported : (place : ℕ) (verdict : Verdict) → IsReported (group_line place verdict)
+group_reported place verdict = record {
+  plain =
+      plain-append (codes "group " ++ decimal place ++ codes " ") (verdict_words verdict)
+      (plain-append (codes "group " ++ decimal place) (codes " ")
+      (plain-append (codes "group ") (decimal place) (plain_bytes (codes "group ") refl) (plain-decimal place)) (plain_bytes (codes " ") refl))
+      (verdict_plain verdict);
+  no_reason = refl;
+}
+
+-- ---- the verdict on a plan
+
+-- the verdict that says no, without the end of its line
+pub verdict_reported : (cost : ℕ) (fault : PlanFault) (w : List ℕ) → fault_words cost fault ≡ Some w → IsReported (codes "plan invalid: " ++ w)
+verdict_reported cost fault w e = record {
+  plain = invalid_plain cost fault w e;
+  no_reason = refl;
+}

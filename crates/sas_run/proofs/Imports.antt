@@ -1,0 +1,52 @@
+-- What the proofs use of other crates.
+pub use Rattle.std.proofs.Common.{◌≡◌, ℕ, zero, suc, ◌<◌, ◌⊎◌, List, [], ◌∷◌, length, slice_index, slice_index_or, bytes_eq, subst, inl, inr, arith}
+pub use Rattle.std.proofs.Common.{◌≢◌, ◌+◌, ◌≤◌, ◌++◌, get_or, set, Option, None, Some, refl, sym, ◌∙◌, ap, ◌-◌, take, drop, Result, Ok, Err, rules}
+pub use Rattle.std.proofs.Common.{IsTrue, vec_capacity, filter_map, option_map, IfErr, ◌*◌, ◌^◌, true≢false, Bool, true, false, is_some, cond, IfNone}
+pub use Rattle.std.proofs.Common.{append_assoc}
+pub use Rattle.std.proofs.Math.Seq.{take-append_seam, get_or-append_seam}
+pub use Rattle.std.proofs.lemmas.Bool.{cases_eq, cases_lt, cases_Bool, ltb-false}
+pub use Rattle.std.proofs.lemmas.Grind.{common_steps}
+pub use Rattle.std.proofs.lemmas.List.{get_or-set_same, get_or-set_other, get_or_append_left, get_or_push, length-append, take_all, get_or-take}
+pub use Rattle.std.proofs.lemmas.List.{get_or_default, length-take, length-set, take-append-drop, drop_more, get_or-append-add, get_or-map}
+pub use Rattle.std.proofs.lemmas.List.{length-map, same_lists, take_more, get_or-drop, length-take-le, length-drop}
+pub use Rattle.std.proofs.lemmas.List.Elements.{All-nil, All-cons, All-push, All-weaker, All-head, All-tail, All-map, All-append, All-from_recursion}
+pub use Rattle.std.proofs.lemmas.List.Elements.{Contains-get_or, Contains-append_left, Contains-append_right, Contains-push, All-rest}
+pub use Rattle.std.proofs.lemmas.List.Quantifiers.{all_pairs_push}
+pub use Rattle.std.proofs.lemmas.List.Sums.{count_by_more_no, count_by_more_yes, sum_by-cons}
+pub use Rattle.std.proofs.lemmas.Option.{slice_get-get_or}
+pub use Rattle.std.proofs.lemmas.Result.{err_from_is_err_and}
+pub use Rattle.std.proofs.lemmas.Slice.Eq.{bytes_eq-Decides}
+pub use Rattle.std.specs.List.{All, AllPairs, cons_option, AllByRecursion, count_by}
+pub use Rattle.std.specs.Option.{option_and_then}
+pub use Rattle.std.specs.Prelude.{unwrap_or}
+pub use Rattle.std.specs.Result.{IsOk}
+pub use Rattle.sas_core.proofs.Places.{holds_at}
+pub use Rattle.sas_core.specs.Changes.{plain_effect, plain_effects, effect_change}
+pub use Rattle.sas_core.specs.Grounded.{operator_at, effect_at}
+pub use Rattle.sas_core.specs.PlanParts.{PlanParts}
+pub use Rattle.sas_core.specs.Variables.{IsState, HasValue, FactExists, MayHaveValue, layer_of}
+pub use Rattle.sas_core.specs.WellRanged.{EffectFits, OperatorFits, WellRanged}
+pub use Rattle.sas_core.specs.declared.grounded.Change.{Change}
+pub use Rattle.sas_core.specs.declared.parts.Effect.{Effect}
+pub use Rattle.sas_core.specs.declared.parts.Fact.{Fact}
+pub use Rattle.sas_core.specs.declared.parts.Operator.{Operator}
+pub use Rattle.sas_core.specs.declared.parts.Parts.{Parts}
+pub use Rattle.sas_core.specs.declared.parts.Variable.{Variable}
+pub use Rattle.sas_meaning.proofs.Exists.{settled_exists, initial_exists}
+pub use Rattle.sas_meaning.proofs.Facts.{hold_or_not, Untouched}
+pub use Rattle.sas_meaning.proofs.Forced.{state_set, fact_within}
+pub use Rattle.sas_meaning.proofs.Layers.{layer_cases}
+pub use Rattle.sas_meaning.proofs.Settling.{settled_where_empty}
+pub use Rattle.sas_meaning.proofs.Unique.{settled_is_one, step_is_one}
+pub use Rattle.sas_meaning.specs.Following.{HaveGone}
+pub use Rattle.sas_meaning.specs.Layers.{IsBasic, IsLayered}
+pub use Rattle.sas_meaning.specs.Reachable.{IsInitial, Reachable, Initial, Next}
+pub use Rattle.sas_meaning.specs.Settled.{Settles, IsSettled, SameBasic}
+pub use Rattle.sas_meaning.specs.States.{Holds, AllHold}
+pub use Rattle.sas_meaning.specs.Steps.{preconditions, Step, Fires, Agree, old_fact}
+pub use Rattle.sas_meaning.specs.Touched.{CoversChanges}
+pub use Rattle.sas_meaning.specs.declared.touched.Touched.{Touched}
+pub use Rattle.sas_names.proofs.Searching.{left}
+pub use Rattle.sas_names.specs.Chains.{IsChain, HaveChains}
+pub use Rattle.sas_names.specs.Named.{IsNamed}
+pub use Rattle.sas_names.specs.Names.{AreFirsts, IsNextNamed, IsLowestNamed}

@@ -1,0 +1,61 @@
+-- What the proofs use of other crates.
+pub use Rattle.std.proofs.Common.{◌≡◌, ℕ, List, Option, Some, None, Result, refl, sym, ap, subst, ◌∙◌, IfOk, ◌≢◌, [], ◌∷◌, ◌++◌, Bool, length}
+pub use Rattle.std.proofs.Common.{append_assoc, IsTrue, codes, suc, ◌<◌, ◌-◌, arith, Ok, ◌≤◌, ◌+◌, true, false, nat_lt, if◌then◌else◌, zero, drop}
+pub use Rattle.std.proofs.Common.{Err, take, ◌&&◌, rules, inr, length-append}
+pub use Rattle.std.proofs.lemmas.Bool.Decides.{nat_tests}
+pub use Rattle.std.proofs.lemmas.List.{append-nil}
+pub use Rattle.std.proofs.lemmas.Option.{none-some}
+pub use Rattle.std.proofs.lemmas.Result.{on_ok_weaker}
+pub use Rattle.std.specs.List.{AllByRecursion, flat_map, list_all}
+pub use Rattle.std.specs.Result.{result_err}
+pub use Rattle.sas_core.specs.Changes.{plain_effect}
+pub use Rattle.sas_core.specs.Names.{IsName, is_name}
+pub use Rattle.sas_core.specs.Variables.{fact_exists, range_of, has_value}
+pub use Rattle.sas_core.specs.WellRanged.{WellRanged}
+pub use Rattle.sas_core.specs.declared.grounded.Change.{Change}
+pub use Rattle.sas_core.specs.declared.parts.Effect.{Effect}
+pub use Rattle.sas_core.specs.declared.parts.Fact.{Fact}
+pub use Rattle.sas_core.specs.declared.parts.Operator.{Operator}
+pub use Rattle.sas_core.specs.declared.parts.Parts.{Parts}
+pub use Rattle.sas_core.specs.declared.parts.Rule.{Rule}
+pub use Rattle.sas_core.specs.declared.parts.Variable.{Variable}
+pub use Rattle.sas_lines.proofs.Beginnings.{one_stands_first}
+pub use Rattle.sas_lines.specs.FirstLines.{LineStandsFirst}
+pub use Rattle.sas_reader.proofs.Paths.{cut_at, after_ends, map-append, after_append}
+pub use Rattle.sas_reader.specs.Faults.{IsOfBytes}
+pub use Rattle.sas_reader.specs.Format.{IsBegun}
+pub use Rattle.sas_reader.specs.Machine.{IsFront, AcceptsAhead}
+pub use Rattle.sas_reader.specs.System.{LeadsToEnd, After, ended, IsAllowed, OneLine, IsRejected, Rejects, Leads}
+pub use Rattle.sas_reader.specs.declared.fault.Kind.{Kind}
+pub use Rattle.sas_reader.specs.declared.reader.Front.{Front}
+pub use Rattle.sas_task_format.proofs.DueBehind.{HasFacts, end_mark, ranges_behind, is_due, speaks_behind_variables}
+pub use Rattle.sas_task_format.proofs.MarkLaws.{same_items}
+pub use Rattle.sas_task_format.proofs.TaskGrammar.{task_grammar}
+pub use Rattle.sas_task_format.proofs.TaskSections.{less, and_both, and_parts}
+pub use Rattle.sas_task_format.proofs.Tracking.{IsBehindVariables}
+pub use Rattle.sas_task_format.proofs.WrongWords.{HasBounds, same_bounds}
+pub use Rattle.sas_task_format.specs.Marks.{slot_of_due, IsDue}
+pub use Rattle.sas_task_format.specs.Process.{process_node, a_line, repeat, done, read}
+pub use Rattle.sas_task_format.specs.TaskFormat.{TaskLine, word, name, number, signed, fact, effect, head, TaskSlot, task_slot, task_line_bytes}
+pub use Rattle.sas_task_format.specs.TaskFormat.{task_layout, task_format, TaskLineFits, HasShape, name_slot, fact_slot, effect_slot, line}
+pub use Rattle.sas_task_format.specs.TaskFormat.{variable_lines, group_lines, operator_lines, rule_lines, number_slot}
+pub use Rattle.sas_task_format.specs.TaskProcess.{task_start, TaskProcess, name_in, fact_in, effect_in, effect_may_stand, a_name, a_fact, an_effect}
+pub use Rattle.sas_task_format.specs.TaskProcess.{a_variable, a_group, an_operator, a_rule, a_word, a_number, number_in, may_change, head_may_stand}
+pub use Rattle.sas_task_format.specs.TaskProcess.{head_in}
+pub use Rattle.sas_task_format.specs.TaskReasons.{first_wrong, line_bounds, IsFirstWrong, IsTaskReason}
+pub use Rattle.sas_task_format.specs.Tracker.{mark_at, Tracker, tracker_start, track, mark_in, step, step_from, goes_to}
+pub use Rattle.sas_task_format.specs.declared.marks.Due.{Due}
+pub use Rattle.sas_task_format.specs.declared.marks.Location.{Location}
+pub use Rattle.sas_task_format.specs.declared.marks.Mark.{Mark}
+pub use Rattle.sas_task_format.specs.declared.marks.WrongWord.{WrongWord}
+pub use Rattle.sas_task_format.specs.declared.places.Place.{Place}
+pub use Rattle.sas_task_line.proofs.WrongWords.{first_back, range_is, ranges_many}
+pub use Rattle.sas_task_line.specs.Ahead.{SpellsAhead}
+pub use Rattle.sas_task_line.specs.FirstWrong.{HasWrong, FirstWrong}
+pub use Rattle.sas_task_line.specs.Sections.{HasNames, OperatorInRanges, RuleInRanges, spelled}
+pub use Rattle.sas_task_line.specs.TaskEvents.{after, nothing_yet}
+pub use Rattle.sas_task_line.specs.TaskLine.{IsOfLine}
+pub use Rattle.sas_task_line.specs.TaskRanges.{ranges_of, fact_in_ranges, effect_in_ranges, change_in_ranges, range_in, value_in}
+pub use Rattle.sas_task_line.specs.declared.so_far.SoFar.{SoFar}
+pub use Rattle.sas_task_line.specs.declared.task_events.Event.{Event}
+pub use Rattle.sas_task_line.specs.declared.task_events.Said.{Said}

@@ -1,5 +1,0 @@
-use Rattle.std.proofs.Common.{rules}
-use Rattle.sas_task_judge.proofs.task_machine.TaskMachine.into_kept.Goals as goal
-
-pub returns : goal.returns
-returns c = search rules

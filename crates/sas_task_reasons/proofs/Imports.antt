@@ -1,0 +1,75 @@
+-- What the proofs use of other crates.
+pub use Rattle.std.proofs.Common.{◌≡◌, ℕ, ◌<◌, ◌≤◌, ◌⊎◌, List, [], ◌∷◌, length, Some, refl, sym, ◌∙◌, ap, subst, inl, inr, arith, slice_get, suc, ◌+◌}
+pub use Rattle.std.proofs.Common.{Bool, true, false, ◌++◌, get_or, flat_map, Option, None, if◌then◌else◌, IfSome, IfNone, ◌↔◌, IsTrue, zero, ◌==◌}
+pub use Rattle.std.proofs.Common.{eqb-true, eq-eqb, find, ◌&&◌, not, is_some, slice_index, take, append_assoc, append-nil, min, ◌≢◌, cond, position}
+pub use Rattle.std.proofs.Common.{nat_lt, set, option_map, IsSome, below_more, codes, decimal, rules, IsSomeAnd, drop}
+pub use Rattle.std.proofs.lemmas.Bool.{cases_eq, cases_lt, cases_order, true≢false, lt-ltb, cases_Bool, ltb-true, both_ways}
+pub use Rattle.std.proofs.lemmas.List.{ext_get_or, length_push, get_or_push, get_or_append_left, take_more, take_all, length-take, length-set}
+pub use Rattle.std.proofs.lemmas.List.{get_or-set_same, get_or-set_other}
+pub use Rattle.std.proofs.lemmas.List.Elements.{All-contains, Contains-get_or, All-from_get_or}
+pub use Rattle.std.proofs.lemmas.List.Folds.{find_at}
+pub use Rattle.std.proofs.lemmas.List.Sums.{fails_before_first, passes_at_first, position_or_len_is}
+pub use Rattle.std.proofs.lemmas.Option.{slice_get-get_or, none-some, get_or_from_slice_get, slice_get_within}
+pub use Rattle.std.specs.List.{Contains, enumerate_from, All, position_or_len}
+pub use Rattle.std.specs.Option.{option_map_or}
+pub use Rattle.sas_answers.proofs.AnswerLaws.{OneAnswer, SomeAnswer}
+pub use Rattle.sas_answers.proofs.CheckAnswers.{some_check_answer}
+pub use Rattle.sas_answers.proofs.MutexAnswers.{lines_behind}
+pub use Rattle.sas_answers.specs.Answers.{layers_refusal, layers_verdict}
+pub use Rattle.sas_answers.specs.GroupWords.{groups_status, verdict_lines}
+pub use Rattle.sas_core.proofs.Places.{each_more}
+pub use Rattle.sas_core.specs.FirstFault.{Check, first_fault, check}
+pub use Rattle.sas_core.specs.Grounded.{effect_at, group_at, operator_at, rule_at}
+pub use Rattle.sas_core.specs.Variables.{layer_of, FactExists}
+pub use Rattle.sas_core.specs.declared.grounded.Change.{Change}
+pub use Rattle.sas_core.specs.declared.parts.Effect.{Effect}
+pub use Rattle.sas_core.specs.declared.parts.Fact.{Fact}
+pub use Rattle.sas_core.specs.declared.parts.Operator.{Operator}
+pub use Rattle.sas_core.specs.declared.parts.Parts.{Parts}
+pub use Rattle.sas_core.specs.declared.parts.Rule.{Rule}
+pub use Rattle.sas_groups.proofs.GreatestFamily.{clash_more, keeps_more, all_keep_more, group_of_larger}
+pub use Rattle.sas_groups.proofs.Invariance.{fact_same}
+pub use Rattle.sas_groups.proofs.JointLists.{one_list, some_list}
+pub use Rattle.sas_groups.proofs.JointVerdicts.{same_or_itself}
+pub use Rattle.sas_groups.specs.Checks.{NotBoth, IsGone}
+pub use Rattle.sas_groups.specs.Clashes.{Keeps, sets}
+pub use Rattle.sas_groups.specs.Distinct.{AreDistinct}
+pub use Rattle.sas_groups.specs.Families.{IsIn, IsGroupOf, IsGroupOfOr, IsKeptJointly, IsGreatest, IsOnBasic}
+pub use Rattle.sas_groups.specs.Groups.{IsExclusiveIn}
+pub use Rattle.sas_groups.specs.Index.{HasFact}
+pub use Rattle.sas_groups.specs.Joint.{verdict_at, AreJointVerdicts}
+pub use Rattle.sas_groups.specs.Kept.{family_of}
+pub use Rattle.sas_groups.specs.Lists.{known}
+pub use Rattle.sas_groups.specs.Notes.{IsGroupNote}
+pub use Rattle.sas_groups.specs.Verdicts.{IsJointVerdict}
+pub use Rattle.sas_groups.specs.declared.notes.Noted.TheVariants.{Several}
+pub use Rattle.sas_groups.specs.declared.verdict.Verdict.{Verdict}
+pub use Rattle.sas_groups.specs.declared.verdict.Verdict.TheVariants.{Exclusive, Derived, Initial, Broken}
+pub use Rattle.sas_lines.specs.Lines.{text}
+pub use Rattle.sas_meaning.proofs.Forced.{fact_within}
+pub use Rattle.sas_meaning.proofs.LayerChecksAreRules.{checks_are_rules}
+pub use Rattle.sas_meaning.proofs.RuleTests.{fires, agrees_with_earlier}
+pub use Rattle.sas_meaning.specs.LayerChecks.{numbered_checks, agrees_with, layer_checks, effect_layer_checks, operator_layer_checks, looks_down}
+pub use Rattle.sas_meaning.specs.LayerChecks.{firing_checks, rule_layer_checks}
+pub use Rattle.sas_meaning.specs.Layers.{CanFire, can_fire, IsLayered, default_of}
+pub use Rattle.sas_meaning.specs.States.{Holds}
+pub use Rattle.sas_meaning.specs.declared.layered.LayerFault.{LayerFault}
+pub use Rattle.sas_meaning.specs.declared.layered.LayerFault.TheVariants.{Memory, EffectOnDerived, RuleOnBasic, OldValue, TwoValues, LayerOrder}
+pub use Rattle.sas_mutex.proofs.FromNotes.{noted_fewer}
+pub use Rattle.sas_mutex.proofs.Keeping.{keeps_from_effects, effect_of_keeps}
+pub use Rattle.sas_mutex.proofs.TaskFacts.{group_facts}
+pub use Rattle.sas_mutex.proofs.VerdictsSoFar.{clash_never_fires, keeps_itself, put_back, several_never_fire, noted_with, with_place, or_itself}
+pub use Rattle.sas_mutex.proofs.VerdictsSoFar.{is_more}
+pub use Rattle.sas_mutex.specs.ByNotes.{NotBothAt, IsGoneAt, EffectKeepsGroup, IsNotedAt, NeverFires, IsNotedFor, EffectKeepsGroupWithItself}
+pub use Rattle.sas_mutex.specs.ByNotes.{known_at}
+pub use Rattle.sas_mutex.specs.Effects.{EffectKeeps, IsKept, KeepsWithItself}
+pub use Rattle.sas_mutex.specs.Firing.{EffectPlace, operator_of}
+pub use Rattle.sas_mutex.specs.Marks.{IsClean}
+pub use Rattle.sas_output.proofs.Pushed.{pushes_then}
+pub use Rattle.sas_output.proofs.Sent.{ends_counting_as}
+pub use Rattle.sas_output.proofs.Texts.{text_of_both}
+pub use Rattle.sas_output.specs.Ending.{Output, output_of}
+pub use Rattle.sas_output.specs.Line.{reasons_text}
+pub use Rattle.sas_output.specs.Sink.{Pushes}
+pub use Rattle.sas_output.specs.declared.ending.Status.{Status}
+pub use Rattle.sas_output.specs.declared.line.Line.{Line}
