@@ -6,7 +6,7 @@ ghost use Rattle.sas_answers.specs.LayerWords.{layer_words, layers_line, words_a
 
 use sas_lines::{push_line, push_number};
 use sas_meaning::LayerFault;
-use sas_output::{Status, Answer};
+use sas_output::{Answer, Status};
 use std::alloc::{AllocError, Global};
 
 /// Returns the answer about a task that is layered.

@@ -12,7 +12,7 @@ use sas_core::{Grounded, Stepwise};
 use sas_flat::{FlatPlan, FlatTask};
 use sas_lines::{push_line, push_number};
 use sas_meaning::Layered;
-use sas_output::{Status, Answer};
+use sas_output::{Answer, Status};
 use sas_run::{Held, PlanFault, Valid, check_once};
 use std::alloc::{AllocError, Global};
 

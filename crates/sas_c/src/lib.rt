@@ -7,11 +7,11 @@ mod box_pointer;
 mod numbers;
 mod plans;
 mod prepared;
+mod reporting;
 mod requests;
 mod sas_task;
 mod task_pointer;
 mod tasks;
-mod reporting;
 
 pub use prepared::Prepared;
 pub use sas_task::SasTask;

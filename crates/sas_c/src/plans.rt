@@ -12,8 +12,8 @@ ghost use Rattle.sas_c.specs.Holding.{HoldsTask};
 
 use crate::numbers::{NO_TASK, number_without};
 use crate::prepared::Prepared;
-use crate::sas_task::SasTask;
 use crate::reporting::{report_ended, return_answer};
+use crate::sas_task::SasTask;
 use sas_lines::Watched;
 use sas_plans::judge_bytes;
 use sas_requests::{Request, explain_bytes, trace_bytes};

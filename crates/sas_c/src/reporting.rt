@@ -6,7 +6,7 @@ ghost use Rattle.sas_c.specs.Written.{IsWritten};
 
 use crate::numbers::{ROOM_TOO_SHORT, number_of, number_without};
 use sas_lines::Watched;
-use sas_output::{Status, Answer, ToolFault};
+use sas_output::{Answer, Status, ToolFault};
 
 /// Writes an answer with this text and this status. Returns the status as a number, or that the text is longer than the room.
 pub fn report(text: &[u8], status: Status, room: &mut [u8], size: &mut usize) -> u32

@@ -7,8 +7,8 @@ ghost use Rattle.sas_c.specs.Holding.{HoldsTask};
 
 use crate::numbers::{OUT_OF_MEMORY, YES, number_without};
 use crate::prepared::Prepared;
-use crate::sas_task::SasTask;
 use crate::reporting::{report, return_answer};
+use crate::sas_task::SasTask;
 use sas_axioms::Worklist;
 use sas_flat::FlatTask;
 use sas_output::Status;
@@ -68,7 +68,12 @@ fn hold(
 }
 
 /// Writes that the task is layered, and holds it if there is room for that.
-fn report_held(task: &mut SasTask, prepared: Box<Prepared>, room: &mut [u8], size: &mut usize) -> u32
+fn report_held(
+    task: &mut SasTask,
+    prepared: Box<Prepared>,
+    room: &mut [u8],
+    size: &mut usize,
+) -> u32
     requires { task.old.pointer.task ≡ None }
     ensures answers { Returns (λ output. output ≡ layers_verdict None)
         room.old room.new size.new result }

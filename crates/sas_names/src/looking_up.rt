@@ -41,11 +41,7 @@ fn likely_operators<T: Grounded, P: Stepwise>(
 }
 
 /// Replaces the likely operators by the lowest operators of the steps' names. Removes those from the first step whose name no operator has.
-fn confirm_all<T: Grounded, P: Stepwise>(
-    named: &NamedTask<'_, T>,
-    plan: &P,
-    likely: &mut Vec<u32>,
-)
+fn confirm_all<T: Grounded, P: Stepwise>(named: &NamedTask<'_, T>, plan: &P, likely: &mut Vec<u32>)
     requires { AreLikely named.now (P.says plan.now).steps likely.old.items }
     ensures { AreFirsts named.now (P.says plan.now).steps likely.new.items }
 {

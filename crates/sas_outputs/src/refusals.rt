@@ -4,7 +4,7 @@ ghost use Rattle.sas_output.specs.Ending.{IsWrite, output_of};
 ghost use Rattle.sas_outputs.specs.Output.{refusal, refusal_line, word_of};
 
 use sas_lines::{push_line, push_number};
-use sas_output::{Status, Answer, ToolFault};
+use sas_output::{Answer, Status, ToolFault};
 use sas_reader::{Fault, Kind};
 use std::alloc::{AllocError, Global};
 

@@ -16,7 +16,7 @@ use crate::reporting::report_plans;
 use sas_axioms::Worklist;
 use sas_flat::FlatTask;
 use sas_lines::Watched;
-use sas_output::{Status, Answer, ToolFault};
+use sas_output::{Answer, Status, ToolFault};
 use sas_run::Held;
 use std::alloc::Global;
 use std::io::{Read, Write};

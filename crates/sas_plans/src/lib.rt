@@ -5,9 +5,9 @@ mod held;
 mod inputs;
 mod judging;
 mod laws;
+mod reporting;
 mod slices;
 mod tally;
-mod reporting;
 mod verdicts;
 
 pub use held::{Opening, judge_bytes, open_task};

@@ -55,7 +55,11 @@ impl<'p> PlanInputs for PlanSlices<'p> {
 
 /// Judges many plans of one task as `judge` does, all in memory, and returns the answer. `Write` means that it is out of memory for
 /// its text.
-pub fn judge_slices(alloc: Global, task: &[u8], plans: &[PlanBytes<'_>]) -> Result<Answer, JudgeFault>
+pub fn judge_slices(
+    alloc: Global,
+    task: &[u8],
+    plans: &[PlanBytes<'_>],
+) -> Result<Answer, JudgeFault>
     requires { All IsLabel (labels_of plans.now) }
     ensures output { IfOk result (λ reported. JudgeOut (labels_of plans.now) task.now
         (bytes_of plans.now) (Some (output_of reported))) }

@@ -10,7 +10,7 @@ use sas_flat::FlatTask;
 use sas_lines::{push_line, push_number};
 use sas_meaning::Layered;
 use sas_mutex::{Verdict, check_groups};
-use sas_output::{Status, Answer};
+use sas_output::{Answer, Status};
 use std::alloc::{AllocError, Global};
 
 /// Returns the answer about the mutex groups of a layered task.

@@ -14,7 +14,7 @@ use sas_core::{Grounded, Stepwise};
 use sas_flat::{FlatPlan, FlatTask};
 use sas_lines::Watched;
 use sas_meaning::{Layered, Settle};
-use sas_output::{Pieces, Sink, Status, Answer, ToolFault};
+use sas_output::{Answer, Pieces, Sink, Status, ToolFault};
 use sas_run::Execution;
 use std::alloc::{AllocError, Global};
 use std::io::Write;

@@ -17,7 +17,7 @@ use sas_core::Stepwise;
 use sas_flat::{FlatPlan, FlatTask};
 use sas_lines::Watched;
 use sas_meaning::Layered;
-use sas_output::{Line, Named, Status, Answer, ToolFault, write_reasons};
+use sas_output::{Answer, Line, Named, Status, ToolFault, write_reasons};
 use sas_run::{Execution, PlanFault};
 use std::alloc::{AllocError, Global};
 use std::io::Write;

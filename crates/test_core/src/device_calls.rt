@@ -3,7 +3,9 @@ use sas_lines::trial::{Breaks, Narrow};
 use sas_lines::{Opened, Short, Watched, write_out};
 use std::alloc::{AllocError, Global};
 use std::io::Read;
-use test_words::{Asked, ReportedReader, ReportedWriter, cut, say, say_bytes, say_number, say_right};
+use test_words::{
+    Asked, ReportedReader, ReportedWriter, cut, say, say_bytes, say_number, say_right,
+};
 
 /// Makes the call if it is defined in this file. Returns whether it is.
 pub fn call_of_devices<R: AllocGlobal + Print>(
@@ -36,7 +38,10 @@ fn take_reported<P: Print>(out: &P, kind: &str, text: &[u8]) {
 }
 
 /// Returns an opened input of this kind over the device.
-fn opened<'a>(kind: &str, device: ReportedReader<'a>) -> Opened<ReportedReader<'a>, ReportedReader<'a>> {
+fn opened<'a>(
+    kind: &str,
+    device: ReportedReader<'a>,
+) -> Opened<ReportedReader<'a>, ReportedReader<'a>> {
     match kind {
         "file" => Opened::File(device),
         "standard" => Opened::Standard(device),

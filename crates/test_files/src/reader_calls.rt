@@ -6,7 +6,9 @@ use sas_lines::trial::Breaks;
 use sas_text::{Fault, Kind, PlanReader, TaskReader, plan_laws, task_laws};
 use std::alloc::{AllocError, Global};
 use std::cell::Cell;
-use test_words::{Asked, NotingReader, ReportedReader, longer_than, say, say_either, say_right, spend};
+use test_words::{
+    Asked, NotingReader, ReportedReader, longer_than, say, say_either, say_right, spend,
+};
 
 /// Makes the call if it is defined in this file. Returns whether it is.
 pub fn call_of_readers<R: AllocGlobal + Print>(

@@ -9,8 +9,8 @@ use sas_requests::{Status, ToolFault};
 use std::alloc::{AllocError, Global};
 use std::io::{Read, Write};
 use test_words::{
-    Asked, NotingReader, ReportedReader, ReportedWriter, cut, longer_than, say, say_either, say_number,
-    say_right, spend,
+    Asked, NotingReader, ReportedReader, ReportedWriter, cut, longer_than, say, say_either,
+    say_number, say_right, spend,
 };
 
 /// Makes the call if it is defined in this file. Returns whether it is.

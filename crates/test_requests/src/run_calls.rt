@@ -10,8 +10,8 @@ use std::alloc::{AllocError, Global};
 use std::cell::Cell;
 use std::io::{Read, Write};
 use test_words::{
-    Asked, NotingReader, ReportedReader, ReportedWriter, cut, longer_than, number_in, say, say_either,
-    say_right, spend,
+    Asked, NotingReader, ReportedReader, ReportedWriter, cut, longer_than, number_in, say,
+    say_either, say_right, spend,
 };
 
 /// `run-narrow-from` tries the rooms from a number up to this many more.
