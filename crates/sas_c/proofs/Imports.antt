@@ -7,7 +7,7 @@ pub use Rattle.std.specs.Global.{Vec}
 pub use Rattle.std.specs.Io.KnownBytes.{Appends}
 pub use Rattle.std.specs.contracts.impls.GlobalAllocator.TheImpl.{ghosts}
 pub use Rattle.std.specs.declared.alloc.Global.{Global}
-pub use Rattle.core.proofs.alloc.Calls.{Al, handle_shows, Goes-blank}
+pub use Rattle.core.proofs.alloc.Calls.{Al, handle_tells, Goes-blank}
 pub use Rattle.core.proofs.alloc.Shapes.{after}
 pub use Rattle.core.proofs.atomic.Steps.{fm}
 pub use Rattle.core.proofs.cell.Inside.{Good, one}
