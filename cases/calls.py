@@ -129,9 +129,9 @@ def told_cases():
 def told_calls(ways, requests, told, read, answer, about):
     """Yields the calls that read from a device that follows this text, which return that, or report that."""
     for way in ways:
-        yield case(FILES, f"read-told {way}", told, read, about)
+        yield case(FILES, f"read-reported {way}", told, read, about)
     for request in requests:
-        yield case(REQUESTS, f"run-told {request}", told, answer, about)
+        yield case(REQUESTS, f"run-reported {request}", told, answer, about)
 
 
 def told_by(request, answer):
@@ -156,7 +156,7 @@ def told_plan_cases():
     ):
         for request in PLAN_OF_TASK:
             said = told_by(request, answer)
-            yield case(REQUESTS, f"run-told {request}", [plan, "|", task], said, f"{plan!r}")
+            yield case(REQUESTS, f"run-reported {request}", [plan, "|", task], said, f"{plan!r}")
 
 
 def wide_cases():
