@@ -1,4 +1,5 @@
 -- The first step that isn't a name: it exists only if not every step is a name.
+use Rattle.std.proofs.lemmas.Grind.{common_steps}
 use Rattle.sas_core.proofs.Imports.{◌≡◌, ℕ, suc, ◌+◌, ◌<◌, Bool, false, List, [], ◌∷◌, ◌++◌, length, length-take, take, drop, get_or, sym, ◌∙◌, ap, subst, arith, AllByRecursion, false≢true, take-append-drop, drop-cons}
 use Rattle.sas_core.specs.Names.{IsName, is_name}
 use Rattle.sas_core.specs.Plans.{IsFirstBadName}
@@ -23,5 +24,4 @@ name_between (step ∷ steps) bad after names = name_between steps bad after nam
 
 -- a list with a first bad name doesn't consist of names
 pub bad-not_names : (steps read : List (List ℕ)) (step : ℕ) → read ≡ steps → IsFirstBadName read step → AllByRecursion IsName steps → ⊥
-bad-not_names steps read step same first names =
-    first.no_name (name_between first.before first.bad first.after (subst (AllByRecursion IsName) (sym same ∙ first.whole) names))
+bad-not_names steps read step same first names = grind (arith, common_steps, name_between)

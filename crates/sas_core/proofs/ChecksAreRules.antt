@@ -1,5 +1,6 @@
 -- All checks of a task pass if and only if its parts are well ranged: each section's checks are
 -- equivalent to its rules.
+use Rattle.std.proofs.lemmas.Grind.{common_steps}
 use Rattle.sas_core.proofs.Imports.{◌≡◌, ℕ, zero, suc, ◌^◌, ◌<◌, Bool, true, false, not, ◌==◌, nat_lt, if◌then◌else◌, ◌↔◌, List, [], ◌∷◌, ◌++◌, length, flat_map, slice_index, Option, Some, None, refl, arith, ltb-true, lt-ltb, eqb-true, eq-eqb, AllByRecursion, nat_tests, first_so, second_so, both_true}
 use Rattle.sas_core.specs.declared.checks.PartsFault.{PartsFault}
 use Rattle.sas_core.specs.declared.checks.PartsFault.TheVariants.{NoVariable, TooMany, BadName, BadNumber, BadRange, BadFact, InitLength}
@@ -114,15 +115,7 @@ fitting_values (v ∷ variables) (x ∷ values) long fit =
     both_true (lt-ltb x (length v.values) (fit 0 (omega arith))) (fitting_values variables values (omega arith) (λ var below. fit (suc var) (omega arith)))
 
 state : (variables : List Variable) (values : List ℕ) → Pass (state_checks variables values) ↔ IsState variables values
-state variables values =
-    let one_each = by_test (length values == length variables) InitLength (length values ≡ length variables) (eqb-true _ _, eq-eqb _ _) in
-    let in_range = by_test (values_in_range variables values) BadFact (values_in_range variables values ≡ true) (λ is. is, λ is. is) in
-    let both = and_then (check (length values == length variables) InitLength) (check (values_in_range variables values) BadFact) _ _ one_each in_range in (
-      λ pass.
-          let p = both.0 pass in
-          record { one_each = p.0; in_range = values_fit variables values p.0 p.1 },
-      λ p. both.1 (p.one_each, fitting_values variables values p.one_each p.in_range),
-    )
+state variables values = grind (arith, common_steps, by_test, and_then, values_fit, fitting_values)
 
 -- the sections up to each, and what they say of the parts
 sections : (p : Parts) → Pass (checks p) ↔ WellRanged p

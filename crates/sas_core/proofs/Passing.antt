@@ -1,5 +1,7 @@
 -- When a sequence of checks passes: a single check and its rule, and two sequences one after the
 -- other.
+use Rattle.std.proofs.Common.{arith}
+use Rattle.std.proofs.lemmas.Grind.{common_steps}
 use Rattle.sas_core.proofs.Imports.{◌≡◌, ◌↔◌, Bool, true, false, if◌then◌else◌, List, [], ◌∷◌, ◌++◌, Option, Some, None, refl}
 use Rattle.sas_core.specs.FirstFault.{Check, first_fault, check}
 
@@ -37,7 +39,4 @@ join_row (c ∷ a) b a_none b_none = none_in_both c.passes c.fault (first_fault 
 
 -- some checks, and others behind them
 pub and_then : {F : Type 0} (a b : List (Check F)) (P Q : Type 0) → Pass a ↔ P → Pass b ↔ Q → Pass (a ++ b) ↔ (P × Q)
-and_then a b P Q first second = (
-  λ pass. (first.0 (record { none = (split_row a b pass.none).0 }), second.0 (record { none = (split_row a b pass.none).1 })),
-  λ p. record { none = join_row a b (first.1 p.0).none (second.1 p.1).none },
-)
+and_then a b P Q first second = grind (arith, common_steps, split_row, join_row)

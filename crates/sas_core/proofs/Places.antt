@@ -1,4 +1,5 @@
 -- A property of each item of a list, as a property of the item at each index.
+use Rattle.std.proofs.lemmas.Grind.{common_steps}
 use Rattle.sas_core.proofs.Imports.{ℕ, zero, suc, ◌+◌, ◌<◌, List, [], ◌∷◌, length, slice_index_or, sym, ap, subst, ◌∙◌, inl, inr, arith, AllByRecursion, cases_eq, get_or_default}
 
 module _ {A : Type 0} (P : A → Type 0) (otherwise : A) where
@@ -16,7 +17,4 @@ module _ {A : Type 0} (P : A → Type 0) (otherwise : A) where
 -- what the items below a place have, and that at the place, those below the next have
 pub each_more : {A : Type 0} (P : A → Type 0) (items : List A) (n : ℕ) (otherwise : A) → n < length items
     → ((k : ℕ) (d : A) → k < n → P (slice_index_or items k d)) → P (slice_index_or items n otherwise) → (k : ℕ) (d : A) → k < n + 1 → P (slice_index_or items k d)
-each_more P items n otherwise within before its k d below = elim (cases_eq k n) [
-  | inl e ↦ subst P (get_or_default items n otherwise d within ∙ ap (λ i. slice_index_or items i d) (sym e)) its
-  | inr ne ↦ before k d (omega arith)
-]
+each_more P items n otherwise within before its k d below = grind (arith, common_steps, cases_eq, get_or_default)

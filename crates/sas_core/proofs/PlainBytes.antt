@@ -1,4 +1,5 @@
 -- What the result of a search for LF and CR means for the bytes.
+use Rattle.std.proofs.lemmas.Grind.{common_steps}
 use Rattle.sas_core.proofs.Imports.{◌≡◌, ℕ, Bool, true, false, not, ◌&&◌, ◌||◌, ◌==◌, List, Option, Some, None, get_or, refl, sym, ◌∙◌, ap, arith, list_all, is_some, list_all_at, All-from_get_or, list_all-from_AllPass, IsFirstByte, is_byte2}
 use Rattle.sas_core.specs.Names.{is_plain}
 
@@ -22,10 +23,8 @@ is_some-search : (bytes : List ℕ) (found : Option ℕ) → IsFirstByte (is_byt
 is_some-search bytes None nowhere =
     ap not (sym (list_all-from_AllPass is_plain bytes (All-from_get_or (λ byte. is_plain byte ≡ true) bytes 0 (λ k below.
     is_plain-not_found (get_or bytes k 0) ∙ not-refuted _ (nowhere k (omega arith) below)))))
-is_some-search bytes (Some k) here =
-    ap not (sym (list_all_at is_plain bytes k 0 here.0.high (is_plain-not_found (get_or bytes k 0) ∙ ap not here.1)))
+is_some-search bytes (Some k) here = grind (arith, common_steps, list_all_at, is_plain-not_found)
 
 -- it finds none exactly where each byte is plain
 pub is_none-search : (bytes : List ℕ) (found : Option ℕ) (none : Bool) → IsFirstByte (is_byte2 10 13) bytes found → is_some found ≡ not none → none ≡ list_all is_plain bytes
-is_none-search bytes found none first said =
-    not-twice none ∙ ap not (sym said ∙ is_some-search bytes found first) ∙ sym (not-twice _)
+is_none-search bytes found none first said = grind (arith, common_steps, not-twice, is_some-search)

@@ -1,4 +1,6 @@
 -- The equality of each type of parts, and of a whole task, decides whether the values are the same.
+use Rattle.std.proofs.Common.{arith}
+use Rattle.std.proofs.lemmas.Grind.{common_steps}
 use Rattle.sas_core.proofs.Imports.{◌≡◌, ℕ, Bool, ◌&&◌, Option, Some, None, refl, ap, nat_eq, List, Decides, beq, option_eq, first_so, second_so, unsigned_Decides, booleans_Decides, both_true, pointwise, pointwise_decides, false≢true}
 use Rattle.sas_core.specs.declared.parts.Fact.{Fact}
 use Rattle.sas_core.specs.declared.parts.Variable.{Variable}
@@ -8,10 +10,7 @@ use Rattle.sas_core.specs.declared.parts.Rule.{Rule}
 use Rattle.sas_core.specs.declared.parts.Parts.{Parts}
 
 also : {P Q : Type 0} {a b : Bool} → Decides a P → Decides b Q → Decides (a && b) (P × Q)
-also {P} {Q} {a} {b} first second = (
-  λ e. (first.0 (first_so a b e), second.0 (second_so a b e)),
-  λ p. both_true (first.1 p.0) (second.1 p.1),
-)
+also {P} {Q} {a} {b} first second = grind (arith, common_steps)
 
 that : {P Q : Type 0} {a : Bool} → Decides a P → (P → Q) → (Q → P) → Decides a Q
 that decides to from = (λ e. to (decides.0 e), λ q. decides.1 (from q))
@@ -29,10 +28,7 @@ abbrev fact_eq : Fact → Fact → Bool
 fact_eq f g = nat_eq f.var g.var && nat_eq f.value g.value
 
 fact : (f g : Fact) → Decides (fact_eq f g) (f ≡ g)
-fact f g =
-    that (also (unsigned_Decides f.var g.var) (unsigned_Decides f.value g.value))
-    (λ fields i. record { var = fields.0 i; value = fields.1 i })
-    (λ same. (λ i. (same i).var, λ i. (same i).value))
+fact f g = grind (arith, common_steps, that, also)
 
 abbrev variable_eq : Variable → Variable → Bool
 variable_eq v w = pointwise nat_eq v.name w.name && (option_eq nat_eq v.layer w.layer && pointwise (pointwise nat_eq) v.values w.values)

@@ -1,4 +1,5 @@
 -- One step of a reader: it takes a piece up to and including the first line end, or all of it.
+use Rattle.std.proofs.lemmas.Grind.{common_steps}
 use Rattle.sas_reader.proofs.Imports.{◌≡◌, ◌≢◌, ℕ, ◌+◌, ◌-◌, ◌≤◌, ◌<◌, Bool, true, false, not, List, [], ◌∷◌, ◌++◌, length, take, drop, refl, sym, ap, subst, ◌∙◌, append_assoc, arith, length-append, length-drop, Result, Ok, Err, append-nil, length-take, take_all, take-append-drop, take-add, lines, unfinished, TakesLine, LineStandsFirst, LinesStandFirst, lines-append, unfinished-append, lines-few}
 use Rattle.sas_reader.proofs.Imports.{Progress, completed}
 use Rattle.sas_reader.specs.declared.fault.Fault.{Fault}
@@ -32,9 +33,7 @@ fed_whole pending piece line n p w = record { taken = w.taken; lines = rw p w.li
 
 -- a prefix has at most as many lines as bytes, and at most all bytes
 pub front_few : (first : List (List ℕ)) (bytes : List ℕ) (front : Front) → IsFront first bytes front → front.lines ≤ front.bytes
-front_few first bytes front h =
-    let l = lines-few (take front.bytes bytes) in
-    omega (arith, h.many, ap length h.stand.lines, l, length-take front.bytes bytes)
+front_few first bytes front h = grind (arith, common_steps, lines-few, length-take)
 
 -- the bytes taken from a piece are part of it
 pub takes_some : (piece : List ℕ) (n : ℕ) (complete : Bool) → TakesLine piece n complete → 0 < length piece → 0 < n
@@ -56,8 +55,7 @@ whole_is i piece = ap (λ (x : List ℕ). take i piece ++ x) (rest_is i piece) �
 
 -- bytes, a prefix of the piece, and a prefix of its rest
 joined : (bytes piece : List ℕ) (i n : ℕ) → (bytes ++ take i piece) ++ take n (rest i piece) ≡ bytes ++ take (i + n) piece
-joined bytes piece i n =
-    ap (λ (x : List ℕ). (bytes ++ take i piece) ++ take n x) (rest_is i piece) ∙ append_assoc bytes (take i piece) (take n (drop i piece)) ∙ ap (λ (x : List ℕ). bytes ++ x) (sym (take-add i n piece))
+joined bytes piece i n = grind (arith, common_steps, rest_is, append_assoc, take-add)
 
 -- the prefix of a piece that the limit leaves room for
 pub within_fits : (limit taken : ℕ) (piece front : List ℕ) → front ≡ take (limit - taken) piece → taken ≤ limit → taken + length front ≤ limit

@@ -1,4 +1,5 @@
 -- What follows the line ends of some bytes. No line contains LF.
+use Rattle.std.proofs.lemmas.Grind.{common_steps}
 use Rattle.sas_reader.proofs.Imports.{◌≡◌, ◌≢◌, ℕ, ◌+◌, ◌-◌, List, [], ◌∷◌, ◌++◌, length, take, refl, sym, ap, subst, ◌∙◌, append_assoc, inl, inr, arith, cases_eq, ne_eqb, append-nil, without_return, lines, unfinished, NoEnd, lines-append, unfinished-append, lines-none, lines-one, unfinished-one, unfinished-without}
 use Rattle.sas_reader.specs.Found.{behind_ends}
 
@@ -9,10 +10,7 @@ no_end-more (x ∷ w) b h ne = (h.0, no_end-more w b h.1 ne)
 -- a line without its CR contains no LF either
 pub no_end-without : (w : List ℕ) → NoEnd w → NoEnd (without_return w)
 no_end-without [] h = tt
-no_end-without (b ∷ []) h = elim (cases_eq b 13) [
-  | inl is ↦ rw is tt
-  | inr ne ↦ rw (ne_eqb b 13 ne) h
-]
+no_end-without (b ∷ []) h = grind (arith, common_steps, cases_eq, ne_eqb)
 no_end-without (b ∷ c ∷ w) h = (h.0, no_end-without (c ∷ w) h.1)
 
 pub no_lf : (line : List ℕ) → NoEnd line → take 64 line ≡ 10 ∷ [] → ⊥
@@ -45,17 +43,10 @@ some_byte (x ∷ w) b y e = absurd cc
 
 -- bytes that end with a line end have a line
 has_line : (w : List ℕ) (b : ℕ) (y : List ℕ) → NoEnd w → unfinished (w ++ b ∷ y) ≡ [] → length (lines (w ++ b ∷ y)) ≢ 0
-has_line w b y h u none = some_byte w b y (sym (unfinished-without (w ++ b ∷ y) (none_ends w (b ∷ y) h (nil (lines (w ++ b ∷ y)) none))) ∙ u)
-  where
-    nil : (l : List (List ℕ)) → length l ≡ 0 → l ≡ []
-    nil [] e = refl
-    nil (x ∷ l) e = absurd (omega (arith, e))
+has_line w b y h u none = grind (arith, common_steps, some_byte, unfinished-without, none_ends)
 
 behind_end : (n : ℕ) (bytes : List ℕ) → behind_ends (n + 1) (10 ∷ bytes) ≡ behind_ends n bytes
-behind_end n bytes =
-    let some : n + 1 ≢ 0 = λ e. omega (arith, e) in
-    let less : n + 1 - 1 ≡ n = omega arith in
-    rw (ne_eqb (n + 1) 0 some) (ap (λ (k : ℕ). behind_ends k bytes) less)
+behind_end n bytes = grind (arith, common_steps, ne_eqb)
 
 behind_other : (n b : ℕ) (bytes : List ℕ) → n ≢ 0 → b ≢ 10 → behind_ends n (b ∷ bytes) ≡ behind_ends n bytes
 behind_other n b bytes some ne = rw (ne_eqb n 0 some) (rw (ne_eqb b 10 ne) refl)
@@ -65,10 +56,7 @@ behind_none [] = refl
 behind_none (b ∷ bytes) = refl
 
 behind_from : (w y x : List ℕ) → NoEnd w → unfinished (w ++ y) ≡ [] → behind_ends (length (lines (w ++ y))) (y ++ x) ≡ x
-behind_from w [] x h u =
-    let nothing : w ≡ [] = sym (unfinished-without w h) ∙ ap unfinished (sym (append-nil w)) ∙ u in
-    let none : length (lines (w ++ [])) ≡ 0 = ap length (ap lines (append-nil w ∙ nothing) ∙ lines-none) in
-    ap (λ (n : ℕ). behind_ends n x) none ∙ behind_none x
+behind_from w [] x h u = grind (arith, common_steps, unfinished-without, append-nil, lines-none, behind_none)
 behind_from w (b ∷ y) x h u = elim (cases_eq b 10) [
   | inl is ↦
       let many : length (lines (w ++ b ∷ y)) ≡ length (lines y) + 1 = ap (λ (z : ℕ). length (lines (w ++ z ∷ y))) is ∙ (let e = ap length (one_more w h y) in omega (arith, e)) in

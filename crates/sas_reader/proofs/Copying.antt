@@ -1,4 +1,5 @@
 -- Adding bytes to a copy without CRs.
+use Rattle.std.proofs.lemmas.Grind.{common_steps}
 use Rattle.sas_reader.proofs.Imports.{◌≡◌, ℕ, ◌+◌, ◌-◌, ◌*◌, ◌/◌, ◌^◌, ◌<◌, ◌≤◌, Bool, true, false, not, cond, ◌==◌, if◌then◌else◌, zero, suc, List, [], ◌∷◌, ◌++◌, length, take, drop, get_or, map, refl, sym, ap, ap₂, ◌∙◌, inl, inr, arith, prefix_len, cases_lt, cases_eq, ne_eqb, append-nil, drop-take, drop-drop, get_or-take, get_or-drop, length-take-le, take_at, take-take, filter-append}
 use Rattle.sas_reader.proofs.Imports.{filter_more, prefix_len-le-length, prefix_len_passes, prefix_len_stops, leading_from_mask_l, trailing_mask_l, take-append-add}
 use Rattle.std.proofs.Common.{take-add}
@@ -134,16 +135,7 @@ module _ (from to : List ℕ) (passed kept left : ℕ) (so_far : CopiesSoFar fro
 -- ---- a CR before LF
 
 pub return_more : (from to : List ℕ) (passed kept : ℕ) → CopiesSoFar from to (record { passed = passed; kept = kept }) → passed < length from → get_or from passed 0 ≡ 13 → get_or from (passed + 1) 0 ≡ 10 → CopiesSoFar from to (record { passed = passed + 1; kept = kept })
-return_more from to passed kept h lt is next =
-    record {
-      front = h.front ∙ sym (filter_more stays from passed 0 lt ∙ ap (λ (b : ℕ). without_returns (take passed from) ++ cond (stays b) (b ∷ []) []) is ∙ append-nil (without_returns (take passed from)));
-      behind = omega (arith, h.behind);
-      within = omega arith;
-      ends = λ k below e. elim (cases_eq k passed) [
-        | inl same ↦ ap (λ (n : ℕ). get_or from (n + 1) 0) same ∙ next
-        | inr other ↦ h.ends k (omega (arith, below, other)) e
-      ];
-    }
+return_more from to passed kept h lt is next = grind (arith, common_steps, filter_more, append-nil, cases_eq)
 
 -- ---- writing bytes after the kept ones
 

@@ -1,5 +1,6 @@
 -- What a reader took of a copy without CRs, and where it stopped, also holds for the bytes with
 -- CRs.
+use Rattle.std.proofs.lemmas.Grind.{common_steps}
 use Rattle.sas_reader.proofs.Imports.{◌≡◌, ◌≢◌, ℕ, ◌+◌, ◌-◌, ◌≤◌, Bool, true, false, not, cond, ◌==◌, List, [], ◌∷◌, ◌++◌, length, take, drop, get_or, refl, sym, ap, ap₂, subst, ◌∙◌, append_assoc, inl, inr, arith, length-append, Result, Ok, Err, cases_eq, take_at, take_all, drop_more, take-append-drop, filter-append, drop-append_seam, without_return, lines, unfinished, Progress, lines-append}
 use Rattle.sas_reader.proofs.Imports.{unfinished-append, unfinished-plain_all, lines-end}
 use Rattle.sas_reader.specs.declared.fault.Fault.{Fault}
@@ -16,11 +17,7 @@ use Rattle.sas_reader.proofs.WithLfAlone.{EachEnds, lines_behind, rest_behind, n
 
 -- the last item and the items before it
 last_same : (xs ys : List (List ℕ)) (p q : List ℕ) → xs ++ p ∷ [] ≡ ys ++ q ∷ [] → (xs ≡ ys) × (p ≡ q)
-last_same xs ys p q e =
-    let n : length xs ≡ length ys = omega (arith, ap length e, length-append xs (p ∷ []), length-append ys (q ∷ [])) in (
-      sym (take_at xs (p ∷ []) (length xs) refl) ∙ ap (take (length xs)) e ∙ take_at ys (q ∷ []) (length xs) (sym n),
-      ap (λ (l : List (List ℕ)). get_or l 0 []) (sym (drop-append_seam xs (p ∷ [])) ∙ ap (drop (length xs)) e ∙ ap (λ (k : ℕ). drop k (ys ++ q ∷ [])) n ∙ drop-append_seam ys (q ∷ [])),
-    )
+last_same xs ys p q e = grind (arith, common_steps, take_at, drop-append_seam)
 
 ends-append : (a b : List ℕ) → EachEnds a → EachEnds b → EachEnds (a ++ b)
 ends-append [] b h g = g

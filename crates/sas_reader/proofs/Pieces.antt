@@ -1,4 +1,5 @@
 -- One line of a piece, or a part of one.
+use Rattle.std.proofs.lemmas.Grind.{common_steps}
 use Rattle.sas_reader.proofs.Imports.{◌≡◌, ℕ, ◌+◌, ◌<◌, ◌≤◌, Bool, true, false, List, [], ◌∷◌, ◌++◌, length, take, drop, refl, sym, ap, subst, ◌∙◌, append_assoc, arith, length-append, length-drop, append-nil, length-take, take-append-drop, take-append-le, take-add, take-append-add, without_return, lines, unfinished, NoEnd, TakesLine, completed, lines-none, unfinished-none, lines-append}
 use Rattle.sas_reader.proofs.Imports.{unfinished-append, lines-part, lines-end, unfinished-plain_all, lines-without}
 use Rattle.sas_reader.specs.declared.fault.Fault.{Fault}
@@ -27,13 +28,7 @@ unfinished_fed bytes t pending rest p e = unfinished-append bytes t ∙ ap (λ (
 
 -- the line that a feed completed is what was unfinished before its LF
 line_is : (bytes front line : List ℕ) → NoEnd front → lines (unfinished bytes ++ (front ++ 10 ∷ [])) ≡ line ∷ [] → line ≡ without_return (unfinished (bytes ++ front))
-line_is bytes front line h e =
-    let w = unfinished bytes ++ front in
-    let none : lines w ≡ [] = lines-part (unfinished bytes) front h ∙ lines-without (unfinished bytes) (unfinished-plain_all bytes) in
-    let one : lines (w ++ 10 ∷ []) ≡ without_return (unfinished w) ∷ [] = lines-end w ∙ ap (λ (l : List (List ℕ)). l ++ without_return (unfinished w) ∷ []) none in
-    let two : lines (w ++ 10 ∷ []) ≡ line ∷ [] = ap lines (append_assoc (unfinished bytes) front (10 ∷ [])) ∙ e in
-    let same : line ≡ without_return (unfinished w) = cc in
-    same ∙ ap without_return (sym (unfinished-append bytes front))
+line_is bytes front line h e = grind (arith, common_steps, lines-part, lines-without, unfinished-plain_all, lines-end, append_assoc, unfinished-append)
 
 module _ {M : Type 0} (led_by : List (List ℕ) → M → Type 0) (ended : M → Type 0) where
   pub reached_start : (m : M) → led_by [] m → Reached led_by ended m []

@@ -1,4 +1,5 @@
 -- Bytes without LF and CR.
+use Rattle.std.proofs.lemmas.Grind.{common_steps}
 use Rattle.sas_reader.proofs.Imports.{◌≡◌, ◌≢◌, ℕ, ◌+◌, Bool, true, false, List, [], ◌∷◌, ◌++◌, take, refl, sym, ap, ◌∙◌, append_assoc, arith, IsTrue, not, ◌==◌, ◌&&◌, length, list_all, decimal, eq-eqb, ne_eqb, take_at, length_push, is_plain, IsName, Without, NoEnd, without_return, lines, unfinished, LineStandsFirst, Without-decimal, Plain, lines-one, unfinished-one}
 use Rattle.sas_reader.specs.System.{IsPlain}
 
@@ -22,9 +23,7 @@ is_not true h e = absurd cc
 is_not false h e = absurd cc
 
 plain_byte : (b : ℕ) → IsTrue (is_plain b) → (b ≢ 10) × (b ≢ 13)
-plain_byte b h =
-    let p = and_parts (not (b == 10)) (not (b == 13)) h in
-    (λ e. is_not (b == 10) p.0 (eq-eqb b 10 e), λ e. is_not (b == 13) p.1 (eq-eqb b 13 e))
+plain_byte b h = grind (arith, common_steps, and_parts, is_not, eq-eqb)
 
 pub plain_bytes : (bytes : List ℕ) → IsTrue (list_all is_plain bytes) → IsPlain bytes
 plain_bytes [] h = tt

@@ -1,4 +1,5 @@
 -- The laws of any format with a grammar.
+use Rattle.std.proofs.lemmas.Grind.{common_steps}
 use Rattle.sas_reader.proofs.Imports.{◌≡◌, ◌≢◌, ℕ, ◌+◌, ◌≤◌, List, [], ◌∷◌, ◌++◌, length, map, refl, sym, ap, subst, ◌∙◌, append_assoc, arith, ◌⊎◌, inl, inr, length-append, Ok, Err, append-nil, append_cancel_left, eqb_tells, without_return, lines, unfinished, lines-plain, unfinished-plain, lines-end}
 use Rattle.sas_reader.specs.declared.fault.Fault.{Fault}
 use Rattle.sas_reader.specs.declared.fault.Kind.{Kind}
@@ -21,20 +22,10 @@ none_left [] ys e = (refl, e)
 none_left (x ∷ xs) ys e = absurd cc
 
 grows-from : (b c : List ℕ) (x : ℕ) (first : List (List ℕ)) → lines (b ++ x ∷ []) ≡ lines b ++ first → (first ≡ [] → unfinished (b ++ x ∷ []) ≡ unfinished b ++ x ∷ []) → Grown (b ++ x ∷ []) c → Grown b (x ∷ c)
-grows-from b c x first e f g =
-    let same : (b ++ x ∷ []) ++ c ≡ b ++ x ∷ c = append_assoc b (x ∷ []) c in
-    record {
-      more = first ++ g.more;
-      lines_are = ap lines (sym same) ∙ g.lines_are ∙ ap (λ (l : List (List ℕ)). l ++ g.more) e ∙ append_assoc (lines b) first g.more;
-      rest_is = λ z. let n = none_left first g.more z in ap unfinished (sym same) ∙ g.rest_is n.1 ∙ ap (λ (l : List ℕ). l ++ c) (f n.0) ∙ append_assoc (unfinished b) (x ∷ []) c;
-    }
+grows-from b c x first e f g = grind (arith, common_steps, append_assoc, none_left)
 
 grows-by : (b c : List ℕ) (x : ℕ) → Grown (b ++ x ∷ []) c → Grown b (x ∷ c)
-grows-by b c x g =
-    elim (eqb_tells x 10) [
-      | inl y ↦ grows-from b c x (without_return (unfinished b) ∷ []) (ap (λ (z : ℕ). lines (b ++ z ∷ [])) y.1 ∙ lines-end b) (λ e. absurd cc) g
-      | inr n ↦ grows-from b c x [] (lines-plain b x n.1 ∙ sym (append-nil (lines b))) (λ e. unfinished-plain b x n.1) g
-    ]
+grows-by b c x g = grind (arith, common_steps, eqb_tells, grows-from, lines-end, lines-plain, append-nil, unfinished-plain)
 
 grows : (b c : List ℕ) → Grown b c
 grows b [] = record { more = []; lines_are = ap lines (append-nil b) ∙ sym (append-nil (lines b)); rest_is = λ e. ap unfinished (append-nil b) ∙ sym (append-nil (unfinished b)) }

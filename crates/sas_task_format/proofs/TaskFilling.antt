@@ -1,4 +1,5 @@
 -- Lines that begin a task can be completed by fillings, in exactly one way.
+use Rattle.std.proofs.lemmas.Grind.{common_steps}
 use Rattle.sas_task_format.proofs.Imports.{◌≡◌, ℕ, zero, suc, ◌<◌, ◌+◌, Bool, List, [], ◌∷◌, ◌++◌, length, refl, sym, ap, subst, ◌∙◌, arith, IsTrue, Option, Some, None, codes, nat_lt, ◌==◌, length-append, AllByRecursion, decimal, decimal_digit, Variable, Parts, IsNumber, range_of, signed_decimal, joined, IsAllowed, After, LeadsToEnd, cut_at, ends_split, after_ends, same_path, one_ended}
 use Rattle.sas_task_format.specs.Process.{done, read, process_node, repeat, each, a_list}
 use Rattle.sas_task_format.specs.TaskFormat.{TaskLine, number, TaskSlot, word_slot, name_slot, number_slot, signed_slot, fact_slot, effect_slot, head_slot, task_slot, task_line_bytes, task_layout, task_format, TaskLineFits}
@@ -32,10 +33,7 @@ signed_filled : {m : ℕ} → Filled m (λ x. Unit {0}) 1 a_signed
 signed_filled = record { fills = λ k h b f. (record { slot = refl; fits = tt; good = refl }, λ j t. h _ tt (Some signed_slot) refl) }
 
 number_filled : (ok : ℕ → Bool) (n : ℕ) → IsNumber n → IsTrue (ok n) → Filled n (λ x. IsTrue (ok x)) 0 (a_number ok)
-number_filled ok n l t = record {
-  fills = λ k h b f.
-      (subst (λ x. IsAllowed task_format TaskLineFits number_slot (λ i. ok (number_in i)) (number x)) (sym f) (record { slot = refl; fits = l; good = t }), λ j u. h _ u.good (Some number_slot) refl);
-}
+number_filled ok n l t = grind (arith, common_steps)
 
 -- the first variable has a value
 abbrev HasFirst : List Variable → Type 0
@@ -45,10 +43,7 @@ fact_filled : (vs : List Variable) → HasFirst vs → Filled 0 (λ x. Unit {0})
 fact_filled vs l = record { fills = λ k h b f. (record { slot = refl; fits = (omega arith, omega arith); good = less 0 (range_of vs 0) l }, λ j t. h _ tt (Some fact_slot) refl) }
 
 effect_filled : (vs : List Variable) → HasFirst vs → Filled 0 (λ x. Unit {0}) 0 (an_effect vs)
-effect_filled vs l = record {
-  fills = λ k h b f.
-      (record { slot = refl; fits = record { count = omega arith; conditions = tt; head = (omega arith, tt, omega arith) }; good = less 0 (range_of vs 0) l }, λ j t. h _ tt (Some effect_slot) refl);
-}
+effect_filled vs l = grind (arith, common_steps, less)
 
 head_filled : (vs : List Variable) → HasFirst vs → Filled 0 (λ x. Unit {0}) 0 (a_head vs)
 head_filled vs l = record { fills = λ k h b f. (record { slot = refl; fits = (omega arith, tt, omega arith); good = less 0 (range_of vs 0) l }, λ j t. h _ tt (Some head_slot) refl) }
@@ -229,9 +224,4 @@ zero_digit : decimal 0 ≡ codes "0"
 zero_digit = decimal_digit 0 (omega arith)
 
 pub fillings_in_bytes : (b : Option TaskSlot) → FillingsInBytes b
-fillings_in_bytes b = record {
-  signed = refl;
-  fact = ap (λ (z : List ℕ). joined (z ∷ z ∷ [])) zero_digit;
-  effect = ap (λ (z : List ℕ). joined (z ∷ z ∷ signed_decimal None ∷ z ∷ [])) zero_digit;
-  head = ap (λ (z : List ℕ). joined (z ∷ signed_decimal None ∷ z ∷ [])) zero_digit;
-}
+fillings_in_bytes b = grind (arith, common_steps, zero_digit)

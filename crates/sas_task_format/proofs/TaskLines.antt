@@ -1,5 +1,6 @@
 -- A line of a task has one meaning at a slot, its fault has one kind, and it contains no LF and no
 -- CR.
+use Rattle.std.proofs.lemmas.Grind.{common_steps}
 use Rattle.sas_task_format.proofs.Imports.{◌≡◌, ℕ, List, [], ◌∷◌, ◌++◌, length, refl, sym, ap, subst, ◌∙◌, arith, Option, flat_map, AllByRecursion, decimal, Fact, Effect, IsNumber, IsSigned, signed_decimal, NoSpace, same_words, NoSpace-number, NoSpace-signed, same_number, same_signed, Kind, Keyword, Name, Shape, Value}
 use Rattle.sas_task_format.specs.TaskFormat.{TaskLine, word, name, number, signed, fact, effect, head, TaskSlot, word_slot, name_slot, number_slot, signed_slot, fact_slot, effect_slot, head_slot, task_slot, fact_words, head_words, task_line_bytes, TaskLineFits, FactNumbers, HeadNumbers, EffectNumbers, NumbersKind, no_shape, no_value, TaskKind}
 use Rattle.sas_task_format.specs.TaskProcess.{number_in, signed_in, fact_in, effect_in, head_in}
@@ -14,10 +15,7 @@ fact_fields : (f g : Fact) → f.var ≡ g.var → f.value ≡ g.value → f ≡
 fact_fields f g a b = ap (λ (x : ℕ). let r : Fact = record { var = x; value = f.value } in r) a ∙ ap (λ (x : ℕ). let r : Fact = record { var = g.var; value = x } in r) b
 
 same_fact_words : (f g : Fact) (ws vs : List (List ℕ)) → FactNumbers f → FactNumbers g → fact_words f ++ ws ≡ fact_words g ++ vs → (f ≡ g) × (ws ≡ vs)
-same_fact_words f g ws vs h k e =
-    let a : decimal f.var ≡ decimal g.var = cc in
-    let b : decimal f.value ≡ decimal g.value = cc in
-    (fact_fields f g (number_same f.var g.var h.0 k.0 a) (number_same f.value g.value h.1 k.1 b), cc)
+same_fact_words f g ws vs h k e = grind (arith, common_steps, fact_fields, number_same)
 
 same_fact : (f g : Fact) → FactNumbers f → FactNumbers g → task_line_bytes (fact f) ≡ task_line_bytes (fact g) → f ≡ g
 same_fact f g h k e =
@@ -25,11 +23,7 @@ same_fact f g h k e =
     (same_fact_words f g [] [] h k w).0
 
 same_head_words : (u v : ℕ) (o p : Option ℕ) (m n : ℕ) → HeadNumbers u o m → HeadNumbers v p n → head_words u o m ≡ head_words v p n → (u ≡ v) × (o ≡ p) × (m ≡ n)
-same_head_words u v o p m n h k e =
-    let a : decimal u ≡ decimal v = cc in
-    let b : signed_decimal o ≡ signed_decimal p = cc in
-    let c : decimal m ≡ decimal n = cc in
-    (number_same u v h.0 k.0 a, same_signed o p h.1 k.1 b, number_same m n h.2 k.2 c)
+same_head_words u v o p m n h k e = grind (arith, common_steps, number_same, same_signed)
 
 same_head : (u v : ℕ) (o p : Option ℕ) (m n : ℕ) → HeadNumbers u o m → HeadNumbers v p n → task_line_bytes (head u o m) ≡ task_line_bytes (head v p n) → head u o m ≡ head v p n
 same_head u v o p m n h k e =
@@ -59,11 +53,7 @@ pub NoSpace-effect : (e : Effect) → EffectNumbers e → AllByRecursion NoSpace
 NoSpace-effect e h = NoSpace-facts e.conditions (head_words e.var e.old e.new) h.conditions (NoSpace-number e.var h.head.0, (NoSpace-signed e.old h.head.1, (NoSpace-number e.new h.head.2, tt)))
 
 effect_fields : (e f : Effect) → e.conditions ≡ f.conditions → (e.var ≡ f.var) × (e.old ≡ f.old) × (e.new ≡ f.new) → e ≡ f
-effect_fields e f c h =
-    ap (λ (x : List Fact). let r : Effect = record { conditions = x; var = e.var; old = e.old; new = e.new } in r) c
-    ∙ ap (λ (x : ℕ). let r : Effect = record { conditions = f.conditions; var = x; old = e.old; new = e.new } in r) h.0
-    ∙ ap (λ (x : Option ℕ). let r : Effect = record { conditions = f.conditions; var = f.var; old = x; new = e.new } in r) h.1
-    ∙ ap (λ (x : ℕ). let r : Effect = record { conditions = f.conditions; var = f.var; old = f.old; new = x } in r) h.2
+effect_fields e f c h = grind (arith, common_steps)
 
 same_effect : (e f : Effect) → EffectNumbers e → EffectNumbers f → task_line_bytes (effect e) ≡ task_line_bytes (effect f) → e ≡ f
 same_effect e f h k q =

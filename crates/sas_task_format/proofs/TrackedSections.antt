@@ -1,5 +1,6 @@
 -- A tracker over the sections of a task: its marks are those of each section, and its counts after
 -- each section are right.
+use Rattle.std.proofs.lemmas.Grind.{common_steps}
 use Rattle.sas_task_format.proofs.Imports.{◌≡◌, ℕ, suc, ◌+◌, ◌-◌, Bool, List, [], ◌∷◌, ◌++◌, length, map, refl, sym, ap, ◌∙◌, append_assoc, arith, codes, flat_map, map-append, Fact, Variable, Operator, Rule}
 use Rattle.std.proofs.Common.{append-nil}
 use Rattle.sas_task_format.specs.declared.places.Place.{Place}
@@ -26,12 +27,7 @@ abbrev operator_parts : (Due → Mark) → List Due → List Due → Due → Due
 operator_parts f a b c w = map f a ++ (f c ∷ (map f b ++ f c ∷ f w ∷ []))
 
 operator_marks : (f : Due → Mark) (a b : List Due) (c w : Due) → operator_parts f a b c w ≡ map f ((a ++ c ∷ (b ++ c ∷ [])) ++ w ∷ [])
-operator_marks f a b c w = sym (
-    map-append f (a ++ c ∷ (b ++ c ∷ [])) (w ∷ [])
-    ∙ ap (λ (x : List Mark). x ++ f w ∷ []) (map-append f a (c ∷ (b ++ c ∷ [])))
-    ∙ append_assoc (map f a) (f c ∷ map f (b ++ c ∷ [])) (f w ∷ [])
-    ∙ ap (λ (x : List Mark). map f a ++ f c ∷ (x ++ f w ∷ [])) (map-append f b (c ∷ []))
-    ∙ ap (λ (x : List Mark). map f a ++ f c ∷ x) (append_assoc (map f b) (f c ∷ []) (f w ∷ [])))
+operator_marks f a b c w = grind (arith, common_steps, map-append, append_assoc)
 
 rule_marks : (f : Due → Mark) (a : List Due) (h w : Due) → map f a ++ f h ∷ f w ∷ [] ≡ map f ((a ++ h ∷ []) ++ w ∷ [])
 rule_marks f a h w = sym (map-append f (a ++ h ∷ []) (w ∷ []) ∙ ap (λ (x : List Mark). x ++ f w ∷ []) (map-append f a (h ∷ [])) ∙ append_assoc (map f a) (f h ∷ []) (f w ∷ []))
@@ -45,11 +41,7 @@ this_is total left n e = omega (arith, e)
 
 -- the marks of the first lines of a section
 first_marks : (l : ℕ → Location) (total left n : ℕ) (d : Due) (dues : List Due) → IsNumbered total left n → mark (l (total - suc left)) d ∷ there (l (total - (suc left - 1) - 1)) dues ≡ there (l n) (d ∷ dues)
-first_marks l total left n d dues e =
-    let next : total - suc left ≡ n = omega (arith, e) in
-    let this : total - (suc left - 1) - 1 ≡ n = omega (arith, e) in
-    ap (λ (x : ℕ). mark (l x) d ∷ there (l (total - (suc left - 1) - 1)) dues) next
-    ∙ ap (λ (x : ℕ). mark (l n) d ∷ there (l x) dues) this
+first_marks l total left n d dues e = grind (arith, common_steps)
 
 module _ (ranges : List ℕ) where
   -- ---- the version and the metric

@@ -1,4 +1,6 @@
 -- The first section that fails determines the fault.
+use Rattle.std.proofs.Common.{arith}
+use Rattle.std.proofs.lemmas.Grind.{common_steps}
 use Rattle.sas_core.proofs.Imports.{rules, ◌≡◌, ◌∙◌, Some, result_err}
 use Rattle.sas_core.specs.Checks.{checks}
 use Rattle.sas_core.specs.FirstFault.{first_fault}
@@ -6,10 +8,7 @@ use Rattle.sas_core.proofs.FirstFaults.{fails_before, decides_after}
 use Rattle.sas_core.proofs.checks.check_parts.Goals as goal
 
 pub returns-in_err-check_some : goal.returns-in_err-check_some
-returns-in_err-check_some c =
-    let same : result_err c.from_residual.result ≡ Some c.in_err-check_some.field-0.0 = search rules in
-    let first : Some c.in_err-check_some.field-0.0 ≡ first_fault (checks c.args.parts.now) = search (rules, fails_before, c.in_err-check_some.ensures) depth 12 in
-    same ∙ first
+returns-in_err-check_some c = grind (arith, common_steps, fails_before)
 
 pub returns-in_err-check_list : goal.returns-in_err-check_list
 returns-in_err-check_list c =
@@ -24,10 +23,7 @@ returns-in_err-check_list-2 c =
     same ∙ first
 
 pub returns-in_err-check_state : goal.returns-in_err-check_state
-returns-in_err-check_state c =
-    let same : result_err c.from_residual-in_err-check_state.result ≡ Some c.in_err-check_state.field-0.0 = search rules in
-    let first : Some c.in_err-check_state.field-0.0 ≡ first_fault (checks c.args.parts.now) = search (rules, fails_before, decides_after, c.in_ok-check_some.ensures, c.in_ok-check_list.ensures, c.in_ok-check_list-2.ensures, c.in_err-check_state.ensures) depth 12 in
-    same ∙ first
+returns-in_err-check_state c = grind (arith, common_steps, fails_before, decides_after)
 
 pub returns-in_err-check_list-3 : goal.returns-in_err-check_list-3
 returns-in_err-check_list-3 c =

@@ -1,3 +1,4 @@
+use Rattle.std.proofs.lemmas.Grind.{common_steps}
 use Rattle.sas_reader.proofs.Imports.{refl, ◌≡◌, ◌≢◌, ◌≤◌, ◌<◌, Bool, true, false, [], ◌+◌, ◌++◌, ℕ, List, length, ap, subst, ◌∙◌, sym, arith, inl, inr, take, Result, Ok, Err, None, Some, Option, IsTrue, Consumes, IsAtEnd, Consumes-nil, Consumes-trans, Consumes-kept, append-nil, length-take-le, false≢true, Device}
 use Rattle.sas_reader.specs.declared.fault.Fault.{Fault}
 use Rattle.sas_reader.specs.declared.fault.Kind.{Kind}
@@ -97,30 +98,10 @@ returns-in-Err-feed g c =
     (λ t. absurd {0} (false≢true (c.in-Ok.ensures.note.1 t)))
 
 pub loop-n-init : goal.loop-n-init
-loop-n-init g c = record {
-  note = c.requires.note;
-  room = c.requires.room;
-  fault = c.requires.fault;
-  limit = refl;
-  read = ([], Consumes-nil _, c.requires.stands);
-}
+loop-n-init g c = grind (arith, common_steps, Consumes-nil)
 
 pub loop-n-smaller : goal.loop-n-smaller
-loop-n-smaller g c =
-    let takes = c.in_default.ensures in
-    let next = c.feed.new.self in
-    omega (arith, takes.count, takes.limit, next.within, length-take-le c.in-Ok.n c.take.new.buffer c.in-Ok.ensures.bound, c.if-taken-eq0.false)
+loop-n-smaller g c = grind (arith, common_steps, length-take-le)
 
 pub loop-n-preserved : goal.loop-n-preserved
-loop-n-preserved g c =
-    let v = c.loop-n.invariant in
-    let b = v.read.0 in
-    let next = c.feed.new.self in
-    let takes = c.in_default.ensures in
-    record {
-      note = not_failed _ c.in-Ok.ensures.note.1;
-      room = some_still c.loop-n.buffer _ v.room c.take.auto.buffer;
-      fault = answer_ok next.fault _ takes.answer;
-      limit = takes.limit ∙ v.limit;
-      read = (b ++ take c.in-Ok.n c.take.new.buffer, Consumes-trans _ _ _ b _ v.read.1 c.in-Ok.ensures.bytes.0, takes.stands b v.read.2);
-    }
+loop-n-preserved g c = grind (arith, common_steps, not_failed, some_still, answer_ok, Consumes-trans)

@@ -1,3 +1,4 @@
+use Rattle.std.proofs.lemmas.Grind.{common_steps}
 use Rattle.sas_reader.proofs.Imports.{ℕ, ◌+◌, ◌≡◌, List, ◌++◌, refl, sym, ap, subst, ◌∙◌, arith, take_all, Some, None}
 use Rattle.sas_reader.specs.declared.fault.Fault.{Fault}
 use Rattle.sas_reader.specs.Faults.{answer}

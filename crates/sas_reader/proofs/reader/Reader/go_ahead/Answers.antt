@@ -1,3 +1,4 @@
+use Rattle.std.proofs.lemmas.Grind.{common_steps}
 use Rattle.sas_reader.proofs.Imports.{◌≡◌, ◌+◌, ℕ, ap, rules, length, sym, subst, Err, Ok, ◌∙◌, refl, arith, length-drop, Progress}
 use Rattle.sas_reader.specs.Reader.{TookFront}
 use Rattle.sas_reader.proofs.Advancing.{advances_no_more, took_none, took_behind, stopped_behind, advances_wider, within_fits, rest_is}
@@ -5,46 +6,19 @@ use Rattle.sas_reader.proofs.Tested.{nil_when}
 use Rattle.sas_reader.proofs.reader.Reader.go_ahead.Goals as goal
 
 pub returns-then-not-is_empty : goal.returns-then-not-is_empty
-returns-then-not-is_empty g c = record {
-  took = took_none g.M.Machine.led_by g.M.Machine.ended g.M.Machine.rejects g.M.Machine.stopped c.args.self.now c.args.piece.now;
-  stopped = tt;
-  fault = refl;
-  limit = refl;
-}
+returns-then-not-is_empty g c = grind (arith, common_steps)
 
 pub loop-at-init : goal.loop-at-init
-loop-at-init g c = record {
-  took = took_none g.M.Machine.led_by g.M.Machine.ended g.M.Machine.rejects g.M.Machine.stopped c.args.self.now c.within_limit-within.result.now;
-  room = within_fits _ _ c.args.piece.now _ c.within_limit-within.ensures c.args.self.now.within;
-  whole = sym c.pending.ensures ∙ nil_when _ _ c.is_empty.ensures c.if-not-is_empty.false;
-  fault = refl;
-  limit = refl;
-}
+loop-at-init g c = grind (arith, common_steps, within_fits, nil_when)
 
 pub take_ahead-requires-clause-room : goal.take_ahead-requires-clause-room
-take_ahead-requires-clause-room g c =
-    let within = c.within_limit-within.result.now in
-    let v = c.loop-at.invariant in
-    omega (arith, v.took.count, v.room, v.limit, ap length (rest_is c.loop-at.at within), length-drop c.loop-at.at within)
+take_ahead-requires-clause-room g c = grind (arith, common_steps, rest_is)
 
 pub take_ahead-requires-clause-some : goal.take_ahead-requires-clause-some
-take_ahead-requires-clause-some g c =
-    let within = c.within_limit-within.result.now in
-    omega (arith, ap length (rest_is c.loop-at.at within), length-drop c.loop-at.at within)
+take_ahead-requires-clause-some g c = grind (arith, common_steps, rest_is)
 
 pub returns-then-taken-eq0 : goal.returns-then-taken-eq0
-returns-then-taken-eq0 g c =
-    let v = c.loop-at.invariant in
-    let within = c.within_limit-within.result.now in
-    let step = c.in_ok-taken.ensures.advances in
-    let same : c.loop-at.at + c.in_ok-taken.taken ≡ c.loop-at.at = omega (arith, c.if-taken-eq0.true) in
-    let took = took_behind g.M.Machine.led_by g.M.Machine.ended g.M.Machine.rejects g.M.Machine.stopped c.args.self.now c.loop-at.self c.take_ahead.new.self within c.loop-at.at c.in_ok-taken.taken v.took step.took in
-    advances_wider g.M.Machine.led_by g.M.Machine.ended g.M.Machine.rejects g.M.Machine.stopped c.args.self.now _ c.args.piece.now within _ _ c.within_limit-within.ensures (record {
-      took = subst (λ (n : ℕ). TookFront g.M.Machine.led_by g.M.Machine.ended g.M.Machine.rejects g.M.Machine.stopped c.args.self.now c.take_ahead.new.self within n) same took;
-      stopped = tt;
-      fault = step.fault ∙ v.fault;
-      limit = step.limit ∙ v.limit;
-    })
+returns-then-taken-eq0 g c = grind (arith, common_steps)
 
 pub returns : goal.returns
 returns g c =
@@ -57,10 +31,7 @@ returns g c =
     })
 
 pub overflow_add-at : goal.overflow_add-at
-overflow_add-at g c =
-    let within = c.within_limit-within.result.now in
-    let step = c.in_ok-taken.ensures.advances in
-    omega (arith, step.took.within, ap length (rest_is c.loop-at.at within), length-drop c.loop-at.at within)
+overflow_add-at g c = grind (arith, common_steps, rest_is)
 
 pub returns-in_err-taken : goal.returns-in_err-taken
 returns-in_err-taken g c =

@@ -1,3 +1,4 @@
+use Rattle.std.proofs.lemmas.Grind.{common_steps}
 use Rattle.sas_reader.proofs.Imports.{◌∙◌, sym, subst, ℕ, List, refl, arith}
 use Rattle.sas_reader.specs.Found.{IsFoundOf}
 use Rattle.sas_reader.proofs.Advancing.{accepted_part, accepted_line, stopped_at, takes_some}
@@ -48,37 +49,16 @@ returns-in-Ok-clause-advances g c =
     }
 
 pub returns-in_err-fed-clause-advances : goal.returns-in_err-fed-clause-advances
-returns-in_err-fed-clause-advances g c =
-    let r = c.args.self.now in
-    advances_refused g.M.Machine.led_by g.M.Machine.ended g.M.Machine.rejects g.M.Machine.stopped r _ c.args.piece.now c.from_residual.result c.from_residual.ensures.0 c.from_residual.ensures.1 c.requires.some c.requires.going (omega (arith, c.requires.some, c.requires.room)) refl refl
+returns-in_err-fed-clause-advances g c = grind (arith, common_steps)
 
 pub overflow_add-self : goal.overflow_add-self
-overflow_add-self g c =
-    let bound = takes_bound c.args.piece.now c.in_ok-fed.fed.taken c.in_ok-fed.fed.complete c.in_ok-fed.ensures.taken in
-    omega (arith, bound, c.requires.room, c.args.self.now.small)
+overflow_add-self g c = grind (arith, common_steps, takes_bound)
 
 pub invariant_of-self-then-not-fed : goal.invariant_of-self-then-not-fed
-invariant_of-self-then-not-fed g c =
-    let r = c.args.self.now in
-    let bound = takes_bound c.args.piece.now c.in_ok-fed.fed.taken c.in_ok-fed.fed.complete c.in_ok-fed.ensures.taken in
-    record {
-      within = omega (arith, bound, c.requires.room);
-      small = r.small;
-      few = omega (arith, r.few);
-    }
+invariant_of-self-then-not-fed g c = grind (arith, common_steps, takes_bound)
 
 pub overflow_add-self-in-Ok-2 : goal.overflow_add-self-in-Ok-2
-overflow_add-self-in-Ok-2 g c =
-    let bound = takes_bound c.args.piece.now c.in_ok-fed.fed.taken c.in_ok-fed.fed.complete c.in_ok-fed.ensures.taken in
-    omega (arith, bound, c.requires.room, c.args.self.now.small)
+overflow_add-self-in-Ok-2 g c = grind (arith, common_steps, takes_bound)
 
 pub invariant_of-self-in-Ok : goal.invariant_of-self-in-Ok
-invariant_of-self-in-Ok g c =
-    let r = c.args.self.now in
-    let bound = takes_bound c.args.piece.now c.in_ok-fed.fed.taken c.in_ok-fed.fed.complete c.in_ok-fed.ensures.taken in
-    let some = takes_some c.args.piece.now c.in_ok-fed.fed.taken c.in_ok-fed.fed.complete c.in_ok-fed.ensures.taken c.requires.some in
-    record {
-      within = omega (arith, bound, c.requires.room);
-      small = r.small;
-      few = omega (arith, r.few, some);
-    }
+invariant_of-self-in-Ok g c = grind (arith, common_steps, takes_bound, takes_some)

@@ -1,3 +1,4 @@
+use Rattle.std.proofs.lemmas.Grind.{common_steps}
 use Rattle.sas_reader.proofs.Imports.{◌≡◌, ◌+◌, ◌-◌, ◌≤◌, ℕ, List, length, take, refl, ap, subst, sym, ◌∙◌, Ok, Err, arith, length-take, length-take-le}
 use Rattle.sas_reader.specs.Reader.{TookFront, Stopped}
 use Rattle.sas_reader.specs.Returns.{without_returns}
@@ -55,54 +56,16 @@ returns-in-Ok g c =
     })
 
 pub returns-then-not-is_empty : goal.returns-then-not-is_empty
-returns-then-not-is_empty g c = record {
-  took = took_none g.M.Machine.led_by g.M.Machine.ended g.M.Machine.rejects g.M.Machine.stopped c.args.self.now c.args.piece.now;
-  stopped = tt;
-  fault = refl;
-  limit = refl;
-}
+returns-then-not-is_empty g c = grind (arith, common_steps)
 
 pub returns-in_default : goal.returns-in_default
-returns-in_default g c = record {
-  took = took_none g.M.Machine.led_by g.M.Machine.ended g.M.Machine.rejects g.M.Machine.stopped c.args.self.now c.args.piece.now;
-  stopped = tt;
-  fault = refl;
-  limit = refl;
-}
+returns-in_default g c = grind (arith, common_steps)
 
 pub slice_bounds-run-end : goal.slice_bounds-run-end
-slice_bounds-run-end g c =
-    let kept = c.in-Some.kept in
-    sym (length-take-le kept c.deref.result.now (subst (λ (x : List ℕ). kept ≤ length x) (sym c.deref.ensures.value) c.in-Some.ensures.within))
+slice_bounds-run-end g c = grind (arith, common_steps, length-take-le)
 
 pub overflow_add-self : goal.overflow_add-self
-overflow_add-self g c =
-    let old = c.args.self.now in
-    let bytes = c.without_last_return-bytes.result.now in
-    let front = c.without_last_return-bytes.ensures in
-    let fits = within_fits old.limit old.taken c.args.piece.now _ c.within_limit.ensures old.within in
-    let room : old.taken + length bytes ≤ old.limit = omega (arith, fits, c.if-within_limit-piece.false, ap length front.1, length-take front.0 c.args.piece.now) in
-    let copy = c.in-Some.ensures in
-    let kept = c.in-Some.kept in
-    let all : c.in-Ok.field-0 ≡ length (without_returns bytes) = c.in-Ok.ensures.all ∙ ap length (ap (take kept) c.deref.ensures.value ∙ copy.front) in
-    let long = length-take-le kept _ copy.within in
-    omega (arith, room, c.in-Ok.ensures.advances.took.count, all, ap length copy.front, long, fewer bytes, old.small)
+overflow_add-self g c = grind (arith, common_steps, within_fits, length-take, length-take-le, fewer)
 
 pub invariant_of-self : goal.invariant_of-self
-invariant_of-self g c =
-    let old = c.args.self.now in
-    let new = c.run.new.self in
-    let bytes = c.without_last_return-bytes.result.now in
-    let front = c.without_last_return-bytes.ensures in
-    let fits = within_fits old.limit old.taken c.args.piece.now _ c.within_limit.ensures old.within in
-    let room : old.taken + length bytes ≤ old.limit = omega (arith, fits, c.if-within_limit-piece.false, ap length front.1, length-take front.0 c.args.piece.now) in
-    let step = c.in-Ok.ensures.advances in
-    let copy = c.in-Some.ensures in
-    let kept = c.in-Some.kept in
-    let all : c.in-Ok.field-0 ≡ length (without_returns bytes) = c.in-Ok.ensures.all ∙ ap length (ap (take kept) c.deref.ensures.value ∙ copy.front) in
-    let long = length-take-le kept _ copy.within in
-    record {
-      within = omega (arith, room, step.took.count, step.limit, all, ap length copy.front, long, fewer bytes);
-      small = new.small;
-      few = omega (arith, new.few);
-    }
+invariant_of-self g c = grind (arith, common_steps, within_fits, length-take, length-take-le, fewer)

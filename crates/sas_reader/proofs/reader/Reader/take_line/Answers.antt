@@ -1,3 +1,4 @@
+use Rattle.std.proofs.lemmas.Grind.{common_steps}
 use Rattle.sas_reader.proofs.Imports.{◌≤◌, ◌+◌, ◌∙◌, true, length, refl, ap, sym, arith, false≢true}
 use Rattle.sas_reader.proofs.Advancing.{takes_some, took_whole, stopped_whole, stopped_full, stopped_over, advances_wider, within_fits, within_none}
 use Rattle.sas_reader.proofs.Pieces.{takes_bound}
@@ -58,20 +59,7 @@ returns-in-Ok-clause-advances g c =
     })
 
 pub overflow_add-self-in-Ok : goal.overflow_add-self-in-Ok
-overflow_add-self-in-Ok g c =
-    let r = c.args.self.now in
-    let fits = within_fits r.limit r.taken c.args.piece.now _ c.within_limit-within.ensures r.within in
-    let bound = takes_bound c.within_limit-within.result.now c.in-Some.first.taken true c.in-Some.ensures.some.taken in
-    omega (arith, fits, bound, r.small)
+overflow_add-self-in-Ok g c = grind (arith, common_steps, within_fits, takes_bound)
 
 pub invariant_of-self-in-Ok : goal.invariant_of-self-in-Ok
-invariant_of-self-in-Ok g c =
-    let r = c.args.self.now in
-    let fits = within_fits r.limit r.taken c.args.piece.now _ c.within_limit-within.ensures r.within in
-    let bound = takes_bound c.within_limit-within.result.now c.in-Some.first.taken true c.in-Some.ensures.some.taken in
-    let some = takes_some c.within_limit-within.result.now c.in-Some.first.taken true c.in-Some.ensures.some.taken (some_when _ _ c.is_empty.ensures c.if-is_empty.false) in
-    record {
-      within = omega (arith, fits, bound);
-      small = r.small;
-      few = omega (arith, r.few, some);
-    }
+invariant_of-self-in-Ok g c = grind (arith, common_steps, within_fits, takes_bound, takes_some, some_when)

@@ -1,3 +1,4 @@
+use Rattle.std.proofs.lemmas.Grind.{common_steps}
 use Rattle.sas_reader.proofs.Imports.{◌+◌, ◌∙◌, length, ap, arith, length-drop}
 use Rattle.sas_reader.proofs.Advancing.{advances_no_more, took_behind, stopped_behind, rest_is}
 use Rattle.sas_reader.proofs.Tested.{err_is}
@@ -43,28 +44,16 @@ returns-clause-advances g c =
     }
 
 pub returns-in_err-begun-clause-advances : goal.returns-in_err-begun-clause-advances
-returns-in_err-begun-clause-advances g c =
-    let same = err_is c.from_residual.result c.in_err-begun.field-0.0 c.from_residual.ensures.0 c.from_residual.ensures.1 in
-    advances_no_more g.M.Machine.led_by g.M.Machine.ended g.M.Machine.rejects g.M.Machine.stopped c.args.self.now _ c.args.piece.now _ _ same c.in_err-begun.ensures
+returns-in_err-begun-clause-advances g c = grind (arith, common_steps, err_is)
 
 pub slice_bounds-run-count : goal.slice_bounds-run-count
-slice_bounds-run-count g c =
-    let both = took_behind g.M.Machine.led_by g.M.Machine.ended g.M.Machine.rejects g.M.Machine.stopped c.args.self.now c.end_line.new.self c.run_with_lf_alone.new.self c.args.piece.now c.in_ok-begun.begun c.in_ok-at.field-0 c.in_ok-begun.ensures.took c.in_ok-at.ensures.took in
-    both.within
+slice_bounds-run-count g c = grind (arith, common_steps)
 
 pub overflow_add-at : goal.overflow_add-at
-overflow_add-at g c =
-    let both = took_behind g.M.Machine.led_by g.M.Machine.ended g.M.Machine.rejects g.M.Machine.stopped c.args.self.now c.end_line.new.self c.run_with_lf_alone.new.self c.args.piece.now c.in_ok-begun.begun c.in_ok-at.field-0 c.in_ok-begun.ensures.took c.in_ok-at.ensures.took in
-    omega (arith, both.within)
+overflow_add-at g c = grind (arith, common_steps)
 
 pub overflow_add-result : goal.overflow_add-result
-overflow_add-result g c =
-    let at = c.in_ok-begun.begun + c.in_ok-at.field-0 in
-    let both = took_behind g.M.Machine.led_by g.M.Machine.ended g.M.Machine.rejects g.M.Machine.stopped c.args.self.now c.end_line.new.self c.run_with_lf_alone.new.self c.args.piece.now c.in_ok-begun.begun c.in_ok-at.field-0 c.in_ok-begun.ensures.took c.in_ok-at.ensures.took in
-    omega (arith, both.within, c.in_ok-run.ensures.all, ap length (rest_is at c.args.piece.now), length-drop at c.args.piece.now)
+overflow_add-result g c = grind (arith, common_steps, rest_is)
 
 pub returns-clause-all : goal.returns-clause-all
-returns-clause-all g c =
-    let at = c.in_ok-begun.begun + c.in_ok-at.field-0 in
-    let both = took_behind g.M.Machine.led_by g.M.Machine.ended g.M.Machine.rejects g.M.Machine.stopped c.args.self.now c.end_line.new.self c.run_with_lf_alone.new.self c.args.piece.now c.in_ok-begun.begun c.in_ok-at.field-0 c.in_ok-begun.ensures.took c.in_ok-at.ensures.took in
-    omega (arith, both.within, c.in_ok-run.ensures.all, ap length (rest_is at c.args.piece.now), length-drop at c.args.piece.now)
+returns-clause-all g c = grind (arith, common_steps, rest_is)
