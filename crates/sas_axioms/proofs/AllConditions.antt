@@ -1,13 +1,46 @@
 -- The index of all conditions, and how the counters change with the value of a variable.
 use Rattle.sas_axioms.proofs.Imports.{◌≡◌, ◌≢◌, ℕ, ◌+◌, ◌<◌, ◌≤◌, ◌==◌, ◌&&◌, ◌^◌, Bool, true, false, cond, List, [], ◌∷◌, ◌++◌, length, get_or, set, None, refl, sym, ◌∙◌, ap, subst, inl, inr, arith, All, get_or-set_same, get_or-set_other, length-set, cases_eq, eq-eqb, eqb_tells, All-nil, All-cons, All-tail, All-append, All-weaker, Fact, Parts, rule_at, WellRanged, RuleFits, holds_at, Entry}
-use Rattle.sas_axioms.proofs.Imports.{items_of, by_key, length-table, under_key, all_items, condition_within}
-use Rattle.sas_axioms.specs.declared.waiting.Waiting.{Waiting}
+use Rattle.sas_axioms.proofs.Imports.{items_of, by_key, length-table, items_none, items_cons, under_key, all_items, condition_within}
+use Rattle.sas_axioms.specs.declared.conditions.Waiting.{Waiting}
 use Rattle.sas_axioms.specs.LayerRules.{IsRuleOn}
-use Rattle.sas_axioms.specs.Waiting.{asking, waiting_entry, waits, waiting_at, released, occurrences}
-use Rattle.sas_axioms.specs.Conditions.{open_conditions, IsOfRule, IsCondition, entries, AreAllConditions, IsFullIndex, AreCounted}
-use Rattle.sas_axioms.proofs.Entries.{asked, counted_own, counted_other, waits_append, released_counts}
+use Rattle.sas_axioms.specs.Conditions.{asking, waiting_entry, waits, waiting_at, released, occurrences, open_conditions, IsOfRule, IsCondition, entries, AreAllConditions, IsFullIndex, AreCounted}
+use Rattle.sas_axioms.specs.Worklist.{AreCountedBy}
 
 -- ---- building the index
+
+-- whether an entry is the rule's, and for the fact
+abbrev counted : ℕ → ℕ → ℕ → Entry Waiting → ℕ
+counted rule var value e = cond ((e.item.rule == rule) && ((e.key == var) && (e.item.value == value))) 1 0
+
+-- whether a condition is the fact
+abbrev asked : ℕ → ℕ → Fact → ℕ
+asked var value c = cond ((c.var == var) && (c.value == value)) 1 0
+
+waits_append : (rule var value : ℕ) (ws ws' : List (Entry Waiting)) → waits rule var value (ws ++ ws') ≡ waits rule var value ws + waits rule var value ws'
+waits_append rule var value [] ws' = omega arith
+waits_append rule var value (w ∷ ws) ws' = let ih = waits_append rule var value ws ws' in omega arith
+
+-- an entry of a rule's own condition
+counted_own : (rule var value : ℕ) (c : Fact) → counted rule var value (waiting_entry c rule) ≡ asked var value c
+counted_own rule var value c = rw (eq-eqb rule rule refl) refl
+
+-- an entry of another rule
+counted_other : (other rule var value : ℕ) (c : Fact) → other ≢ rule → counted other var value (waiting_entry c rule) ≡ 0
+counted_other other rule var value c ne = elim (eqb_tells rule other) [ inl e ↦ absurd (ne (sym e.1)) | inr e ↦ rw e.0 refl ]
+
+-- what waits for a value of it is counted as released
+released_counts : (rule var value : ℕ) (es : List (Entry Waiting)) → occurrences rule (released value (items_of var es)) ≡ waits rule var value es
+released_counts rule var value [] = ap (λ ws. occurrences rule (released value ws)) (items_none var)
+released_counts rule var value (e ∷ es) =
+    let ih = released_counts rule var value es in
+    let split = ap (λ ws. occurrences rule (released value ws)) (items_cons var e es) in
+    split ∙ elim (eqb_tells e.key var) [
+      | inr a ↦ elim (eqb_tells e.item.rule rule) [ inl f ↦ rw (a.0, f.0) (omega arith) | inr f ↦ rw (a.0, f.0) (omega arith) ]
+      | inl a ↦ elim (eqb_tells e.item.value value) [
+        | inl b ↦ elim (eqb_tells e.item.rule rule) [ inl f ↦ rw (a.0, b.0, f.0) (omega arith) | inr f ↦ rw (a.0, b.0, f.0) (omega arith) ]
+        | inr b ↦ elim (eqb_tells e.item.rule rule) [ inl f ↦ rw (a.0, b.0, f.0) (omega arith) | inr f ↦ rw (a.0, b.0, f.0) (omega arith) ]
+      ]
+    ]
 
 waits_own : (rule var value : ℕ) (cs : List Fact) → waits rule var value (entries rule cs) ≡ asking var value cs
 waits_own rule var value [] = refl
@@ -138,22 +171,33 @@ few_conditions p k ranged lt = (holds_at (RuleFits p.variables) (record { condit
 
 -- ---- counting anew what waits for a variable that gets another value
 
-module _ (p : Parts) (index : List (List Waiting)) (var : ℕ) (ranged : WellRanged p) (is_index : IsFullIndex p index) (exists : var < length p.variables)
+module _ (p : Parts) (index : List (List Waiting)) (var : ℕ) (is_index : IsFullIndex p index) (seen : ℕ → ℕ) (counters : List ℕ) (counts : AreCountedBy p seen counters) where
+  pub small : WellRanged p → All (λ (w : Waiting). get_or counters w.rule 0 + occurrences w.rule (released (seen var) (waiting_at index var)) < 2 ^ 32) (waiting_at index var)
+  small ranged k d lt = bound (get_or (waiting_at index var) k d).rule (is_index.only var k d lt)
+    where
+      bound : (rule : ℕ) → (layer : ℕ) × IsRuleOn p layer rule → get_or counters rule 0 + occurrences rule (released (seen var) (waiting_at index var)) < 2 ^ 32
+      bound rule is =
+          let few = few_conditions p rule ranged is.1.exists in
+          let a = asking_length var (seen var) (rule_at p rule).conditions in
+          let b = open_length seen (rule_at p rule).conditions in
+          let e = counts is.0 rule is.1 in
+          let f = is_index.each is.0 var (seen var) rule is.1 in
+          omega arith
+
+  pub enough : (value : ℕ) → seen var ≢ value → All (λ (w : Waiting). occurrences w.rule (released value (waiting_at index var)) ≤ get_or counters w.rule 0) (waiting_at index var)
+  enough value ne k d lt = bound (get_or (waiting_at index var) k d).rule (is_index.only var k d lt)
+    where
+      bound : (rule : ℕ) → (layer : ℕ) × IsRuleOn p layer rule → occurrences rule (released value (waiting_at index var)) ≤ get_or counters rule 0
+      bound rule is =
+          let a = asking_open seen var value (rule_at p rule).conditions ne in
+          let e = counts is.0 rule is.1 in
+          let h = is_index.each is.0 var value rule is.1 in
+          omega arith
+
+module _ (p : Parts) (index : List (List Waiting)) (var : ℕ) (is_index : IsFullIndex p index) (exists : var < length p.variables)
     (counted counters : List ℕ) (counts : AreCounted p counted counters) where
   pub counters_exist : All (λ (w : Waiting). w.rule < length counters) (waiting_at index var)
   counters_exist k d lt = omega (arith, (is_index.only var k d lt).1.exists, counts.one_each)
-
-  pub small : All (λ (w : Waiting). get_or counters w.rule 0 + occurrences w.rule (released (get_or counted var 0) (waiting_at index var)) < 2 ^ 32) (waiting_at index var)
-  small k d lt = bound (get_or (waiting_at index var) k d).rule (is_index.only var k d lt)
-    where
-      bound : (rule : ℕ) → (layer : ℕ) × IsRuleOn p layer rule → get_or counters rule 0 + occurrences rule (released (get_or counted var 0) (waiting_at index var)) < 2 ^ 32
-      bound rule is =
-          let few = few_conditions p rule ranged is.1.exists in
-          let a = asking_length var (get_or counted var 0) (rule_at p rule).conditions in
-          let b = open_length (λ v. get_or counted v 0) (rule_at p rule).conditions in
-          let e = counts.exact is.0 rule is.1 in
-          let f = is_index.each is.0 var (get_or counted var 0) rule is.1 in
-          omega arith
 
   module _ (value : ℕ) where
     changed : (rule : ℕ) → open_conditions (λ v. get_or (set counted var value) v 0) (rule_at p rule).conditions + asking var value (rule_at p rule).conditions
@@ -162,16 +206,6 @@ module _ (p : Parts) (index : List (List Waiting)) (var : ℕ) (ranged : WellRan
         let same : get_or (set counted var value) var 0 ≡ value = get_or-set_same counted var value 0 (let l = counts.known in omega (arith, exists)) in
         let e = open_changed (λ v. get_or counted v 0) (λ v. get_or (set counted var value) v 0) var (rule_at p rule).conditions (λ u ne. sym (get_or-set_other counted var u value 0 ne)) in
         rw same at e
-
-    pub enough : get_or counted var 0 ≢ value → All (λ (w : Waiting). occurrences w.rule (released value (waiting_at index var)) ≤ get_or counters w.rule 0) (waiting_at index var)
-    enough ne k d lt = bound (get_or (waiting_at index var) k d).rule (is_index.only var k d lt)
-      where
-        bound : (rule : ℕ) → (layer : ℕ) × IsRuleOn p layer rule → occurrences rule (released value (waiting_at index var)) ≤ get_or counters rule 0
-        bound rule is =
-            let a = asking_open (λ v. get_or counted v 0) var value (rule_at p rule).conditions ne in
-            let e = counts.exact is.0 rule is.1 in
-            let h = is_index.each is.0 var value rule is.1 in
-            omega arith
 
     pub recounted : (counters' : List ℕ) → length counters' ≡ length counters
         → ((rule : ℕ) → rule < length counters → get_or counters' rule 0 + occurrences rule (released value (waiting_at index var))

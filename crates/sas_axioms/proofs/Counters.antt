@@ -3,12 +3,13 @@ use Rattle.sas_axioms.proofs.Imports.{◌≡◌, ◌≢◌, ℕ, ◌+◌, ◌-�
 use Rattle.sas_axioms.proofs.Imports.{IsLayered, differs, IsSettledAt, OnlyForced, HasFired, SameOff, AtDefault, equal_places, All, All-nil, All-cons, All-head, All-tail, Fired, fired_there, rule_new, differs_true, differs_not, fact_within, new_value_is, forced_at_default, settled_when_fired, differs_decides}
 use Rattle.sas_axioms.specs.LayerRules.{IsRuleOn}
 use Rattle.sas_axioms.specs.Sources.{AreGiven}
-use Rattle.sas_axioms.specs.Waiting.{occurrences, asking}
-use Rattle.sas_axioms.specs.Conditions.{open_conditions}
+use Rattle.sas_axioms.specs.Conditions.{open_conditions, occurrences, released, asking, waiting_at, IsFullIndex}
+use Rattle.sas_axioms.specs.declared.conditions.Waiting.{Waiting}
 use Rattle.sas_axioms.specs.declared.firing.Work.{Work}
-use Rattle.sas_axioms.proofs.OneLayer.{one_layer}
+use Rattle.sas_axioms.proofs.AllConditions.{open_changed}
+use Rattle.sas_axioms.proofs.CountingEntries.{CountersSoFar, counters_after}
 use Rattle.sas_axioms.proofs.Sources.{no_rule}
-use Rattle.sas_axioms.specs.Worklist.{SameCountsOff, value_seen, IsRunning, AreCountedWithStack, HaveFired, IsAtWork, WorkGoesOn, FiresRule}
+use Rattle.sas_axioms.specs.Worklist.{value_seen, IsRunning, AreCountedBy, HaveFired, HasRoom, IsAtWork, IsPopped, WorkGoesOn, FiresRule}
 
 pub occurrences-append : (n : ℕ) (xs ys : List ℕ) → occurrences n (xs ++ ys) ≡ occurrences n xs + occurrences n ys
 occurrences-append n [] ys = omega arith
@@ -119,7 +120,6 @@ fires_by t s w s' w' k ranged state on p given sources-is s-is stack-is layer co
   goes_on = record {
     layer = layer;
     off = rw s-is p.off;
-    counts = λ m rule ne on. ap (λ (xs : List ℕ). get_or xs rule 0) counters;
     sources = λ v off. ap (λ (xs : List ℕ). get_or xs v 0) sources-is
         ∙ get_or-set_other w.sources (rule_at t k).var v k 0 (λ e. off (subst (λ u. IsOnLayer t w.layer u) (sym e) on.on));
     left = rw (s-is, stack-is) (let fewer = p.fewer in let len = length-append w.stack.items ((rule_at t k).var ∷ []) in omega arith);
@@ -130,28 +130,22 @@ fires_by t s w s' w' k ranged state on p given sources-is s-is stack-is layer co
   room = room;
   running = rw (s-is, stack-is) p.running;
   seen = rw (s-is, stack-is) p.seen;
-  fired = rw s-is (get_or-set_same s (rule_at t k).var (rule_at t k).new 0 (rule_within t s k ranged state on.exists));
+  fired = λ _. rw s-is (get_or-set_same s (rule_at t k).var (rule_at t k).new 0 (rule_within t s k ranged state on.exists));
   kept = rw s-is p.kept;
 }
 
 -- ---- one piece of work after another
 
 pub goes_on_still : (t : Parts) (s : List ℕ) (w : Work) → WorkGoesOn t s w s w
-goes_on_still t s w = record { layer = refl; off = λ v off. refl; counts = λ m rule ne on. refl; sources = λ v off. refl; left = omega arith }
+goes_on_still t s w = record { layer = refl; off = λ v off. refl; sources = λ v off. refl; left = omega arith }
 
 pub goes_on_more : (t : Parts) (s : List ℕ) (w : Work) (s' : List ℕ) (w' : Work) (s'' : List ℕ) (w'' : Work) → WorkGoesOn t s w s' w' → WorkGoesOn t s' w' s'' w'' → WorkGoesOn t s w s'' w''
 goes_on_more t s w s' w' s'' w'' so_far more = record {
   layer = more.layer ∙ so_far.layer;
   off = λ v off. so_far.off v off ∙ more.off v (subst (λ n. IsOnLayer t n v → ⊥) (sym so_far.layer) off);
-  counts = λ m rule ne on. more.counts m rule (λ e. ne (e ∙ so_far.layer)) on ∙ so_far.counts m rule ne on;
   sources = λ v off. more.sources v (subst (λ n. IsOnLayer t n v → ⊥) (sym so_far.layer) off) ∙ so_far.sources v off;
   left = let a = so_far.left in let b = more.left in omega arith;
 }
-
--- the counter of a rule of the layer is none of another layer's rule
-pub counts_set_off : (t : Parts) (layer k n : ℕ) (counters : List ℕ) → IsRuleOn t layer k → SameCountsOff t layer counters (set counters k n)
-counts_set_off t layer k n counters is m rule ne on =
-    get_or-set_other counters k rule n 0 (λ e. ne (one_layer t m layer k (subst (λ r. IsRuleOn t m r) e on) is))
 
 -- ---- counting conditions
 
@@ -173,34 +167,12 @@ pub open_same : (value value' : ℕ → ℕ) (cs : List Fact) → ((v : ℕ) →
 open_same value value' [] same = refl
 open_same value value' (c ∷ cs) same = rw (same c.var) (let ih = open_same value value' cs same in omega arith)
 
--- a popped variable: the conditions on its new value are no longer open
-open_popped : (value value' : ℕ → ℕ) (v x : ℕ) (cs : List Fact) → ((u : ℕ) → u ≢ v → value u ≡ value' u) → value' v ≡ x
-    → All (λ (c : Fact). c.var ≡ v → c.value ≢ value v) cs → open_conditions value cs ≡ open_conditions value' cs + asking v x cs
-open_popped value value' v x [] same new asks = omega arith
-open_popped value value' v x (c ∷ cs) same new asks = by_cases (open_popped value value' v x cs same new (All-tail (λ (c : Fact). c.var ≡ v → c.value ≢ value v) c cs asks))
-  where
-    by_cases : open_conditions value cs ≡ open_conditions value' cs + asking v x cs
-        → (cond (value c.var == c.value) 0 1) + open_conditions value cs ≡ (cond (value' c.var == c.value) 0 1) + open_conditions value' cs + (cond ((c.var == v) && (c.value == x)) 1 0 + asking v x cs)
-    by_cases ih = elim (eqb_tells c.var v) [
-      | inr ne ↦ rw (ne.0, same c.var ne.1) (omega arith)
-      | inl e ↦ elim (eqb_tells (value c.var) c.value) [
-        | inl h ↦ absurd (All-head (λ (c : Fact). c.var ≡ v → c.value ≢ value v) c cs asks e.1 (sym h.1 ∙ ap value e.1))
-        | inr h ↦ elim (eqb_tells c.value x) [
-          | inl y ↦ (let here : (value' c.var == c.value) ≡ true = eq-eqb (value' c.var) c.value (ap value' e.1 ∙ (new ∙ sym y.1)) in rw (h.0, here, e.0, y.0) (omega arith))
-          | inr y ↦ elim (eqb_tells (value' c.var) c.value) [
-            | inl z ↦ absurd (y.1 (sym z.1 ∙ (ap value' e.1 ∙ new)))
-            | inr z ↦ rw (h.0, z.0, e.0, y.0) (omega arith)
-          ]
-        ]
-      ]
-    ]
-
 -- ---- the counters of a layer
 
--- a rule whose counter is at zero has conditions that hold
-pub ready : (t : Parts) (layer : ℕ) (s stack counters left : List ℕ) (k : ℕ) → IsLayered t → IsRunning t layer s stack → AreCountedWithStack t layer s stack counters left → IsRuleOn t layer k
-    → get_or counters k 0 ≡ 0 → AllHold (λ v. get_or s v 0) (rule_at t k).conditions
-ready t layer s stack counters left k layered run counts on nil j e lt' =
+-- a rule of the layer without open conditions has conditions that hold
+pub ready : (t : Parts) (layer : ℕ) (s stack : List ℕ) (k : ℕ) → IsLayered t → IsRunning t layer s stack → IsRuleOn t layer k
+    → open_conditions (value_seen t s stack) (rule_at t k).conditions ≡ 0 → AllHold (λ v. get_or s v 0) (rule_at t k).conditions
+ready t layer s stack k layered run on none j e lt' =
     elim (seen_shows t s stack (get_or (rule_at t k).conditions j e).var) [
       | inl w ↦ sym w.1 ∙ holds
       | inr w ↦ (let down = (layered.rules k no_rule on.exists on.can).order j e lt' in
@@ -208,31 +180,16 @@ ready t layer s stack counters left k layered run counts on nil j e lt' =
     ]
   where
     holds : value_seen t s stack (get_or (rule_at t k).conditions j e).var ≡ (get_or (rule_at t k).conditions j e).value
-    holds = all_hold_when_none_open (value_seen t s stack) (rule_at t k).conditions (let n = counts k on in omega arith) j e lt'
+    holds = all_hold_when_none_open (value_seen t s stack) (rule_at t k).conditions none j e lt'
 
-pub counts_seen : (t : Parts) (layer : ℕ) (s s' stack stack' counters left : List ℕ) → ((v : ℕ) → value_seen t s' stack' v ≡ value_seen t s stack v) → AreCountedWithStack t layer s stack counters left → AreCountedWithStack t layer s' stack' counters left
-counts_seen t layer s s' stack stack' counters left same counts k on =
+pub counts_seen : (t : Parts) (s s' stack stack' counters : List ℕ) → ((v : ℕ) → value_seen t s' stack' v ≡ value_seen t s stack v) → AreCountedBy t (value_seen t s stack) counters → AreCountedBy t (value_seen t s' stack') counters
+counts_seen t s s' stack stack' counters same counts layer k on =
     let e = open_same (value_seen t s' stack') (value_seen t s stack) (rule_at t k).conditions same in
-    let f = counts k on in omega arith
+    let f = counts layer k on in omega arith
 
 pub fired_kept : (t : Parts) (layer : ℕ) (s s' counters : List ℕ) → ((v : ℕ) → differs t s v ≡ true → get_or s' v 0 ≡ get_or s v 0) → HaveFired t layer s counters → HaveFired t layer s' counters
 fired_kept t layer s s' counters kept fired k on nil =
     let e = fired k on nil in kept (rule_at t k).var (differs_true t s (rule_at t k).var (λ f. on.can (sym e ∙ f))) ∙ e
-
-pub counted_down : (t : Parts) (layer : ℕ) (s stack counters left : List ℕ) (k : ℕ) → k < length counters → AreCountedWithStack t layer s stack counters (k ∷ left) → AreCountedWithStack t layer s stack (set counters k (get_or counters k 0 - 1)) left
-counted_down t layer s stack counters left k within counts j on = elim (eqb_tells k j) [
-  | inl w ↦ subst (λ i. get_or (set counters k (get_or counters k 0 - 1)) i 0 ≡ open_conditions (value_seen t s stack) (rule_at t j).conditions + occurrences j left) w.1
-      (get_or-set_same counters k (get_or counters k 0 - 1) 0 within
-      ∙ (let n : get_or counters j 0 ≡ open_conditions (value_seen t s stack) (rule_at t j).conditions + (1 + occurrences j left) = rw w.0 at (counts j on) in
-      let e : get_or counters k 0 ≡ get_or counters j 0 = ap (λ i. get_or counters i 0) w.1 in omega arith))
-  | inr w ↦ get_or-set_other counters k j (get_or counters k 0 - 1) 0 (λ e. w.1 (sym e))
-      ∙ (let n : get_or counters j 0 ≡ open_conditions (value_seen t s stack) (rule_at t j).conditions + (0 + occurrences j left) = rw w.0 at (counts j on) in omega arith)
-]
-
--- a rule that waits has an open condition
-pub waits : (t : Parts) (layer : ℕ) (s stack counters left : List ℕ) (k : ℕ) → IsRuleOn t layer k → AreCountedWithStack t layer s stack counters (k ∷ left) → 1 ≤ get_or counters k 0
-waits t layer s stack counters left k on counts =
-    let n : get_or counters k 0 ≡ open_conditions (value_seen t s stack) (rule_at t k).conditions + (1 + occurrences k left) = rw (eq-eqb k k refl) at (counts k on) in omega arith
 
 pub fired_set : (t : Parts) (layer : ℕ) (s counters : List ℕ) (k n : ℕ) → k < length counters → (n ≡ 0 → get_or s (rule_at t k).var 0 ≡ (rule_at t k).new)
     → HaveFired t layer s counters → HaveFired t layer s (set counters k n)
@@ -259,47 +216,66 @@ top_is t layer s rest v run = elim (occurrences_pushed v v rest) [
   | inr w ↦ absurd (w.0 refl)
 ]
 
-pub popped_counts : (t : Parts) (layer : ℕ) (s rest counters left : List ℕ) (v : ℕ) → IsLayered t → IsRunning t layer s (rest ++ v ∷ [])
-    → ((k : ℕ) → IsRuleOn t layer k → occurrences k left ≡ asking v (get_or s v 0) (rule_at t k).conditions)
-    → AreCountedWithStack t layer s (rest ++ v ∷ []) counters [] → AreCountedWithStack t layer s rest counters left
-popped_counts t layer s rest counters left v layered run each counts k on =
-    let a = counts k on in
-    let b = open_popped (value_seen t s (rest ++ v ∷ [])) (value_seen t s rest) v (get_or s v 0) (rule_at t k).conditions others now asks in
-    let c = each k on in
-    omega arith
-  where
-    v_on : IsOnLayer t layer v
-    v_on = (top_is t layer s rest v run).0
-
-    gone : occurrences v rest ≡ 0
-    gone = elim (occurrences_pushed v v rest) [ inl w ↦ (let e = w.1 in let le = run.once v in omega arith) | inr w ↦ absurd (w.0 refl) ]
-
-    now : value_seen t s rest v ≡ get_or s v 0
-    now = elim (seen_shows t s rest v) [ inl w ↦ w.1 | inr w ↦ (let z = gone in let p = w.0 in absurd (omega arith)) ]
-
-    default : value_seen t s (rest ++ v ∷ []) v ≡ default_of t v
-    default = elim (seen_shows t s (rest ++ v ∷ []) v) [ inl w ↦ (let z = w.0 in let e = occurrences_pushed v v rest in absurd (elim e [ inl p ↦ (let q = p.1 in omega arith) | inr p ↦ p.0 refl ])) | inr w ↦ w.1 ]
-
-    others : (u : ℕ) → u ≢ v → value_seen t s (rest ++ v ∷ []) u ≡ value_seen t s rest u
-    others u ne = elim (occurrences_pushed u v rest) [
-      | inl w ↦ absurd (ne (sym w.0))
-      | inr w ↦ ap (λ n. cond (n == 0) (get_or s u 0) (default_of t u)) w.1
+-- conditions that ask for no such value
+asking_none : (v x : ℕ) (cs : List Fact) → All (λ (c : Fact). c.var ≡ v → c.value ≢ x) cs → asking v x cs ≡ 0
+asking_none v x [] none = refl
+asking_none v x (c ∷ cs) none =
+    let ih = asking_none v x cs (All-tail (λ (c : Fact). c.var ≡ v → c.value ≢ x) c cs none) in
+    elim (eqb_tells c.var v) [
+      | inr ne ↦ rw ne.0 (omega arith)
+      | inl e ↦ elim (eqb_tells c.value x) [
+        | inl y ↦ absurd (All-head (λ (c : Fact). c.var ≡ v → c.value ≢ x) c cs none e.1 y.1)
+        | inr y ↦ rw (e.0, y.0) (omega arith)
+      ]
     ]
 
-    asks : All (λ (c : Fact). c.var ≡ v → c.value ≢ value_seen t s (rest ++ v ∷ []) v) (rule_at t k).conditions
-    asks j e lt' is_v is_default =
-        let down = (layered.rules k no_rule on.exists on.can).order j e lt' in
-        let z : layer < layer = (down layer layer on.on (subst (λ u. IsOnLayer t layer u) (sym is_v) v_on)).1 (is_default ∙ (default ∙ ap (default_of t) (sym is_v))) in absurd (omega arith)
+module _ (t : Parts) (layer : ℕ) (s rest : List ℕ) (v : ℕ) (run : IsRunning t layer s (rest ++ v ∷ [])) where
+  gone : occurrences v rest ≡ 0
+  gone = elim (occurrences_pushed v v rest) [ inl w ↦ (let e = w.1 in let le = run.once v in omega arith) | inr w ↦ absurd (w.0 refl) ]
+
+  pub seen_after : value_seen t s rest v ≡ get_or s v 0
+  seen_after = elim (seen_shows t s rest v) [ inl w ↦ w.1 | inr w ↦ (let z = gone in let p = w.0 in absurd (omega arith)) ]
+
+  pub seen_before : value_seen t s (rest ++ v ∷ []) v ≡ default_of t v
+  seen_before = elim (seen_shows t s (rest ++ v ∷ []) v) [ inl w ↦ (let z = w.0 in let e = occurrences_pushed v v rest in absurd (elim e [ inl p ↦ (let q = p.1 in omega arith) | inr p ↦ p.0 refl ])) | inr w ↦ w.1 ]
+
+  seen_of_others : (u : ℕ) → u ≢ v → value_seen t s (rest ++ v ∷ []) u ≡ value_seen t s rest u
+  seen_of_others u ne = elim (occurrences_pushed u v rest) [
+    | inl w ↦ absurd (ne (sym w.0))
+    | inr w ↦ ap (λ n. cond (n == 0) (get_or s u 0) (default_of t u)) w.1
+  ]
+
+  -- a popped variable differs from its default
+  pub popped_differs : default_of t v ≢ get_or s v 0
+  popped_differs e = differs_not t s v (top_is t layer s rest v run).1 (sym e)
+
+  -- no rule of its layer asks for its default
+  pub none_own : IsLayered t → (k : ℕ) → IsRuleOn t layer k → asking v (default_of t v) (rule_at t k).conditions ≡ 0
+  none_own layered k on = asking_none v (default_of t v) (rule_at t k).conditions (λ j e lt' is_v is_default.
+      let down = (layered.rules k no_rule on.exists on.can).order j e lt' in
+      let v_on = (top_is t layer s rest v run).0 in
+      let z : layer < layer = (down layer layer on.on (subst (λ u. IsOnLayer t layer u) (sym is_v) v_on)).1 (is_default ∙ ap (default_of t) (sym is_v)) in absurd (omega arith))
+
+  -- what is still to be counted
+  pub popped_counts : (counters : List ℕ) → AreCountedBy t (value_seen t s (rest ++ v ∷ [])) counters → (m k : ℕ) → IsRuleOn t m k
+      → get_or counters k 0 + asking v (default_of t v) (rule_at t k).conditions
+      ≡ open_conditions (value_seen t s rest) (rule_at t k).conditions + asking v (get_or s v 0) (rule_at t k).conditions
+  popped_counts counters counts m k on =
+      let a = counts m k on in
+      let e = open_changed (value_seen t s (rest ++ v ∷ [])) (value_seen t s rest) v (rule_at t k).conditions seen_of_others in
+      let b = ap (λ x. asking v x (rule_at t k).conditions) seen_before in
+      let d = ap (λ x. asking v x (rule_at t k).conditions) seen_after in
+      omega arith
 
 -- with nothing left on the stack the layer is settled
-pub settled_when_empty : (t : Parts) (layer : ℕ) (s counters : List ℕ) → IsRunning t layer s [] → AreCountedWithStack t layer s [] counters [] → HaveFired t layer s counters → IsSettledAt t layer s
+pub settled_when_empty : (t : Parts) (layer : ℕ) (s counters : List ℕ) → IsRunning t layer s [] → AreCountedBy t (value_seen t s []) counters → HaveFired t layer s counters → IsSettledAt t layer s
 settled_when_empty t layer s counters run counts fired = settled_when_fired t layer s run.forced (λ k d lt.
     subst (λ (r : Rule). HasFired t layer s r) (get_or_default t.rules k no_rule d lt) (has k lt))
   where
     has : (k : ℕ) → k < length t.rules → HasFired t layer s (rule_at t k)
     has k lt on can hold =
         let is : IsRuleOn t layer k = record { exists = lt; on = on; can = can } in
-        fired k is (let a = counts k is in let b = none_open_when_all_hold (λ v. get_or s v 0) (rule_at t k).conditions hold in omega arith)
+        fired k is (let a = counts layer k is in let b = none_open_when_all_hold (λ v. get_or s v 0) (rule_at t k).conditions hold in omega arith)
 
 pub running_at_default : (t : Parts) (layer : ℕ) (s : List ℕ) → IsState t.variables s → AtDefault t layer s → IsRunning t layer s []
 running_at_default t layer s state at = record {
@@ -315,53 +291,8 @@ running_at_default t layer s state at = record {
     equal_places-le (x ∷ xs) [] = omega arith
     equal_places-le (x ∷ xs) (y ∷ ys) = let ih = equal_places-le xs ys in elim (eqb_tells x y) [ inl w ↦ rw w.0 (omega arith) | inr w ↦ rw w.0 (omega arith) ]
 
--- a rule that was counted down to nothing has fired
-pub at_work_fired : (t : Parts) (s : List ℕ) (w : Work) (s' : List ℕ) (w' : Work) (counters left : List ℕ) (k : ℕ) → k < length w.counters → IsAtWork t s w (k ∷ left)
-    → counters ≡ set w.counters k (get_or w.counters k 0 - 1)
-    → FiresRule t k s (record { layer = w.layer; counters = counters; stack = w.stack; sources = w.sources; agenda = w.agenda }) s' w' → IsAtWork t s' w' left
-at_work_fired t s w s' w' counters left k within work is f = record {
-  room = record {
-    one_each = ap length f.counters ∙ (ap length is ∙ (length-set w.counters k (get_or w.counters k 0 - 1) ∙ work.room.one_each));
-    variables = omega (arith, work.room.variables, f.room);
-    sources = f.sources ∙ work.room.sources;
-  };
-  given = rw f.goes_on.layer (f.given work.given);
-  running = rw f.goes_on.layer f.running;
-  counts = rw (f.goes_on.layer, f.counters, is)
-      (counts_seen t w.layer s s' w.stack.items w'.stack.items (set w.counters k (get_or w.counters k 0 - 1)) left f.seen (counted_down t w.layer s w.stack.items w.counters left k within work.counts));
-  fired = rw (f.goes_on.layer, f.counters, is)
-      (fired_set t w.layer s' w.counters k (get_or w.counters k 0 - 1) within (λ _. f.fired) (fired_kept t w.layer s s' w.counters f.kept work.fired));
-}
-
--- a counter of the layer is set
-pub goes_on_counted : (t : Parts) (s : List ℕ) (w : Work) (k n : ℕ) (counters : List ℕ) → IsRuleOn t w.layer k → counters ≡ set w.counters k n
-    → WorkGoesOn t s w s (record { layer = w.layer; counters = counters; stack = w.stack; sources = w.sources; agenda = w.agenda })
-goes_on_counted t s w k n counters on_k is = record {
-  layer = refl;
-  off = λ v off. refl;
-  counts = λ m rule ne on. ap (λ (xs : List ℕ). get_or xs rule 0) is ∙ counts_set_off t w.layer k n w.counters on_k m rule ne on;
-  sources = λ v off. refl;
-  left = omega arith;
-}
-
--- the rule is counted down, and still has an open condition
-pub at_work_counted : (t : Parts) (s : List ℕ) (w : Work) (counters left : List ℕ) (k : ℕ) → k < length w.counters → get_or w.counters k 0 - 1 ≢ 0 → IsAtWork t s w (k ∷ left)
-    → counters ≡ set w.counters k (get_or w.counters k 0 - 1)
-    → IsAtWork t s (record { layer = w.layer; counters = counters; stack = w.stack; sources = w.sources; agenda = w.agenda }) left
-at_work_counted t s w counters left k within some work is = record {
-  room = record {
-    one_each = ap length is ∙ (length-set w.counters k (get_or w.counters k 0 - 1) ∙ work.room.one_each);
-    variables = work.room.variables;
-    sources = work.room.sources;
-  };
-  running = work.running;
-  counts = rw is (counted_down t w.layer s w.stack.items w.counters left k within work.counts);
-  fired = rw is (fired_set t w.layer s w.counters k (get_or w.counters k 0 - 1) within (λ none. absurd (some none)) work.fired);
-  given = work.given;
-}
-
--- a rule that has fired changes nothing
-pub fires_nothing : (t : Parts) (s : List ℕ) (w : Work) (k : ℕ) → IsRunning t w.layer s w.stack.items → get_or s (rule_at t k).var 0 ≡ (rule_at t k).new → FiresRule t k s w s w
+-- a rule that fires nothing
+pub fires_nothing : (t : Parts) (s : List ℕ) (w : Work) (k : ℕ) → IsRunning t w.layer s w.stack.items → (IsRuleOn t w.layer k → get_or s (rule_at t k).var 0 ≡ (rule_at t k).new) → FiresRule t k s w s w
 fires_nothing t s w k running fired = record {
   goes_on = goes_on_still t s w;
   counters = refl;
@@ -372,4 +303,92 @@ fires_nothing t s w k running fired = record {
   seen = λ v. refl;
   fired = fired;
   kept = λ v differs. refl;
+}
+
+-- ---- the entries of a popped variable
+
+-- the first i entries are counted, and the rules of the layer without open conditions have fired
+pub record Releasing (t : Parts) (fact : Fact) (waiting : List Waiting) (i : ℕ) (s0 : List ℕ) (w0 : Work) (s : List ℕ) (w : Work) : Type 0 where
+  pub counters : CountersSoFar (default_of t fact.var) fact.value waiting i w0.counters w.counters
+  pub goes_on : WorkGoesOn t s0 w0 s w
+  pub room : HasRoom t w
+  pub running : IsRunning t w0.layer s w.stack.items
+  pub given : AreGiven t w0.layer s w.sources
+  pub fired : HaveFired t w0.layer s w.counters
+  pub seen : (v : ℕ) → value_seen t s w.stack.items v ≡ value_seen t s0 w0.stack.items v
+
+-- a rule of the layer whose counter is at zero has conditions that hold
+pub ready_so_far : (t : Parts) (fact : Fact) (waiting : List Waiting) (i : ℕ) (s0 : List ℕ) (w0 : Work) (s : List ℕ) (w : Work) (counters : List ℕ) (k : ℕ)
+    → IsLayered t → IsPopped t fact waiting s0 w0 → Releasing t fact waiting i s0 w0 s w → CountersSoFar (default_of t fact.var) fact.value waiting (i + 1) w0.counters counters
+    → IsRuleOn t w0.layer k → get_or counters k 0 ≡ 0 → AllHold (λ v. get_or s v 0) (rule_at t k).conditions
+ready_so_far t fact waiting i s0 w0 s w counters k layered popped so_far next on none =
+    ready t w0.layer s w.stack.items k layered so_far.running on
+    (let a = next.so_far k (let l = popped.room.one_each in omega (arith, on.exists)) in
+    let b = next.former_left k in
+    let d = popped.counts w0.layer k on in
+    let e = popped.own k on in
+    let f = open_same (value_seen t s w.stack.items) (value_seen t s0 w0.stack.items) (rule_at t k).conditions so_far.seen in
+    omega arith)
+
+-- the counter of a rule is set, and isn't zero
+pub released_on : (t : Parts) (fact : Fact) (waiting : List Waiting) (i : ℕ) (s0 : List ℕ) (w0 : Work) (s : List ℕ) (w : Work) (counters : List ℕ) (k n : ℕ)
+    → Releasing t fact waiting i s0 w0 s w → CountersSoFar (default_of t fact.var) fact.value waiting (i + 1) w0.counters counters → k < length w.counters → counters ≡ set w.counters k n → n ≢ 0
+    → Releasing t fact waiting (i + 1) s0 w0 s (record { layer = w.layer; counters = counters; stack = w.stack; sources = w.sources; agenda = w.agenda })
+released_on t fact waiting i s0 w0 s w counters k n so_far next within is some = record {
+  counters = next;
+  goes_on = record { layer = so_far.goes_on.layer; off = so_far.goes_on.off; sources = so_far.goes_on.sources; left = so_far.goes_on.left };
+  room = record { one_each = ap length is ∙ (length-set w.counters k n ∙ so_far.room.one_each); variables = so_far.room.variables; sources = so_far.room.sources };
+  running = so_far.running;
+  given = so_far.given;
+  fired = rw is (fired_set t w0.layer s w.counters k n within (λ none. absurd (some none)) so_far.fired);
+  seen = so_far.seen;
+}
+
+-- the counter of a rule is zero, and the rule has fired
+pub released_fired : (t : Parts) (fact : Fact) (waiting : List Waiting) (i : ℕ) (s0 : List ℕ) (w0 : Work) (s : List ℕ) (w : Work) (counters : List ℕ) (k n : ℕ) (s' : List ℕ) (w' : Work)
+    → Releasing t fact waiting i s0 w0 s w → CountersSoFar (default_of t fact.var) fact.value waiting (i + 1) w0.counters counters → k < length w.counters → counters ≡ set w.counters k n
+    → FiresRule t k s (record { layer = w.layer; counters = counters; stack = w.stack; sources = w.sources; agenda = w.agenda }) s' w'
+    → Releasing t fact waiting (i + 1) s0 w0 s' w'
+released_fired t fact waiting i s0 w0 s w counters k n s' w' so_far next within is f = record {
+  counters = rw f.counters next;
+  goes_on = goes_on_more t s0 w0 s (record { layer = w.layer; counters = counters; stack = w.stack; sources = w.sources; agenda = w.agenda }) s' w'
+      (record { layer = so_far.goes_on.layer; off = so_far.goes_on.off; sources = so_far.goes_on.sources; left = so_far.goes_on.left }) f.goes_on;
+  room = record {
+    one_each = ap length f.counters ∙ (ap length is ∙ (length-set w.counters k n ∙ so_far.room.one_each));
+    variables = omega (arith, so_far.room.variables, f.room);
+    sources = f.sources ∙ so_far.room.sources;
+  };
+  running = rw so_far.goes_on.layer at f.running;
+  given = rw so_far.goes_on.layer at (f.given (rw so_far.goes_on.layer so_far.given));
+  fired = λ j on none. fired_after j on none;
+  seen = λ v. f.seen v ∙ so_far.seen v;
+}
+  where
+    fired_after : HaveFired t w0.layer s' w'.counters
+    fired_after = rw (f.counters, is)
+        (fired_of_rule)
+      where
+        kept : HaveFired t w0.layer s' w.counters
+        kept = fired_kept t w0.layer s s' w.counters f.kept so_far.fired
+
+        fired_of_rule : HaveFired t w0.layer s' (set w.counters k n)
+        fired_of_rule j on none = elim (cases_eq j k) [
+          | inl e ↦ subst (λ i. get_or s' (rule_at t i).var 0 ≡ (rule_at t i).new) (sym e)
+              (f.fired (subst (λ m. IsRuleOn t m k) (sym so_far.goes_on.layer) (subst (λ i. IsRuleOn t w0.layer i) e on)))
+          | inr ne ↦ kept j on (sym (get_or-set_other w.counters k j n 0 ne) ∙ none)
+        ]
+
+-- all entries are counted
+pub at_work_again : (t : Parts) (fact : Fact) (waiting : List Waiting) (i : ℕ) (s0 : List ℕ) (w0 : Work) (s : List ℕ) (w : Work)
+    → IsPopped t fact waiting s0 w0 → Releasing t fact waiting i s0 w0 s w → i ≡ length waiting → IsAtWork t s w
+at_work_again t fact waiting i s0 w0 s w popped so_far all = record {
+  room = so_far.room;
+  running = rw so_far.goes_on.layer so_far.running;
+  counts = λ m k on.
+      (let a = counters_after (default_of t fact.var) fact.value waiting i w0.counters w.counters all so_far.counters k (let l = popped.room.one_each in omega (arith, on.exists)) in
+      let b = popped.counts m k on in
+      let e = open_same (value_seen t s w.stack.items) (value_seen t s0 w0.stack.items) (rule_at t k).conditions so_far.seen in
+      omega arith);
+  fired = rw so_far.goes_on.layer so_far.fired;
+  given = rw so_far.goes_on.layer so_far.given;
 }

@@ -3,11 +3,11 @@ use Rattle.sas_axioms.proofs.Imports.{◌≡◌, ◌≢◌, ◌⊎◌, ◌↔◌
 use Rattle.sas_axioms.specs.declared.agenda.Agenda.{Agenda}
 use Rattle.sas_axioms.specs.declared.firing.Work.{Work}
 use Rattle.sas_axioms.specs.declared.layer_rules.LayerRule.{LayerRule}
-use Rattle.sas_axioms.specs.declared.waiting.Waiting.{Waiting}
+use Rattle.sas_axioms.specs.declared.conditions.Waiting.{Waiting}
 use Rattle.sas_axioms.specs.Agenda.{IsOnAgenda, IsOrdered, work_left}
 use Rattle.sas_axioms.specs.Following.{SameWork, NotesMore, CountsTo, Recounts}
 use Rattle.sas_axioms.specs.LayerRules.{IsRuleOn}
-use Rattle.sas_axioms.specs.Waiting.{occurrences, released}
+use Rattle.sas_axioms.specs.Conditions.{occurrences, released}
 
 abbrev pub no_entry : Waiting
 no_entry = record { value = 0; rule = 0 }

@@ -1,11 +1,9 @@
 pub mod Layering
 pub mod Counters
 pub mod OneLayer
-pub mod Entries
 pub mod Groups
 pub mod Standing
 pub mod AllConditions
-pub mod Asked
 pub mod Spans
 pub mod LayerStart
 pub mod Sources

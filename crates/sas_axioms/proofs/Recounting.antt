@@ -1,11 +1,10 @@
 -- When the value of a variable changes: which counters change, and which rules are noted.
 use Rattle.sas_axioms.proofs.Imports.{◌≡◌, ℕ, zero, suc, ◌+◌, ◌<◌, ◌≤◌, List, [], ◌∷◌, length, get_or, set, refl, sym, subst, inl, inr, arith, Contains, heap_items, eq-eqb, eqb_tells, Fact, Parts, rule_at, WellRanged}
 use Rattle.sas_axioms.specs.declared.firing.Work.{Work}
-use Rattle.sas_axioms.specs.declared.waiting.Waiting.{Waiting}
-use Rattle.sas_axioms.specs.Conditions.{IsFullIndex, AreCounted}
+use Rattle.sas_axioms.specs.declared.conditions.Waiting.{Waiting}
+use Rattle.sas_axioms.specs.Conditions.{IsFullIndex, AreCounted, asking, occurrences, released, waiting_at}
 use Rattle.sas_axioms.specs.Following.{AsksAbout, SameWork, Recounts, CountsChange}
 use Rattle.sas_axioms.specs.LayerRules.{IsRuleOn}
-use Rattle.sas_axioms.specs.Waiting.{asking, occurrences, released, waiting_at}
 use Rattle.sas_axioms.proofs.AllConditions.{recounted}
 use Rattle.sas_axioms.proofs.Tracking.{holding_when_zero, zero_when_holding}
 
@@ -36,10 +35,10 @@ waiting_asks p index var w layer is_index there is =
     let le = released_there (waiting_at index var) w there in
     asked_there var w.value (rule_at p w.rule).conditions (omega arith)
 
-pub moved_when_recounted : (p : Parts) (index : List (List Waiting)) (var former value : ℕ) → WellRanged p → IsFullIndex p index → var < length p.variables
+pub moved_when_recounted : (p : Parts) (index : List (List Waiting)) (var former value : ℕ) → IsFullIndex p index → var < length p.variables
     → (s : List ℕ) (w w' : Work) → AreCounted p s w.counters → get_or s var 0 ≡ former → SameWork w w'
     → Recounts p (waiting_at index var) former value w w' → CountsChange p var s w (set s var value) w'
-moved_when_recounted p index var former value ranged is_index exists s w w' counts is same recounts = record {
+moved_when_recounted p index var former value is_index exists s w w' counts is same recounts = record {
   counts = after;
   crossed = λ layer rule le on. elim (recounts.crossed layer rule on) [
     | inl noted ↦ inl noted
@@ -61,4 +60,4 @@ moved_when_recounted p index var former value ranged is_index exists s w w' coun
 }
   where
     after : AreCounted p (set s var value) w'.counters
-    after = recounted p index var ranged is_index exists s w.counters counts value w'.counters same.one_each (rw (sym is) at recounts.counts)
+    after = recounted p index var is_index exists s w.counters counts value w'.counters same.one_each (rw (sym is) at recounts.counts)

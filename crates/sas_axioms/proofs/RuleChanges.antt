@@ -1,5 +1,5 @@
 -- The variables and values in a rule of a task exist.
-use Rattle.sas_axioms.proofs.Imports.{◌≡◌, ℕ, ◌<◌, ◌^◌, not, nat_eq, List, length, refl, sym, subst, slice_index, All, All-weaker, All-from_recursion, Fact, Parts, Change, rule_change, rule_at, FactExists, WellRanged, RuleFits, holds_at, default_of, differs, fact_within}
+use Rattle.sas_axioms.proofs.Imports.{◌≡◌, ◌≢◌, ◌⊎◌, ℕ, ◌<◌, ◌==◌, ◌^◌, true, false, not, nat_eq, Option, None, Some, List, length, refl, sym, ap, subst, inl, inr, option_eq, eqb_tells, slice_index, All, All-weaker, All-from_recursion, Fact, Parts, Change, rule_change, rule_at, FactExists, WellRanged, RuleFits, holds_at, default_of, differs, fact_within}
 use Rattle.sas_axioms.proofs.Sources.{no_rule}
 
 module _ (p : Parts) (ranged : WellRanged p) (rule : ℕ) (exists : rule < length p.rules) where
@@ -26,3 +26,8 @@ module _ (p : Parts) (ranged : WellRanged p) (rule : ℕ) (exists : rule < lengt
 pub differs_read : (p : Parts) (s : List ℕ) (rule value default : ℕ) (change : Change) → change ≡ rule_change (rule_at p rule)
     → value ≡ slice_index s change.var → default ≡ default_of p change.var → not (nat_eq value default) ≡ differs p s (rule_at p rule).var
 differs_read p s rule value default change of_rule is is_default = rw (is, is_default, of_rule) refl
+
+-- the test whether an optional number is the number
+pub same_option : (o : Option ℕ) (n : ℕ) → ((o ≡ Some n) × (option_eq ◌==◌ o (Some n) ≡ true)) ⊎ ((o ≢ Some n) × (option_eq ◌==◌ o (Some n) ≡ false))
+same_option None n = inr ((λ e. cc), refl)
+same_option (Some m) n = elim (eqb_tells m n) [ inl w ↦ inl (ap Some w.1, w.0) | inr w ↦ inr ((λ e. let f : m ≡ n = cc in w.1 f), w.0) ]

@@ -1,16 +1,32 @@
 -- The conditions of the rules that can fire: an index of them, their variables, and the number of
 -- open conditions.
-use Rattle.std.specs.Prelude.{◌≡◌, ℕ, ◌+◌, ◌<◌, ◌==◌, if◌then◌else◌, List, [], ◌∷◌, length, All, Contains, slice_index}
+use Rattle.std.specs.Prelude.{◌≡◌, ℕ, ◌+◌, ◌<◌, ◌==◌, ◌&&◌, if◌then◌else◌, List, [], ◌∷◌, length, All, slice_index, slice_index_or}
 use Rattle.sas_core.specs.declared.parts.Fact.{Fact}
 use Rattle.sas_core.specs.declared.parts.Parts.{Parts}
 use Rattle.sas_core.specs.Grounded.{rule_at}
 use Rattle.sas_core.specs.WellRanged.{WellRanged}
 use Rattle.sas_flat.specs.declared.by_key.Entry.{Entry}
-use Rattle.sas_meaning.specs.Layers.{IsBasic}
+use Rattle.sas_axioms.specs.declared.conditions.Waiting.{Waiting}
 use Rattle.sas_axioms.specs.declared.counting.Counted.{Counted}
-use Rattle.sas_axioms.specs.declared.waiting.Waiting.{Waiting}
 use Rattle.sas_axioms.specs.LayerRules.{IsRuleOn}
-use Rattle.sas_axioms.specs.Waiting.{asking, waiting_entry, waits, released, occurrences, waiting_at}
+
+-- how often these conditions contain this fact
+abbrev pub asking : ℕ → ℕ → List Fact → ℕ
+asking var value [] = 0
+asking var value (c ∷ cs) =
+    (if (c.var == var) && (c.value == value) then 1 else 0) + asking var value cs
+
+-- the entry for a condition of the rule; its key is the variable of the condition
+abbrev pub waiting_entry : Fact → ℕ → Entry Waiting
+waiting_entry condition rule =
+    record { key = condition.var; item = record { value = condition.value; rule = rule } }
+
+-- how many entries the rule has for this fact
+abbrev pub waits : ℕ → ℕ → ℕ → List (Entry Waiting) → ℕ
+waits rule var value [] = 0
+waits rule var value (e ∷ es) =
+    (if (e.item.rule == rule) && ((e.key == var) && (e.item.value == value)) then 1 else 0)
+    + waits rule var value es
 
 -- the entry belongs to a rule that can fire
 abbrev pub IsOfRule : Parts → Waiting → Type 0
@@ -32,6 +48,20 @@ pub record AreAllConditions (p : Parts) (es : List (Entry Waiting)) : Type 0 whe
   pub each : (layer var value rule : ℕ) → IsRuleOn p layer rule
       → waits rule var value es ≡ asking var value (rule_at p rule).conditions
 
+-- the rules of the entries with this value, in order
+abbrev pub released : ℕ → List Waiting → List ℕ
+released value [] = []
+released value (w ∷ ws) = if w.value == value then w.rule ∷ released value ws else released value ws
+
+-- how often a number occurs in a list
+abbrev pub occurrences : ℕ → List ℕ → ℕ
+occurrences n [] = 0
+occurrences n (x ∷ xs) = (if x == n then 1 else 0) + occurrences n xs
+
+-- the entries for the variable
+abbrev pub waiting_at : List (List Waiting) → ℕ → List Waiting
+waiting_at index var = slice_index_or index var []
+
 -- the list of a variable contains, for each rule that can fire and each value, as many entries as
 -- the rule has conditions with this variable and value
 pub record IsFullIndex (p : Parts) (index : List (List Waiting)) : Type 0 where
@@ -40,22 +70,6 @@ pub record IsFullIndex (p : Parts) (index : List (List Waiting)) : Type 0 where
   pub each : (layer var value rule : ℕ) → IsRuleOn p layer rule
       → occurrences rule (released value (waiting_at index var))
       ≡ asking var value (rule_at p rule).conditions
-
--- a rule that can fire has a condition on the variable
-abbrev pub IsRequired : Parts → ℕ → Type 0
-IsRequired p var = (layer rule : ℕ) × (c : Fact)
-    × IsRuleOn p layer rule × Contains (rule_at p rule).conditions c × (c.var ≡ var)
-
--- the basic variables that occur in conditions, each at least once
-pub record AreRequiredBasic (p : Parts) (variables : List ℕ) : Type 0 where
-  pub basic : All (IsBasic p) variables
-  pub exist : All (λ var. var < length p.variables) variables
-  pub each : (var : ℕ) → IsBasic p var → IsRequired p var → Contains variables var
-
--- the basic variables that occur in conditions have the same values in both states
-abbrev pub SameRequired : Parts → List ℕ → List ℕ → Type 0
-SameRequired p s s' = (var : ℕ) → IsBasic p var → IsRequired p var
-    → slice_index s var ≡ slice_index s' var
 
 -- the number of conditions that don't hold
 abbrev pub open_conditions : (ℕ → ℕ) → List Fact → ℕ

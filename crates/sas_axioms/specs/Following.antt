@@ -10,13 +10,12 @@ use Rattle.sas_meaning.specs.Layers.{IsOnLayer}
 use Rattle.sas_meaning.specs.Settled.{differs, IsSettledAt, IsSettled}
 use Rattle.sas_axioms.specs.declared.agenda.Agenda.{Agenda}
 use Rattle.sas_axioms.specs.declared.firing.Work.{Work}
+use Rattle.sas_axioms.specs.declared.conditions.Waiting.{Waiting}
 use Rattle.sas_axioms.specs.declared.layer_rules.LayerRule.{LayerRule}
-use Rattle.sas_axioms.specs.declared.waiting.Waiting.{Waiting}
 use Rattle.sas_axioms.specs.Agenda.{IsOnAgenda, IsAwaited, IsOrdered, NoLowerLayer, AreBehind, work_left}
-use Rattle.sas_axioms.specs.Conditions.{AreCounted}
+use Rattle.sas_axioms.specs.Conditions.{AreCounted, occurrences, released}
 use Rattle.sas_axioms.specs.LayerRules.{IsRuleOn}
 use Rattle.sas_axioms.specs.Sources.{IsHolding, HaveSources, SourcesHold, AreGiven}
-use Rattle.sas_axioms.specs.Waiting.{occurrences, released}
 
 -- the rule has a condition on the variable
 abbrev pub AsksAbout : Parts → ℕ → ℕ → Type 0

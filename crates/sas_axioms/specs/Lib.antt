@@ -8,9 +8,7 @@ pub use Rattle.sas_meaning.specs.LayerChecks
 pub use Rattle.sas_meaning.specs.Laws
 pub mod ByLayers
 pub mod LayerRules
-pub mod Waiting
 pub mod Conditions
-pub mod Resting
 pub mod Worklist
 pub mod Sources
 pub mod Agenda

@@ -1,5 +1,6 @@
 -- How far a worklist has come on a layer, and what it needs.
 use Rattle.std.specs.Prelude.{◌≡◌, ℕ, ◌+◌, ◌*◌, ◌<◌, ◌≤◌, ◌==◌, if◌then◌else◌, IsTrue, IsFalse, List, [], length, slice_index, slice_index_or, vec_capacity, drop}
+use Rattle.sas_core.specs.declared.parts.Fact.{Fact}
 use Rattle.sas_core.specs.declared.parts.Parts.{Parts}
 use Rattle.sas_core.specs.Grounded.{rule_at}
 use Rattle.sas_core.specs.Variables.{IsState}
@@ -7,15 +8,14 @@ use Rattle.sas_meaning.specs.Layers.{IsOnLayer, default_of}
 use Rattle.sas_meaning.specs.DerivedVariables.{AreDerived}
 use Rattle.sas_meaning.specs.Settled.{differs}
 use Rattle.sas_meaning.specs.Forced.{OnlyForced, equal_places, SameOff}
+use Rattle.sas_axioms.specs.declared.conditions.Waiting.{Waiting}
 use Rattle.sas_axioms.specs.declared.firing.Firing.{Firing}
 use Rattle.sas_axioms.specs.declared.firing.Work.{Work}
 use Rattle.sas_axioms.specs.declared.layer_rules.LayerRule.{LayerRule}
 use Rattle.sas_axioms.specs.declared.worklist.Worklist.{Worklist}
 use Rattle.sas_axioms.specs.LayerRules.{IsRuleOn, AreLayerRules, AreSpans, AreRulesOf}
 use Rattle.sas_axioms.specs.Sources.{AreGiven, SameSourcesOff}
-use Rattle.sas_axioms.specs.Waiting.{occurrences, IsIndex}
-use Rattle.sas_axioms.specs.Conditions.{open_conditions, SameRequired}
-use Rattle.sas_axioms.specs.Resting.{IsResting}
+use Rattle.sas_axioms.specs.Conditions.{AreCounted, IsCounted, open_conditions, released, occurrences}
 
 -- the value that the counters use: the default for a variable on the stack, else its value
 abbrev pub value_seen : Parts → List ℕ → List ℕ → ℕ → ℕ
@@ -32,14 +32,13 @@ pub record IsRunning (p : Parts) (layer : ℕ) (s stack : List ℕ) : Type 0 whe
   pub once : (var : ℕ) → occurrences var stack ≤ 1
   pub room : length stack + equal_places s p.init ≤ length s
 
--- each counter is the number of conditions of its rule that are open under `value_seen`, plus the
--- number of times the rule occurs in `left`, the rules still to be counted down
-abbrev pub AreCountedWithStack : Parts → ℕ → List ℕ → List ℕ → List ℕ → List ℕ → Type 0
-AreCountedWithStack p layer s stack counters left = (rule : ℕ) → IsRuleOn p layer rule
-    → slice_index counters rule
-    ≡ open_conditions (value_seen p s stack) (rule_at p rule).conditions + occurrences rule left
+-- the counter of each rule that can fire is the number of its conditions that are open under these
+-- values
+abbrev pub AreCountedBy : Parts → (ℕ → ℕ) → List ℕ → Type 0
+AreCountedBy p value counters = (layer rule : ℕ) → IsRuleOn p layer rule
+    → slice_index counters rule ≡ open_conditions value (rule_at p rule).conditions
 
--- each rule without open conditions has set its variable
+-- each rule of the layer without open conditions has set its variable
 abbrev pub HaveFired : Parts → ℕ → List ℕ → List ℕ → Type 0
 HaveFired p layer s counters = (rule : ℕ) → IsRuleOn p layer rule
     → slice_index counters rule ≡ 0 → slice_index s (rule_at p rule).var ≡ (rule_at p rule).new
@@ -54,33 +53,37 @@ pub record HasRoom (p : Parts) (w : Work) : Type 0 where
   pub variables : length p.variables ≤ vec_capacity w.stack
   pub sources : length w.sources ≡ length p.variables
 
--- the rules of the current layer are being fired; the rules in `left` are still to be counted down
-pub record IsAtWork (p : Parts) (s : List ℕ) (w : Work) (left : List ℕ) : Type 0 where
+-- the rules of the current layer are being fired
+pub record IsAtWork (p : Parts) (s : List ℕ) (w : Work) : Type 0 where
   pub room : HasRoom p w
   pub running : IsRunning p w.layer s w.stack.items
-  pub counts : AreCountedWithStack p w.layer s w.stack.items w.counters left
+  pub counts : AreCountedBy p (value_seen p s w.stack.items) w.counters
   pub fired : HaveFired p w.layer s w.counters
   pub given : AreGiven p w.layer s w.sources
 
--- the counter of each rule of the layer is the number of its open conditions
-abbrev pub AreCountedOn : Parts → ℕ → List ℕ → List ℕ → Type 0
-AreCountedOn p layer s counters = (rule : ℕ) → IsRuleOn p layer rule
-    → slice_index counters rule ≡ open_conditions (slice_index s) (rule_at p rule).conditions
-
--- the counters of rules on other layers are unchanged
-abbrev pub SameCountsOff : Parts → ℕ → List ℕ → List ℕ → Type 0
-SameCountsOff p layer counters counters' = (m rule : ℕ) → (m ≡ layer → ⊥) → IsRuleOn p m rule
-    → slice_index counters' rule ≡ slice_index counters rule
+-- a variable that was set to a value other than its default was popped from the stack; the rules
+-- that wait for it are still to be counted; none on its layer waits for the default
+pub record IsPopped (p : Parts) (fact : Fact) (waiting : List Waiting) (s : List ℕ) (w : Work)
+    : Type 0 where
+  pub room : HasRoom p w
+  pub running : IsRunning p w.layer s w.stack.items
+  pub counts : (layer rule : ℕ) → IsRuleOn p layer rule
+      → slice_index w.counters rule + occurrences rule (released (default_of p fact.var) waiting)
+      ≡ open_conditions (value_seen p s w.stack.items) (rule_at p rule).conditions
+      + occurrences rule (released fact.value waiting)
+  pub own : (rule : ℕ) → IsRuleOn p w.layer rule
+      → occurrences rule (released (default_of p fact.var) waiting) ≡ 0
+  pub fired : HaveFired p w.layer s w.counters
+  pub given : AreGiven p w.layer s w.sources
 
 -- the work affects only its layer, and the bound of the remaining work doesn't grow
 pub record WorkGoesOn (p : Parts) (s : List ℕ) (w : Work) (s' : List ℕ) (w' : Work) : Type 0 where
   pub layer : w'.layer ≡ w.layer
   pub off : SameOff p w.layer s s'
-  pub counts : SameCountsOff p w.layer w.counters w'.counters
   pub sources : SameSourcesOff p w.layer w.sources w'.sources
   pub left : left_to_do p s' w'.stack.items ≤ left_to_do p s w.stack.items
 
--- the rule fires, or had fired before
+-- the rule fires if it is on the layer, unless it had fired before
 pub record FiresRule (p : Parts) (rule : ℕ) (s : List ℕ) (w : Work) (s' : List ℕ) (w' : Work)
     : Type 0 where
   pub goes_on : WorkGoesOn p s w s' w'
@@ -90,13 +93,12 @@ pub record FiresRule (p : Parts) (rule : ℕ) (s : List ℕ) (w : Work) (s' : Li
   pub room : vec_capacity w.stack ≤ vec_capacity w'.stack
   pub running : IsRunning p w.layer s' w'.stack.items
   pub seen : (var : ℕ) → value_seen p s' w'.stack.items var ≡ value_seen p s w.stack.items var
-  pub fired : slice_index s' (rule_at p rule).var ≡ (rule_at p rule).new
+  pub fired : IsRuleOn p w.layer rule → slice_index s' (rule_at p rule).var ≡ (rule_at p rule).new
   pub kept : (var : ℕ) → IsTrue (differs p s var) → slice_index s' var ≡ slice_index s var
 
 -- the data for settling layers fit the task, and the stack is empty
 pub record IsFiringReady (p : Parts) (f : Firing) : Type 0 where
-  pub index : IsIndex p f.index
-  pub resting : IsResting p f.resting
+  pub counted : IsCounted p f.counted
   pub rules_of : AreRulesOf p f.rules_of
   pub room : HasRoom p f.work
   pub empty : f.work.stack.items ≡ []
@@ -116,18 +118,11 @@ pub record LayerBeginsAt (rules : List LayerRule) (layer place : ℕ) : Type 0 w
   pub behind : (k : ℕ) (d : LayerRule) → place ≤ k → k < length rules
       → layer ≤ (slice_index_or rules k d).layer
 
--- the counters of the layer are those for the defaults of derived variables
-abbrev pub AreAtRest : Parts → ℕ → Firing → Type 0
-AreAtRest p layer f = (rule : ℕ) → IsRuleOn p layer rule
-    → slice_index f.work.counters rule ≡ slice_index f.resting.counted.counters rule
-
 -- the worklist is ready, this layer and the higher ones remain, and the counters fit the values of
 -- the state
 pub record IsReadyFrom (p : Parts) (layer : ℕ) (s : List ℕ) (w : Worklist) : Type 0 where
   pub ready : IsReadyFor p w
   pub stands : LayerBeginsAt w.rules.items layer w.start
   pub left : AreSpans w.rules.items w.start (drop w.next w.spans.items) (length w.rules.items)
-  pub follows : SameRequired p s w.firing.resting.counted.values
-  pub rest : (m : ℕ) → layer ≤ m → AreAtRest p m w.firing
-  pub counts : (below : ℕ) → below < layer → AreCountedOn p below s w.firing.work.counters
+  pub counts : AreCounted p s w.firing.work.counters
   pub given : (below : ℕ) → below < layer → AreGiven p below s w.firing.work.sources

@@ -1,15 +1,21 @@
-// The index of all conditions of rules, including those on basic variables and on lower layers.
+// An index from each variable to the conditions of rules on it.
 ghost use Rattle.std.specs.Prelude.{◌≡◌, ◌<◌, ◌++◌, IfOk, OnOk, length};
 ghost use Rattle.sas_core.specs.Grounded.{rule_at};
 ghost use Rattle.sas_axioms.specs.LayerRules.{IsRuleOn};
-ghost use Rattle.sas_axioms.specs.Conditions.{IsFullIndex, AreAllConditions, AreRequiredBasic, entries};
+ghost use Rattle.sas_axioms.specs.Conditions.{IsFullIndex, AreAllConditions, waiting_entry, entries};
 
 use crate::layer_rules::firing_layer;
-use crate::waiting::{Waiting, entry_of};
-use sas_core::Grounded;
+use sas_core::{Fact, Grounded};
 use sas_flat::{Entry, Lists};
 use sas_meaning::Layered;
 use std::alloc::{AllocError, Global};
+
+/// A condition of a rule that can fire: the rule waits for a variable to have this value. The index groups conditions by variable.
+#[derive(Clone, Copy, Debug, PartialEq, Eq)]
+pub struct Waiting {
+    pub value: u32,
+    pub rule: u32,
+}
 
 /// Returns the index of all conditions of rules that can fire. `Err` means out of memory.
 pub fn index_of_all<T: Grounded>(
@@ -20,24 +26,6 @@ pub fn index_of_all<T: Grounded>(
 {
     let waiting = all_conditions(alloc, task)?;
     Lists::by_key(alloc, waiting.as_slice(), task.variables() as usize)
-}
-
-/// Returns the basic variables that occur in conditions of rules that can fire. `Err` means out of memory.
-pub fn asked_variables<T: Grounded>(
-    alloc: Global,
-    task: &Layered<T>,
-    index: &Lists<Waiting>,
-) -> Result<Vec<u32>, AllocError>
-    requires index { IsFullIndex task.now index.now }
-    ensures { IfOk result (λ variables. AreRequiredBasic task.now variables.items) }
-{
-    let mut variables = Vec::new(alloc);
-    for var in 0..task.variables() {
-        if task.layer(var).is_none() && !index.get(var as usize).is_empty() {
-            variables.push(var)?;
-        }
-    }
-    Ok(variables)
 }
 
 /// Returns the conditions of the rules that can fire, rule by rule.
@@ -72,4 +60,17 @@ fn push_conditions<T: Grounded>(
         waiting.push(entry_of(*condition, rule))?;
     }
     Ok(())
+}
+
+/// Returns the entry for this condition of the rule. Its key is the variable of the condition.
+pub fn entry_of(condition: Fact, rule: u32) -> Entry<Waiting>
+    ensures { result ≡ waiting_entry condition rule }
+{
+    Entry {
+        key: condition.var as usize,
+        item: Waiting {
+            value: condition.value,
+            rule,
+        },
+    }
 }

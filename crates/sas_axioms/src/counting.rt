@@ -1,13 +1,11 @@
 // Counters of open (false) conditions, which are updated when a variable changes.
-ghost use Rattle.std.specs.Prelude.{◌≡◌, ◌≢◌, ◌+◌, ◌<◌, ◌≤◌, ◌^◌, ℕ, IfOk, length, All, slice_index, slice_set};
+ghost use Rattle.std.specs.Prelude.{◌≡◌, ◌≢◌, ◌+◌, ◌<◌, ◌≤◌, ◌^◌, ℕ, IfOk, IsFalse, length, All, slice_index, slice_set};
 ghost use Rattle.sas_core.specs.declared.parts.Parts.{Parts};
-ghost use Rattle.sas_axioms.specs.declared.waiting.Waiting.{Waiting};
-ghost use Rattle.sas_axioms.specs.Waiting.{occurrences, released};
-ghost use Rattle.sas_axioms.specs.Conditions.{AreCounted, IsCounted, IsFullIndex};
+ghost use Rattle.sas_axioms.specs.declared.conditions.Waiting.{Waiting};
+ghost use Rattle.sas_axioms.specs.Conditions.{AreCounted, IsCounted, IsFullIndex, occurrences, released};
 
-use crate::conditions::index_of_all;
+use crate::conditions::{Waiting, index_of_all};
 use crate::firing::open_of;
-use crate::waiting::Waiting;
 use sas_core::{Fact, Grounded, Items};
 use sas_flat::Lists;
 use sas_meaning::{Layered, State};
@@ -58,8 +56,53 @@ impl Counted {
         }
     }
 
+    /// Sets all variables to their values in the state, and updates the counters. Few variables change in a step of a plan, so it first
+    /// looks for parts of the states that differ.
+    pub fn follow<T: Grounded>(&mut self, task: &Layered<T>, state: &State)
+        requires state { length state.now ≡ length task.now.variables }
+        requires counts { IsCounted task.now self.old }
+        ensures values { self.new.values ≡ state.now }
+        ensures counts { IsCounted task.now self.new }
+    {
+        let variables = task.variables();
+        let mut start = 0;
+        while start < variables {
+            let end = part_end(start, variables);
+            self.follow_part(state, start, end);
+            start = end;
+        }
+    }
+
+    /// Sets the variables from `start` up to but not including `end` to their values in the state, and updates the counters.
+    fn follow_part(&mut self, state: &State, start: u32, end: u32)
+        requires within { end ≤ length state.now }
+        requires known { length self.old.values ≡ length state.now }
+        requires counts { (p : Parts) × IsCounted p self.old }
+        ensures known { length self.new.values ≡ length state.now }
+        ensures counts { (p : Parts) → IsCounted p self.old → IsCounted p self.new }
+        ensures part { (k : ℕ) → start ≤ k → k < end
+            → slice_index self.new.values k ≡ slice_index state.now k }
+        ensures before { (k : ℕ) → k < start
+            → slice_index self.new.values k ≡ slice_index self.old.values k }
+    {
+        if !are_changed(
+            self.values.values(),
+            state.values(),
+            start as usize,
+            end as usize,
+        ) {
+            return;
+        }
+        for var in start..end {
+            self.recount(Fact {
+                var,
+                value: state.value(var),
+            });
+        }
+    }
+
     /// Sets the variable to the value, and updates the counters of the rules with a condition on it.
-    pub fn recount(&mut self, fact: Fact)
+    fn recount(&mut self, fact: Fact)
         requires var { fact.var < length self.old.values }
         requires counts { (p : Parts) × IsCounted p self.old }
         ensures values { self.new.values ≡ slice_set self.old.values fact.var fact.value }
@@ -72,6 +115,38 @@ impl Counted {
         }
         self.values.set(fact);
     }
+}
+
+/// How many variables are compared at once.
+const PART: u32 = 64;
+
+/// Returns the end of the part that begins with the variable `start`.
+fn part_end(start: u32, variables: u32) -> u32
+    requires { start < variables }
+    ensures after { start < result }
+    ensures within { result ≤ variables }
+{
+    if variables - start > PART {
+        start + PART
+    } else {
+        variables
+    }
+}
+
+/// Returns whether the lists differ between these places.
+fn are_changed(former: &[u32], values: &[u32], start: usize, end: usize) -> bool
+    requires former { end ≤ length former.now }
+    requires values { end ≤ length values.now }
+    ensures { IsFalse result → (k : ℕ) → start ≤ k → k < end
+        → slice_index former.now k ≡ slice_index values.now k }
+{
+    let mut changed = false;
+    for place in start..end {
+        if former[place] != values[place] {
+            changed = true;
+        }
+    }
+    changed
 }
 
 /// Returns the index of all conditions and, for each rule, the number of conditions that are open under these values.

@@ -1,29 +1,27 @@
 // Settles one layer by counters: each rule counts its open conditions, and fires when none is left.
-ghost use Rattle.std.specs.Prelude.{◌≡◌, ℕ, ◌<◌, ◌^◌, [], ◌∷◌, List, length, All, IfOk, OnOk, slice_index};
+ghost use Rattle.std.specs.Prelude.{◌≡◌, ◌≢◌, ℕ, ◌+◌, ◌<◌, ◌≤◌, ◌^◌, [], List, length, All, IfOk, OnOk, slice_index};
 ghost use Rattle.sas_core.specs.Grounded.{rule_at};
 ghost use Rattle.sas_core.specs.Variables.{IsState};
 ghost use Rattle.sas_meaning.specs.States.{AllHold};
+ghost use Rattle.sas_meaning.specs.Layers.{default_of};
 ghost use Rattle.sas_meaning.specs.Forced.{AtDefault};
 ghost use Rattle.sas_meaning.specs.Following.{HaveGone};
 ghost use Rattle.sas_meaning.specs.Settled.{SameBasic};
 ghost use Rattle.sas_meaning.specs.Touched.{StillCovers};
-ghost use Rattle.sas_axioms.specs.declared.waiting.Waiting.{Waiting};
+ghost use Rattle.sas_axioms.specs.declared.conditions.Waiting.{Waiting};
 ghost use Rattle.sas_axioms.specs.ByLayers.{SettlesLayer};
 ghost use Rattle.sas_axioms.specs.LayerRules.{IsRuleOn, AreRulesOn};
-ghost use Rattle.sas_axioms.specs.Waiting.{IsIndex, released};
-ghost use Rattle.sas_axioms.specs.Conditions.{open_conditions, SameRequired};
-ghost use Rattle.sas_axioms.specs.Resting.{IsResting};
+ghost use Rattle.sas_axioms.specs.Conditions.{AreCounted, IsFullIndex, IsOfRule, open_conditions, released, occurrences};
 ghost use Rattle.sas_axioms.specs.Agenda.{IsEmpty};
 ghost use Rattle.sas_axioms.specs.Sources.{AreGiven, SameSourcesOff};
 ghost use Rattle.sas_axioms.specs.Following.{IsFollowed};
-ghost use Rattle.sas_axioms.specs.Worklist.{AreCountedOn, SameCountsOff};
-ghost use Rattle.sas_axioms.specs.Worklist.{IsRunning, AreCountedWithStack, HasRoom, IsAtWork, WorkGoesOn, FiresRule, AreAtRest, IsFiringReady};
+ghost use Rattle.sas_axioms.specs.Worklist.{IsRunning, HasRoom, IsAtWork, IsPopped, WorkGoesOn, FiresRule, IsFiringReady};
 
 use crate::agenda::{Agenda, TooMuch};
+use crate::conditions::Waiting;
+use crate::counting::Counted;
 use crate::following::{count_gone, settle_noted};
 use crate::layer_rules::{LayerRule, rules_of_variables};
-use crate::resting::Resting;
-use crate::waiting::{Waiting, index_of_own_layers};
 use sas_core::{Fact, Grounded, Items};
 use sas_flat::Lists;
 use sas_meaning::{Layered, State, Touched};
@@ -34,7 +32,7 @@ use std::mem::replace;
 pub struct Work {
     /// The layer.
     pub layer: u32,
-    /// For each rule of the layer, the number of its open conditions.
+    /// For each rule, the number of its open conditions.
     pub counters: Items<u32>,
     /// Variables that were set to the value of their rules. The counters of the rules that wait for them haven't been updated yet.
     pub stack: Vec<u32>,
@@ -81,10 +79,8 @@ impl Work {
 pub struct Firing {
     /// Makes the empty list that takes the place of the counters while they are set.
     alloc: Global,
-    /// For each variable, the conditions on it of rules on its own layer.
-    index: Lists<Waiting>,
-    /// For each rule, the number of open conditions before its layer is settled.
-    pub resting: Resting,
+    /// The counters with which the settling of a state begins: those for its basic variables and the defaults of the derived ones.
+    pub counted: Counted,
     /// The rules of each derived variable.
     rules_of: Lists<u32>,
     /// The data for settling a layer.
@@ -95,13 +91,11 @@ impl Drop for Firing {
     fn drop(self) {
         let Firing {
             alloc: _,
-            index,
-            resting,
+            counted,
             rules_of,
             work,
         } = self;
-        drop(index);
-        drop(resting);
+        drop(counted);
         drop(rules_of);
         drop(work);
     }
@@ -120,27 +114,22 @@ impl Firing {
         let work = Work::new(alloc, task, share)?;
         Ok(Firing {
             alloc,
-            index: index_of_own_layers(alloc, task)?,
-            resting: Resting::new(alloc, task)?,
+            counted: Counted::new(alloc, task)?,
             rules_of: rules_of_variables(alloc, task)?,
             work,
         })
     }
 
-    /// Sets all counters to those for the basic variables of the state and the defaults of the derived ones. Must be called before the
-    /// lowest layer is settled.
+    /// Sets all counters to those for this state. Must be called before the lowest layer is settled.
     pub fn begin<T: Grounded>(&mut self, task: &Layered<T>, state: &State)
         requires prepared { IsFiringReady task.now self.old }
         requires state { IsState task.now.variables state.now }
         ensures prepared { IsFiringReady task.now self.new }
-        ensures follows { SameRequired task.now state.now self.new.resting.counted.values }
-        ensures rest { (layer : ℕ) → AreAtRest task.now layer self.new }
+        ensures counts { AreCounted task.now state.now self.new.work.counters }
     {
-        self.resting.follow(task, state);
+        self.counted.follow(task, state);
         let mut counters = replace(&mut self.work.counters, Items::new(self.alloc)).into_vec();
-        counters
-            .as_mut_slice()
-            .copy_from_slice(self.resting.counted.counters.as_slice());
+        counters.copy_from_slice(self.counted.counters.as_slice());
         self.work.counters = Items::from_vec(counters);
     }
 
@@ -154,23 +143,19 @@ impl Firing {
         state: &mut State,
     )
         requires prepared { IsFiringReady task.now self.old }
-        requires follows { SameRequired task.now state.old self.old.resting.counted.values }
-        requires rest { AreAtRest task.now layer self.old }
+        requires counts { AreCounted task.now state.old self.old.work.counters }
         requires rules { AreRulesOn task.now layer rules.now }
         requires state { IsState task.now.variables state.old }
         requires default { AtDefault task.now layer state.old }
         ensures prepared { IsFiringReady task.now self.new }
-        ensures same { self.new.resting ≡ self.old.resting }
         ensures settles { SettlesLayer task.now layer state.old state.new }
-        ensures counts { AreCountedOn task.now layer state.new self.new.work.counters }
+        ensures counts { AreCounted task.now state.new self.new.work.counters }
         ensures given { AreGiven task.now layer state.new self.new.work.sources }
         ensures sources { SameSourcesOff task.now layer self.old.work.sources self.new.work.sources }
-        ensures others { SameCountsOff task.now layer self.old.work.counters self.new.work.counters }
     {
         self.work.layer = layer;
-        count_conditions(task, rules, &self.resting, &mut self.work, state);
         fire_ready(task, rules, &mut self.work, state);
-        empty_stack(task, &self.index, &mut self.work, state);
+        empty_stack(task, &self.counted.index, &mut self.work, state);
     }
 
     /// Updates the state, which must be settled except that the facts `gone` may have become false. The derived variables that it sets are
@@ -217,40 +202,9 @@ impl Firing {
         ensures covered { StillCovers task.now state.old touched.old state.new touched.new }
         ensures followed { OnOk result (IsFollowed task.now state.new self.new.work) }
     {
-        let index = &self.resting.counted.index;
+        let index = &self.counted.index;
         count_gone(task, index, gone, &mut self.work, state)?;
         settle_noted(task, index, &self.rules_of, &mut self.work, state, touched)
-    }
-}
-
-/// Sets the counters of the rules of the layer that aren't at rest, which are among these rules.
-fn count_conditions<T: Grounded>(
-    task: &Layered<T>,
-    rules: &[LayerRule],
-    resting: &Resting,
-    work: &mut Work,
-    state: &State,
-)
-    requires rules { AreRulesOn task.now work.old.layer rules.now }
-    requires resting { IsResting task.now resting.now }
-    requires follows { SameRequired task.now state.now resting.now.counted.values }
-    requires rest { (rule : ℕ) → IsRuleOn task.now work.old.layer rule
-        → slice_index work.old.counters rule ≡ slice_index resting.now.counted.counters rule }
-    requires room { HasRoom task.now work.old }
-    requires state { IsState task.now.variables state.now }
-    requires default { AtDefault task.now work.old.layer state.now }
-    ensures layer { work.new.layer ≡ work.old.layer }
-    ensures stack { work.new.stack ≡ work.old.stack }
-    ensures room { HasRoom task.now work.new }
-    ensures counts { AreCountedWithStack task.now work.old.layer state.now [] work.new.counters [] }
-    ensures others { SameCountsOff task.now work.old.layer work.old.counters work.new.counters }
-    ensures sources { work.new.sources ≡ work.old.sources }
-{
-    let layer = work.layer;
-    for entry in rules {
-        if let Some(count) = resting.count_below(task, layer, entry.rule, state) {
-            work.counters.set(entry.rule as usize, count);
-        }
     }
 }
 
@@ -280,11 +234,11 @@ fn fire_ready<T: Grounded>(
     requires rules { AreRulesOn task.now work.old.layer rules.now }
     requires room { HasRoom task.now work.old }
     requires running { IsRunning task.now work.old.layer state.old work.old.stack.items }
-    requires counts { AreCountedWithStack task.now work.old.layer state.old work.old.stack.items
-        work.old.counters [] }
+    requires empty { work.old.stack.items ≡ [] }
+    requires counts { AreCounted task.now state.old work.old.counters }
     requires given { AreGiven task.now work.old.layer state.old work.old.sources }
     requires default { AtDefault task.now work.old.layer state.old }
-    ensures at_work { IsAtWork task.now state.new work.new [] }
+    ensures at_work { IsAtWork task.now state.new work.new }
     ensures goes_on { WorkGoesOn task.now state.old work.old state.new work.new }
 {
     // The contract of `task` ensures that the task is well ranged and layered.
@@ -296,18 +250,20 @@ fn fire_ready<T: Grounded>(
     }
 }
 
-/// Sets the variable of the rule to its new value. If this changes the variable, pushes it on the stack.
+/// Sets the variable of the rule to its new value, unless the variable is on another layer. If this changes the variable, pushes it on the
+/// stack.
 fn fire<T: Grounded>(task: &Layered<T>, rule: u32, work: &mut Work, state: &mut State)
-    requires rule { IsRuleOn task.now work.old.layer rule }
+    requires rule { (layer : ℕ) × IsRuleOn task.now layer rule }
     requires room { HasRoom task.now work.old }
     requires running { IsRunning task.now work.old.layer state.old work.old.stack.items }
-    requires hold { AllHold (slice_index state.old) (rule_at task.now rule).conditions }
+    requires hold { IsRuleOn task.now work.old.layer rule
+        → AllHold (slice_index state.old) (rule_at task.now rule).conditions }
     ensures { FiresRule task.now rule state.old work.old state.new work.new }
 {
     // The contract of `task` ensures that the task is well ranged and layered.
     let _ = task.task();
     let change = task.rule_change(rule);
-    if state.value(change.var) != change.new {
+    if state.value(change.var) != change.new && task.layer(change.var) == Some(work.layer) {
         state.set(Fact {
             var: change.var,
             value: change.new,
@@ -317,64 +273,67 @@ fn fire<T: Grounded>(task: &Layered<T>, rule: u32, work: &mut Work, state: &mut 
     }
 }
 
-/// Decrements the counters of the rules that wait for the variables on the stack, until the stack is empty.
+/// Updates the counters of the rules with conditions on the variables on the stack, until the stack is empty.
 fn empty_stack<T: Grounded>(
     task: &Layered<T>,
     index: &Lists<Waiting>,
     work: &mut Work,
     state: &mut State,
 )
-    requires index { IsIndex task.now index.now }
-    requires at_work { IsAtWork task.now state.old work.old [] }
+    requires index { IsFullIndex task.now index.now }
+    requires at_work { IsAtWork task.now state.old work.old }
     ensures settles { SettlesLayer task.now work.old.layer state.old state.new }
     ensures room { HasRoom task.now work.new }
     ensures empty { work.new.stack.items ≡ [] }
-    ensures counts { AreCountedOn task.now work.old.layer state.new work.new.counters }
+    ensures counts { AreCounted task.now state.new work.new.counters }
     ensures given { AreGiven task.now work.old.layer state.new work.new.sources }
     ensures sources { SameSourcesOff task.now work.old.layer work.old.sources work.new.sources }
-    ensures others { SameCountsOff task.now work.old.layer work.old.counters work.new.counters }
 {
     // The contract of `task` ensures that the task is well ranged and layered.
     let _ = task.task();
     while let Some(var) = work.stack.pop() {
-        let value = state.value(var);
-        release(task, value, index.get(var as usize), work, state);
+        let fact = Fact {
+            var,
+            value: state.value(var),
+        };
+        release(task, fact, index.get(var as usize), work, state);
     }
 }
 
-/// Decrements the counters of the rules that wait for this value, and fires the rules whose counter becomes 0.
+/// Updates the counters of the rules with conditions on a variable, which was set to a value other than its default: this fact. Fires the
+/// rules of the layer whose counter becomes 0.
 fn release<T: Grounded>(
     task: &Layered<T>,
-    value: u32,
+    fact: Fact,
     waiting: &[Waiting],
     work: &mut Work,
     state: &mut State,
 )
-    requires waiting { All (λ (w : Waiting). IsRuleOn task.now work.old.layer w.rule) waiting.now }
-    requires at_work { IsAtWork task.now state.old work.old (released value waiting.now) }
-    ensures at_work { IsAtWork task.now state.new work.new [] }
-    ensures goes_on { WorkGoesOn task.now state.old work.old state.new work.new }
-{
-    for entry in waiting {
-        if entry.value == value {
-            count_down(task, entry.rule, work, state);
-        }
-    }
-}
-
-/// Decrements the counter of the rule, and fires the rule if the counter becomes 0.
-fn count_down<T: Grounded>(task: &Layered<T>, rule: u32, work: &mut Work, state: &mut State)
-    requires rule { IsRuleOn task.now work.old.layer rule }
-    requires waits { (left : List ℕ) × IsAtWork task.now state.old work.old (rule ∷ left) }
-    ensures at_work { (left : List ℕ) → IsAtWork task.now state.old work.old (rule ∷ left)
-        → IsAtWork task.now state.new work.new left }
+    requires exists { fact.var < length task.now.variables }
+    requires differ { default_of task.now fact.var ≢ fact.value }
+    requires waiting { All (IsOfRule task.now) waiting.now }
+    requires small { All (λ (w : Waiting). slice_index work.old.counters w.rule
+        + occurrences w.rule (released (default_of task.now fact.var) waiting.now)
+        < 2 ^ 32) waiting.now }
+    requires enough { All (λ (w : Waiting). occurrences w.rule (released fact.value waiting.now)
+        ≤ slice_index work.old.counters w.rule) waiting.now }
+    requires popped { IsPopped task.now fact waiting.now state.old work.old }
+    ensures at_work { IsAtWork task.now state.new work.new }
     ensures goes_on { WorkGoesOn task.now state.old work.old state.new work.new }
 {
     // The contract of `task` ensures that the task is well ranged and layered.
     let _ = task.task();
-    let open = work.counters.as_slice()[rule as usize] - 1;
-    work.counters.set(rule as usize, open);
-    if open == 0 {
-        fire(task, rule, work, state);
+    for entry in waiting {
+        let rule = entry.rule as usize;
+        if entry.value == fact.value {
+            let fewer = work.counters.as_slice()[rule] - 1;
+            work.counters.set(rule, fewer);
+            if fewer == 0 {
+                fire(task, entry.rule, work, state);
+            }
+        } else if entry.value == task.initial_value(fact.var) {
+            let more = work.counters.as_slice()[rule] + 1;
+            work.counters.set(rule, more);
+        }
     }
 }

@@ -9,9 +9,7 @@ mod counting;
 mod firing;
 mod following;
 mod layer_rules;
-mod resting;
 mod rounds;
-mod waiting;
 mod worklist;
 
 pub use layer_rules::rules_of_variables;

@@ -1,10 +1,11 @@
--- A variable is popped, and the rules that wait for it are counted down.
-use Rattle.sas_axioms.proofs.Imports.{rules, ◌≡◌, ℕ, ◌<◌, List, [], ◌∷◌, ◌++◌, length, get_or, sym, subst, ap, ◌∙◌, arith, All, rule_at, IsOnLayer, on_layer_within}
-use Rattle.sas_axioms.specs.declared.waiting.Waiting.{Waiting}
+-- A variable is popped, and the rules that wait for it are counted.
+use Rattle.sas_axioms.proofs.Imports.{rules, ◌≡◌, ◌≢◌, ℕ, ◌+◌, ◌<◌, List, [], ◌∷◌, ◌++◌, length, get_or, refl, sym, subst, ap, ◌∙◌, arith, All, rule_at, IsOnLayer, default_of, on_layer_within}
+use Rattle.sas_axioms.specs.declared.conditions.Waiting.{Waiting}
+use Rattle.sas_axioms.specs.Conditions.{IsOfRule, released, occurrences, asking, open_conditions}
 use Rattle.sas_axioms.specs.LayerRules.{IsRuleOn}
-use Rattle.sas_axioms.specs.Waiting.{released, occurrences, asking}
-use Rattle.sas_axioms.specs.Worklist.{IsRunning, AreCountedWithStack}
-use Rattle.sas_axioms.proofs.Counters.{popped_running, popped_counts, top_is, settled_when_empty}
+use Rattle.sas_axioms.specs.Worklist.{value_seen, IsRunning, AreCountedBy}
+use Rattle.sas_axioms.proofs.AllConditions.{small, enough}
+use Rattle.sas_axioms.proofs.Counters.{popped_running, popped_counts, popped_differs, none_own, seen_before, top_is, settled_when_empty}
 use Rattle.sas_axioms.proofs.firing.empty_stack.Goals as goal
 use Rattle.sas_axioms.proofs.firing.empty_stack.Given.{Over}
 use Rattle.sas_axioms.proofs.firing.empty_stack.Goals.{In-Some}
@@ -12,7 +13,7 @@ use Rattle.sas_axioms.proofs.firing.empty_stack.Goals.{In-Some}
 was_running : (g : Over) (c : In-Some g) → IsRunning c.args.task.now c.loop-var.work.layer c.loop-var.state (c.pop.new.self.items ++ c.in-Some.var ∷ [])
 was_running g c = rw c.in-Some.ensures.items at c.loop-var.invariant.at_work.running
 
-was_counted : (g : Over) (c : In-Some g) → AreCountedWithStack c.args.task.now c.loop-var.work.layer c.loop-var.state (c.pop.new.self.items ++ c.in-Some.var ∷ []) c.loop-var.work.counters []
+was_counted : (g : Over) (c : In-Some g) → AreCountedBy c.args.task.now (value_seen c.args.task.now c.loop-var.state (c.pop.new.self.items ++ c.in-Some.var ∷ [])) c.loop-var.work.counters
 was_counted g c = rw c.in-Some.ensures.items at c.loop-var.invariant.at_work.counts
 
 on : (g : Over) (c : In-Some g) → IsOnLayer c.args.task.now c.loop-var.work.layer c.in-Some.var
@@ -21,36 +22,69 @@ on g c = (top_is c.args.task.now c.loop-var.work.layer c.loop-var.state c.pop.ne
 within : (g : Over) (c : In-Some g) → c.in-Some.var < length c.args.task.now.variables
 within g c = on_layer_within c.args.task.now c.loop-var.work.layer c.in-Some.var (on g c)
 
-pub value-value-requires : goal.value-value-requires
-value-value-requires g c = omega (arith, within g c, c.loop-var.invariant.at_work.running.state.one_each)
+pub release-requires-clause-exists : goal.release-requires-clause-exists
+release-requires-clause-exists g c = within g (goal.at.release-requires-clause-exists g c).In-Some
+
+pub value-requires : goal.value-requires
+value-requires g c = omega (arith, within g (goal.at.value-requires g c).In-Some, c.loop-var.invariant.at_work.running.state.one_each)
 
 pub get-requires : goal.get-requires
 get-requires g c = omega (arith, within g (goal.at.get-requires g c).In-Some, c.requires.index.one_each)
 
+pub release-requires-clause-differ : goal.release-requires-clause-differ
+release-requires-clause-differ g c =
+    let some = (goal.at.release-requires-clause-differ g c).In-Some in
+    λ e. popped_differs c.args.task.now c.loop-var.work.layer c.loop-var.state c.pop.new.self.items c.in-Some.var (was_running g some)
+    (e ∙ c.value.ensures)
+
 pub release-requires-clause-waiting : goal.release-requires-clause-waiting
 release-requires-clause-waiting g c =
-    let p = c.args.task.now in
-    let layer = c.loop-var.work.layer in
-    let some = (goal.at.release-requires-clause-waiting g c).In-Some in
-    subst (λ (ws : List Waiting). All (λ (w : Waiting). IsRuleOn p layer w.rule) ws) (sym c.get.ensures)
-    (c.requires.index.only layer c.in-Some.var (on g some))
+    subst (All (IsOfRule c.args.task.now)) (sym c.get.ensures) (c.requires.index.only c.in-Some.var)
 
-pub release-requires-clause-at_work : goal.release-requires-clause-at_work
-release-requires-clause-at_work g c =
+pub release-requires-clause-small : goal.release-requires-clause-small
+release-requires-clause-small g c =
+    let some = (goal.at.release-requires-clause-small g c).In-Some in
+    let p = c.args.task.now in
+    let s = c.loop-var.state in
+    let rest = c.pop.new.self.items in
+    let v = c.in-Some.var in
+    let seen = seen_before p c.loop-var.work.layer s rest v (was_running g some) in
+    rw (c.get.ensures, sym seen)
+    (small p c.args.index.now v c.requires.index (value_seen p s (rest ++ v ∷ [])) c.loop-var.work.counters (was_counted g some) c.task.ensures.well_ranged)
+
+pub release-requires-clause-enough : goal.release-requires-clause-enough
+release-requires-clause-enough g c =
+    let some = (goal.at.release-requires-clause-enough g c).In-Some in
     let p = c.args.task.now in
     let layer = c.loop-var.work.layer in
     let s = c.loop-var.state in
+    let rest = c.pop.new.self.items in
+    let v = c.in-Some.var in
+    rw (c.get.ensures, c.value.ensures)
+    (enough p c.args.index.now v c.requires.index (value_seen p s (rest ++ v ∷ [])) c.loop-var.work.counters (was_counted g some) (get_or s v 0)
+    (λ e. popped_differs p layer s rest v (was_running g some) (sym (seen_before p layer s rest v (was_running g some)) ∙ e)))
+
+pub release-requires-clause-popped : goal.release-requires-clause-popped
+release-requires-clause-popped g c =
+    let some = (goal.at.release-requires-clause-popped g c).In-Some in
+    let p = c.args.task.now in
+    let layer = c.loop-var.work.layer in
+    let s = c.loop-var.state in
+    let rest = c.pop.new.self.items in
     let v = c.in-Some.var in
     let was = c.loop-var.invariant.at_work in
-    let some = (goal.at.release-requires-clause-at_work g c).In-Some in
-    let each : (k : ℕ) → IsRuleOn p layer k → occurrences k (released c.value-value.result c.get.result.now) ≡ asking v (get_or s v 0) (rule_at p k).conditions =
-    λ k on_k. ap (λ (ws : List Waiting). occurrences k (released c.value-value.result ws)) c.get.ensures
-    ∙ (c.requires.index.each layer v c.value-value.result k (on g some) on_k
-    ∙ ap (λ x. asking v x (rule_at p k).conditions) c.value-value.ensures) in
+    let run = was_running g some in
+    let waits : (x y m k : ℕ) → x ≡ y → IsRuleOn p m k → occurrences k (released x c.get.result.now) ≡ asking v y (rule_at p k).conditions =
+    λ x y m k e is. ap (λ (ws : List Waiting). occurrences k (released x ws)) c.get.ensures ∙ (c.requires.index.each m v x k is ∙ ap (λ z. asking v z (rule_at p k).conditions) e) in
     record {
       room = record { one_each = was.room.one_each; variables = omega (arith, was.room.variables, c.pop.ensures.capacity); sources = was.room.sources };
-      running = popped_running p layer s c.pop.new.self.items v (was_running g some);
-      counts = popped_counts p layer s c.pop.new.self.items c.loop-var.work.counters (released c.value-value.result c.get.result.now) v c.task.ensures.layered (was_running g some) each (was_counted g some);
+      running = popped_running p layer s rest v run;
+      counts = λ m k is.
+          (let a = popped_counts p layer s rest v run c.loop-var.work.counters (was_counted g some) m k is in
+          let b = waits (default_of p v) (default_of p v) m k refl is in
+          let d = waits c.value.result (get_or s v 0) m k c.value.ensures is in
+          omega arith);
+      own = λ k is. waits (default_of p v) (default_of p v) layer k refl is ∙ none_own p layer s rest v run c.task.ensures.layered k is;
       fired = was.fired;
       given = was.given;
     }
@@ -63,17 +97,14 @@ loop-var-preserved g c =
       at_work = c.release.ensures.at_work;
       layer = more.layer ∙ inv.layer;
       sources = λ v off. more.sources v (subst (λ n. IsOnLayer c.args.task.now n v → ⊥) (sym inv.layer) off) ∙ inv.sources v off;
-      others = λ m rule ne on. more.counts m rule (λ e. ne (e ∙ inv.layer)) on ∙ inv.others m rule ne on;
       off = λ v off. inv.off v off ∙ more.off v (subst (λ n. IsOnLayer c.args.task.now n v → ⊥) (sym inv.layer) off);
     }
 
 pub returns-clause-counts : goal.returns-clause-counts
-returns-clause-counts g c rule on =
-    let p = c.args.task.now in
-    let inv = c.loop-var.invariant in
+returns-clause-counts g c =
+    let at_work = c.loop-var.invariant.at_work in
     let empty : c.loop-var.work.stack.items ≡ [] = search rules in
-    let counts = (rw empty at inv.at_work.counts) rule (rw inv.layer on) in
-    omega (arith, counts)
+    record { one_each = at_work.room.one_each; known = at_work.running.state.one_each; exact = rw empty at at_work.counts }
 
 pub returns-clause-settles : goal.returns-clause-settles
 returns-clause-settles g c =

@@ -1,14 +1,13 @@
 -- The remaining work is on the stack.
-use Rattle.sas_axioms.proofs.Imports.{◌≡◌, [], SameOff}
-use Rattle.sas_axioms.specs.Worklist.{IsAtWork, SameCountsOff, left_to_do}
+use Rattle.sas_axioms.proofs.Imports.{◌≡◌, SameOff}
+use Rattle.sas_axioms.specs.Worklist.{IsAtWork, left_to_do}
 use Rattle.sas_axioms.specs.Sources.{SameSourcesOff}
 use Rattle.sas_axioms.proofs.firing.empty_stack.Given as goal
 
 abbrev pub invariant-loop-var : goal.invariant-loop-var
 invariant-loop-var g l = record {
-  at_work : IsAtWork l.task l.state l.work [];
+  at_work : IsAtWork l.task l.state l.work;
   layer : l.work.layer ≡ l.fn.work.layer;
-  others : SameCountsOff l.task l.fn.work.layer l.fn.work.counters l.work.counters;
   sources : SameSourcesOff l.task l.fn.work.layer l.fn.work.sources l.work.sources;
   off : SameOff l.task l.fn.work.layer l.fn.state l.state;
 }

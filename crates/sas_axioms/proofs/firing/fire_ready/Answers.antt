@@ -1,14 +1,26 @@
 -- One more rule without open conditions has fired.
-use Rattle.sas_axioms.proofs.Imports.{◌≡◌, ℕ, List, [], length, get_or, sym, subst, ap, ◌∙◌, inl, inr, arith, cases_eq, get_or_default, rule_at, differs_true}
+use Rattle.sas_axioms.proofs.Imports.{◌≡◌, ℕ, List, length, get_or, refl, sym, subst, ap, ◌∙◌, inl, inr, arith, cases_eq, get_or_default, rule_at, differs_true}
 use Rattle.sas_axioms.specs.declared.layer_rules.LayerRule.{LayerRule}
 use Rattle.sas_axioms.specs.LayerRules.{IsRuleOn}
 use Rattle.sas_axioms.proofs.LayerStart.{late_waits}
-use Rattle.sas_axioms.proofs.Counters.{ready, counts_seen, goes_on_more}
+use Rattle.sas_axioms.specs.Worklist.{value_seen, AreCountedBy}
+use Rattle.sas_axioms.proofs.Counters.{ready, counts_seen, goes_on_still, goes_on_more}
 use Rattle.sas_axioms.proofs.firing.fire_ready.Goals as goal
 use Rattle.sas_axioms.proofs.firing.fire_ready.Goals.{then-as_slice-entry-eq0, else-as_slice-entry-eq0}
 
 abbrev no_entry : LayerRule
 no_entry = record { layer = 0; rule = 0 }
+
+pub loop-entry-init : goal.loop-entry-init
+loop-entry-init g c = record {
+  goes_on = goes_on_still c.args.task.now c.args.state.now c.args.work.now;
+  same = refl;
+  given = c.requires.given;
+  room = c.requires.room;
+  running = c.requires.running;
+  counts = rw c.requires.empty c.requires.counts.exact;
+  fired = λ j d lt none. absurd (omega arith);
+}
 
 pub fire-requires-clause-hold : goal.fire-requires-clause-hold
 fire-requires-clause-hold g c =
@@ -19,7 +31,7 @@ fire-requires-clause-hold g c =
     let rule = (get_or c.args.rules.now c.loop-entry.entry-index no_entry).rule in
     let on : IsRuleOn p layer rule = c.requires.rules.only c.loop-entry.entry-index no_entry c.loop-entry-test.true in
     let none : get_or counters rule 0 ≡ 0 = ap (λ (xs : List ℕ). get_or xs rule 0) (sym inv.same ∙ sym c.as_slice.ensures) ∙ c.if-as_slice-entry-eq0.true in
-    ready p layer c.loop-entry.state c.loop-entry.work.stack.items counters [] rule c.task.ensures.layered inv.running inv.counts on none
+    λ _. ready p layer c.loop-entry.state c.loop-entry.work.stack.items rule c.task.ensures.layered inv.running on (sym (inv.counts layer rule on) ∙ none)
 
 pub returns-clause-at_work : goal.returns-clause-at_work
 returns-clause-at_work g c =
@@ -28,10 +40,11 @@ returns-clause-at_work g c =
     let counters = c.args.work.now.counters in
     let s = c.loop-entry.state in
     let inv = c.loop-entry.invariant in
+    let first : AreCountedBy p (value_seen p c.args.state.now c.args.work.now.stack.items) counters = rw c.requires.empty c.requires.counts.exact in
     record {
       room = inv.room;
       running = rw inv.goes_on.layer inv.running;
-      counts = rw (inv.goes_on.layer, inv.same) inv.counts;
+      counts = rw inv.same inv.counts;
       given = rw inv.goes_on.layer inv.given;
       fired = rw (inv.goes_on.layer, inv.same) (λ rule on none. elim (c.requires.rules.each rule on) [
         | inl there ↦
@@ -40,7 +53,7 @@ returns-clause-at_work g c =
             subst (λ k. get_or s (rule_at p k).var 0 ≡ (rule_at p k).new) its
             (inv.fired there.0 entry (omega (arith, there.1, c.loop-entry-test.false)) (subst (λ k. get_or counters k 0 ≡ 0) (sym its) none)))
         | inr late ↦ absurd (late_waits p layer rule c.args.state.now c.task.ensures.layered on late c.requires.default
-            (ready p layer c.args.state.now c.args.work.now.stack.items counters [] rule c.task.ensures.layered c.requires.running c.requires.counts on none))
+            (ready p layer c.args.state.now c.args.work.now.stack.items rule c.task.ensures.layered c.requires.running on (sym (first layer rule on) ∙ none)))
       ]);
     }
 
@@ -57,15 +70,16 @@ loop-entry-preserved g c =
     elim c.if-as_slice-entry-eq0.branch [
       | then-as_slice-entry-eq0 w ↦
           (let f = w.fire.ensures in
+          let here : IsRuleOn p work.layer (get_or rules i no_entry).rule = rw inv.goes_on.layer (c.requires.rules.only i no_entry c.loop-entry-test.true) in
           rw (w.work-is, w.state-is) record {
             goes_on = goes_on_more p c.args.state.now was s work w.fire.new.state w.fire.new.work inv.goes_on f.goes_on;
             same = f.counters ∙ inv.same;
             given = rw inv.goes_on.layer at (f.given (rw inv.goes_on.layer inv.given));
             room = record { one_each = ap length f.counters ∙ inv.room.one_each; variables = omega (arith, inv.room.variables, f.room); sources = f.sources ∙ inv.room.sources };
             running = rw inv.goes_on.layer at f.running;
-            counts = counts_seen p was.layer s w.fire.new.state work.stack.items w.fire.new.work.stack.items was.counters [] f.seen inv.counts;
+            counts = counts_seen p s w.fire.new.state work.stack.items w.fire.new.work.stack.items was.counters f.seen inv.counts;
             fired = λ j d lt none. elim (cases_eq j i) [
-              | inl e ↦ subst (λ (r : LayerRule). get_or w.fire.new.state (rule_at p r.rule).var 0 ≡ (rule_at p r.rule).new) (same j d e) f.fired
+              | inl e ↦ subst (λ (r : LayerRule). get_or w.fire.new.state (rule_at p r.rule).var 0 ≡ (rule_at p r.rule).new) (same j d e) (f.fired here)
               | inr ne ↦ (let before = inv.fired j d (omega arith) none in
                   f.kept (rule_at p (get_or rules j d).rule).var (differs_true p s (rule_at p (get_or rules j d).rule).var (λ e. (c.requires.rules.only j d (omega (arith, c.loop-entry-test.true))).can (sym before ∙ e))) ∙ before)
             ];

@@ -1,7 +1,7 @@
 -- The rules so far that have no open conditions have fired.
-use Rattle.sas_axioms.proofs.Imports.{◌≡◌, ℕ, ◌<◌, [], get_or, rule_at}
+use Rattle.sas_axioms.proofs.Imports.{◌≡◌, ℕ, ◌<◌, get_or, rule_at}
 use Rattle.sas_axioms.specs.declared.layer_rules.LayerRule.{LayerRule}
-use Rattle.sas_axioms.specs.Worklist.{IsRunning, AreCountedWithStack, HasRoom, WorkGoesOn}
+use Rattle.sas_axioms.specs.Worklist.{value_seen, IsRunning, AreCountedBy, HasRoom, WorkGoesOn}
 use Rattle.sas_axioms.specs.Sources.{AreGiven}
 use Rattle.sas_axioms.proofs.firing.fire_ready.Given as goal
 
@@ -12,7 +12,7 @@ invariant-loop-entry g l = record {
   given : AreGiven l.task l.fn.work.layer l.state l.work.sources;
   room : HasRoom l.task l.work;
   running : IsRunning l.task l.fn.work.layer l.state l.work.stack.items;
-  counts : AreCountedWithStack l.task l.fn.work.layer l.state l.work.stack.items l.fn.work.counters [];
+  counts : AreCountedBy l.task (value_seen l.task l.state l.work.stack.items) l.fn.work.counters;
   fired : (j : ℕ) (d : LayerRule) → j < l.entry-index → get_or l.fn.work.counters (get_or l.rules j d).rule 0 ≡ 0
       → get_or l.state (rule_at l.task (get_or l.rules j d).rule).var 0 ≡ (rule_at l.task (get_or l.rules j d).rule).new;
 }

@@ -7,8 +7,7 @@ returns-in_err-count_gone-clause-prepared g c =
     let was = c.requires.prepared in
     let same = c.count_gone.ensures.same in
     record {
-      index = was.index;
-      resting = was.resting;
+      counted = was.counted;
       rules_of = was.rules_of;
       room = record { one_each = same.one_each ∙ was.room.one_each; variables = rw same.stack was.room.variables; sources = ap length same.sources ∙ was.room.sources };
       empty = rw same.stack was.empty;
@@ -24,8 +23,7 @@ returns-clause-prepared g c =
     let same = c.count_gone.ensures.same in
     let settled = c.settle_noted.ensures in
     record {
-      index = was.index;
-      resting = was.resting;
+      counted = was.counted;
       rules_of = was.rules_of;
       room = record {
         one_each = settled.one_each ∙ (same.one_each ∙ was.room.one_each);

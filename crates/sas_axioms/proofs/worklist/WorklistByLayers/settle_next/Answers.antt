@@ -1,10 +1,9 @@
 -- The next layer on which a rule can fire.
 use Rattle.sas_axioms.proofs.Imports.{rules, ◌≡◌, ◌+◌, ◌≤◌, ◌<◌, length, get_or, drop, sym, subst, ap, ◌∙◌, arith, basic_off}
 use Rattle.sas_axioms.specs.declared.layer_rules.LayerSpan.{LayerSpan}
-use Rattle.sas_axioms.specs.declared.resting.Resting.{Resting}
 use Rattle.sas_axioms.specs.ByLayers.{SettlesLayer}
 use Rattle.sas_axioms.specs.LayerRules.{IsLayerSpan, AreSpans}
-use Rattle.sas_axioms.proofs.AllCounted.{counted_where_idle, counts_to_next, given_to_next, followed_in_the_end}
+use Rattle.sas_axioms.proofs.AllCounted.{given_to_next, followed_in_the_end}
 use Rattle.sas_axioms.proofs.Spans.{next_span, no_span_left}
 use Rattle.sas_axioms.proofs.Standing.{idle_in_the_end, from_on, idle_between, rules_of_span, stands_behind}
 use Rattle.sas_axioms.proofs.worklist.WorklistByLayers.settle_next.Goals as goal
@@ -63,16 +62,7 @@ returns-clause-stands g c =
       left = (both g some).1;
       given = given_to_next c.args.layered.now layer c.args.state.now c.settle_layer.new.state c.args.self.now.firing.work.sources c.settle_layer.new.self.work.sources
           c.task.ensures.layered settles.off c.settle_layer.ensures.sources c.settle_layer.ensures.given c.requires.stands.given c.requires.default;
-      counts = counts_to_next c.args.layered.now layer c.args.state.now c.settle_layer.new.state c.args.self.now.firing.work.counters c.settle_layer.new.self.work.counters
-          c.task.ensures.layered settles.off c.settle_layer.ensures.counts c.settle_layer.ensures.others c.requires.stands.counts
-          (λ below le lt. counted_where_idle c.args.layered.now below c.args.state.now c.args.self.now.firing ready.firing.resting c.requires.stands.follows
-          (c.requires.stands.rest below le) (c.requires.default below le)
-          (idle_between c.args.layered.now c.args.self.now.rules.items c.args._from c.args.self.now.start ready.rules c.requires.stands.stands layer c.in-Some.span.now.end (span g some) below le lt));
-      rest = λ m le rule is. c.settle_layer.ensures.others m rule (omega arith) is
-          ∙ (c.requires.stands.rest m (let up = from_on c.args.layered.now c.args.self.now.rules.items c.args._from c.args.self.now.start ready.rules c.requires.stands.stands layer c.in-Some.span.now.end (span g some) in omega arith) rule is
-          ∙ ap (λ (r : Resting). get_or r.counted.counters rule 0) (sym c.settle_layer.ensures.same));
-      follows = λ v basic asked. sym (basic_off c.args.layered.now layer c.args.state.now c.settle_layer.new.state c.task.ensures.layered settles.off v basic)
-          ∙ (c.requires.stands.follows v basic asked ∙ ap (λ (r : Resting). get_or r.counted.values v 0) (sym c.settle_layer.ensures.same));
+      counts = c.settle_layer.ensures.counts;
     }
 
 pub returns-clause-settles : goal.returns-clause-settles
@@ -88,15 +78,5 @@ returns-clause-settles g c =
 
 pub returns-in_default-clause-follows : goal.returns-in_default-clause-follows
 returns-in_default-clause-follows g c settled =
-    let all = c.args.self.now.rules.items in
-    let past : length c.args.self.now.spans.items ≤ c.args.self.now.next = search rules in
-    let done = no_span_left all c.args.self.now.spans.items c.args.self.now.start c.args.self.now.next (length all) past c.requires.stands.left in
-    followed_in_the_end c.args.layered.now c.args._from c.args.state.now c.args.self.now.firing.work c.requires.state c.requires.stands.ready.firing.room.one_each c.requires.stands.ready.firing.room.sources
-    (λ m le. counted_where_idle c.args.layered.now m c.args.state.now c.args.self.now.firing c.requires.stands.ready.firing.resting c.requires.stands.follows (c.requires.stands.rest m le) (c.requires.default m le)
-    (idle_in_the_end c.args.layered.now all c.args._from c.args.self.now.start c.requires.stands.ready.rules c.requires.stands.stands (omega (arith, done)) m le)) c.requires.stands.counts c.requires.stands.given c.requires.default settled
-
-pub settle_layer-requires-clause-rest : goal.settle_layer-requires-clause-rest
-settle_layer-requires-clause-rest g c =
-    let some = (goal.at.settle_layer-requires-clause-rest g c).In-Some in
-    c.requires.stands.rest c.in-Some.span.now.layer
-    (from_on c.args.layered.now c.args.self.now.rules.items c.args._from c.args.self.now.start c.requires.stands.ready.rules c.requires.stands.stands c.in-Some.span.now.layer c.in-Some.span.now.end (span g some))
+    followed_in_the_end c.args.layered.now c.args._from c.args.state.now c.args.self.now.firing.work c.requires.state c.requires.stands.ready.firing.room.sources
+    c.requires.stands.counts c.requires.stands.given c.requires.default settled
