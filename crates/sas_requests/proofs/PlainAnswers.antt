@@ -27,7 +27,7 @@ all_kept : (reported : List (List ℕ)) → AllByRecursion IsReported reported �
 all_kept [] h = refl
 all_kept (first ∷ reported) h = kept_first first reported h.0 ∙ ap (λ (x : List (List ℕ)). first ∷ x) (all_kept reported h.1)
 
-none_kept : (reasons : List (List ℕ)) → AreReasons reasons → filter (λ line. not (is_reason line)) reasons ≡ []
+pub none_kept : (reasons : List (List ℕ)) → AreReasons reasons → filter (λ line. not (is_reason line)) reasons ≡ []
 none_kept [] h = refl
 none_kept (first ∷ reasons) h =
     let reports : IsReason first = h.0 in
