@@ -1,4 +1,5 @@
 -- A group that is reported as exclusive is an invariant of a task that the bytes are a text of.
+use Rattle.std.proofs.lemmas.Grind.{common_steps}
 use Rattle.sas_requests.proofs.Imports.{◌≡◌, ℕ, suc, ◌+◌, ◌<◌, ◌^◌, List, [], ◌∷◌, ◌++◌, length, map, get_or, drop, codes, append_assoc, append-nil, true, ◌⊎◌, refl, sym, ap, subst, ◌∙◌, arith, Option, Some, None, Result, Ok, Err, inl, inr, Contains, Appends, append_cancel_left, Contains-append_cases, Parts, first_fault, WellRanged, LayerFault}
 use Rattle.sas_requests.proofs.Imports.{IsLayered, layer_checks, checks_are_rules, contains_cases, contains_none, lines, text, same_first, NoSpace-decimal, own_decimal, Fault, most_bytes, Reads, ReadsAs, plain_bytes, task_texts, task_format, Verdict, Exclusive, Derived, Initial, Broken, AreJointVerdicts, listed_invariants, Reason, reason_at, HasInvariant, Invariants}
 use Rattle.sas_requests.proofs.Imports.{verdict_words, group_line, verdict_lines_from, layer_words, layers_line, layers_refusal, GroupsAnswer, LayeredGroupsAnswer, MutexAnswer, line_bytes, why_lines_from, why_lines, WhyGroupsAnswer, layer_reasons, why_refusal, WhyAnswer, WhyMutexAnswer, Output, word_of, refusal, refusal_line, IsAnswerOrRefusal, FileOut, sent_same, file_words}
@@ -54,9 +55,7 @@ first_apart : (words : List ℕ) (place : ℕ) → codes "task refused: " ++ wor
 first_apart words place e = apart_at 0 (group_line place Exclusive) (codes "task refused: " ++ words) (omega arith) (sym e)
 
 reason_apart : (line : List ℕ) (place : ℕ) → IsReason line → line ≡ group_line place Exclusive → ⊥
-reason_apart line place reason e =
-    let reports : is_reason (group_line place Exclusive) ≡ true = subst (λ (l : List ℕ). is_reason l ≡ true) e reason.reports in
-    absurd cc
+reason_apart line place reason e = grind (arith, common_steps)
 
 pub reasons_apart : (reasons : List (List ℕ)) → AreReasons reasons → (place : ℕ) → Contains reasons (group_line place Exclusive) → ⊥
 reasons_apart [] are place has = contains_none (group_line place Exclusive) has
