@@ -87,6 +87,8 @@ def main():
     if os.path.exists(RECORD):
         os.remove(RECORD)
     began_at = commit()
+    # what an earlier run left of the library has a link, and `rt ci` takes none
+    shutil.rmtree("library/out", ignore_errors=True)
     parts = [counts(["rt", "ci"])]
     if os.path.isfile("crates/sas/out/sas"):
         shutil.copy("crates/sas/out/sas", "sas")

@@ -1,6 +1,9 @@
 -- What is returned follows from how a run ended.
 use Rattle.sas_c.proofs.Imports.{◌≡◌, ℕ, ◌<◌, List, [], ◌++◌, length, take, drop, codes, arith, refl, sym, ap, subst, ◌∙◌, inr, Option, Some, None, Result, Ok, Err, IfSome, Appends, Parts, LayerFault, IsLayered, checks_are_rules, ReadsAs, most_bytes, task_format, Status, Yes, No, ToolFault, Memory, Read, TooLong, Write, Answer, Output, EndsCounting, output_of, layers_verdict, VerdictAnswer}
 use Rattle.sas_c.proofs.Imports.{PlanParts, WhyVerdict, TraceVerdict, Request, Plan, Mutex, Headline, Invariants, CheckOut, FileOut, PlanOut, PlanOutBy, VerdictOut, same_output, ReportsValid, headline_of, Refuses, ReportsGroups, invariants_of, headline_why, invariants_why, judged_by, Reasons, PlanFileReasons, OutWhy, WithReasons, Opening, Ready, Refused, Opens, TraceOut}
+use Rattle.sas_requests.specs.Answering.{OutBy}
+use Rattle.sas_requests.specs.declared.detail.Detail.{Detail}
+use Rattle.sas_c.specs.declared.answering.Call.{Call}
 use Rattle.sas_c.specs.declared.prepared.Prepared.{Prepared}
 use Rattle.sas_c.specs.Holding.{HoldsTask}
 use Rattle.sas_c.specs.Written.{IsWritten}
@@ -27,7 +30,7 @@ module _ (text : List ℕ) (status : Status) (before room : List ℕ) (size : �
   pub reports_copied : (number : ℕ) → number ≡ number_of_status status → take (length text) room ≡ text → drop (length text) room ≡ drop (length text) before → length room ≡ length before → ReportsText number
   reports_copied number is copied behind as_long =
       let low = low_number status in record {
-        reported = λ s e. (record { text = text; status = status }, refl, same_number status s (sym is ∙ e), long, subst (λ (n : ℕ). take n room ≡ text) (sym long) copied);
+        answer = λ s e. (record { text = text; status = status }, refl, same_number status s (sym is ∙ e), long, subst (λ (n : ℕ). take n room ≡ text) (sym long) copied);
         longer = λ e. absurd (omega arith);
         none = λ e. absurd (omega arith);
         known = omega arith;
@@ -40,7 +43,7 @@ module _ (text : List ℕ) (status : Status) (before room : List ℕ) (size : �
   pub reports_longer : length before < length text → room ≡ before → ReportsText 2
   reports_longer longer same =
       let as_long : length room ≡ length before = ap (λ (xs : List ℕ). length xs) same in record {
-        reported = λ s e. let low = low_number s in absurd (omega arith);
+        answer = λ s e. let low = low_number s in absurd (omega arith);
         longer = λ e. (record { text = text; status = status }, refl, long, omega arith);
         none = λ e. absurd (omega arith);
         known = omega arith;
@@ -52,30 +55,22 @@ module _ (text : List ℕ) (status : Status) (before room : List ℕ) (size : �
 -- ---- an end without one, which leaves the room as it was
 
 module _ (Out : Option Output → Type 0) (room : List ℕ) (size : ℕ) where
-  reports_too_long : Out None → Returns Out room room size 4
-  reports_too_long none = record {
-    reported = λ s e. let low = low_number s in absurd (omega arith);
+  reports_none : (number : ℕ) → 2 < number → number < 5 → (number ≡ 4 → Out None) → Returns Out room room size number
+  reports_none number more known none = record {
+    answer = λ s e. let low = low_number s in absurd (omega arith);
     longer = λ e. absurd (omega arith);
-    none = λ e. none;
-    known = omega arith;
+    none = none;
+    known = known;
     behind = λ e. refl;
     same = λ e. refl;
     as_long = refl;
   }
 
   reports_nothing : Returns Out room room size 3
-  reports_nothing = record {
-    reported = λ s e. let low = low_number s in absurd (omega arith);
-    longer = λ e. absurd (omega arith);
-    none = λ e. absurd (omega arith);
-    known = omega arith;
-    behind = λ e. refl;
-    same = λ e. refl;
-    as_long = refl;
-  }
+  reports_nothing = reports_none 3 (omega arith) (omega arith) (λ e. absurd (omega arith))
 
   by_fault : (why : ToolFault) → (why ≡ TooLong → Out None) → Returns Out room room size (number_of_fault why)
-  by_fault TooLong long = reports_too_long (long refl)
+  by_fault TooLong long = reports_none 4 (omega arith) (omega arith) (λ e. long refl)
   by_fault Memory long = reports_nothing
   by_fault Read long = reports_nothing
   by_fault (Write written) long = reports_nothing
@@ -88,7 +83,7 @@ module _ (Out : Option Output → Type 0) (room : List ℕ) (size : ℕ) where
 module _ (A B : Option Output → Type 0) (to : (o : Option Output) → A o → B o) (before room : List ℕ) (size number : ℕ) where
   pub reports_by : Returns A before room size number → Returns B before room size number
   reports_by t = record {
-    reported = λ status is. let x = t.reported status is in (x.0, to (Some x.0) x.1, x.2, x.3, x.4);
+    answer = λ status is. let x = t.answer status is in (x.0, to (Some x.0) x.1, x.2, x.3, x.4);
     longer = λ is. let x = t.longer is in (x.0, to (Some x.0) x.1, x.2, x.3);
     none = λ is. to None (t.none is);
     known = t.known;
@@ -117,30 +112,32 @@ module _ (Out : Option Output → Type 0) (was items : List ℕ) (empty : was �
   pub reports_ended : (r : Result Status ToolFault) (before room : List ℕ) (size number : ℕ) → EndsCounting Out (Appends (Some was) (Some items)) r → Returns (IsWritten items r) before room size number → Returns Out before room size number
   reports_ended r before room size number ends = reports_by (IsWritten items r) Out (written r ends) before room size number
 
--- what is returned for a request is returned for the same request and bytes
-pub asked_reported : (F : Request → List ℕ → List ℕ → Option Output → Type 0) (asked request : Request) (task b plan c before room : List ℕ) (size number : ℕ)
-    → asked ≡ request → task ≡ b → plan ≡ c → Returns (F asked task plan) before room size number → Returns (F request b c) before room size number
-asked_reported F asked request task b plan c before room size number is same_task same_plan t =
-    subst (λ (r : Request). Returns (F r b c) before room size number) is
-    (subst (λ (xs : List ℕ). Returns (F asked xs c) before room size number) same_task (subst (λ (xs : List ℕ). Returns (F asked task xs) before room size number) same_plan t))
+-- what is returned for a call is returned for its request and its bytes
+pub asked_reported : (call : Call) (detail : Detail) (request : Request) (b c before room : List ℕ) (size number : ℕ) → call.request ≡ request → call.detail ≡ detail → call.task.now ≡ b → call.plan.now ≡ c
+    → Returns (OutBy call.detail call.request call.task.now call.plan.now) before room size number → Returns (OutBy detail request b c) before room size number
+asked_reported call detail request b c before room size number is as_much same_task same_plan t =
+    subst (λ (r : Request). Returns (OutBy detail r b c) before room size number) is
+    (subst (λ (d : Detail). Returns (OutBy d call.request b c) before room size number) as_much
+    (subst (λ (xs : List ℕ). Returns (OutBy call.detail call.request xs c) before room size number) same_task
+    (subst (λ (xs : List ℕ). Returns (OutBy call.detail call.request call.task.now xs) before room size number) same_plan t)))
 
 -- ---- whether a plan solves a task
 
 pub headline_reported : (Verdict : Parts → PlanParts → Output → Type 0) (refused : Parts → LayerFault → Option Output) → ReportsValid Verdict → Refuses refused → (b c before room : List ℕ) (size number : ℕ) → Returns (PlanOutBy Verdict refused b c) before room size number → ReturnsHeadline b c room size number
 headline_reported Verdict refused reports refuses b c before room size number t = λ status is.
-    let x = t.reported status is in
+    let x = t.answer status is in
     subst (λ (text : List ℕ). Headline b c (λ line. text ≡ line) status) (sym x.4) (headline_of Verdict refused reports refuses b c x.0 x.1 (Some []) (Some (x.0).text) [] status refl (sym x.2) refl)
 
 -- the same with reasons
 pub headline_why_reported : (b c before room : List ℕ) (size number : ℕ) → Returns (OutWhy Plan b c) before room size number → ReturnsHeadline b c room size number
 headline_why_reported b c before room size number t = λ status is.
-    let x = t.reported status is in
+    let x = t.answer status is in
     subst (λ (text : List ℕ). Headline b c (λ line. text ≡ line) status) (sym x.4) (headline_why b c x.0 x.1 (Some []) (Some (x.0).text) [] status refl (sym x.2) refl)
 
 -- the same behind a trace
 pub last_line_reported : (b c before room : List ℕ) (size number : ℕ) → Returns (TraceOut b c) before room size number → ReturnsLastLine b c room size number
 last_line_reported b c before room size number t = λ status is.
-    let x = t.reported status is in
+    let x = t.answer status is in
     subst (λ (text : List ℕ). Headline b c (EndsInLine text) status) (sym x.4) (subst (λ (s : Status). Headline b c (EndsInLine (x.0).text) s) x.2 (traced_headline b c x.0 x.1))
 
 -- ---- a plan of a task that is held
@@ -168,13 +165,13 @@ module _ (b c before room : List ℕ) (size number : ℕ) (held : Option Prepare
 
 pub invariants_reported : (IsAnswer : Parts → Output → Type 0) → ReportsGroups IsAnswer → (b before room : List ℕ) (size number : ℕ) → Returns (FileOut task_format (codes "task") IsAnswer b) before room size number → ReturnsInvariants b room size number
 invariants_reported IsAnswer reports b before room size number t = λ status is.
-    let x = t.reported status is in
+    let x = t.answer status is in
     subst (λ (text : List ℕ). Invariants b (λ out. text ≡ out)) (sym x.4) (invariants_of IsAnswer reports b x.0 x.1 (Some []) (Some (x.0).text) [] refl refl)
 
 -- the same with reasons
 pub invariants_why_reported : (b c before room : List ℕ) (size number : ℕ) → Returns (OutWhy Mutex b c) before room size number → ReturnsInvariants b room size number
 invariants_why_reported b c before room size number t = λ status is.
-    let x = t.reported status is in
+    let x = t.answer status is in
     subst (λ (text : List ℕ). Invariants b (λ out. text ≡ out)) (sym x.4) (invariants_why b c x.0 x.1 (Some []) (Some (x.0).text) [] refl refl)
 
 -- ---- a task that was opened
@@ -182,7 +179,7 @@ invariants_why_reported b c before room size number t = λ status is.
 -- what isn't yes is never returned as yes
 pub never_yes : (o : Output) (before room : List ℕ) (size number : ℕ) → o.status ≡ No → Returns (λ x. x ≡ Some o) before room size number → number ≡ 0 → ⊥
 never_yes o before room size number refused t zero =
-    let x = t.reported Yes zero in
+    let x = t.answer Yes zero in
     let same : x.0 ≡ o = cc in
     let wrong : number_of_status No ≡ number_of_status Yes = ap number_of_status (sym refused ∙ ap (λ (y : Output). y.status) (sym same) ∙ x.2) in
     omega arith

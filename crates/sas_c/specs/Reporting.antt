@@ -25,7 +25,7 @@ number_of_fault (Write written) = 3
 pub record Returns (Out : Option Output → Type 0) (before room : List ℕ) (size number : ℕ)
     : Type 0 where
   -- 0 and 1: the output's text is at the front of the room, and the number is its status
-  pub reported : (status : Status) → number ≡ number_of_status status → (output : Output)
+  pub answer : (status : Status) → number ≡ number_of_status status → (output : Output)
       × Out (Some output)
       × (output.status ≡ status)
       × (size ≡ length output.text)

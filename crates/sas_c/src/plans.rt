@@ -16,7 +16,7 @@ use crate::reporting::{report_ended, return_answer};
 use crate::sas_task::SasTask;
 use sas_lines::Watched;
 use sas_plans::judge_bytes;
-use sas_requests::{Request, explain_bytes, trace_bytes};
+use sas_requests::{Detail, Request, answer_bytes};
 use std::alloc::Global;
 
 /// Answers whether the plan solves the task that is held, as `sas_plan` does. It stays held.
@@ -119,7 +119,7 @@ fn judge(
     ensures same { prepared.new ≡ prepared.old }
 {
     match judge_bytes(alloc, &mut prepared.held, plan) {
-        Ok(reported) => return_answer(reported, room, size),
+        Ok(answer) => return_answer(answer, room, size),
         Err(fault) => number_without(fault),
     }
 }
@@ -137,7 +137,8 @@ fn explain(
         room.old room.new size.new result }
 {
     let mut text = Watched::new(Vec::new(alloc));
-    let ended = explain_bytes(alloc, prepared.held.layered(), plan, &mut text);
+    let detail = Detail::Reasons;
+    let ended = answer_bytes(alloc, detail, prepared.held.layered(), plan, &mut text);
     report_ended(ended, text, room, size)
 }
 
@@ -147,6 +148,7 @@ fn trace(alloc: Global, prepared: &Prepared, plan: &[u8], room: &mut [u8], size:
         room.old room.new size.new result }
 {
     let mut text = Watched::new(Vec::new(alloc));
-    let ended = trace_bytes(alloc, prepared.held.layered(), plan, &mut text);
+    let detail = Detail::Trace;
+    let ended = answer_bytes(alloc, detail, prepared.held.layered(), plan, &mut text);
     report_ended(ended, text, room, size)
 }

@@ -21,12 +21,12 @@ pub fn report(text: &[u8], status: Status, room: &mut [u8], size: &mut usize) ->
 }
 
 /// Writes an answer, and drops it.
-pub fn return_answer(reported: Answer, room: &mut [u8], size: &mut usize) -> u32
-    ensures { Returns (λ output. output ≡ Some (output_of reported))
+pub fn return_answer(answer: Answer, room: &mut [u8], size: &mut usize) -> u32
+    ensures { Returns (λ output. output ≡ Some (output_of answer))
         room.old room.new size.new result }
 {
-    let number = report(reported.text.as_slice(), reported.status, room, size);
-    drop(reported);
+    let number = report(answer.text.as_slice(), answer.status, room, size);
+    drop(answer);
     number
 }
 

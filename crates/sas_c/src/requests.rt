@@ -6,8 +6,8 @@ ghost use Rattle.sas_requests.specs.Why.{OutWhy};
 ghost use Rattle.sas_requests.specs.TraceOut.{TraceOut};
 ghost use Rattle.sas_c.specs.Reporting.{Returns, ReturnsHeadline, ReturnsInvariants, ReturnsLastLine};
 
-use crate::answering::{Asked, answer, answer_trace, answer_why};
-use sas_requests::Request;
+use crate::answering::{Call, answer_call};
+use sas_requests::{Detail, Request};
 use std::alloc::Global;
 
 /// Answers whether the plan solves the task.
@@ -22,7 +22,8 @@ pub extern "C" fn sas_plan(
     ensures answers { Returns (PlanOut task.now plan.now) room.old room.new size.new result }
     ensures headline { ReturnsHeadline task.now plan.now room.new size.new result }
 {
-    answer(alloc, Asked::new(Request::Plan, task, plan), room, size)
+    let call = Call::new(Request::Plan, Detail::Plain, task, plan);
+    answer_call(alloc, call, room, size)
 }
 
 /// Answers whether the task is layered.
@@ -30,7 +31,8 @@ pub extern "C" fn sas_plan(
 pub extern "C" fn sas_check(alloc: Global, task: &[u8], room: &mut [u8], size: &mut usize) -> u32
     ensures answers { Returns (CheckOut task.now) room.old room.new size.new result }
 {
-    answer(alloc, Asked::new(Request::Check, task, b""), room, size)
+    let call = Call::new(Request::Check, Detail::Plain, task, b"");
+    answer_call(alloc, call, room, size)
 }
 
 /// Answers which mutex groups of the task are exclusive.
@@ -39,7 +41,8 @@ pub extern "C" fn sas_mutex(alloc: Global, task: &[u8], room: &mut [u8], size: &
     ensures answers { Returns (MutexOut task.now) room.old room.new size.new result }
     ensures invariants { ReturnsInvariants task.now room.new size.new result }
 {
-    answer(alloc, Asked::new(Request::Mutex, task, b""), room, size)
+    let call = Call::new(Request::Mutex, Detail::Plain, task, b"");
+    answer_call(alloc, call, room, size)
 }
 
 /// Answers with the summary of the task.
@@ -47,7 +50,8 @@ pub extern "C" fn sas_mutex(alloc: Global, task: &[u8], room: &mut [u8], size: &
 pub extern "C" fn sas_show(alloc: Global, task: &[u8], room: &mut [u8], size: &mut usize) -> u32
     ensures answers { Returns (ShowOut task.now) room.old room.new size.new result }
 {
-    answer(alloc, Asked::new(Request::Show, task, b""), room, size)
+    let call = Call::new(Request::Show, Detail::Plain, task, b"");
+    answer_call(alloc, call, room, size)
 }
 
 /// Answers with the task, printed again.
@@ -55,7 +59,8 @@ pub extern "C" fn sas_show(alloc: Global, task: &[u8], room: &mut [u8], size: &m
 pub extern "C" fn sas_print(alloc: Global, task: &[u8], room: &mut [u8], size: &mut usize) -> u32
     ensures answers { Returns (PrintOut task.now) room.old room.new size.new result }
 {
-    answer(alloc, Asked::new(Request::Print, task, b""), room, size)
+    let call = Call::new(Request::Print, Detail::Plain, task, b"");
+    answer_call(alloc, call, room, size)
 }
 
 /// Answers with the steps of the plan and its cost, printed again.
@@ -63,7 +68,8 @@ pub extern "C" fn sas_print(alloc: Global, task: &[u8], room: &mut [u8], size: &
 pub extern "C" fn sas_steps(alloc: Global, plan: &[u8], room: &mut [u8], size: &mut usize) -> u32
     ensures answers { Returns (StepsOut plan.now) room.old room.new size.new result }
 {
-    answer(alloc, Asked::new(Request::Steps, b"", plan), room, size)
+    let call = Call::new(Request::Steps, Detail::Plain, b"", plan);
+    answer_call(alloc, call, room, size)
 }
 
 /// Answers whether the plan solves the task, with the reasons for a no.
@@ -79,7 +85,8 @@ pub extern "C" fn sas_plan_why(
         room.old room.new size.new result }
     ensures headline { ReturnsHeadline task.now plan.now room.new size.new result }
 {
-    answer_why(alloc, Asked::new(Request::Plan, task, plan), room, size)
+    let call = Call::new(Request::Plan, Detail::Reasons, task, plan);
+    answer_call(alloc, call, room, size)
 }
 
 /// Answers whether the task is layered, with the reasons for a no.
@@ -92,7 +99,8 @@ pub extern "C" fn sas_check_why(
 ) -> u32
     ensures answers { Returns (OutWhy Request.Check task.now []) room.old room.new size.new result }
 {
-    answer_why(alloc, Asked::new(Request::Check, task, b""), room, size)
+    let call = Call::new(Request::Check, Detail::Reasons, task, b"");
+    answer_call(alloc, call, room, size)
 }
 
 /// Answers which mutex groups of the task are exclusive, with the reasons for a no.
@@ -106,7 +114,8 @@ pub extern "C" fn sas_mutex_why(
     ensures answers { Returns (OutWhy Request.Mutex task.now []) room.old room.new size.new result }
     ensures invariants { ReturnsInvariants task.now room.new size.new result }
 {
-    answer_why(alloc, Asked::new(Request::Mutex, task, b""), room, size)
+    let call = Call::new(Request::Mutex, Detail::Reasons, task, b"");
+    answer_call(alloc, call, room, size)
 }
 
 /// Answers whether the plan solves the task, with what its steps do in front.
@@ -121,5 +130,6 @@ pub extern "C" fn sas_trace(
     ensures answers { Returns (TraceOut task.now plan.now) room.old room.new size.new result }
     ensures headline { ReturnsLastLine task.now plan.now room.new size.new result }
 {
-    answer_trace(alloc, task, plan, room, size)
+    let call = Call::new(Request::Plan, Detail::Trace, task, plan);
+    answer_call(alloc, call, room, size)
 }

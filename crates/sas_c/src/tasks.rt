@@ -34,7 +34,7 @@ pub extern "C" fn sas_task_read(
     drop(before);
     match open_task(alloc, bytes) {
         Ok(Opening::Ready(held)) => hold(alloc, task, held, room, size),
-        Ok(Opening::Refused(reported)) => return_answer(reported, room, size),
+        Ok(Opening::Refused(answer)) => return_answer(answer, room, size),
         Err(fault) => number_without(fault),
     }
 }

@@ -1,6 +1,6 @@
 -- Properties of decimal notation.
 use Rattle.sas_lines.proofs.Imports.{◌≡◌, ℕ, zero, suc, ◌+◌, ◌*◌, ◌-◌, ◌/◌, ◌%◌, ◌<◌, ◌≤◌, ◌^◌, List, [], ◌∷◌, ◌++◌, length, get_or, take, refl, sym, ap, subst, ◌∙◌, arith, rules, inl, inr, decimal, digit_value, IsInRange, AllDigits, digits_value, IsNumeralModel, numerals_by_value, tells_digits, digits_value_short, digit_at, decimal_nonempty, length-decimal-le, first_decimal, digits_decimal}
-use Rattle.sas_lines.proofs.Imports.{digits_value-decimal, decimal-digits_value, decimal_digit, decimal_step, decimal_injective, length-take, take_all, take_at, take_more, get_or_at, length_push, cases_lt}
+use Rattle.sas_lines.proofs.Imports.{digits_more, digits_value_more, digits_value-decimal, decimal-digits_value, decimal_digit, decimal_step, decimal_injective, length-take, take_all, take_at, take_more, get_or_at, length_push, cases_lt}
 
 pub own : IsNumeralModel (AllDigits 10) (digits_value 10)
 own = numerals_by_value (AllDigits 10) tells_digits
@@ -83,3 +83,5 @@ put_together line tenth l e t low high small =
     let digit : 48 + v % 10 ≡ last = omega arith in
     let joined : decimal v ≡ decimal tenth ++ last ∷ [] = decimal_step v (omega arith) small ∙ rw (quotient, digit) refl in
     sym (take_all 20 line (omega arith)) ∙ take_more line 19 0 (omega arith) ∙ ap (λ (x : List ℕ). x ++ last ∷ []) e ∙ sym joined
+
+pub ruleset spelled = (is_not_empty, is_zero, is_digit, same_value, is_read, so_far_below, digit_in, put_together, digits_more, digits_value_more)

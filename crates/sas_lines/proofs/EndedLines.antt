@@ -1,6 +1,7 @@
 -- Any bytes are their lines, each with a line end, followed by the rest.
 use Rattle.sas_lines.proofs.Imports.{◌≡◌, ℕ, Bool, true, false, eqb, List, [], ◌∷◌, ◌++◌, refl, sym, ap, subst, ◌∙◌, append_assoc, ◌⊎◌, inl, inr, if◌then◌else◌, ◌==◌, eqb-true}
 use Rattle.sas_lines.specs.Parts.{parts, onto_first}
+use Rattle.sas_lines.proofs.Separated.{parts-some}
 use Rattle.sas_lines.specs.Lines.{without_return, lines_among, rest_among, lines, unfinished, EndedLines}
 
 -- ---- parts, joined again
@@ -16,37 +17,18 @@ join-onto_first separator byte [] = refl
 join-onto_first separator byte (p ∷ []) = refl
 join-onto_first separator byte (p ∷ q ∷ ps) = refl
 
-record Some (ps : List (List ℕ)) : Type 0 where
-  first : List ℕ
-  others : List (List ℕ)
-  are : ps ≡ first ∷ others
-
-some_onto : (byte : ℕ) (ps : List (List ℕ)) → Some (onto_first byte ps)
-some_onto byte [] = record { first = byte ∷ []; others = []; are = refl }
-some_onto byte (p ∷ ps) = record { first = byte ∷ p; others = ps; are = refl }
-
-some_by : (t : Bool) (byte : ℕ) (ps : List (List ℕ)) → Some (if t then [] ∷ ps else onto_first byte ps)
-some_by true byte ps = record { first = []; others = ps; are = refl }
-some_by false byte ps = some_onto byte ps
-
-some_parts : (separator : ℕ) (bytes : List ℕ) → Some (parts separator bytes)
-unfolding parts
-some_parts separator [] = record { first = []; others = []; are = refl }
-some_parts separator (b ∷ bytes) = some_by (b == separator) b (parts separator bytes)
-
-join-none : (separator : ℕ) (ps : List (List ℕ)) → Some ps → join separator ([] ∷ ps) ≡ separator ∷ join separator ps
+join_by : (t : Bool) (separator byte : ℕ) (p : List ℕ) (ps : List (List ℕ)) → eqb byte separator ≡ t → join separator (if t then [] ∷ p ∷ ps else onto_first byte (p ∷ ps)) ≡ byte ∷ join separator (p ∷ ps)
 unfolding join
-join-none separator [] s = absurd (let e = s.are in cc)
-join-none separator (p ∷ ps) s = refl
-
-join_by : (t : Bool) (separator byte : ℕ) (ps : List (List ℕ)) → eqb byte separator ≡ t → Some ps → join separator (if t then [] ∷ ps else onto_first byte ps) ≡ byte ∷ join separator ps
-join_by true separator byte ps e s = join-none separator ps s ∙ ap (λ (x : ℕ). x ∷ join separator ps) (sym (eqb-true byte separator e))
-join_by false separator byte ps e s = join-onto_first separator byte ps
+join_by true separator byte p ps e = ap (λ (x : ℕ). x ∷ join separator (p ∷ ps)) (sym (eqb-true byte separator e))
+join_by false separator byte p ps e = join-onto_first separator byte (p ∷ ps)
 
 join-parts : (separator : ℕ) (bytes : List ℕ) → join separator (parts separator bytes) ≡ bytes
 unfolding parts join
 join-parts separator [] = refl
-join-parts separator (b ∷ bytes) = join_by (b == separator) separator b (parts separator bytes) refl (some_parts separator bytes) ∙ ap (λ (x : List ℕ). b ∷ x) (join-parts separator bytes)
+join-parts separator (b ∷ bytes) =
+    let s = parts-some separator bytes in
+    ap (λ (ps : List (List ℕ)). join separator (if b == separator then [] ∷ ps else onto_first b ps)) s.are ∙ join_by (b == separator) separator b s.first s.others refl
+    ∙ ap (λ (x : List ℕ). b ∷ x) (ap (join separator) (sym s.are) ∙ join-parts separator bytes)
 
 -- ---- from bytes to lines with their ends
 

@@ -40,4 +40,4 @@ unfinished_of_end pending piece place h f = ap unfinished (up_to_end pending pie
 pub plain_line : (pending piece : List ℕ) (place : ℕ) → NoEnd pending → StandsFirst 10 piece place → NoEnd (without_return (pending ++ take place piece))
 plain_line pending piece place h f = Without-return 10 (pending ++ take place piece) (Without-append 10 pending (take place piece) h f.before)
 
-pub ruleset feeding = (begun, lines_of_part, unfinished_of_part, lines_of_end, unfinished_of_end, plain_line, Without-append)
+pub ruleset feeding = (begun, takes_line, lines_of_part, unfinished_of_part, lines_of_end, unfinished_of_end, plain_line, Without-append)

@@ -1,5 +1,5 @@
 -- What the proofs use of other crates.
-pub use Rattle.std.proofs.Common.{◌≡◌, ℕ, List, [], ◌∷◌, ◌++◌, length, flat_map, take, ◌≤◌, refl, ap, ◌∙◌, ◌+◌, ◌/◌, ◌%◌, ◌<◌, set, append_assoc}
+pub use Rattle.std.proofs.Common.{◌≡◌, ◌⊎◌, inl, inr, ℕ, List, [], ◌∷◌, ◌++◌, length, flat_map, take, ◌≤◌, refl, ap, ◌∙◌, ◌+◌, ◌/◌, ◌%◌, ◌<◌, set, append_assoc}
 pub use Rattle.std.proofs.Common.{length-append, arith, sym, subst, Option, Some, None, zero, suc, ◌-◌, get_or, IsTrue, not, ◌==◌, if◌then◌else◌}
 pub use Rattle.std.proofs.Common.{codes, slice_get, append-nil, true, false, ◌^◌, drop, min, Bool, Result, Ok, Err, ◌↔◌, bytes_eq, take_at, map}
 pub use Rattle.std.proofs.Common.{replicate, rules, Bor}

@@ -1,5 +1,5 @@
 -- The bytes of a line of a rule are those of no other line.
-use Rattle.sas_output.proofs.Imports.{◌≡◌, ℕ, ◌<◌, ◌^◌, true, false, List, [], ◌∷◌, ◌++◌, length, drop, get_or, refl, sym, ap, subst, ◌∙◌, arith, ◌==◌, not, bytes_eq, codes, AllByRecursion, list_all, and_parts, and_from, eq-eqb, false≢true, bytes_eq-Decides, unwrap_or, Fact, Parts, rule_at, value_name, parts, joined, NoSpace, words-first, same_first, NoSpace-decimal, own_decimal}
+use Rattle.sas_output.proofs.Imports.{◌≡◌, ◌⊎◌, inl, inr, ℕ, ◌<◌, ◌^◌, true, false, List, [], ◌∷◌, ◌++◌, length, drop, get_or, refl, sym, ap, subst, ◌∙◌, arith, ◌==◌, not, bytes_eq, codes, AllByRecursion, list_all, and_parts, and_from, eq-eqb, false≢true, bytes_eq-Decides, unwrap_or, Fact, Parts, rule_at, value_name, parts, joined, NoSpace, words-first, same_first, NoSpace-decimal, own_decimal}
 use Rattle.std.specs.Prelude.{decimal}
 use Rattle.sas_output.specs.Words.{line}
 use Rattle.sas_output.specs.declared.line.Line.{Line}
@@ -15,68 +15,47 @@ pub data IsOfRule : Line → Type 0 where
   Deriving : (rule : ℕ) → IsOfRule (RuleDerives rule)
   Requiring : (rule : ℕ) (fact : Fact) → IsOfRule (RuleRequires rule fact)
 
-pub rule_cases : (l : Line) → is_rule_line l ≡ true → IsOfRule l
-rule_cases (RuleDerives r) e = Deriving r
-rule_cases (RuleRequires r f) e = Requiring r f
-rule_cases (Step n) e = absurd cc
-rule_cases (SimilarOperator n) e = absurd cc
-rule_cases (Operator n) e = absurd cc
-rule_cases (NamedOperator n) e = absurd cc
-rule_cases (GoalFact n) e = absurd cc
-rule_cases (Requires f) e = absurd cc
-rule_cases (Actual f) e = absurd cc
-rule_cases SinceInitialState e = absurd cc
-rule_cases (SinceStep n) e = absurd cc
-rule_cases NoRuleDerives e = absurd cc
-rule_cases (ConflictingEffect o k) e = absurd cc
-rule_cases Metric e = absurd cc
-rule_cases (Steps n) e = absurd cc
-rule_cases (CostLines n) e = absurd cc
-rule_cases (CouldBe n o) e = absurd cc
-rule_cases (EffectSets o k) e = absurd cc
-rule_cases (Rule r) e = absurd cc
-rule_cases (ConditionRequires c f) e = absurd cc
-rule_cases (OldValue f) e = absurd cc
-rule_cases (DefaultValue f) e = absurd cc
-rule_cases (OnLayer n) e = absurd cc
-rule_cases (Derived f) e = absurd cc
-rule_cases (Holds f) e = absurd cc
-rule_cases (MayRemain f) e = absurd cc
-
 -- it differs from all others in its second letter, which is the sixth byte
 abbrev sixth : List ℕ → ℕ
 sixth bytes = get_or bytes 5 0
 
-other_byte : (byte : ℕ) → (byte == 117) ≡ false → byte ≡ 117 → ⊥
-other_byte byte not_so e = false≢true (sym not_so ∙ eq-eqb byte 117 e)
+record IsOther (l : Line) : Type 0 where
+  no_rule : is_rule_line l ≡ false
+  apart : (p : Parts) (steps : List (List ℕ)) → (sixth (line_bytes p steps l) == 117) ≡ false
 
-of_rule : (p : Parts) (steps : List (List ℕ)) (l : Line) → sixth (line_bytes p steps l) ≡ 117 → is_rule_line l ≡ true
-of_rule p steps (RuleDerives r) e = refl
-of_rule p steps (RuleRequires r f) e = refl
-of_rule p steps (Step n) e = absurd (other_byte _ refl e)
-of_rule p steps (SimilarOperator n) e = absurd (other_byte _ refl e)
-of_rule p steps (Operator n) e = absurd (other_byte _ refl e)
-of_rule p steps (NamedOperator n) e = absurd (other_byte _ refl e)
-of_rule p steps (GoalFact n) e = absurd (other_byte _ refl e)
-of_rule p steps (Requires f) e = absurd (other_byte _ refl e)
-of_rule p steps (Actual f) e = absurd (other_byte _ refl e)
-of_rule p steps SinceInitialState e = absurd (other_byte _ refl e)
-of_rule p steps (SinceStep n) e = absurd (other_byte _ refl e)
-of_rule p steps NoRuleDerives e = absurd (other_byte _ refl e)
-of_rule p steps (ConflictingEffect o k) e = absurd (other_byte _ refl e)
-of_rule p steps Metric e = absurd (other_byte _ refl e)
-of_rule p steps (Steps n) e = absurd (other_byte _ refl e)
-of_rule p steps (CostLines n) e = absurd (other_byte _ refl e)
-of_rule p steps (CouldBe n o) e = absurd (other_byte _ refl e)
-of_rule p steps (EffectSets o k) e = absurd (other_byte _ refl e)
-of_rule p steps (Rule r) e = absurd (other_byte _ refl e)
-of_rule p steps (ConditionRequires c f) e = absurd (other_byte _ refl e)
-of_rule p steps (OldValue f) e = absurd (other_byte _ refl e)
-of_rule p steps (DefaultValue f) e = absurd (other_byte _ refl e)
-of_rule p steps (OnLayer n) e = absurd (other_byte _ refl e)
-of_rule p steps (Derived f) e = absurd (other_byte _ refl e)
-of_rule p steps (Holds f) e = absurd (other_byte _ refl e)
-of_rule p steps (MayRemain f) e = absurd (other_byte _ refl e)
+tells : (l : Line) → IsOfRule l ⊎ IsOther l
+tells (RuleDerives r) = inl (Deriving r)
+tells (RuleRequires r f) = inl (Requiring r f)
+tells (Step n) = inr (record { no_rule = refl; apart = λ p steps. refl })
+tells (SimilarOperator n) = inr (record { no_rule = refl; apart = λ p steps. refl })
+tells (Operator n) = inr (record { no_rule = refl; apart = λ p steps. refl })
+tells (NamedOperator n) = inr (record { no_rule = refl; apart = λ p steps. refl })
+tells (GoalFact n) = inr (record { no_rule = refl; apart = λ p steps. refl })
+tells (Requires f) = inr (record { no_rule = refl; apart = λ p steps. refl })
+tells (Actual f) = inr (record { no_rule = refl; apart = λ p steps. refl })
+tells SinceInitialState = inr (record { no_rule = refl; apart = λ p steps. refl })
+tells (SinceStep n) = inr (record { no_rule = refl; apart = λ p steps. refl })
+tells NoRuleDerives = inr (record { no_rule = refl; apart = λ p steps. refl })
+tells (ConflictingEffect o k) = inr (record { no_rule = refl; apart = λ p steps. refl })
+tells Metric = inr (record { no_rule = refl; apart = λ p steps. refl })
+tells (Steps n) = inr (record { no_rule = refl; apart = λ p steps. refl })
+tells (CostLines n) = inr (record { no_rule = refl; apart = λ p steps. refl })
+tells (CouldBe n o) = inr (record { no_rule = refl; apart = λ p steps. refl })
+tells (EffectSets o k) = inr (record { no_rule = refl; apart = λ p steps. refl })
+tells (Rule r) = inr (record { no_rule = refl; apart = λ p steps. refl })
+tells (ConditionRequires c f) = inr (record { no_rule = refl; apart = λ p steps. refl })
+tells (OldValue f) = inr (record { no_rule = refl; apart = λ p steps. refl })
+tells (DefaultValue f) = inr (record { no_rule = refl; apart = λ p steps. refl })
+tells (OnLayer n) = inr (record { no_rule = refl; apart = λ p steps. refl })
+tells (Derived f) = inr (record { no_rule = refl; apart = λ p steps. refl })
+tells (Holds f) = inr (record { no_rule = refl; apart = λ p steps. refl })
+tells (MayRemain f) = inr (record { no_rule = refl; apart = λ p steps. refl })
+
+pub rule_cases : (l : Line) → is_rule_line l ≡ true → IsOfRule l
+rule_cases l e = elim (tells l) [ inl is ↦ is | inr other ↦ absurd (false≢true (sym other.no_rule ∙ e)) ]
+
+by_sixth : (p : Parts) (steps : List (List ℕ)) (l : Line) → sixth (line_bytes p steps l) ≡ 117 → IsOfRule l
+by_sixth p steps l e = elim (tells l) [ inl is ↦ is | inr other ↦ absurd (false≢true (sym (other.apart p steps) ∙ eq-eqb _ 117 e)) ]
 
 -- the line is given by its numbers
 abbrev line_of : List ℕ → Line
@@ -159,4 +138,4 @@ is_sixth p steps l (Requiring r f) = refl
 pub rule_lines_differ : RuleLinesDiffer
 rule_lines_differ p steps l other is small e =
     let its = rule_cases l is in
-    both_rules p steps l other its (rule_cases other (of_rule p steps other (sym (ap sixth e) ∙ is_sixth p steps l its))) small e
+    both_rules p steps l other its (by_sixth p steps other (sym (ap sixth e) ∙ is_sixth p steps l its)) small e

@@ -1,6 +1,7 @@
 -- How a text is written in pieces.
-use Rattle.std.specs.Prelude.{◌≡◌, ℕ, ◌+◌, ◌^◌, ◌<◌, List, ◌++◌, length, Option, Result, MatchResult, ⊤}
+use Rattle.std.specs.Prelude.{◌≡◌, ◌↔◌, ℕ, ◌+◌, ◌^◌, ◌<◌, List, ◌++◌, length, Option, Result, MatchResult, IsErr, IsTrue, ⊤}
 use Rattle.std.specs.Io.KnownBytes.{Appends}
+use Rattle.sas_lines.specs.Device.{Device}
 use Rattle.sas_lines.specs.declared.devices.Short.{Short}
 
 -- the bytes that are held, and how many were written before them
@@ -37,3 +38,11 @@ abbrev pub PutsOrBreaks : Option (List ℕ) → Option (List ℕ) → Piece → 
 PutsOrBreaks old new before after bytes result =
     MatchResult result (λ _. Puts old new before after bytes)
     (λ short. Breaks old new before bytes short)
+
+-- What a call promises that adds these bytes to a text on its way to a device. `contents` maps a
+-- device to the bytes that were written to it, where these are known.
+module _ {W : Type 0} (contents : W → Option (List ℕ)) where
+  pub record Adds (old new : Device W) (before after : Piece) (bytes : List ℕ)
+      (result : Result ⊤ Short) : Type 0 where
+    pub puts : PutsOrBreaks (contents old.device) (contents new.device) before after bytes result
+    pub note : IsErr result ↔ IsTrue new.failed

@@ -2,7 +2,7 @@
 ghost use Rattle.std.specs.Prelude.{◌≡◌, ◌↔◌, [], ◌∷◌, ◌++◌, false};
 ghost use Rattle.std.specs.Prelude.{IfOk, IfErr, IsErr, IsTrue, IsFalse, OnOk, flat_map};
 ghost use Rattle.std.specs.Io.KnownBytes.{Appends};
-ghost use Rattle.sas_output.specs.Pieces.{Breaks, CountsOn, PutsOrBreaks};
+ghost use Rattle.sas_output.specs.Pieces.{Adds, Breaks, CountsOn};
 ghost use Rattle.sas_output.specs.Words.{numbered_line, words_line};
 
 use crate::placing::{place, place_line, place_numbered};
@@ -52,10 +52,7 @@ impl Pieces {
     /// longer than a piece, they are then written themselves, without a copy. Not to be called after a failure.
     pub(crate) fn push<W: Write>(&mut self, out: &mut Watched<W>, bytes: &[u8]) -> Result<(), Short>
         requires { out.old.failed ≡ false }
-        ensures puts { PutsOrBreaks (W.contents out.old.device) (W.contents out.new.device)
-            self.old self.new
-            bytes.now result }
-        ensures note { IsErr result ↔ IsTrue out.new.failed }
+        ensures { Adds W.contents out.old out.new self.old self.new bytes.now result }
     {
         if self.hold(bytes) {
             return Ok(());
@@ -74,10 +71,8 @@ impl Pieces {
         parts: &[&[u8]],
     ) -> Result<(), Short>
         requires { out.old.failed ≡ false }
-        ensures puts { PutsOrBreaks (W.contents out.old.device) (W.contents out.new.device)
-            self.old self.new
+        ensures { Adds W.contents out.old out.new self.old self.new
             (flat_map (λ part. part.now) parts.now) result }
-        ensures note { IsErr result ↔ IsTrue out.new.failed }
     {
         for part in parts {
             self.push(out, part)?;
@@ -88,11 +83,8 @@ impl Pieces {
     /// Writes what is held. Not to be called after a failure.
     pub(crate) fn flush<W: Write>(&mut self, out: &mut Watched<W>) -> Result<(), Short>
         requires { out.old.failed ≡ false }
-        ensures puts { PutsOrBreaks (W.contents out.old.device) (W.contents out.new.device)
-            self.old self.new
-            [] result }
+        ensures adds { Adds W.contents out.old out.new self.old self.new [] result }
         ensures empty { OnOk result (self.new.held ≡ []) }
-        ensures note { IsErr result ↔ IsTrue out.new.failed }
     {
         self.written = send(self.written, out, &self.piece.as_slice()[..self.end])?;
         self.end = 0;
@@ -105,13 +97,11 @@ impl Pieces {
         ensures no { IsFalse result → self.new ≡ self.old }
         ensures written { self.new.written ≡ self.old.written }
     {
-        match place(self.piece.as_mut_slice(), self.end, bytes) {
-            Some(end) => {
-                self.end = end;
-                true
-            }
-            None => false,
-        }
+        let Some(end) = place(self.piece.as_mut_slice(), self.end, bytes) else {
+            return false;
+        };
+        self.end = end;
+        true
     }
 
     /// Holds the line and its end, LF, if there is room for them. Returns whether there is.
@@ -122,13 +112,11 @@ impl Pieces {
         ensures no { IsFalse result → self.new ≡ self.old }
         ensures written { self.new.written ≡ self.old.written }
     {
-        match place_line(self.piece.as_mut_slice(), self.end, line) {
-            Some(end) => {
-                self.end = end;
-                true
-            }
-            None => false,
-        }
+        let Some(end) = place_line(self.piece.as_mut_slice(), self.end, line) else {
+            return false;
+        };
+        self.end = end;
+        true
     }
 
     /// `hold_line` for a line of a word, three numbers and a name.
@@ -139,23 +127,18 @@ impl Pieces {
         ensures no { IsFalse result → self.new ≡ self.old }
         ensures written { self.new.written ≡ self.old.written }
     {
-        match place_numbered(self.piece.as_mut_slice(), self.end, line) {
-            Some(end) => {
-                self.end = end;
-                true
-            }
-            None => false,
-        }
+        let Some(end) = place_numbered(self.piece.as_mut_slice(), self.end, line) else {
+            return false;
+        };
+        self.end = end;
+        true
     }
 
     /// Writes the bytes, with nothing held before them.
     fn pass<W: Write>(&mut self, out: &mut Watched<W>, bytes: &[u8]) -> Result<(), Short>
         requires out { out.old.failed ≡ false }
         requires empty { self.old.held ≡ [] }
-        ensures puts { PutsOrBreaks (W.contents out.old.device) (W.contents out.new.device)
-            self.old self.new
-            bytes.now result }
-        ensures note { IsErr result ↔ IsTrue out.new.failed }
+        ensures { Adds W.contents out.old out.new self.old self.new bytes.now result }
     {
         self.written = send(self.written, out, bytes)?;
         Ok(())

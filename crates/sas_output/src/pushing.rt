@@ -79,14 +79,25 @@ fn push_rest<W: Write>(sink: &mut Sink<'_, W>, named: &Named<'_>, start: Start, 
     match rest {
         Rest::Nothing => push_words(sink, start, &[]),
         Rest::Number(number) => push_words(sink, start, &[Word::Number(number)]),
-        Rest::Sum(sum) => push_sum(sink, start, sum),
-        Rest::Metric => push_metric(sink, start, task),
+        Rest::Sum(sum) => {
+            let mut buffer = Buffer::new();
+            push_words(sink, start, &[Word::Text(buffer.format(sum).as_bytes())])
+        }
+        Rest::Metric => push_words(sink, start, &[Word::Number(u64::from(task.metric()))]),
         Rest::Step(step) => push_named(sink, start, step as u64, named.step_name(step)),
         Rest::Operator(operator) => {
             let name = operator_name(task, operator);
             push_named(sink, start, u64::from(operator), name)
         }
-        Rest::CouldBe(step, operator) => push_could_be(sink, start, step, operator),
+        Rest::CouldBe(step, operator) => {
+            let could_be = Word::Text(b"could also be operator");
+            let words = [
+                Word::Number(step as u64),
+                could_be,
+                Word::Number(operator as u64),
+            ];
+            push_words(sink, start, &words)
+        }
         Rest::OfFact(fact) => push_fact(sink, task, start, fact),
         Rest::OfPart(part) => push_part(sink, task, start, part),
     }
@@ -103,25 +114,6 @@ fn push_words<W: Write>(sink: &mut Sink<'_, W>, start: Start, words: &[Word<'_>]
         rest: words,
     };
     sink.push_line(line);
-}
-
-/// Adds the line of a sum, which may be larger than a `u64`, and its end.
-fn push_sum<W: Write>(sink: &mut Sink<'_, W>, start: Start, sum: u128)
-    ensures { Pushes W.contents sink.old sink.new
-        (line_with start (decimal sum ∷ []) ++ 10 ∷ []) }
-{
-    let mut buffer = Buffer::new();
-    let digits = buffer.format(sum).as_bytes();
-    push_words(sink, start, &[Word::Text(digits)])
-}
-
-/// Adds the line of the task's metric, and its end.
-fn push_metric<W: Write>(sink: &mut Sink<'_, W>, start: Start, task: &FlatTask)
-    ensures { Pushes W.contents sink.old sink.new
-        (line_with start (decimal (if task.now.metric then 1 else 0) ∷ []) ++ 10 ∷ []) }
-{
-    let metric = u64::from(task.metric());
-    push_words(sink, start, &[Word::Number(metric)])
 }
 
 /// Adds the line of a number and a name, and its end.
@@ -168,15 +160,4 @@ fn deed(task: &FlatTask, part: Part) -> (u64, &'static [u8], Fact)
         }
         Part::Requires(number, fact) => (u64::from(number), b"requires", fact),
     }
-}
-
-/// Adds the line of an operator that a step could also be, and its end.
-fn push_could_be<W: Write>(sink: &mut Sink<'_, W>, start: Start, step: usize, operator: u32)
-    ensures { Pushes W.contents sink.old sink.new
-        (line_with start (could_be_words step operator) ++ 10 ∷ []) }
-{
-    let could_be = Word::Text(b"could also be operator");
-    let operator = Word::Number(u64::from(operator));
-    let words = [Word::Number(step as u64), could_be, operator];
-    push_words(sink, start, &words)
 }

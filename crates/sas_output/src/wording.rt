@@ -15,28 +15,6 @@ pub struct Start {
     pub words: &'static [u8],
 }
 
-impl Start {
-    /// Returns that a line begins with two spaces and these words.
-    pub fn two(words: &'static [u8]) -> Start
-        ensures { result ≡ record { indent = Indent.Two; words = words.entry } }
-    {
-        Start {
-            indent: Indent::Two,
-            words,
-        }
-    }
-
-    /// Returns that a line begins with four spaces and these words.
-    pub fn four(words: &'static [u8]) -> Start
-        ensures { result ≡ record { indent = Indent.Four; words = words.entry } }
-    {
-        Start {
-            indent: Indent::Four,
-            words,
-        }
-    }
-}
-
 /// What follows the first words of a line.
 #[derive(Clone, Copy)]
 pub enum Rest {

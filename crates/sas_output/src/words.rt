@@ -1,8 +1,7 @@
 // Lines of words, as they go out.
-ghost use Rattle.std.specs.Prelude.{◌≡◌, ◌↔◌, false, [], ◌∷◌, ◌++◌, flat_map, replicate};
-ghost use Rattle.std.specs.Prelude.{IsErr, IsTrue, decimal};
-ghost use Rattle.sas_output.specs.Pieces.{PutsOrBreaks};
-ghost use Rattle.sas_output.specs.Words.{word_bytes, behind_space, numbered_line, spaces_of, words_line};
+ghost use Rattle.std.specs.Prelude.{◌≡◌, false, [], ◌∷◌, ◌++◌, flat_map, replicate};
+ghost use Rattle.sas_output.specs.Pieces.{Adds};
+ghost use Rattle.sas_output.specs.Words.{behind_space, numbered_line, spaces_of, words_line};
 
 use crate::pieces::Pieces;
 use itoa::Buffer;
@@ -67,10 +66,8 @@ impl Pieces {
         line: Numbered<'_>,
     ) -> Result<(), Short>
         requires { out.old.failed ≡ false }
-        ensures puts { PutsOrBreaks (W.contents out.old.device) (W.contents out.new.device)
-            self.old self.new
+        ensures { Adds W.contents out.old out.new self.old self.new
             (numbered_line line.entry ++ 10 ∷ []) result }
-        ensures note { IsErr result ↔ IsTrue out.new.failed }
     {
         if self.hold_numbered(line) {
             return Ok(());
@@ -81,10 +78,8 @@ impl Pieces {
     /// Adds the line and its end, one word after another, for a line at the end of a piece.
     fn push_each<W: Write>(&mut self, out: &mut Watched<W>, line: Numbered<'_>) -> Result<(), Short>
         requires { out.old.failed ≡ false }
-        ensures puts { PutsOrBreaks (W.contents out.old.device) (W.contents out.new.device)
-            self.old self.new
+        ensures { Adds W.contents out.old out.new self.old self.new
             (numbered_line line.entry ++ 10 ∷ []) result }
-        ensures note { IsErr result ↔ IsTrue out.new.failed }
     {
         let rest = [
             Word::Number(line.first),
@@ -108,10 +103,8 @@ impl Pieces {
         line: Words<'_>,
     ) -> Result<(), Short>
         requires { out.old.failed ≡ false }
-        ensures puts { PutsOrBreaks (W.contents out.old.device) (W.contents out.new.device)
-            self.old self.new
+        ensures { Adds W.contents out.old out.new self.old self.new
             (words_line line.entry ++ 10 ∷ []) result }
-        ensures note { IsErr result ↔ IsTrue out.new.failed }
     {
         if self.hold_line(line) {
             return Ok(());
@@ -122,10 +115,8 @@ impl Pieces {
     /// Adds the line and its end, one word after another. This is the slow way, for a line at the end of a piece.
     fn push_words<W: Write>(&mut self, out: &mut Watched<W>, line: Words<'_>) -> Result<(), Short>
         requires { out.old.failed ≡ false }
-        ensures puts { PutsOrBreaks (W.contents out.old.device) (W.contents out.new.device)
-            self.old self.new
+        ensures { Adds W.contents out.old out.new self.old self.new
             (words_line line.entry ++ 10 ∷ []) result }
-        ensures note { IsErr result ↔ IsTrue out.new.failed }
     {
         self.push(out, line.indent.spaces())?;
         self.push(out, line.first)?;
@@ -136,10 +127,8 @@ impl Pieces {
     /// Adds these words, with a space in front of each.
     fn push_rest<W: Write>(&mut self, out: &mut Watched<W>, words: &[Word<'_>]) -> Result<(), Short>
         requires { out.old.failed ≡ false }
-        ensures puts { PutsOrBreaks (W.contents out.old.device) (W.contents out.new.device)
-            self.old self.new
+        ensures { Adds W.contents out.old out.new self.old self.new
             (flat_map behind_space words.now) result }
-        ensures note { IsErr result ↔ IsTrue out.new.failed }
     {
         for word in words {
             self.push_word(out, *word)?;
@@ -150,28 +139,16 @@ impl Pieces {
     /// Adds a space and the word.
     fn push_word<W: Write>(&mut self, out: &mut Watched<W>, word: Word<'_>) -> Result<(), Short>
         requires { out.old.failed ≡ false }
-        ensures puts { PutsOrBreaks (W.contents out.old.device) (W.contents out.new.device)
-            self.old self.new
+        ensures { Adds W.contents out.old out.new self.old self.new
             (behind_space word.entry) result }
-        ensures note { IsErr result ↔ IsTrue out.new.failed }
     {
         match word {
             Word::Text(bytes) => self.push_behind_space(out, bytes),
-            Word::Number(number) => self.push_number(out, number),
+            Word::Number(number) => {
+                let mut buffer = Buffer::new();
+                self.push_behind_space(out, buffer.format(number).as_bytes())
+            }
         }
-    }
-
-    /// Adds a space and the number.
-    fn push_number<W: Write>(&mut self, out: &mut Watched<W>, number: u64) -> Result<(), Short>
-        requires { out.old.failed ≡ false }
-        ensures puts { PutsOrBreaks (W.contents out.old.device) (W.contents out.new.device)
-            self.old self.new
-            (32 ∷ decimal number) result }
-        ensures note { IsErr result ↔ IsTrue out.new.failed }
-    {
-        let mut buffer = Buffer::new();
-        let digits = buffer.format(number).as_bytes();
-        self.push_behind_space(out, digits)
     }
 
     /// Adds a space and the bytes.
@@ -181,10 +158,7 @@ impl Pieces {
         bytes: &[u8],
     ) -> Result<(), Short>
         requires { out.old.failed ≡ false }
-        ensures puts { PutsOrBreaks (W.contents out.old.device) (W.contents out.new.device)
-            self.old self.new
-            (32 ∷ bytes.now) result }
-        ensures note { IsErr result ↔ IsTrue out.new.failed }
+        ensures { Adds W.contents out.old out.new self.old self.new (32 ∷ bytes.now) result }
     {
         let parts: [&[u8]; 2] = [b" ", bytes];
         self.push_all(out, &parts)

@@ -18,3 +18,5 @@ pub ends_not : (line back : List ℕ) → pointwise nat_eq (drop (length line - 
 ends_not line back h rest e =
     let n : length line - length back ≡ length rest = omega (arith, ap length e, length-append rest back) in
     other_text _ _ (sym h) (ap (λ (k : ℕ). drop k line) n ∙ ap (drop (length rest)) e ∙ drop-append_seam rest back)
+
+pub ruleset fronts = (match_option, begins, begins_not, ends, ends_not)

@@ -1,19 +1,10 @@
 -- A step on the first line of some bytes.
-use Rattle.sas_plan_file.proofs.Imports.{◌≡◌, ◌⊎◌, inl, inr, ℕ, suc, ◌+◌, ◌<◌, ◌≤◌, List, [], ◌∷◌, ◌++◌, length, get_or, take, drop, refl, subst, Ok, sym, ap, ◌∙◌, append_assoc, length-append, arith, None, true, false, Bool, not, ◌&&◌, ◌==◌, codes, list_all, ne_eqb, length-take-le, get_or-take, take_at, take-append-drop, drop_more, drop_all, get_or-append, Nowhere, NoneBefore, Passes, is_byte2}
+use Rattle.sas_plan_file.proofs.Imports.{◌≡◌, ◌⊎◌, inl, inr, ℕ, suc, ◌+◌, ◌<◌, List, [], ◌∷◌, ◌++◌, length, get_or, take, drop, refl, subst, Ok, sym, ap, ◌∙◌, append_assoc, length-append, arith, None, true, false, Bool, not, ◌&&◌, ◌==◌, codes, list_all, ne_eqb, length-take-le, get_or-take, take_at, take-append-drop, get_or-append, Nowhere, NoneBefore, Passes, is_byte2}
 use Rattle.sas_plan_file.proofs.Imports.{is_plain, IsName, is_none-search, LineStandsFirst, stands_first, one_stands_first, AcceptsAhead, plain, return_stands_first, IsAllowed}
 use Rattle.sas_plan_file.specs.PlanFormat.{step, plan_line_bytes, plan_format, PlanLineFits}
 use Rattle.sas_plan_file.specs.PlanMachine.{plan_line_ok}
 use Rattle.sas_plan_file.specs.PlanLine.{EndsLine, StepStandsFirst}
 use Rattle.sas_plan_file.proofs.PlanGrammar.{plain-step}
-
--- the bytes between the first and the last byte
-pub between : (line : List ℕ) (n : ℕ) → length line ≡ n + 2 → get_or line 0 0 ≡ 40 → get_or line (n + 1) 0 ≡ 41 → line ≡ codes "(" ++ (take n (drop 1 line) ++ codes ")")
-between [] n l first last = absurd (omega arith)
-between (b ∷ rest) n l first last =
-    let in_two = sym (take-append-drop n rest) ∙ ap (λ (x : List ℕ). take n rest ++ x) (drop_more rest n 0 (omega (arith, l))) in
-    let end : drop (n + 1) rest ≡ [] = drop_all (n + 1) rest (omega (arith, l)) in
-    let close : get_or rest n 0 ≡ 41 = ap (λ (i : ℕ). get_or (b ∷ rest) i 0) (let e : suc n ≡ n + 1 = omega arith in e) ∙ last in
-    ap (λ (x : ℕ). x ∷ rest) first ∙ ap (λ (x : List ℕ). 40 ∷ x) in_two ∙ rw (close, end) refl
 
 -- there is no LF and no CR before the end of the line
 module _ (bytes : List ℕ) (end : ℕ) (first : NoneBefore (Passes (is_byte2 10 13) bytes) 0 (length bytes) end) where
@@ -60,9 +51,6 @@ module _ (bytes : List ℕ) (end : ℕ) (first : NoneBefore (Passes (is_byte2 10
 module _ (bytes name : List ℕ) (taken : ℕ) (h : StepStandsFirst bytes name taken) where
   line_bytes : List ℕ
   line_bytes = plan_line_bytes (step name)
-
-  pub taken_within : taken ≤ length bytes
-  taken_within = let t = h.first.taken in omega (arith, ap length t.3, length-append t.0 (10 ∷ t.1), t.4)
 
   -- the byte after the parentheses is LF
   pub bytes_of_line : taken ≡ length name + 2 + 1 → take taken bytes ≡ plan_line_bytes (step name) ++ 10 ∷ []

@@ -1,7 +1,7 @@
 -- The text of a plan, stored line by line.
 use Rattle.sas_plan_file.proofs.Imports.{◌≡◌, ℕ, true, List, [], ◌∷◌, ◌++◌, refl, sym, ap, ◌∙◌, IsTrue, ◌↔◌, flat_map-append, append-nil, CostKind, PlanParts, text, lines, Kind, lines_of, Reads, IsAllowed, IsRejected, Leads, Rejects, Follows}
 use Rattle.sas_plan_file.specs.declared.plan_text.PlanText.{PlanText}
-use Rattle.sas_plan_file.specs.PlanFormat.{step, cost, plan_line_bytes, plan_texts, plan_format, PlanLineFits}
+use Rattle.sas_plan_file.specs.PlanFormat.{PlanLine, step, cost, plan_line_bytes, plan_texts, plan_format, PlanLineFits}
 use Rattle.sas_plan_file.specs.PlanMachine.{PlanState, going, closed, plan_node, plan_next, plan_start, plan_line_ok, HasCostLine}
 use Rattle.sas_plan_file.specs.PlanText.{KeepsLines}
 use Rattle.sas_plan_file.proofs.PlanStanding.{closed_value, closed_is}
@@ -15,31 +15,21 @@ kept_text ls line old new o n = n ∙ ap (λ (x : List ℕ). x ++ (line ++ 10 �
 
 -- ---- one more line
 
-step_kept : (ls : List (List ℕ)) (p : PlanState) (m n : PlanText) (name line : List ℕ) → Leads plan_format PlanLineFits plan_node plan_start ls p → m.text.items ≡ text ls → (IsTrue m.closed ↔ HasCostLine p) → (IsTrue m.closed → ⊥) → IsAllowed plan_format PlanLineFits tt plan_line_ok (step name) → plan_line_bytes (step name) ≡ line
-    → n.text.items ≡ m.text.items ++ (line ++ 10 ∷ []) → n.closed ≡ m.closed → KeepsLines (ls ++ line ∷ []) n
-step_kept ls (going steps) m n name line h k c going_on t e same_text same_closed = record {
-  state = going (steps ++ name ∷ []);
-  leads = led_on ls steps (going (steps ++ name ∷ [])) (step name) line h t e refl;
+line_kept : (ls : List (List ℕ)) (p : PlanState) (m n : PlanText) (i : PlanLine) (line : List ℕ) → Leads plan_format PlanLineFits plan_node plan_start ls p → m.text.items ≡ text ls → (IsTrue m.closed ↔ HasCostLine p) → (IsTrue m.closed → ⊥) → IsAllowed plan_format PlanLineFits tt plan_line_ok i → plan_line_bytes i ≡ line
+    → n.text.items ≡ m.text.items ++ (line ++ 10 ∷ []) → ((steps : List (List ℕ)) → IsTrue n.closed ↔ HasCostLine (plan_next steps i)) → KeepsLines (ls ++ line ∷ []) n
+line_kept ls (going steps) m n i line h k c going_on t e same_text closes = record {
+  state = plan_next steps i;
+  leads = led_on ls steps (plan_next steps i) i line h t e refl;
   kept = kept_text ls line m.text.items n.text.items k same_text;
-  closed = (λ d. going_on (sym same_closed ∙ d), λ d. absurd d);
+  closed = closes steps;
 }
-step_kept ls (closed p) m n name line h k c going_on t e same_text same_closed = absurd (going_on (c.1 tt))
-
-cost_kept : (ls : List (List ℕ)) (p : PlanState) (m n : PlanText) (amount : ℕ) (kind : CostKind) (line : List ℕ) → Leads plan_format PlanLineFits plan_node plan_start ls p → m.text.items ≡ text ls → (IsTrue m.closed ↔ HasCostLine p) → (IsTrue m.closed → ⊥) → IsAllowed plan_format PlanLineFits tt plan_line_ok (cost amount kind) → plan_line_bytes (cost amount kind) ≡ line
-    → n.text.items ≡ m.text.items ++ (line ++ 10 ∷ []) → n.closed ≡ true → KeepsLines (ls ++ line ∷ []) n
-cost_kept ls (going steps) m n amount kind line h k c going_on t e same_text now_closed = record {
-  state = plan_next steps (cost amount kind);
-  leads = led_on ls steps (plan_next steps (cost amount kind)) (cost amount kind) line h t e refl;
-  kept = kept_text ls line m.text.items n.text.items k same_text;
-  closed = (λ d. tt, λ d. now_closed);
-}
-cost_kept ls (closed p) m n amount kind line h k c going_on t e same_text now_closed = absurd (going_on (c.1 tt))
+line_kept ls (closed p) m n i line h k c going_on t e same_text closes = absurd (going_on (c.1 tt))
 
 pub keeps_step : (ls : List (List ℕ)) (m n : PlanText) (name line : List ℕ) → KeepsLines ls m → (IsTrue m.closed → ⊥) → IsAllowed plan_format PlanLineFits tt plan_line_ok (step name) → plan_line_bytes (step name) ≡ line → n.text.items ≡ m.text.items ++ (line ++ 10 ∷ []) → n.closed ≡ m.closed → KeepsLines (ls ++ line ∷ []) n
-keeps_step ls m n name line h going_on t e same_text same_closed = step_kept ls h.state m n name line h.leads h.kept h.closed going_on t e same_text same_closed
+keeps_step ls m n name line h going_on t e same_text same_closed = line_kept ls h.state m n (step name) line h.leads h.kept h.closed going_on t e same_text (λ steps. (λ d. going_on (sym same_closed ∙ d), λ d. absurd d))
 
 pub keeps_cost : (ls : List (List ℕ)) (m n : PlanText) (amount : ℕ) (kind : CostKind) (line : List ℕ) → KeepsLines ls m → (IsTrue m.closed → ⊥) → IsAllowed plan_format PlanLineFits tt plan_line_ok (cost amount kind) → plan_line_bytes (cost amount kind) ≡ line → n.text.items ≡ m.text.items ++ (line ++ 10 ∷ []) → n.closed ≡ true → KeepsLines (ls ++ line ∷ []) n
-keeps_cost ls m n amount kind line h going_on t e same_text now_closed = cost_kept ls h.state m n amount kind line h.leads h.kept h.closed going_on t e same_text now_closed
+keeps_cost ls m n amount kind line h going_on t e same_text now_closed = line_kept ls h.state m n (cost amount kind) line h.leads h.kept h.closed going_on t e same_text (λ steps. (λ d. tt, λ d. now_closed))
 
 -- ---- it follows the grammar
 

@@ -22,3 +22,5 @@ pub cost_led : (before : List (List ℕ)) (p : PlanState) (steps : List (List �
 cost_led before p steps c n kind line v going_on h t e =
     let is : p ≡ going steps = sym v ∙ open_steps steps c (λ d. going_on (subst HasCostLine v d)) in
     led_on before steps _ (cost n kind) line (subst (Led before) is h) t e refl
+
+pub ruleset next_lines = (step_led, cost_led)

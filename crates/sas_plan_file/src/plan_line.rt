@@ -25,6 +25,7 @@ pub struct StepAhead<'a> {
 }
 
 /// Returns the rest of the line after `front`, or `None` if the line doesn't begin with `front`.
+#[tactic(auto, using(crate::proofs::Fronts::fronts))]
 fn behind<'a>(line: &'a [u8], front: &[u8]) -> Option<&'a [u8]>
     ensures { MatchOption result (BeginsWith front.now line.now → ⊥)
         (λ rest. line.now ≡ front.now ++ rest.now) }
@@ -33,6 +34,7 @@ fn behind<'a>(line: &'a [u8], front: &[u8]) -> Option<&'a [u8]>
 }
 
 /// Returns the line without `back` at its end, or `None` if the line doesn't end with `back`.
+#[tactic(auto, using(crate::proofs::Fronts::fronts))]
 fn before<'a>(line: &'a [u8], back: &[u8]) -> Option<&'a [u8]>
     ensures { MatchOption result
         ((rest : List ℕ) → line.now ≡ rest ++ back.now → ⊥)

@@ -129,6 +129,7 @@ impl<S: StepNames> Machine for PlanMachine<S> {
         self.cost.is_some()
     }
 
+    #[tactic(auto, using(crate::proofs::PlanSteps::next_lines))]
     fn accept(&mut self, line: &[u8]) -> Result<(), Kind> {
         match plan_line(line)? {
             PlanLine::Cost(cost, kind) => {

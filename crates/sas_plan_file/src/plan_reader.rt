@@ -1,5 +1,4 @@
 // Reads a plan file in pieces.
-ghost use Rattle.std.specs.Prelude.{◌≤◌};
 ghost use Rattle.sas_reader.specs.Limit.{most_bytes};
 ghost use Rattle.sas_reader.specs.Reading.{Starts, Feeds, Finishes};
 
@@ -21,16 +20,8 @@ impl PlanReader {
     pub fn new(alloc: Global) -> Self
         ensures { Starts plan_view most_bytes result }
     {
-        PlanReader::within(alloc, LIMIT)
-    }
-
-    /// Returns a reader that has read nothing yet and refuses more than `limit` bytes.
-    pub(crate) fn within(alloc: Global, limit: u64) -> Self
-        requires { limit ≤ most_bytes }
-        ensures { Starts plan_view limit result }
-    {
         PlanReader {
-            reader: Reader::new(alloc, PlanMachine::new(alloc), limit),
+            reader: Reader::new(alloc, PlanMachine::new(alloc), LIMIT),
         }
     }
 

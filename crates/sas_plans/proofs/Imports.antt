@@ -13,6 +13,7 @@ pub use Rattle.std.proofs.lemmas.List.Elements.{All-nil, All-cons, All-head, All
 pub use Rattle.std.proofs.lemmas.List.Elements.{Contains-append_right, Contains-append_left, Contains-push, recursion_from_All, All-get_or}
 pub use Rattle.std.proofs.lemmas.List.Elements.{All-from_get_or, Contains-get_or, All-map}
 pub use Rattle.std.proofs.lemmas.List.Sums.{AllPass-from_list_all, list_all-from_AllPass, count_by-le-length, sum_by-cons, sum_by_push}
+pub use Rattle.std.proofs.lemmas.Result.{err_from_is_err_and}
 pub use Rattle.std.proofs.lemmas.Option.{none-some, same_Some}
 pub use Rattle.std.proofs.lemmas.Slice.Zip.{length-zip, get_or-zip}
 pub use Rattle.std.specs.Fmt.{digits_onto, digit_glyph}

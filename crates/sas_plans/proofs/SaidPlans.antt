@@ -1,5 +1,7 @@
 -- What is said of one plan after another.
 use Rattle.sas_plans.proofs.Imports.{◌≡◌, ◌≢◌, ℕ, ◌+◌, ◌<◌, ◌≤◌, ◌⊎◌, List, [], ◌∷◌, ◌++◌, length, get_or, codes, decimal, append_assoc, append-nil, refl, sym, ap, subst, ◌∙◌, arith, inl, inr, Option, Some, None, Ok, Err, zip, flat_map, count_by, if◌then◌else◌, list_all, get_or-append, get_or-append_seam, cases_lt, length_push, count_by-le-length, flat_map-append, Parts, Status, Yes, No}
+use Rattle.std.proofs.Common.{length-append}
+use Rattle.std.proofs.lemmas.Bool.Decides.{eqb_tells}
 use Rattle.sas_plans.proofs.Imports.{ToolFault, IsDecided, IsWrite, VerdictAnswer, plan_format, VerdictOut, long_file, plan_worded}
 use Rattle.sas_output.specs.declared.ending.ToolFault.TheVariants as tool_fault
 use Rattle.sas_plans.specs.declared.inputs.InputFault.TheVariants.{NotOpened, Read, TooLong}
@@ -57,10 +59,7 @@ decided_long tool_fault.Read decided writes = absurd decided
 decided_long (tool_fault.Write n) decided writes = absurd (writes tt)
 
 same_or_not : (m n : ℕ) → (m ≡ n) ⊎ (m ≢ n)
-same_or_not m n = elim (cases_lt m n) [
-  | inl less ↦ inr (λ e. omega arith)
-  | inr from ↦ elim (cases_lt n m) [ inl more ↦ inr (λ e. omega arith) | inr back ↦ (let e : m ≡ n = omega arith in inl e) ]
-]
+same_or_not m n = elim (eqb_tells m n) [ inl same ↦ inl same.1 | inr other ↦ inr other.1 ]
 
 -- ---- one plan more
 
@@ -91,11 +90,7 @@ module _ (p : Parts) (known : ℕ → Option (List ℕ)) (labels : List (List �
   module _ (all : List Judged) (said : AreSaid p known labels (length labels) all) where
     place_of : (best : Option Best) → HasBest all best → IsPlace labels best
     place_of None h = tt
-    place_of (Some best) (judged, is, place) = omega (arith, said.many, place, ap (λ (x : List Judged). length x) is.whole, length_front is.front judged is.behind)
-      where
-        length_front : (front : List Judged) (j : Judged) (behind : List Judged) → length front < length (front ++ j ∷ behind)
-        length_front [] j behind = omega arith
-        length_front (x ∷ front) j behind = omega (arith, length_front front j behind)
+    place_of (Some best) (judged, is, place) = omega (arith, said.many, place, ap (λ (x : List Judged). length x) is.whole, length-append is.front (judged ∷ is.behind))
 
     best_of : (best : Best) (judged : Judged) (is : IsBest all judged best.cost) → length is.front ≡ best.number → judged.label ≡ get_or labels best.number []
     best_of best judged is place =

@@ -44,10 +44,8 @@ pub fn open_device<R: Read>(alloc: Global, device: &mut Watched<R>) -> Result<Op
     let read = match read_flat_task(alloc, device) {
         Ok(read) => read,
         Err(refusal) => {
-            return match refuse_file(alloc, "task", refusal.fault) {
-                Ok(reported) => Ok(Opening::Refused(reported)),
-                Err(why) => Err(why),
-            };
+            let answer = refuse_file(alloc, "task", refusal.fault)?;
+            return Ok(Opening::Refused(answer));
         }
     };
     match Layered::new(alloc, read) {

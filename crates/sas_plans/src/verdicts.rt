@@ -73,7 +73,7 @@ fn fault_of_plan(number: usize, fault: ToolFault) -> JudgeFault
     }
 }
 
-/// Reads a plan, and returns the verdict on it. The input is let go.
+/// Reads a plan, and returns the verdict on it. A plan file that is refused has a verdict, too. The input is let go.
 fn judge_input<P: Read + Drop>(
     alloc: Global,
     held: &mut Held<Worklist, FlatTask>,
@@ -83,24 +83,7 @@ fn judge_input<P: Read + Drop>(
     ensures same { held.new ≡ held.old }
 {
     let mut plan = Watched::new(input);
-    let verdict = judge_device(alloc, held, &mut plan);
-    drop(plan);
-    verdict
-}
-
-/// Reads a plan from a device, and returns the verdict on it. A plan file that is refused has a verdict, too. It returns `Read`
-/// exactly if the device has failed.
-fn judge_device<P: Read>(
-    alloc: Global,
-    held: &mut Held<Worklist, FlatTask>,
-    plan: &mut Watched<P>,
-) -> Result<Verdict, ToolFault>
-    requires { plan.old.failed ≡ false }
-    ensures judges { Judges held.old (P.remaining plan.old.device) result }
-    ensures reads { IsErrOf result ToolFault.Read ↔ IsTrue plan.new.failed }
-    ensures same { held.new ≡ held.old }
-{
-    match read_flat_plan(alloc, plan) {
+    match read_flat_plan(alloc, &mut plan) {
         Ok(read) => Ok(verdict_by(alloc, held, &read)?),
         Err(refusal) => refuse_plan(alloc, refusal.fault),
     }
@@ -113,13 +96,11 @@ fn refuse_plan(alloc: Global, fault: Fault) -> Result<Verdict, ToolFault>
     ensures read { IsErrOf result ToolFault.Read ↔ (fault.kind ≡ Kind.Read) }
     ensures writes { IfErr result (λ e. IsWrite e → ⊥) }
 {
-    match refuse_file(alloc, "plan", fault) {
-        Ok(reported) => Ok(Verdict {
-            line: reported.text,
-            cost: None,
-        }),
-        Err(why) => Err(why),
-    }
+    let answer = refuse_file(alloc, "plan", fault)?;
+    Ok(Verdict {
+        line: answer.text,
+        cost: None,
+    })
 }
 
 /// Returns the verdict on a plan that was read.

@@ -1,4 +1,6 @@
 -- How the output about one file goes out.
+use Rattle.std.proofs.Common.{arith}
+use Rattle.std.proofs.lemmas.Grind.{common_steps}
 use Rattle.sas_requests.proofs.Imports.{◌≡◌, ◌≢◌, ℕ, ◌<◌, Bool, true, false, IsTrue, List, [], length, take, refl, sym, ap, subst, ◌∙◌, inl, inr, ◌⊎◌, codes, Option, Some, None, Result, Ok, Err, nat_lt, IfErr, IsErrOf, IsSomeAnd, ◌↔◌, Consumes, IsAtEnd, Parts, PlanParts, first_fault, LayerFault, layer_checks, Device, Fault, Kind, TooLong, Read, Memory, Found, ReadsAll, ValueOf, Format, ReadsAs}
 use Rattle.sas_requests.proofs.Imports.{IsFoundOf, most_bytes, ConcernsText, AboutLaws, ExplainsRefusal, ReadsOrExplains, known_answer, known_fault, known_explained, PlanRefusal, plan_format, fault_of, found_of, nothing_else, ReadsPlan, less, is_less, task_format, IsTaskReason, TaskRefusal, fault_in, found_in, HasReason, ReadsTask, FileLine, task_reasons, plan_reasons, file_text, Status}
 use Rattle.sas_requests.proofs.Imports.{ToolFault, Output, Ends, EndsCounting, IsDecided, IsWrite, counting_ends, ends_counting_as, not_memory, refusal, IsAnswerOrRefusal, FileOut, ends_counting_by, refused_kind, too_long_else, reading_of_refusal, reported_fault, EndsFile}
@@ -18,9 +20,7 @@ pub written_unread : (r : Result Status ToolFault) → IfErr r IsWrite → IsErr
 written_unread r write is = subst (λ (x : Result Status ToolFault). IfErr x IsWrite) is write
 
 pub unread : (Q : Type 0) (r : Result Status ToolFault) → IfErr r (λ e. IsWrite e ⊎ ((e ≡ tool_fault.Memory) × Q)) → IsErrOf r tool_fault.Read → ⊥
-unread Q r starved is =
-    let why = subst (λ (x : Result Status ToolFault). IfErr x (λ e. IsWrite e ⊎ ((e ≡ tool_fault.Memory) × Q))) is starved in
-    elim why [ inl writes ↦ writes | inr memory ↦ (let apart : tool_fault.Read ≡ tool_fault.Memory = memory.0 in absurd cc) ]
+unread Q r starved is = grind (arith, common_steps)
 
 module _ (Sent : List ℕ → Type 0) where
   -- what ends with one output ends with another that follows from it
@@ -184,19 +184,10 @@ more_is false n h = not_true (nat_lt 64 n) (λ t. h.1 (is_less 64 n t))
 
 -- what a refusal says of a task, and of a plan
 task_refusal_shows : (r : TaskRefusal) (accepted : List (List ℕ)) (text : List ℕ) → IsFoundOf text r.found → IsTaskReason (r.fault).kind accepted text r.mark r.word → AreTaskReasons (r.fault).kind accepted text (task_refusal_lines r)
-task_refusal_shows r accepted text is reason = record {
-  mark = r.mark;
-  word = r.word;
-  reason = reason;
-  lines =
-      ap (λ (bytes : List ℕ). task_reasons (r.fault).kind r.mark r.word bytes (r.found).more) is.front
-      ∙ ap (λ (more : Bool). task_reasons (r.fault).kind r.mark r.word (take 64 text) more) (more_is (r.found).more (length text) is.longer);
-}
+task_refusal_shows r accepted text is reason = grind (arith, common_steps, more_is)
 
 plan_refusal_shows : (r : PlanRefusal) (accepted : List (List ℕ)) (text : List ℕ) → IsFoundOf text r.found → ArePlanReasons (r.fault).kind accepted text (plan_refusal_lines r)
-plan_refusal_shows r accepted text is =
-    ap (λ (bytes : List ℕ). plan_reasons (r.fault).kind bytes (r.found).more) is.front
-    ∙ ap (λ (more : Bool). plan_reasons (r.fault).kind (take 64 text) more) (more_is (r.found).more (length text) is.longer)
+plan_refusal_shows r accepted text is = grind (arith, common_steps, more_is)
 
 -- ---- task files and plan files
 

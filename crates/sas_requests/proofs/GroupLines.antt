@@ -1,9 +1,10 @@
 -- Each line behind that of a group is a reason; and what is left of the lines of groups when reasons are taken away.
-use Rattle.sas_requests.proofs.Imports.{map, ◌≡◌, ℕ, suc, ◌+◌, ◌<◌, List, [], ◌∷◌, ◌++◌, length, get_or, refl, ap, subst, ◌∙◌, arith, Bool, Option, Some, None, not, filter, if◌then◌else◌, AllByRecursion, option_map_or, Parts, WellRanged, text, lines, Plain, lines-text, all_map, Verdict, Exclusive, Derived, Initial, Broken, line_bytes, Reason, IsReasonIfAny, reason_at, Yes, group_line}
+use Rattle.sas_requests.proofs.Imports.{map, ◌≡◌, ℕ, suc, ◌+◌, ◌<◌, List, [], ◌∷◌, ◌++◌, length, get_or, refl, ap, subst, ◌∙◌, arith, Option, Some, None, not, filter, AllByRecursion, option_map_or, Parts, WellRanged, text, lines, Plain, lines-text, all_map, Verdict, Exclusive, Derived, Initial, Broken, line_bytes, Reason, IsReasonIfAny, reason_at, Yes, group_line}
 use Rattle.sas_requests.proofs.Imports.{verdict_lines_from, verdict_lines, groups_status, reason_lines, explained_group_lines, why_lines_from, why_lines, no_reason}
 use Rattle.sas_requests.specs.Why.{is_reason, without_reasons}
 use Rattle.sas_requests.proofs.ReasonLines.{IsReason, AreReasons, lines_report}
-use Rattle.sas_requests.proofs.PlainAnswers.{kept_first, plain_reported, plain_reason, group_reported}
+use Rattle.std.proofs.lemmas.List.Elements.{filter-append}
+use Rattle.sas_requests.proofs.PlainAnswers.{none_kept, kept_first, plain_reported, plain_reason, group_reported}
 
 all_both : {A : Type 0} (P : A → Type 0) (a b : List A) → AllByRecursion P a → AllByRecursion P b → AllByRecursion P (a ++ b)
 all_both P [] b h g = g
@@ -11,11 +12,8 @@ all_both P (first ∷ a) b h g = (h.0, all_both P a b h.1 g)
 
 -- lines of reasons go, whatever stands behind them
 reasons_gone : (reasons behind : List (List ℕ)) → AreReasons reasons → filter (λ line. not (is_reason line)) (reasons ++ behind) ≡ filter (λ line. not (is_reason line)) behind
-reasons_gone [] behind h = refl
-reasons_gone (first ∷ reasons) behind h =
-    let reports : IsReason first = h.0 in
-    let rest = filter (λ line. not (is_reason line)) (reasons ++ behind) in
-    ap (λ (b : Bool). if not b then first ∷ rest else rest) reports.reports ∙ reasons_gone reasons behind h.1
+reasons_gone reasons behind h =
+    filter-append (λ line. not (is_reason line)) reasons behind ∙ ap (λ (ls : List (List ℕ)). ls ++ filter (λ line. not (is_reason line)) behind) (none_kept reasons h)
 
 -- an exclusive group has no reason
 none_if_exclusive : (p : Parts) (group : ℕ) (found : Option Reason) → IsReasonIfAny p group Exclusive found → found ≡ None

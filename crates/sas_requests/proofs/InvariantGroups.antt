@@ -1,25 +1,17 @@
 -- A group that is reported as exclusive is an invariant of a task that the bytes are a text of.
-use Rattle.sas_requests.proofs.Imports.{◌≡◌, ℕ, suc, ◌+◌, ◌<◌, ◌^◌, List, [], ◌∷◌, ◌++◌, length, map, get_or, drop, codes, append_assoc, append-nil, true, ◌⊎◌, refl, sym, ap, subst, ◌∙◌, arith, Option, Some, None, Result, Ok, Err, inl, inr, AllByRecursion, Contains, Appends, append_cancel_left, Contains-append_cases, All-contains, All-cons, All-nil, Parts, first_fault, WellRanged, LayerFault}
-use Rattle.sas_requests.proofs.Imports.{IsLayered, layer_checks, checks_are_rules, contains_cases, contains_none, lines, text, Plain, lines-text, same_first, NoSpace-decimal, own_decimal, Fault, most_bytes, Reads, ReadsAs, plain_bytes, task_texts, task_format, Verdict, Exclusive, Derived, Initial, Broken, AreJointVerdicts, listed_invariants, Reason, reason_at, HasInvariant, Invariants}
-use Rattle.sas_requests.proofs.Imports.{verdict_words, group_line, verdict_lines_from, verdict_lines, layer_words, layers_line, layers_refusal, GroupsAnswer, LayeredGroupsAnswer, MutexAnswer, line_bytes, why_lines_from, why_lines, WhyGroupsAnswer, layer_reasons, why_refusal, WhyAnswer, WhyMutexAnswer, Output, word_of, refusal, refusal_line, IsAnswerOrRefusal, FileOut, sent_same, file_words}
+use Rattle.std.proofs.lemmas.Grind.{common_steps}
+use Rattle.sas_requests.proofs.Imports.{◌≡◌, ℕ, suc, ◌+◌, ◌<◌, ◌^◌, List, [], ◌∷◌, ◌++◌, length, map, get_or, drop, codes, append_assoc, append-nil, true, ◌⊎◌, refl, sym, ap, subst, ◌∙◌, arith, Option, Some, None, Result, Ok, Err, inl, inr, Contains, Appends, append_cancel_left, Contains-append_cases, Parts, first_fault, WellRanged, LayerFault}
+use Rattle.sas_requests.proofs.Imports.{IsLayered, layer_checks, checks_are_rules, contains_cases, contains_none, lines, text, same_first, NoSpace-decimal, own_decimal, Fault, most_bytes, Reads, ReadsAs, plain_bytes, task_texts, task_format, Verdict, Exclusive, Derived, Initial, Broken, AreJointVerdicts, listed_invariants, Reason, reason_at, HasInvariant, Invariants}
+use Rattle.sas_requests.proofs.Imports.{verdict_words, group_line, verdict_lines_from, layer_words, layers_line, layers_refusal, GroupsAnswer, LayeredGroupsAnswer, MutexAnswer, line_bytes, why_lines_from, why_lines, WhyGroupsAnswer, layer_reasons, why_refusal, WhyAnswer, WhyMutexAnswer, Output, word_of, refusal, refusal_line, IsAnswerOrRefusal, FileOut, sent_same, file_words}
 use Rattle.sas_requests.proofs.Imports.{file_plain, kind_plain, worded}
 use Rattle.std.specs.Fmt.{decimal}
 use Rattle.sas_requests.specs.Why.{is_reason}
 use Rattle.sas_requests.proofs.ReasonLines.{IsReason, AreReasons, lines_report}
 use Rattle.sas_requests.proofs.GroupLines.{any_shows, behind, lines_of_groups}
-use Rattle.sas_requests.proofs.PlainAnswers.{IsReported, plain_reported as plain_line, lines_of_first, layer_reported, group_reported}
-use Rattle.sas_requests.proofs.WhyAnswers.{why_is}
-
--- ---- the lines of verdicts
-
-lines_plain : (n : ℕ) (verdicts : List Verdict) → AllByRecursion Plain (verdict_lines_from n verdicts)
-lines_plain n [] = tt
-lines_plain n (v ∷ verdicts) = (plain_line (group_line n v) (group_reported n v), lines_plain (n + 1) verdicts)
+use Rattle.sas_requests.proofs.PlainAnswers.{IsReported, lines_of_first, layer_reported}
+use Rattle.sas_requests.proofs.WhyAnswers.{apart_at, why_is}
 
 -- ---- which line says that a group is exclusive
-
-apart_at : (i : ℕ) (a b : List ℕ) → get_or a i 0 < get_or b i 0 → a ≡ b → ⊥
-apart_at i a b less same = let e : get_or a i 0 ≡ get_or b i 0 = ap (λ (t : List ℕ). get_or t i 0) same in omega arith
 
 words_exclusive : (verdict : Verdict) → verdict_words verdict ≡ codes "exclusive" → verdict ≡ Exclusive
 words_exclusive Exclusive e = refl
@@ -35,10 +27,6 @@ same_line m n verdict few e =
     let here : decimal n ++ 32 ∷ verdict_words verdict ≡ decimal n ++ 32 ∷ codes "exclusive" = ap (λ (x : List ℕ). x ++ 32 ∷ verdict_words verdict) (sym first.0) ∙ behind in
     (own_decimal m n few first.0, words_exclusive verdict (ap (drop 1) (append_cancel_left (decimal n) (32 ∷ verdict_words verdict) (32 ∷ codes "exclusive") here)))
 
--- the only item of a list of one
-only_item : {A : Type 0} (x y : A) → Contains (x ∷ []) y → x ≡ y
-only_item x y h = All-contains (λ z. x ≡ z) (x ∷ []) y (All-cons (λ z. x ≡ z) x [] refl (All-nil (λ z. x ≡ z))) h
-
 -- if the line is one of those of the verdicts from place n on, the verdict of its group is that
 pub record IsSaid (n place : ℕ) (verdicts : List Verdict) : Type 0 where
   pub behind : ℕ
@@ -49,16 +37,6 @@ pub record IsSaid (n place : ℕ) (verdicts : List Verdict) : Type 0 where
 said_later : (n place : ℕ) (v : Verdict) (verdicts : List Verdict) → IsSaid (n + 1) place verdicts → IsSaid n place (v ∷ verdicts)
 said_later n place v verdicts s = record { behind = suc s.behind; is = omega (arith, s.is); below = omega (arith, s.below); exclusive = s.exclusive }
 
-line_said : (n place : ℕ) (verdicts : List Verdict) → n + length verdicts < 2 ^ 64 → Contains (verdict_lines_from n verdicts) (group_line place Exclusive) → IsSaid n place verdicts
-line_said n place [] few h = absurd (omega (arith, h.1))
-line_said n place (v ∷ verdicts) few h =
-    elim (Contains-append_cases (group_line n v ∷ []) (verdict_lines_from (n + 1) verdicts) (group_line place Exclusive) h) [
-      | inl here ↦
-          (let same = same_line n place v (omega arith) (only_item (group_line n v) (group_line place Exclusive) here) in
-          record { behind = 0; is = omega (arith, same.0); below = omega arith; exclusive = same.1 })
-      | inr later ↦ said_later n place v verdicts (line_said (n + 1) place verdicts (omega arith) later)
-    ]
-
 -- ---- which groups a text calls exclusive
 
 -- each line of the text that says that a group is exclusive is one of these verdicts
@@ -66,17 +44,6 @@ pub record ReportsVerdicts (p : Parts) (out : List ℕ) : Type 0 where
   pub verdicts : List Verdict
   pub are : AreJointVerdicts p verdicts
   pub said : (place : ℕ) → Contains (lines out) (group_line place Exclusive) → IsSaid 0 place verdicts
-
-plain_verdicts : (p : Parts) (o : Output) → WellRanged p → GroupsAnswer p o → ReportsVerdicts p o.text
-plain_verdicts p o ranged (verdicts, are, e) =
-    let few = ranged.groups.count in
-    let one_each = are.one_each in
-    let are_lines : lines o.text ≡ verdict_lines verdicts = ap (λ (x : Output). lines x.text) e ∙ lines-text (verdict_lines verdicts) (lines_plain 0 verdicts) in
-    record {
-      verdicts = verdicts;
-      are = are;
-      said = λ place has. line_said 0 place verdicts (omega arith) (subst (λ (ls : List (List ℕ)). Contains ls (group_line place Exclusive)) are_lines has);
-    }
 
 -- ---- a refusal has no such line
 
@@ -88,9 +55,7 @@ first_apart : (words : List ℕ) (place : ℕ) → codes "task refused: " ++ wor
 first_apart words place e = apart_at 0 (group_line place Exclusive) (codes "task refused: " ++ words) (omega arith) (sym e)
 
 reason_apart : (line : List ℕ) (place : ℕ) → IsReason line → line ≡ group_line place Exclusive → ⊥
-reason_apart line place reason e =
-    let reports : is_reason (group_line place Exclusive) ≡ true = subst (λ (l : List ℕ). is_reason l ≡ true) e reason.reports in
-    absurd cc
+reason_apart line place reason e = grind (arith, common_steps)
 
 pub reasons_apart : (reasons : List (List ℕ)) → AreReasons reasons → (place : ℕ) → Contains reasons (group_line place Exclusive) → ⊥
 reasons_apart [] are place has = contains_none (group_line place Exclusive) has
@@ -129,16 +94,28 @@ module _ (p : Parts) (ranged : WellRanged p) (reasons : List (Option Reason)) wh
         ]
       ]
 
-why_verdicts : (p : Parts) (o : Output) → WellRanged p → WhyGroupsAnswer p o → ReportsVerdicts p o.text
-why_verdicts p o ranged (verdicts, reasons, joint, are, e) =
+verdicts_said : (p : Parts) (out : List ℕ) (verdicts : List Verdict) (reasons : List (Option Reason)) → WellRanged p → AreJointVerdicts p verdicts → out ≡ text (why_lines p verdicts reasons) → ReportsVerdicts p out
+verdicts_said p out verdicts reasons ranged joint e =
     let few = ranged.groups.count in
     let one_each = joint.one_each in
-    let are_lines : lines o.text ≡ why_lines p verdicts reasons = ap (λ (x : Output). lines x.text) e ∙ lines_of_groups p ranged reasons verdicts in
+    let are_lines : lines out ≡ why_lines p verdicts reasons = ap (λ (bytes : List ℕ). lines bytes) e ∙ lines_of_groups p ranged reasons verdicts in
     record {
       verdicts = verdicts;
       are = joint;
       said = λ place has. why_said p ranged reasons 0 place verdicts (omega arith) (subst (λ (ls : List (List ℕ)). Contains ls (group_line place Exclusive)) are_lines has);
     }
+
+-- the lines of verdicts alone are those with no reason
+without_reason : (p : Parts) (n : ℕ) (verdicts : List Verdict) → verdict_lines_from n verdicts ≡ why_lines_from p [] n verdicts
+without_reason p n [] = refl
+without_reason p n (v ∷ verdicts) = ap (λ (ls : List (List ℕ)). group_line n v ∷ ls) (without_reason p (n + 1) verdicts)
+
+plain_verdicts : (p : Parts) (o : Output) → WellRanged p → GroupsAnswer p o → ReportsVerdicts p o.text
+plain_verdicts p o ranged (verdicts, are, e) =
+    verdicts_said p o.text verdicts [] ranged are (ap (λ (x : Output). x.text) e ∙ ap (λ (ls : List (List ℕ)). text ls) (without_reason p 0 verdicts))
+
+why_verdicts : (p : Parts) (o : Output) → WellRanged p → WhyGroupsAnswer p o → ReportsVerdicts p o.text
+why_verdicts p o ranged (verdicts, reasons, joint, are, e) = verdicts_said p o.text verdicts reasons ranged joint (ap (λ (x : Output). x.text) e)
 
 -- the refusal of a file
 file_says_none : (fault : Fault) (o : Output) → Some o ≡ refusal (codes "task") fault → SaysNone o.text

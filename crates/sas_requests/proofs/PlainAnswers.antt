@@ -1,4 +1,6 @@
 -- Lines that are no reasons: an answer of such lines stays as it is when reasons are taken away.
+use Rattle.std.proofs.Common.{arith}
+use Rattle.std.proofs.lemmas.Grind.{common_steps}
 use Rattle.sas_requests.proofs.Imports.{◌≡◌, ℕ, List, [], ◌∷◌, ◌++◌, codes, refl, sym, ap, ◌∙◌, Bool, false, Some, not, filter, if◌then◌else◌, decimal, AllByRecursion, LayerFault, text, lines, Plain, lines-text, Fault, IsPlain, plain, plain-decimal, plain_bytes, plain-append, all_map, Verdict, Exclusive, Derived, Initial, Broken, PlanFault, Output, layers_refusal, verdict_words, group_line}
 use Rattle.sas_requests.proofs.Imports.{layer_words, layers_line, fault_words, word_of, refusal, refusal_line, file_words, file_plain, kind_plain, layer_plain, invalid_plain, worded}
 use Rattle.std.proofs.lemmas.List.{append-nil}
@@ -19,15 +21,13 @@ pub record IsReportedText (bytes : List ℕ) : Type 0 where
   pub whole : bytes ≡ text reported
 
 pub kept_first : (first : List ℕ) (behind : List (List ℕ)) → IsReported first → filter (λ line. not (is_reason line)) (first ∷ behind) ≡ first ∷ filter (λ line. not (is_reason line)) behind
-kept_first first behind reported =
-    let rest = filter (λ line. not (is_reason line)) behind in
-    ap (λ (b : Bool). if not b then first ∷ rest else rest) reported.no_reason
+kept_first first behind reported = grind (arith, common_steps)
 
 all_kept : (reported : List (List ℕ)) → AllByRecursion IsReported reported → filter (λ line. not (is_reason line)) reported ≡ reported
 all_kept [] h = refl
 all_kept (first ∷ reported) h = kept_first first reported h.0 ∙ ap (λ (x : List (List ℕ)). first ∷ x) (all_kept reported h.1)
 
-none_kept : (reasons : List (List ℕ)) → AreReasons reasons → filter (λ line. not (is_reason line)) reasons ≡ []
+pub none_kept : (reasons : List (List ℕ)) → AreReasons reasons → filter (λ line. not (is_reason line)) reasons ≡ []
 none_kept [] h = refl
 none_kept (first ∷ reasons) h =
     let reports : IsReason first = h.0 in
@@ -54,11 +54,7 @@ lines_of_first line reasons reported are = lines-text (line ∷ reasons) (plain_
 
 -- and of these the first one stays
 pub first_stays : (line : List ℕ) (reasons : List (List ℕ)) → IsReported line → AreReasons reasons → without_reasons ((line ++ 10 ∷ []) ++ text reasons) ≡ line ++ 10 ∷ []
-first_stays line reasons reported are =
-    let read = lines_of_first line reasons reported are in
-    let one = kept_first line reasons reported ∙ ap (λ (x : List (List ℕ)). line ∷ x) (none_kept reasons are) in
-    ap (λ (ls : List (List ℕ)). text (filter (λ l. not (is_reason l)) ls)) read
-    ∙ (ap (λ (ls : List (List ℕ)). text ls) one ∙ append-nil (line ++ 10 ∷ []))
+first_stays line reasons reported are = grind (arith, common_steps, lines_of_first, kept_first, none_kept)
 
 -- ---- one line
 
@@ -106,20 +102,10 @@ verdict_plain Initial = plain_bytes (codes "not shown: initial state") refl
 verdict_plain (Broken operator) = plain-append (codes "not shown: operator ") (decimal operator) (plain_bytes (codes "not shown: operator ") refl) (plain-decimal operator)
 
 pub group_reported : (place : ℕ) (verdict : Verdict) → IsReported (group_line place verdict)
-group_reported place verdict = record {
-  plain =
-      plain-append (codes "group " ++ decimal place ++ codes " ") (verdict_words verdict)
-      (plain-append (codes "group " ++ decimal place) (codes " ")
-      (plain-append (codes "group ") (decimal place) (plain_bytes (codes "group ") refl) (plain-decimal place)) (plain_bytes (codes " ") refl))
-      (verdict_plain verdict);
-  no_reason = refl;
-}
+group_reported place verdict = grind (arith, common_steps, plain, plain-append, plain_bytes, plain-decimal, verdict_plain)
 
 -- ---- the verdict on a plan
 
 -- the verdict that says no, without the end of its line
 pub verdict_reported : (cost : ℕ) (fault : PlanFault) (w : List ℕ) → fault_words cost fault ≡ Some w → IsReported (codes "plan invalid: " ++ w)
-verdict_reported cost fault w e = record {
-  plain = invalid_plain cost fault w e;
-  no_reason = refl;
-}
+verdict_reported cost fault w e = grind (arith, common_steps, plain, invalid_plain)

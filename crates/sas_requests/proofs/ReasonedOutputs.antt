@@ -1,17 +1,17 @@
 -- The output with reasons behind refusals of files: it is the same answer as the one without, there is one, and always some; and
 -- what it says of plans and groups holds.
-use Rattle.sas_requests.proofs.Imports.{◌≡◌, ◌⊎◌, ℕ, ◌<◌, append-nil, List, [], ◌∷◌, ◌++◌, get_or, arith, codes, refl, sym, ap, subst, ◌∙◌, inl, inr, Option, Some, false, option_map, Appends, text, lines, Fault, IsPlain, plain_bytes, Exclusive, FileLine, file_lines, file_text, Status, Yes, No, Output, group_line, valid_line, with_reasons, why_refusal, WhyCheckAnswer, WhyMutexAnswer, one_why_check}
+use Rattle.sas_requests.proofs.Imports.{◌≡◌, ◌⊎◌, ℕ, append-nil, List, [], ◌∷◌, ◌++◌, arith, codes, refl, sym, ap, subst, ◌∙◌, inl, inr, Option, Some, false, option_map, Appends, lines, Fault, IsPlain, plain_bytes, Exclusive, FileLine, file_lines, file_text, Status, Yes, No, Output, group_line, valid_line, with_reasons, why_refusal, WhyCheckAnswer, WhyMutexAnswer, one_why_check}
 use Rattle.sas_requests.proofs.Imports.{some_why_check, one_why_mutex, some_why_mutex, WhyVerdict, Request, Plan, Mutex, Solves, Headline, Invariants, word_of, refusal, refusal_line, HasOneOutput, IsLong, IsSolved, IsOther, sent_same, headline_by, out_reported, out_solved, output_for, file_words, file_plain, kind_plain, worded}
 use Rattle.std.specs.Prelude.{Contains}
 use Rattle.sas_requests.specs.Why.{is_reason, without_reasons, OutOfRead, OutWhy, WithReasons, IsSameAnswer, SameAnswer}
 use Rattle.sas_requests.specs.FileReasons.{RefusalReasons}
 use Rattle.sas_requests.proofs.InvariantGroups.{SaysNone, line_says_none, why_groups, invariants_of}
-use Rattle.sas_requests.proofs.ReasonLines.{AreReasons, file_lines_report}
+use Rattle.sas_requests.proofs.ReasonLines.{file_lines_report}
 use Rattle.sas_requests.proofs.RefusalReasons.{no_reasons, none_of, some_of, IsFileRefusal, stand_behind}
 use Rattle.sas_requests.proofs.RefusalLaws.{HasOneList, reasons_of}
 use Rattle.sas_requests.proofs.SameAnswers.{same_of_read}
 use Rattle.sas_requests.proofs.PlainAnswers.{IsReported, stays, first_stays}
-use Rattle.sas_requests.proofs.WhyAnswers.{one_why_verdict, some_why_verdict, why_reports_valid, why_refuses}
+use Rattle.sas_requests.proofs.WhyAnswers.{apart_at, one_why_verdict, some_why_verdict, why_reports_valid, why_refuses}
 
 -- ---- one output, always some, and none only where an input is too long
 
@@ -49,9 +49,6 @@ pub record IsRefusalLine (o : Output) : Type 0 where
   pub no_plan : (behind : List ℕ) (steps cost : ℕ) → (line ++ 10 ∷ []) ++ behind ≡ valid_line steps cost → ⊥
   pub no_group : (place : ℕ) → line ≡ group_line place Exclusive → ⊥
 
-not_same : (m n : ℕ) → m < n → n ≡ m → ⊥
-not_same m n less same = omega arith
-
 file_line : (name : List ℕ) → IsPlain name → ((line : ℕ) (w : List ℕ) → is_reason (file_words name line w) ≡ false) → ((line : ℕ) (w behind : List ℕ) (steps cost : ℕ) → (file_words name line w ++ 10 ∷ []) ++ behind ≡ valid_line steps cost → ⊥)
     → ((line : ℕ) (w : List ℕ) (place : ℕ) → file_words name line w ≡ group_line place Exclusive → ⊥) → (fault : Fault) (o : Output) → Some o ≡ refusal name fault → IsRefusalLine o
 file_line name plain no_reason no_plan no_group fault o is =
@@ -65,17 +62,13 @@ file_line name plain no_reason no_plan no_group fault o is =
       no_group = no_group fault.line w.said;
     }
 
--- texts are apart that differ in a byte
-apart_at : (place : ℕ) (a b : List ℕ) → get_or a place 0 < get_or b place 0 → b ≡ a → ⊥
-apart_at place a b less same = not_same (get_or a place 0) (get_or b place 0) less (ap (λ (t : List ℕ). get_or t place 0) same)
-
 refusal_line_of : (o : Output) → IsFileRefusal (Some o) → IsRefusalLine o
 refusal_line_of o (fault, inl task) =
-    file_line (codes "task") (plain_bytes (codes "task") refl) (λ line w. refl) (λ line w behind steps cost e. apart_at 0 (valid_line steps cost) ((file_words (codes "task") line w ++ 10 ∷ []) ++ behind) (omega arith) e)
-    (λ line w place e. apart_at 0 (group_line place Exclusive) (file_words (codes "task") line w) (omega arith) e) fault o task
+    file_line (codes "task") (plain_bytes (codes "task") refl) (λ line w. refl) (λ line w behind steps cost e. apart_at 0 (valid_line steps cost) ((file_words (codes "task") line w ++ 10 ∷ []) ++ behind) (omega arith) (sym e))
+    (λ line w place e. apart_at 0 (group_line place Exclusive) (file_words (codes "task") line w) (omega arith) (sym e)) fault o task
 refusal_line_of o (fault, inr plan) =
-    file_line (codes "plan") (plain_bytes (codes "plan") refl) (λ line w. refl) (λ line w behind steps cost e. apart_at 5 ((file_words (codes "plan") line w ++ 10 ∷ []) ++ behind) (valid_line steps cost) (omega arith) (sym e))
-    (λ line w place e. apart_at 0 (group_line place Exclusive) (file_words (codes "plan") line w) (omega arith) e) fault o plan
+    file_line (codes "plan") (plain_bytes (codes "plan") refl) (λ line w. refl) (λ line w behind steps cost e. apart_at 5 ((file_words (codes "plan") line w ++ 10 ∷ []) ++ behind) (valid_line steps cost) (omega arith) e)
+    (λ line w place e. apart_at 0 (group_line place Exclusive) (file_words (codes "plan") line w) (omega arith) (sym e)) fault o plan
 
 -- ---- the same answer
 

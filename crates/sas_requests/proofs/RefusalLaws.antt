@@ -1,4 +1,6 @@
 -- Why a file is refused: one list of reasons, and always some.
+use Rattle.std.proofs.Common.{arith}
+use Rattle.std.proofs.lemmas.Grind.{common_steps}
 use Rattle.sas_requests.proofs.Imports.{◌≡◌, ◌≢◌, ℕ, List, [], ◌∷◌, length, take, refl, sym, ap, subst, ◌∙◌, inl, inr, Option, Result, Ok, Err, nat_lt, lines, unfinished, Fault, Kind, Format, FaultOf, KindAt, too_long, trailing, wrong, ReadsAs, Laws, most_bytes, IsAbout, of_line, of_byte, of_end, AboutLaws, about_laws_of, plan_format, PlanLineFits, plan_node, plan_start, plan_grammar}
 use Rattle.sas_requests.proofs.Imports.{plan_laws_hold, Mark, WrongWord, process_node, task_format, TaskLineFits, task_start, one_task_reason, some_task_reason, task_grammar, task_laws_hold, FileLine, task_reasons, Request, Show, Print, Steps, Check, Plan, Mutex, IsLayeredText, Worded, plan_worded, task_worded}
 use Rattle.sas_reader.specs.declared.fault.Kind.TheVariants as kinds
@@ -63,10 +65,7 @@ module _ {V I S : Type 0} (F : Format V I S) (Reports : Kind → List (List ℕ)
 -- ---- what is reported of a task, and of a plan
 
 one_task_reporting : (kind : Kind) (begun : List (List ℕ)) (found : List ℕ) (r s : List FileLine) → AreTaskReasons kind begun found r → AreTaskReasons kind begun found s → r ≡ s
-one_task_reporting kind begun found r s x y =
-    let same = one_task_reason kind begun found x.mark y.mark x.word y.word x.reason y.reason in
-    let lines_of = λ (m : Mark) (w : Option WrongWord). task_reasons kind m w (take 64 found) (nat_lt 64 (length found)) in
-    x.lines ∙ (ap (λ (m : Mark). lines_of m x.word) same.0 ∙ (ap (lines_of y.mark) same.1 ∙ sym y.lines))
+one_task_reporting kind begun found r s x y = grind (arith, common_steps, one_task_reason)
 
 some_task_reporting : (bytes : List ℕ) (f : Fault) (begun : List (List ℕ)) (found : List ℕ) → IsAbout task_format most_bytes bytes f begun found → (r : List FileLine) × AreTaskReasons f.kind begun found r
 some_task_reporting bytes f begun found h =

@@ -1,4 +1,6 @@
 -- How the output of a request goes out.
+use Rattle.std.proofs.Common.{arith}
+use Rattle.std.proofs.lemmas.Grind.{common_steps}
 use Rattle.sas_requests.proofs.Imports.{◌≡◌, ℕ, false, true, List, [], codes, inl, inr, refl, sym, ap, subst, ◌∙◌, Option, Some, None, Result, Ok, Err, IsTrue, IfOk, IsSomeAnd, Appends, Parts, PlanParts, LayerFault, IsLayered, Device, ValueOf, ReadsAll, ReadsAs, most_bytes, known_answer, plan_format, task_format, Status, Yes, ToolFault, Output, EndsCounting, layers_verdict, LayeredGroupsAnswer}
 use Rattle.sas_requests.proofs.Imports.{layered_answer, WhyGroupsAnswer, WhyMutexAnswer, check_layered, check_refused, groups_layered, groups_refused, IsTraced, TraceVerdict, Request, Headline, Invariants, TaskOut, VerdictOut, PlanOutBy, PrintAnswer, AreInputs, reads_task, takes_nothing, first_alone, second_alone, not_refused, EndsFile}
 use Rattle.sas_outputs.specs.declared.Request.TheVariants as request
@@ -60,14 +62,7 @@ module _ (detail : Detail) (b c : List ℕ) (o : Option Output) where
 -- what a run that ends so promises follows from what another promises
 pub ends_as : {T P : Type 0} (left_task : T → Option (List ℕ)) (left_plan : P → Option (List ℕ)) (A B : List ℕ → List ℕ → Type 0) (asked : Request) (old new : Device T) (plan_old plan_new : Device P) (r : Result Status ToolFault)
     → ((b c : List ℕ) → A b c → B b c) → EndsRequest left_task left_plan A asked old new plan_old plan_new r → EndsRequest left_task left_plan B asked old new plan_old plan_new r
-ends_as left_task left_plan A B asked old new plan_old plan_new r to h = record {
-  output = λ b c inputs. to b c (h.output b c inputs);
-  taken = λ decided. let (b, c, task, plan, ended) = h.taken decided in (b, c, task, plan, to b c ended);
-  task_spared = h.task_spared;
-  plan_spared = h.plan_spared;
-  plan_waits = h.plan_waits;
-  reads = h.reads;
-}
+ends_as left_task left_plan A B asked old new plan_old plan_new r to h = grind (arith, common_steps)
 
 module _ {T P : Type 0} (left_task : T → Option (List ℕ)) (left_plan : P → Option (List ℕ)) (Sent : List ℕ → Type 0) (detail : Detail) where
   abbrev EndsAsked : Request → Device T → Device T → Device P → Device P → Result Status ToolFault → Type 0

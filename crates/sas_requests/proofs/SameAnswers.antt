@@ -1,4 +1,5 @@
 -- An output with the reasons of what was read is the same answer as the output without them.
+use Rattle.std.proofs.lemmas.Grind.{common_steps}
 use Rattle.sas_requests.proofs.Imports.{◌≡◌, ℕ, ◌+◌, ◌<◌, List, [], ◌++◌, length, map, get_or, arith, codes, refl, sym, ap, subst, ◌∙◌, inl, inr, Option, Some, None, Result, Ok, Err, Parts, first_fault, PlanParts, WellNamed, WellRanged, LayerFault, layer_checks, text, Verdict, Exclusive, AreJointVerdicts, Reason, IsReasonIfAny, AreReasons, reason_at, Fault, Format, ReadsAs, most_bytes}
 use Rattle.sas_requests.proofs.Imports.{plan_format, task_format, PlanFault, Yes, No, Output, layers_refusal, layers_verdict, LayeredGroupsAnswer, CheckAnswer, MutexAnswer, VerdictAnswer, verdict_lines, groups_status, layer_words, layers_line, fault_words, invalid_line, why_lines, WhyGroupsAnswer, layer_reasons, why_refusal, WhyAnswer, WhyCheckAnswer, WhyMutexAnswer, line_bytes, reasons_text}
 use Rattle.sas_requests.proofs.Imports.{WhyVerdict, Explains, Request, Show, Print, Steps, Check, Plan, Mutex, Out, IsAnswerOrRefusal, FileOut, TaskOut, UnlayeredAnswer, plain_refusal, ShowAnswer, PrintAnswer, worded}
@@ -51,9 +52,7 @@ yes_same : {V : Type 0} (Good : V → Type 0) (printed : V → List ℕ) → Sam
 yes_same Good printed v o good is = (o, is, itself o (yes_stays o (ap (λ (x : Output). x.status) is)))
 
 layers_stay : (first : Option LayerFault) (o : Output) → layers_verdict first ≡ Some o → Stays o
-layers_stay None o is =
-    let same : (record { text = codes "task layered\n"; status = Yes }) ≡ o = cc in
-    yes_stays o (sym (ap (λ (x : Output). x.status) same))
+layers_stay None o is = grind (arith, common_steps, yes_stays)
 layers_stay (Some fault) o is = reported_stays o (layers_reported fault o is)
 
 -- ---- answers about a task
@@ -83,9 +82,7 @@ check_same p (Some fault) o ranged is = refused_same p fault o ranged is
 -- the reason for each verdict, counted from the first one
 reasons_from : (p : Parts) (verdicts : List Verdict) (reasons : List (Option Reason)) → AreJointVerdicts p verdicts → AreReasons p verdicts reasons
     → (k : ℕ) → k < length verdicts → IsReasonIfAny p (0 + k) (get_or verdicts k Exclusive) (reason_at reasons (0 + k))
-reasons_from p verdicts reasons joint are k lt =
-    let same : k ≡ 0 + k = omega arith in
-    subst (λ (m : ℕ). IsReasonIfAny p m (get_or verdicts k Exclusive) (reason_at reasons m)) same (are.are k (omega (arith, lt, joint.one_each)))
+reasons_from p verdicts reasons joint are k lt = grind (arith, common_steps)
 
 mutex_same : (p : Parts) (first : Option LayerFault) (o : Output) → WellRanged p → WhyAnswer p (WhyGroupsAnswer p) first o → (plain : Output) × LayeredGroupsAnswer p first plain × IsSameAnswer plain o
 mutex_same p None o ranged (verdicts, reasons, joint, are, is) =

@@ -1,4 +1,5 @@
 -- Each output without reasons is shorter than 2 ^ 64 bytes.
+use Rattle.std.proofs.lemmas.Grind.{common_steps}
 use Rattle.sas_requests.proofs.Imports.{◌≡◌, ℕ, suc, zero, ◌+◌, ◌*◌, ◌^◌, ◌<◌, ◌≤◌, Bool, true, false, if◌then◌else◌, List, [], ◌∷◌, ◌++◌, length, codes, length-append, arith, refl, sym, subst, inl, inr, Option, Some, None, Result, Ok, Err, decimal, option_map, ◌==◌, ◌/◌, ◌%◌, digits, digits_onto, digit_glyph, none-some, Parts, PlanParts, first_fault, text, LayerFault, layer_checks, Verdict}
 use Rattle.sas_requests.proofs.Imports.{Exclusive, Derived, Initial, Broken, PlanFault, Fault, Kind, ValueOf, Format, ReadsAs, most_bytes, plan_format, task_format, outline_of, Yes, No, Output, layers_refusal, layers_verdict, CheckAnswer, LayeredGroupsAnswer, MutexAnswer, valid_answer, VerdictAnswer, words_at_part, layer_words, layers_line, step_words, goal_words, sum_words, fault_words}
 use Rattle.sas_requests.proofs.Imports.{invalid_line, verdict_words, group_line, verdict_lines_from, Show, Print, Steps, Check, Plan, Mutex, word_of, refusal_line, refusal, IsAnswerOrRefusal, ShowAnswer, PrintAnswer, FileOut, UnlayeredAnswer, plain_refusal, ShortOutput, text_short}
@@ -40,9 +41,7 @@ none_short words is = absurd (none-some words is)
 line_short : (line_of : List ℕ → Output) → ((words : List ℕ) → length (line_of words).text ≤ length words + 200) → (found : Option (List ℕ)) → AreShort found
     → (o : Output) → option_map line_of found ≡ Some o → length o.text < 2 ^ 64
 line_short line_of longer None short o is = absurd (none-some o is)
-line_short line_of longer (Some words) short o is =
-    let same : line_of words ≡ o = cc in
-    subst (λ (x : Output). length x.text < 2 ^ 64) same (omega (arith, longer words, short words refl))
+line_short line_of longer (Some words) short o is = grind (arith, common_steps)
 
 -- ---- the refusal of a file
 
@@ -58,30 +57,12 @@ kind_short kinds.Read = none_short
 kind_short kinds.Memory = none_short
 
 refusal_short : (name : List ℕ) → length name ≤ 9 → (fault : Fault) (o : Output) → refusal name fault ≡ Some o → length o.text < 2 ^ 64
-refusal_short name named fault =
-    line_short (λ word. record { text = refusal_line name fault.line word; status = No }) (λ word. omega (
-      arith,
-      named,
-      length-append (name ++ codes " refused: line " ++ decimal fault.line ++ codes ": " ++ word) (codes "\n"),
-      length-append (name ++ codes " refused: line " ++ decimal fault.line ++ codes ": ") word,
-      length-append (name ++ codes " refused: line " ++ decimal fault.line) (codes ": "),
-      length-append (name ++ codes " refused: line ") (decimal fault.line),
-      length-append name (codes " refused: line "),
-      decimal_short fault.line,
-    )) (word_of fault.kind) (kind_short fault.kind)
+refusal_short name named fault = grind (arith, common_steps, line_short, decimal_short, kind_short)
 
 -- ---- the refusal of a task
 
 part_short : (part : List ℕ) (place : ℕ) (what : List ℕ) → length part + length what ≤ 100 → AreShort (Some (words_at_part part place what))
-part_short part place what short = some_short (words_at_part part place what) (omega (
-  arith,
-  short,
-  length-append (part ++ codes " " ++ decimal place ++ codes ": ") what,
-  length-append (part ++ codes " " ++ decimal place) (codes ": "),
-  length-append (part ++ codes " ") (decimal place),
-  length-append part (codes " "),
-  decimal_short place,
-))
+part_short part place what short = grind (arith, common_steps, some_short, decimal_short)
 
 layer_words_short : (fault : LayerFault) → AreShort (layer_words fault)
 layer_words_short (layer_fault.EffectOnDerived operator effect) = part_short (codes "operator") operator (codes "effect on derived variable") (omega arith)
@@ -103,51 +84,22 @@ layered_short (Some fault) o is = layers_short fault o is
 -- ---- the verdict on a plan
 
 step_short : (step : ℕ) (what : List ℕ) → length what ≤ 100 → AreShort (Some (step_words step what))
-step_short step what short = some_short (step_words step what) (omega (
-  arith,
-  short,
-  length-append (codes "step " ++ decimal step ++ codes ": ") what,
-  length-append (codes "step " ++ decimal step) (codes ": "),
-  length-append (codes "step ") (decimal step),
-  decimal_short step,
-))
+step_short step what short = grind (arith, common_steps, some_short, decimal_short)
 
 fault_words_short : (cost : ℕ) (fault : PlanFault) → AreShort (fault_words cost fault)
 fault_words_short cost (plan_fault.NoOperator step) = step_short step (codes "no operator of that name") (omega arith)
 fault_words_short cost (plan_fault.NotApplicable step) = step_short step (codes "not applicable") (omega arith)
 fault_words_short cost (plan_fault.Conflict step operator) = step_short step (codes "conflicting effects") (omega arith)
-fault_words_short cost (plan_fault.GoalMissed index) = some_short (goal_words index) (omega (
-  arith,
-  length-append (codes "goal fact " ++ decimal index) (codes " not reached"),
-  length-append (codes "goal fact ") (decimal index),
-  decimal_short index,
-))
-fault_words_short cost (plan_fault.CostDiffers sum) = some_short (sum_words sum cost) (omega (
-  arith,
-  length-append (codes "cost is " ++ decimal sum ++ codes ", not ") (decimal cost),
-  length-append (codes "cost is " ++ decimal sum) (codes ", not "),
-  length-append (codes "cost is ") (decimal sum),
-  decimal_short sum,
-  decimal_short cost,
-))
+fault_words_short cost (plan_fault.GoalMissed index) = grind (arith, common_steps, some_short, decimal_short)
+fault_words_short cost (plan_fault.CostDiffers sum) = grind (arith, common_steps, some_short, decimal_short)
 fault_words_short cost plan_fault.Memory = none_short
 
 valid_short : (plan : PlanParts) → length (valid_answer plan).text < 2 ^ 64
-valid_short plan = omega (
-  arith,
-  length-append (codes "plan valid: " ++ decimal (length plan.steps) ++ codes " steps, cost " ++ decimal plan.cost) (codes "\n"),
-  length-append (codes "plan valid: " ++ decimal (length plan.steps) ++ codes " steps, cost ") (decimal plan.cost),
-  length-append (codes "plan valid: " ++ decimal (length plan.steps)) (codes " steps, cost "),
-  length-append (codes "plan valid: ") (decimal (length plan.steps)),
-  decimal_short (length plan.steps),
-  decimal_short plan.cost,
-)
+valid_short plan = grind (arith, common_steps, decimal_short)
 
 verdict_short : (p : Parts) (plan : PlanParts) (o : Output) → VerdictAnswer p plan o → length o.text < 2 ^ 64
 verdict_short p plan o (inl (valid, is)) = subst (λ (x : Output). length x.text < 2 ^ 64) (sym is) (valid_short plan)
-verdict_short p plan o (inr (fault, is_fault, is)) =
-    line_short (λ words. record { text = invalid_line words; status = No })
-    (λ words. omega (arith, length-append (codes "plan invalid: " ++ words) (codes "\n"), length-append (codes "plan invalid: ") words)) (fault_words plan.cost fault) (fault_words_short plan.cost fault) o is
+verdict_short p plan o (inr (fault, is_fault, is)) = grind (arith, common_steps, line_short, fault_words_short)
 
 -- ---- mutex groups
 

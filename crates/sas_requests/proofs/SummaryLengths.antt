@@ -67,51 +67,21 @@ fact_text_short first variables var value n h = said (value_name variables var v
   where
     said : (found : Option (List ℕ)) → ((bytes : List ℕ) → found ≡ Some bytes → length bytes ≤ size (flat_map variable_lines variables)) → length (text (option_map_or (λ (bytes : List ℕ). fact_line first var value bytes ∷ []) found [])) ≤ length first + length (decimal var) + length (decimal value) + n + 4
     said None short = omega arith
-    said (Some bytes) short =
-        let of_value = decimal value ++ 32 ∷ bytes in
-        let of_var = decimal var ++ 32 ∷ of_value in
-        let l = first ++ 32 ∷ of_var in
-        omega (
-          arith,
-          h,
-          short bytes refl,
-          length-append (l ++ 10 ∷ []) [],
-          length-append l (10 ∷ []),
-          length-append first (32 ∷ of_var),
-          length-append (decimal var) (32 ∷ of_value),
-          length-append (decimal value) (32 ∷ bytes),
-        )
+    said (Some bytes) short = grind (arith, h, short bytes refl, length-append {A = ℕ})
 
 fact_line_size : (f : Fact) → size (line fact f) ≡ length (decimal f.var) + length (decimal f.value) + 2
 fact_line_size f = omega (arith, size_of_one (fact f), length-append (decimal f.var) (32 ∷ decimal f.value))
 
 goal_short : (variables : List Variable) (n : ℕ) → size (flat_map variable_lines variables) ≤ n → (facts : List Fact) → length (flat_map (goal_text variables) facts) ≤ length facts * (n + 21) + size (flat_map (line fact) facts)
 goal_short variables n h [] = omega arith
-goal_short variables n h (f ∷ facts) =
-    omega (
-      arith,
-      length-append (goal_text variables f) (flat_map (goal_text variables) facts),
-      fact_text_short (codes "goal") variables f.var f.value n h,
-      fact_line_size f,
-      size_of_both (line fact f) (flat_map (line fact) facts),
-      goal_short variables n h facts,
-    )
+goal_short variables n h (f ∷ facts) = omega (arith, length-append {A = ℕ}, fact_text_short (codes "goal") variables f.var f.value n h, fact_line_size f, size_of_both, goal_short variables n h facts)
 
 number_line_size : (n : ℕ) → size (line number n) ≡ length (decimal n) + 1
 number_line_size n = size_of_one (number n)
 
 initial_short : (variables : List Variable) (n : ℕ) → size (flat_map variable_lines variables) ≤ n → (from : ℕ) (values : List ℕ) → from + length values < 10 ^ 10 → length (flat_map (initial_text variables) (enumerate_from from values)) ≤ length values * (n + 21) + size (flat_map (line number) values)
 initial_short variables n h from [] fits = omega arith
-initial_short variables n h from (value ∷ values) fits =
-    omega (
-      arith,
-      length-append (initial_text variables (from, value)) (flat_map (initial_text variables) (enumerate_from (from + 1) values)),
-      fact_text_short (codes "initial") variables from value n h,
-      length-decimal-le 10 from (omega arith) (omega (arith, fits)) (omega (arith, fits)),
-      number_line_size value,
-      size_of_both (line number value) (flat_map (line number) values),
-      initial_short variables n h (from + 1) values (omega (arith, fits)),
-    )
+initial_short variables n h from (value ∷ values) fits = omega (arith, length-append {A = ℕ}, fact_text_short (codes "initial") variables from value n h, length-decimal-le 10 from (omega arith) (omega (arith, fits)) (omega (arith, fits)), number_line_size value, size_of_both, initial_short variables n h (from + 1) values (omega (arith, fits)))
 
 -- ---- the lines of numbers
 
@@ -120,17 +90,7 @@ record IsWithin (row : List (List ℕ)) (most : ℕ) : Type 0 where
   pub bytes : length (text row) ≤ most
 
 number_then : (first : List ℕ) (n most : ℕ) (rest : List (List ℕ)) → length first ≤ 9 → n < 2 ^ 32 → IsWithin rest most → IsWithin (number_line first n ∷ rest) (most + 21)
-number_then first n most rest short fits h = record {
-  bytes = omega (
-    arith,
-    h.bytes,
-    short,
-    length-append (number_line first n ++ 10 ∷ []) (text rest),
-    length-append (number_line first n) (10 ∷ []),
-    length-append first (32 ∷ decimal n),
-    length-decimal-le 10 n (omega arith) (omega (arith, fits)) (omega (arith, fits)),
-  );
-}
+number_then first n most rest short fits h = record { bytes = grind (arith, h.bytes, short, length-append {A = ℕ}, length-decimal-le 10 n (omega arith) (omega (arith, fits)) (omega (arith, fits))) }
 
 metric_fits : (metric : Bool) → (if metric then 1 else 0) < 2 ^ 32
 metric_fits true = omega arith
@@ -151,17 +111,7 @@ numbers_short p good =
 
 -- what three sections take together
 size_of_sections : (a b c d e f g h : List TaskLine) → size c + size e + size f ≤ size (a ++ b ++ c ++ d ++ e ++ f ++ g ++ h)
-size_of_sections a b c d e f g h =
-    omega (
-      arith,
-      size_of_both (a ++ b ++ c ++ d ++ e ++ f ++ g) h,
-      size_of_both (a ++ b ++ c ++ d ++ e ++ f) g,
-      size_of_both (a ++ b ++ c ++ d ++ e) f,
-      size_of_both (a ++ b ++ c ++ d) e,
-      size_of_both (a ++ b ++ c) d,
-      size_of_both (a ++ b) c,
-      size_of_both a b,
-    )
+size_of_sections a b c d e f g h = omega (arith, size_of_both)
 
 counted_size : {A : Type 0} (lines_of : A → List TaskLine) (items : List A) → size (flat_map lines_of items) ≤ size (counted lines_of items)
 counted_size lines_of items = size_behind (line number (length items)) (flat_map lines_of items)

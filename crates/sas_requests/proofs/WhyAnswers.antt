@@ -1,21 +1,21 @@
 -- What is said of a plan with reasons: one thing, and always something; and that it is valid exactly where it is. And what is said
 -- of a task that isn't layered.
-use Rattle.sas_requests.proofs.Imports.{◌≡◌, ℕ, ◌<◌, List, [], ◌++◌, get_or, refl, sym, ap, subst, ◌∙◌, inl, inr, Some, None, Option, arith, option_map, none-some, Parts, PlanParts, text, LayerFault, IsLayered, PlanFault, NoOperator, NotApplicable, Conflict, GoalMissed, CostDiffers, IsFaultOf, some_verdict, valid_has_no_fault, fault_is_one, No, Output, layers_refusal, valid_answer, invalid_answer}
+use Rattle.std.proofs.lemmas.Grind.{common_steps}
+use Rattle.sas_requests.proofs.Imports.{◌≡◌, ℕ, ◌<◌, List, [], ◌++◌, get_or, refl, sym, ap, subst, ◌∙◌, inl, inr, Some, None, Option, arith, option_map, none-some, Parts, PlanParts, LayerFault, IsLayered, PlanFault, NoOperator, NotApplicable, Conflict, GoalMissed, CostDiffers, IsFaultOf, some_verdict, valid_has_no_fault, fault_is_one, No, Output, layers_refusal, valid_answer, invalid_answer}
 use Rattle.sas_requests.proofs.Imports.{valid_line, fault_words, invalid_line, layer_reasons, with_reasons, why_refusal, refused_why, Line, reasons_text, one_why, some_why, WhyVerdict, Explains, ReportsValid, same_output, OneVerdictAnswer, SomeVerdictAnswer, IsRefusal, Refuses, worded}
 use Rattle.sas_run.specs.declared.plan_check.PlanFault.TheVariants.{Memory}
 
 -- ---- the verdict on a plan is the text's first line
 
-not_same : (m n : ℕ) → m < n → n ≡ m → ⊥
-not_same m n less same = omega arith
+-- texts are apart that differ in a byte
+pub apart_at : (place : ℕ) (a b : List ℕ) → get_or a place 0 < get_or b place 0 → a ≡ b → ⊥
+apart_at place a b less same = let e : get_or a place 0 ≡ get_or b place 0 = ap (λ (t : List ℕ). get_or t place 0) same in omega arith
 
 line_apart : (words behind : List ℕ) (steps cost : ℕ) → invalid_line words ++ behind ≡ valid_line steps cost → ⊥
-line_apart words behind steps cost e = not_same 105 118 (omega arith) (sym (ap (λ (t : List ℕ). get_or t 5 0) e))
+line_apart words behind steps cost = apart_at 5 (invalid_line words ++ behind) (valid_line steps cost) (omega arith)
 
 explained_apart : (p : Parts) (plan : PlanParts) (fault : PlanFault) (bytes : List ℕ) (steps cost : ℕ) → Explains p plan fault bytes → bytes ≡ valid_line steps cost → ⊥
-explained_apart p plan fault bytes steps cost e is =
-    let w = worded (fault_words plan.cost fault) invalid_line e.verdict e.reported in
-    line_apart w.said (reasons_text p plan.steps e.reasons) steps cost (ap (λ (t : List ℕ). t ++ reasons_text p plan.steps e.reasons) (sym w.text) ∙ (sym e.whole ∙ is))
+explained_apart p plan fault bytes steps cost e is = grind (arith, common_steps, worded, line_apart)
 
 -- ---- one answer
 

@@ -1,10 +1,9 @@
 // The answer to each request: its inputs are read, and then it goes out.
-ghost use Rattle.std.specs.Prelude.{◌≡◌, ◌⊎◌, ◌↔◌, false, None};
+ghost use Rattle.std.specs.Prelude.{◌≡◌, ◌⊎◌, ◌↔◌, false};
 ghost use Rattle.std.specs.Prelude.{IfErr, IsErrAnd, IsSomeAnd, IsTrue};
 ghost use Rattle.std.specs.Io.KnownBytes.{Appends};
-ghost use Rattle.sas_answers.specs.Answers.{layers_verdict};
 ghost use Rattle.sas_meaning.specs.Layers.{IsLayered};
-ghost use Rattle.sas_output.specs.Ending.{Ends, EndsCounting, IsWrite};
+ghost use Rattle.sas_output.specs.Ending.{EndsCounting, IsWrite};
 ghost use Rattle.sas_outputs.specs.Output.{PrintAnswer, ShowAnswer};
 ghost use Rattle.sas_plan_file.specs.PlanFormat.{plan_format};
 ghost use Rattle.sas_task_format.specs.TaskFormat.{task_format};
@@ -29,7 +28,7 @@ use sas_task_reasons::{groups_answer, write_groups};
 use std::alloc::Global;
 use std::io::{Read, Write};
 
-/// Answers the request about the inputs.
+/// Answers the request about the inputs, as `run`, `explain` or `trace` does.
 pub fn answer<T: Read, P: Read, W: Write>(
     alloc: Global,
     asked: Asked,
@@ -101,11 +100,8 @@ fn print<R: Read, W: Write>(
 {
     match read_task_text(alloc, task) {
         Ok(text) => {
-            let reported = Answer {
-                text,
-                status: Status::Yes,
-            };
-            reported.write(out)
+            let status = Status::Yes;
+            Answer { text, status }.write(out)
         }
         Err(refusal) => refuse_task(alloc, detail, refusal, out),
     }
@@ -128,11 +124,8 @@ fn steps<R: Read, W: Write>(
 {
     match read_plan_text(alloc, plan) {
         Ok(text) => {
-            let reported = Answer {
-                text,
-                status: Status::Yes,
-            };
-            reported.write(out)
+            let status = Status::Yes;
+            Answer { text, status }.write(out)
         }
         Err(refusal) => refuse_plan(alloc, detail, refusal, out),
     }
@@ -156,22 +149,10 @@ fn check<R: Read, W: Write>(
     match read_layered(alloc, detail, task, out) {
         Ok(layered) => {
             drop(layered);
-            answer_layered(alloc, out)
+            accept_layers(alloc)?.write(out)
         }
         Err(ended) => ended,
     }
-}
-
-/// Answers that a task is layered.
-fn answer_layered<W: Write>(alloc: Global, out: &mut Watched<W>) -> Result<Status, ToolFault>
-    requires { out.old.failed ≡ false }
-    ensures ends { Ends (λ output. output ≡ layers_verdict None)
-        (Appends (W.contents out.old.device) (W.contents out.new.device)) result }
-    ensures nothing { IfErr result (λ e. IsWrite e
-        ⊎ ((e ≡ ToolFault.Memory) × (out.new ≡ out.old))) }
-    ensures writes { IsErrAnd result IsWrite ↔ IsTrue out.new.failed }
-{
-    accept_layers(alloc)?.write(out)
 }
 
 /// Answers which mutex groups of a task are exclusive.

@@ -18,10 +18,10 @@ ghost use Rattle.sas_requests.specs.Why.{OutWhy, HasNoReasons};
 ghost use Rattle.sas_requests.specs.TraceOut.{TraceOut};
 ghost use Rattle.sas_output.specs.Ending.{Ends, EndsCounting, IsWrite};
 
-use answers::answer;
-use detail::{Asked, Detail};
+pub use answers::answer;
+pub use detail::{Asked, Detail};
 pub use laws::{explain_laws, run_laws, trace_output_laws};
-pub use plans::{explain_bytes, trace_bytes};
+pub use plans::answer_bytes;
 use sas_lines::Watched;
 pub use sas_output::{Status, ToolFault};
 pub use sas_outputs::{Request, refuse_file};

@@ -2,15 +2,10 @@
 ghost use Rattle.std.specs.Prelude.{◌≡◌, ◌⊎◌, ◌↔◌, false};
 ghost use Rattle.std.specs.Prelude.{IfErr, IsErrAnd, IsSomeAnd, IsTrue};
 ghost use Rattle.std.specs.Io.KnownBytes.{Appends};
-ghost use Rattle.sas_trace.specs.Traced.{TraceVerdict};
-ghost use Rattle.sas_why.specs.Verdict.{WhyVerdict};
 ghost use Rattle.sas_output.specs.Ending.{EndsCounting, IsWrite};
-ghost use Rattle.sas_outputs.specs.Output.{VerdictOut};
 ghost use Rattle.sas_outputs.specs.EndsFile.{EndsFile};
 ghost use Rattle.sas_requests.specs.Answering.{OutBy, PlanBy, VerdictBy};
 ghost use Rattle.sas_requests.specs.EndsRequest.{EndsRequest};
-ghost use Rattle.sas_requests.specs.FileReasons.{PlanFileReasons};
-ghost use Rattle.sas_requests.specs.Why.{WithReasons};
 
 use crate::detail::Detail;
 use crate::refusals::refuse_plan;
@@ -54,41 +49,23 @@ pub fn judge_files<T: Read, P: Read, W: Write>(
     }
 }
 
-/// Answers whether a plan with these bytes solves a layered task, with the reasons for a no, as `explain` does. At `Write` the first
-/// bytes of the answer were written; at any other fault nothing was. Not to be called after a failure.
-pub fn explain_bytes<W: Write>(
+/// Answers whether a plan with these bytes solves a layered task, as `answer` does. At `Write` the first bytes of the answer were
+/// written; at any other fault nothing was. Not to be called after a failure.
+pub fn answer_bytes<W: Write>(
     alloc: Global,
+    detail: Detail,
     layered: &Layered<FlatTask>,
     plan: &[u8],
     out: &mut Watched<W>,
 ) -> Result<Status, ToolFault>
     requires { out.old.failed ≡ false }
-    ensures ends { EndsCounting
-        (WithReasons (VerdictOut WhyVerdict layered.now plan.now) (PlanFileReasons plan.now))
+    ensures ends { EndsCounting (PlanBy detail (VerdictBy detail layered.now) plan.now)
         (Appends (W.contents out.old.device) (W.contents out.new.device)) result }
     ensures nothing { IfErr result (λ e. IsWrite e ⊎ (out.new ≡ out.old)) }
     ensures writes { IsErrAnd result IsWrite ↔ IsTrue out.new.failed }
 {
     let mut device = Watched::new(plan);
-    judge_plan_file(alloc, Detail::Reasons, layered, &mut device, out)
-}
-
-/// Answers whether a plan with these bytes solves a layered task, with its trace in front, as `trace` does. At `Write` the first bytes of
-/// the answer were written; at any other fault nothing was. Not to be called after a failure.
-pub fn trace_bytes<W: Write>(
-    alloc: Global,
-    layered: &Layered<FlatTask>,
-    plan: &[u8],
-    out: &mut Watched<W>,
-) -> Result<Status, ToolFault>
-    requires { out.old.failed ≡ false }
-    ensures ends { EndsCounting (VerdictOut TraceVerdict layered.now plan.now)
-        (Appends (W.contents out.old.device) (W.contents out.new.device)) result }
-    ensures nothing { IfErr result (λ e. IsWrite e ⊎ (out.new ≡ out.old)) }
-    ensures writes { IsErrAnd result IsWrite ↔ IsTrue out.new.failed }
-{
-    let mut device = Watched::new(plan);
-    judge_plan_file(alloc, Detail::Trace, layered, &mut device, out)
+    judge_plan_file(alloc, detail, layered, &mut device, out)
 }
 
 /// Answers whether the plan solves a layered task that was read. The stack frame of this call is large, so it isn't

@@ -1,14 +1,13 @@
 // Refusals of files, as they go out.
-ghost use Rattle.std.specs.Prelude.{◌≡◌, ◌⊎◌, ◌↔◌, codes, false, Some};
-ghost use Rattle.std.specs.Prelude.{IfErr, IfOk, IsErrAnd, IsErrOf, IsTrue};
+ghost use Rattle.std.specs.Prelude.{◌≡◌, ◌⊎◌, ◌↔◌, codes, false};
+ghost use Rattle.std.specs.Prelude.{IfErr, IsErrAnd, IsErrOf, IsTrue};
 ghost use Rattle.std.specs.Io.KnownBytes.{Appends};
-ghost use Rattle.sas_output.specs.Ending.{Ends, IsWrite, output_of};
+ghost use Rattle.sas_output.specs.Ending.{Ends, IsWrite};
 ghost use Rattle.sas_requests.specs.Answering.{plan_refusal_lines, refusal_by, task_refusal_lines};
 
 use crate::detail::Detail;
 use crate::{Status, ToolFault};
 use sas_lines::Watched;
-use sas_output::Answer;
 use sas_outputs::{push_plan_reasons, push_task_reasons, refuse_file};
 use sas_plan_file::PlanRefusal;
 use sas_reader::Kind;
@@ -32,9 +31,19 @@ pub fn refuse_task<W: Write>(
     ensures reads { IsErrOf result ToolFault.Read ↔ (refused.fault.kind ≡ Kind.Read) }
     ensures writes { IsErrAnd result IsWrite ↔ IsTrue out.new.failed }
 {
+    let TaskRefusal {
+        fault,
+        mark,
+        word,
+        found,
+    } = refused;
+    let mut answer = refuse_file(alloc, "task", fault)?;
     match detail {
-        Detail::Plain | Detail::Trace => refuse_file(alloc, "task", refused.fault)?.write(out),
-        Detail::Reasons => explain_task_refusal(alloc, refused)?.write(out),
+        Detail::Plain | Detail::Trace => answer.write(out),
+        Detail::Reasons => {
+            push_task_reasons(&mut answer.text, fault.kind, mark, word, &found)?;
+            answer.write(out)
+        }
     }
 }
 
@@ -54,42 +63,13 @@ pub fn refuse_plan<W: Write>(
     ensures reads { IsErrOf result ToolFault.Read ↔ (refused.fault.kind ≡ Kind.Read) }
     ensures writes { IsErrAnd result IsWrite ↔ IsTrue out.new.failed }
 {
+    let PlanRefusal { fault, found } = refused;
+    let mut answer = refuse_file(alloc, "plan", fault)?;
     match detail {
-        Detail::Plain | Detail::Trace => refuse_file(alloc, "plan", refused.fault)?.write(out),
-        Detail::Reasons => explain_plan_refusal(alloc, refused)?.write(out),
+        Detail::Plain | Detail::Trace => answer.write(out),
+        Detail::Reasons => {
+            push_plan_reasons(&mut answer.text, fault.kind, &found)?;
+            answer.write(out)
+        }
     }
-}
-
-/// Returns the refusal of a task for its fault, with the reasons, or why the run ends at it.
-fn explain_task_refusal(alloc: Global, refused: TaskRefusal) -> Result<Answer, ToolFault>
-    ensures ok { IfOk result (λ reported.
-        refusal_by Detail.Reasons (codes "task") refused.fault (task_refusal_lines refused)
-        ≡ Some (output_of reported)) }
-    ensures long { IsErrOf result ToolFault.TooLong ↔ (refused.fault.kind ≡ Kind.TooLong) }
-    ensures read { IsErrOf result ToolFault.Read ↔ (refused.fault.kind ≡ Kind.Read) }
-    ensures writes { IfErr result (λ e. IsWrite e → ⊥) }
-{
-    let mut reported = refuse_file(alloc, "task", refused.fault)?;
-    push_task_reasons(
-        &mut reported.text,
-        refused.fault.kind,
-        refused.mark,
-        refused.word,
-        &refused.found,
-    )?;
-    Ok(reported)
-}
-
-/// Returns the refusal of a plan for its fault, with the reasons, or why the run ends at it.
-fn explain_plan_refusal(alloc: Global, refused: PlanRefusal) -> Result<Answer, ToolFault>
-    ensures ok { IfOk result (λ reported.
-        refusal_by Detail.Reasons (codes "plan") refused.fault (plan_refusal_lines refused)
-        ≡ Some (output_of reported)) }
-    ensures long { IsErrOf result ToolFault.TooLong ↔ (refused.fault.kind ≡ Kind.TooLong) }
-    ensures read { IsErrOf result ToolFault.Read ↔ (refused.fault.kind ≡ Kind.Read) }
-    ensures writes { IfErr result (λ e. IsWrite e → ⊥) }
-{
-    let mut reported = refuse_file(alloc, "plan", refused.fault)?;
-    push_plan_reasons(&mut reported.text, refused.fault.kind, &refused.found)?;
-    Ok(reported)
 }

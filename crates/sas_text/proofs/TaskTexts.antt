@@ -42,3 +42,5 @@ effect_after before counted spaced_count conditions after e p q r s =
 pub effect_on_ok : {E : Type 0} (result : Result (Unit {0}) E) (before counted spaced_count conditions after : List ℕ) (e : Effect) → counted ≡ before ++ decimal (length e.conditions) → spaced_count ≡ counted ++ 32 ∷ [] → conditions ≡ spaced_count ++ spaced (flat_map fact_words e.conditions) → OnOk result (after ≡ conditions ++ text_of (head e.var e.old e.new ∷ [])) → OnOk result (after ≡ before ++ text_of (line effect e))
 effect_on_ok (Ok u) before counted spaced_count conditions after e p q r s = effect_after before counted spaced_count conditions after e p q r s
 effect_on_ok (Err u) before counted spaced_count conditions after e p q r s = tt
+
+pub ruleset texts = (text_of_append, lines_after)

@@ -1,4 +1,6 @@
 // Writes task files.
+#![tactic(auto, using(crate::proofs::TaskTexts::texts))]
+
 ghost use Rattle.std.specs.Prelude.{◌≡◌, List, [], ◌∷◌, ◌++◌, IfOk, OnOk};
 ghost use Rattle.std.specs.List.{flat_map};
 ghost use Rattle.sas_lines.specs.Lines.{text};

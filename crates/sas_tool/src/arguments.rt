@@ -209,12 +209,23 @@ impl RequestArguments {
             push(arguments, the_flag(alloc))?;
         }
         if self.over != Over::Plan {
-            push(arguments, the_task(alloc))?;
+            push(
+                arguments,
+                operand(alloc, "TASK", "The task file, or - for standard input"),
+            )?;
         }
         match self.over {
             Over::Task => Ok(()),
-            Over::Plan | Over::Both => push(arguments, the_plan(alloc)),
-            Over::Many => push(arguments, the_plans(alloc)),
+            Over::Plan | Over::Both => {
+                push(
+                    arguments,
+                    operand(alloc, "PLAN", "The plan file, or - for standard input"),
+                )
+            }
+            Over::Many => {
+                let help = "The plan files; one of them may be - for standard input";
+                push(arguments, operand(alloc, "PLAN", help).num_args(1..))
+            }
         }
     }
 }
@@ -232,23 +243,9 @@ fn the_flag<'a>(alloc: Global) -> Arg<'a> {
         .help("Adds the reasons for a no")
 }
 
-fn the_task<'a>(alloc: Global) -> Arg<'a> {
-    Arg::new(alloc, "TASK")
-        .required(true)
-        .help("The task file, or - for standard input")
-}
-
-fn the_plan<'a>(alloc: Global) -> Arg<'a> {
-    Arg::new(alloc, "PLAN")
-        .required(true)
-        .help("The plan file, or - for standard input")
-}
-
-fn the_plans<'a>(alloc: Global) -> Arg<'a> {
-    Arg::new(alloc, "PLAN")
-        .required(true)
-        .num_args(1..)
-        .help("The plan files; one of them may be - for standard input")
+/// Returns an argument that names files, and that can't be left out.
+fn operand<'a>(alloc: Global, id: &'a str, help: &'a str) -> Arg<'a> {
+    Arg::new(alloc, id).required(true).help(help)
 }
 
 /// Returns the job of valid arguments. Without a request, it is the steps of the plan on standard input.
@@ -266,14 +263,14 @@ fn job_of(alloc: Global, matches: &ArgMatches<'_>) -> Result<Job, AllocError> {
 /// Returns the job of the request of this name.
 fn job_named(alloc: Global, name: &str, matches: &ArgMatches<'_>) -> Result<Job, AllocError> {
     match name {
-        "plan" => job_over_both(alloc, by_flag(Request::Plan, matches), matches),
+        "plan" => job_over_files(alloc, by_flag(Request::Plan, matches), matches),
         "plans" => job_over_many(alloc, matches),
-        "trace" => job_over_both(alloc, Asked::Trace, matches),
-        "mutex" => job_over_task(alloc, Request::Mutex, matches),
-        "show" => job_over_task(alloc, Request::Show, matches),
-        "check" => job_over_task(alloc, Request::Check, matches),
-        "print" => job_over_task(alloc, Request::Print, matches),
-        _ => job_over_plan(alloc, Request::Steps, matches),
+        "trace" => job_over_files(alloc, Asked::Trace, matches),
+        "mutex" => job_over_files(alloc, by_flag(Request::Mutex, matches), matches),
+        "show" => job_over_files(alloc, by_flag(Request::Show, matches), matches),
+        "check" => job_over_files(alloc, by_flag(Request::Check, matches), matches),
+        "print" => job_over_files(alloc, by_flag(Request::Print, matches), matches),
+        _ => job_over_files(alloc, by_flag(Request::Steps, matches), matches),
     }
 }
 
@@ -286,34 +283,12 @@ fn by_flag(request: Request, matches: &ArgMatches<'_>) -> Asked {
     }
 }
 
-/// Returns the job over a task alone.
-fn job_over_task(
+/// Returns the job over a task, a plan or both: over those that the arguments name.
+fn job_over_files(
     alloc: Global,
-    request: Request,
+    asked: Asked,
     matches: &ArgMatches<'_>,
 ) -> Result<Job, AllocError> {
-    Ok(Job::Files {
-        asked: by_flag(request, matches),
-        task: named(alloc, matches, "TASK")?,
-        plan: None,
-    })
-}
-
-/// Returns the job over a plan alone.
-fn job_over_plan(
-    alloc: Global,
-    request: Request,
-    matches: &ArgMatches<'_>,
-) -> Result<Job, AllocError> {
-    Ok(Job::Files {
-        asked: by_flag(request, matches),
-        task: None,
-        plan: named(alloc, matches, "PLAN")?,
-    })
-}
-
-/// Returns the job over a task and a plan.
-fn job_over_both(alloc: Global, asked: Asked, matches: &ArgMatches<'_>) -> Result<Job, AllocError> {
     let task = named(alloc, matches, "TASK")?;
     let plan = named(alloc, matches, "PLAN")?;
     Ok(Job::Files { asked, task, plan })

@@ -53,17 +53,12 @@ pub fn start<R: AllocGlobal + Env + Files + Input + Print + Eprint>(
     let Ok(replaced) = replace_closed(rt, input, output, error) else {
         return stop(rt, FAULT, "sas: cannot open /dev/null");
     };
-    let ended = run_job(rt, job);
-    drop(replaced);
-    ended
-}
-
-/// Does the job, and flushes standard output.
-fn run_job<R: AllocGlobal + Files + Input + Print + Eprint>(rt: &R, job: Job) -> ExitCode {
-    match job {
+    let ended = match job {
         Job::Files { asked, task, plan } => run_files(rt, asked, task, plan),
         Job::Plans { task, labels } => run_plans(rt, task, labels.as_slice()),
-    }
+    };
+    drop(replaced);
+    ended
 }
 
 /// Opens a task, a plan or both, and answers the request about them. It isn't inlined, nor is `run_plans`: what is inlined together
@@ -75,8 +70,8 @@ fn run_files<R: AllocGlobal + Files + Input + Print + Eprint>(
     task_source: Option<Source>,
     plan_source: Option<Source>,
 ) -> ExitCode {
-    let mut task = Watched::new(Opened::Nothing);
-    let mut plan = Watched::new(Opened::Nothing);
+    let mut task = Watched::new(UntilEnd::nothing());
+    let mut plan = Watched::new(UntilEnd::nothing());
     let ended = if open_source(rt, task_source, &mut task).is_err() {
         stop(rt, FAULT, TASK_NOT_OPENED)
     } else if open_source(rt, plan_source, &mut plan).is_err() {
@@ -93,8 +88,8 @@ fn run_files<R: AllocGlobal + Files + Input + Print + Eprint>(
 fn answer<R: AllocGlobal + Files + Input + Print + Eprint>(
     rt: &R,
     asked: Asked,
-    task: &mut Watched<Opened<R::File, R::Reader>>,
-    plan: &mut Watched<Opened<R::File, R::Reader>>,
+    task: &mut Watched<UntilEnd<Opened<R::File, R::Reader>>>,
+    plan: &mut Watched<UntilEnd<Opened<R::File, R::Reader>>>,
 ) -> ExitCode
     requires task { task.old.failed ≡ false }
     requires plan { plan.old.failed ≡ false }
@@ -125,7 +120,7 @@ fn run_plans<R: AllocGlobal + Files + Input + Print + Eprint>(
         return stop(rt, INVALID_ARGUMENTS, INPUT_TWICE);
     }
     let mut task = Watched::new(UntilEnd::nothing());
-    let ended = if open_until_end(rt, task_source, &mut task).is_err() {
+    let ended = if open_source(rt, task_source, &mut task).is_err() {
         stop(rt, FAULT, TASK_NOT_OPENED)
     } else {
         judge_plans(rt, &mut task, labels)
@@ -158,9 +153,13 @@ fn judge_plans<R: AllocGlobal + Files + Input + Print + Eprint>(
 
 /// Ends as the result says.
 fn end<R: Eprint>(rt: &R, outcome: &Result<Status, ToolFault>) -> ExitCode {
-    match ending(outcome) {
-        (status, None) => ExitCode::from(status),
-        (status, Some(line)) => stop(rt, status, line),
+    match outcome {
+        Ok(Status::Yes) => ExitCode::from(YES),
+        Ok(Status::No) => ExitCode::from(NO),
+        Err(ToolFault::Memory) => stop(rt, FAULT, OUT_OF_MEMORY),
+        Err(ToolFault::Read) => stop(rt, FAULT, "sas: read failed"),
+        Err(ToolFault::TooLong) => stop(rt, FAULT, "sas: input too long"),
+        Err(ToolFault::Write { .. }) => stop(rt, FAULT, WRITE_FAILED),
     }
 }
 
@@ -206,18 +205,6 @@ fn not_text<R: Eprint>(rt: &R, kind: ErrorKind) -> ExitCode {
     }
 }
 
-/// The exit status, and the line for standard error.
-fn ending(outcome: &Result<Status, ToolFault>) -> (u8, Option<&'static str>) {
-    match outcome {
-        Ok(Status::Yes) => (YES, None),
-        Ok(Status::No) => (NO, None),
-        Err(ToolFault::Memory) => (FAULT, Some(OUT_OF_MEMORY)),
-        Err(ToolFault::Read) => (FAULT, Some("sas: read failed")),
-        Err(ToolFault::TooLong) => (FAULT, Some("sas: input too long")),
-        Err(ToolFault::Write { .. }) => (FAULT, Some(WRITE_FAILED)),
-    }
-}
-
 /// Prints the line on standard error, and returns the exit status.
 fn stop<R: Eprint>(rt: &R, status: u8, line: &str) -> ExitCode {
     let _ = rt.eprintln(line);
@@ -225,29 +212,10 @@ fn stop<R: Eprint>(rt: &R, status: u8, line: &str) -> ExitCode {
 }
 
 /// Opens an input of the program, in this place. What the request doesn't read stays nothing. An input has a buffer of 8 kB, so it is
-/// made where it stays: a copy of it would keep its place on the stack while the program runs. So would one that is inlined.
+/// made where it stays: a copy of it would keep its place on the stack while the program runs. So would one that is inlined. It is let
+/// go at its end, so that the task isn't open while plans are read.
 #[inline(never)]
 fn open_source<R: Files + Input>(
-    rt: &R,
-    source: Option<Source>,
-    input: &mut Watched<Opened<R::File, R::Reader>>,
-) -> io::Result<()>
-    requires { input.old.failed ≡ false }
-    ensures { input.new.failed ≡ false }
-{
-    match source {
-        None => {}
-        Some(Source::Input) => *input = Watched::new(Opened::Standard(rt.reader())),
-        Some(Source::File(name)) => {
-            *input = Watched::new(Opened::File(fs::open(rt, name.as_str())?));
-        }
-    }
-    Ok(())
-}
-
-/// Opens the task of many plans, in this place, as `open_source` does. It is let go at its end, before the first plan is opened.
-#[inline(never)]
-fn open_until_end<R: Files + Input>(
     rt: &R,
     source: Option<Source>,
     input: &mut Watched<UntilEnd<Opened<R::File, R::Reader>>>,

@@ -1,5 +1,10 @@
-use Rattle.sas_c.proofs.Returned.{last_line_reported}
+use Rattle.sas_c.proofs.Imports.{Plan}
+use Rattle.sas_requests.specs.declared.detail.Detail.TheVariants.{Trace}
+use Rattle.sas_c.proofs.Returned.{asked_reported, last_line_reported}
 use Rattle.sas_c.proofs.requests.sas_trace.Goals as goal
 
+pub returns-clause-answers : goal.returns-clause-answers
+returns-clause-answers c = asked_reported c.new-call.result Trace Plan _ _ _ _ _ _ c.new-call.ensures.request c.new-call.ensures.detail c.new-call.ensures.task c.new-call.ensures.plan c.answer_call.ensures
+
 pub returns-clause-headline : goal.returns-clause-headline
-returns-clause-headline c = last_line_reported c.args.task.now c.args.plan.now _ _ _ _ c.answer_trace.ensures
+returns-clause-headline c = last_line_reported c.args.task.now c.args.plan.now _ _ _ _ (returns-clause-answers c)

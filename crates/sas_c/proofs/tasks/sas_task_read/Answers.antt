@@ -9,10 +9,10 @@ returns-in-Ok-Ready-clause-answers c =
 
 pub returns-in-Ok-Refused-clause-answers : goal.returns-in-Ok-Refused-clause-answers
 returns-in-Ok-Refused-clause-answers c =
-    let opened = opens_refused c.args.bytes.now c.in-Ok-Refused.field-0 c.in-Ok-Refused.reported c.in-Ok-Refused.field-0-is c.in-Ok-Refused.ensures.opens in
-    reports_output (CheckOut c.args.bytes.now) (output_of c.in-Ok-Refused.reported) opened.0 _ _ _ _ c.return_answer.ensures
+    let opened = opens_refused c.args.bytes.now c.in-Ok-Refused.field-0 c.in-Ok-Refused.answer c.in-Ok-Refused.field-0-is c.in-Ok-Refused.ensures.opens in
+    reports_output (CheckOut c.args.bytes.now) (output_of c.in-Ok-Refused.answer) opened.0 _ _ _ _ c.return_answer.ensures
 
 pub returns-in-Ok-Refused-clause-held : goal.returns-in-Ok-Refused-clause-held
 returns-in-Ok-Refused-clause-held c = λ zero.
-    let opened = opens_refused c.args.bytes.now c.in-Ok-Refused.field-0 c.in-Ok-Refused.reported c.in-Ok-Refused.field-0-is c.in-Ok-Refused.ensures.opens in
-    absurd (never_yes (output_of c.in-Ok-Refused.reported) _ _ _ _ opened.1 c.return_answer.ensures zero)
+    let opened = opens_refused c.args.bytes.now c.in-Ok-Refused.field-0 c.in-Ok-Refused.answer c.in-Ok-Refused.field-0-is c.in-Ok-Refused.ensures.opens in
+    absurd (never_yes (output_of c.in-Ok-Refused.answer) _ _ _ _ opened.1 c.return_answer.ensures zero)

@@ -1,5 +1,5 @@
-use Rattle.sas_lines.proofs.Imports.{arith, ◌≡◌, ◌<◌, ◌≤◌, ◌^◌, ◌/◌, ℕ, List, length, take, Option, Some, None, decimal, IfNone, MatchBool-at_true, MatchBool-at_false}
-use Rattle.sas_lines.proofs.Digits.{is_short, is_below, is_digit, same_value, in_two, put_together}
+use Rattle.sas_lines.proofs.Imports.{arith, ◌≡◌, ◌<◌, ◌≤◌, ◌^◌, ◌/◌, ℕ, List, length, take, Option, Some, None, decimal, IfNone}
+use Rattle.sas_lines.proofs.Digits.{is_short, is_below, same_value, in_two}
 use Rattle.sas_lines.proofs.spelling.cost.Goals as goal
 
 short : (line : List ℕ) (r : Option ℕ) → length line ≤ 19 → IfNone r ((n : ℕ) → n < 10 ^ 19 → line ≡ decimal n → ⊥) → IfNone r ((n : ℕ) → n < 2 ^ 64 → line ≡ decimal n → ⊥)
@@ -16,12 +16,6 @@ returns-then-line-lt20-clause-none c = short c.args.line.now c.short_number.resu
 pub returns-then-line-gt20-clause-none : goal.returns-then-line-gt20-clause-none
 returns-then-line-gt20-clause-none c = λ n h e. omega (arith, is_short c.args.line.now n 20 (omega arith) (omega arith) h e)
 
-pub returns-then-not-is_ascii_digit-clause-none : goal.returns-then-not-is_ascii_digit-clause-none
-returns-then-not-is_ascii_digit-clause-none c = λ n h e.
-    let k = is_digit c.args.line.now n 19 h e (omega arith) in
-    let other = MatchBool-at_false _ _ c.if-not-is_ascii_digit.true c.is_ascii_digit.ensures.cases in
-    grind arith
-
 pub returns-in_err-tenth-clause-none : goal.returns-in_err-tenth-clause-none
 returns-in_err-tenth-clause-none c = if_none c.from_residual.result (λ n h e.
     let two = in_two c.args.line.now n h e (omega arith) in
@@ -33,9 +27,3 @@ returns-then-value-clause-none c = λ n h e.
     let found = c.in_ok-tenth.ensures.found in
     let same = same_value (take 19 c.args.line.now) c.in_ok-tenth.tenth (n / 10) (omega (arith, found.0)) (omega arith) found.1 two.front in
     omega (arith, two.last, same)
-
-pub returns-clause-found : goal.returns-clause-found
-returns-clause-found c =
-    let found = c.in_ok-tenth.ensures.found in
-    let here = MatchBool-at_true _ _ c.if-not-is_ascii_digit.false c.is_ascii_digit.ensures.cases in
-    (omega arith, put_together c.args.line.now c.in_ok-tenth.tenth (omega arith) found.1 found.0 (omega (arith, here)) (omega (arith, here)) (omega arith))

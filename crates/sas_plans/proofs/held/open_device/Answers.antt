@@ -1,17 +1,15 @@
-use Rattle.sas_plans.proofs.Imports.{◌≡◌, ◌∙◌, Err, ap, Read}
+use Rattle.sas_plans.proofs.Imports.{◌∙◌, Err, ap, err_from_is_err_and}
 use Rattle.sas_plans.proofs.Opened.{opens_fault, opens_ready, opens_refused, opens_unlayered}
 use Rattle.sas_plans.proofs.held.open_device.Goals as goal
 
-pub returns-in-Ok-refuse_file : goal.returns-in-Ok-refuse_file
-returns-in-Ok-refuse_file g c = opens_refused g.R.Read.remaining _ _ c.in-Err.refusal.fault c.in-Err.ensures.plain c.in-Ok-refuse_file.reported c.in-Ok-refuse_file.ensures.ok
+pub returns-in-Err : goal.returns-in-Err
+returns-in-Err g c = opens_refused g.R.Read.remaining _ _ c.in-Err.refusal.fault c.in-Err.ensures.plain c.in_ok-answer-in-Err.answer c.in_ok-answer-in-Err.ensures.ok
 
-pub returns-in-Err-refuse_file : goal.returns-in-Err-refuse_file
-returns-in-Err-refuse_file g c =
-    let why = c.in-Err-refuse_file.why in
-    opens_fault g.R.Read.remaining _ _ c.in-Err.refusal.fault c.in-Err.ensures.plain why
-    (λ is. c.in-Err-refuse_file.ensures.long.0 (ap Err is))
-    (λ is. c.in-Err-refuse_file.ensures.read.0 (ap Err is), λ kind. let failed : Err why ≡ Err Read = c.in-Err-refuse_file.ensures.read.1 kind in cc)
-    c.in-Err-refuse_file.ensures.writes
+pub returns-in_err-answer-in-Err : goal.returns-in_err-answer-in-Err
+returns-in_err-answer-in-Err g c =
+    let p = err_from_is_err_and c.from_residual.result c.from_residual.ensures.1 in
+    rw (p.1, p.2) (opens_fault g.R.Read.remaining _ _ c.in-Err.refusal.fault c.in-Err.ensures.plain _ (λ is. c.in_err-answer-in-Err.ensures.long.0 (ap Err is))
+    (λ is. c.in_err-answer-in-Err.ensures.read.0 (ap Err is), λ kind. let failed = c.in_err-answer-in-Err.ensures.read.1 kind in cc) c.in_err-answer-in-Err.ensures.writes)
 
 pub returns-in_ok-hold-in-Ok-new : goal.returns-in_ok-hold-in-Ok-new
 returns-in_ok-hold-in-Ok-new g c =

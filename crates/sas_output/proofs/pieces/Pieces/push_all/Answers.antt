@@ -5,10 +5,10 @@ use Rattle.sas_output.proofs.pieces.Pieces.push_all.Goals as goal
 abbrev no_part : Bor (List ℕ)
 no_part = record { ref_ptr = (0, 0); now = [] }
 
-pub returns-in_err-push-clause-puts : goal.returns-in_err-push-clause-puts
-returns-in_err-push-clause-puts g c =
+pub returns-in_err-push : goal.returns-in_err-push
+returns-in_err-push g c =
     let p = err_from_is_err_and c.from_residual.result c.from_residual.ensures.1 in
-    rw (p.1, p.2) (item_breaks (λ (part : Bor (List ℕ)). part.now) _ _ _ _ _ c.push.new.self _ _ no_part _ c.loop-part-test.true c.loop-part.invariant.puts c.in_err-push.ensures.puts)
+    rw (p.1, p.2) (record { puts = item_breaks (λ (part : Bor (List ℕ)). part.now) _ _ _ _ _ c.push.new.self _ _ no_part _ c.loop-part-test.true c.loop-part.invariant.puts c.in_err-push.ensures.puts; note = c.in_err-push.ensures.note })
 
 pub loop-part-preserved : goal.loop-part-preserved
 loop-part-preserved g c = record {

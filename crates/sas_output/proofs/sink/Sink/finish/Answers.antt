@@ -19,8 +19,8 @@ returns-clause-ends g c start text pushed =
     let out = λ (output : Option Output). output ≡ Some (record { text = text; status = c.args.status }) in
     let sent = Appends start (g.W.Write.contents c.flush.new.out.device) in
     elim c.match-flush.branch [
-      | in-Ok w ↦ subst (EndsCounting out sent) (sym w.result-is) (_, refl, refl, all_sent _ _ _ _ _ _ refl w.in-Ok.ensures.empty refl (finish_puts _ _ _ _ _ _ _ puts w.in-Ok.ensures.puts))
+      | in-Ok w ↦ subst (EndsCounting out sent) (sym w.result-is) (_, refl, refl, all_sent _ _ _ _ _ _ refl w.in-Ok.ensures.empty refl (finish_puts _ _ _ _ _ _ _ puts w.in-Ok.ensures.adds.puts))
       | in-Err w ↦ subst (EndsCounting out sent) (sym w.result-is)
-          (let (number, counts, less, sent) = first_counted _ _ _ _ _ _ refl refl (finish_breaks _ _ _ _ _ _ _ puts w.in-Err.ensures.puts) in
+          (let (number, counts, less, sent) = first_counted _ _ _ _ _ _ refl refl (finish_breaks _ _ _ _ _ _ _ puts w.in-Err.ensures.adds.puts) in
           (number, counts, (_, refl, less, sent)))
     ]

@@ -1,5 +1,5 @@
 use Rattle.sas_requests.proofs.Imports.{List, ℕ, Bor, ap, Some}
-use Rattle.sas_requests.proofs.plans.trace_bytes.Goals as goal
+use Rattle.sas_requests.proofs.plans.answer_bytes.Goals as goal
 
 pub returns-clause-ends : goal.returns-clause-ends
 returns-clause-ends g c =
