@@ -1,7 +1,5 @@
 // Whether a plan solves a task, as an answer.
-ghost use Rattle.std.specs.Prelude.{◌≡◌, ◌≢◌, option_map, Some, IfOk, IfErr};
-ghost use Rattle.sas_run.specs.Plans.{IsValid};
-ghost use Rattle.sas_run.specs.Verdicts.{IsFaultOf};
+ghost use Rattle.std.specs.Prelude.{◌≡◌, option_map, Some, IfOk};
 ghost use Rattle.sas_answers.specs.Answers.{VerdictAnswer, valid_answer, invalid_answer};
 ghost use Rattle.sas_output.specs.Ending.{output_of};
 ghost use Rattle.sas_answers.specs.PlanWords.{valid_line, fault_words, step_words};
@@ -13,10 +11,10 @@ use sas_flat::{FlatPlan, FlatTask};
 use sas_lines::{push_line, push_number};
 use sas_meaning::Layered;
 use sas_output::{Answer, Status};
-use sas_run::{Held, PlanFault, Valid, check_once};
+use sas_run::{Held, PlanFault, check_once};
 use std::alloc::{AllocError, Global};
 
-/// Returns the answer about whether the plan is valid.
+/// Returns the answer about whether the plan is valid. The evaluator counts open conditions.
 pub fn verdict_answer(
     alloc: Global,
     layered: &Layered<FlatTask>,
@@ -24,7 +22,8 @@ pub fn verdict_answer(
 ) -> Result<Answer, AllocError>
     ensures { IfOk result (λ a. VerdictAnswer layered.now plan.now (output_of a)) }
 {
-    match check_plan(alloc, layered, plan) {
+    let worklist = Worklist::new(alloc, layered)?;
+    match check_once(alloc, layered, worklist, plan) {
         Ok(_) => accept_plan(alloc, plan),
         Err(fault) => refuse_plan(alloc, plan.cost(), fault),
     }
@@ -53,21 +52,6 @@ pub fn accept_plan(alloc: Global, plan: &FlatPlan) -> Result<Answer, AllocError>
         text: valid_text(alloc, plan.steps(), plan.cost())?,
         status: Status::Yes,
     })
-}
-
-/// Checks whether the plan is valid, with an evaluator that counts open conditions.
-fn check_plan(
-    alloc: Global,
-    layered: &Layered<FlatTask>,
-    plan: &FlatPlan,
-) -> Result<Valid, PlanFault>
-    ensures valid { IfOk result (λ v. IsValid layered.now plan.now v.operators.items) }
-    ensures fault { IfErr result (λ f. f ≢ PlanFault.Memory → IsFaultOf layered.now plan.now f) }
-{
-    let Ok(worklist) = Worklist::new(alloc, layered) else {
-        return Err(PlanFault::Memory);
-    };
-    check_once(alloc, layered, worklist, plan)
 }
 
 /// Returns the answer about a plan with this cost and this fault. For `Memory` it returns an `Err`.

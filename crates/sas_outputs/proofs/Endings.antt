@@ -1,22 +1,17 @@
 -- How the writing of an answer ends.
+use Rattle.std.proofs.Common.{arith}
+use Rattle.std.proofs.lemmas.Grind.{common_steps}
 use Rattle.sas_outputs.proofs.Imports.{◌≡◌, ℕ, List, ap, sym, subst, ◌∙◌, Option, Some, None, Result, Ok, Err, IfOk, none-some, Status, ToolFault, Output, Ends, EndsCounting, IsDecided, counting_ends}
 use Rattle.sas_output.specs.declared.ending.ToolFault.TheVariants as tool_fault
 
 module _ (o : Output) (Sent : List ℕ → Type 0) where
   -- if the writing ends with this output, it ends with a right output
   pub ends_as : (Out : Option Output → Type 0) (r : Result Status ToolFault) → Out (Some o) → Ends (λ output. output ≡ Some o) Sent r → Ends Out Sent r
-  ends_as Out (Ok status) right (output, is, same, sent) = (output, subst Out (sym is) right, same, sent)
-  ends_as Out (Err (tool_fault.Write written)) right (output, is, less, sent) = (output, subst Out (sym is) right, less, sent)
-  ends_as Out (Err tool_fault.TooLong) right is = absurd (none-some o is)
-  ends_as Out (Err tool_fault.Memory) right is = tt
-  ends_as Out (Err tool_fault.Read) right is = tt
+  ends_as Out r right is = grind (arith, common_steps, none-some)
 
   -- and where it ends well, all of the output went out
   pub ends_counting_well : (P : Status → Type 0) (r : Result Status ToolFault) → EndsCounting (λ output. output ≡ Some o) Sent r → ((status : Status) → status ≡ o.status → Sent o.text → P status) → IfOk r P
-  ends_counting_well P (Ok status) (output, is, same_status, sent) so =
-      let same : output ≡ o = cc in
-      so status (same_status ∙ ap (λ (x : Output). x.status) same) (subst (λ (x : Output). Sent x.text) same sent)
-  ends_counting_well P (Err why) ends so = tt
+  ends_counting_well P r ends so = grind (arith, common_steps)
 
   pub ends_well : (P : Status → Type 0) (r : Result Status ToolFault) → Ends (λ output. output ≡ Some o) Sent r → ((status : Status) → status ≡ o.status → Sent o.text → P status) → IfOk r P
   ends_well P r ends = ends_counting_well P r (counting_ends (λ output. output ≡ Some o) Sent r ends)

@@ -1,4 +1,5 @@
 -- A plan is reported as valid exactly if it is.
+use Rattle.std.proofs.lemmas.Grind.{common_steps}
 use Rattle.sas_outputs.proofs.Imports.{◌≡◌, ◌≢◌, ℕ, ◌<◌, ◌⊎◌, List, [], ◌∷◌, ◌++◌, length, codes, get_or, arith, refl, sym, ap, subst, ◌∙◌, inl, inr, Option, Some, None, Result, Ok, Err, option_map, Appends, none-some, append_cancel_left, Parts, PlanParts, LayerFault, IsLayered, Fault, TooLong, most_bytes, Reads, Format, ReadsAs, Laws, plan_texts, plan_format, plan_laws_hold, task_texts}
 use Rattle.sas_outputs.proofs.Imports.{task_format, task_laws_hold, Status, Yes, No, IsValid, layer_words, layers_line, valid_answer, VerdictAnswer, Output, valid_line, fault_words, invalid_line, one_verdict_answer, worded}
 use Rattle.std.proofs.lemmas.List.{append-nil}
@@ -86,9 +87,7 @@ not_long name f o is = refused_kind f.kind TooLong _ o refl (sym is)
 
 -- if a device reports its bytes, one text was written
 pub sent_same : (old new : Option (List ℕ)) (before x y : List ℕ) → old ≡ Some before → Appends old new x → Appends old new y → x ≡ y
-sent_same None new before x y e f g = absurd (none-some before e)
-sent_same (Some xs) None before x y e f g = absurd f
-sent_same (Some xs) (Some ys) before x y e f g = append_cancel_left xs x y (sym f ∙ g)
+sent_same old new before x y e f g = grind (arith, common_steps, none-some, append_cancel_left)
 
 -- the headline follows from what an output says, and from what it is for a plan that solves the task
 module _ (b c : List ℕ) (o : Output) (reported : IsSolved b c o ⊎ IsOther o) (solved : (line : List ℕ) → Solves b c line → (o.status ≡ Yes) × (o.text ≡ line)) where

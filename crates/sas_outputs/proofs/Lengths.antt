@@ -1,4 +1,5 @@
 -- The lines of some bytes aren't longer than the bytes.
+use Rattle.std.proofs.lemmas.Grind.{common_steps}
 use Rattle.sas_outputs.proofs.Imports.{ℕ, ◌+◌, ◌≤◌, Bool, true, false, ◌==◌, if◌then◌else◌, List, [], ◌∷◌, ◌++◌, length, length-append, arith, text, lines, lines_among, without_return, parts, onto_first}
 
 without_short : (bytes : List ℕ) → length (without_return bytes) ≤ length bytes
@@ -27,9 +28,7 @@ among_short (p ∷ q ∷ ps) =
 
 spread_onto : (b : ℕ) (ps : List (List ℕ)) → spread (onto_first b ps) ≤ spread ps + 1
 unfolding spread
-spread_onto b [] = omega arith
-spread_onto b (p ∷ []) = omega arith
-spread_onto b (p ∷ q ∷ ps) = omega arith
+spread_onto b ps = grind (arith, common_steps)
 
 spread_behind : (ps : List (List ℕ)) → spread ([] ∷ ps) ≤ spread ps + 1
 unfolding spread

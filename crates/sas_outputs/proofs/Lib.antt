@@ -1,5 +1,6 @@
 pub mod Summaries
 mod ShownTexts
+mod FileTexts
 pub mod ReasonLines
 pub mod Outputs
 pub mod PlanOutputs

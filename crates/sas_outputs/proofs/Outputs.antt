@@ -1,4 +1,5 @@
 -- Outputs about one file.
+use Rattle.std.proofs.lemmas.Grind.{common_steps}
 use Rattle.sas_outputs.proofs.Imports.{◌≡◌, ◌≢◌, ℕ, ◌+◌, ◌<◌, List, [], ◌∷◌, codes, length, length-append, arith, refl, sym, ap, subst, ◌∙◌, inl, inr, Option, Some, None, Result, Ok, Err, option_map, Consumes, none-some, Parts, PlanParts, Fault, Kind, TooLong, Read, Memory, most_bytes, Format, FaultOf, KindAt, too_long, trailing, wrong, ReadsAs, Laws, plan_format, PlanKind, like_step, like_cost}
 use Rattle.sas_outputs.proofs.Imports.{like_none, task_format, TaskSlot, word_slot, name_slot, number_slot, signed_slot, fact_slot, effect_slot, head_slot, NumbersKind, no_shape, no_value, plan_laws_hold, task_laws_hold, Refuses, unread_at, ended_at, faulty_at, Status, Output, OneAnswer, SomeAnswer}
 use Rattle.sas_outputs.specs.Output.{word_of, refusal, IsAnswerOrRefusal, FileOut, TaskOut, HasOneOutput}
@@ -24,9 +25,7 @@ too_long_else k other e apart same = apart (sym e ∙ same)
 
 -- the fault of bytes that were read from a device
 pub reading_of_refusal : {V I S : Type 0} (F : Format V I S) (bytes : List ℕ) (At_end : Type 0) (f : Fault) → Refuses F bytes At_end f → f.kind ≢ Read → ReadsAs F most_bytes bytes (Err f)
-reading_of_refusal F bytes At_end f (unread_at live line kind) other = absurd (other kind)
-reading_of_refusal F bytes At_end f (ended_at at_end early) other = inr early
-reading_of_refusal F bytes At_end f (faulty_at fault other_kind) other = inl fault
+reading_of_refusal F bytes At_end f why other = grind (arith, common_steps)
 
 -- nothing was read from a device that is unchanged
 pub takes_nothing : (remaining : Option (List ℕ)) → Consumes remaining remaining []
@@ -42,9 +41,7 @@ abbrev pub Worded : {V I S : Type 0} → Format V I S → Type 0
 Worded F = (s : _) (line : List ℕ) (k : Kind) → F.KindOf s line k → word_of k ≡ None → ⊥
 
 plan_kind_worded : (line : List ℕ) (k : Kind) → PlanKind line k → word_of k ≡ None → ⊥
-plan_kind_worded line k (like_step b) none = none-some _ (sym none)
-plan_kind_worded line k (like_cost b) none = none-some _ (sym none)
-plan_kind_worded line k (like_none a b) none = none-some _ (sym none)
+plan_kind_worded line k why none = grind (arith, common_steps, none-some)
 
 pub plan_worded : Worded plan_format
 plan_worded s line k = plan_kind_worded line k
@@ -83,9 +80,7 @@ module _ {V I S : Type 0} (F : Format V I S) (name : List ℕ) (IsAnswer : V →
   some_reading some (Err fault) none = none (refusal name fault) refl
 
   too_long_at : Worded F → (before : List ℕ) (byte : ℕ) (k : Kind) → KindAt F most_bytes before byte k → word_of k ≡ None → most_bytes < length before + 1
-  too_long_at worded before byte k (too_long long e) none = long
-  too_long_at worded before byte k (trailing short v reads e) none = absurd (none-some _ (sym none ∙ ap word_of e))
-  too_long_at worded before byte k (wrong short line is s next kind) none = absurd (worded s line k kind none)
+  too_long_at worded before byte k at none = grind (arith, common_steps, none-some, worded)
 
   too_long_fault : Worded F → (f : Fault) → FaultOf F most_bytes bytes f → word_of f.kind ≡ None → most_bytes < length bytes
   too_long_fault worded f fault none =
@@ -93,9 +88,7 @@ module _ {V I S : Type 0} (F : Format V I S) (name : List ℕ) (IsAnswer : V →
       rw fault.whole (omega (arith, length-append fault.before (fault.byte ∷ fault.after)))
 
   long_reading : Worded F → (r : Result V Fault) → ReadsAs F most_bytes bytes r → IsAnswerOrRefusal name IsAnswer r None → most_bytes < length bytes
-  long_reading worded (Ok v) reads e = absurd (none-some _ e.2)
-  long_reading worded (Err f) (inl fault) e = too_long_fault worded f fault (no_word (word_of f.kind) _ e)
-  long_reading worded (Err f) (inr early) e = absurd (none-some _ (sym (no_word (word_of f.kind) _ e) ∙ ap word_of early.kind))
+  long_reading worded r reads e = grind (arith, common_steps, none-some, too_long_fault, worded, no_word)
 
   pub long_file : Worded F → FileOut F name IsAnswer bytes None → most_bytes < length bytes
   long_file worded out = long_reading worded out.0 out.1 out.2

@@ -1,4 +1,6 @@
 -- Lines that refuse a file or a task, and verdicts on a plan, contain no line end.
+use Rattle.std.proofs.Common.{arith}
+use Rattle.std.proofs.lemmas.Grind.{common_steps}
 use Rattle.sas_outputs.proofs.Imports.{◌≡◌, ℕ, List, ◌++◌, codes, refl, subst, Some, decimal, none-some, LayerFault, Kind, IsPlain, plain-decimal, plain_bytes, plain-append, PlanFault, layer_words, words_at_part, fault_words, step_words, goal_words, sum_words}
 use Rattle.sas_meaning.specs.declared.layered.LayerFault.TheVariants as layer_fault
 use Rattle.sas_reader.specs.declared.fault.Kind.TheVariants as kinds
@@ -15,15 +17,7 @@ abbrev pub file_words : List ℕ → ℕ → List ℕ → List ℕ
 file_words name line w = name ++ codes " refused: line " ++ decimal line ++ codes ": " ++ w
 
 pub kind_plain : (kind : Kind) (w : List ℕ) → word_of kind ≡ Some w → IsPlain w
-kind_plain kinds.Keyword w e = some_words (codes "keyword") w e (plain_bytes (codes "keyword") refl)
-kind_plain kinds.Name w e = some_words (codes "name") w e (plain_bytes (codes "name") refl)
-kind_plain kinds.Shape w e = some_words (codes "shape") w e (plain_bytes (codes "shape") refl)
-kind_plain kinds.Value w e = some_words (codes "value") w e (plain_bytes (codes "value") refl)
-kind_plain kinds.End w e = some_words (codes "end") w e (plain_bytes (codes "end") refl)
-kind_plain kinds.Trailing w e = some_words (codes "trailing") w e (plain_bytes (codes "trailing") refl)
-kind_plain kinds.TooLong w e = absurd (none-some w e)
-kind_plain kinds.Read w e = absurd (none-some w e)
-kind_plain kinds.Memory w e = absurd (none-some w e)
+kind_plain kind w e = grind (arith, common_steps, some_words, plain_bytes, none-some)
 
 pub file_plain : (name : List ℕ) (line : ℕ) (w : List ℕ) → IsPlain name → IsPlain w → IsPlain (file_words name line w)
 file_plain name line w h g =
@@ -66,20 +60,7 @@ step_plain step what w h e =
     h)
 
 fault_plain : (cost : ℕ) (fault : PlanFault) (w : List ℕ) → fault_words cost fault ≡ Some w → IsPlain w
-fault_plain cost (plan_fault.NoOperator step) w e = step_plain step (codes "no operator of that name") w (plain_bytes (codes "no operator of that name") refl) e
-fault_plain cost (plan_fault.NotApplicable step) w e = step_plain step (codes "not applicable") w (plain_bytes (codes "not applicable") refl) e
-fault_plain cost (plan_fault.Conflict step operator) w e = step_plain step (codes "conflicting effects") w (plain_bytes (codes "conflicting effects") refl) e
-fault_plain cost (plan_fault.GoalMissed index) w e =
-    some_words (goal_words index) w e
-    (plain-append (codes "goal fact " ++ decimal index) (codes " not reached")
-    (plain-append (codes "goal fact ") (decimal index) (plain_bytes (codes "goal fact ") refl) (plain-decimal index)) (plain_bytes (codes " not reached") refl))
-fault_plain cost (plan_fault.CostDiffers sum) w e =
-    some_words (sum_words sum cost) w e
-    (plain-append (codes "cost is " ++ decimal sum ++ codes ", not ") (decimal cost)
-    (plain-append (codes "cost is " ++ decimal sum) (codes ", not ")
-    (plain-append (codes "cost is ") (decimal sum) (plain_bytes (codes "cost is ") refl) (plain-decimal sum)) (plain_bytes (codes ", not ") refl))
-    (plain-decimal cost))
-fault_plain cost plan_fault.Memory w e = absurd (none-some w e)
+fault_plain cost fault w e = grind (arith, common_steps, step_plain, plain_bytes, some_words, plain-append, plain-decimal, none-some)
 
 -- a verdict with the answer no, without its line end
 pub invalid_plain : (cost : ℕ) (fault : PlanFault) (w : List ℕ) → fault_words cost fault ≡ Some w → IsPlain (codes "plan invalid: " ++ w)

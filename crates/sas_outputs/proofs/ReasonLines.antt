@@ -1,14 +1,15 @@
 -- Each line of reasons begins with two spaces, and contains neither LF nor CR.
+use Rattle.std.proofs.lemmas.Grind.{common_steps}
 use Rattle.sas_outputs.proofs.Imports.{◌+◌, ℕ, ◌/◌, ◌%◌, ◌<◌, Bool, true, false, List, [], ◌∷◌, ◌++◌, codes, flat_map, refl, arith, ap, IsTrue, not, nat_lt, ◌&&◌, ◌==◌, if◌then◌else◌, decimal, list_all, and_from, ne_eqb, ltb-true, is_plain, Kind, fixed_word_bytes, Due, FixedWord, Location, number, number_then, two}
 use Rattle.sas_output.proofs.PlainLines.{IsPlain, plain-append}
 use Rattle.sas_reader.specs.declared.fault.Kind.TheVariants as kinds
 use Rattle.sas_task_format.specs.declared.marks.Due.TheVariants as due
 use Rattle.sas_task_format.specs.declared.marks.FixedWord.TheVariants as fixed
 use Rattle.sas_task_format.specs.declared.marks.Location.TheVariants as at
-use Rattle.sas_outputs.specs.FileLine.{At, Expected, ExpectedInPlan, NumberMustBe, Found, EmptyLine, Unfinished, EndOfFile}
-use Rattle.sas_outputs.specs.FileLine.{location_words, due_words, plan_due_words, least_words}
+use Rattle.sas_outputs.specs.FileLine.{At, Expected, ExpectedInPlan, NumberMustBe, Found}
+use Rattle.sas_outputs.specs.FileLine.{location_words, due_words, plan_due_words, least_words, empty_words, found_word}
 use Rattle.sas_outputs.specs.Laws.{FileLinesAreReasons}
-use Rattle.sas_outputs.specs.ShownBytes.{hex_digit_of, in_digits, shown_byte, shown_whole, shown}
+use Rattle.sas_outputs.specs.FileLine.{hex_digit_of, in_digits, shown_byte, shown_whole, shown}
 
 -- ---- what was found
 
@@ -56,73 +57,27 @@ shown_plain bytes false = whole_plain bytes
 -- ---- the location of a line, and what is expected there
 
 location_plain : (at : Location) → IsPlain (location_words at)
-location_plain at.Version = refl
-location_plain at.Metric = refl
-location_plain at.Variables = refl
-location_plain (at.Variable n) = number n
-location_plain at.Groups = refl
-location_plain (at.Group n) = number n
-location_plain at.State = refl
-location_plain at.Goal = refl
-location_plain at.Operators = refl
-location_plain (at.Operator n) = number n
-location_plain at.Rules = refl
-location_plain (at.Rule n) = number n
-location_plain at.End = refl
+location_plain at = grind (arith, number)
 
 word_plain : (w : FixedWord) → IsPlain (fixed_word_bytes w)
-word_plain fixed.BeginVersion = refl
-word_plain fixed.EndVersion = refl
-word_plain fixed.BeginMetric = refl
-word_plain fixed.EndMetric = refl
-word_plain fixed.BeginVariable = refl
-word_plain fixed.EndVariable = refl
-word_plain fixed.BeginMutexGroup = refl
-word_plain fixed.EndMutexGroup = refl
-word_plain fixed.BeginState = refl
-word_plain fixed.EndState = refl
-word_plain fixed.BeginGoal = refl
-word_plain fixed.EndGoal = refl
-word_plain fixed.BeginOperator = refl
-word_plain fixed.EndOperator = refl
-word_plain fixed.BeginRule = refl
-word_plain fixed.EndRule = refl
+word_plain w = grind arith
 
 due_plain : (d : Due) → IsPlain (due_words d)
-due_plain (due.Word w) = word_plain w
-due_plain due.Name = refl
-due_plain (due.Number least most) = plain-append (decimal least ++ codes " to ") (decimal most) (number_then least (codes " to ") refl) (number most)
-due_plain due.Layer = refl
-due_plain due.Fact = refl
-due_plain due.Head = refl
-due_plain due.Effect = refl
-due_plain due.Nothing = refl
+due_plain d = grind (arith, common_steps, word_plain, plain-append, number_then, number)
 
 plan_due_plain : (kind : Kind) → IsPlain (plan_due_words kind)
-plan_due_plain kinds.Name = refl
-plan_due_plain kinds.Shape = refl
-plan_due_plain kinds.Trailing = refl
-plan_due_plain kinds.Keyword = refl
-plan_due_plain kinds.End = refl
-plan_due_plain kinds.Value = refl
-plan_due_plain kinds.TooLong = refl
-plan_due_plain kinds.Read = refl
-plan_due_plain kinds.Memory = refl
+plan_due_plain kind = grind arith
 
 least_plain : (may_be_none : Bool) → IsPlain (least_words may_be_none)
-least_plain true = refl
-least_plain false = refl
+least_plain may_be_none = grind arith
+
+empty_plain : (kind : Kind) → IsPlain (empty_words kind)
+empty_plain kind = grind arith
+
+word_then : (kind : Kind) (bytes : List ℕ) → IsPlain bytes → IsPlain (found_word kind ++ 32 ∷ bytes)
+word_then kind bytes plain = grind arith
 
 -- ---- each line
 
 pub file_lines_are_reasons : FileLinesAreReasons
-file_lines_are_reasons (At at) = two _ (location_plain at)
-file_lines_are_reasons (Expected d) = two _ (due_plain d)
-file_lines_are_reasons (ExpectedInPlan kind) = two _ (plan_due_plain kind)
-file_lines_are_reasons (NumberMustBe w) =
-    let range = least_words w.may_be_none ++ (codes " to " ++ decimal w.most) in
-    two _ (number_then w.word (codes " must be " ++ range) (plain-append (least_words w.may_be_none) (codes " to " ++ decimal w.most) (least_plain w.may_be_none) (number w.most)))
-file_lines_are_reasons (Found bytes more) = two _ (shown_plain bytes more)
-file_lines_are_reasons EmptyLine = two _ refl
-file_lines_are_reasons (Unfinished bytes more) = two _ (shown_plain bytes more)
-file_lines_are_reasons EndOfFile = two _ refl
+file_lines_are_reasons l = grind (arith, common_steps, two, location_plain, due_plain, plan_due_plain, number_then, plain-append, least_plain, number, empty_plain, word_then, shown_plain)

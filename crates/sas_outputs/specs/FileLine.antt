@@ -1,5 +1,6 @@
 -- Lines of the reasons why a file is refused.
-use Rattle.std.specs.Prelude.{ℕ, Bool, true, false, List, [], ◌∷◌, ◌++◌, codes, decimal}
+use Rattle.std.specs.Prelude.{ℕ, ◌+◌, ◌/◌, ◌%◌, ◌==◌, nat_lt, Bool, true, false, ◌&&◌, not, if◌then◌else◌}
+use Rattle.std.specs.Prelude.{List, [], ◌∷◌, ◌++◌, flat_map, codes, decimal}
 use Rattle.sas_reader.specs.declared.fault.Kind.{Kind}
 use Rattle.sas_reader.specs.declared.fault.Kind.TheVariants as kinds
 use Rattle.sas_output.specs.Words.{line}
@@ -9,7 +10,6 @@ use Rattle.sas_task_format.specs.declared.marks.Due.TheVariants as due
 use Rattle.sas_task_format.specs.declared.marks.Location.{Location}
 use Rattle.sas_task_format.specs.declared.marks.Location.TheVariants as at
 use Rattle.sas_task_format.specs.declared.marks.WrongWord.{WrongWord}
-use Rattle.sas_outputs.specs.ShownBytes.{shown}
 
 -- a line as data
 pub data FileLine : Type 0 where
@@ -21,14 +21,8 @@ pub data FileLine : Type 0 where
   ExpectedInPlan : Kind → FileLine
   -- the first wrong number, and which numbers are allowed
   NumberMustBe : WrongWord → FileLine
-  -- the wrong line or the byte after the end: its first bytes, and whether more follow
-  Found : List ℕ → Bool → FileLine
-  -- the wrong line is empty
-  EmptyLine : FileLine
-  -- the unfinished last line: its first bytes, and whether more follow
-  Unfinished : List ℕ → Bool → FileLine
-  -- nothing follows the last line end
-  EndOfFile : FileLine
+  -- the text at a fault of this kind: its first bytes, and whether more follow
+  Found : Kind → List ℕ → Bool → FileLine
 
 -- the words for a location in a task
 abbrev pub location_words : Location → List ℕ
@@ -69,6 +63,43 @@ abbrev pub least_words : Bool → List ℕ
 least_words true = codes "-1"
 least_words false = codes "0"
 
+-- whether a byte is shown as it is: from 32 to 126, but for the backslash
+abbrev pub is_shown : ℕ → Bool
+is_shown b = nat_lt 31 b && nat_lt b 127 && not (b == 92)
+
+-- the hexadecimal digit of a number below 16, in lower case
+abbrev pub hex_digit_of : ℕ → ℕ
+hex_digit_of n = if nat_lt n 10 then 48 + n else 87 + n
+
+-- a byte as `\x` and two hexadecimal digits
+abbrev pub in_digits : ℕ → List ℕ
+in_digits b = 92 ∷ 120 ∷ hex_digit_of (b / 16) ∷ hex_digit_of (b % 16) ∷ []
+
+-- a byte as it is shown
+abbrev pub shown_byte : ℕ → List ℕ
+shown_byte b = if is_shown b then b ∷ [] else in_digits b
+
+-- a whole text as it is shown: a space at its end as `\x20`
+abbrev pub shown_whole : List ℕ → List ℕ
+shown_whole [] = []
+shown_whole (b ∷ []) = if b == 32 then in_digits b else shown_byte b
+shown_whole (b ∷ next ∷ bytes) = shown_byte b ++ shown_whole (next ∷ bytes)
+
+-- the first bytes of a text as they are shown, and ` ..` if more follow
+abbrev pub shown : List ℕ → Bool → List ℕ
+shown bytes true = flat_map shown_byte bytes ++ codes " .."
+shown bytes false = shown_whole bytes
+
+-- the word before the text at a fault of this kind: `End` is that of an unfinished last line
+abbrev pub found_word : Kind → List ℕ
+found_word kinds.End = codes "unfinished"
+found_word _ = codes "found"
+
+-- the words in place of an empty text
+abbrev pub empty_words : Kind → List ℕ
+empty_words kinds.End = codes "end of file"
+empty_words _ = codes "empty line"
+
 -- the bytes of a line, without its end
 abbrev pub file_line_bytes : FileLine → List ℕ
 file_line_bytes (At at) = line 2 (codes "at" ∷ location_words at ∷ [])
@@ -77,10 +108,9 @@ file_line_bytes (ExpectedInPlan kind) = line 2 (codes "expected" ∷ plan_due_wo
 file_line_bytes (NumberMustBe w) =
     line 2 (codes "number" ∷ decimal w.word ∷ codes "must be" ∷ least_words w.may_be_none
     ∷ codes "to" ∷ decimal w.most ∷ [])
-file_line_bytes (Found bytes more) = line 2 (codes "found" ∷ shown bytes more ∷ [])
-file_line_bytes EmptyLine = line 2 (codes "empty line" ∷ [])
-file_line_bytes (Unfinished bytes more) = line 2 (codes "unfinished" ∷ shown bytes more ∷ [])
-file_line_bytes EndOfFile = line 2 (codes "end of file" ∷ [])
+file_line_bytes (Found kind [] more) = line 2 (empty_words kind ∷ [])
+file_line_bytes (Found kind (b ∷ bytes) more) =
+    line 2 (found_word kind ∷ shown (b ∷ bytes) more ∷ [])
 
 -- the bytes of a line, with its end
 abbrev pub ended : FileLine → List ℕ

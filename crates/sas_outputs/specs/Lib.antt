@@ -1,6 +1,5 @@
 -- What the public clauses cite.
 pub mod Summary
-pub mod ShownBytes
 pub mod FileLine
 pub mod FileReasons
 pub mod Laws

@@ -14,19 +14,15 @@ use Rattle.sas_flat.specs.declared.outline.Outline.{Outline}
 abbrev pub number_line : List ℕ → ℕ → List ℕ
 number_line word n = line 0 (word ∷ decimal n ∷ [])
 
--- `metric M`, where M is 1 if the operators' cost lines are used, else 0
-abbrev pub metric_line : Bool → List ℕ
-metric_line metric = number_line (codes "metric") (if metric then 1 else 0)
-
 -- how many variables are derived
 abbrev pub derived_count : List Variable → ℕ
 derived_count variables = count_by (λ (v : Variable). is_some v.layer) variables
 
--- the lines of the task's numbers: `metric M`, `variables N`, `derived D`, `groups G`, `operators
--- O`, `rules R`
+-- the lines of the task's numbers: `metric M`, where M is 1 if the operators' cost lines are used,
+-- else 0, `variables N`, `derived D`, `groups G`, `operators O`, `rules R`
 abbrev pub number_lines : Outline → List (List ℕ)
 number_lines o =
-    metric_line o.metric
+    number_line (codes "metric") (if o.metric then 1 else 0)
     ∷ number_line (codes "variables") (length o.variables)
     ∷ number_line (codes "derived") (derived_count o.variables)
     ∷ number_line (codes "groups") o.groups

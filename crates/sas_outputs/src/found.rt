@@ -1,9 +1,8 @@
 // The line with the text at a fault.
-ghost use Rattle.std.specs.Prelude.{◌≡◌, ◌<◌, ◌++◌, [], ◌∷◌, flat_map, OnOk};
+ghost use Rattle.std.specs.Prelude.{◌≡◌, ◌<◌, ◌++◌, [], ◌∷◌, codes, flat_map, OnOk};
 ghost use Rattle.sas_reader.specs.Found.{kept_bytes};
-ghost use Rattle.sas_outputs.specs.FileLine.{ended};
-ghost use Rattle.sas_outputs.specs.FileReasons.{found_line, judged_line, rest_line};
-ghost use Rattle.sas_outputs.specs.ShownBytes.{hex_digit_of, is_shown, shown, shown_byte, shown_whole};
+ghost use Rattle.sas_outputs.specs.FileLine as line;
+ghost use Rattle.sas_outputs.specs.FileLine.{empty_words, ended, found_word, hex_digit_of, is_shown, shown, shown_byte, shown_whole};
 
 use sas_lines::push_line;
 use sas_reader::{Found, Kind};
@@ -12,45 +11,35 @@ use std::alloc::AllocError;
 /// Appends the line with the text at a fault of this kind.
 pub(crate) fn push_found(out: &mut Vec<u8>, kind: Kind, found: &Found) -> Result<(), AllocError>
     ensures { OnOk result (out.new.items ≡ out.old.items
-        ++ ended (found_line kind (kept_bytes found.now) found.now.more)) }
-{
-    match kind {
-        Kind::End => push_rest(out, found),
-        _ => push_judged(out, found),
-    }
-}
-
-/// Appends the line with the unfinished last line of a file.
-fn push_rest(out: &mut Vec<u8>, found: &Found) -> Result<(), AllocError>
-    ensures { OnOk result (out.new.items ≡ out.old.items
-        ++ ended (rest_line (kept_bytes found.now) found.now.more)) }
+        ++ ended (line.Found kind (kept_bytes found.now) found.now.more)) }
 {
     if found.bytes().is_empty() {
-        return push_line(out, b"  end of file");
+        return push_line(out, empty_line(kind));
     }
-    push_text(out, b"  unfinished ", found)
-}
-
-/// Appends the line with the wrong line, or with the byte after the end.
-fn push_judged(out: &mut Vec<u8>, found: &Found) -> Result<(), AllocError>
-    ensures { OnOk result (out.new.items ≡ out.old.items
-        ++ ended (judged_line (kept_bytes found.now) found.now.more)) }
-{
-    if found.bytes().is_empty() {
-        return push_line(out, b"  empty line");
-    }
-    push_text(out, b"  found ", found)
-}
-
-/// Appends a line that begins with these bytes and shows the text.
-fn push_text(out: &mut Vec<u8>, front: &[u8], found: &Found) -> Result<(), AllocError>
-    ensures { OnOk result (out.new.items ≡ out.old.items
-        ++ (front.now ++ (shown (kept_bytes found.now) found.now.more ++ 10 ∷ []))) }
-{
-    out.extend_from_slice(front)?;
+    out.extend_from_slice(front(kind))?;
     push_shown(out, found)?;
     out.push(b'\n')?;
     Ok(())
+}
+
+/// Returns the beginning of the line, up to the text.
+fn front(kind: Kind) -> &'static [u8]
+    ensures { result.now ≡ codes "  " ++ found_word kind ++ codes " " }
+{
+    match kind {
+        Kind::End => b"  unfinished ",
+        _ => b"  found ",
+    }
+}
+
+/// Returns the line of an empty text.
+fn empty_line(kind: Kind) -> &'static [u8]
+    ensures { result.now ≡ codes "  " ++ empty_words kind }
+{
+    match kind {
+        Kind::End => b"  end of file",
+        _ => b"  empty line",
+    }
 }
 
 /// Appends the text as it is shown.

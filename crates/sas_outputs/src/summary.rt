@@ -52,20 +52,11 @@ impl Summary {
         let numbers = numbers_text(alloc, &self.outline)?;
         let mut pieces = Pieces::new(alloc)?;
         let mut sink = Sink::new(&mut pieces, out);
-        push_summary(&mut sink, numbers.as_slice(), &self.outline);
+        sink.push(numbers.as_slice());
+        push_state(&mut sink, &self.outline);
+        push_goal(&mut sink, &self.outline);
         sink.finish(Status::Yes)
     }
-}
-
-/// Adds these lines of numbers and the other lines of the summary.
-fn push_summary<W: Write>(sink: &mut Sink<'_, W>, numbers: &[u8], outline: &Outline)
-    ensures { Pushes W.contents sink.old sink.new
-        (numbers.now ++ text (spec.initial_lines outline.now.variables outline.now.init)
-        ++ text (spec.goal_fact_lines outline.now.variables outline.now.goal)) }
-{
-    sink.push(numbers);
-    push_state(sink, outline);
-    push_goal(sink, outline);
 }
 
 /// Returns the lines with the task's numbers, each ended by LF.

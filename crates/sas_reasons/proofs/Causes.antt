@@ -1,4 +1,6 @@
 -- The rules that concern a fact that doesn't hold. A fact has exactly one cause.
+use Rattle.std.proofs.Common.{arith}
+use Rattle.std.proofs.lemmas.Grind.{common_steps}
 use Rattle.sas_reasons.proofs.Imports.{◌≡◌, ℕ, ◌<◌, Bool, true, false, List, [], ◌∷◌, ◌++◌, length, get_or, slice_index, Some, refl, sym, ◌∙◌, ap, subst, inl, inr, ◌==◌, ◌&&◌, is_some, find, map, false≢true, and_parts, eqb-true, not-true, eqb-false, eqb_tells, Decides-eqb, Decides-not, All-nil, All-cons, Any-from_list_any, Fact, Rule, Parts, rule_at, Holds, AllHold, IsOnLayer, default_of, CanFire}
 use Rattle.sas_reasons.proofs.Imports.{can_fire, IsLayered, new_value_of, differs, IsSettled, hold_or_not, layer_cases, new_value_is, differs_decides, differs_not, can_give, Line, Run, last_state}
 use Rattle.sas_output.specs.declared.line.Line.TheVariants as line
@@ -11,10 +13,7 @@ use Rattle.sas_reasons.proofs.Since.{some_since, one_since}
 
 -- a derived variable is on a layer
 pub on_some_layer : (p : Parts) (var : ℕ) → is_derived p var ≡ true → (layer : ℕ) × IsOnLayer p layer var
-on_some_layer p var derived = elim (layer_cases p var) [
-  | inl basic ↦ absurd (false≢true (sym (ap is_some basic) ∙ derived))
-  | inr w ↦ w
-]
+on_some_layer p var derived = grind (arith, common_steps, layer_cases, false≢true)
 
 pub default_if_not_given : DefaultIfNotGiven
 default_if_not_given p s fact layered settled derived given missed = elim (differs_decides p s fact.var) [

@@ -1,4 +1,6 @@
 -- Effects that fire agree, or two of them conflict. The reported pair is unique.
+use Rattle.std.proofs.Common.{rules}
+use Rattle.std.proofs.lemmas.Grind.{common_steps}
 use Rattle.sas_reasons.proofs.Imports.{◌≡◌, ℕ, ◌<◌, ◌⊎◌, List, [], length, get_or, None, slice_index, sym, ap, subst, inl, inr, arith, cases_eq, cases_lt, cases_order, get_or_default, Effect, Operator, effect_at, Fires, Agree, hold_or_not}
 use Rattle.sas_reasons.specs.WhyPlan.{ConflictsWith}
 use Rattle.sas_reasons.specs.Laws.{SomeConflict, OneConflict}
@@ -30,31 +32,18 @@ module _ (s : List ℕ) (o : Operator) where
   module _ (none : (e d : ℕ) → ConflictsWith s o e d → ⊥) where
     later_agrees : (d e : ℕ) → d < e → e < length o.effects → Fires s (effect_at o d) → Fires s (effect_at o e)
         → (effect_at o d).var ≡ (effect_at o e).var → (effect_at o d).new ≡ (effect_at o e).new
-    later_agrees d e before exists fires fires' var = elim (cases_eq (effect_at o d).new (effect_at o e).new) [
-      | inl same ↦ same
-      | inr other ↦ absurd (none e d (record { before = before; exists = exists; fires = fires; fires' = fires'; var = var; other = other }))
-    ]
+    later_agrees d e before exists fires fires' var = grind (arith, common_steps, cases_eq)
 
     agrees_at : (d e : ℕ) → d < length o.effects → e < length o.effects → Fires s (effect_at o d) → Fires s (effect_at o e)
         → (effect_at o d).var ≡ (effect_at o e).var → (effect_at o d).new ≡ (effect_at o e).new
-    agrees_at d e lt lt' fires fires' var = elim (cases_order d e) [
-      | inl same ↦ ap (λ k. (effect_at o k).new) same
-      | inr w ↦ elim w [
-        | inl before ↦ later_agrees d e before lt' fires fires' var
-        | inr behind ↦ sym (later_agrees e d behind lt fires' fires (sym var))
-      ]
-    ]
+    agrees_at d e lt lt' fires fires' var = grind (arith, common_steps, cases_order, later_agrees)
 
     no_effect : Effect
     no_effect = record { conditions = []; var = 0; old = None; new = 0 }
 
     agrees : Agree s o.effects
     unfolding no_effect
-    agrees i x lt j y lt' =
-        let e : effect_at o i ≡ get_or o.effects i x = get_or_default o.effects i no_effect x lt in
-        let f : effect_at o j ≡ get_or o.effects j y = get_or_default o.effects j no_effect y lt' in
-        subst (λ a. Fires s a → Fires s (get_or o.effects j y) → a.var ≡ (get_or o.effects j y).var → a.new ≡ (get_or o.effects j y).new) e
-        (subst (λ b. Fires s (effect_at o i) → Fires s b → (effect_at o i).var ≡ b.var → (effect_at o i).new ≡ b.new) f (agrees_at i j lt lt'))
+    agrees i x lt j y lt' = search (rules, arith, get_or_default, no_effect, agrees_at)
 
 pub some_conflict : SomeConflict
 some_conflict s o clash = elim (some_are_lowest (ConflictsWith s o) (contradicts_or_not s o) (length o.effects) (length o.effects) (λ e d c. (c.exists, let lt = c.exists in let before = c.before in omega arith))) [

@@ -1,4 +1,6 @@
 -- What gives the derived variables their values, and in what order.
+use Rattle.std.proofs.Common.{rules}
+use Rattle.std.proofs.lemmas.Grind.{common_steps}
 use Rattle.sas_reasons.proofs.Imports.{◌≡◌, ◌≢◌, ℕ, zero, suc, ◌+◌, ◌<◌, ◌≤◌, ◌⊎◌, true, false, cond, List, length, get_or, None, refl, sym, ◌∙◌, ap, subst, inl, inr, arith, is_some, All, cases_eq, cases_lt, cases_Bool, false≢true, All-contains, Fact, Parts, rule_at, layer_of, AllHold, IsBasic, IsOnLayer, default_of, LooksDown, IsLayered, new_value_of, value_with, differs, IsSettled, layer_decides}
 use Rattle.sas_reasons.proofs.Imports.{layer_cases, given_on, given_off, one_layer, new_value_is, differs_decides, differs_true}
 use Rattle.sas_reasons.specs.Lowest.{IsLowest}
@@ -10,10 +12,7 @@ use Rattle.sas_reasons.proofs.Rounds.{Fires, fires_decides, ReachedBy, reached_b
 -- ---- ranks
 
 reached_or_not : (p : Parts) (layer : ℕ) (s : List ℕ) (var rounds : ℕ) → (reached p layer s rounds var ≡ true) ⊎ (reached p layer s rounds var ≡ true → ⊥)
-reached_or_not p layer s var rounds = elim (cases_Bool (reached p layer s rounds var)) [
-  | inl y ↦ inl y
-  | inr n ↦ inr (λ y. false≢true (sym n ∙ y))
-]
+reached_or_not p layer s var rounds = grind (arith, common_steps, cases_Bool, false≢true)
 
 -- a variable that is reached has a rank, no greater than the rounds that reach it
 rank_within : (p : Parts) (layer : ℕ) (s : List ℕ) (var rounds : ℕ) → reached p layer s rounds var ≡ true
@@ -38,20 +37,12 @@ one_rank p s layer var a b x y = lowest_is_one (λ k. reached p layer s k var �
 -- its layer and its rank are one
 pub stands_one : (p : Parts) (s : List ℕ) (var layer rank layer' rank' : ℕ) → HasLayerAndRank p s var layer rank → HasLayerAndRank p s var layer' rank'
     → (layer ≡ layer') × (rank ≡ rank')
-stands_one p s var layer rank layer' rank' x y =
-    let e = one_layer p var layer layer' x.on y.on in
-    (e, one_rank p s layer' var rank rank' (subst (λ l. IsRank p l s var rank) e x.ranked) y.ranked)
+stands_one p s var layer rank layer' rank' x y = grind (arith, common_steps, one_layer, one_rank)
 
 -- ---- the rule that gives a variable its value
 
 fires_next_or_not : (p : Parts) (s : List ℕ) (var layer rounds rule : ℕ) → FiresNext p s var layer rounds rule ⊎ (FiresNext p s var layer rounds rule → ⊥)
-fires_next_or_not p s var layer rounds rule = elim (cases_lt rule (length p.rules)) [
-  | inr ge ↦ inr (λ f. let lt = f.exists in omega arith)
-  | inl lt ↦ elim (cases_Bool (fires_with p layer s (reached p layer s rounds) var (rule_at p rule))) [
-    | inl y ↦ inl (record { exists = lt; fires = y })
-    | inr n ↦ inr (λ f. false≢true (sym n ∙ f.fires))
-  ]
-]
+fires_next_or_not p s var layer rounds rule = grind (arith, common_steps, cases_lt, cases_Bool, false≢true) steps 1500000
 
 -- a variable with a rank isn't reached in 0 rounds, and a rule gives it its value
 pub giver_at : (p : Parts) (s : List ℕ) (var layer rank : ℕ) → HasLayerAndRank p s var layer rank → (rule : ℕ) × IsGivenBy p s var rule
@@ -92,6 +83,9 @@ one_giver p s var a b x y =
     lowest_is_one (FiresNext p s var y.layer y.before) a b
     (subst (λ k. IsLowest (FiresNext p s var y.layer k) a) same (subst (λ l. IsLowest (FiresNext p s var l x.before) a) e.0 x.lowest))
     y.lowest
+
+pub comes_before : (p : Parts) (s : List ℕ) (u l k v m n : ℕ) → HasLayerAndRank p s u l k → HasLayerAndRank p s v m n → IsLess l k u m n v → ComesBefore p s u v
+comes_before p s u l k v m n x y less = record { layer = l; rank = k; stands = x; layer' = m; rank' = n; stands' = y; less = less }
 
 -- it is a rule of this variable
 pub giver_on : (p : Parts) (s : List ℕ) (var rule : ℕ) → IsGivenBy p s var rule → (rule_at p rule).var ≡ var
@@ -136,67 +130,29 @@ module _ (p : Parts) (s : List ℕ) (layered : IsLayered p) (settled : IsSettled
     requires_earlier c layer down on hold holds other = elim (cases_eq layer given.layer) [
       | inr ne ↦ (let le = (down given.layer layer on_its_layer on).0 in
           let r = (rank_if_differs p s layer c.var layered settled on).1 (differs_true p s c.var (λ e. other (sym holds ∙ e))) in
-          record {
-            layer = layer;
-            rank = r.0;
-            stands = record { on = on; ranked = r.1 };
-            layer' = given.layer;
-            rank' = given.before + 1;
-            stands' = given.stands;
-            less = inl (omega arith);
-          })
-      | inl e ↦ same e (cases_Bool (reached p given.layer s given.before c.var))
-    ]
-      where
-        same : layer ≡ given.layer
-            → (reached p given.layer s given.before c.var ≡ true) ⊎ (reached p given.layer s given.before c.var ≡ false) → ComesBefore p s c.var var
-        same e (inl y) =
-            let r = rank_within p given.layer s c.var given.before y in
-            record {
-              layer = given.layer;
-              rank = r.0;
-              stands = record { on = subst (λ l. IsOnLayer p l c.var) e on; ranked = r.2 };
-              layer' = given.layer;
-              rank' = given.before + 1;
-              stands' = given.stands;
-              less = inr (refl, inl (let le : r.0 ≤ given.before = r.1 in omega arith));
-            }
-        same e (inr n) = absurd (other (sym hold
+          comes_before p s _ layer r.0 _ _ _ (record { on = on; ranked = r.1 }) given.stands (inl (omega arith)))
+      | inl e ↦ elim (cases_Bool (reached p given.layer s given.before c.var)) [
+        | inl y ↦ (let r = rank_within p given.layer s c.var given.before y in
+            comes_before p s _ given.layer r.0 _ _ _ (record { on = subst (λ l. IsOnLayer p l c.var) e on; ranked = r.2 }) given.stands
+            (inr (refl, inl (let le : r.0 ≤ given.before = r.1 in omega arith))))
+        | inr n ↦ absurd (other (sym hold
             ∙ (given_on p given.layer s (reached p given.layer s given.before) c.var (subst (λ l. IsOnLayer p l c.var) e on)
             ∙ ap (λ b. cond b (new_value_of p c.var) (default_of p c.var)) n)))
+      ]
+    ]
 
     looks : (c : Fact) → LooksDown p (rule_at p rule).var c
         → value_with p given.layer s (reached p given.layer s given.before) c.var ≡ c.value → get_or s c.var 0 ≡ c.value
         → IsBasic p c.var ⊎ (RequiresLower p var c ⊎ RequiresEarlier p s var c)
-    looks c down hold holds = elim (layer_cases p c.var) [
-      | inl b ↦ inl b
-      | inr w ↦ elim (cases_eq c.value (default_of p c.var)) [
-        | inl e ↦ inr (inl (record {
-          default = e;
-          here = given.layer;
-          there = w.0;
-          on = given.stands.on;
-          on_there = w.1;
-          lower = (down given.layer w.0 on_its_layer w.1).1 e;
-        }))
-        | inr other ↦ inr (inr (record { other = other; earlier = requires_earlier c w.0 down w.1 hold holds other }))
-      ]
-    ]
+    looks c down hold holds = search (rules, arith, layer_cases, cases_eq, on_its_layer, requires_earlier)
 
     pub looks_down : All (λ (c : Fact). IsBasic p c.var ⊎ (RequiresLower p var c ⊎ RequiresEarlier p s var c)) (rule_at p rule).conditions
-    looks_down j d lt = looks (get_or (rule_at p rule).conditions j d)
-        ((layered.rules rule _ given.lowest.has.exists fires.can).order j d lt) (fires.hold j d lt) (conditions_hold j d lt)
+    looks_down j d lt = search (rules, arith, looks, fires, conditions_hold)
 
     -- the variables on which the rule rests come before the variable, and differ from their
     -- defaults
     pub rests_on_earlier : (other : ℕ) → DependsOn p rule other → ComesBefore p s other var
-    rests_on_earlier other rests =
-        at (All-contains (λ (c : Fact). IsBasic p c.var ⊎ (RequiresLower p var c ⊎ RequiresEarlier p s var c)) (rule_at p rule).conditions rests.condition looks_down rests.among)
-      where
-        at : IsBasic p rests.condition.var ⊎ (RequiresLower p var rests.condition ⊎ RequiresEarlier p s var rests.condition) → ComesBefore p s other var
-        at (inl basic) = absurd (false≢true (sym (ap is_some (subst (λ v. layer_of p.variables v ≡ None) rests.on basic)) ∙ rests.derived))
-        at (inr (inl lower)) = absurd (rests.other (subst (λ v. rests.condition.value ≡ default_of p v) rests.on lower.default))
-        at (inr (inr earlier)) = subst (λ v. ComesBefore p s v var) rests.on earlier.earlier
+    rests_on_earlier other rests = grind (arith, common_steps, All-contains, looks_down, false≢true)
 
 pub giver_fires : GiverFires
 giver_fires p s var rule layered settled given =
@@ -208,43 +164,17 @@ giver_looks_down p s var rule layered settled given = looks_down p s layered set
 -- ---- the order
 
 less_less : (a k x b l y c m z : ℕ) → IsLess a k x b l y → IsLess b l y c m z → IsLess a k x c m z
-less_less a k x b l y c m z (inl p) (inl q) = inl (omega arith)
-less_less a k x b l y c m z (inl p) (inr q) = inl (let e : b ≡ c = q.0 in omega arith)
-less_less a k x b l y c m z (inr p) (inl q) = inl (let e : a ≡ b = p.0 in omega arith)
-less_less a k x b l y c m z (inr p) (inr q) = inr (
-  p.0 ∙ q.0,
-  elim p.1 [
-    | inl lt ↦ elim q.1 [ inl lt' ↦ inl (omega arith) | inr w ↦ inl (let e : l ≡ m = w.0 in omega arith) ]
-    | inr w ↦ elim q.1 [
-      | inl lt' ↦ inl (let e : k ≡ l = w.0 in omega arith)
-      | inr v ↦ inr (w.0 ∙ v.0, (let lt : x < y = w.1 in let lt' : y < z = v.1 in omega arith))
-    ]
-  ],
-)
+less_less a k x b l y c m z p q = grind arith
 
 never_less : (a k x : ℕ) → IsLess a k x a k x → ⊥
-never_less a k x (inl lt) = omega arith
-never_less a k x (inr w) = elim w.1 [ inl lt ↦ omega arith | inr v ↦ (let lt : x < x = v.1 in omega arith) ]
+never_less a k x less = grind arith
 
 module _ (p : Parts) (s : List ℕ) where
   pub comes_before_that : (u v w : ℕ) → ComesBefore p s u v → ComesBefore p s v w → ComesBefore p s u w
-  comes_before_that u v w x y = record {
-    layer = x.layer;
-    rank = x.rank;
-    stands = x.stands;
-    layer' = y.layer';
-    rank' = y.rank';
-    stands' = y.stands';
-    less = less_less x.layer x.rank u y.layer y.rank v y.layer' y.rank' w
-        (let e = stands_one p s v x.layer' x.rank' y.layer y.rank x.stands' y.stands in
-        subst (λ r. IsLess x.layer x.rank u y.layer r v) e.1 (subst (λ l. IsLess x.layer x.rank u l x.rank' v) e.0 x.less))
-        y.less;
-  }
+  comes_before_that u v w x y = grind (arith, common_steps, less_less, stands_one)
 
   pub never_before : (v : ℕ) → ComesBefore p s v v → ⊥
-  never_before v x =
-      let e = stands_one p s v x.layer' x.rank' x.layer x.rank x.stands' x.stands in
-      never_less x.layer x.rank v (subst (λ r. IsLess x.layer x.rank v x.layer r v) e.1 (subst (λ l. IsLess x.layer x.rank v l x.rank' v) e.0 x.less))
+  never_before v x = grind (arith, common_steps, stands_one, never_less)
 
 pub no_circle : NoCircle
 no_circle p s a b x y = never_before p s a (comes_before_that p s a b a x y)

@@ -9,9 +9,10 @@ pub use Rattle.std.proofs.lemmas.Bool.Decides.{eqb_tells, Decides-eqb, Decides-n
 pub use Rattle.std.proofs.lemmas.Bool.Decides.{Decides-by_or}
 pub use Rattle.std.proofs.lemmas.List.{get_or_default}
 pub use Rattle.std.proofs.lemmas.List.Elements.{All-nil, All-cons, All-contains, Contains-append_left, Contains-append_right, Contains-append_cases}
-pub use Rattle.std.proofs.lemmas.List.Elements.{Contains-get_or, All-head, All-tail}
+pub use Rattle.std.proofs.lemmas.List.Elements.{Contains-get_or, All-head, All-tail, Contains-push, Contains-push_cases}
 pub use Rattle.std.proofs.lemmas.List.Folds.{Any-from_list_any, list_any_at}
 pub use Rattle.std.proofs.lemmas.List.Kept.{AllPairs-cons}
+pub use Rattle.std.proofs.lemmas.List.Quantifiers.{all_pairs_push}
 pub use Rattle.std.proofs.lemmas.List.Sums.{fails_before_first, passes_at_first}
 pub use Rattle.std.proofs.lemmas.Slice.Eq.{bytes_eq-Decides}
 pub use Rattle.std.specs.Bool.{Decides}

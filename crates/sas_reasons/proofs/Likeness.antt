@@ -1,4 +1,5 @@
 -- Folded names, and the operator with a similar name.
+use Rattle.std.proofs.lemmas.Grind.{common_steps}
 use Rattle.sas_reasons.proofs.Imports.{◌≡◌, ℕ, suc, ◌+◌, ◌<◌, ◌≤◌, Bool, false, cond, List, [], ◌∷◌, ◌++◌, map, length, bytes_eq, refl, sym, ◌∙◌, ap, subst, inl, inr, arith, Option, Some, None, ◌==◌, ◌&&◌, nat_lt, to_ascii_lowercase, list_all, position_or_len, true≢false, lt-ltb, ltb-true, cases_lt, cases_Bool, eqb_tells, leb_tells, Decides, fails_before_first, passes_at_first, bytes_eq-Decides}
 use Rattle.sas_reasons.proofs.Imports.{Operator, Parts, operator_at}
 use Rattle.sas_reasons.specs.MayMean.{trimmed, folded, similar_operator}
@@ -20,46 +21,17 @@ space_is_blank (b ∷ bs) = ap (λ x. (b == 32) && x) (space_is_blank bs)
 
 pub space_is_trimmed : (name : List ℕ) → trimmed (name ++ 32 ∷ []) ≡ trimmed name
 space_is_trimmed [] = refl
-space_is_trimmed (b ∷ bs) =
-    ap (λ x. cond ((b == 32) && x) [] (b ∷ trimmed (bs ++ 32 ∷ []))) (space_is_blank bs)
-    ∙ ap (λ x. cond (is_blank (b ∷ bs)) [] (b ∷ x)) (space_is_trimmed bs)
+space_is_trimmed (b ∷ bs) = grind (arith, common_steps, space_is_trimmed bs, space_is_blank)
 
 pub space_folds : SpaceFolds
 space_folds name = ap (map small) (space_is_trimmed name)
 
 -- a lower-case letter is unchanged, and a byte is a space exactly if it is one in lower case
 small_twice : (b : ℕ) → small (small b) ≡ small b
-small_twice b = elim (leb_tells (suc b) 65) [
-  | inl x ↦ ap small (let e : small b ≡ b = rw x.0 refl in e)
-  | inr x ↦ elim (leb_tells (suc b) 91) [
-    | inr y ↦ ap small (let e : small b ≡ b = rw (x.0, y.0) refl in e)
-    | inl y ↦ large (omega (arith, x.1)) (rw (x.0, y.0) refl)
-  ]
-]
-  where
-    large : 65 ≤ b → small b ≡ b + 32 → small (small b) ≡ small b
-    large low e = ap small e ∙ (past ∙ sym e)
-      where
-        past : small (b + 32) ≡ b + 32
-        past = elim (leb_tells (suc (b + 32)) 91) [
-          | inl z ↦ absurd (omega (arith, z.1))
-          | inr z ↦ elim (leb_tells (suc (b + 32)) 65) [
-            | inl t ↦ rw t.0 refl
-            | inr t ↦ rw (t.0, z.0) refl
-          ]
-        ]
+small_twice b = grind (arith, common_steps)
 
 small_space : (b : ℕ) → (small b == 32) ≡ (b == 32)
-small_space b = elim (leb_tells (suc b) 65) [
-  | inl x ↦ ap (λ c. c == 32) (let e : small b ≡ b = rw x.0 refl in e)
-  | inr x ↦ elim (leb_tells (suc b) 91) [
-    | inr y ↦ ap (λ c. c == 32) (let e : small b ≡ b = rw (x.0, y.0) refl in e)
-    | inl y ↦ ap (λ c. c == 32) (let e : small b ≡ b + 32 = rw (x.0, y.0) refl in e) ∙ (no_space (b + 32) (omega (arith, x.1)) ∙ sym (no_space b (omega (arith, x.1))))
-  ]
-]
-  where
-    no_space : (c : ℕ) → 64 < c → (c == 32) ≡ false
-    no_space c above = elim (eqb_tells c 32) [ inl w ↦ absurd (omega (arith, w.1)) | inr w ↦ w.0 ]
+small_space b = grind (arith, common_steps)
 
 small_blank : (bytes : List ℕ) → is_blank (map small bytes) ≡ is_blank bytes
 small_blank [] = refl
@@ -68,23 +40,11 @@ small_blank (b ∷ bs) = ap (λ x. x && is_blank (map small bs)) (small_space b)
 -- a trimmed name is blank exactly if the name is
 trimmed_blank : (name : List ℕ) → is_blank (trimmed name) ≡ is_blank name
 trimmed_blank [] = refl
-trimmed_blank (b ∷ bs) = elim (cases_Bool (is_blank (b ∷ bs))) [
-  | inl y ↦ ap (λ t. is_blank (cond t [] (b ∷ trimmed bs))) y ∙ sym y
-  | inr n ↦ ap (λ t. is_blank (cond t [] (b ∷ trimmed bs))) n ∙ ap (λ t. (b == 32) && t) (trimmed_blank bs)
-]
+trimmed_blank (b ∷ bs) = grind (arith, common_steps, trimmed_blank bs, cases_Bool)
 
 trimmed_once : (name : List ℕ) → trimmed (map small (trimmed name)) ≡ map small (trimmed name)
 trimmed_once [] = refl
-trimmed_once (b ∷ bs) = elim (cases_Bool (is_blank (b ∷ bs))) [
-  | inl y ↦ ap (λ t. trimmed (map small (cond t [] (b ∷ trimmed bs)))) y ∙ sym (ap (λ t. map small (cond t [] (b ∷ trimmed bs))) y)
-  | inr n ↦ ap (λ t. trimmed (map small (cond t [] (b ∷ trimmed bs)))) n
-      ∙ (ap (λ t. cond t [] (small b ∷ trimmed (map small (trimmed bs)))) (still n)
-      ∙ (ap (λ x. small b ∷ x) (trimmed_once bs)
-      ∙ sym (ap (λ t. map small (cond t [] (b ∷ trimmed bs))) n)))
-]
-  where
-    still : is_blank (b ∷ bs) ≡ false → is_blank (small b ∷ map small (trimmed bs)) ≡ false
-    still n = small_blank (b ∷ trimmed bs) ∙ (ap (λ t. (b == 32) && t) (trimmed_blank bs) ∙ n)
+trimmed_once (b ∷ bs) = grind (arith, common_steps, trimmed_once bs, cases_Bool, small_blank, trimmed_blank)
 
 all_small : (bytes : List ℕ) → map small (map small bytes) ≡ map small bytes
 all_small [] = refl
@@ -112,21 +72,7 @@ module _ (p : Parts) (name : List ℕ) where
   none_before operator lt is = true≢false (sym ((reports operator).1 is.alike) ∙ fails_before_first is_alike p.operators operator no_operator lt)
 
   pub lowest_like : IsLowestIfAny (IsAlike p name) (similar_operator p name)
-  lowest_like = elim (cases_Bool (nat_lt first (length p.operators))) [
-    | inl is ↦
-        let lt = ltb-true first (length p.operators) is in
-        subst (IsLowestIfAny (IsAlike p name)) (sym (ap (λ (b : Bool). cond b (Some first) None) is)) (record {
-          has = record { exists = lt; alike = (reports first).0 (passes_at_first is_alike p.operators no_operator lt) };
-          first = none_before;
-        })
-    | inr isnt ↦ subst (IsLowestIfAny (IsAlike p name)) (sym (ap (λ (b : Bool). cond b (Some first) None) isnt)) (λ operator is. none_before operator (past isnt operator is.exists) is)
-  ]
-    where
-      past : nat_lt first (length p.operators) ≡ false → (operator : ℕ) → operator < length p.operators → operator < first
-      past isnt operator lt = elim (cases_lt operator first) [
-        | inl before ↦ before
-        | inr ge ↦ absurd (true≢false (sym (lt-ltb first (length p.operators) (omega (arith, ge, lt))) ∙ isnt))
-      ]
+  lowest_like = grind (arith, common_steps, cases_Bool, ltb-true, reports, passes_at_first, none_before, cases_lt, true≢false, lt-ltb)
 
   -- it is the only lowest one
   pub like_is : (like : Option ℕ) → IsLowestIfAny (IsAlike p name) like → like ≡ similar_operator p name

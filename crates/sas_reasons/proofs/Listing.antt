@@ -1,5 +1,7 @@
 -- A variable that differs from its default has a derivation: its rule, and the rules of the
 -- variables on which this rule rests, which come before it.
+use Rattle.std.proofs.Common.{rules}
+use Rattle.std.proofs.lemmas.Grind.{common_steps}
 use Rattle.sas_reasons.proofs.Imports.{◌≡◌, ◌≢◌, ℕ, zero, suc, ◌<◌, ◌⊎◌, List, [], ◌∷◌, ◌++◌, get_or, refl, sym, ◌∙◌, subst, inl, inr, arith, is_some, Contains, cases_eq, cases_Bool, false≢true, Contains-append_left, Contains-append_right, Contains-append_cases, Contains-get_or, Fact, Parts, rule_at, layer_of, IsDerived, default_of, IsLayered, IsSettled, contains_head, contains_tail}
 use Rattle.sas_reasons.proofs.Imports.{contains_cases, contains_none}
 use Rattle.sas_reasons.specs.Derivation.{HasLayerAndRank, IsGivenBy, DependsOn, InDerivation, Itself, Below, IsLess, ComesBefore, IsRuleOf, IsDerivation}
@@ -16,29 +18,13 @@ module _ (p : Parts) (s : List ℕ) (Good : ℕ → Type 0)
       → ((other layer' rank' : ℕ) → (layer' < layer) ⊎ ((layer' ≡ layer) × (rank' < rank)) → HasLayerAndRank p s other layer' rank' → Good other)
       → (k var : ℕ) → var < k → HasLayerAndRank p s var layer rank → Good var
   numbers layer rank below zero var lt stands = absurd (omega arith)
-  numbers layer rank below (suc k) var lt stands = step var layer rank stands (λ other before.
-      let e = stands_one p s var before.layer' before.rank' layer rank before.stands' stands in
-      at other before.layer before.rank before.stands
-      (subst (λ r. IsLess before.layer before.rank other layer r var) e.1
-      (subst (λ l. IsLess before.layer before.rank other l before.rank' var) e.0 before.less))
-      (λ lt' stands'. numbers layer rank below k other (omega arith) stands'))
-    where
-      at : (other layer' rank' : ℕ) → HasLayerAndRank p s other layer' rank' → IsLess layer' rank' other layer rank var
-          → (other < var → HasLayerAndRank p s other layer rank → Good other) → Good other
-      at other layer' rank' stands' (inl lt') rest = below other layer' rank' (inl lt') stands'
-      at other layer' rank' stands' (inr w) rest = elim w.1 [
-        | inl lt' ↦ below other layer' rank' (inr (w.0, lt')) stands'
-        | inr v ↦ rest v.1 (subst (λ r. HasLayerAndRank p s other layer r) v.0 (subst (λ l. HasLayerAndRank p s other l rank') w.0 stands'))
-      ]
+  numbers layer rank below (suc k) var lt stands = grind (arith, common_steps, numbers layer rank below k, stands_one)
 
   -- the variables of this layer, if those of lower layers are good
   ranks : (layer : ℕ) → ((other layer' rank' : ℕ) → layer' < layer → HasLayerAndRank p s other layer' rank' → Good other)
       → (m var rank : ℕ) → rank < m → HasLayerAndRank p s var layer rank → Good var
   ranks layer below zero var rank lt stands = absurd (omega arith)
-  ranks layer below (suc m) var rank lt stands = numbers layer rank (λ other layer' rank' less stands'. elim less [
-    | inl lt' ↦ below other layer' rank' lt' stands'
-    | inr w ↦ ranks layer below m other rank' (let lt' : rank' < rank = w.1 in omega arith) (subst (λ l. HasLayerAndRank p s other l rank') w.0 stands')
-  ]) (suc var) var (omega arith) stands
+  ranks layer below (suc m) var rank lt stands = grind (arith, common_steps, ranks layer below m, numbers)
 
   layers : (n var layer rank : ℕ) → layer < n → HasLayerAndRank p s var layer rank → Good var
   layers zero var layer rank lt stands = absurd (omega arith)
@@ -62,13 +48,7 @@ record RequiresDerived (p : Parts) (c : Fact) : Type 0 where
   other : c.value ≢ default_of p c.var
 
 requires_derived_or_not : (p : Parts) (c : Fact) → RequiresDerived p c ⊎ (RequiresDerived p c → ⊥)
-requires_derived_or_not p c = elim (cases_Bool (is_some (layer_of p.variables c.var))) [
-  | inr n ↦ inr (λ a. false≢true (sym n ∙ a.derived))
-  | inl y ↦ elim (cases_eq c.value (default_of p c.var)) [
-    | inl e ↦ inr (λ a. a.other e)
-    | inr ne ↦ inl (record { derived = y; other = ne })
-  ]
-]
+requires_derived_or_not p c = grind (arith, common_steps, cases_Bool, false≢true, cases_eq)
 
 module _ (p : Parts) (s : List ℕ) where
   -- a variable in a derivation is the derived one, or is in the derivation of a variable on which
@@ -91,11 +71,7 @@ module _ (p : Parts) (s : List ℕ) where
   RuleOfOne cs rule = (c : Fact) × Contains cs c × RequiresDerived p c × IsRuleOf p s c.var rule
 
   gathered : (cs : List Fact) → ((c : Fact) → Contains cs c → RequiresDerived p c → Listing (IsRuleOf p s c.var)) → Listing (RuleOfOne cs)
-  gathered [] lists = record {
-    rules = [];
-    each = λ rule h. absurd (contains_none rule h);
-    whole = λ rule h. absurd (contains_none h.0 h.1);
-  }
+  gathered [] lists = grind (arith, common_steps, contains_none)
   gathered (c ∷ cs) lists = more (requires_derived_or_not p c) (gathered cs (λ d h a. lists d (contains_tail c cs d h) a))
     where
       later : (rule : ℕ) → RuleOfOne cs rule → RuleOfOne (c ∷ cs) rule
@@ -184,6 +160,4 @@ module _ (p : Parts) (s : List ℕ) where
         )
 
 pub some_derivation : SomeDerivation
-some_derivation p s layer var layered settled on d =
-    let r = (rank_if_differs p s layer var layered settled on).1 d in
-    derived_in_order p s layered settled var (listing p s layered settled var layer r.0 (record { on = on; ranked = r.1 }))
+some_derivation p s layer var layered settled on d = search (rules, arith, rank_if_differs, derived_in_order, listing)

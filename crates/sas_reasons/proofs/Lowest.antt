@@ -4,13 +4,7 @@ use Rattle.sas_reasons.specs.Lowest.{IsLowest, AreLowest}
 use Rattle.sas_reasons.specs.Laws.{IsLowestIfAny}
 
 pub lowest_is_one : (Has : ℕ → Type 0) (a b : ℕ) → IsLowest Has a → IsLowest Has b → a ≡ b
-lowest_is_one Has a b x y = elim (cases_lt a b) [
-  | inl lt ↦ absurd (y.first a lt x.has)
-  | inr ge ↦ elim (cases_lt b a) [
-    | inl lt ↦ absurd (x.first b lt y.has)
-    | inr le ↦ omega arith
-  ]
-]
+lowest_is_one Has a b x y = grind arith
 
 pub lowest_if_any_is_one : (Has : ℕ → Type 0) (a b : Option ℕ) → IsLowestIfAny Has a → IsLowestIfAny Has b → a ≡ b
 lowest_if_any_is_one Has None None x y = refl

@@ -1,4 +1,5 @@
 -- The places of the items that pass a test, and what fails.
+use Rattle.std.proofs.lemmas.Grind.{common_steps}
 use Rattle.sas_reasons.proofs.Imports.{◌≡◌, ℕ, zero, suc, ◌+◌, not, List, [], ◌∷◌, slice_index, bytes_eq, ◌∙◌, ap, subst, inl, inr, arith, filter, Contains, eq-eqb, ne_eqb, eqb_tells, All-nil, All-cons, bytes_eq-Decides, Fact, Operator, operator_at, Holds, AllHold, preconditions, places_from, places, takes, passes_by, place_is, is_place, IsNamed, IsFirstMissed}
 use Rattle.sas_reasons.specs.Cause.{fails}
 use Rattle.sas_reasons.specs.Laws.{SomePreconditionFails, OperatorsHaveName, FirstGoalFact}
@@ -18,10 +19,7 @@ operators_have_name p name operator = (there, back)
 
 none_fails : (s : List ℕ) (facts : List Fact) → filter (fails s) facts ≡ [] → AllHold (slice_index s) facts
 none_fails s [] e = All-nil (Holds (slice_index s))
-none_fails s (f ∷ fs) e = elim (eqb_tells (slice_index s f.var) f.value) [
-  | inl w ↦ All-cons (Holds (slice_index s)) f fs w.1 (none_fails s fs (rw w.0 at e))
-  | inr w ↦ absurd (let g : f ∷ filter (fails s) fs ≡ [] = rw w.0 at e in cc)
-]
+none_fails s (f ∷ fs) e = grind (arith, common_steps, none_fails s fs, eqb_tells, All-cons)
 
 pub some_precondition_fails : SomePreconditionFails
 some_precondition_fails s o none = none_fails s (preconditions o) none

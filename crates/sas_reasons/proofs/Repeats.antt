@@ -1,5 +1,6 @@
 -- Removing repeated lines of rules: no line is lost, and no line of a rule remains twice.
-use Rattle.sas_reasons.proofs.Imports.{◌≡◌, ◌≢◌, suc, ◌<◌, ◌⊎◌, Bool, true, false, List, [], ◌∷◌, ◌++◌, get_or, sym, ◌∙◌, ap, subst, inl, inr, arith, if◌then◌else◌, Contains, AllPairs, list_any, cases_Bool, false≢true, Contains-append_left, Contains-append_right, Contains-append_cases, Contains-get_or, All-contains, AllPairs-cons, Any-from_list_any, list_any_at, contains_head, contains_tail}
+use Rattle.std.proofs.lemmas.Grind.{common_steps}
+use Rattle.sas_reasons.proofs.Imports.{◌≡◌, ◌≢◌, suc, ◌<◌, ◌⊎◌, Bool, true, false, List, [], ◌∷◌, ◌++◌, get_or, sym, ◌∙◌, ap, subst, inl, inr, arith, if◌then◌else◌, Contains, AllPairs, list_any, cases_Bool, false≢true, Contains-append_left, Contains-append_right, Contains-append_cases, Contains-get_or, Contains-push, Contains-push_cases, all_pairs_push, Any-from_list_any, list_any_at, contains_head, contains_tail}
 use Rattle.sas_reasons.proofs.Imports.{contains_cases, contains_none, Line, is_rule_line, is_same_rule_line, same_is, is_same}
 use Rattle.sas_reasons.specs.Lines.{with_line, with_lines}
 use Rattle.sas_reasons.specs.Laws.{NoneIsLost, RulesStandOnce}
@@ -10,13 +11,10 @@ is_among lines next = list_any (is_same_rule_line next) lines
 
 -- it is left out only if it is among the lines; a line of a rule that is among them is left out
 pub among_is : (lines : List Line) (next : Line) → is_among lines next ≡ true → Contains lines next
-among_is lines next is =
-    let w = Any-from_list_any (is_same_rule_line next) lines is in
-    subst (Contains lines) (sym (same_is next w.1 w.4)) (w.0, w.2, w.3)
+among_is lines next is = grind (arith, common_steps, Any-from_list_any, same_is)
 
 pub is_among_when : (lines : List Line) (next : Line) → is_rule_line next ≡ true → Contains lines next → is_among lines next ≡ true
-is_among_when lines next rule h =
-    list_any_at (is_same_rule_line next) lines h.0 next h.1 (subst (λ l. is_same_rule_line next l ≡ true) (sym h.2) (is_same next rule))
+is_among_when lines next rule h = grind (arith, common_steps, list_any_at, is_same)
 
 pub line_then : (lines : List Line) (next : Line) → is_among lines next ≡ true → with_line lines next ≡ lines
 line_then lines next is = ap (λ b. if b then lines else lines ++ next ∷ []) is
@@ -28,25 +26,16 @@ line_else lines next is = ap (λ b. if b then lines else lines ++ next ∷ []) i
 
 -- adding the next line keeps the lines before, and has it
 line_is : (lines : List Line) (next z : Line) → Contains (with_line lines next) z → Contains lines z ⊎ (next ≡ z)
-line_is lines next z h = elim (cases_Bool (is_among lines next)) [
-  | inl among ↦ inl (subst (λ (l : List Line). Contains l z) (line_then lines next among) h)
-  | inr new ↦ elim (Contains-append_cases lines (next ∷ []) z (subst (λ (l : List Line). Contains l z) (line_else lines next new) h)) [
-    | inl before ↦ inl before
-    | inr now ↦ elim (contains_cases next [] z now) [ inl e ↦ inr e | inr none ↦ absurd (contains_none z none) ]
-  ]
-]
+line_is lines next z = grind (arith, common_steps, Contains-push_cases)
 
 is_line : (lines : List Line) (next : Line) → Contains (with_line lines next) next
 is_line lines next = elim (cases_Bool (is_among lines next)) [
-  | inl among ↦ subst (λ (l : List Line). Contains l next) (sym (line_then lines next among)) (among_is lines next among)
-  | inr new ↦ subst (λ (l : List Line). Contains l next) (sym (line_else lines next new)) (Contains-append_right lines (next ∷ []) next (contains_head next []))
+  | inl among ↦ rw (line_then lines next among) (among_is lines next among)
+  | inr new ↦ rw (line_else lines next new) (Contains-push lines next)
 ]
 
 was_line : (lines : List Line) (next z : Line) → Contains lines z → Contains (with_line lines next) z
-was_line lines next z h = elim (cases_Bool (is_among lines next)) [
-  | inl among ↦ subst (λ (l : List Line). Contains l z) (sym (line_then lines next among)) h
-  | inr new ↦ subst (λ (l : List Line). Contains l z) (sym (line_else lines next new)) (Contains-append_left lines (next ∷ []) z h)
-]
+was_line lines next z h = grind (arith, common_steps, Contains-append_left)
 
 lines_are : (lines more : List Line) (z : Line) → Contains (with_lines lines more) z → Contains lines z ⊎ Contains more z
 lines_are lines [] z h = inl h
@@ -80,23 +69,11 @@ none_is_lost lines z = (
 abbrev Differ : Line → Line → Type 0
 Differ a b = is_rule_line a ≡ true → a ≢ b
 
-pairs_push : (lines : List Line) (next : Line) → AllPairs Differ lines → ((z : Line) → Contains lines z → Differ z next) → AllPairs Differ (lines ++ next ∷ [])
-pairs_push [] next pairs new = λ i j d lt within. absurd (let h : j < 1 = within in omega arith)
-pairs_push (first ∷ lines) next pairs new = AllPairs-cons Differ first (lines ++ next ∷ [])
-    (λ k d lt. elim (Contains-append_cases lines (next ∷ []) (get_or (lines ++ next ∷ []) k d) (Contains-get_or (lines ++ next ∷ []) k d lt)) [
-      | inl before ↦ All-contains (Differ first) lines (get_or (lines ++ next ∷ []) k d) (λ i e lt'. pairs 0 (suc i) e (omega arith) (omega arith)) before
-      | inr now ↦ elim (contains_cases next [] (get_or (lines ++ next ∷ []) k d) now) [
-        | inl e ↦ subst (Differ first) e (new first (contains_head first lines))
-        | inr none ↦ absurd (contains_none _ none)
-      ]
-    ])
-    (pairs_push lines next (λ i j d lt within. pairs (suc i) (suc j) d (omega arith) (omega arith)) (λ z h. new z (contains_tail first lines z h)))
-
 apart_line : (lines : List Line) (next : Line) → AllPairs Differ lines → AllPairs Differ (with_line lines next)
 apart_line lines next pairs = elim (cases_Bool (is_among lines next)) [
-  | inl among ↦ subst (AllPairs Differ) (sym (line_then lines next among)) pairs
-  | inr new ↦ subst (AllPairs Differ) (sym (line_else lines next new)) (pairs_push lines next pairs (λ z h rule same.
-      false≢true (sym new ∙ is_among_when lines next (ap is_rule_line (sym same) ∙ rule) (subst (Contains lines) same h))))
+  | inl among ↦ rw (line_then lines next among) pairs
+  | inr new ↦ rw (line_else lines next new) (all_pairs_push Differ lines next pairs (λ k d lt rule same.
+      false≢true (sym new ∙ is_among_when lines next (ap is_rule_line (sym same) ∙ rule) (subst (Contains lines) same (Contains-get_or lines k d lt)))))
 ]
 
 apart_lines : (lines more : List Line) → AllPairs Differ lines → AllPairs Differ (with_lines lines more)

@@ -1,5 +1,7 @@
 -- The rounds in which the rules of a layer fire. The set of reached variables grows, and in the end
 -- contains exactly those that differ from their defaults.
+use Rattle.std.proofs.Common.{rules}
+use Rattle.std.proofs.lemmas.Grind.{common_steps}
 use Rattle.sas_reasons.proofs.Imports.{◌≡◌, ℕ, zero, suc, ◌+◌, ◌<◌, ◌≤◌, ◌⊎◌, Bool, true, false, cond, List, length, get_or, refl, sym, ◌∙◌, ap, subst, inl, inr, arith, ◌==◌, Decides, list_all, list_any, HoldsAt, cases_eq, cases_Bool, false≢true, and_from, and_parts, Decides-eqb, Decides-not, Decides-and, Decides-like, Decides-by_and, Decides-by_or, get_or_default, list_any_at, Fact, Rule, Parts}
 use Rattle.sas_reasons.proofs.Imports.{rule_at, Holds, AllHold, IsOnLayer, default_of, CanFire, can_fire, IsLayered, is_on_layer, new_value_of, value_with, IsClosed, differs, IsSettledAt, layer_decides, given_on, given_off, on_layer_within, can_give}
 use Rattle.sas_reasons.specs.Derivation.{fires_with, reached}
@@ -40,41 +42,14 @@ count f (suc n) = cond (f n) 1 0 + count f n
 count_within : (f : ℕ → Bool) (n : ℕ) → count f n ≤ n
 unfolding count
 count_within f zero = omega arith
-count_within f (suc n) = elim (cases_Bool (f n)) [
-  | inl y ↦ rw y (let ih = count_within f n in omega arith)
-  | inr y ↦ rw y (let ih = count_within f n in omega arith)
-]
+count_within f (suc n) = grind (arith, count_within f n)
 
 -- of two nested tests one accepts more numbers, or both accept the same
 same_or_more : (f g : ℕ → Bool) → ((v : ℕ) → f v ≡ true → g v ≡ true) → (n : ℕ)
     → (((v : ℕ) → v < n → g v ≡ true → f v ≡ true) × (count f n ≤ count g n)) ⊎ (count f n < count g n)
 unfolding count
-same_or_more f g grows zero = inl ((λ v lt. absurd (omega arith)), omega arith)
-same_or_more f g grows (suc n) = elim (cases_Bool (f n)) [
-  | inl y ↦ elim (same_or_more f g grows n) [
-    | inl w ↦ inl ((λ v lt h. here v lt h y w.0), rw (y, grows n y) (let le = w.1 in omega arith))
-    | inr more ↦ inr (rw (y, grows n y) (omega arith))
-  ]
-  | inr not_f ↦ elim (cases_Bool (g n)) [
-    | inl y ↦ inr (rw (not_f, y) (elim (same_or_more f g grows n) [ inl w ↦ (let le = w.1 in omega arith) | inr more ↦ omega arith ]))
-    | inr neither ↦ elim (same_or_more f g grows n) [
-      | inl w ↦ inl ((λ v lt h. there v lt h neither w.0), rw (not_f, neither) (let le = w.1 in omega arith))
-      | inr more ↦ inr (rw (not_f, neither) (omega arith))
-    ]
-  ]
-]
-  where
-    here : (v : ℕ) → v < suc n → g v ≡ true → f n ≡ true → ((u : ℕ) → u < n → g u ≡ true → f u ≡ true) → f v ≡ true
-    here v lt h y below = elim (cases_eq v n) [
-      | inl e ↦ ap f e ∙ y
-      | inr ne ↦ below v (omega arith) h
-    ]
-
-    there : (v : ℕ) → v < suc n → g v ≡ true → g n ≡ false → ((u : ℕ) → u < n → g u ≡ true → f u ≡ true) → f v ≡ true
-    there v lt h not_g below = elim (cases_eq v n) [
-      | inl e ↦ absurd (false≢true (sym not_g ∙ (ap g (sym e) ∙ h)))
-      | inr ne ↦ below v (omega arith) h
-    ]
+same_or_more f g grows zero = inl (grind arith, grind arith)
+same_or_more f g grows (suc n) = grind (arith, same_or_more f g grows n, grows n)
 
 -- ---- the rounds of a layer
 
@@ -103,33 +78,14 @@ module _ (p : Parts) (layer : ℕ) (s : List ℕ) where
       }
 
   pub reach : (rounds var : ℕ) → ReachedBy (reached p layer s rounds) var → reached p layer s (suc rounds) var ≡ true
-  reach rounds var by = and_from (is_on_layer p layer var) (list_any (fires_with p layer s (reached p layer s rounds) var) p.rules)
-      (elim (layer_decides p layer var) [ inl t ↦ t.1 | inr t ↦ absurd (t.0 by.on) ])
-      (list_any_at (fires_with p layer s (reached p layer s rounds) var) p.rules by.rule _ by.exists
-      ((fires_decides p layer s (reached p layer s rounds) var (rule_at p by.rule)).1 by.fires))
+  reach rounds var by = grind (arith, common_steps, and_from, layer_decides, list_any_at, fires_decides)
 
   module _ (layered : IsLayered p) where
     -- with more members the conditions of a rule of the layer still hold
     pub more_hold : (a b : ℕ → Bool) → ((v : ℕ) → IsOnLayer p layer v → a v ≡ true → b v ≡ true) → (rule : ℕ) → rule < length p.rules
         → IsOnLayer p layer (rule_at p rule).var → CanFire p (rule_at p rule)
         → AllHold (value_with p layer s a) (rule_at p rule).conditions → AllHold (value_with p layer s b) (rule_at p rule).conditions
-    more_hold a b more rule exists on can hold j d lt = at (get_or (rule_at p rule).conditions j d) (hold j d lt) ((layered.rules rule _ exists can).order j d lt)
-      where
-        at : (c : Fact) → value_with p layer s a c.var ≡ c.value
-            → ((here there : ℕ) → IsOnLayer p here (rule_at p rule).var → IsOnLayer p there c.var → (there ≤ here) × (c.value ≡ default_of p c.var → there < here))
-            → value_with p layer s b c.var ≡ c.value
-        at c h down = elim (layer_decides p layer c.var) [
-          | inr w ↦ given_off p layer s b c.var w.0 ∙ (sym (given_off p layer s a c.var w.0) ∙ h)
-          | inl w ↦ elim (cases_Bool (a c.var)) [
-            | inl y ↦ given_on p layer s b c.var w.0 ∙ (ap (λ t. cond t (new_value_of p c.var) (default_of p c.var)) (more c.var w.0 y ∙ sym y)
-                ∙ (sym (given_on p layer s a c.var w.0) ∙ h))
-            | inr not_f ↦
-                (let requires : c.value ≡ default_of p c.var =
-                sym h ∙ (given_on p layer s a c.var w.0 ∙ ap (λ t. cond t (new_value_of p c.var) (default_of p c.var)) not_f) in
-                let lt : layer < layer = (down layer layer on w.0).1 requires in
-                absurd (omega arith))
-          ]
-        ]
+    more_hold a b more rule exists on can hold j d lt = search (rules, arith, layer_decides, given_off, cases_Bool, given_on)
 
     -- a rule that fires with some members fires with more
     pub more_fire : (a b : ℕ → Bool) → ((v : ℕ) → IsOnLayer p layer v → a v ≡ true → b v ≡ true) → (var : ℕ) → ReachedBy a var → ReachedBy b var
@@ -147,8 +103,7 @@ module _ (p : Parts) (layer : ℕ) (s : List ℕ) where
     -- a reached variable stays reached
     pub reached_more : (rounds var : ℕ) → reached p layer s rounds var ≡ true → reached p layer s (suc rounds) var ≡ true
     reached_more zero var is = absurd (false≢true is)
-    reached_more (suc rounds) var is = reach (suc rounds) var
-        (more_fire (reached p layer s rounds) (reached p layer s (suc rounds)) (λ v on r. reached_more rounds v r) var (reached_by rounds var is))
+    reached_more (suc rounds) var is = search (rules, arith, reached_more rounds, reach, more_fire, reached_by)
 
     -- if a round reaches nothing new, the reached set is closed
     closed_when_same : (rounds : ℕ) → ((v : ℕ) → v < length p.variables → reached p layer s (suc rounds) v ≡ true → reached p layer s rounds v ≡ true)

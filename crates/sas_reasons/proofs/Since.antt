@@ -1,4 +1,6 @@
 -- In a run each variable has exactly one last change.
+use Rattle.std.proofs.Common.{rules}
+use Rattle.std.proofs.lemmas.Grind.{common_steps}
 use Rattle.sas_reasons.proofs.Imports.{◌≡◌, ◌≢◌, ℕ, zero, suc, ◌+◌, ◌-◌, ◌<◌, ◌≤◌, length, refl, sym, ◌∙◌, ap, subst, inl, inr, arith, cases_eq, cases_lt, Run}
 use Rattle.sas_reasons.specs.Cause.{value_at, IsSince}
 use Rattle.sas_reasons.specs.Laws.{SomeSince, OneSince, SameSince}
@@ -11,14 +13,7 @@ module _ (run : Run) (var : ℕ) where
     unchanged : (later : ℕ) → since ≤ later → later + 1 ≤ n → value_at run later var ≡ value_at run (later + 1) var
 
   since_up_to : (n : ℕ) → (since : ℕ) × IsSinceUpTo n since
-  since_up_to zero = (
-    0,
-    record {
-      within = omega arith;
-      changed = λ before e. absurd (omega arith);
-      unchanged = λ later from upto. absurd (omega arith);
-    },
-  )
+  since_up_to zero = grind (arith, common_steps)
   since_up_to (suc n) = elim (cases_eq (value_at run n var) (value_at run (n + 1) var)) [
     | inl same ↦ kept same (since_up_to n)
     | inr other ↦ (
@@ -47,9 +42,7 @@ module _ (run : Run) (var : ℕ) where
   -- from a last change on the value is the same
   same_from : (since : ℕ) → IsSince run var since → (more : ℕ) → since + more < length run.states → value_at run (since + more) var ≡ value_at run since var
   same_from since is zero lt = ap (λ k. value_at run k var) (let e : since + zero ≡ since = omega arith in e)
-  same_from since is (suc more) lt =
-      ap (λ k. value_at run k var) (let e : since + suc more ≡ since + more + 1 = omega arith in e)
-      ∙ (sym (is.unchanged (since + more) (omega arith) (omega arith)) ∙ same_from since is more (omega arith))
+  same_from since is (suc more) lt = search (rules, arith, same_from since is more)
 
   -- so no later number is a last change
   none_later : (a b : ℕ) → IsSince run var a → IsSince run var b → a < b → ⊥
@@ -72,13 +65,7 @@ some_since run var some = from (length run.states) refl
     )
 
 pub one_since : OneSince
-one_since run var a b x y = elim (cases_lt a b) [
-  | inl lt ↦ absurd (none_later run var a b x y lt)
-  | inr ge ↦ elim (cases_lt b a) [
-    | inl lt ↦ absurd (none_later run var b a y x lt)
-    | inr le ↦ omega arith
-  ]
-]
+one_since run var a b x y = omega (arith, none_later run var a b x y, none_later run var b a y x)
 
 pub same_since : SameSince
 same_since run var since is later from upto =

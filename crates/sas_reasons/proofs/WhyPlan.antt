@@ -1,4 +1,5 @@
 -- The fault of a plan has exactly one list of reasons.
+use Rattle.std.proofs.lemmas.Grind.{common_steps}
 use Rattle.sas_reasons.proofs.Imports.{◌≡◌, ℕ, ◌-◌, ◌<◌, List, [], ◌∷◌, ◌++◌, length, take, refl, sym, ◌∙◌, ap, subst, inl, inr, arith, take-append_seam, filter, bytes_eq, Operator, Parts, PlanParts, step_at, operator_at, IsLayered, IsSettled, preconditions, places, PlanFault, Memory, NoOperator, NotApplicable, Conflict, GoalMissed, CostDiffers, LeadTo, LeadsTo, ComesTo, IsFaultOf, Line, Run}
 use Rattle.sas_reasons.proofs.Imports.{last_state, StepsSucceed, steps_before, some_run, one_run}
 use Rattle.sas_output.specs.declared.line.Line.TheVariants as line
@@ -15,9 +16,7 @@ use Rattle.sas_reasons.proofs.Conflicts.{some_conflict, one_conflict}
 each_one : {A : Type 0} (Reports : A → List Line → Type 0) → ((item : A) (a b : List Line) → Reports item a → Reports item b → a ≡ b)
     → (items : List A) (a b : List Line) → LinesOfEach Reports items a → LinesOfEach Reports items b → a ≡ b
 each_one Reports one [] a b x y = x ∙ sym y
-each_one Reports one (item ∷ items) a b x y = x.4
-    ∙ (ap (λ (its : List Line). its ++ x.1) (one item x.0 y.0 x.2 y.2)
-    ∙ (ap (λ (others : List Line). y.0 ++ others) (each_one Reports one items x.1 y.1 x.3 y.3) ∙ sym y.4))
+each_one Reports one (item ∷ items) a b x y = grind (arith, common_steps, each_one Reports one items x.1 y.1 x.3 y.3)
 
 some_each : {A : Type 0} (Reports : A → List Line → Type 0) → ((item : A) → (lines : List Line) × Reports item lines)
     → (items : List A) → (lines : List Line) × LinesOfEach Reports items lines

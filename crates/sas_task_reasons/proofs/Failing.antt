@@ -1,5 +1,6 @@
 -- An operator doesn't preserve a group if and only if it has a failure. Then it has exactly one
 -- first failure.
+use Rattle.std.proofs.lemmas.Grind.{common_steps}
 use Rattle.sas_task_reasons.proofs.Imports.{◌≡◌, ℕ, ◌<◌, ◌≤◌, ◌⊎◌, List, [], ◌∷◌, length, Some, refl, sym, ◌∙◌, ap, subst, inl, inr, arith, cases_eq, cases_lt, cases_order, slice_get-get_or, Contains, slice_get, Fact, Operator, effect_at, Keeps, sets, NotBoth, IsGone, known, clash_more, EffectKeeps, keeps_from_effects, effect_of_keeps}
 use Rattle.sas_task_reasons.specs.declared.reason.Failure.{Failure}
 use Rattle.sas_task_reasons.specs.declared.reason.Failure.TheVariants.{SetsTwo, MayStay}
@@ -9,12 +10,10 @@ use Rattle.sas_task_reasons.proofs.Least.{all_below, IsLeast, none_at_all, has_o
 
 -- a failure that comes before another is of no later effect
 no_later : (a b : Failure) → IsEarlier a b → effect_of_failure a ≤ effect_of_failure b
-no_later (SetsTwo effect other) (SetsTwo effect' other') (inl lower) = omega (arith, lower)
-no_later (SetsTwo effect other) (SetsTwo effect' other') (inr (same, lt)) = omega (arith, same)
+no_later (SetsTwo effect other) (SetsTwo effect' other') before = grind arith
 no_later (SetsTwo effect other) (MayStay effect' place') le = le
 no_later (MayStay effect place) (SetsTwo effect' other') lower = omega (arith, lower)
-no_later (MayStay effect place) (MayStay effect' place') (inl lower) = omega (arith, lower)
-no_later (MayStay effect place) (MayStay effect' place') (inr (same, lt)) = omega (arith, same)
+no_later (MayStay effect place) (MayStay effect' place') before = grind arith
 
 module _ (Counts : List Fact → Type 0) (o : Operator) (group : List Fact) where
   -- ---- what is kept doesn't fail
@@ -22,10 +21,7 @@ module _ (Counts : List Fact → Type 0) (o : Operator) (group : List Fact) wher
   -- an effect that keeps the group has no failure
   pub kept_never_fails : (failure : Failure) → EffectKeeps Counts o group (effect_at o (effect_of_failure failure)) → IsFailure Counts o group failure → ⊥
   kept_never_fails (SetsTwo effect other) keeps (exists, within, two) = two.no_clash (keeps.single other within two.sets_other two.differ)
-  kept_never_fails (MayStay effect place) keeps (exists, fact, here, lets) = elim (keeps.others fact (item_at group place fact here) lets.differ) [
-    | inl clash ↦ lets.no_clash clash
-    | inr removed ↦ lets.stays removed
-  ]
+  kept_never_fails (MayStay effect place) keeps (exists, fact, here, lets) = grind (arith, common_steps, item_at)
 
   -- the effect of a failure exists, and sets a fact of the group
   effect_exists : (failure : Failure) → IsFailure Counts o group failure → effect_of_failure failure < length o.effects
@@ -136,13 +132,7 @@ module _ (Counts : List Fact → Type 0) (o : Operator) (group : List Fact) wher
   -- the first one of its effect is the first one of all where the effects below have none
   pub first_of_all : (effect : ℕ) (failure : Failure) → IsFirstOfEffect Counts o group effect failure
       → ((other : Failure) → effect_of_failure other < effect → IsFailure Counts o group other → ⊥) → IsFirstFailure Counts o group failure
-  first_of_all effect failure first none = record {
-    fails = first.fails;
-    first = λ other before fails. elim (cases_eq (effect_of_failure other) effect) [
-      | inl same ↦ first.first other same before fails
-      | inr differ ↦ none other (let le = no_later other failure before in omega (arith, le, differ, first.of)) fails
-    ];
-  }
+  first_of_all effect failure first none = grind (arith, common_steps, cases_eq, no_later)
 
   -- an operator that doesn't keep the group can't be without a failure, nor without a first one
   pub some_failure : (Keeps Counts o group → ⊥) → ((failure : Failure) → IsFailure Counts o group failure → ⊥) → ⊥
@@ -154,36 +144,14 @@ module _ (Counts : List Fact → Type 0) (o : Operator) (group : List Fact) wher
 -- ---- one comes before the other
 
 compare : (a b : Failure) → (a ≡ b) ⊎ (IsEarlier a b ⊎ IsEarlier b a)
-compare (SetsTwo effect other) (SetsTwo effect' other') = elim (cases_order effect effect') [
-  | inl same ↦ elim (cases_order other other') [
-    | inl is ↦ inl (ap (λ (n : ℕ). SetsTwo n other) same ∙ ap (λ (n : ℕ). SetsTwo effect' n) is)
-    | inr (inl lower) ↦ inr (inl (inr (same, lower)))
-    | inr (inr higher) ↦ inr (inr (inr (sym same, higher)))
-  ]
-  | inr (inl lower) ↦ inr (inl (inl lower))
-  | inr (inr higher) ↦ inr (inr (inl higher))
-]
-compare (SetsTwo effect other) (MayStay effect' place') = elim (cases_lt effect' effect) [ inl higher ↦ inr (inr higher) | inr no_later ↦ inr (inl (omega (arith, no_later))) ]
-compare (MayStay effect place) (SetsTwo effect' other') = elim (cases_lt effect effect') [ inl lower ↦ inr (inl lower) | inr no_earlier ↦ inr (inr (omega (arith, no_earlier))) ]
-compare (MayStay effect place) (MayStay effect' place') = elim (cases_order effect effect') [
-  | inl same ↦ elim (cases_order place place') [
-    | inl is ↦ inl (ap (λ (n : ℕ). MayStay n place) same ∙ ap (λ (n : ℕ). MayStay effect' n) is)
-    | inr (inl lower) ↦ inr (inl (inr (same, lower)))
-    | inr (inr higher) ↦ inr (inr (inr (sym same, higher)))
-  ]
-  | inr (inl lower) ↦ inr (inl (inl lower))
-  | inr (inr higher) ↦ inr (inr (inl higher))
-]
+compare (SetsTwo effect other) (SetsTwo effect' other') = grind (arith, cases_order effect effect', cases_order other other')
+compare (SetsTwo effect other) (MayStay effect' place') = grind (arith, cases_lt effect' effect)
+compare (MayStay effect place) (SetsTwo effect' other') = grind (arith, cases_lt effect effect')
+compare (MayStay effect place) (MayStay effect' place') = grind (arith, cases_order effect effect', cases_order place place')
 
 pub one_first : (Counts : List Fact → Type 0) (o : Operator) (group : List Fact) (a b : Failure)
     → IsFirstFailure Counts o group a → IsFirstFailure Counts o group b → a ≡ b
-one_first Counts o group a b first first' = elim (compare a b) [
-  | inl is ↦ is
-  | inr differ ↦ elim differ [
-    | inl before ↦ absurd (first'.first a before first.fails)
-    | inr behind ↦ absurd (first.first b behind first'.fails)
-  ]
-]
+one_first Counts o group a b first first' = grind (arith, common_steps, compare)
 
 -- ---- where the same groups count, the same failures are there
 
@@ -214,14 +182,7 @@ module _ (Counts Others : List Fact → Type 0) (o : Operator) (group : List Fac
 module _ (Counts Others : List Fact → Type 0) (o : Operator) (group : List Fact)
     (more : (g : List Fact) → Counts g → Others g) (fewer : (g : List Fact) → Others g → Counts g) where
   pub first_too : (failure : Failure) → IsFirstFailure Counts o group failure → IsFirstFailure Others o group failure
-  first_too failure first = record {
-    fails = fails_too Counts Others o group fewer failure first.fails;
-    first = λ other before fails. first.first other before (fails_too Others Counts o group more other fails);
-  }
+  first_too failure first = grind (arith, common_steps, fails_too)
 
   pub first_of_effect_too : (effect : ℕ) (failure : Failure) → IsFirstOfEffect Counts o group effect failure → IsFirstOfEffect Others o group effect failure
-  first_of_effect_too effect failure first = record {
-    of = first.of;
-    fails = fails_too Counts Others o group fewer failure first.fails;
-    first = λ other of earlier fails. first.first other of earlier (fails_too Others Counts o group more other fails);
-  }
+  first_of_effect_too effect failure first = grind (arith, common_steps, fails_too)

@@ -1,4 +1,6 @@
 -- The groups with the joint verdict `Exclusive` are the greatest family.
+use Rattle.std.proofs.Common.{arith}
+use Rattle.std.proofs.lemmas.Grind.{common_steps}
 use Rattle.sas_task_reasons.proofs.Imports.{◌≡◌, ℕ, ◌<◌, Bool, List, length, refl, subst, ◌↔◌, IsTrue, Parts, operator_at, group_at, Verdict, Exclusive, Derived, Initial, Broken, Keeps, IsIn, IsGroupOf, IsGroupOfOr, IsKeptJointly, IsGreatest, IsJointVerdict, keeps_more, all_keep_more, group_of_larger, family_of, verdict_at, AreJointVerdicts, same_or_itself}
 
 module _ (p : Parts) (verdicts : List Verdict) (kept : List Bool) (joint : AreJointVerdicts p verdicts)
@@ -12,10 +14,7 @@ module _ (p : Parts) (verdicts : List Verdict) (kept : List Bool) (joint : AreJo
       absurd (outside (greatest.greatest other jointly place among))
 
   has_all : (other : ℕ → Bool) → IsKeptJointly p other → (place : ℕ) → IsIn p other place → IsIn p (family_of kept) place
-  has_all other jointly place among = record {
-    exists = among.exists;
-    chosen = (exclusive place among.exists).1 (verdict_in other jointly place among (verdict_at verdicts place) (joint.are place among.exists));
-  }
+  has_all other jointly place among = grind (arith, common_steps, verdict_in)
 
   -- each group that is chosen is one of a greatest family
   of_greatest : (place : ℕ) → IsIn p (family_of kept) place → IsJointVerdict p place Exclusive

@@ -1,5 +1,6 @@
 -- Each group that isn't exclusive has exactly one reason; that it exists is stated as a double
 -- negation.
+use Rattle.std.proofs.lemmas.Grind.{common_steps}
 use Rattle.sas_task_reasons.proofs.Imports.{◌≡◌, ℕ, ◌==◌, ◌⊎◌, Bool, true, false, List, length, Option, None, Some, refl, sym, ◌∙◌, ap, subst, inl, inr, arith, eqb-true, eq-eqb, true≢false, cases_lt, find_at, fails_before_first, none-some, slice_get-get_or, All-contains, All, Contains, position_or_len, ◌&&◌, not, is_some, slice_index, Fact, Parts, operator_at, group_at, layer_of, Holds, Exclusive}
 use Rattle.sas_task_reasons.proofs.Imports.{Derived, Initial, Broken, IsExclusiveIn, IsOnBasic, IsGroupOfOr, fact_same, same_or_itself}
 use Rattle.std.specs.List.{find}
@@ -50,19 +51,7 @@ module _ (s : List ℕ) (group : List Fact) where
 
   -- and where none holds on another variable
   pub exclusive_beside : (var : ℕ) → find (λ (f : Fact). holds s f && not (f.var == var)) group ≡ None → IsExclusiveIn s group
-  exclusive_beside var none a b in_a in_b ha hb = fact_same a b same (sym ha ∙ (ap (slice_index s) same ∙ hb))
-    where
-      on : (here same : Bool) → (here && not same) ≡ false → here ≡ true → same ≡ true
-      on true true e is = refl
-      on true false e is = absurd cc
-      on false same e is = absurd cc
-
-      its_var : (f : Fact) → Contains group f → Holds (slice_index s) f → f.var ≡ var
-      its_var f among is = eqb-true f.var var (on (holds s f) (f.var == var)
-          (All-contains (λ (g : Fact). (holds s g && not (g.var == var)) ≡ false) group f (none_passes _ group none) among) (eq-eqb (slice_index s f.var) f.value is))
-
-      same : a.var ≡ b.var
-      same = its_var a in_a ha ∙ sym (its_var b in_b hb)
+  exclusive_beside var none a b in_a in_b ha hb = grind (arith, common_steps, fact_same, eqb-true, All-contains, none_passes, eq-eqb)
 
 -- ---- failures
 
@@ -80,29 +69,21 @@ one_first_failure p family o group = one_first (IsGroupOfOr p family group) o gr
 
 -- ---- reasons
 
-same_breaks : (operator operator' : ℕ) (failure failure' : Failure) → operator ≡ operator' → failure ≡ failure' → Breaks operator failure ≡ Breaks operator' failure'
-same_breaks operator operator' failure failure' is is' = ap (λ (n : ℕ). Breaks n failure) is ∙ ap (λ (x : Failure). Breaks operator' x) is'
-
-same_holds : (f f' g g' : Fact) → f ≡ f' → g ≡ g' → HoldsTwo f g ≡ HoldsTwo f' g'
-same_holds f f' g g' is is' = ap (λ (x : Fact). HoldsTwo x g) is ∙ ap (λ (x : Fact). HoldsTwo f' x) is'
-
 one_says : (p : Parts) (place : ℕ) (a b : Reason) → verdict_of a ≡ verdict_of b → TrueOfGroup p place a → TrueOfGroup p place b → a ≡ b
 one_says p place (OnDerived f) (OnDerived g) same says says' = ap (λ (x : Fact). OnDerived x) (one_found _ f g says says')
 one_says p place (OnDerived f) (HoldsTwo g h) same says says' = absurd cc
 one_says p place (OnDerived f) (Breaks operator failure) same says says' = absurd cc
 one_says p place (HoldsTwo f g) (OnDerived h) same says says' = absurd cc
-one_says p place (HoldsTwo f g) (HoldsTwo f' g') same (first, second) (first', second') =
-    let is : f ≡ f' = one_found _ f f' first first' in
-    same_holds f f' g g' is (one_found _ g g'
-    (subst (λ (x : Fact). find (λ (y : Fact). holds p.init y && not (y.var == x.var)) (group_at p place) ≡ Some g) is second) second')
+one_says p place (HoldsTwo f g) (HoldsTwo f' g') same (first, second) (first', second') = grind (arith, common_steps, one_found)
 one_says p place (HoldsTwo f g) (Breaks operator failure) same says says' = absurd cc
 one_says p place (Breaks operator failure) (OnDerived h) same says says' = absurd cc
 one_says p place (Breaks operator failure) (HoldsTwo g h) same says says' = absurd cc
 one_says p place (Breaks operator failure) (Breaks operator' failure') same (family, greatest, first) (family', greatest', first') =
-    same_breaks operator operator' failure failure' is (one_first (IsGroupOfOr p family' itself) (operator_at p operator') itself failure failure'
+    let is' : failure ≡ failure' = one_first (IsGroupOfOr p family' itself) (operator_at p operator') itself failure failure'
     (first_too (IsGroupOfOr p family itself) (IsGroupOfOr p family' itself) (operator_at p operator') itself (same_or_itself p family family' itself greatest greatest')
     (same_or_itself p family' family itself greatest' greatest) failure
-    (subst (λ n. IsFirstFailure (IsGroupOfOr p family itself) (operator_at p n) itself failure) is first)) first')
+    (subst (λ n. IsFirstFailure (IsGroupOfOr p family itself) (operator_at p n) itself failure) is first)) first' in
+    cc
   where
     itself : List Fact
     itself = group_at p place

@@ -1,4 +1,5 @@
 -- The text of groups with reasons, group by group.
+use Rattle.std.proofs.lemmas.Grind.{common_steps}
 use Rattle.sas_task_reasons.proofs.Imports.{◌≡◌, ℕ, ◌+◌, ◌<◌, ◌≤◌, List, [], ◌∷◌, ◌++◌, length, take, get_or, append_assoc, append-nil, sym, ap, ◌∙◌, arith, Option, take_more, take_all, length-take, Parts, text, Verdict, text_of_both}
 use Rattle.sas_task_reasons.specs.declared.reason.Reason.{Reason}
 use Rattle.sas_task_reasons.specs.GroupReasons.{reason_at}
@@ -14,20 +15,11 @@ module _ (p : Parts) (reasons : List (Option Reason)) where
   -- those of some verdicts, and of others behind them
   lines_both : (n : ℕ) (a b : List Verdict) → why_lines_from p reasons n (a ++ b) ≡ why_lines_from p reasons n a ++ why_lines_from p reasons (n + length a) b
   lines_both n [] b = ap (λ (k : ℕ). why_lines_from p reasons k b) (omega arith)
-  lines_both n (verdict ∷ a) b =
-      let index : (n + 1) + length a ≡ n + length (verdict ∷ a) = omega arith in
-      ap (λ (l : List (List ℕ)). lines_at n verdict ++ l) (lines_both (n + 1) a b ∙ ap (λ (k : ℕ). why_lines_from p reasons (n + 1) a ++ why_lines_from p reasons k b) index)
-      ∙ sym (append_assoc (lines_at n verdict) (why_lines_from p reasons (n + 1) a) (why_lines_from p reasons (n + length (verdict ∷ a)) b))
+  lines_both n (verdict ∷ a) b = grind (arith, common_steps, lines_both (n + 1) a b, append_assoc)
 
   lines_next : (verdicts : List Verdict) (place : ℕ) (d : Verdict) → place < length verdicts
       → why_lines p (take (place + 1) verdicts) reasons ≡ why_lines p (take place verdicts) reasons ++ lines_at place (get_or verdicts place d)
-  lines_next verdicts place d h =
-      let verdict = get_or verdicts place d in
-      let taken : 0 + length (take place verdicts) ≡ place = simp length-take (omega arith) in
-      ap (λ (vs : List Verdict). why_lines p vs reasons) (take_more verdicts place d h)
-      ∙ lines_both 0 (take place verdicts) (verdict ∷ [])
-      ∙ ap (λ (k : ℕ). why_lines p (take place verdicts) reasons ++ why_lines_from p reasons k (verdict ∷ [])) taken
-      ∙ ap (λ (l : List (List ℕ)). why_lines p (take place verdicts) reasons ++ l) (append-nil (lines_at place verdict))
+  lines_next verdicts place d h = grind (arith, common_steps, length-take, take_more, lines_both, append-nil)
 
   pub text_next : (verdicts : List Verdict) (place : ℕ) (d : Verdict) → place < length verdicts
       → text (why_lines p (take (place + 1) verdicts) reasons) ≡ text (why_lines p (take place verdicts) reasons) ++ text (lines_at place (get_or verdicts place d))

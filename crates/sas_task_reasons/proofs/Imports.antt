@@ -5,8 +5,8 @@ pub use Rattle.std.proofs.Common.{eqb-true, eq-eqb, find, ◌&&◌, not, is_some
 pub use Rattle.std.proofs.Common.{nat_lt, set, option_map, IsSome, below_more, codes, decimal, rules, IsSomeAnd, drop}
 pub use Rattle.std.proofs.lemmas.Bool.{cases_eq, cases_lt, cases_order, true≢false, lt-ltb, cases_Bool, ltb-true, both_ways}
 pub use Rattle.std.proofs.lemmas.List.{ext_get_or, length_push, get_or_push, get_or_append_left, take_more, take_all, length-take, length-set}
-pub use Rattle.std.proofs.lemmas.List.{get_or-set_same, get_or-set_other}
-pub use Rattle.std.proofs.lemmas.List.Elements.{All-contains, Contains-get_or, All-from_get_or}
+pub use Rattle.std.proofs.lemmas.List.{get_or-set_same, get_or-set_other, get_or-take, get_or_default}
+pub use Rattle.std.proofs.lemmas.List.Elements.{All-contains, Contains-get_or, All-from_get_or, Contains-push_cases}
 pub use Rattle.std.proofs.lemmas.List.Folds.{find_at}
 pub use Rattle.std.proofs.lemmas.List.Sums.{fails_before_first, passes_at_first, position_or_len_is}
 pub use Rattle.std.proofs.lemmas.Option.{slice_get-get_or, none-some, get_or_from_slice_get, slice_get_within}

@@ -1,5 +1,6 @@
 -- Double negations: if each of some properties can't fail, they can't all fail together, and a
 -- nonempty set of numbers can't lack a least one. Also items of lists and their indexes.
+use Rattle.std.proofs.lemmas.Grind.{common_steps}
 use Rattle.sas_task_reasons.proofs.Imports.{◌≡◌, ℕ, zero, suc, ◌<◌, ◌≤◌, ◌⊎◌, List, length, get_or, sym, ◌∙◌, ap, subst, inl, inr, arith, Some, cases_eq, slice_get-get_or, get_or_from_slice_get, slice_get_within, Contains, slice_get, Fact, fact_same}
 
 -- each of the first n holds, or it can't be that each does
@@ -27,13 +28,7 @@ module _ (P : ℕ → Type 0) (no_least : (n : ℕ) → IsLeast P n → ⊥) whe
 
 -- two facts are one, or differ
 pub facts_same : (f g : Fact) → (f ≡ g) ⊎ (f ≡ g → ⊥)
-facts_same f g = elim (cases_eq f.var g.var) [
-  | inl e ↦ elim (cases_eq f.value g.value) [
-    | inl e' ↦ inl (fact_same f g e e')
-    | inr ne ↦ inr (λ is. ne (ap (λ (x : Fact). x.value) is))
-  ]
-  | inr ne ↦ inr (λ is. ne (ap (λ (x : Fact). x.var) is))
-]
+facts_same f g = grind (arith, common_steps, cases_eq, fact_same)
 
 -- a list has the fact among its first ones, or not
 first_have : (facts : List Fact) (f : Fact) (n : ℕ) → n ≤ length facts

@@ -1,4 +1,5 @@
 -- The other giver of a rule's variable, where a rule before it has another new value.
+use Rattle.std.proofs.lemmas.Grind.{common_steps}
 use Rattle.sas_task_reasons.proofs.Imports.{◌≡◌, ◌≢◌, ℕ, ◌<◌, ◌≤◌, ◌==◌, Bool, true, false, cond, [], length, take, refl, sym, ap, ◌∙◌, inl, inr, arith, eqb-true, eq-eqb, Some, None, ◌&&◌, not, position_or_len, lt-ltb, cases_Bool, cases_lt, fails_before_first, passes_at_first, Rule, Parts, rule_at, CanFire, can_fire, agrees_with, fires, agrees_with_earlier}
 use Rattle.sas_task_reasons.specs.LayerLaws.{IsOtherGiver, IsReportedOther}
 
@@ -12,39 +13,26 @@ abbrev pub gives_other : Parts → Rule → Rule → Bool
 gives_other p rule other = (other.var == rule.var) && (can_fire p other && not (other.new == rule.new))
 
 all_true : (a b c : Bool) → (a && (b && not c)) ≡ true → (a ≡ true) × (b ≡ true) × (c ≡ false)
-all_true true true true e = absurd cc
-all_true true true false e = (refl, refl, refl)
-all_true true false c e = absurd cc
-all_true false b c e = absurd cc
+all_true a b c e = grind arith
 
 so_all : (a b c : Bool) → a ≡ true → b ≡ true → c ≡ false → (a && (b && not c)) ≡ true
-so_all true true true x y z = absurd cc
-so_all true true false x y z = refl
-so_all true false c x y z = absurd cc
-so_all false b c x y z = absurd cc
+so_all a b c x y z = grind arith
 
 not_all : (a b c : Bool) → (a && (b && not c)) ≡ false → a ≡ true → b ≡ true → c ≡ true
-not_all true true true e x y = refl
-not_all true true false e x y = absurd cc
-not_all true false c e x y = absurd cc
-not_all false b c e x y = absurd cc
+not_all a b c e x y = grind arith
 
 differ : (m n : ℕ) → (m == n) ≡ false → m ≢ n
 differ m n e same = let yes : (m == n) ≡ true = eq-eqb m n same in absurd cc
 
 differs : (m n : ℕ) → m ≢ n → (m == n) ≡ false
-differs m n other = elim (cases_Bool (m == n)) [ inl y ↦ absurd (other (eqb-true m n y)) | inr isnt ↦ isnt ]
+differs m n other = grind arith
 
 module _ (p : Parts) (rule other : Rule) where
   pub gives_shows : gives_other p rule other ≡ true → IsOtherGiver p rule other
-  gives_shows e =
-      let all = all_true (other.var == rule.var) (can_fire p other) (other.new == rule.new) e in
-      record { its_var = eqb-true _ _ all.0; can_fire = (fires p other).0 all.1; differs = differ _ _ all.2 }
+  gives_shows e = grind (arith, common_steps, all_true, eqb-true, fires, differs, differ)
 
   pub giver_passes : IsOtherGiver p rule other → gives_other p rule other ≡ true
-  giver_passes g =
-      so_all (other.var == rule.var) (can_fire p other) (other.new == rule.new)
-      (eq-eqb _ _ g.its_var) ((fires p other).1 g.can_fire) (differs _ _ g.differs)
+  giver_passes g = grind (arith, common_steps, so_all, eq-eqb, fires, differs)
 
   agrees : gives_other p rule other ≡ false → CanFire p other → other.var ≡ rule.var → other.new ≡ rule.new
   agrees e can same =

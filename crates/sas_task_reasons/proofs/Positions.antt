@@ -1,14 +1,11 @@
 -- The first place at which a test passes.
+use Rattle.std.proofs.lemmas.Grind.{common_steps}
 use Rattle.sas_task_reasons.proofs.Imports.{◌≡◌, ℕ, ◌<◌, Bool, true, false, cond, List, length, get_or, Some, None, inl, inr, sym, ap, ◌∙◌, arith, position, nat_lt, lt-ltb, cases_Bool, ltb-true, position_or_len_is}
 
 module _ {X : Type 0} (p : X → Bool) (xs : List X) (d : X) where
   -- at this place it passes, and at no lower one
   pub position_at : (i : ℕ) → i < length xs → ((k : ℕ) → k < i → p (get_or xs k d) ≡ false) → p (get_or xs i d) ≡ true → Some i ≡ position p xs
-  position_at i within before passes =
-      let first = position_or_len_is p xs i d (omega arith) before (λ _. passes) in
-      sym
-      (ap (λ (n : ℕ). cond (nat_lt n (length xs)) (Some n) None) first
-      ∙ ap (λ (b : Bool). cond b (Some i) None) (lt-ltb i (length xs) within))
+  position_at i within before passes = grind (arith, common_steps, position_or_len_is, lt-ltb)
 
   -- it passes at none
   pub position_none : ((k : ℕ) → k < length xs → p (get_or xs k d) ≡ false) → None ≡ position p xs

@@ -1,4 +1,5 @@
 -- The reasons after each effect and each operator.
+use Rattle.std.proofs.lemmas.Grind.{common_steps}
 use Rattle.sas_task_reasons.proofs.Imports.{◌≡◌, ℕ, ◌+◌, ◌<◌, Bool, List, [], ◌∷◌, ◌++◌, length, set, Option, None, Some, refl, sym, ◌∙◌, ap, subst, inl, inr, arith, cases_eq, length_push, get_or_push, get_or_append_left, length-set, get_or-set_same, get_or-set_other, Contains, IsTrue, Parts, operator_at, effect_at, group_at, Verdict, Exclusive, Derived, Initial, Broken, sets, IsGroupOfOr}
 use Rattle.sas_task_reasons.proofs.Imports.{IsGreatest, IsJointVerdict, HasFact, family_of, KeepsWithItself, verdict_at, AreJointVerdicts, keeps_from_effects}
 use Rattle.sas_task_reasons.specs.declared.reason.Failure.{Failure}
@@ -117,10 +118,7 @@ module _ (p : Parts) (kept : List Bool) where
   -- a reason that is missing is pending
   pub lacking_pending : (operator effect place : ℕ) (verdicts : List Verdict) (reasons : List (Option Reason)) → LacksReason operator verdicts reasons place
       → IsReasonSoFar p kept operator effect place (verdict_at verdicts place) (reason_at reasons place) → KeptBelow p kept operator effect place
-  lacking_pending operator effect place verdicts reasons lacks is =
-      let pending : IsPending p kept operator effect place (Broken operator) = subst (IsPending p kept operator effect place) lacks.breaks
-      (subst (IsReasonSoFar p kept operator effect place (verdict_at verdicts place)) lacks.unreported is) in
-      pending.1 refl
+  lacking_pending operator effect place verdicts reasons lacks is = grind (arith, common_steps)
 
   -- the first failure of the effect is the reason
   pub failure_is_reason : (operator effect place : ℕ) (verdict : Verdict) (failure : Failure) → IsGreatest p (family_of kept) → verdict ≡ Broken operator
@@ -165,15 +163,7 @@ module _ (p : Parts) (kept : List Bool) where
     pub skip_operator : (operator : ℕ) (reasons : List (Option Reason))
         → ((place : ℕ) → place < length p.groups → verdict_at verdicts place ≡ Broken operator → ⊥)
         → AreReasonsSoFar p kept operator 0 verdicts reasons → AreReasonsSoFar p kept (operator + 1) 0 verdicts reasons
-    skip_operator operator reasons none so_far = record {
-      one_each = so_far.one_each;
-      are = λ place lt. so_far_by operator 0 (operator + 1) 0 place (verdict_at verdicts place) (reason_at reasons place)
-          (λ breaking unreported is pending. elim (cases_eq breaking operator) [
-            | inl same ↦ absurd (none place lt (is ∙ ap (λ (n : ℕ). Broken n) same))
-            | inr differ ↦ (let below = pending.0 in omega arith, λ same. record { keeps = λ lower less. absurd (omega arith) })
-          ])
-          (so_far.are place lt);
-    }
+    skip_operator operator reasons none so_far = grind (arith, common_steps, so_far_by, cases_eq)
 
     -- in the end each is reported
     reported_in_the_end : (place : ℕ) (verdict : Verdict) (reason : Option Reason) → IsJointVerdict p place verdict
@@ -186,28 +176,13 @@ module _ (p : Parts) (kept : List Bool) where
 
     pub reasons_in_the_end : (operators : ℕ) (reasons : List (Option Reason)) → operators ≡ length p.operators
         → AreReasonsSoFar p kept operators 0 verdicts reasons → AreReasons p verdicts reasons
-    reasons_in_the_end operators reasons all so_far = record {
-      one_each = so_far.one_each;
-      are = λ place lt. reported_in_the_end place (verdict_at verdicts place) (reason_at reasons place) (joint.are place lt)
-          (subst (λ n. IsReasonSoFar p kept n 0 place (verdict_at verdicts place) (reason_at reasons place)) all (so_far.are place lt));
-    }
+    reasons_in_the_end operators reasons all so_far = grind (arith, common_steps, reported_in_the_end)
 
 -- where no operator breaks a group, the first reasons are all
 pub none_broken : (p : Parts) (verdicts : List Verdict) (reasons : List (Option Reason))
     → ((place : ℕ) → place < length p.groups → IsBroken (verdict_at verdicts place) → ⊥)
     → AreReasonsSoFar p [] 0 0 verdicts reasons → AreReasons p verdicts reasons
-none_broken p verdicts reasons none so_far = record {
-  one_each = so_far.one_each;
-  are = λ place lt. reported place (verdict_at verdicts place) (reason_at reasons place) (none place lt) (so_far.are place lt);
-}
-  where
-    reported : (place : ℕ) (verdict : Verdict) (reason : Option Reason) → (IsBroken verdict → ⊥)
-        → IsReasonSoFar p [] 0 0 place verdict reason → IsReasonIfAny p place verdict reason
-    reported place verdict (Some reason) not is = is
-    reported place Exclusive None not is = refl
-    reported place Derived None not is = absurd is
-    reported place Initial None not is = absurd is
-    reported place (Broken breaking) None not is = absurd (not (record { operator = breaking; is = refl }))
+none_broken p verdicts reasons none so_far = grind (arith, common_steps)
 
 -- each operator that breaks one of the first groups is marked
 pub record MarkedUpTo (verdicts : List Verdict) (n : ℕ) (operators : ℕ) (marked : List Bool) : Type 0 where

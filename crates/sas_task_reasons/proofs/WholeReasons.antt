@@ -1,4 +1,6 @@
 -- All that the lines of reasons name exists, where the fault is the first of a task's layers.
+use Rattle.std.proofs.Common.{arith}
+use Rattle.std.proofs.lemmas.Grind.{common_steps}
 use Rattle.sas_task_reasons.proofs.Imports.{◌≡◌, ℕ, ◌<◌, ◌==◌, Bool, true, false, List, [], ◌++◌, length, take, get_or, refl, subst, inl, inr, eq-eqb, Option, Some, None, if◌then◌else◌, not, is_some, IsSome, option_map_or, Fact, Effect, Operator, Rule, Parts, Check, check, operator_at, effect_at, rule_at, layer_of, LayerFault, EffectOnDerived, RuleOnBasic, OldValue, TwoValues, LayerOrder}
 use Rattle.sas_task_reasons.proofs.Imports.{default_of, can_fire, numbered_checks, effect_layer_checks, operator_layer_checks, agrees_with, looks_down, firing_checks, rule_layer_checks, layer_checks}
 use Rattle.sas_task_reasons.specs.LayerLaws.{IsReportedOld, IsWhole, LayerReasonsAreWhole}
@@ -23,11 +25,7 @@ both_layers (Some here) (Some its) test e = (search, search)
 module _ (p : Parts) where
   old_reported : (rule : Rule) (old : Option ℕ) → rule.old ≡ old → option_map_or (λ its. its == default_of p rule.var) old true ≡ false → IsReportedOld p rule
   old_reported rule None is e = absurd cc
-  old_reported rule (Some old) is e = record {
-    old = old;
-    reported = is;
-    differs = λ same. let yes : (old == default_of p rule.var) ≡ true = eq-eqb old (default_of p rule.var) same in absurd cc;
-  }
+  old_reported rule (Some old) is e = grind (arith, common_steps, eq-eqb)
 
   -- ---- operators
 
@@ -67,14 +65,10 @@ module _ (p : Parts) where
     order_check condition c = check (looks_down p rule.var c) (LayerOrder place condition)
 
     old_whole : IsFirst old_checks e → IsWhole p e
-    old_whole is =
-        let fails = check_fails (option_map_or (λ old. old == default_of p rule.var) rule.old true) (OldValue place) e is in
-        subst (IsWhole p) fails.1 (within, old_reported rule rule.old refl fails.0)
+    old_whole is = grind (arith, common_steps, check_fails, old_reported)
 
     value_whole : IsFirst value_checks e → IsWhole p e
-    value_whole is =
-        let fails = check_fails (agrees_with p (take place p.rules) rule) (TwoValues place) e is in
-        subst (IsWhole p) fails.1 (within, other_reported p place within fails.0)
+    value_whole is = grind (arith, common_steps, check_fails, other_reported)
 
     order_whole : IsFirst (numbered_checks order_check rule.conditions) e → IsWhole p e
     order_whole is =
@@ -85,13 +79,7 @@ module _ (p : Parts) where
         subst (IsWhole p) fails.1 (within, at.within, layers.0, layers.1)
 
     firing_whole : IsFirst (firing_checks p place rule) e → IsWhole p e
-    firing_whole is = elim (either_fails (old_checks ++ value_checks) (numbered_checks order_check rule.conditions) e is) [
-      | inl first ↦ elim (either_fails old_checks value_checks e first) [
-        | inl old ↦ old_whole old
-        | inr value ↦ value_whole value.1
-      ]
-      | inr order ↦ order_whole order.1
-    ]
+    firing_whole is = grind (arith, common_steps, either_fails, old_whole, value_whole, order_whole) steps 1500000
 
     rule_whole : IsFirst (rule_layer_checks p place rule) e → IsWhole p e
     rule_whole is =

@@ -27,20 +27,6 @@ IsAny effect = Unit {0}
 abbrev pub SetsVariable : EffectPlace → ℕ → ℕ → Type 0
 SetsVariable f var effect = variable_of f.task f.operator effect ≡ var
 
--- one of the first `count` of these effects
-pub record IsOneOfFirst (effects : List ℕ) (count effect : ℕ) : Type 0 where
-  pub place : ℕ
-  pub early : place < count
-  pub here : slice_get effects place ≡ Some effect
-
--- the effects of the operator that set the variable of one of the first `count` facts
-pub record SetsOneOfFirst (f : EffectPlace) (facts : List Fact) (count effect : ℕ) : Type 0 where
-  pub place : ℕ
-  pub early : place < count
-  pub fact : Fact
-  pub here : slice_get facts place ≡ Some fact
-  pub on : variable_of f.task f.operator effect ≡ fact.var
-
 -- an earlier fact is on the same variable as the fact at this index
 pub record FollowsOnVariable (facts : List Fact) (place : ℕ) : Type 0 where
   pub before : ℕ

@@ -9,18 +9,8 @@ ghost use Rattle.sas_trace.specs.Trace.{initial_line, step_line};
 use sas_core::{Fact, Grounded};
 use sas_flat::FlatTask;
 use sas_meaning::{Layered, State};
-use sas_output::{Indent, Numbered, Sink, Word, Words};
+use sas_output::{Indent, Numbered, Sink, Word, Words, value_name};
 use std::io::Write;
-
-/// Returns the name of the fact's value; if there is no such value, no bytes.
-fn name_of(task: &Layered<FlatTask>, fact: Fact) -> &[u8]
-    ensures { result.now ≡ unwrap_or (spec.value_name task.now.variables fact.var fact.value) [] }
-{
-    match task.task().value_name(fact) {
-        Some(name) => name,
-        None => b"",
-    }
-}
 
 /// Adds the line of a variable of the initial state.
 pub fn push_initial_line<W: Write>(
@@ -37,7 +27,7 @@ pub fn push_initial_line<W: Write>(
     let rest = [
         Word::Number(u64::from(var)),
         Word::Number(u64::from(value)),
-        Word::Text(name_of(task, Fact { var, value })),
+        Word::Text(value_name(task.task(), Fact { var, value })),
     ];
     sink.push_line(Words {
         indent: Indent::None,
@@ -83,6 +73,6 @@ pub fn push_change_line<W: Write>(
         first: u64::from(fact.var),
         second: u64::from(before),
         third: u64::from(fact.value),
-        name: name_of(task, fact),
+        name: value_name(task.task(), fact),
     });
 }

@@ -1,4 +1,5 @@
 -- Reports with more lines.
+use Rattle.std.proofs.lemmas.Grind.{common_steps}
 use Rattle.sas_why.proofs.Imports.{◌≡◌, ◌≢◌, ℕ, suc, ◌<◌, ◌⊎◌, Bool, true, false, not, List, [], ◌∷◌, ◌++◌, length, get_or, set, map, Option, None, Some, Vec, Global, refl, sym, ◌∙◌, ap, subst, inl, inr, arith, flat_map, find, ◌↔◌, IsTrue, AllByRecursion, AllPairs, Contains, option_map_or, cases_eq, cases_Bool, false≢true, get_or-set_same, get_or-set_other, length-set, flat_map-cons}
 use Rattle.sas_why.proofs.Imports.{Contains-append_left, Contains-append_right, Contains-append_cases, Fact, Parts, rule_at, of_variable, places, can_give, contains_head, contains_tail, contains_cases, contains_none, places_ascend, Line, RuleDerives, RuleRequires, rule_numbers, is_rule_line, with_lines, ComesBefore, IsDerivation, fails, failing_lines, no_circle}
 use Rattle.sas_why.specs.declared.origins.Origins.{Origins}
@@ -68,10 +69,7 @@ module _ (p : Parts) (s : List ℕ) where
   plain_added report new more plain add is = grown report (record report { lines = new }) more (record {
     lines = add;
     origins = is.origins;
-    derived = λ rule. (
-      (λ t. inl t),
-      (λ either. elim either [ inl t ↦ t | inr h ↦ absurd (no_rule_line more (RuleDerives rule) plain refl h) ]),
-    );
+    derived = grind (arith, common_steps, no_rule_line);
     rules = refl;
     one_each = refl;
     kept = λ var so. inl so;
@@ -130,18 +128,11 @@ module _ (p : Parts) (s : List ℕ) where
 
   at_one : (rule : ℕ) (first : Option Fact) (z : Line) → Contains (option_map_or (λ c. RuleRequires rule c ∷ []) first []) z → (c : Fact) × (z ≡ RuleRequires rule c)
   at_one rule None z h = absurd (contains_none z h)
-  at_one rule (Some c) z h = elim (contains_cases (RuleRequires rule c) [] z h) [
-    | inl e ↦ (c, sym e)
-    | inr none ↦ absurd (contains_none z none)
-  ]
+  at_one rule (Some c) z h = grind (arith, common_steps, contains_cases, contains_none)
 
   keeper : (rules : List ℕ) (z : Line) → Contains (flat_map (failing_lines p s) rules) z → (rule : ℕ) × (c : Fact) × Contains rules rule × (z ≡ RuleRequires rule c)
   keeper [] z h = absurd (contains_none z h)
-  keeper (rule ∷ rules) z h = elim (Contains-append_cases (failing_lines p s rule) (flat_map (failing_lines p s) rules) z
-      (subst (λ l. Contains l z) (flat_map-cons (failing_lines p s) rule rules) h)) [
-        | inl here ↦ (let w = at_one rule (find (fails s) (rule_at p rule).conditions) z here in (rule, w.0, contains_head rule rules, w.1))
-        | inr there ↦ (let w = keeper rules z there in (w.0, w.1, contains_tail rule rules w.0 w.2, w.3))
-      ]
+  keeper (rule ∷ rules) z h = grind (arith, common_steps, keeper rules z, Contains-append_cases, flat_map-cons, at_one, contains_head, contains_tail)
 
   apart_more : (rule : ℕ) (first : Option Fact) (lines : List Line) → Apart lines → ((z : Line) → Contains lines z → rule ≢ rule_of z)
       → Apart (option_map_or (λ c. RuleRequires rule c ∷ []) first [] ++ lines)
@@ -193,10 +184,7 @@ module _ (p : Parts) (s : List ℕ) where
         );
         rules = refl;
         one_each = length-set report.kept var true;
-        kept = λ v so. elim (cases_eq v var) [
-          | inl e ↦ inr (λ z h. subst (λ u. Contains (lines_of_keepers p s u) z) e h)
-          | inr ne ↦ inl (sym (elsewhere v ne) ∙ so)
-        ];
+        kept = grind (arith, common_steps, cases_eq, elsewhere);
         not_kept = λ rule c not_yet. elim (cases_eq (rule_at p rule).var var) [
           | inl e ↦ absurd (false≢true (sym not_yet ∙ (ap (λ u. get_or (set report.kept var true) u false) e ∙ here)))
           | inr ne ↦ (

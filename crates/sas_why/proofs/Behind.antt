@@ -1,4 +1,5 @@
 -- What is known of a run that was retraced up to a fault.
+use Rattle.std.proofs.lemmas.Grind.{common_steps}
 use Rattle.sas_why.proofs.Imports.{◌≡◌, ℕ, ◌-◌, List, [], ◌∷◌, ◌++◌, length, take, Option, None, Some, refl, sym, ◌∙◌, ap, subst, inl, inr, arith, append-nil, take-append_seam, Parts, PlanParts, operator_at, IsState, IsLayered, IsSettled, Agree, PlanFault, Conflict, LeadsTo, ComesTo, IsFaultOf, leads_one_way, Line, Run, last_state, StepsSucceed, steps_before, RunEndsWith, leads_to_last}
 use Rattle.sas_why.proofs.Imports.{last_rests, AreCouldBeLines, AreFaultLines, IsWhy}
 use Rattle.sas_output.specs.declared.line.Line.TheVariants as line
@@ -31,16 +32,7 @@ module _ (p : Parts) (plan : PlanParts) (noted : Retraced) (run : Run) (fault : 
   is_why lines reported new some none = at noted.other refl
     where
       why : (others : List Line) → AreCouldBeLines p run others → new ≡ lines ++ others → IsWhy p plan fault new
-      why others may is = record {
-        run = run;
-        went = ends.1;
-        through = r.through;
-        reasons = reported.0;
-        are = reported.1;
-        others = others;
-        may = may;
-        whole = is ∙ ap (λ (l : List Line). l ++ others) reported.2;
-      }
+      why others may is = grind (arith, common_steps, ends)
 
       at : (other : Option Other) → noted.other ≡ other → IsWhy p plan fault new
       at None e = why [] (inr (subst (IsOtherIfAny p run) e r.other, refl)) (none e ∙ sym (append-nil lines))

@@ -1,4 +1,6 @@
 -- What functions report, one behind the other.
+use Rattle.std.proofs.Common.{arith}
+use Rattle.std.proofs.lemmas.Grind.{common_steps}
 use Rattle.sas_why.proofs.Imports.{◌≡◌, ℕ, zero, suc, ◌+◌, ◌<◌, Bool, true, false, not, List, [], ◌∷◌, ◌++◌, length, get_or, set, map, take, refl, sym, ◌∙◌, ap, subst, append_assoc, Vec, Global, ◌&&◌, ◌==◌, if◌then◌else◌, flat_map, slice_index, AllByRecursion, append-nil, map-append, take_more, flat_map-cons, flat_map-append, Fact, Parts, default_of, places, can_give, Line, with_lines, LineThen}
 use Rattle.sas_why.proofs.Imports.{LinesOfEach, Run, last_state, IsDerivation, is_derived, is_given, since_line, AreDerivationLines, can_be_given, keeping_lines, missing_lines, IsCause}
 use Rattle.sas_output.specs.declared.line.Line.TheVariants as line
@@ -74,11 +76,6 @@ module _ (p : Parts) (noted : Retraced) where
 
   -- ---- rules that derive values
 
-  pub no_givers : (report : Report) (var : ℕ) → is_given p noted.last var ≡ false
-      → Adds p noted report report (λ run. AreDerivationLines (is_given p (last_state run) var) p (last_state run) var)
-  no_givers report var not_so run behind is =
-      ([], subst (λ b. AreDerivationLines b p (last_state run) var []) (sym (ap (λ s. is_given p s var) (sym behind.last) ∙ not_so)) refl, refl, is)
-
   pub some_givers : (report : Report) (new : List Line) (origins : Origins) (next : Vec ℕ Global) (var : ℕ) → is_given p noted.last var ≡ true
       → ((s : List ℕ) → AreOrigins p s report.origins → ReportsDerivation p s var report.origins origins [] next.items)
       → new ≡ report.lines ++ map line.RuleDerives next.items
@@ -135,22 +132,14 @@ module _ (p : Parts) (noted : Retraced) where
 
   pub missing_reported : (report after : Report) (fact : Fact) → has_condition_on fact ≡ true → Adds p noted report after (λ run lines. lines ≡ keeping_lines p (last_state run) fact)
       → Adds p noted report after (λ run lines. lines ≡ missing_lines p (last_state run) fact)
-  missing_reported report after fact so adds run behind is =
-      let w = adds run behind is in
-      (w.0, w.1 ∙ sym (ap (λ b. if b then keeping_lines p (last_state run) fact else []) so), w.2, w.3)
+  missing_reported report after fact so adds run behind is = grind (arith, common_steps)
 
 -- ---- each of some items
 
 each_more : {A : Type 0} (Are : A → List Line → Type 0) (items : List A) (item : A) (lines its : List Line)
     → LinesOfEach Are items lines → Are item its → LinesOfEach Are (items ++ item ∷ []) (lines ++ its)
 each_more Are [] item lines its none decides = (its, [], decides, refl, ap (λ (l : List Line). l ++ its) none ∙ sym (append-nil its))
-each_more Are (first ∷ items) item lines its each decides = (
-  each.0,
-  each.1 ++ its,
-  each.2,
-  each_more Are items item each.1 its each.3 decides,
-  ap (λ (l : List Line). l ++ its) each.4 ∙ append_assoc each.0 each.1 its,
-)
+each_more Are (first ∷ items) item lines its each decides = grind (arith, common_steps, each_more Are items item each.1 its each.3 decides, append_assoc)
 
 module _ (p : Parts) (noted : Retraced) {A : Type 0} (Are : Run → A → List Line → Type 0) where
   pub none_yet : (report : Report) → Adds p noted report report (λ run. LinesOfEach (Are run) [])
@@ -167,25 +156,12 @@ module _ (p : Parts) (noted : Retraced) {A : Type 0} (Are : Run → A → List L
 
 pub map_more : {A B : Type 0} (f : A → B) (first old new : List B) (k : ℕ) (items : List A) (d : A) → k < length items
     → old ≡ first ++ map f (take k items) → new ≡ old ++ f (get_or items k d) ∷ [] → new ≡ first ++ map f (take (k + 1) items)
-map_more f first old new k items d lt before pushed =
-    pushed
-    ∙ (ap (λ front. front ++ f (get_or items k d) ∷ []) before
-    ∙ (append_assoc first (map f (take k items)) (f (get_or items k d) ∷ [])
-    ∙ ap (λ behind. first ++ behind)
-    (sym (map-append f (take k items) (get_or items k d ∷ []))
-    ∙ ap (map f) (sym (take_more items k d lt)))))
+map_more f first old new k items d lt before pushed = grind (arith, common_steps, append_assoc, map-append, take_more)
 
 pub flat_more : {A B : Type 0} (f : A → List B) (first old new shown : List B) (k : ℕ) (items : List A) (d : A) → k < length items
     → old ≡ first ++ flat_map f (take k items) → new ≡ old ++ shown → shown ≡ f (get_or items k d)
     → new ≡ first ++ flat_map f (take (k + 1) items)
-flat_more f first old new shown k items d lt before pushed is =
-    pushed
-    ∙ (ap (λ front. front ++ shown) before
-    ∙ (append_assoc first (flat_map f (take k items)) shown
-    ∙ ap (λ behind. first ++ behind)
-    (ap (λ b. flat_map f (take k items) ++ b) (is ∙ sym (flat_map-cons f (get_or items k d) [] ∙ append-nil (f (get_or items k d))))
-    ∙ (sym (flat_map-append f (take k items) (get_or items k d ∷ []))
-    ∙ ap (flat_map f) (sym (take_more items k d lt))))))
+flat_more f first old new shown k items d lt before pushed is = grind (arith, common_steps, append_assoc, flat_map-cons, append-nil, flat_map-append, take_more)
 
 -- the rules of a variable
 pub rules_of_report : (p : Parts) (noted : Retraced) (report : Report) (var : ℕ) → var < length p.variables → IsReportOf p noted report

@@ -1,4 +1,6 @@
 -- What is reported of each fault.
+use Rattle.std.proofs.Common.{arith}
+use Rattle.std.proofs.lemmas.Grind.{common_steps}
 use Rattle.sas_why.proofs.Imports.{◌≡◌, ℕ, ◌+◌, ◌<◌, Bool, true, false, not, List, [], ◌∷◌, ◌++◌, length, get_or, Option, None, Some, refl, ◌∙◌, ap, subst, if◌then◌else◌, filter, slice_index, option_map_or, ne_eqb, eq-eqb, append-nil, filter-append, Fact, Parts, places_to, places_one_more, Line, with_lines, LinesOfEach, Run, last_state, fails, similar_operator, similar_name_lines}
 use Rattle.sas_output.specs.declared.line.Line.TheVariants as line
 use Rattle.sas_why.specs.declared.retraced.Retraced.{Retraced}
@@ -10,12 +12,7 @@ use Rattle.sas_why.specs.Report.{IsBehind, IsReport, Adds, ReportsOnce}
 pub unknown_reported : (p : Parts) (step : ℕ) (name : List ℕ) (like : Option ℕ) (lines : List Line) → like ≡ similar_operator p name
     → lines ≡ line.Step step ∷ option_map_or (λ operator. line.SimilarOperator operator ∷ []) like []
     → ReportsOnce lines (λ its. its ≡ line.Step step ∷ similar_name_lines p name)
-unknown_reported p step name like lines is are = (_, ap (λ (o : Option ℕ). line.Step step ∷ option_map_or (λ operator. line.SimilarOperator operator ∷ []) o []) is, are ∙ once like)
-  where
-    once : (like : Option ℕ) → line.Step step ∷ option_map_or (λ operator. line.SimilarOperator operator ∷ []) like []
-        ≡ with_lines [] (line.Step step ∷ option_map_or (λ operator. line.SimilarOperator operator ∷ []) like [])
-    once None = refl
-    once (Some operator) = refl
+unknown_reported p step name like lines is are = grind (arith, common_steps)
 
 -- ---- items that fail, one more
 
@@ -50,19 +47,11 @@ place_holds s k facts d lt e = place_not (fails s) k facts d lt (holds_when s (g
 -- ---- what is reported of the last state
 
 module _ (p : Parts) (noted : Retraced) where
-  pub same_items : {A : Type 0} (Are : Run → A → List Line → Type 0) (a b : List A) (old new : Report) → a ≡ b
-      → Adds p noted old new (λ run. LinesOfEach (Are run) a) → Adds p noted old new (λ run. LinesOfEach (Are run) b)
-  same_items Are a b old new same adds = subst (λ items. Adds p noted old new (λ run. LinesOfEach (Are run) items)) same adds
-
   pub at_last : {A : Type 0} (Are : Run → A → List Line → Type 0) (items_of : List ℕ → List A) (old new : Report)
       → Adds p noted old new (λ run. LinesOfEach (Are run) (items_of noted.last)) → Adds p noted old new (λ run. LinesOfEach (Are run) (items_of (last_state run)))
-  at_last Are items_of old new adds run behind is =
-      let w = adds run behind is in
-      (w.0, subst (λ s. LinesOfEach (Are run) (items_of s) w.0) behind.last w.1, w.2, w.3)
+  at_last Are items_of old new adds run behind is = grind (arith, common_steps)
 
   -- from a report without a line
   pub all_reported : (Are : Run → List Line → Type 0) (first last : Report) → IsReport p noted.last first → first.lines ≡ [] → Adds p noted first last Are
       → (run : Run) → IsBehind p noted run → ReportsOnce last.lines (Are run)
-  all_reported Are first last is none adds run behind =
-      let w = adds run behind is in
-      (w.0, w.1, w.2 ∙ ap (λ (l : List Line). with_lines l w.0) none)
+  all_reported Are first last is none adds run behind = grind (arith, common_steps)

@@ -1,15 +1,12 @@
 -- The first effects that fire on the variables, one effect more.
+use Rattle.std.proofs.lemmas.Grind.{common_steps}
 use Rattle.sas_why.proofs.Imports.{◌≡◌, ◌≢◌, ℕ, ◌+◌, ◌<◌, ◌≤◌, List, length, set, Option, None, Some, refl, sym, ◌∙◌, ap, subst, inl, inr, arith, cases_eq, get_or-set_same, get_or-set_other, length-set, Operator, Parts, effect_at, Agree, same_inside, not_both, IsLowest, AreLowest, ConflictsWith, some_conflict}
 use Rattle.sas_meaning.specs.Steps.{Fires}
 use Rattle.sas_why.specs.Conflicts.{first_on, AgreesWithFirst, AreFirstEffects}
 
 module _ (p : Parts) (s : List ℕ) (o : Operator) where
   pub no_firsts : (firsts : List (Option ℕ)) → length firsts ≡ length p.variables → ((var : ℕ) → first_on firsts var ≡ None) → AreFirstEffects p s o 0 firsts
-  no_firsts firsts one_each none = record {
-    one_each = one_each;
-    each = λ effect lt fires. absurd (omega arith);
-    only = λ var first is. absurd (not_both first (first_on firsts var) (none var) is);
-  }
+  no_firsts firsts one_each none = grind (arith, common_steps, not_both)
 
   module _ (n : ℕ) (firsts : List (Option ℕ)) (are : AreFirstEffects p s o n firsts) where
     -- one more effect that doesn't fire
@@ -90,11 +87,7 @@ module _ (p : Parts) (s : List ℕ) (o : Operator) where
 
     -- none before it is
     pub none_before : (e : ℕ) → e < n → (d : ℕ) × ConflictsWith s o e d → ⊥
-    none_before e lt (d, c) =
-        let v = are.each d (let b = c.before in omega arith) c.fires in
-        let w = are.each e lt c.fires' in
-        let same : v.0 ≡ w.0 = same_inside v.0 w.0 (sym v.1.is ∙ (ap (first_on firsts) c.var ∙ w.1.is)) in
-        c.other (sym v.1.same ∙ (ap (λ k. (effect_at o k).new) same ∙ w.1.same))
+    none_before e lt (d, c) = grind (arith, common_steps, same_inside)
 
     pub is_conflict : (d : ℕ) → IsLowest (ConflictsWith s o n) d → AreLowest (ConflictsWith s o) n d
     is_conflict d lowest = record { first = record { has = (d, lowest.has); first = none_before }; lowest = lowest }

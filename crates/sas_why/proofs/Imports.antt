@@ -9,10 +9,10 @@ pub use Rattle.std.proofs.lemmas.Bool.{cases_eq, cases_Bool, false≢true, ne_eq
 pub use Rattle.std.proofs.lemmas.Bool.Decides.{same_from_decides, eqb_tells, leb_tells, Decides-eqb}
 pub use Rattle.std.proofs.lemmas.Cmp.{nat_cmp_total, on_total, then_total}
 pub use Rattle.std.proofs.lemmas.Fn.{always_returns_same}
-pub use Rattle.std.proofs.lemmas.Grind.{flat_map-append}
+pub use Rattle.std.proofs.lemmas.Grind.{flat_map-append, common_steps}
 pub use Rattle.std.proofs.lemmas.List.{get_or-set_same, get_or-set_other, length-set, append-nil, map-append, take_more, take_all, take-take}
 pub use Rattle.std.proofs.lemmas.List.{length-take-le, get_or-take, length-append, same_lists, get_or_default, length-replicate, get_or_append_left}
-pub use Rattle.std.proofs.lemmas.List.{get_or-append-add, get_or-replicate, get_or_past, take_at, drop_at, drop_all, length-drop}
+pub use Rattle.std.proofs.lemmas.List.{get_or-map, length-map, get_or-append-add, get_or-replicate, get_or_past, take_at, drop_at, drop_all, length-drop}
 pub use Rattle.std.proofs.lemmas.List.Concat.{flat_map-cons}
 pub use Rattle.std.proofs.lemmas.List.Elements.{Contains-append_left, Contains-append_right, Contains-append_cases, filter-append, All-contains}
 pub use Rattle.std.proofs.lemmas.List.Elements.{All-weaker, All-nil, All-cons, All-append, Contains-get_or, All-push, Contains-push}
@@ -75,7 +75,7 @@ pub use Rattle.sas_reasons.proofs.Likeness.{is_blank, space_is_trimmed, like_is}
 pub use Rattle.sas_reasons.proofs.Listing.{some_derivation}
 pub use Rattle.sas_reasons.proofs.Repeats.{is_among, among_is, is_among_when, line_then, line_else}
 pub use Rattle.sas_reasons.proofs.Rounds.{Fires, reached_more, reached_differs, ReachedBy, reached_by, fires_decides, reach}
-pub use Rattle.sas_reasons.proofs.Sorting.{Less, Gives, ordered}
+pub use Rattle.sas_reasons.proofs.Sorting.{Less, Gives, ordered, same_ordered, less_circle}
 pub use Rattle.sas_reasons.specs.Cause.{fails, failing_lines, is_derived, is_given, since_line, AreDerivationLines, can_be_given, keeping_lines}
 pub use Rattle.sas_reasons.specs.Cause.{missing_lines, IsCause, value_at, IsSince}
 pub use Rattle.sas_reasons.specs.Derivation.{ComesBefore, IsDerivation, HasLayerAndRank, IsLess, reached, IsRuleOf, IsGivenBy, DependsOn}

@@ -1,4 +1,5 @@
 -- The run of the first steps of a run, and the one that is a step longer.
+use Rattle.std.proofs.lemmas.Grind.{common_steps}
 use Rattle.sas_why.proofs.Imports.{◌≡◌, ◌≢◌, ℕ, ◌+◌, ◌<◌, ◌≤◌, List, [], ◌∷◌, ◌++◌, length, take, get_or, refl, sym, ◌∙◌, ap, subst, inl, inr, arith, cases_lt, take_all, take_more, take-take, length-take-le, get_or-take, get_or-append, get_or-append_seam, Parts, operator_at, IsNamed, LeadsTo, IsApplicable, IsLater, Run, state_at, last_state, StepsSucceed, value_at, IsSince, IsOther, MayMean}
 use Rattle.std.proofs.Math.ListN.{length-append}
 use Rattle.sas_why.specs.Retracing.{first_steps}
@@ -18,45 +19,22 @@ module _ (p : Parts) (run : Run) (through : StepsSucceed p run) where
     first_many = length-take-le k run.steps le
 
     pub first_goes : StepsSucceed p (first_steps run k)
-    first_goes = record {
-      operators = length-take-le k run.operators (omega (arith, through.operators)) ∙ sym first_many;
-      states = length-take-le (k + 1) run.states (omega (arith, through.states)) ∙ ap (λ n. n + 1) (sym first_many);
-      leads = leads;
-    }
-      where
-        leads : (j : ℕ) → j ≤ length (take k run.steps) → LeadsTo p (take j (take k run.steps)) (take j (take k run.operators)) (get_or (take (k + 1) run.states) j [])
-        leads j within =
-            let early : j ≤ k = omega (arith, first_many) in
-            subst (λ s. LeadsTo p (take j (take k run.steps)) (take j (take k run.operators)) s) (sym (get_or-take (k + 1) run.states j [] (omega arith)))
-            (subst (λ os. LeadsTo p (take j (take k run.steps)) os (state_at run j)) (sym (take-take j k run.operators early))
-            (subst (λ names. LeadsTo p names (take j run.operators) (state_at run j)) (sym (take-take j k run.steps early))
-            (through.leads j (omega arith))))
+    first_goes = grind (arith, common_steps, length-take-le, first_many, get_or-take, take-take)
 
     pub first_last : last_state (first_steps run k) ≡ state_at run k
     first_last = ap (λ n. get_or (take (k + 1) run.states) n []) first_many ∙ get_or-take (k + 1) run.states k [] (omega arith)
 
   -- one step more of them
   pub first_more : (k : ℕ) → k < length run.steps → first_steps run (k + 1) ≡ one_more (first_steps run k) (get_or run.steps k []) (get_or run.operators k 0) (state_at run (k + 1))
-  first_more k lt =
-      ap (λ names. run_of names (take (k + 1) run.operators) (take (k + 1 + 1) run.states)) (take_more run.steps k [] lt)
-      ∙ (ap (λ os. run_of (take k run.steps ++ get_or run.steps k [] ∷ []) os (take (k + 1 + 1) run.states)) (take_more run.operators k 0 (omega (arith, through.operators)))
-      ∙ ap (λ ss. run_of (take k run.steps ++ get_or run.steps k [] ∷ []) (take k run.operators ++ get_or run.operators k 0 ∷ []) ss)
-      (take_more run.states (k + 1) [] (omega (arith, through.states))))
+  first_more k lt = grind (arith, common_steps, take_more)
 
   -- and all of them
   pub first_all : first_steps run (length run.steps) ≡ run
-  first_all =
-      ap (λ names. run_of names (take (length run.steps) run.operators) (take (length run.steps + 1) run.states)) (take_all (length run.steps) run.steps (omega arith))
-      ∙ (ap (λ os. run_of run.steps os (take (length run.steps + 1) run.states)) (take_all (length run.steps) run.operators (omega (arith, through.operators)))
-      ∙ ap (λ ss. run_of run.steps run.operators ss) (take_all (length run.steps + 1) run.states (omega (arith, through.states))))
+  first_all = grind (arith, common_steps, take_all)
 
 -- where there is one state, nothing has changed
 pub none_since : (run : Run) (var : ℕ) → length run.states ≡ 1 → IsSince run var 0
-none_since run var one = record {
-  exists = omega (arith, one);
-  changed = λ before e. absurd (omega arith);
-  unchanged = λ later from upto. absurd (omega (arith, one));
-}
+none_since run var one = grind (arith, common_steps)
 
 -- ---- one step more
 
@@ -86,13 +64,7 @@ module _ (p : Parts) (run : Run) (through : StepsSucceed p run) (name : List ℕ
   next_value var = ap (λ (s : List ℕ). get_or s var 0) next_state
 
   pub since_changed : (var : ℕ) → get_or (last_state run) var 0 ≢ get_or next var 0 → IsSince longer var (length run.steps + 1)
-  since_changed var other = record {
-    exists = omega (arith, through.states, one_state_more);
-    changed = λ before e same.
-        let last : before ≡ length run.steps = omega arith in
-        other (sym (same_value var (length run.steps) (omega arith)) ∙ (ap (λ k. value_at longer k var) (sym last) ∙ (same ∙ next_value var)));
-    unchanged = λ later from upto. absurd (omega (arith, through.states, one_state_more));
-  }
+  since_changed var other = grind (arith, common_steps, one_state_more, same_value, next_value)
 
   pub since_unchanged : (var since : ℕ) → IsSince run var since → get_or (last_state run) var 0 ≡ get_or next var 0 → IsSince longer var since
   since_unchanged var since is same = record {
@@ -157,31 +129,17 @@ module _ (p : Parts) (run : Run) (through : StepsSucceed p run) (name : List ℕ
 
     -- the last step may mean just the later operators
     later_is_other : (other : ℕ) → IsLater p (last_state run) operator other → IsOther p longer (length run.steps) other
-    later_is_other other is = record {
-      exists = omega (arith, one_step_more);
-      above = subst (λ n. n < other) (sym place_of_operator) is.above;
-      of_name = subst (λ its. IsNamed p its other) (chosen ∙ sym place_of_name) is.of_name;
-      applicable = subst (λ s. IsApplicable s (operator_at p other)) (sym (same_state (length run.steps) (omega arith))) is.applicable;
-    }
+    later_is_other other is = grind (arith, common_steps, one_step_more, place_of_operator, place_of_name, same_state)
 
     other_is_later : (other : ℕ) → IsOther p longer (length run.steps) other → IsLater p (last_state run) operator other
-    other_is_later other is = record {
-      above = subst (λ n. n < other) place_of_operator is.above;
-      of_name = subst (λ its. IsNamed p its other) (place_of_name ∙ sym chosen) is.of_name;
-      applicable = subst (λ s. IsApplicable s (operator_at p other)) (same_state (length run.steps) (omega arith)) is.applicable;
-    }
+    other_is_later other is = grind (arith, common_steps, place_of_operator, place_of_name, same_state)
 
     module _ (none : (k other : ℕ) → IsOther p run k other → ⊥) where
       none_before : (k other : ℕ) → k < length run.steps → IsOther p longer k other → ⊥
       none_before k other lt is = none k other (other_shorter k other lt is)
 
       pub still_none : ((later : ℕ) → IsLater p (last_state run) operator later → ⊥) → (k other : ℕ) → IsOther p longer k other → ⊥
-      still_none not k other is = elim (cases_lt k (length run.steps)) [
-        | inl lt ↦ none_before k other lt is
-        | inr ge ↦
-            let last : k ≡ length run.steps = (let lt = is.exists in omega (arith, one_step_more)) in
-            not other (other_is_later other (subst (λ j. IsOther p longer j other) last is))
-      ]
+      still_none not k other is = grind (arith, common_steps, cases_lt, none_before, one_step_more, other_is_later)
 
       pub may_mean_now : (other : ℕ) → IsLater p (last_state run) operator other
           → ((lower : ℕ) → lower < other → IsLater p (last_state run) operator lower → ⊥) → MayMean p longer (length run.steps + 1) other
@@ -189,13 +147,7 @@ module _ (p : Parts) (run : Run) (through : StepsSucceed p run) (name : List ℕ
         length run.steps,
         refl,
         record {
-          first = record {
-            has = (other, later_is_other other is);
-            first = λ lower lt h. none_before lower h.0 lt h.1;
-          };
-          lowest = record {
-            has = later_is_other other is;
-            first = λ lower lt h. first lower lt (other_is_later lower h);
-          };
+          first = grind (arith, common_steps, later_is_other, none_before);
+          lowest = grind (arith, common_steps, later_is_other, other_is_later);
         },
       )

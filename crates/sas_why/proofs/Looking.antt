@@ -1,4 +1,5 @@
 -- It is enough to look at the variables that a step may have changed.
+use Rattle.std.proofs.lemmas.Grind.{common_steps}
 use Rattle.sas_why.proofs.Imports.{◌≡◌, ◌≢◌, ◌⊎◌, ℕ, ◌<◌, true, false, IsFalse, List, length, get_or, sym, ◌∙◌, subst, inl, inr, arith, All, Contains, cases_eq, cases_Bool, All-contains, Fact, Parts, IsDerived, IsState, Touched, MayHaveChanged, AreDerived, derived_within, ListsChanges}
 use Rattle.sas_why.specs.declared.changes.Changes.{Changes}
 use Rattle.sas_why.specs.Noting.{HavePlaces, NotedAt, LeftAt, NotesSome, NotesChanges, looked_at, CoverChanges}
@@ -8,25 +9,13 @@ use Rattle.sas_why.specs.Noting.{HavePlaces, NotedAt, LeftAt, NotesSome, NotesCh
 module _ (step : ℕ) (s : List ℕ) (old mid new : Changes) (var : ℕ) where
   -- what is noted stays noted
   pub noted_before : NotedAt step s old mid var → NotedAt step s mid new var ⊎ LeftAt mid new var → NotedAt step s old new var
-  noted_before noted (inl again) = record {
-    value = again.value;
-    changed = λ other. again.unchanged noted.value ∙ noted.changed other;
-    unchanged = λ same. again.unchanged noted.value ∙ noted.unchanged same;
-  }
-  noted_before noted (inr left) = record {
-    value = left.value ∙ noted.value;
-    changed = λ other. left.since ∙ noted.changed other;
-    unchanged = λ same. left.since ∙ noted.unchanged same;
-  }
+  noted_before noted (inl again) = grind (arith, common_steps)
+  noted_before noted (inr left) = grind (arith, common_steps)
 
   -- and can be noted later
   pub noted_then : NotedAt step s old mid var ⊎ LeftAt old mid var → NotedAt step s mid new var → NotedAt step s old new var
   noted_then (inl before) noted = noted_before before (inl noted)
-  noted_then (inr left) noted = record {
-    value = noted.value;
-    changed = λ other. noted.changed (λ same. other (sym left.value ∙ same));
-    unchanged = λ same. noted.unchanged (left.value ∙ same) ∙ left.since;
-  }
+  noted_then (inr left) noted = grind (arith, common_steps)
 
   pub some_then : NotedAt step s old mid var ⊎ LeftAt old mid var → NotedAt step s mid new var ⊎ LeftAt mid new var → NotedAt step s old new var ⊎ LeftAt old new var
   some_then first (inl noted) = inl (noted_then first noted)
@@ -35,10 +24,7 @@ module _ (step : ℕ) (s : List ℕ) (old mid new : Changes) (var : ℕ) where
 
 -- one variable more is noted
 one_of : (step : ℕ) (s : List ℕ) (mid new : Changes) (v : ℕ) → NotedAt step s mid new v → ((k : ℕ) → k ≢ v → LeftAt mid new k) → (var : ℕ) → NotedAt step s mid new var ⊎ LeftAt mid new var
-one_of step s mid new v noted others var = elim (cases_eq var v) [
-  | inl e ↦ inl (subst (NotedAt step s mid new) (sym e) noted)
-  | inr ne ↦ inr (others var ne)
-]
+one_of step s mid new v noted others var = grind (arith, common_steps, cases_eq)
 
 module _ (step : ℕ) (s : List ℕ) (old mid new : Changes) (v : ℕ) (some : NotesSome step s old mid) (places : HavePlaces (length s) new)
     (noted : NotedAt step s mid new v) (others : (k : ℕ) → k ≢ v → LeftAt mid new k) where
@@ -59,11 +45,7 @@ module _ (step : ℕ) (s : List ℕ) (old mid new : Changes) (v : ℕ) (some : N
 -- what isn't noted has its value still
 noted_at_last : (step : ℕ) (s : List ℕ) (old new : Changes) (var : ℕ) → NotedAt step s old new var ⊎ LeftAt old new var → get_or s var 0 ≡ get_or old.values.items var 0 → NotedAt step s old new var
 noted_at_last step s old new var (inl noted) same = noted
-noted_at_last step s old new var (inr left) same = record {
-  value = left.value ∙ sym same;
-  changed = λ other. absurd (other (sym same));
-  unchanged = λ _. left.since;
-}
+noted_at_last step s old new var (inr left) same = grind (arith, common_steps)
 
 pub all_noted : (step : ℕ) (s : List ℕ) (old mid new : Changes) (deleted : List Fact) (touched : List ℕ) → CoverChanges old.values.items s deleted touched
     → NotesSome step s old mid → All (λ (f : Fact). NotedAt step s old mid f.var) deleted
@@ -88,11 +70,7 @@ module _ (p : Parts) (s s' : List ℕ) (deleted : List Fact) (touched : Touched)
   covers_by vars only each = record {
     facts = λ k d lt. (let one = state.one_each in let in_task = decides.exist k d lt in omega (arith, one, in_task));
     variables = within vars only;
-    each = λ var. elim (decides.each var) [
-      | inl same ↦ inl same
-      | inr (inl there) ↦ inr (inl there)
-      | inr (inr may) ↦ inr (inr (each var may.0 may.1))
-    ];
+    each = grind (arith, common_steps);
   }
 
   on_list : IsFalse touched.any → (var : ℕ) → MayHaveChanged touched var → Contains touched.vars.items var

@@ -1,4 +1,5 @@
 -- What is noted of a run, step by step.
+use Rattle.std.proofs.lemmas.Grind.{common_steps}
 use Rattle.sas_why.proofs.Imports.{◌≡◌, ℕ, ◌+◌, ◌<◌, ◌≤◌, List, length, get_or, Option, Some, None, sym, ◌∙◌, ap, subst, inl, inr, arith, cases_eq, same_lists, get_or_default, Parts, operator_at, PlanParts, Executed, next_name, next_operator, Executes, IsLaterIfAny, Run, state_at, last_state, StepsSucceed, RunEndsWith, as_many, executed_fits, name_is, IsSince, MayMean}
 use Rattle.sas_why.specs.declared.changes.Changes.{Changes}
 use Rattle.sas_why.specs.declared.retraced.Other.{Other}
@@ -11,31 +12,11 @@ use Rattle.sas_why.proofs.LongerRuns.{first_many, first_goes, first_last, first_
 -- before the first step
 pub notes_start : (run : Run) (e : Executed) (changes : Changes) → Executes run e → e.made ≡ 0 → AreFirstChanges e.state changes
     → AreNotes run e (record { changes = changes; other = None })
-notes_start run e changes executes made first = record {
-  executes = executes;
-  values = first.values;
-  since = record {
-    one_each = first.one_each ∙ (executed_fits run e executes).one_each;
-    each = λ var lt. subst (IsSince (first_steps run e.made) var) (sym (first.since var)) (none_since (first_steps run e.made) var (omega (arith, goes.states, many, made)));
-  };
-  other = λ k other is. let lt = is.exists in absurd (omega (arith, many, made));
-}
-  where
-    within : e.made ≤ length run.steps
-    within = omega (arith, made)
-
-    goes : StepsSucceed e.task (first_steps run e.made)
-    goes = first_goes e.task run executes.of_plan.through e.made within
-
-    many : length (first_steps run e.made).steps ≡ e.made
-    many = first_many e.task run executes.of_plan.through e.made within
+notes_start run e changes executes made first = grind (arith, common_steps, executed_fits, none_since, first_goes, first_many)
 
 -- there is a place for each variable
 pub places : (run : Run) (e : Executed) (notes : Notes) → AreNotes run e notes → HavePlaces (length e.task.variables) notes.changes
-places run e notes are = record {
-  values = ap length are.values ∙ (executed_fits run e are.executes).one_each;
-  since = are.since.one_each;
-}
+places run e notes are = grind (arith, common_steps, executed_fits)
 
 -- ---- one step more
 
@@ -108,11 +89,7 @@ module _ (run : Run) (e : Executed) (notes : Notes) (are : AreNotes run e notes)
 
   -- these are the first steps then
   longer_is : first_steps run e'.made ≡ one_more sofar (next_name e) (next_operator e) e'.state
-  longer_is = ap (first_steps run) step.advances.made
-      ∙ (first_more e.task run through e.made within
-      ∙ (ap (λ name. one_more sofar name (get_or run.operators e.made 0) (state_at run (e.made + 1))) (name_is run e are.executes left)
-      ∙ (ap (λ operator. one_more sofar (next_name e) operator (state_at run (e.made + 1))) (ap (λ (os : List ℕ). get_or os e.made 0) are.executes.operators)
-      ∙ ap (λ s. one_more sofar (next_name e) (next_operator e) s) (sym (along.state ∙ ap (state_at run) step.advances.made)))))
+  longer_is = grind (arith, common_steps, first_more, through, within, one_more, name_is)
 
   pub notes_longer : AreNotes run e' notes'
   notes_longer = record {

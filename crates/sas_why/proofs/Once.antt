@@ -1,5 +1,6 @@
 -- Lines that are added to others, each line of a rule once.
-use Rattle.sas_why.proofs.Imports.{◌≡◌, ◌≢◌, ℕ, suc, Bool, true, false, not, List, [], ◌∷◌, ◌++◌, map, get_or, refl, sym, ◌∙◌, ap, subst, inl, inr, arith, append_assoc, append-nil, ◌||◌, ◌&&◌, if◌then◌else◌, bytes_eq, filter, Contains, AllByRecursion, AllPairs, list_any, cases_Bool, same_from_decides, All-contains, contains_head, contains_tail, contains_cases, contains_none, Line, RuleDerives}
+use Rattle.std.proofs.Common.{rules}
+use Rattle.sas_why.proofs.Imports.{common_steps, get_or-map, length-map, ◌≡◌, ◌≢◌, ℕ, suc, Bool, true, false, not, List, [], ◌∷◌, ◌++◌, map, get_or, refl, sym, ◌∙◌, ap, subst, inl, inr, arith, append_assoc, append-nil, ◌||◌, ◌&&◌, if◌then◌else◌, bytes_eq, filter, Contains, AllByRecursion, AllPairs, list_any, cases_Bool, same_from_decides, All-contains, contains_head, contains_tail, contains_cases, contains_none, Line, RuleDerives}
 use Rattle.sas_why.proofs.Imports.{rule_numbers, is_rule_line, is_same_rule_line, same_is, with_line, with_lines, is_among, among_is, is_among_when, line_then, line_else}
 
 -- one list behind another
@@ -19,9 +20,7 @@ never_same (l ∷ lines) next plain =
 
 pub plain_lines : (lines more : List Line) → AllByRecursion IsPlain more → with_lines lines more ≡ lines ++ more
 plain_lines lines [] plain = sym (append-nil lines)
-plain_lines lines (next ∷ more) plain =
-    ap (λ (l : List Line). with_lines l more) (line_else lines next (never_same lines next plain.0))
-    ∙ (plain_lines (lines ++ next ∷ []) more plain.1 ∙ append_assoc lines (next ∷ []) more)
+plain_lines lines (next ∷ more) plain = grind (arith, common_steps, plain_lines (lines ++ next ∷ []) more plain.1, line_else, never_same, append_assoc)
 
 -- ---- lines that are among the others
 
@@ -56,16 +55,7 @@ new_more lines next (z ∷ more) others =
 
 new_lines : (lines more : List Line) → Apart more → with_lines lines more ≡ lines ++ new_of lines more
 new_lines lines [] apart = sym (append-nil lines)
-new_lines lines (next ∷ more) apart = elim (cases_Bool (is_among lines next)) [
-  | inl among ↦ ap (λ (l : List Line). with_lines l more) (line_then lines next among)
-      ∙ (new_lines lines more apart.1
-      ∙ ap (λ b. lines ++ (if not b then next ∷ new_of lines more else new_of lines more)) (sym among))
-  | inr new ↦ ap (λ (l : List Line). with_lines l more) (line_else lines next new)
-      ∙ (new_lines (lines ++ next ∷ []) more apart.1
-      ∙ (ap (λ (l : List Line). (lines ++ next ∷ []) ++ l) (new_more lines next more apart.0)
-      ∙ (append_assoc lines (next ∷ []) (new_of lines more)
-      ∙ ap (λ b. lines ++ (if not b then next ∷ new_of lines more else new_of lines more)) (sym new))))
-]
+new_lines lines (next ∷ more) apart = grind (arith, common_steps, new_lines lines more apart.1, new_lines (lines ++ next ∷ []) more apart.1, cases_Bool, is_among, line_then, line_else, new_more, append_assoc)
 
 all_kept : (lines more : List Line) → ((z : Line) → Contains more z → Contains lines z → ⊥) → new_of lines more ≡ more
 all_kept lines [] new = refl
@@ -85,24 +75,14 @@ abbrev pub rule_of : Line → ℕ
 rule_of l = get_or (rule_numbers l) 0 0
 
 pub other_line : (z next : Line) → rule_of next ≢ rule_of z → is_same_rule_line z next ≡ false
-other_line z next differ = elim (cases_Bool (is_same_rule_line z next)) [
-  | inl same ↦ absurd (differ (sym (ap rule_of (same_is z next same))))
-  | inr other ↦ other
-]
+other_line z next differ = grind (arith, common_steps, cases_Bool, same_is)
 
 pub contains_map : {A B : Type 0} (f : A → B) (xs : List A) (x : A) → Contains xs x → Contains (map f xs) (f x)
-contains_map f [] x h = absurd (contains_none x h)
-contains_map f (y ∷ ys) x h = elim (contains_cases y ys x h) [
-  | inl e ↦ subst (λ z. Contains (f y ∷ map f ys) (f z)) e (contains_head (f y) (map f ys))
-  | inr there ↦ contains_tail (f y) (map f ys) (f x) (contains_map f ys x there)
-]
+contains_map f xs x h = grind (arith, common_steps, get_or-map, length-map)
 
 pub map_contains : {A B : Type 0} (f : A → B) (xs : List A) (z : B) → Contains (map f xs) z → (x : A) × Contains xs x × (f x ≡ z)
 map_contains f [] z h = absurd (contains_none z h)
-map_contains f (y ∷ ys) z h = elim (contains_cases (f y) (map f ys) z h) [
-  | inl e ↦ (y, contains_head y ys, e)
-  | inr there ↦ (let w = map_contains f ys z there in (w.0, contains_tail y ys w.0 w.1, w.2))
-]
+map_contains f (y ∷ ys) z h = grind (arith, contains_cases (f y) (map f ys) z h, contains_head y ys, contains_tail y ys, map_contains f ys z)
 
 derived_apart : (rules : List ℕ) → AllPairs (λ a b. a ≢ b) rules → Apart (map RuleDerives rules)
 derived_apart [] pairs = tt
@@ -119,14 +99,7 @@ module _ (lines : List Line) (is_reported : ℕ → Bool) (reported : (rule : �
 
   unreported_lines : (rules : List ℕ) → new_of lines (map RuleDerives rules) ≡ map RuleDerives (filter (λ rule. not (is_reported rule)) rules)
   unreported_lines [] = refl
-  unreported_lines (rule ∷ rules) = elim (cases_Bool (is_reported rule)) [
-    | inl out ↦ ap (λ b. if not b then RuleDerives rule ∷ new_of lines (map RuleDerives rules) else new_of lines (map RuleDerives rules)) (reported_is rule ∙ out)
-        ∙ (unreported_lines rules
-        ∙ ap (λ b. map RuleDerives (if not b then rule ∷ filter (λ r. not (is_reported r)) rules else filter (λ r. not (is_reported r)) rules)) (sym out))
-    | inr stays ↦ ap (λ b. if not b then RuleDerives rule ∷ new_of lines (map RuleDerives rules) else new_of lines (map RuleDerives rules)) (reported_is rule ∙ stays)
-        ∙ (ap (λ (l : List Line). RuleDerives rule ∷ l) (unreported_lines rules)
-        ∙ ap (λ b. map RuleDerives (if not b then rule ∷ filter (λ r. not (is_reported r)) rules else filter (λ r. not (is_reported r)) rules)) (sym stays))
-  ]
+  unreported_lines (rule ∷ rules) = grind (arith, common_steps, unreported_lines rules, cases_Bool, reported_is)
 
   pub derived_lines : (rules : List ℕ) → AllPairs (λ a b. a ≢ b) rules
       → with_lines lines (map RuleDerives rules) ≡ lines ++ map RuleDerives (filter (λ rule. not (is_reported rule)) rules)

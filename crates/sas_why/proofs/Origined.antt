@@ -1,4 +1,5 @@
 -- How the origins change when a rule fires.
+use Rattle.std.proofs.lemmas.Grind.{common_steps}
 use Rattle.sas_why.proofs.Imports.{◌≡◌, ℕ, zero, suc, ◌+◌, ◌<◌, ◌≤◌, ◌⊎◌, List, [], ◌∷◌, length, set, Option, None, Some, refl, subst, inl, inr, arith, eqb_tells, leb_tells}
 use Rattle.sas_why.specs.declared.rounds.Origin.{Origin}
 use Rattle.sas_why.specs.Rounds.{origin_at, origin_now, origin_with_rule, unreached}
@@ -20,13 +21,7 @@ some_same o o' e = cc
 pub with_rule_cases : (over rule : ℕ) (old : Option Origin)
     → ((origin_with_rule over rule old ≡ Some (origin_now over rule)) × NotEarlier over rule old) ⊎ Stays over rule old
 with_rule_cases over rule None = inl (refl, record { now = λ o e. absurd cc })
-with_rule_cases over rule (Some o) = elim (eqb_tells o.rank (over + 1)) [
-  | inr n ↦ inr (record { origin = o; at = refl; still = rw n.0 refl; lower = λ e. absurd (n.1 e) })
-  | inl y ↦ elim (leb_tells (suc rule) o.rule) [
-    | inl lt ↦ inl (rw (y.0, lt.0) refl, record { now = λ o' e. subst (λ (x : Origin). (x.rank ≡ over + 1) × (rule < x.rule)) (some_same o o' e) (y.1, (let less : suc rule ≤ o.rule = lt.1 in omega arith)) })
-    | inr ge ↦ inr (record { origin = o; at = refl; still = rw (y.0, ge.0) refl; lower = λ e. (let le : o.rule < suc rule = ge.1 in omega arith) })
-  ]
-]
+with_rule_cases over rule (Some o) = grind (arith, common_steps, eqb_tells, leb_tells, some_same)
 
 -- ---- how many variables weren't reached
 

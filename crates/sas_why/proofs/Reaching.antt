@@ -1,4 +1,5 @@
 -- What the rounds that are over reach, and what follows for the conditions of rules.
+use Rattle.std.proofs.lemmas.Grind.{common_steps}
 use Rattle.sas_why.proofs.Imports.{◌≡◌, ◌≢◌, ℕ, zero, suc, ◌<◌, ◌≤◌, ◌⊎◌, true, false, cond, List, [], ◌∷◌, length, get_or, Option, None, Some, refl, sym, ◌∙◌, ap, subst, inl, inr, arith, option_eq, All, Contains, cases_eq, cases_Bool, eqb_tells, Fact, Parts, IsOnLayer, default_of, LooksDown, IsLayered, new_value_of, IsSettled, layer_decides, given_on, given_off, one_layer, reached, reached_more}
 use Rattle.sas_why.proofs.Imports.{reached_differs}
 use Rattle.std.specs.Bool.{◌==◌}
@@ -36,16 +37,7 @@ module _ (p : Parts) (s : List ℕ) (layered : IsLayered p) where
 
     module _ (origins : List _) (known : OriginsUpToRound p s over origins) where
       pub value_when_reached : (layer var : ℕ) → IsReached origins over var → value_in_round p layer s over var ≡ get_or s var 0
-      value_when_reached layer var at = elim (layer_decides p layer var) [
-        | inl w ↦ value_reached layer var w.0 (reached_in over origins known layer var w.0 at)
-        | inr w ↦ value_off layer var w.0
-      ]
-
-      pub value_when_not : (layer var : ℕ) → IsOnLayer p layer var → (IsReached origins over var → ⊥) → value_in_round p layer s over var ≡ default_of p var
-      value_when_not layer var on not = elim (cases_Bool (reached p layer s over var)) [
-        | inl y ↦ absurd (not (known.whole layer var on y))
-        | inr n ↦ value_not layer var on n
-      ]
+      value_when_reached layer var at = grind (arith, common_steps, layer_decides, value_reached, reached_in, value_off)
 
     -- a condition that holds in a round holds in the next one, where it looks down
     pub holds_on : (layer var : ℕ) (c : Fact) → IsOnLayer p layer var → LooksDown p var c

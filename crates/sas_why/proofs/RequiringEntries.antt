@@ -1,4 +1,5 @@
 -- The entries of the rules under the derived variables on which they have conditions.
+use Rattle.std.proofs.lemmas.Grind.{common_steps}
 use Rattle.sas_why.proofs.Imports.{◌≡◌, ℕ, ◌+◌, ◌<◌, ◌≤◌, List, [], ◌∷◌, ◌++◌, length, get_or, sym, ◌∙◌, ap, subst, inl, inr, arith, All, Contains, cases_eq, get_or_default, All-nil, All-push, All-weaker, Contains-push, Contains-append_left, Fact, Parts, rule_at, IsDerived, WellRanged, Entry, items_of, by_key, length-table, under_key, all_items, holds, condition_within}
 use Rattle.sas_why.specs.Requiring.{entry_of, HasConditionOn, IsEntryOfTask, AddsRequiring, requiring_at, IsRequiringIndex}
 
@@ -18,15 +19,7 @@ adds_none p rule before = record { only = λ all. all; kept = λ e h. h; each = 
 module _ (p : Parts) (rule count : ℕ) (d : Fact) (before after : List (Entry ℕ)) (so_far : AddsUpTo p rule count before after)
     (below : count < length (rule_at p rule).conditions) where
   pub adds_skip : (IsDerived p.variables (get_or (rule_at p rule).conditions count d).var → ⊥) → AddsUpTo p rule (count + 1) before after
-  adds_skip not = record {
-    only = so_far.only;
-    kept = so_far.kept;
-    each = λ place e lt within derived. elim (cases_eq place count) [
-      | inr ne ↦ so_far.each place e (omega arith) within derived
-      | inl same ↦ absurd (not (subst (λ (c : Fact). IsDerived p.variables c.var)
-          (ap (λ n. get_or (rule_at p rule).conditions n e) same ∙ get_or_default (rule_at p rule).conditions count e d below) derived))
-    ];
-  }
+  adds_skip not = grind (arith, common_steps, cases_eq, get_or_default)
 
   pub adds_more : WellRanged p → rule < length p.rules
       → AddsUpTo p rule (count + 1) before (after ++ entry_of (get_or (rule_at p rule).conditions count d).var rule ∷ [])
@@ -45,26 +38,13 @@ module _ (p : Parts) (rule count : ℕ) (d : Fact) (before after : List (Entry �
 
 pub adds_all : (p : Parts) (rule count : ℕ) (before after : List (Entry ℕ)) → length (rule_at p rule).conditions ≤ count
     → AddsUpTo p rule count before after → AddsRequiring p rule before after
-adds_all p rule count before after done so_far = record {
-  only = so_far.only;
-  kept = so_far.kept;
-  each = λ var requires. from var requires requires.among;
-}
-  where
-    from : (var : ℕ) (requires : HasConditionOn p rule var) → Contains (rule_at p rule).conditions requires.condition → Contains after (entry_of var rule)
-    from var requires (k, lt, is) = subst (λ v. Contains after (entry_of v rule)) requires.on
-        (subst (λ (c : Fact). Contains after (entry_of c.var rule)) is
-        (so_far.each k requires.condition (omega arith) lt
-        (subst (λ (c : Fact). IsDerived p.variables c.var) (sym is) (subst (IsDerived p.variables) (sym requires.on) requires.derived))))
+adds_all p rule count before after done so_far = grind (arith, common_steps)
 
 -- ---- all rules
 
 pub record RequiringUpTo (p : Parts) (count : ℕ) (entries : List (Entry ℕ)) : Type 0 where
   pub only : All (IsEntryOfTask p) entries
   pub each : (rule var : ℕ) → rule < count → HasConditionOn p rule var → Contains entries (entry_of var rule)
-
-pub requiring_none : (p : Parts) → RequiringUpTo p 0 []
-requiring_none p = record { only = All-nil (IsEntryOfTask p); each = λ rule var lt requires. absurd (omega arith) }
 
 pub requiring_more : (p : Parts) (count : ℕ) (before after : List (Entry ℕ)) → AddsRequiring p count before after → RequiringUpTo p count before → RequiringUpTo p (count + 1) after
 requiring_more p count before after adds up = record {

@@ -1,16 +1,23 @@
 -- How a round ends, how the first one begins, and what is known when no rule is left to look at.
-use Rattle.sas_why.proofs.Imports.{◌≡◌, ℕ, suc, ◌+◌, ◌<◌, ◌≤◌, true, false, List, [], ◌∷◌, length, get_or, replicate, Option, None, Some, refl, sym, ◌∙◌, ap, subst, inl, inr, arith, is_some, Contains, cases_lt, cases_Bool, false≢true, and_parts, get_or-replicate, length-replicate, get_or_default, get_or_past, All-nil, All-contains, Parts, rule_at, IsOnLayer, IsLayered, IsSettled, IsClosed}
+use Rattle.std.proofs.lemmas.Grind.{common_steps}
+use Rattle.sas_why.proofs.Imports.{All, IsFalse, ◌≡◌, ℕ, suc, ◌+◌, ◌<◌, ◌≤◌, true, false, List, [], ◌∷◌, length, get_or, replicate, Option, None, Some, refl, sym, ◌∙◌, ap, subst, inl, inr, arith, is_some, Contains, cases_lt, cases_Bool, false≢true, and_parts, get_or-replicate, length-replicate, get_or_default, get_or_past, All-nil, All-contains, Parts, rule_at, IsOnLayer, IsLayered, IsSettled, IsClosed}
 use Rattle.sas_why.proofs.Imports.{differs, layer_cases, contains_none, reached, HasLayerAndRank, FiresNext, is_derived, is_given, Fires, ReachedBy, reached_by}
 use Rattle.sas_why.specs.declared.rounds.Origin.{Origin}
 use Rattle.sas_why.specs.declared.rounds.Rounds.{Rounds}
 use Rattle.sas_why.specs.Requiring.{requiring_at}
-use Rattle.sas_why.specs.Rounds.{origin_at, IsOrigin, HasOrigin, HaveOrigins, IsReached, OriginsUpToRound, HavePassed, ReachesNow, InRound, unreached, ContinuesRound, AreDue, AreAllRules, AreBefore}
+use Rattle.sas_why.specs.Rounds.{origin_at, IsOrigin, HasOrigin, HaveOrigins, IsReached, OriginsUpToRound, HavePassed, ReachesNow, InRound, unreached, ContinuesRound, AreAllRules, AreBefore}
 use Rattle.sas_why.proofs.Reaching.{reached_up, reached_in, holds_on, Begins, all_or_begins}
 use Rattle.sas_why.proofs.Origined.{unreached_none}
 use Rattle.sas_why.proofs.RoundSteps.{fires_now, fires_next, reached_next, same_at}
 
 one_more : (n : ℕ) → suc n ≡ n + 1
 one_more n = omega arith
+
+-- the rules that may reach a variable in the next round are among these
+pub record AreDue (p : Parts) (s : List ℕ) (over : ℕ) (rules : List ℕ) : Type 0 where
+  pub exist : All (λ rule. rule < length p.rules) rules
+  pub whole : (layer var rule : ℕ) → IsOnLayer p layer var → FiresNext p s var layer over rule
+      → IsFalse (reached p layer s over var) → Contains rules rule
 
 module _ (p : Parts) (s : List ℕ) (layered : IsLayered p) (settled : IsSettled p s) where
   module _ (r : Rounds) (rules : List ℕ) (inside : InRound p s r rules) (due : AreDue p s r.over rules) where
@@ -156,12 +163,7 @@ module _ (p : Parts) (s : List ℕ) (layered : IsLayered p) (settled : IsSettled
             (w.origin, w.at)
 
         whole : (v : ℕ) → is_given p s v ≡ true → HasOrigin r.origins.items v
-        whole v given =
-            let both = and_parts (is_derived p v) (differs p s v) given in
-            elim (layer_cases p v) [
-              | inl b ↦ absurd (false≢true (sym (ap is_some b) ∙ both.0))
-              | inr w ↦ at v w.0 w.1 both.1
-            ]
+        whole v given = grind (arith, common_steps, and_parts, layer_cases, false≢true, at)
 
 -- ---- the first round
 
@@ -169,41 +171,7 @@ pub first_due : (p : Parts) (s : List ℕ) (over : ℕ) (rules : List ℕ) → A
 first_due p s over rules all = record { exist = all.exist; whole = λ layer v rule on f not. all.each rule f.exists }
 
 pub first_round : (p : Parts) (s : List ℕ) (r : Rounds) → AreBefore p r → InRound p s r []
-first_round p s r before = record {
-  at = record {
-    few = (let e = before.over in omega arith);
-    known = rw before.over (record {
-      one_each = ap length before.origins ∙ length-replicate (length p.variables) None;
-      each = λ v o at le. absurd (no_origin v o at);
-      whole = λ layer v on is. absurd (false≢true is);
-    });
-    passed = record {
-      one_each = ap length before.passed ∙ length-replicate (length p.rules) 0;
-      within = λ rule lt. (let e = none_passed rule lt in omega arith);
-      hold = λ layer rule lt on can j d from to. absurd (let e = none_passed rule lt in omega arith);
-    };
-    requiring = before.requiring;
-  };
-  each = λ v o at. absurd (no_origin v o at);
-  looked = λ layer v rule has. absurd (contains_none rule has);
-  next = λ v o at rank. absurd (no_origin v o at);
-  exist = rw before.next (All-nil (λ rule. rule < length p.rules));
-}
-  where
-    no_longer : (n v : ℕ) → n ≤ v → length (replicate n (let o : Option Origin = None in o)) ≤ v
-    no_longer n v ge = let e = length-replicate n (let o : Option Origin = None in o) in omega arith
-
-    nothing : (n v : ℕ) → origin_at (replicate n None) v ≡ None
-    nothing n v = elim (cases_lt v n) [
-      | inl lt ↦ get_or-replicate n v None None lt
-      | inr ge ↦ get_or_past (replicate n None) v None (no_longer n v ge)
-    ]
-
-    no_origin : (v : ℕ) (o : Origin) → origin_at r.origins.items v ≡ Some o → ⊥
-    no_origin v o at = let e : None ≡ Some o = sym (nothing (length p.variables) v) ∙ (ap (λ os. origin_at os v) (sym before.origins) ∙ at) in absurd cc
-
-    none_passed : (rule : ℕ) → rule < length p.rules → get_or r.passed.items rule 0 ≡ 0
-    none_passed rule lt = ap (λ xs. get_or xs rule 0) before.passed ∙ get_or-replicate (length p.rules) rule 0 0 lt
+first_round p s r before = grind (arith, common_steps, length-replicate, false≢true, contains_none, All-nil, cases_lt, get_or-replicate, get_or_past)
 
 pub first_unreached : (p : Parts) (r : Rounds) → AreBefore p r → unreached r.origins.items ≡ length p.variables
 first_unreached p r before = unreached_none (length p.variables) r.origins.items (ap length before.origins ∙ length-replicate (length p.variables) None)

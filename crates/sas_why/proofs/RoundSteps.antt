@@ -1,4 +1,5 @@
 -- How a round goes on when a rule is looked at, and how it ends.
+use Rattle.std.proofs.lemmas.Grind.{common_steps}
 use Rattle.sas_why.proofs.Imports.{◌≡◌, ◌≢◌, ℕ, suc, ◌<◌, ◌≤◌, ◌⊎◌, true, false, List, [], ◌∷◌, ◌++◌, length, get_or, set, Option, None, Some, refl, sym, ◌∙◌, ap, subst, inl, inr, arith, All, Contains, cases_eq, cases_lt, cases_Bool, get_or-set_same, get_or-set_other, length-set, append-nil, All-nil, All-append, All-weaker, Contains-push_cases, Contains-append_left, Contains-append_right}
 use Rattle.sas_why.proofs.Imports.{Contains-get_or, Change, Fact, Parts, rule_change, rule_at, IsOnLayer, default_of, CanFire, one_layer, reached, FiresNext, Fires, fires_decides, reach}
 use Rattle.sas_why.specs.declared.rounds.Origin.{Origin}
@@ -48,11 +49,7 @@ module _ (p : Parts) (s : List ℕ) (layer rule place over : ℕ) (passed : List
   pub passed_set : HavePassed p s over passed → HavePassed p s over (set passed rule place)
   passed_set had = record {
     one_each = length-set passed rule place ∙ had.one_each;
-    within = λ k below. elim (cases_eq k rule) [
-      | inl e ↦ subst (λ n. get_or (set passed rule place) n 0 ≤ length (rule_at p n).conditions) (sym e)
-          (subst (λ n. n ≤ length (rule_at p rule).conditions) (sym here) first.within)
-      | inr ne ↦ subst (λ n. n ≤ length (rule_at p k).conditions) (sym (get_or-set_other passed rule k place 0 ne)) (had.within k below)
-    ];
+    within = grind (arith, common_steps, cases_eq, here, get_or-set_other);
     hold = λ m k below on' can j d from to. elim (cases_eq k rule) [
       | inr ne ↦ had.hold m k below on' can j d from (subst (λ n. j < n) (get_or-set_other passed rule k place 0 ne) to)
       | inl e ↦ at m k e on' can j d from to
@@ -75,12 +72,7 @@ module _ (p : Parts) (s : List ℕ) (layer rule place over : ℕ) (passed : List
 pub passed_round : (p : Parts) (s : List ℕ) (r r' : Rounds) (rules : List ℕ) → r'.over ≡ r.over → r'.origins.items ≡ r.origins.items → r'.requiring ≡ r.requiring
     → r'.next.items ≡ r.next.items → HavePassed p s r.over r'.passed.items → InRound p s r rules → InRound p s r' rules
 passed_round p s r r' rules over origins requiring next passed inside = record {
-  at = record {
-    few = rw over inside.at.few;
-    known = rw (over, origins) inside.at.known;
-    passed = rw over passed;
-    requiring = rw requiring inside.at.requiring;
-  };
+  at = grind (arith, common_steps);
   each = rw (over, origins) inside.each;
   looked = rw (over, origins) inside.looked;
   next = rw (over, origins, requiring, next) inside.next;
@@ -103,45 +95,14 @@ module _ (p : Parts) (s : List ℕ) (over var rule layer : ℕ) (origins : List 
   -- what is there is what was there, but for the variable
   set_cases : (v : ℕ) (o : Origin) → origin_at after v ≡ Some o
       → ((v ≡ var) × (origin_with_rule over rule its ≡ Some o)) ⊎ ((v ≢ var) × (origin_at origins v ≡ Some o))
-  set_cases v o at = elim (cases_eq v var) [
-    | inl e ↦ inl (e, sym at_var ∙ (ap (λ n. origin_at after n) (sym e) ∙ at))
-    | inr ne ↦ inr (ne, sym (get_or-set_other origins var v (origin_with_rule over rule its) None ne) ∙ at)
-  ]
+  set_cases v o at = grind (arith, common_steps, cases_eq, at_var, get_or-set_other)
 
   module _ (known : OriginsUpToRound p s over origins) where
     set_known : OriginsUpToRound p s over after
-    set_known = record { one_each = length-set origins var (origin_with_rule over rule its) ∙ known.one_each; each = each; whole = whole }
-      where
-        each : (v : ℕ) (o : Origin) → origin_at after v ≡ Some o → o.rank ≤ over → IsOrigin p s v o
-        each v o at le = elim (set_cases v o at) [
-          | inr w ↦ known.each v o w.1 le
-          | inl w ↦ elim (with_rule_cases over rule its) [
-            | inl n ↦ absurd (let e = ap (λ (x : Origin). x.rank) (same_at (origin_with_rule over rule its) o (origin_now over rule) w.1 n.0) in omega arith)
-            | inr st ↦ subst (λ x. IsOrigin p s x o) (sym w.0)
-                (known.each var o (st.at ∙ sym (ap Some (same_at (origin_with_rule over rule its) o st.origin w.1 st.still))) le)
-          ]
-        ]
-
-        whole : (m v : ℕ) → IsOnLayer p m v → reached p m s over v ≡ true → IsReached after over v
-        whole m v on' is = let w = known.whole m v on' is in elim (cases_eq v var) [
-          | inr ne ↦ record { origin = w.origin; at = get_or-set_other origins var v (origin_with_rule over rule its) None ne ∙ w.at; earlier = w.earlier }
-          | inl e ↦ (let its_at : its ≡ Some w.origin = ap (λ n. origin_at origins n) (sym e) ∙ w.at in
-              let le = w.earlier in
-              elim (with_rule_cases over rule its) [
-                | inl n ↦ absurd (let rank = (n.1.now w.origin its_at).0 in omega arith)
-                | inr st ↦ record {
-                  origin = w.origin;
-                  at = ap (λ n. origin_at after n) e ∙ (at_var ∙ (st.still ∙ ap Some (same_at its st.origin w.origin st.at its_at)));
-                  earlier = w.earlier;
-                }
-              ])
-        ]
+    set_known = grind (arith, common_steps, length-set, set_cases, with_rule_cases, same_at, cases_eq, get_or-set_other, at_var)
 
     not_yet : NotEarlier over rule its → reached p layer s over var ≡ false
-    not_yet n = elim (cases_Bool (reached p layer s over var)) [
-      | inr n' ↦ n'
-      | inl y ↦ absurd (let w = known.whole layer var on y in let le = w.earlier in let rank = (n.now w.origin w.at).0 in omega arith)
-    ]
+    not_yet n = grind (arith, common_steps, cases_Bool)
 
     set_each : ((v : ℕ) (o : Origin) → origin_at origins v ≡ Some o → (o.rank ≤ over) ⊎ ReachesNow p s over v o)
         → (v : ℕ) (o : Origin) → origin_at after v ≡ Some o → (o.rank ≤ over) ⊎ ReachesNow p s over v o
@@ -173,10 +134,7 @@ module _ (p : Parts) (s : List ℕ) (over var rule layer : ℕ) (origins : List 
   ]
 
   set_itself : HasLower over after var rule
-  set_itself = elim (with_rule_cases over rule its) [
-    | inl n ↦ record { origin = origin_now over rule; at = at_var ∙ n.0; lower = λ _. omega arith }
-    | inr st ↦ record { origin = st.origin; at = at_var ∙ st.still; lower = st.lower }
-  ]
+  set_itself = grind (arith, common_steps, with_rule_cases, at_var)
 
   module _ (requiring : List (List ℕ)) (next : List ℕ) where
     abbrev next_after : List ℕ
@@ -259,24 +217,13 @@ reach_goes_on var rule r r' lt now = at (origin_at r.origins.items var) refl
 
 -- the conditions that are known to hold count for nothing there
 pub goes_as : (a b c : Rounds) → b.over ≡ a.over → b.origins.items ≡ a.origins.items → b.next.items ≡ a.next.items → ContinuesRound b c → ContinuesRound a c
-goes_as a b c over origins next goes = record {
-  over = goes.over ∙ over;
-  fewer = (let e = ap unreached origins in let f = goes.fewer in omega arith);
-  some = λ more. (let e = ap unreached origins in let n = ap length next in let f = goes.some (omega arith) in omega arith);
-}
+goes_as a b c over origins next goes = grind (arith, common_steps, more)
 
 pub goes_on_still : (r : Rounds) → ContinuesRound r r
 goes_on_still r = record { over = refl; fewer = omega arith; some = λ lt. omega arith }
 
 pub goes_on_more : (a b c : Rounds) → ContinuesRound a b → ContinuesRound b c → ContinuesRound a c
-goes_on_more a b c x y = record {
-  over = y.over ∙ x.over;
-  fewer = (let f = x.fewer in let g = y.fewer in omega arith);
-  some = λ more. elim (cases_lt (length a.next.items) (length b.next.items)) [
-    | inl lt ↦ (let f = x.some lt in let g = y.fewer in omega arith)
-    | inr ge ↦ (let f = x.fewer in let g = y.some (omega arith) in omega arith)
-  ];
-}
+goes_on_more a b c x y = grind (arith, common_steps, more, cases_lt)
 
 -- ---- which rules fire
 
@@ -288,10 +235,7 @@ sets_new p rule change is e = ap (λ (x : Change). x.new) is ∙ (e ∙ ap (λ (
 -- a rule that sets the default of its variable can't
 pub sets_default : (p : Parts) (rule : ℕ) (change : Change) → change ≡ rule_change (rule_at p rule) → change.new ≡ get_or p.init change.var 0
     → CanFire p (rule_at p rule) → ⊥
-sets_default p rule change is default can =
-    let var = ap (λ (x : Change). x.var) is in
-    let new = ap (λ (x : Change). x.new) is in
-    can (sym new ∙ (default ∙ ap (λ v. get_or p.init v 0) var))
+sets_default p rule change is default can = grind (arith, common_steps)
 
 module _ (p : Parts) (s : List ℕ) (layer rule place over : ℕ) (passed : List ℕ) (lt : rule < length p.rules)
     (on : IsOnLayer p layer (rule_at p rule).var)
@@ -312,7 +256,4 @@ module _ (p : Parts) (s : List ℕ) (layer rule place over : ℕ) (passed : List
     where
       hold : (j : ℕ) (d : Fact) → j < length (rule_at p rule).conditions
           → value_in_round p layer s over (get_or (rule_at p rule).conditions j d).var ≡ (get_or (rule_at p rule).conditions j d).value
-      hold j d below = elim (cases_lt j (get_or passed rule 0)) [
-        | inl old ↦ had.hold layer rule lt on can j d (omega arith) old
-        | inr new ↦ first.hold j d new (omega arith)
-      ]
+      hold j d below = grind (arith, common_steps, cases_lt)

@@ -1,4 +1,6 @@
 -- The variables of conditions, preconditions and goal facts have values in a state.
+use Rattle.std.proofs.Common.{arith}
+use Rattle.std.proofs.lemmas.Grind.{common_steps}
 use Rattle.sas_why.proofs.Imports.{ℕ, ◌<◌, length, sym, subst, List, [], None, All, All-weaker, All-from_recursion, Fact, Rule, Parts, FactExists, IsState, operator_at, rule_at, WellRanged, RuleFits, holds_at, preconditions, fact_within, preconditions_within}
 
 module _ (p : Parts) (ranged : WellRanged p) (s : List ℕ) (state : IsState p.variables s) where
@@ -12,9 +14,7 @@ module _ (p : Parts) (ranged : WellRanged p) (s : List ℕ) (state : IsState p.v
 
   pub conditions_within : (rule : ℕ) → rule < length p.rules → All (λ (f : Fact). f.var < length s) (rule_at p rule).conditions
   unfolding no_rule
-  conditions_within rule lt =
-      let fits : RuleFits p.variables (rule_at p rule) = holds_at (RuleFits p.variables) no_rule p.rules ranged.rules.each rule lt in
-      facts_within (rule_at p rule).conditions (All-from_recursion (FactExists p.variables) (rule_at p rule).conditions fits.conditions.each)
+  conditions_within rule lt = grind (arith, common_steps, holds_at, no_rule, facts_within, All-from_recursion)
 
   pub goal_within : All (λ (f : Fact). f.var < length s) p.goal
   goal_within = facts_within p.goal (All-from_recursion (FactExists p.variables) p.goal ranged.goal.each)

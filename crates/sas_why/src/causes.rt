@@ -6,7 +6,7 @@ ghost use Rattle.sas_meaning.specs.Layers.{default_of};
 ghost use Rattle.sas_meaning.specs.Places.{places, can_give};
 ghost use Rattle.sas_run.specs.Runs.{last_state};
 ghost use Rattle.sas_reasons.specs.Cause.{fails, is_derived, is_given, since_line, failing_lines};
-ghost use Rattle.sas_reasons.specs.Cause.{AreDerivationLines, can_be_given, keeping_lines, missing_lines, IsCause};
+ghost use Rattle.sas_reasons.specs.Cause.{AreDerivationLines, can_be_given, keeping_lines, IsCause};
 ghost use Rattle.sas_why.specs.Report.{IsReportOf, Adds};
 
 use crate::report::Report;
@@ -30,7 +30,11 @@ pub fn report_cause<T: Grounded>(
 {
     report_values(noted, fact, &mut report.lines)?;
     report_givers(task, noted, fact.var, report)?;
-    report_missing(task, noted, fact, report)
+    if requires_rules(task, fact) {
+        report_keepers(task, noted, fact, report)
+    } else {
+        Ok(())
+    }
 }
 
 /// Reports the required fact, the actual one, and since when it holds.
@@ -99,25 +103,6 @@ fn push_givers(rules: &[u32], lines: &mut Items<Line>) -> Result<(), AllocError>
         lines.push(Line::RuleDerives { rule: *rule })?;
     }
     Ok(())
-}
-
-/// Reports why no rule derives the required value of a derived variable, if this isn't its default.
-fn report_missing<T: Grounded>(
-    task: &Layered<T>,
-    noted: &Retraced,
-    fact: Fact,
-    report: &mut Report,
-) -> Result<(), AllocError>
-    requires fact { fact.var < length task.now.variables }
-    requires report { IsReportOf task.now noted.now report.old }
-    ensures { OnOk result (Adds task.now noted.now report.old report.new
-        (λ run lines. lines ≡ missing_lines task.now (last_state run) fact)) }
-{
-    if requires_rules(task, fact) {
-        report_keepers(task, noted, fact, report)
-    } else {
-        Ok(())
-    }
 }
 
 /// Returns whether the fact's variable is derived and the fact's value isn't its default.

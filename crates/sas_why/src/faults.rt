@@ -105,13 +105,8 @@ fn blocked<T: Grounded>(
         → ReportsOnce lines (LineThen (Line.Step step) (AreOperatorLines task.now run name.now))) }
 {
     let mut report = Report::new(alloc, task, &noted.last)?;
-    match report_blocked(task, noted, name, step, &mut report) {
-        Ok(()) => Ok(report.into_lines()),
-        Err(error) => {
-            drop(report);
-            Err(error)
-        }
-    }
+    report_blocked(task, noted, name, step, &mut report)?;
+    Ok(report.into_lines())
 }
 
 /// Reports the step, and why each operator of its name isn't applicable.
@@ -199,13 +194,8 @@ fn missed<T: Grounded>(
         → ReportsOnce lines (AreGoalLines task.now run)) }
 {
     let mut report = Report::new(alloc, task, &noted.last)?;
-    match report_missed(task, noted, &mut report) {
-        Ok(()) => Ok(report.into_lines()),
-        Err(error) => {
-            drop(report);
-            Err(error)
-        }
-    }
+    report_missed(task, noted, &mut report)?;
+    Ok(report.into_lines())
 }
 
 /// Reports each goal fact that fails, and its cause.

@@ -5,7 +5,6 @@
 mod causes;
 mod changes;
 mod conflicts;
-mod derived;
 mod faults;
 mod likeness;
 mod origins;

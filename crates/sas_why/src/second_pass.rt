@@ -3,14 +3,13 @@ ghost use Rattle.std.specs.Prelude.{◌≡◌, ◌+◌, ◌<◌, length, IfOk, S
 ghost use Rattle.sas_meaning.specs.DerivedVariables.{AreDerived};
 ghost use Rattle.sas_run.specs.Executions.{IsFound, Executes};
 ghost use Rattle.sas_run.specs.Runs.{Run};
-ghost use Rattle.sas_why.specs.Noting.{HavePlaces, AddsOther, NotesStep};
+ghost use Rattle.sas_why.specs.Noting.{HavePlaces, looked_at, AddsOther, NotesStep};
 ghost use Rattle.sas_why.specs.Retracing.{AreNotes, IsRetraced};
 
 use crate::changes::Changes;
-use crate::derived::touched_among;
 use crate::retraced::{Other, Retraced};
 use sas_core::{Grounded, Stepwise};
-use sas_meaning::{Settle, derived_variables};
+use sas_meaning::{Settle, Touched, derived_variables};
 use sas_run::{Execution, PlanFault};
 use std::alloc::{AllocError, Global};
 
@@ -91,6 +90,16 @@ fn note_step<E: Settle<T> + Drop, T: Grounded, P: Stepwise>(
     notes
         .changes
         .note(step, execution.state(), execution.deleted(), touched);
+}
+
+/// Returns those of the derived variables that may have changed: those on the list, or all where any may have.
+fn touched_among<'a>(derived: &'a [u32], touched: &'a Touched) -> &'a [u32]
+    ensures { result.now ≡ looked_at derived.now touched.now }
+{
+    match touched.vars() {
+        Some(variables) => variables,
+        None => derived,
+    }
 }
 
 /// Returns what is noted of other operators with the next step, which has this number.

@@ -3,7 +3,6 @@ ghost use Rattle.std.specs.Prelude.{◌≡◌, ◌⊎◌, ◌↔◌, false, Some
 ghost use Rattle.std.specs.Prelude.{IfErr, IfOk, IsErrAnd, IsTrue};
 ghost use Rattle.std.specs.Io.KnownBytes.{Appends};
 ghost use Rattle.sas_output.specs.Ending.{EndsCounting, IsWrite};
-ghost use Rattle.sas_run.specs.Executions.{IsFound};
 ghost use Rattle.sas_run.specs.Verdicts.{IsFaultOf};
 ghost use Rattle.sas_why.specs.Explained.{IsExplained, MakeAnswer};
 ghost use Rattle.sas_why.specs.Retracing.{IsRetraced};
@@ -62,25 +61,13 @@ fn explain_plan(
             drop(execution);
             Ok((accept_plan(alloc, plan)?, Vec::new(alloc)))
         }
-        Some(fault) => explain_execution(alloc, task, plan, execution, fault),
+        Some(fault) => {
+            let noted = retrace(alloc, execution, fault)?;
+            let explained = explain_fault(alloc, task, plan, &noted, fault);
+            drop(noted);
+            explained
+        }
     }
-}
-
-/// Goes through the steps of the plan by its execution once more, which found this fault. Returns the verdict, and the reasons for it.
-fn explain_execution(
-    alloc: Global,
-    task: &Layered<FlatTask>,
-    plan: &FlatPlan,
-    execution: Execution<'_, '_, Worklist, FlatTask, FlatPlan>,
-    fault: PlanFault,
-) -> Result<(Answer, Vec<Line>), AllocError>
-    requires { IsFound task.now plan.now (Some fault) execution }
-    ensures { IfOk result (λ found. MakeAnswer task.now plan.now found.0 found.1.items) }
-{
-    let noted = retrace(alloc, execution, fault)?;
-    let explained = explain_fault(alloc, task, plan, &noted, fault);
-    drop(noted);
-    explained
 }
 
 /// Returns the verdict on the plan's fault, and the reasons for it.

@@ -5,10 +5,9 @@ use Rattle.sas_task_reasons.proofs.before_operators.first_reasons.Goals as goal
 
 pub loop-group-preserved : goal.loop-group-preserved
 loop-group-preserved g c =
-    let p = c.args.task.now in
     let n = c.loop-group.group in
-    subst (FirstUpTo p (n + 1) c.args.verdicts.now) (sym c.in_ok-push.ensures.ok)
-    (first_more p c.args.verdicts.now n c.loop-group.reasons c.first_reason.result c.loop-group.invariant c.first_reason.ensures)
+    subst (FirstUpTo _ (n + 1) _) (sym c.in_ok-push.ensures.ok)
+    (first_more _ _ _ _ _ c.loop-group.invariant c.first_reason.ensures)
 
 pub returns : goal.returns
 returns g c = first_all c.args.task.now c.args.verdicts.now c.loop-group.group c.loop-group.reasons (omega (arith, c.groups-group-end.ensures)) c.loop-group.invariant

@@ -21,14 +21,11 @@ some_lacks_reason-requires-clause-reasons g c k d lt =
 
 pub returns-then-not-some_lacks_reason-clause-so_far : goal.returns-then-not-some_lacks_reason-clause-so_far
 returns-then-not-some_lacks_reason-clause-so_far g c =
-    let f = c.args.firing.now in
-    let p = f.task in
-    let kept = c.args.greatest.now.kept in
     let verdicts = c.args.verdicts.now in
     let reasons = c.args.reasons.now in
     let same = ap (λ (s : EffectPlace). s.operator) c.firing.view_is in
-    next_effect p kept f.operator f.effect verdicts reasons
-    (λ place has. not_lacking p kept f.operator f.effect place verdicts reasons
+    next_effect _ _ _ _ _ _
+    (λ place has. not_lacking _ _ _ _ place _ _
     (λ lacks. All-contains (λ (n : ℕ). LacksReason c.firing.inside.operator verdicts c.as_slice.result.now n → ⊥) c.groups-groups.result.now place
     (c.some_lacks_reason.ensures c.if-not-some_lacks_reason.true) ((c.groups-groups.ensures place).1 has)
     (subst (λ (xs : List (Option Reason)). LacksReason c.firing.inside.operator verdicts xs place) (sym c.as_slice.ensures)
@@ -39,8 +36,7 @@ pub report_groups-requires-clause-have : goal.report_groups-requires-clause-have
 report_groups-requires-clause-have g c k d lt = (c.groups-groups.ensures _).0 (Contains-get_or c.groups-groups.result.now k d lt)
 
 pub report_groups-requires-clause-notes : goal.report_groups-requires-clause-notes
-report_groups-requires-clause-notes g c =
-    subst (λ (kept : List Bool). IsNotedAt c.args.firing.now kept c.note.new.marks) c.as_slice-kept.ensures (c.note.ensures.notes c.if-not-note.true)
+report_groups-requires-clause-notes g c = subst (λ (kept : List Bool). IsNotedAt c.args.firing.now kept c.note.new.marks) c.as_slice-kept.ensures (c.note.ensures.notes c.if-not-note.true)
 
 pub returns-clause-so_far : goal.returns-clause-so_far
 returns-clause-so_far g c =

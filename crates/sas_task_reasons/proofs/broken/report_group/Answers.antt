@@ -14,15 +14,14 @@ reason : (g : Over) (c : After-set g)
 reason g c =
     let f = c.args.firing.now in
     let p = f.task in
-    let kept = c.args.greatest.now.kept in
     let place = c.args.group in
     let verdict = verdict_at c.args.verdicts.now place in
     let same = ap (λ (s : EffectPlace). s.operator) c.firing.view_is in
     let lacks : LacksReason f.operator c.args.verdicts.now c.args.reasons.now place = subst (λ (n : ℕ). LacksReason n c.args.verdicts.now c.args.reasons.now place) same
     (subst (λ (xs : List (Option Reason)). LacksReason c.firing.inside.operator c.args.verdicts.now xs place) c.as_slice.ensures (c.lacks_reason.ensures.yes c.if-not-lacks_reason.false)) in
     subst (λ (n : ℕ). IsReason p place verdict (Breaks n c.in-Some.failure)) (sym same)
-    (failure_is_reason p kept f.operator f.effect place verdict c.in-Some.failure c.requires.greatest lacks.breaks
-    (lacking_pending p kept f.operator f.effect place c.args.verdicts.now c.args.reasons.now lacks (c.requires.so_far.are place c.requires.has.exists)) c.in-Some.ensures.some)
+    (failure_is_reason _ _ _ _ _ verdict _ c.requires.greatest lacks.breaks
+    (lacking_pending _ _ _ _ _ _ _ lacks (c.requires.so_far.are place c.requires.has.exists)) c.in-Some.ensures.some)
 
 pub returns-in-Some-clause-so_far : goal.returns-in-Some-clause-so_far
 returns-in-Some-clause-so_far g c =
@@ -43,6 +42,5 @@ returns-in-Some-clause-reported g c =
 
 pub returns-in_default-clause-reported : goal.returns-in_default-clause-reported
 returns-in_default-clause-reported g c =
-    let f = c.args.firing.now in
-    pending_more f.task c.args.greatest.now.kept f.operator f.effect c.args.group (verdict_at c.args.verdicts.now c.args.group) (reason_at c.args.reasons.now c.args.group)
+    pending_more _ _ _ _ _ (verdict_at c.args.verdicts.now c.args.group) (reason_at c.args.reasons.now c.args.group)
     (λ has. c.in_default.ensures.none) (c.requires.so_far.are c.args.group c.requires.has.exists)

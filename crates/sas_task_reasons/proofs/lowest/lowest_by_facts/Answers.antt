@@ -6,19 +6,15 @@ use Rattle.sas_task_reasons.proofs.lowest.lowest_by_facts.Goals.{then-begins_run
 
 pub loop-place-preserved : goal.loop-place-preserved
 loop-place-preserved g c =
-    let f = c.args.firing.now in
-    let kept = c.args.kept.now in
-    let facts = c.facts_of-facts.result.now in
-    let n = c.loop-place.place in
     let inv = c.loop-place.invariant in
     elim c.if-begins_run.branch [
       | then-begins_run w ↦ rw w.marks-is (rw w.lowest-is (record {
         notes = w.lowest_on.ensures.notes;
-        lowest = one_more_fact f kept c.args.group facts n _ c.loop-place.lowest w.lowest_on.result w.min-lowest.result c.loop-place-test.true inv.lowest w.lowest_on.ensures.lowest w.min-lowest.ensures;
+        lowest = one_more_fact _ _ _ _ _ _ inv.lowest _ _ _ c.loop-place-test.true w.lowest_on.ensures.lowest w.min-lowest.ensures;
       }))
       | else-begins_run w ↦ rw w.marks-is (rw w.lowest-is (record {
         notes = inv.notes;
-        lowest = one_fact_more f kept c.args.group facts n c.loop-place.lowest c.loop-place-test.true (c.begins_run.ensures w.if-begins_run.false) inv.lowest;
+        lowest = one_fact_more _ _ _ _ _ _ inv.lowest c.loop-place-test.true (c.begins_run.ensures w.if-begins_run.false);
       }))
     ]
 
@@ -26,8 +22,6 @@ pub returns-clause-lowest : goal.returns-clause-lowest
 returns-clause-lowest g c =
     let group = rw (← c.firing.view_is) at c.requires.group in
     let p = c.firing.inside.task.now in
-    let facts = c.facts_of-facts.result.now in
     let distinct = subst (λ (xs : List Fact). AreDistinct xs (group_at p c.args.group)) (sym c.facts_of-facts.ensures) (c.firing.invariant.1.facts c.args.group group.exists) in
     let lowest = rw (← c.firing.view_is) at c.loop-place.invariant.lowest in
-    rw (← c.firing.view_is) (all_facts_looked_at _ c.args.kept.now c.args.group facts c.loop-place.place c.loop-place.lowest c.loop-place-test.false
-    (λ fact among. (distinct.same fact).1 among) lowest)
+    rw (← c.firing.view_is) (all_facts_looked_at _ _ _ _ _ _ lowest c.loop-place-test.false (λ fact among. (distinct.same fact).1 among))

@@ -1,11 +1,12 @@
 -- The lowest effect, of those on variables of the facts so far, that may set another fact of the
 -- group.
-use Rattle.sas_task_reasons.proofs.Imports.{IsNotedAt}
-use Rattle.sas_task_reasons.specs.Lowest.{IsLowestPartner, SetsOneOfFirst}
+use Rattle.sas_task_reasons.proofs.Imports.{IsNotedAt, take}
+use Rattle.sas_task_reasons.specs.Lowest.{IsLowestPartner}
+use Rattle.sas_task_reasons.proofs.LowestEffects.{SetsOneOf}
 use Rattle.sas_task_reasons.proofs.lowest.lowest_by_facts.Given as goal
 
 abbrev pub invariant-loop-place : goal.invariant-loop-place
 invariant-loop-place g l = record {
   notes : IsNotedAt l.firing l.kept l.marks;
-  lowest : IsLowestPartner l.firing l.kept l.group (SetsOneOfFirst l.firing l.facts l.place) l.lowest;
+  lowest : IsLowestPartner l.firing l.kept l.group (SetsOneOf l.firing (take l.place l.facts)) l.lowest;
 }

@@ -15,8 +15,7 @@ count : (g : Over) (c : After-effects-effects g) → c.effects-effects.result �
 count g c = c.effects-effects.ensures ∙ ap (λ (f : EffectPlace). length (operator_of f).effects) c.firing.view_is
 
 pub not_both-requires-clause-other : goal.not_both-requires-clause-other
-not_both-requires-clause-other g c =
-    subst (λ n. c.loop-other.other < n) (count g (goal.at.not_both-requires-clause-other g c).After-effects-effects) c.loop-other-test.true
+not_both-requires-clause-other g c = subst (λ n. c.loop-other.other < n) (count g (goal.at.not_both-requires-clause-other g c).After-effects-effects) c.loop-other-test.true
 
 pub returns-then-not-not_both-clause-lowest : goal.returns-then-not-not_both-clause-lowest
 returns-then-not-not_both-clause-lowest g c = record {

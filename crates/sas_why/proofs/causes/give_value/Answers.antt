@@ -11,10 +11,9 @@ rule_change-requires g c =
 
 pub returns-in-Some : goal.returns-in-Some
 returns-in-Some g c =
-    let p = c.args.task.now in
     ap (λ n. n == c.args.fact.value) (ap (λ (x : Change). x.new) c.rule_change.ensures)
-    ∙ sym (one_gives p c.task.ensures.layered c.args.fact c.in-Some.rule.now (subst (λ l. Contains l c.in-Some.rule.now) c.requires
-    (first_is c.args.rules.now c.in-Some.rule.now (sym c.in-Some.ensures.value))))
+    ∙ sym (one_gives _ c.task.ensures.layered _ _ (subst (λ l. Contains l c.in-Some.rule.now) c.requires
+    (first_is _ _ (sym c.in-Some.ensures.value))))
 
 pub returns-in-None : goal.returns-in-None
 returns-in-None g c =

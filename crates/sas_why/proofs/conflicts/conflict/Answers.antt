@@ -1,12 +1,10 @@
 -- If no effect is contradicted, all agree.
-use Rattle.sas_why.proofs.Imports.{rules, ◌≡◌, ◌∙◌, ℕ, zero, suc, Option, None, List, length, get_or, replicate, refl, ap, arith, length-replicate, operator_at}
+use Rattle.sas_why.proofs.Imports.{common_steps, rules, ◌≡◌, ◌∙◌, ℕ, zero, suc, Option, None, List, length, get_or, replicate, refl, ap, arith, length-replicate, operator_at}
 use Rattle.sas_why.proofs.Firsts.{no_firsts, agree, is_conflict}
 use Rattle.sas_why.proofs.conflicts.conflict.Goals as goal
 
 none_there : (n var : ℕ) → get_or {A = Option ℕ} (replicate n None) var None ≡ None
-none_there zero var = refl
-none_there (suc n) zero = refl
-none_there (suc n) (suc var) = none_there n var
+none_there n var = grind (arith, common_steps)
 
 pub loop-later-init : goal.loop-later-init
 loop-later-init g c =

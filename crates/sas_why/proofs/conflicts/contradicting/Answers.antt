@@ -45,26 +45,19 @@ returns-in-None-clause-none g c =
 
 pub returns-then-effect_change-change-clause-none : goal.returns-then-effect_change-change-clause-none
 returns-then-effect_change-change-clause-none g c =
-    let p = c.args.task.now in
-    let s = c.args.state.now in
-    let o = operator_at p c.args.operator in
-    let n = c.args.effect in
     let firsts = c.args.firsts.now in
     let var = ap (λ (x : Change). x.var) c.effect_change-change.ensures in
-    again p s o n firsts c.requires.firsts c.in-Some.first
+    again _ _ _ _ _ c.requires.firsts _
     (ap (first_on firsts) (sym var) ∙ (ap (λ (l : List (Option ℕ)). first_on l c.effect_change-change.result.var) (sym c.as_slice.ensures) ∙ c.in-Some.is))
     (sym (ap (λ (x : Change). x.new) c.effect_change.ensures) ∙ (c.if-effect_change-change.true ∙ ap (λ (x : Change). x.new) c.effect_change-change.ensures))
 
 pub returns-else-effect_change-change-clause-some : goal.returns-else-effect_change-change-clause-some
 returns-else-effect_change-change-clause-some g c =
-    let p = c.args.task.now in
     let s = c.args.state.now in
-    let o = operator_at p c.args.operator in
-    let n = c.args.effect in
     let firsts = c.args.firsts.now in
     let var = ap (λ (x : Change). x.var) c.effect_change-change.ensures in
-    contradicted p s o n firsts c.requires.firsts c.requires.effect
+    contradicted _ _ _ _ _ c.requires.firsts c.requires.effect
     (subst (AllHold (slice_index s)) c.effect_conditions.ensures (c.holds_all.ensures.0 c.if-not-holds_all.false))
-    c.in-Some.first
+    _
     (ap (first_on firsts) (sym var) ∙ (ap (λ (l : List (Option ℕ)). first_on l c.effect_change-change.result.var) (sym c.as_slice.ensures) ∙ c.in-Some.is))
     (λ same. c.if-effect_change-change.false (ap (λ (x : Change). x.new) c.effect_change.ensures ∙ (same ∙ sym (ap (λ (x : Change). x.new) c.effect_change-change.ensures))))

@@ -5,82 +5,49 @@ use Rattle.sas_why.proofs.Behind.{ends, behind, conflict_clashes, last_is, opera
 use Rattle.sas_why.proofs.faults.lines_of_fault.Goals as goal
 
 pub blocked-requires : goal.blocked-requires
-blocked-requires g c =
-    let r = c.requires.retraced in
-    (r.0, behind c.args.layered.now (g.P.Stepwise.says c.args.plan.now) c.args.noted.now r.0 c.args.fault r.1 c.requires.fault)
+blocked-requires g c = (c.requires.retraced.0, behind _ _ _ _ _ c.requires.retraced.1 c.requires.fault)
 
 pub missed-requires : goal.missed-requires
-missed-requires g c =
-    let r = c.requires.retraced in
-    (r.0, behind c.args.layered.now (g.P.Stepwise.says c.args.plan.now) c.args.noted.now r.0 c.args.fault r.1 c.requires.fault)
+missed-requires g c = (c.requires.retraced.0, behind _ _ _ _ _ c.requires.retraced.1 c.requires.fault)
 
 pub conflicting-requires-clause-state : goal.conflicting-requires-clause-state
-conflicting-requires-clause-state g c =
-    let r = c.requires.retraced in
-    let b = behind c.args.layered.now (g.P.Stepwise.says c.args.plan.now) c.args.noted.now r.0 c.args.fault r.1 c.requires.fault in
-    b.state
+conflicting-requires-clause-state g c = (behind _ _ _ _ _ c.requires.retraced.1 c.requires.fault).state
 
 pub conflicting-requires-clause-disagree : goal.conflicting-requires-clause-disagree
 conflicting-requires-clause-disagree g c = λ agree.
     let p = c.args.layered.now in
-    let plan = g.P.Stepwise.says c.args.plan.now in
     let run = c.requires.retraced.0 in
     let r = c.requires.retraced.1 in
-    let e = ends p plan c.args.noted.now run (Conflict c.in-Conflict.step c.in-Conflict.operator) r (c.requires.fault ∙ ap (λ (f : PlanFault). Some f) c.in-Conflict.is) in
-    conflict_clashes p plan run c.in-Conflict.step c.in-Conflict.operator c.task.ensures.layered r.through e.1 e.0
+    let fault = Conflict c.in-Conflict.step c.in-Conflict.operator in
+    let e = ends p _ c.args.noted.now run fault r (c.requires.fault ∙ ap (λ (f : PlanFault). Some f) c.in-Conflict.is) in
+    conflict_clashes p (g.P.Stepwise.says c.args.plan.now) run c.in-Conflict.step c.in-Conflict.operator c.task.ensures.layered r.through e.1 e.0
     (subst (λ (s : List ℕ). Agree s (operator_at p c.in-Conflict.operator).effects) r.last agree)
 
 pub costs-requires : goal.costs-requires
 costs-requires g c =
-    let p = c.args.layered.now in
     let r = c.requires.retraced.1 in
-    subst (All (λ (o : ℕ). o < length p.operators)) (sym (c.as_slice.ensures.value ∙ r.operators)) (operators_exist p c.requires.retraced.0 r.through)
+    rw (c.as_slice.ensures.value, r.operators) (operators_exist _ _ r.through)
 
 pub returns-in-NoOperator : goal.returns-in-NoOperator
-returns-in-NoOperator g c =
-    let p = c.args.layered.now in
-    let plan = g.P.Stepwise.says c.args.plan.now in
-    let step = c.in-NoOperator.step in
-    IfOk-weaker c.unknown.result _ _
-    (λ lines reported run r. subst (λ (f : PlanFault). ReportsOnce lines (AreFaultLines p plan run f)) (sym c.in-NoOperator.is)
-    (subst (λ (name : List ℕ). ReportsOnce lines (λ its. its ≡ Step step ∷ similar_name_lines p name)) c.step.ensures reported))
-    c.unknown.ensures
+returns-in-NoOperator g c = rw c.in-NoOperator.is (IfOk-weaker c.unknown.result _ _
+    (λ lines reported run r. subst (λ (name : List ℕ). ReportsOnce lines (λ its. its ≡ Step c.in-NoOperator.step ∷ similar_name_lines c.args.layered.now name)) c.step.ensures reported)
+    c.unknown.ensures)
 
 pub returns-in-NotApplicable : goal.returns-in-NotApplicable
-returns-in-NotApplicable g c =
-    let p = c.args.layered.now in
-    let plan = g.P.Stepwise.says c.args.plan.now in
-    let step = c.in-NotApplicable.step in
-    IfOk-weaker c.blocked.result _ _
-    (λ lines reported run r. subst (λ (f : PlanFault). ReportsOnce lines (AreFaultLines p plan run f)) (sym c.in-NotApplicable.is)
-    (subst (λ (name : List ℕ). ReportsOnce lines (LineThen (Step step) (AreOperatorLines p run name))) c.step-in-NotApplicable.ensures
-    (reported run (behind p plan c.args.noted.now run c.args.fault r c.requires.fault))))
-    c.blocked.ensures
+returns-in-NotApplicable g c = rw c.in-NotApplicable.is (IfOk-weaker c.blocked.result _ _
+    (λ lines reported run r. subst (λ (name : List ℕ). ReportsOnce lines (LineThen (Step c.in-NotApplicable.step) (AreOperatorLines c.args.layered.now run name))) c.step-in-NotApplicable.ensures
+    (reported run (behind _ _ _ run _ r c.requires.fault)))
+    c.blocked.ensures)
 
 pub returns-in-Conflict : goal.returns-in-Conflict
-returns-in-Conflict g c =
-    let p = c.args.layered.now in
-    let plan = g.P.Stepwise.says c.args.plan.now in
-    let step = c.in-Conflict.step in
-    IfOk-weaker c.conflicting.result _ _
-    (λ lines reported run r. subst (λ (f : PlanFault). ReportsOnce lines (AreFaultLines p plan run f)) (sym c.in-Conflict.is)
-    (subst (λ (s : List ℕ). ReportsOnce lines (LineThen (Step step) (AreConflictLines p s c.in-Conflict.operator))) (last_is p plan c.args.noted.now run r) reported))
-    c.conflicting.ensures
+returns-in-Conflict g c = rw c.in-Conflict.is (IfOk-weaker c.conflicting.result _ _
+    (λ lines reported run r. subst (λ (s : List ℕ). ReportsOnce lines (LineThen (Step c.in-Conflict.step) (AreConflictLines c.args.layered.now s c.in-Conflict.operator))) (last_is _ _ _ run r) reported)
+    c.conflicting.ensures)
 
 pub returns-in-GoalMissed : goal.returns-in-GoalMissed
-returns-in-GoalMissed g c =
-    let p = c.args.layered.now in
-    let plan = g.P.Stepwise.says c.args.plan.now in
-    IfOk-weaker c.missed.result _ _
-    (λ lines reported run r. subst (λ (f : PlanFault). ReportsOnce lines (AreFaultLines p plan run f)) (sym c.in-GoalMissed.is)
-    (reported run (behind p plan c.args.noted.now run c.args.fault r c.requires.fault)))
-    c.missed.ensures
+returns-in-GoalMissed g c = rw c.in-GoalMissed.is (IfOk-weaker c.missed.result _ _ (λ lines reported run r. reported run (behind _ _ _ run _ r c.requires.fault)) c.missed.ensures)
 
 pub returns-in-CostDiffers : goal.returns-in-CostDiffers
-returns-in-CostDiffers g c =
-    let p = c.args.layered.now in
-    let plan = g.P.Stepwise.says c.args.plan.now in
-    IfOk-weaker c.costs.result _ _
-    (λ lines are run r. subst (λ (f : PlanFault). ReportsOnce lines (AreFaultLines p plan run f)) (sym c.in-CostDiffers.is)
-    (cost_lines p run, refl, are run (c.as_slice.ensures.value ∙ operators_are p plan c.args.noted.now run r) (operators_as_many p plan c.args.noted.now run r)))
-    c.costs.ensures
+returns-in-CostDiffers g c = rw c.in-CostDiffers.is (IfOk-weaker c.costs.result _ _
+    (λ lines are run r. (cost_lines c.args.layered.now run, refl, are run (c.as_slice.ensures.value ∙ operators_are _ _ _ run r) (operators_as_many _ _ _ run r)))
+    c.costs.ensures)

@@ -9,13 +9,12 @@ pub returns : goal.returns
 returns g c =
     let p = c.args.layered.now in
     let plan = g.P.Stepwise.says c.args.plan.now in
-    let noted = c.args.noted.now in
     let run = c.requires.retraced.0 in
     let r = c.requires.retraced.1 in
     let lines = c.in_ok-lines.lines in
     let new = c.match-noted.lines in
     subst (λ (l : List Line). IsWhy p plan c.args.fault l) (sym c.into_vec.ensures)
-    (is_why p plan noted run c.args.fault r c.requires.fault lines (c.in_ok-lines.ensures run r) new
+    (is_why _ _ _ run _ r c.requires.fault _ (c.in_ok-lines.ensures run r) new
     (λ other is. elim c.match-noted.branch [
       | in-Some+in_ok-push w ↦ w.lines-is ∙ (w.in_ok-push.ensures.ok
           ∙ ap (λ (o : Other). lines ++ CouldBe o.step o.operator ∷ []) (same_other w.in-Some.other other (sym w.in-Some.is ∙ is)))

@@ -3,7 +3,7 @@ use Rattle.sas_why.proofs.Imports.{◌≡◌, ◌<◌, ℕ, ◌+◌, List, [], �
 use Rattle.sas_why.specs.declared.report.Report.{Report}
 use Rattle.sas_why.specs.Report.{Adds}
 use Rattle.sas_why.proofs.Composing.{more_is_report, plain_is_report, line_and_more, one_more}
-use Rattle.sas_why.proofs.Faulty.{same_items, place_more, place_not}
+use Rattle.sas_why.proofs.Faulty.{place_more, place_not}
 use Rattle.sas_why.proofs.faults.report_blocked.Goals as goal
 use Rattle.sas_why.proofs.faults.report_blocked.Goals.{then-eq+in_ok-report_inapplicable, else-eq}
 
@@ -21,29 +21,16 @@ loop-operator-preserved g c =
     let name = c.args.name.now in
     let k = c.loop-operator.operator in
     let lt : k < length p.operators = omega (arith, c.operators-operator-end.ensures, c.loop-operator-test.true) in
-    let first = c.args.report.now in
     let test : bytes_eq (operator_at p k).name name ≡ c.eq.result = ap (λ (n : List ℕ). bytes_eq n name) (sym c.name.ensures) ∙ sym c.eq.ensures in
     elim c.if-eq.branch [
-      | then-eq+in_ok-report_inapplicable w ↦
-          subst (λ (t : Report). Adds p c.args.noted.now (record first { lines = c.push.new.self }) t
-          (λ run. LinesOfEach (AreFailedPreconditionLines p run) (places_to (λ o. bytes_eq o.name name) (k + 1) p.operators))) (sym w.report-is)
-          (same_items p c.args.noted.now (λ run. AreFailedPreconditionLines p run) (places_to (λ o. bytes_eq o.name name) k p.operators ++ k ∷ []) _ _ w.report_inapplicable.new.report
-          (sym (place_more (λ o. bytes_eq o.name name) k p.operators _ lt (test ∙ w.if-eq.true)))
-          (one_more p c.args.noted.now (λ run. AreFailedPreconditionLines p run) _ c.loop-operator.report w.report_inapplicable.new.report
-          (places_to (λ o. bytes_eq o.name name) k p.operators) k c.loop-operator.invariant w.in_ok-report_inapplicable.ensures))
-      | else-eq w ↦
-          subst (λ (t : Report). Adds p c.args.noted.now (record first { lines = c.push.new.self }) t
-          (λ run. LinesOfEach (AreFailedPreconditionLines p run) (places_to (λ o. bytes_eq o.name name) (k + 1) p.operators))) (sym w.report-is)
-          (same_items p c.args.noted.now (λ run. AreFailedPreconditionLines p run) (places_to (λ o. bytes_eq o.name name) k p.operators) _ _ c.loop-operator.report
-          (sym (place_not (λ o. bytes_eq o.name name) k p.operators _ lt (test ∙ w.if-eq.false)))
-          c.loop-operator.invariant)
+      | then-eq+in_ok-report_inapplicable w ↦ rw (w.report-is, place_more (λ o. bytes_eq o.name name) k p.operators _ lt (test ∙ w.if-eq.true))
+          (one_more p c.args.noted.now (λ run. AreFailedPreconditionLines p run) _ _ _ _ k c.loop-operator.invariant w.in_ok-report_inapplicable.ensures)
+      | else-eq w ↦ rw (w.report-is, place_not (λ o. bytes_eq o.name name) k p.operators _ lt (test ∙ w.if-eq.false)) c.loop-operator.invariant
     ]
 
 pub returns : goal.returns
 returns g c =
     let p = c.args.task.now in
     let name = c.args.name.now in
-    line_and_more p c.args.noted.now c.args.report.now c.loop-operator.report c.push.new.self (Step c.args.step) (λ run. AreOperatorLines p run name) refl c.in_ok-push.ensures.ok
-    (same_items p c.args.noted.now (λ r. AreFailedPreconditionLines p r) _ (places (λ o. bytes_eq o.name name) p.operators) _ c.loop-operator.report
-    (places_all (λ o. bytes_eq o.name name) c.loop-operator.operator p.operators (omega (arith, c.operators-operator-end.ensures, c.loop-operator-test.false)))
-    c.loop-operator.invariant)
+    let all = places_all (λ o. bytes_eq o.name name) c.loop-operator.operator p.operators (omega (arith, c.operators-operator-end.ensures, c.loop-operator-test.false)) in
+    line_and_more _ _ _ _ c.push.new.self (Step c.args.step) (λ run. AreOperatorLines p run name) refl c.in_ok-push.ensures.ok (rw all at c.loop-operator.invariant)

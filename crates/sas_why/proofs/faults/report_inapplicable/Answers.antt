@@ -3,7 +3,7 @@ use Rattle.sas_why.proofs.Imports.{◌≡◌, ◌<◌, List, [], ◌∷◌, ◌+
 use Rattle.sas_output.specs.declared.line.Line.TheVariants.{Operator}
 use Rattle.sas_why.proofs.Within.{preconditions_have_values}
 use Rattle.sas_why.proofs.Composing.{more_is_report, plain_is_report, line_and_more, none_yet, one_more}
-use Rattle.sas_why.proofs.Faulty.{one_more_fails, one_more_holds, same_items, at_last}
+use Rattle.sas_why.proofs.Faulty.{one_more_fails, one_more_holds, at_last}
 use Rattle.sas_why.proofs.faults.report_inapplicable.Goals as goal
 
 pub loop-fact-init : goal.loop-fact-init
@@ -38,43 +38,35 @@ report_cause-requires-clause-report g c =
 
 pub loop-fact-preserved-in-Continue-branch-2 : goal.loop-fact-preserved-in-Continue-branch-2
 loop-fact-preserved-in-Continue-branch-2 g c =
-    let p = c.args.task.now in
-    let s = c.args.noted.now.last in
     let before = c.loop-fact.yielded in
     let fact = c.in-Some.fact in
     let steps = c.in-Some.ensures.steps in
+    let s = c.args.noted.now.last in
     record {
       left = c.loop-fact.invariant.left ∙ (ap (λ (fs : List Fact). before ++ fs) steps ∙ sym (append_assoc before (fact ∷ []) c.next.new.self));
       within = All-rest (λ (f : Fact). f.var < length s) fact c.next.new.self c.loop-fact.fact-iterator steps c.loop-fact.invariant.within;
-      reported = same_items p c.args.noted.now (λ run. IsCause p run) (filter (fails s) before ++ fact ∷ []) (filter (fails s) (before ++ fact ∷ [])) _ c.report_cause.new.report
-          (sym (one_more_fails s before fact (λ e. c.if-value-fact.true (c.value.ensures ∙ e))))
-          (one_more p c.args.noted.now (λ run. IsCause p run) _ c.loop-fact.report c.report_cause.new.report (filter (fails s) before) fact
-          c.loop-fact.invariant.reported c.in_ok-report_cause.ensures);
+      reported = rw (one_more_fails s before fact (λ e. c.if-value-fact.true (c.value.ensures ∙ e)))
+          (one_more _ _ (λ run. IsCause c.args.task.now run) _ _ _ _ fact c.loop-fact.invariant.reported c.in_ok-report_cause.ensures);
     }
 
 pub loop-fact-preserved : goal.loop-fact-preserved
 loop-fact-preserved g c =
-    let p = c.args.task.now in
-    let s = c.args.noted.now.last in
     let before = c.loop-fact.yielded in
     let fact = c.in-Some.fact in
     let steps = c.in-Some.ensures.steps in
+    let s = c.args.noted.now.last in
     record {
       left = c.loop-fact.invariant.left ∙ (ap (λ (fs : List Fact). before ++ fs) steps ∙ sym (append_assoc before (fact ∷ []) c.next.new.self));
       within = All-rest (λ (f : Fact). f.var < length s) fact c.next.new.self c.loop-fact.fact-iterator steps c.loop-fact.invariant.within;
-      reported = same_items p c.args.noted.now (λ run. IsCause p run) (filter (fails s) before) (filter (fails s) (before ++ fact ∷ [])) _ c.loop-fact.report
-          (sym (one_more_holds s before fact (sym c.value.ensures ∙ c.if-value-fact.false)))
-          c.loop-fact.invariant.reported;
+      reported = rw (one_more_holds s before fact (sym c.value.ensures ∙ c.if-value-fact.false)) c.loop-fact.invariant.reported;
     }
 
 pub returns : goal.returns
 returns g c =
     let p = c.args.task.now in
-    let s = c.args.noted.now.last in
     let o = operator_at p c.args.operator in
     let all : c.loop-fact.yielded ≡ preconditions o =
     sym (c.loop-fact.invariant.left ∙ (ap (λ (fs : List Fact). c.loop-fact.yielded ++ fs) c.in-None.ensures.steps.0 ∙ append-nil c.loop-fact.yielded)) in
-    line_and_more p c.args.noted.now c.args.report.now c.loop-fact.report c.push.new.self (Operator c.args.operator)
+    line_and_more _ _ _ _ c.push.new.self (Operator c.args.operator)
     (λ run. LinesOfEach (IsCause p run) (filter (fails (last_state run)) (preconditions o))) refl c.in_ok-push.ensures.ok
-    (at_last p c.args.noted.now (λ run. IsCause p run) (λ t. filter (fails t) (preconditions o)) _ c.loop-fact.report
-    (same_items p c.args.noted.now (λ run. IsCause p run) (filter (fails s) c.loop-fact.yielded) (filter (fails s) (preconditions o)) _ c.loop-fact.report (ap (filter (fails s)) all) c.loop-fact.invariant.reported))
+    (at_last _ _ (λ run. IsCause p run) (λ t. filter (fails t) (preconditions o)) _ _ (rw all at c.loop-fact.invariant.reported))

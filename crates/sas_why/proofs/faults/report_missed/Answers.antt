@@ -4,7 +4,7 @@ use Rattle.sas_why.specs.declared.report.Report.{Report}
 use Rattle.sas_why.specs.Report.{Adds}
 use Rattle.sas_why.proofs.Within.{goal_within}
 use Rattle.sas_why.proofs.Composing.{more_is_report, plain_is_report, line_and_more, one_more}
-use Rattle.sas_why.proofs.Faulty.{same_items, at_last, place_fails, place_holds}
+use Rattle.sas_why.proofs.Faulty.{at_last, place_fails, place_holds}
 use Rattle.sas_why.proofs.faults.report_missed.Goals as goal
 use Rattle.sas_why.proofs.faults.report_missed.Goals.{then-value-fact+in_ok-push+in_ok-report_cause, else-value-fact}
 
@@ -16,8 +16,7 @@ value-requires g c =
 
 pub report_cause-requires-clause-fact : goal.report_cause-requires-clause-fact
 report_cause-requires-clause-fact g c =
-    let s = c.args.noted.now.last in
-    let within = goal_within c.args.task.now c.task.ensures.well_ranged s c.requires.1.state in
+    let within = goal_within _ c.task.ensures.well_ranged _ c.requires.1.state in
     subst (All (λ (f : Fact). f.var < length c.args.task.now.variables)) (sym c.goal-fact-items.ensures)
     (subst (λ n. All (λ (f : Fact). f.var < n) c.args.task.now.goal) (let state = c.requires.1.state in state.one_each) within) c.loop-index.index _ c.loop-index-test.true
 
@@ -34,25 +33,21 @@ loop-index-preserved g c =
     let p = c.args.task.now in
     let s = c.args.noted.now.last in
     let k = c.loop-index.index in
-    let first = c.args.report.now in
     let lt : k < length p.goal = subst (λ (l : List Fact). k < length l) c.goal-fact-items.ensures c.loop-index-test.true in
     elim c.if-value-fact.branch [
-      | then-value-fact+in_ok-push+in_ok-report_cause w ↦
-          subst (λ (t : Report). Adds p c.args.noted.now first t (λ run. LinesOfEach (AreGoalFactLines p run) (places_to (fails s) (k + 1) p.goal))) (sym w.report-is)
-          (same_items p c.args.noted.now (λ run. AreGoalFactLines p run) (places_to (fails s) k p.goal ++ k ∷ []) _ first w.report_cause.new.report
-          (sym (place_fails s k p.goal _ lt (subst (λ (l : List Fact). slice_index s (get_or l k (record { var = 0; value = 0 })).var ≡ (get_or l k (record { var = 0; value = 0 })).value → ⊥) c.goal-fact-items.ensures
-          (λ e. w.if-value-fact.true (c.value.ensures ∙ e)))))
-          (one_more p c.args.noted.now (λ run. AreGoalFactLines p run) first c.loop-index.report w.report_cause.new.report (places_to (fails s) k p.goal) k c.loop-index.invariant
-          (line_and_more p c.args.noted.now c.loop-index.report w.report_cause.new.report w.push.new.self (GoalFact k) (λ run. IsCause p run (goal_fact_at p k))
-          refl w.in_ok-push.ensures.ok
-          (subst (λ (l : List Fact). Adds p c.args.noted.now (record c.loop-index.report { lines = w.push.new.self }) w.report_cause.new.report
-          (λ run. IsCause p run (get_or l k (record { var = 0; value = 0 })))) c.goal-fact-items.ensures w.in_ok-report_cause.ensures))))
-      | else-value-fact w ↦
-          subst (λ (t : Report). Adds p c.args.noted.now first t (λ run. LinesOfEach (AreGoalFactLines p run) (places_to (fails s) (k + 1) p.goal))) (sym w.report-is)
-          (same_items p c.args.noted.now (λ run. AreGoalFactLines p run) (places_to (fails s) k p.goal) _ first c.loop-index.report
-          (sym (place_holds s k p.goal _ lt (subst (λ (l : List Fact). slice_index s (get_or l k (record { var = 0; value = 0 })).var ≡ (get_or l k (record { var = 0; value = 0 })).value) c.goal-fact-items.ensures
-          (sym c.value.ensures ∙ w.if-value-fact.false))))
-          c.loop-index.invariant)
+      | then-value-fact+in_ok-push+in_ok-report_cause w ↦ rw (
+        w.report-is,
+        place_fails s k p.goal _ lt (subst (λ (l : List Fact). slice_index s (get_or l k (record { var = 0; value = 0 })).var ≡ (get_or l k (record { var = 0; value = 0 })).value → ⊥) c.goal-fact-items.ensures
+            (λ e. w.if-value-fact.true (c.value.ensures ∙ e))),
+      )
+          (one_more p c.args.noted.now (λ run. AreGoalFactLines p run) _ _ _ _ k c.loop-index.invariant
+          (line_and_more _ _ _ _ w.push.new.self (GoalFact k) (λ run. IsCause p run (goal_fact_at p k)) refl w.in_ok-push.ensures.ok
+          (rw c.goal-fact-items.ensures at w.in_ok-report_cause.ensures)))
+      | else-value-fact w ↦ rw (
+        w.report-is,
+        place_holds s k p.goal _ lt (subst (λ (l : List Fact). slice_index s (get_or l k (record { var = 0; value = 0 })).var ≡ (get_or l k (record { var = 0; value = 0 })).value) c.goal-fact-items.ensures
+            (sym c.value.ensures ∙ w.if-value-fact.false)),
+      ) c.loop-index.invariant
     ]
 
 pub returns : goal.returns
@@ -60,6 +55,4 @@ returns g c =
     let p = c.args.task.now in
     let s = c.args.noted.now.last in
     let all : length p.goal ≤ c.loop-index.index = subst (λ (l : List Fact). length l ≤ c.loop-index.index) c.goal-fact-items.ensures c.loop-index-test.false in
-    at_last p c.args.noted.now (λ r. AreGoalFactLines p r) (λ t. places (fails t) p.goal) c.args.report.now c.loop-index.report
-    (same_items p c.args.noted.now (λ r. AreGoalFactLines p r) (places_to (fails s) c.loop-index.index p.goal) (places (fails s) p.goal) c.args.report.now c.loop-index.report
-    (places_all (fails s) c.loop-index.index p.goal all) c.loop-index.invariant)
+    at_last p c.args.noted.now (λ r. AreGoalFactLines p r) (λ t. places (fails t) p.goal) _ _ (rw (places_all (fails s) c.loop-index.index p.goal all) at c.loop-index.invariant)

@@ -6,10 +6,9 @@ use Rattle.sas_why.proofs.likeness.trim_spaces.Goals.{then-loop-end-test+else-na
 
 pub loop-end-preserved : goal.loop-end-preserved
 loop-end-preserved c =
-    let name = c.args.name.now in
     let k = c.loop-end.end - 1 in
     let is : c.loop-end.end ≡ k + 1 = omega arith in
-    one_less name k (let le = c.loop-end.invariant.0 in omega arith) c.if-name-end-eq32.true (subst (TrimmedTo name) is c.loop-end.invariant)
+    one_less _ k (let le = c.loop-end.invariant.0 in omega arith) c.if-name-end-eq32.true (subst (TrimmedTo _) is c.loop-end.invariant)
 
 pub returns : goal.returns
 returns c =

@@ -12,16 +12,14 @@ loop-condition-preserved g c =
     let conditions = (rule_at p rule).conditions in
     let i = c.loop-condition.condition-index in
     let none : Fact = record { var = 0; value = 0 } in
-    let before = c.args.entries.now.items in
-    let entries = c.loop-condition.entries.items in
     let same : c.rule_conditions-condition-items.result.now ≡ conditions = c.rule_conditions-condition-items.ensures in
     let below : i < length conditions = let lt = c.loop-condition-test.true in omega (arith, ap length same) in
     let var_is = ap (λ (cs : List Fact). (get_or cs i none).var) same in
     let reported = c.is_some.ensures ∙ ap is_some (c.layer.ensures ∙ ap (layer_of p.variables) var_is) in
     elim c.if-is_some.branch [
       | then-is_some+in_ok-push w ↦ rw (w.entries-is, w.in_ok-push.ensures.items, var_is)
-          (adds_more p rule i none before entries c.loop-condition.invariant below c.task.ensures.well_ranged c.requires)
-      | else-is_some w ↦ rw w.entries-is (adds_skip p rule i none before entries c.loop-condition.invariant below
+          (adds_more _ _ _ none _ _ c.loop-condition.invariant below c.task.ensures.well_ranged c.requires)
+      | else-is_some w ↦ rw w.entries-is (adds_skip _ _ _ none _ _ c.loop-condition.invariant below
           (λ derived. let f : true ≡ false = sym derived ∙ (sym reported ∙ w.if-is_some.false) in cc))
     ]
 

@@ -1,7 +1,7 @@
 -- Each round leads to the next one, and none is left when no rule is.
 use Rattle.sas_why.proofs.Imports.{◌≡◌, ℕ, ◌<◌, ◌==◌, Bool, true, false, Vec, Global, vec_len, [], length, refl, sym, ap, subst, ◌∙◌, inl, inr, arith, cases_lt, false≢true, eqb_tells}
-use Rattle.sas_why.specs.Rounds.{InRound, AreDue}
-use Rattle.sas_why.proofs.RoundEnds.{first_round, first_due, first_unreached, found_all, begins_next, due_then, few_then, more_then, nil_of}
+use Rattle.sas_why.specs.Rounds.{InRound}
+use Rattle.sas_why.proofs.RoundEnds.{AreDue, first_round, first_due, first_unreached, found_all, begins_next, due_then, few_then, more_then, nil_of}
 use Rattle.sas_why.proofs.rounds.origins_of.Goals as goal
 
 some_rule : (rules : Vec ℕ Global) (empty : Bool) → empty ≡ (vec_len rules == 0) → empty ≡ false → 0 < length rules.items
@@ -18,15 +18,13 @@ no_rule rules empty tested is = elim (eqb_tells (vec_len rules) 0) [
 
 pub loop-rounds-init : goal.loop-rounds-init
 loop-rounds-init g c =
-    let p = c.args.task.now in
-    let r = c.in_ok-rounds.rounds in
     let before = c.in_ok-rounds.ensures in
     let over = before.over in
-    let all = first_unreached p r before in
+    let all = first_unreached _ _ before in
     record {
-      round = first_round p c.args.state.now r before;
+      round = first_round _ _ _ before;
       none = before.next;
-      due = first_due p c.args.state.now r.over c.in_ok-rules.rules.items c.in_ok-rules.ensures;
+      due = first_due _ _ _ _ c.in_ok-rules.ensures;
       few = omega arith;
       more = λ _. omega arith;
     }
@@ -48,7 +46,6 @@ loop-rounds-preserved g c =
     let p = c.args.task.now in
     let s = c.args.state.now in
     let inv = c.loop-rounds.invariant in
-    let r = c.loop-rounds.rounds in
     let r' = c.look_at_all.new.self in
     let rules = c.loop-rounds.rules.items in
     let some : 0 < length rules = some_rule c.loop-rounds.rules c.is_empty.result c.is_empty.ensures c.loop-rounds-test.true in
@@ -56,12 +53,12 @@ loop-rounds-preserved g c =
     let goes = c.in_ok-look_at_all.ensures.goes_on in
     let is = ap (λ v. v.items) c.swap.ensures.x_after in
     record {
-      round = begins_next p s c.task.ensures.layered c.requires.settled r r' rules c.swap.new.x.items inside inv.due goes inv.none some is inv.more
+      round = begins_next _ _ c.task.ensures.layered c.requires.settled _ _ _ _ inside inv.due goes inv.none some is inv.more
           _ refl refl refl refl c.clear.ensures.items;
       none = c.clear.ensures.items;
-      due = due_then p s c.task.ensures.layered c.requires.settled r r' rules c.swap.new.x.items inside inv.due goes inv.none some is inv.more;
-      few = few_then p s c.task.ensures.layered c.requires.settled r r' rules c.swap.new.x.items inside inv.due goes inv.none some is inv.more;
-      more = more_then p s c.task.ensures.layered c.requires.settled r r' rules c.swap.new.x.items inside inv.due goes inv.none some is inv.more;
+      due = due_then _ _ c.task.ensures.layered c.requires.settled _ _ _ _ inside inv.due goes inv.none some is inv.more;
+      few = few_then _ _ c.task.ensures.layered c.requires.settled _ _ _ _ inside inv.due goes inv.none some is inv.more;
+      more = more_then _ _ c.task.ensures.layered c.requires.settled _ _ _ _ inside inv.due goes inv.none some is inv.more;
     }
 
 pub returns : goal.returns

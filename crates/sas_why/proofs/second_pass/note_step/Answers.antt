@@ -13,12 +13,11 @@ note-requires-clause-places g c =
 
 pub note-requires-clause-cover : goal.note-requires-clause-cover
 note-requires-clause-cover g c =
-    let old = c.args.execution.now in
     let new = c.advance.new.self in
     let advances = c.advance.ensures.advances in
     let state = subst (λ (p : Parts). IsState p.variables new.state) advances.task c.state.ensures.fits in
     rw (c.requires.values, c.state.ensures.now, c.deleted.ensures, c.touched_among-touched.ensures, c.touched.ensures)
-    (covers old.task old.state new.state new.deleted new.touched c.args.derived.now state advances.changes c.requires.derived)
+    (covers _ _ _ _ _ _ state advances.changes c.requires.derived)
 
 pub returns-clause-notes : goal.returns-clause-notes
 returns-clause-notes g c = record {

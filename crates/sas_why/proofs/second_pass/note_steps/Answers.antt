@@ -4,8 +4,7 @@ use Rattle.sas_why.proofs.Noted.{places, notes_longer}
 use Rattle.sas_why.proofs.second_pass.note_steps.Goals as goal
 
 pub note_step-requires-clause-left : goal.note_step-requires-clause-left
-note_step-requires-clause-left g c =
-    omega (arith, c.loop-before.invariant.made, ap length c.loop-before.invariant.operators, c.loop-before-test.true, ap length c.operators-before-end.ensures)
+note_step-requires-clause-left g c = omega (arith, c.loop-before.invariant.made, ap length c.loop-before.invariant.operators, c.loop-before-test.true, ap length c.operators-before-end.ensures)
 
 pub note_step-requires-clause-places : goal.note_step-requires-clause-places
 note_step-requires-clause-places g c =

@@ -1,11 +1,9 @@
 -- Nothing is reported.
-use Rattle.sas_why.proofs.Imports.{rules, ◌≡◌, ℕ, zero, suc, ◌∙◌, Bool, false, List, length, get_or, replicate, refl, sym, ap, subst, Contains, false≢true, length-replicate, contains_none, Line}
+use Rattle.sas_why.proofs.Imports.{common_steps, arith, rules, ◌≡◌, ℕ, zero, suc, ◌∙◌, Bool, false, List, length, get_or, replicate, refl, sym, ap, subst, Contains, false≢true, length-replicate, contains_none, Line}
 use Rattle.sas_why.proofs.report.Report.new.Goals as goal
 
 none_kept : (n var : ℕ) → get_or (replicate n false) var false ≡ false
-none_kept zero var = refl
-none_kept (suc n) zero = refl
-none_kept (suc n) (suc var) = none_kept n var
+none_kept n var = grind (arith, common_steps)
 
 pub returns-clause-report : goal.returns-clause-report
 returns-clause-report g c =

@@ -19,17 +19,15 @@ returns-then-change-initial_value-clause-looked g c looked inside =
 pub returns-then-place-rule_conditions-clause-looked : goal.returns-then-place-rule_conditions-clause-looked
 returns-then-place-rule_conditions-clause-looked g c looked inside =
     let p = c.args.task.now in
-    let s = c.args.state.now in
     let rule = c.args.rule in
     let layer = c.in-Some.layer in
-    let r = c.args.self.now in
     let place = c.first_open-place.result in
     let on : IsOnLayer p layer (rule_at p rule).var =
     ap (λ (x : Change). layer_of p.variables x.var) (sym c.rule_change-change.ensures) ∙ (sym c.layer.ensures ∙ c.in-Some.is) in
     let below : place < length (rule_at p rule).conditions = (let e = ap length c.rule_conditions.ensures in let lt = c.if-place-rule_conditions.true in omega arith) in
-    passed_round p s r _ (looked ++ rule ∷ []) refl refl refl refl
-    (passed_set p s layer rule place r.over r.passed.items c.requires.rule on c.first_open-place.ensures inside.at.passed)
-    (looked_none p s r looked rule (fails_now p s layer rule place r.over r.passed.items c.requires.rule on c.first_open-place.ensures below) inside)
+    passed_round _ _ _ _ (looked ++ rule ∷ []) refl refl refl refl
+    (passed_set _ _ _ _ _ _ _ c.requires.rule on c.first_open-place.ensures inside.at.passed)
+    (looked_none _ _ _ looked _ (fails_now _ _ _ _ _ _ _ c.requires.rule on c.first_open-place.ensures below) inside)
 
 -- the variable exists
 within : (p : Parts) (s : List ℕ) (r : Rounds) (looked : List ℕ) (layer var : ℕ) → InRound p s r looked → IsOnLayer p layer var → var < length r.origins.items
@@ -60,17 +58,15 @@ fires g c =
 pub returns-clause-looked : goal.returns-clause-looked
 returns-clause-looked g c = on_ok_weaker c.reach.result (λ now looked inside.
     let p = c.args.task.now in
-    let s = c.args.state.now in
     let rule = c.args.rule in
     let layer = c.in-Some.layer in
-    let r = c.args.self.now in
     let on : IsOnLayer p layer (rule_at p rule).var =
     ap (λ (x : Change). layer_of p.variables x.var) (sym c.rule_change-change.ensures) ∙ (sym c.layer.ensures ∙ c.in-Some.is) in
-    reach_round p s _ c.reach.new.self looked layer c.rule_change-change.result.var rule (within c.args.task.now c.args.state.now c.args.self.now c.requires.round.0 c.in-Some.layer c.rule_change-change.result.var
+    reach_round _ _ _ _ looked _ _ _ (within c.args.task.now c.args.state.now c.args.self.now c.requires.round.0 c.in-Some.layer c.rule_change-change.result.var
     c.requires.round.1 (sym c.layer.ensures ∙ c.in-Some.is)) (sym c.layer.ensures ∙ c.in-Some.is)
     (fires g c) now
-    (passed_round p s r _ looked refl refl refl refl
-    (passed_set p s layer rule c.first_open-place.result r.over r.passed.items c.requires.rule on c.first_open-place.ensures inside.at.passed) inside))
+    (passed_round _ _ _ _ looked refl refl refl refl
+    (passed_set _ _ _ _ _ _ _ c.requires.rule on c.first_open-place.ensures inside.at.passed) inside))
     c.reach.ensures
 
 pub returns-clause-goes_on : goal.returns-clause-goes_on
