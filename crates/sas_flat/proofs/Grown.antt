@@ -1,12 +1,12 @@
 -- Columns to which items were only appended, and truncating them to what they were.
-use Rattle.sas_flat.proofs.Imports.{◌≡◌, ℕ, ◌≤◌, List, [], ◌++◌, length, take, sym, ap, ◌∙◌, ◌+◌, refl, arith, length-append, Result, Ok, Err, OnOk, OnErr, IsErr, slice_index, false≢true, take-append_seam, Effect, Fact, Operator, Variable}
+use Rattle.sas_flat.proofs.Imports.{◌≡◌, ℕ, ◌≤◌, List, [], ◌++◌, length, take, sym, ap, ◌∙◌, ◌+◌, refl, arith, length-append, Result, Ok, Err, OnOk, OnErr, IsErr, slice_index, false≢true, take-append_seam, Effect, Fact, Operator, Variable, map, length-map}
 use Rattle.std.proofs.lemmas.List.{append-nil}
-use Rattle.sas_flat.specs.Lists.{list_at, lists_of}
+use Rattle.sas_flat.specs.Lists.{start_of, list_at, lists_of, AreEnds}
 use Rattle.sas_flat.specs.Table.{table}
 use Rattle.sas_flat.proofs.Blocks.{ends_more}
 use Rattle.sas_flat.specs.Growing.{Kept}
 use Rattle.sas_flat.specs.declared.operators.Head.{Head}
-use Rattle.sas_flat.specs.declared.operators.Columns as in_operators
+use Rattle.sas_flat.specs.declared.operators.OperatorColumns as in_operators
 use Rattle.sas_flat.specs.Operators as operators
 use Rattle.sas_flat.specs.declared.variables.Columns.{Columns}
 use Rattle.sas_flat.specs.Variables.{AreAligned, OneMore, variables_in, variables_from}
@@ -66,11 +66,15 @@ operators_of names prevail effects heads = table (length heads) (λ index. opera
     (list_at effects (operators.effect_ends heads) index)
     (slice_index (operators.costs heads) index))
 
-pub same_effects : (old : in_operators.Columns) (effects : List Effect) → effects ≡ old.effects → operators_of old.names.items old.prevail.items effects old.heads.items ≡ operators.operators_in old
+pub same_effects : (old : in_operators.OperatorColumns) (effects : List Effect) → effects ≡ old.effects → operators_of old.names.items old.prevail.items effects old.heads.items ≡ operators.operators_in old
 same_effects old effects e = ap (λ l. operators_of old.names.items old.prevail.items l old.heads.items) e
 
+-- where the last operator ends, each column ends
+closed_at : (end : Head → ℕ) (heads : List Head) (count : ℕ) → AreEnds (map end heads) count → start_of (map end heads) (length heads) ≡ count
+closed_at end heads count are = ap (λ n. start_of (map end heads) n) (sym (length-map heads end)) ∙ are.closed
+
 -- where each column is as it was, so are the operators
-module _ (old new : in_operators.Columns) (names : new.names.items ≡ old.names.items) (prevail : new.prevail.items ≡ old.prevail.items) (effects : new.effects ≡ old.effects) (heads : new.heads.items ≡ old.heads.items) where
+module _ (old new : in_operators.OperatorColumns) (names : new.names.items ≡ old.names.items) (prevail : new.prevail.items ≡ old.prevail.items) (effects : new.effects ≡ old.effects) (heads : new.heads.items ≡ old.heads.items) where
   pub still_aligned : operators.OperatorColumnsAlign old → operators.OperatorColumnsAlign new
   still_aligned a = record { names = rw (names, heads) a.names; prevail = rw (prevail, heads) a.prevail; effects = rw (effects, heads) a.effects }
 
@@ -80,3 +84,27 @@ module _ (old new : in_operators.Columns) (names : new.names.items ≡ old.names
       ∙ ap (λ l. operators_of old.names.items l new.effects new.heads.items) prevail
       ∙ ap (λ l. operators_of old.names.items old.prevail.items l new.heads.items) effects
       ∙ ap (λ l. operators_of old.names.items old.prevail.items old.effects l) heads
+
+-- what was appended behind the operators is cut off again
+module _ (old mid : in_operators.OperatorColumns) (aligned : operators.OperatorColumnsAlign old) (begun : operators.IsBegun old mid) where
+  ends_at : {X : Type 0} (end : Head → ℕ) (items : List X) → AreEnds (map end old.heads.items) (length items) → operators.last_end end mid ≡ length items
+  ends_at end items are = ap (λ heads. start_of (map end heads) (length heads)) begun.heads ∙ closed_at end old.heads.items (length items) are
+
+  pub cut_fits : operators.last_end (λ (h : Head). h.effects) mid ≤ length mid.effects
+  cut_fits = kept_long _ old.effects mid.effects (ends_at _ old.effects aligned.effects) begun.effects
+
+  module _ (new : in_operators.OperatorColumns) (cut : operators.IsCut mid new) where
+    same_names : new.names.items ≡ old.names.items
+    same_names = kept_front _ _ _ _ (ends_at _ old.names.items aligned.names) begun.names cut.names
+
+    same_prevail : new.prevail.items ≡ old.prevail.items
+    same_prevail = kept_front _ _ _ _ (ends_at _ old.prevail.items aligned.prevail) begun.prevail cut.prevail
+
+    effects_again : new.effects ≡ old.effects
+    effects_again = kept_front _ _ _ _ (ends_at _ old.effects aligned.effects) begun.effects cut.effects
+
+    pub aligned_again : operators.OperatorColumnsAlign new
+    aligned_again = still_aligned old new same_names same_prevail effects_again (cut.heads ∙ begun.heads) aligned
+
+    pub operators_again : operators.operators_in new ≡ operators.operators_in old
+    operators_again = same_operators old new same_names same_prevail effects_again (cut.heads ∙ begun.heads)

@@ -5,7 +5,7 @@ pub mod Kept
 mod Placing
 mod EffectRows
 mod Rows
-mod FoundOperators
+pub mod FoundOperators
 mod FoundVariables
-mod Grown
+pub mod Grown
 mod Imports

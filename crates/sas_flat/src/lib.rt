@@ -19,7 +19,7 @@ pub use columns::TaskColumns;
 pub use effects::Effects;
 pub use ends::Ends;
 pub use lists::Lists;
-pub use operators::Operators;
+pub use operators::{OperatorColumns, Operators};
 pub use outline::Outline;
 pub use plan::FlatPlan;
 pub use rules::Rules;

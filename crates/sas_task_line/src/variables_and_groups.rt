@@ -94,12 +94,13 @@ pub fn group_found(
     gathered: &mut Gathered,
 ) -> Result<Option<Front>, AllocError>
     ensures { IfOk result (λ found. IfSome found (λ front.
-        GroupAhead ranges.now bytes.now gathered.new.facts front)) }
+        GroupAhead ranges.now bytes.now gathered.new.facts.items front)) }
 {
     let Some(rest) = word_before(bytes, b"begin_mutex_group") else {
         return Ok(None);
     };
-    let Some(rest) = facts_before(ranges, rest, &mut gathered.facts)? else {
+    gathered.facts.clear();
+    let Some((_, rest)) = facts_before(ranges, rest, &mut gathered.facts)? else {
         return Ok(None);
     };
     let Some(rest) = word_before(rest, b"end_mutex_group") else {

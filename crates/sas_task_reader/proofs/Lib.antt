@@ -1,4 +1,5 @@
 mod TaskStanding
 mod Outlines
+mod StoredOperators
 mod Reasons
 mod Imports

@@ -60,7 +60,10 @@ pub fn operator_front(
         (o : Operator) × OperatorAhead ranges.now bytes.now o front)) }
     ensures err { IfErr result (λ k. k ≡ Kind.Memory) }
 {
-    let Some(found) = operator_found(ranges, bytes, gathered)? else {
+    gathered.facts.clear();
+    gathered.effects.clear();
+    let found = operator_found(ranges, bytes, &mut gathered.facts, &mut gathered.effects)?;
+    let Some(found) = found else {
         return Ok(None);
     };
     Ok(Some(found.front))
