@@ -1,6 +1,5 @@
 -- Columns to which items were only appended, and truncating them to what they were.
-use Rattle.sas_flat.proofs.Imports.{◌≡◌, ℕ, ◌≤◌, List, [], ◌++◌, length, take, sym, ap, ◌∙◌, ◌+◌, refl, arith, length-append, Result, Ok, Err, OnOk, OnErr, IsErr, slice_index, false≢true, take-append_seam, Effect, Fact, Operator, Variable, map, length-map}
-use Rattle.std.proofs.lemmas.List.{append-nil}
+use Rattle.sas_flat.proofs.Imports.{◌≡◌, ℕ, ◌≤◌, List, length, take, sym, ap, ◌∙◌, ◌+◌, refl, arith, length-append, slice_index, take-append_seam, Effect, Fact, Operator, Variable, map, length-map}
 use Rattle.sas_flat.specs.Lists.{start_of, list_at, lists_of, AreEnds}
 use Rattle.sas_flat.specs.Table.{table}
 use Rattle.sas_flat.proofs.Blocks.{ends_more}
@@ -8,22 +7,10 @@ use Rattle.sas_flat.specs.Growing.{Kept}
 use Rattle.sas_flat.specs.declared.operators.Head.{Head}
 use Rattle.sas_flat.specs.declared.operators.OperatorColumns as in_operators
 use Rattle.sas_flat.specs.Operators as operators
-use Rattle.sas_flat.specs.declared.variables.Columns.{Columns}
-use Rattle.sas_flat.specs.Variables.{AreAligned, OneMore, variables_in, variables_from}
+use Rattle.sas_flat.specs.declared.variables.VariableColumns.{VariableColumns}
+use Rattle.sas_flat.specs.Variables.{AreAligned, OneMore, IsBegun, IsCut, variables_in, variables_from}
 
 -- ---- one list
-
--- nothing came
-pub kept_all : {X : Type 0} (old new : List X) → new ≡ old → Kept old new
-kept_all old new e = record { more = []; is = e ∙ sym (append-nil old) }
-
-pub kept_more : {X : Type 0} (old new more : List X) → new ≡ old ++ more → Kept old new
-kept_more old new more e = record { more = more; is = e }
-
--- the last step of a push, whether memory was there or not
-pub kept_by : {X T E : Type 0} (old new more : List X) (r : Result T E) → OnOk r (new ≡ old ++ more) → OnErr r (new ≡ old) → Kept old new
-kept_by old new more (Ok x) ok err = kept_more old new more ok
-kept_by old new more (Err e) ok err = kept_all old new err
 
 -- it is at least as long as it was
 pub kept_long : {X : Type 0} (n : ℕ) (old new : List X) → n ≡ length old → Kept old new → n ≤ length new
@@ -36,7 +23,7 @@ kept_front n old mid new e k is = is ∙ ap (λ i. take i mid) e ∙ ap (take (l
 -- ---- variables
 
 -- with one variable more they are aligned
-pub more_aligned : (old new : Columns) (v : Variable) → AreAligned old → OneMore old new v → AreAligned new
+pub more_aligned : (old new : VariableColumns) (v : Variable) → AreAligned old → OneMore old new v → AreAligned new
 more_aligned old new v a more =
     let ends = ap length more.ends ∙ length-append old.ends _ in
     record {
@@ -46,7 +33,7 @@ more_aligned old new v a more =
     }
 
 -- where each column is as it was, so are the variables
-module _ (old new : Columns) (names : new.names ≡ old.names) (layers : new.layers.items ≡ old.layers.items) (values : new.values ≡ old.values) (ends : new.ends ≡ old.ends) where
+module _ (old new : VariableColumns) (names : new.names ≡ old.names) (layers : new.layers.items ≡ old.layers.items) (values : new.values ≡ old.values) (ends : new.ends ≡ old.ends) where
   pub same_aligned : AreAligned old → AreAligned new
   same_aligned a = record { names = rw (names, ends) a.names; layers = rw (layers, ends) a.layers; values = rw (values, ends) a.values }
 
@@ -57,6 +44,33 @@ module _ (old new : Columns) (names : new.names ≡ old.names) (layers : new.lay
       ∙ ap (λ l. variables_from old.names old.layers.items (lists_of l new.ends)) values
       ∙ ap (λ l. variables_from old.names old.layers.items (lists_of old.values l)) ends
 
+-- what was appended behind the variables is cut off again
+module _ (old mid : VariableColumns) (aligned : AreAligned old) (begun : IsBegun old mid) where
+  ends_in_values : start_of mid.ends (length mid.ends) ≡ length old.values
+  ends_in_values = ap (λ ends. start_of ends (length ends)) begun.ends ∙ aligned.values.closed
+
+  pub names_fit : length mid.ends ≤ length mid.names
+  names_fit = kept_long _ old.names mid.names (ap length begun.ends ∙ sym aligned.names) begun.names
+
+  pub values_fit : start_of mid.ends (length mid.ends) ≤ length mid.values
+  values_fit = kept_long _ old.values mid.values ends_in_values begun.values
+
+  module _ (new : VariableColumns) (cut : IsCut mid new) where
+    names_again : new.names ≡ old.names
+    names_again = kept_front _ _ _ _ (ap length begun.ends ∙ sym aligned.names) begun.names cut.names
+
+    layers_again : new.layers.items ≡ old.layers.items
+    layers_again = kept_front _ _ _ _ (ap length begun.ends ∙ sym aligned.layers) begun.layers cut.layers
+
+    values_again : new.values ≡ old.values
+    values_again = kept_front _ _ _ _ ends_in_values begun.values cut.values
+
+    pub all_aligned_again : AreAligned new
+    all_aligned_again = same_aligned old new names_again layers_again values_again (cut.ends ∙ begun.ends) aligned
+
+    pub variables_again : variables_in new ≡ variables_in old
+    variables_again = same_variables old new names_again layers_again values_again (cut.ends ∙ begun.ends)
+
 -- ---- operators
 
 abbrev pub operators_of : List ℕ → List Fact → List Effect → List Head → List Operator
@@ -65,9 +79,6 @@ operators_of names prevail effects heads = table (length heads) (λ index. opera
     (list_at prevail (operators.prevail_ends heads) index)
     (list_at effects (operators.effect_ends heads) index)
     (slice_index (operators.costs heads) index))
-
-pub same_effects : (old : in_operators.OperatorColumns) (effects : List Effect) → effects ≡ old.effects → operators_of old.names.items old.prevail.items effects old.heads.items ≡ operators.operators_in old
-same_effects old effects e = ap (λ l. operators_of old.names.items old.prevail.items l old.heads.items) e
 
 -- where the last operator ends, each column ends
 closed_at : (end : Head → ℕ) (heads : List Head) (count : ℕ) → AreEnds (map end heads) count → start_of (map end heads) (length heads) ≡ count

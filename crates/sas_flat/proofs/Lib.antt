@@ -6,6 +6,6 @@ mod Placing
 mod EffectRows
 mod Rows
 pub mod FoundOperators
-mod FoundVariables
+pub mod FoundVariables
 pub mod Grown
 mod Imports

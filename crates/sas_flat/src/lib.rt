@@ -24,4 +24,4 @@ pub use outline::Outline;
 pub use plan::FlatPlan;
 pub use rules::Rules;
 pub use task::FlatTask;
-pub use variables::Variables;
+pub use variables::{VariableColumns, Variables};

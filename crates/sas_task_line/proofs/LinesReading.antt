@@ -1,12 +1,12 @@
 -- Reading several lines, each up to its LF.
-use Rattle.sas_task_line.proofs.Imports.{◌≡◌, ℕ, ◌+◌, ◌-◌, ◌<◌, Bool, ◌&&◌, List, [], ◌∷◌, ◌++◌, length, map, take, Option, refl, sym, ap, subst, ◌∙◌, append-nil, append_assoc, length-append, arith, IsTrue, codes, flat_map, list_all, AllByRecursion, and_parts, flat_map-append, map-append, take_at, length-map, list_all-append, Fact, is_name, IsName, Change, Effect, text, LinesStandFirst, lines_stand_first, Plain}
-use Rattle.sas_task_line.proofs.Imports.{Front, plain, IsPlain, TaskLine, word, name, number, signed, fact, effect, head, line, task_line_bytes, TaskLineFits, variable_lines, group_lines, operator_lines, rule_lines, plain_effect}
-use Rattle.sas_flat.specs.Growing.{Kept}
+use Rattle.sas_task_line.proofs.Imports.{◌≡◌, ℕ, ◌+◌, ◌-◌, ◌<◌, Bool, ◌&&◌, List, [], ◌∷◌, ◌++◌, length, take, Option, refl, sym, ap, subst, ◌∙◌, append-nil, append_assoc, length-append, arith, IsTrue, codes, flat_map, list_all, AllByRecursion, and_parts, flat_map-append, map-append, take_at, length-map, list_all-append, Fact, is_name, IsName, Change, Effect, text, LinesStandFirst, lines_stand_first, Plain}
+use Rattle.sas_task_line.proofs.Imports.{Front, plain, IsPlain, TaskLine, word, name, number, signed, fact, effect, head, line, task_line_bytes, TaskLineFits, variable_lines, group_lines, operator_lines, rule_lines}
 use Rattle.sas_flat.specs.Operators as flat
+use Rattle.sas_flat.specs.Variables as flat_variables
 use Rattle.sas_task_line.specs.declared.sections.Gathered.{Gathered}
 use Rattle.sas_task_line.specs.Ahead.{LineAhead, NumberAhead}
-use Rattle.sas_task_line.specs.LinesBefore.{LinesBefore, CountedBefore, AppendedBefore, NamesBefore, FactsBefore, EffectsBefore}
-use Rattle.sas_task_line.specs.Sections.{spelled, LinesAhead, VariableAhead, GroupAhead, OperatorAhead, RuleAhead, gathered_variable, gathered_rule}
+use Rattle.sas_task_line.specs.LinesBefore.{LinesBefore, CountedBefore, AppendedBefore}
+use Rattle.sas_task_line.specs.Sections.{spelled, LinesAhead, VariableAhead, GroupAhead, OperatorAhead, RuleAhead, gathered_rule}
 use Rattle.sas_task_line.specs.TaskRanges.{fact_in_ranges, effect_in_ranges, change_in_ranges}
 use Rattle.sas_task_line.proofs.AheadReading.{number_is_ahead}
 
@@ -60,14 +60,6 @@ module _ {A : Type 0} (says : A → TaskLine) (may_stand : A → Bool) where
   pub none_appended : (count : ℕ) (old : List A) {bytes rest : List ℕ} → NumberAhead bytes count 10 rest → AppendedBefore says may_stand count 0 old old bytes rest
   none_appended count old h = record { items = []; are = sym (append-nil old); many = refl; lines = none_yet count h }
 
-  pub one_appended : {count done : ℕ} (old new now : List A) (x : A) {bytes more rest : List ℕ} → AppendedBefore says may_stand count done old new bytes more → now ≡ new ++ x ∷ [] → LineAhead (says x) more rest → IsTrue (may_stand x) → AppendedBefore says may_stand count (done + 1) old now bytes rest
-  one_appended old new now x h is g may = record {
-    items = h.items ++ x ∷ [];
-    are = is ∙ ap (λ l. l ++ x ∷ []) h.are ∙ append_assoc old h.items (x ∷ []);
-    many = length-append h.items (x ∷ []) ∙ ap (λ n. n + 1) h.many;
-    lines = one_more h.items x h.lines g may;
-  }
-
   -- all were appended
   pub all_appended : {count : ℕ} {old new : List A} {bytes rest : List ℕ} (h : AppendedBefore says may_stand count count old new bytes rest) → CountedBefore says may_stand (length h.items) h.items bytes rest
   all_appended h = rw h.many h.lines
@@ -75,9 +67,6 @@ module _ {A : Type 0} (says : A → TaskLine) (may_stand : A → Bool) where
   -- all were appended to an empty list
   pub appended_alone : {count : ℕ} (old new : List A) {bytes rest : List ℕ} → old ≡ [] → AppendedBefore says may_stand count count old new bytes rest → CountedBefore says may_stand (length new) new bytes rest
   appended_alone old new none h = rw (h.are ∙ ap (λ l. l ++ h.items) none) (all_appended h)
-
-pub was_kept : {A : Type 0} {says : A → TaskLine} {may_stand : A → Bool} {count done : ℕ} {old new : List A} {bytes rest : List ℕ} → AppendedBefore says may_stand count done old new bytes rest → Kept old new
-was_kept h = record { more = h.items; is = h.are }
 
 -- ---- from the first byte on
 
@@ -112,14 +101,14 @@ all_named (w ∷ names) h =
 abbrev first_lines : List ℕ → Option ℕ → List TaskLine
 first_lines label layer = word (codes "begin_variable") ∷ name label ∷ signed layer ∷ []
 
-pub variable_is_ahead : (label : List ℕ) (layer : Option ℕ) (g : Gathered) (front : Front) {bytes names_on end_on rest : List ℕ} → IsName label × LinesBefore (first_lines label layer) bytes names_on → 0 < length g.values × NamesBefore (length g.values) g.values names_on end_on → LineAhead (word (codes "end_variable")) end_on rest → front.bytes ≡ length bytes - length rest → front.lines ≡ 5 + length g.values → VariableAhead bytes (gathered_variable label layer g) front
-variable_is_ahead label layer g front {bytes = bytes} {rest = rest} begins names ends taken many =
-    let name_lines : List TaskLine = number (length g.values) ∷ flat_map (line name) g.values in
+pub variable_is_ahead : (label : List ℕ) (layer : Option ℕ) (values : List (List ℕ)) (front : Front) {bytes names_on end_on rest : List ℕ} → IsName label × LinesBefore (first_lines label layer) bytes names_on → 0 < length values → CountedBefore name is_name (length values) values names_on end_on → LineAhead (word (codes "end_variable")) end_on rest → front.bytes ≡ length bytes - length rest → front.lines ≡ 5 + length values → VariableAhead bytes (flat_variables.variable label layer values) front
+variable_is_ahead label layer values front {bytes = bytes} {rest = rest} begins some names ends taken many =
+    let name_lines : List TaskLine = number (length values) ∷ flat_map (line name) values in
     let last : List TaskLine = word (codes "end_variable") ∷ [] in
-    let items = variable_lines (gathered_variable label layer g) in
-    let all : LinesBefore items bytes rest = lines_then (lines_then begins.1 names.1.lines) (one_line ends) in
-    let long : length items ≡ 5 + length g.values = omega (arith, length-append (flat_map (line name) g.values) last, one_each name g.values) in
-    (record { name = begins.0; values = all_named g.values names.1.stand; some = names.0 }, lines_are_ahead items bytes rest front all taken (many ∙ sym long))
+    let items = variable_lines (flat_variables.variable label layer values) in
+    let all : LinesBefore items bytes rest = lines_then (lines_then begins.1 names.lines) (one_line ends) in
+    let long : length items ≡ 5 + length values = omega (arith, length-append (flat_map (line name) values) last, one_each name values) in
+    (record { name = begins.0; values = all_named values names.stand; some = some }, lines_are_ahead items bytes rest front all taken (many ∙ sym long))
 
 pub group_is_ahead : (ranges : List ℕ) (facts : List Fact) (front : Front) {bytes facts_on end_on rest : List ℕ} → LineAhead (word (codes "begin_mutex_group")) bytes facts_on → CountedBefore fact (fact_in_ranges ranges) (length facts) facts facts_on end_on → LineAhead (word (codes "end_mutex_group")) end_on rest → front.bytes ≡ length bytes - length rest → front.lines ≡ 3 + length facts → GroupAhead ranges bytes facts front
 group_is_ahead ranges facts front {bytes = bytes} {rest = rest} begins before ends taken many =

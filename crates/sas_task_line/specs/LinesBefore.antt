@@ -32,9 +32,9 @@ pub record AppendedBefore {A : Type 0} (says : A → TaskLine) (may_stand : A �
   pub many : length items ≡ done
   pub lines : CountedBefore says may_stand count items bytes rest
 
--- the bytes are this number, these names, and then the rest
-abbrev pub NamesBefore : ℕ → List (List ℕ) → List ℕ → List ℕ → Type 0
-NamesBefore count names bytes rest = CountedBefore name is_name count names bytes rest
+-- names were appended to a list
+abbrev pub NamesBefore : ℕ → ℕ → List (List ℕ) → List (List ℕ) → List ℕ → List ℕ → Type 0
+NamesBefore = AppendedBefore name is_name
 
 -- facts that all exist were appended to a list
 abbrev pub FactsBefore : List ℕ → ℕ → ℕ → List Fact → List Fact → List ℕ → List ℕ → Type 0

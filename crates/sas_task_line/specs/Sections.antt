@@ -1,5 +1,5 @@
 -- Whole sections at the beginning of some bytes: a variable, a mutex group, an operator, a rule.
-use Rattle.std.specs.Prelude.{◌≡◌, ◌<◌, ℕ, List, length, map, take, Option, IsTrue}
+use Rattle.std.specs.Prelude.{◌≡◌, ◌<◌, ℕ, List, length, map, take, IsTrue}
 use Rattle.std.specs.List.{AllByRecursion, list_all}
 use Rattle.sas_core.specs.declared.parts.Fact.{Fact}
 use Rattle.sas_core.specs.declared.parts.Variable.{Variable}
@@ -59,10 +59,6 @@ OperatorAhead ranges bytes o front = OperatorInRanges ranges o
 -- the bytes begin with the rule, and its facts exist
 abbrev pub RuleAhead : List ℕ → List ℕ → Rule → Front → Type 0
 RuleAhead ranges bytes r front = RuleInRanges ranges r × LinesAhead (rule_lines r) bytes front
-
--- the variable with this name and layer, and with the gathered values
-abbrev pub gathered_variable : List ℕ → Option ℕ → Gathered → Variable
-gathered_variable name layer g = record { name = name; layer = layer; values = g.values }
 
 -- the rule with this head, and with the gathered facts
 abbrev pub gathered_rule : Change → Gathered → Rule

@@ -1,5 +1,5 @@
 mod TaskStanding
 mod Outlines
-mod StoredOperators
+mod StoredParts
 mod Reasons
 mod Imports

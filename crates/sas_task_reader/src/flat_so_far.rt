@@ -1,14 +1,15 @@
 // Stores the content of a task file in a few blocks of memory while it is read.
-ghost use Rattle.std.specs.Prelude.{◌≡◌, ◌<◌, List, [], OnOk, OnErr, IfOk, IfSome, IfNone};
+ghost use Rattle.std.specs.Prelude.{◌≡◌, ◌<◌, List, [], length, OnOk, OnErr, IfOk, IfSome, IfNone};
 ghost use Rattle.sas_core.specs.declared.parts.Fact.{Fact};
 ghost use Rattle.sas_core.specs.declared.parts.Variable.{Variable};
 ghost use Rattle.sas_core.specs.declared.parts.Operator.{Operator};
 ghost use Rattle.sas_core.specs.declared.parts.Rule.{Rule};
 ghost use Rattle.sas_core.specs.WellRanged.{WellRanged};
 ghost use Rattle.sas_flat.specs.Operators.{OneMore, IsBegun};
+ghost use Rattle.sas_flat.specs.Variables as variables;
 ghost use Rattle.sas_task_line.specs.declared.task_events.Event.TheVariants as event;
 ghost use Rattle.sas_task_line.specs.declared.task_events.Said.{Said};
-ghost use Rattle.sas_task_line.specs.Sections.{GroupAhead, OperatorAhead, RuleAhead};
+ghost use Rattle.sas_task_line.specs.Sections.{VariableAhead, GroupAhead, OperatorAhead, RuleAhead};
 ghost use Rattle.sas_task_line.specs.TaskEvents.{nothing_yet, after};
 ghost use Rattle.sas_task_judge.specs.Sections.{VariableWithRange, behind_variable};
 ghost use Rattle.sas_task_judge.specs.Sections.{behind_group, behind_operator, behind_rule};
@@ -17,12 +18,13 @@ ghost use Rattle.sas_task_reader.specs.TaskOutline.{outline_with};
 use crate::fronts::NO_VARIABLE;
 use sas_core::{Change, Fact, Items};
 use sas_flat::{
-    Effects, FlatTask, Lists, OperatorColumns, Operators, Outline, Rules, TaskColumns, Variables,
+    Effects, FlatTask, Lists, OperatorColumns, Operators, Outline, Rules, TaskColumns,
+    VariableColumns, Variables,
 };
 use sas_reader::{Front, Kind};
 use sas_task_judge::{Keeper, VariableKept};
 use sas_task_line::{
-    Event, Gathered, Said, group_found, operator_found, rule_found, variable_found,
+    Event, Gathered, Said, VariableFound, group_found, operator_found, rule_found, variable_found,
 };
 use std::alloc::{AllocError, Global};
 use std::marker::Model;
@@ -32,7 +34,7 @@ use std::marker::Model;
 pub struct FlatSoFar {
     alloc: Global,
     metric: bool,
-    variables: Variables,
+    variables: VariableColumns,
     groups: Lists<Fact>,
     init: Items<u32>,
     goal: Items<Fact>,
@@ -53,6 +55,29 @@ struct Begun {
     effects: Effects,
     /// The lists of a section that is read at once.
     gathered: Gathered,
+}
+
+/// Appends a whole variable at the beginning of the bytes, if `variable_found` finds one, and returns what it found. After `None` or `Err`
+/// parts of a variable may have been appended, but no end.
+#[inline(always)]
+fn append_variable<'a>(
+    bytes: &'a [u8],
+    columns: &mut VariableColumns,
+) -> Result<Option<VariableFound<'a>>, AllocError>
+    requires { variables.AreAligned columns.old }
+    ensures some { IfOk result (λ found. IfSome found (λ f. (v : Variable)
+        × VariableAhead bytes.now v f.front × (v.layer ≡ f.layer) × (length v.values ≡ f.range)
+        × variables.OneMore columns.old columns.new v)) }
+    ensures none { IfOk result (λ found. IfNone found
+        (variables.IsBegun columns.old columns.new)) }
+    ensures err { OnErr result (variables.IsBegun columns.old columns.new) }
+{
+    let found = variable_found(bytes, &mut columns.values)?;
+    let Some(found) = found else {
+        return Ok(None);
+    };
+    columns.push(found.name, found.layer)?;
+    Ok(Some(found))
 }
 
 /// Appends a whole operator at the beginning of the bytes, if `operator_found` finds one, and returns the extent of its lines. After `None`
@@ -79,6 +104,7 @@ fn append_operator(
 
 impl Model for FlatSoFar {
     ghost use Rattle.sas_flat.specs.Operators.{operators_in, OperatorColumnsAlign};
+    ghost use Rattle.sas_flat.specs.Variables.{variables_in, AreAligned};
     ghost use Rattle.sas_task_line.specs.declared.so_far.SoFar.{SoFar};
 
     ghost Value = { SoFar };
@@ -87,7 +113,7 @@ impl Model for FlatSoFar {
       alloc = s.alloc;
       parts = record {
         metric = s.metric;
-        variables = s.variables;
+        variables = variables_in s.variables;
         groups = s.groups;
         init = s.init;
         goal = s.goal;
@@ -101,7 +127,7 @@ impl Model for FlatSoFar {
       effects = s.begun.effects;
     } };
 
-    ghost invariant = { λ s. OperatorColumnsAlign s.operators };
+    ghost invariant = { λ s. AreAligned s.variables × OperatorColumnsAlign s.operators };
 }
 
 impl FlatSoFar {
@@ -112,7 +138,7 @@ impl FlatSoFar {
         FlatSoFar {
             alloc,
             metric: false,
-            variables: Variables::new(alloc),
+            variables: VariableColumns::new(alloc),
             groups: Lists::new(alloc),
             init: Items::new(alloc),
             goal: Items::new(alloc),
@@ -148,7 +174,7 @@ impl FlatSoFar {
         drop(begun);
         FlatTask::of_parts(TaskColumns {
             metric,
-            variables,
+            variables: Variables::of_columns(variables),
             groups,
             init,
             goal,
@@ -178,7 +204,7 @@ impl FlatSoFar {
         drop(group_lists);
         Outline {
             metric,
-            variables,
+            variables: Variables::of_columns(variables),
             groups,
             init,
             goal,
@@ -204,11 +230,15 @@ impl FlatSoFar {
     fn variable(&mut self) -> Result<(), AllocError>
         ensures { (said : Said) → OnOk result (self.new ≡ after self.old event.Variable said []) }
     {
-        self.variables.push(
+        let added = self.variables.append(
             self.begun.name.as_slice(),
             self.begun.layer,
             &self.begun.values,
-        )?;
+        );
+        if let Err(error) = added {
+            self.variables.cut();
+            return Err(error);
+        }
         self.begun.name.clear();
         self.begun.values.clear();
         Ok(())
@@ -271,19 +301,25 @@ impl FlatSoFar {
             × (self.new ≡ behind_variable self.old v)) }
         ensures none { IfOk result (λ kept. kept.front.bytes ≡ 0 → self.new ≡ self.old) }
     {
-        let found = variable_found(bytes, &mut self.begun.gathered)?;
-        let Some(found) = found else {
-            return Ok(NO_VARIABLE);
-        };
-        self.variables
-            .push(found.name, found.layer, &self.begun.gathered.values)?;
-        self.begun.name.clear();
-        self.begun.layer = found.layer;
-        self.begun.values.clear();
-        Ok(VariableKept {
-            front: found.front,
-            range: self.begun.gathered.values.len() as u32,
-        })
+        match append_variable(bytes, &mut self.variables) {
+            Ok(Some(found)) => {
+                self.begun.name.clear();
+                self.begun.layer = found.layer;
+                self.begun.values.clear();
+                Ok(VariableKept {
+                    front: found.front,
+                    range: found.range,
+                })
+            }
+            Ok(None) => {
+                self.variables.cut();
+                Ok(NO_VARIABLE)
+            }
+            Err(error) => {
+                self.variables.cut();
+                Err(error)
+            }
+        }
     }
 
     /// Stores a whole mutex group at the beginning of the bytes, if `group_found` finds one. Returns the extent of its lines. After an

@@ -26,12 +26,13 @@ pub fn variable_front(bytes: &[u8], gathered: &mut Gathered) -> Result<Option<Va
         (v : Variable) × VariableWithRange bytes.now v kept)) }
     ensures err { IfErr result (λ k. k ≡ Kind.Memory) }
 {
-    let Some(found) = variable_found(bytes, gathered)? else {
+    gathered.values.clear();
+    let Some(found) = variable_found(bytes, &mut gathered.values)? else {
         return Ok(None);
     };
     Ok(Some(VariableKept {
         front: found.front,
-        range: gathered.values.len() as u32,
+        range: found.range,
     }))
 }
 

@@ -1,4 +1,4 @@
-use Rattle.sas_task_line.proofs.LinesReading.{none_appended, one_appended, was_kept}
+use Rattle.sas_task_line.proofs.LinesReading.{none_appended}
 use Rattle.sas_task_line.proofs.sections.effects_before.Goals as goal
 
 pub loop-i-init : goal.loop-i-init

@@ -1,5 +1,4 @@
-use Rattle.sas_flat.proofs.Imports.{ap, ◌∙◌, refl}
-use Rattle.sas_flat.proofs.Grown.{kept_all, kept_more}
+use Rattle.sas_flat.proofs.Imports.{◌∙◌}
 use Rattle.sas_flat.proofs.operators.OperatorColumns.append.Goals as goal
 
 pub returns-clause-ok : goal.returns-clause-ok
