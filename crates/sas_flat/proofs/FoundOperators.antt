@@ -1,10 +1,10 @@
 -- The operator at an index of the columns, and appending an operator.
 use Rattle.sas_flat.proofs.Imports.{◌≡◌, ℕ, zero, suc, ◌+◌, ◌-◌, ◌<◌, ◌≤◌, List, [], ◌∷◌, ◌++◌, length, map, get_or, refl, sym, ap, ◌∙◌, arith, length-append, slice_index, length-map, map-append, get_or-map, get_or-append, Fact, Effect, Operator}
 use Rattle.sas_flat.specs.declared.operators.Head.{Head}
-use Rattle.sas_flat.specs.declared.operators.Columns.{Columns}
+use Rattle.sas_flat.specs.declared.operators.OperatorColumns.{OperatorColumns}
 use Rattle.sas_flat.specs.Effects.{effect_in_list}
 use Rattle.sas_flat.specs.Lists.{start_of, list_at, lists_of, AreEnds}
-use Rattle.sas_flat.specs.Operators.{operator, name_ends, prevail_ends, effect_ends, costs, operators_in, operator_in, end_head, OperatorColumnsAlign}
+use Rattle.sas_flat.specs.Operators.{operator, name_ends, prevail_ends, effect_ends, costs, operators_in, operator_in, end_head, OperatorColumnsAlign, OneMore}
 use Rattle.sas_flat.proofs.Tables.{length-table, table_more, get_or-table}
 use Rattle.sas_flat.proofs.Blocks.{list_of, lists_more, ends_more, list_length, item_of_list}
 use Rattle.sas_flat.proofs.Rows.{last_item}
@@ -16,7 +16,7 @@ start_is end heads (suc k) head some h at =
     let place : suc k - 1 ≡ k = omega arith in
     ap end (at ∙ ap (λ i. get_or heads i head) place) ∙ sym (get_or-map end heads k head 0 (omega arith))
 
-module _ (c : Columns) (os : List Operator) (is : operators_in c ≡ os) where
+module _ (c : OperatorColumns) (os : List Operator) (is : operators_in c ≡ os) where
   pub as_many : length c.heads.items ≡ length os
   as_many = sym (length-table (length c.heads.items) _) ∙ ap length is
 
@@ -96,25 +96,24 @@ same_operator : (n m : List ℕ) (p q : List Fact) (e f : List Effect) (c d : �
 same_operator n m p q e f c d names prevails effects costs =
     ap (λ x. operator x p e c) names ∙ ap (λ x. operator m x e c) prevails ∙ ap (λ x. operator m q x c) effects ∙ ap (λ x. operator m q f x) costs
 
-module _ (old new : Columns) (o : Operator) (aligned : OperatorColumnsAlign old) (names : new.names.items ≡ old.names.items ++ o.name) (prevail : new.prevail.items ≡ old.prevail.items ++ o.prevail)
-    (effects : new.effects ≡ old.effects ++ o.effects) (heads : new.heads.items ≡ old.heads.items ++ end_head new o.cost ∷ []) where
+module _ (old new : OperatorColumns) (o : Operator) (aligned : OperatorColumnsAlign old) (more : OneMore old new o) where
   name_grows : Grows (λ (h : Head). h.name) old.names.items new.names.items o.name old.heads.items new.heads.items
-  name_grows = grows _ _ _ _ _ _ (end_head new o.cost) aligned.names names heads refl
+  name_grows = grows _ _ _ _ _ _ (end_head new o.cost) aligned.names more.names more.heads refl
 
   prevail_grows : Grows (λ (h : Head). h.prevail) old.prevail.items new.prevail.items o.prevail old.heads.items new.heads.items
-  prevail_grows = grows _ _ _ _ _ _ (end_head new o.cost) aligned.prevail prevail heads refl
+  prevail_grows = grows _ _ _ _ _ _ (end_head new o.cost) aligned.prevail more.prevail more.heads refl
 
   effects_grow : Grows (λ (h : Head). h.effects) old.effects new.effects o.effects old.heads.items new.heads.items
-  effects_grow = grows _ _ _ _ _ _ (end_head new o.cost) aligned.effects effects heads refl
+  effects_grow = grows _ _ _ _ _ _ (end_head new o.cost) aligned.effects more.effects more.heads refl
 
   pub still_aligned : OperatorColumnsAlign new
   still_aligned = record { names = name_grows.ends; prevail = prevail_grows.ends; effects = effects_grow.ends }
 
   cost_at : costs new.heads.items ≡ costs old.heads.items ++ o.cost ∷ []
-  cost_at = ap costs heads ∙ map-append (λ (h : Head). h.cost) old.heads.items (end_head new o.cost ∷ [])
+  cost_at = ap costs more.heads ∙ map-append (λ (h : Head). h.cost) old.heads.items (end_head new o.cost ∷ [])
 
   pub one_more : operators_in new ≡ operators_in old ++ o ∷ []
-  one_more = table_more (length old.heads.items) (length new.heads.items) _ _ o (ap length heads ∙ length-append old.heads.items (end_head new o.cost ∷ []))
+  one_more = table_more (length old.heads.items) (length new.heads.items) _ _ o (ap length more.heads ∙ length-append old.heads.items (end_head new o.cost ∷ []))
       (λ k h. same_operator _ _ _ _ _ _ _ _ (name_grows.same k h) (prevail_grows.same k h) (effects_grow.same k h)
       (ap (λ l. slice_index l k) cost_at ∙ get_or-append (costs old.heads.items) (o.cost ∷ []) 0 k (omega (arith, h, length-map old.heads.items (λ (h : Head). h.cost)))))
       (same_operator _ _ _ _ _ _ _ _ name_grows.last prevail_grows.last effects_grow.last

@@ -1,13 +1,13 @@
 -- The variable at an index of the columns.
 use Rattle.sas_flat.proofs.Imports.{◌≡◌, ℕ, ◌+◌, ◌<◌, ◌≤◌, List, [], ◌∷◌, ◌++◌, length, get_or, sym, ap, ◌∙◌, arith, slice_index, slice_get, None, Some, option_map, slice_get-get_or, Variable, range_of, layer_of, value_name}
-use Rattle.sas_flat.specs.declared.variables.Columns.{Columns}
+use Rattle.sas_flat.specs.declared.variables.VariableColumns.{VariableColumns}
 use Rattle.sas_flat.specs.Lists.{start_of, list_at, lists_of}
 use Rattle.sas_flat.specs.Variables.{variables_in, variables_from, AreAligned, OneMore}
 use Rattle.sas_flat.proofs.Tables.{length-table, get_or-table}
 use Rattle.sas_flat.proofs.Blocks.{lists_more, list_length, item_of_list}
 use Rattle.sas_flat.proofs.Rows.{variable_count, name_is, range_is, layer_is, value_is, variables_more}
 
-module _ (c : Columns) (vs : List Variable) (is : variables_in c ≡ vs) where
+module _ (c : VariableColumns) (vs : List Variable) (is : variables_in c ≡ vs) where
   pub as_many : length c.ends ≡ length vs
   as_many = sym (length-table (length c.ends) (list_at c.values c.ends)) ∙ variable_count c.names c.layers.items (lists_of c.values c.ends) vs is
 
@@ -50,7 +50,7 @@ module _ (c : Columns) (vs : List Variable) (is : variables_in c ≡ vs) where
 
 -- ---- one more
 
-pub one_more : (old new : Columns) (v : Variable) → AreAligned old → OneMore old new v → variables_in new ≡ variables_in old ++ v ∷ []
+pub one_more : (old new : VariableColumns) (v : Variable) → AreAligned old → OneMore old new v → variables_in new ≡ variables_in old ++ v ∷ []
 one_more old new v aligned more =
     let many = length-table (length old.ends) (list_at old.values old.ends) in
     ap (λ l. variables_from l new.layers.items (lists_of new.values new.ends)) more.names

@@ -5,7 +5,7 @@ pub mod Kept
 mod Placing
 mod EffectRows
 mod Rows
-mod FoundOperators
-mod FoundVariables
-mod Grown
+pub mod FoundOperators
+pub mod FoundVariables
+pub mod Grown
 mod Imports

@@ -111,15 +111,6 @@ impl Effects {
         Ok(())
     }
 
-    /// Appends effects without conditions that make these changes. On `Err` (out of memory) the effects are unchanged.
-    pub(crate) fn append_plain(&mut self, changes: &[Change]) -> Result<(), AllocError>
-        ensures ok { OnOk result (self.new ≡ self.old ++ plain_effects changes.now) }
-        ensures err { OnErr result (self.new ≡ self.old) }
-    {
-        self.changes.extend_from_slice(changes)?;
-        Ok(())
-    }
-
     /// Appends all effects of `more`. On `Err` (out of memory) the effects are unchanged.
     pub(crate) fn append(&mut self, more: &Effects) -> Result<(), AllocError>
         ensures ok { OnOk result (self.new ≡ self.old ++ more.now) }

@@ -1,12 +1,13 @@
 // Operators in a few blocks of memory.
-ghost use Rattle.std.specs.Prelude.{◌≡◌, ◌<◌, ◌≤◌, [], ◌∷◌, ◌++◌, length, take, IfSome, OnOk, OnErr};
+ghost use Rattle.std.specs.Prelude.{◌≡◌, ◌<◌, ◌≤◌, [], ◌∷◌, ◌++◌, length, IfSome, OnOk, OnErr};
 ghost use Rattle.sas_core.specs.Grounded as grounded;
 ghost use Rattle.sas_core.specs.Changes as changes;
 ghost use Rattle.sas_core.specs.Changes.{plain_effects};
 ghost use Rattle.sas_flat.specs.Effects.{effect_in_list};
 ghost use Rattle.sas_flat.specs.Growing.{Kept};
 ghost use Rattle.sas_flat.specs.Lists.{start_of};
-ghost use Rattle.sas_flat.specs.Operators.{operator, operator_in, name_ends, prevail_ends, effect_ends, end_head};
+ghost use Rattle.sas_flat.specs.Operators.{operator, operators_in, operator_in, name_ends, prevail_ends, effect_ends, end_head, last_end};
+ghost use Rattle.sas_flat.specs.Operators.{OperatorColumnsAlign, OneMore, IsBegun, IsCut};
 
 use crate::effects::Effects;
 use sas_core::{Change, Fact};
@@ -24,17 +25,18 @@ struct Head {
 }
 
 /// The columns of operators: the names, prevail conditions and effects of all operators, one after another, and the head of each operator.
+/// The prevail conditions and effects of the next operator are appended as they are read; then `push` completes it, or `cut` removes them.
 #[derive(Debug)]
-pub struct Columns {
+pub struct OperatorColumns {
     names: Vec<u8>,
-    prevail: Vec<Fact>,
-    effects: Effects,
+    pub prevail: Vec<Fact>,
+    pub effects: Effects,
     heads: Vec<Head>,
 }
 
-impl Drop for Columns {
+impl Drop for OperatorColumns {
     fn drop(self) {
-        let Columns {
+        let OperatorColumns {
             names,
             prevail,
             effects,
@@ -50,7 +52,7 @@ impl Drop for Columns {
 /// A list of operators. In a contract its value is that list.
 #[derive(Debug, Drop)]
 pub struct Operators {
-    columns: Columns,
+    columns: OperatorColumns,
 }
 
 impl Model for Operators {
@@ -65,7 +67,20 @@ impl Model for Operators {
     ghost invariant = { λ o. OperatorColumnsAlign o.columns };
 }
 
-impl Columns {
+impl OperatorColumns {
+    /// Returns the columns of no operators. Allocates no memory.
+    pub fn new(alloc: Global) -> Self
+        ensures aligned { OperatorColumnsAlign result }
+        ensures none { operators_in result ≡ [] }
+    {
+        OperatorColumns {
+            names: Vec::new(alloc),
+            prevail: Vec::new(alloc),
+            effects: Effects::new(alloc),
+            heads: Vec::new(alloc),
+        }
+    }
+
     /// Returns the head of the previous operator, whose ends are the starts of this operator. For the first operator all its numbers are 0.
     #[inline(always)]
     fn before(&self, operator: usize) -> Head
@@ -99,65 +114,26 @@ impl Columns {
         }
     }
 
-    /// Appends the name, the prevail conditions and the head of an operator. Its effects must already be appended. On `Err` (out of memory)
-    /// its name and its prevail conditions may have been appended, but no head.
+    /// Appends the name and the head of an operator. Its prevail conditions and effects must already be appended. On `Err` (out of memory)
+    /// its name may have been appended, but no head.
     #[inline(always)]
-    fn push(&mut self, name: &[u8], prevail: &[Fact], cost: u32) -> Result<(), AllocError>
+    pub fn push(&mut self, name: &[u8], cost: u32) -> Result<(), AllocError>
         ensures names { Kept self.old.names.items self.new.names.items }
-        ensures prevail { Kept self.old.prevail.items self.new.prevail.items }
+        ensures prevail { self.new.prevail.items ≡ self.old.prevail.items }
         ensures effects { self.new.effects ≡ self.old.effects }
         ensures name_ok { OnOk result (self.new.names.items ≡ self.old.names.items ++ name.now) }
-        ensures prevail_ok { OnOk result
-            (self.new.prevail.items ≡ self.old.prevail.items ++ prevail.now) }
         ensures head_ok { OnOk result
             (self.new.heads.items ≡ self.old.heads.items ++ end_head self.new cost ∷ []) }
         ensures head_err { OnErr result (self.new.heads.items ≡ self.old.heads.items) }
     {
         self.names.extend_from_slice(name)?;
-        self.prevail.extend_from_slice(prevail)?;
         let head = self.end(cost);
         self.heads.push(head)?;
         Ok(())
     }
 
-    /// Shortens the columns of items to the ends in `end`.
-    fn truncate(&mut self, end: Head)
-        requires { end.effects ≤ length self.old.effects }
-        ensures names { self.new.names.items ≡ take end.name self.old.names.items }
-        ensures prevail { self.new.prevail.items ≡ take end.prevail self.old.prevail.items }
-        ensures effects { self.new.effects ≡ take end.effects self.old.effects }
-        ensures heads { self.new.heads.items ≡ self.old.heads.items }
-    {
-        self.names.truncate(end.name);
-        self.prevail.truncate(end.prevail);
-        self.effects.truncate(end.effects);
-    }
-}
-
-impl Operators {
-    /// Returns an empty list of operators. Allocates no memory.
-    pub fn new(alloc: Global) -> Self
-        ensures { result ≡ [] }
-    {
-        Operators {
-            columns: Columns {
-                names: Vec::new(alloc),
-                prevail: Vec::new(alloc),
-                effects: Effects::new(alloc),
-                heads: Vec::new(alloc),
-            },
-        }
-    }
-
-    /// Returns the number of operators.
-    pub fn len(&self) -> usize
-        ensures { result ≡ length self.now }
-    {
-        self.columns.heads.len()
-    }
-
-    /// Appends an operator. On `Err` (out of memory) the operators are unchanged.
-    pub fn push(
+    /// Appends an operator. On `Err` (out of memory) parts of it may have been appended, but no head.
+    pub fn append(
         &mut self,
         name: &[u8],
         prevail: &[Fact],
@@ -165,41 +141,41 @@ impl Operators {
         cost: u32,
     ) -> Result<(), AllocError>
         ensures ok { OnOk result
-            (self.new ≡ self.old ++ operator name.now prevail.now effects.now cost ∷ []) }
-        ensures err { OnErr result (self.new ≡ self.old) }
+            (OneMore self.old self.new (operator name.now prevail.now effects.now cost)) }
+        ensures err { OnErr result (IsBegun self.old self.new) }
     {
-        let end = self.columns.end(cost);
-        self.columns.effects.append(effects)?;
-        match self.columns.push(name, prevail, cost) {
-            Ok(()) => Ok(()),
-            Err(error) => {
-                self.columns.truncate(end);
-                Err(error)
-            }
-        }
+        self.prevail.extend_from_slice(prevail)?;
+        self.effects.append(effects)?;
+        self.push(name, cost)?;
+        Ok(())
     }
 
-    /// Appends an operator whose effects make these changes and have no conditions. On `Err` (out of memory) the operators are unchanged.
-    pub fn push_plain(
-        &mut self,
-        name: &[u8],
-        prevail: &[Fact],
-        changes: &[Change],
-        cost: u32,
-    ) -> Result<(), AllocError>
-        ensures ok { OnOk result (self.new
-            ≡ self.old ++ operator name.now prevail.now (plain_effects changes.now) cost ∷ []) }
-        ensures err { OnErr result (self.new ≡ self.old) }
+    /// Removes what was appended after the last operator.
+    pub fn cut(&mut self)
+        requires { last_end (λ head. head.effects) self.old ≤ length self.old.effects }
+        ensures { IsCut self.old self.new }
     {
-        let end = self.columns.end(cost);
-        self.columns.effects.append_plain(changes)?;
-        match self.columns.push(name, prevail, cost) {
-            Ok(()) => Ok(()),
-            Err(error) => {
-                self.columns.truncate(end);
-                Err(error)
-            }
-        }
+        let end = self.before(self.heads.len());
+        self.names.truncate(end.name);
+        self.prevail.truncate(end.prevail);
+        self.effects.truncate(end.effects);
+    }
+}
+
+impl Operators {
+    /// Returns the operators in these columns. Allocates no memory.
+    pub fn of_columns(columns: OperatorColumns) -> Self
+        requires { OperatorColumnsAlign columns }
+        ensures { result ≡ operators_in columns }
+    {
+        Operators { columns }
+    }
+
+    /// Returns the number of operators.
+    pub fn len(&self) -> usize
+        ensures { result ≡ length self.now }
+    {
+        self.columns.heads.len()
     }
 
     /// Returns the name of the operator.

@@ -1,10 +1,10 @@
 // Variables in a few blocks of memory.
-ghost use Rattle.std.specs.Prelude.{◌≡◌, ◌<◌, ◌≤◌, [], ◌∷◌, ◌++◌, length, take, slice_get, option_map, OnOk, OnErr};
+ghost use Rattle.std.specs.Prelude.{◌≡◌, ◌<◌, ◌≤◌, [], ◌∷◌, ◌++◌, length, slice_get, option_map, OnOk, OnErr};
 ghost use Rattle.sas_core.specs.declared.parts.Variable.{Variable};
 ghost use Rattle.sas_core.specs.Variables as spec;
 ghost use Rattle.sas_flat.specs.Growing.{Kept};
-ghost use Rattle.sas_flat.specs.Lists.{AreEnds};
-ghost use Rattle.sas_flat.specs.Variables.{variable, OneMore};
+ghost use Rattle.sas_flat.specs.Lists.{start_of, AreEnds};
+ghost use Rattle.sas_flat.specs.Variables.{variable, variables_in, AreAligned, OneMore, IsBegun, IsCut};
 
 use crate::ends::Ends;
 use crate::lists::Lists;
@@ -12,18 +12,18 @@ use std::alloc::{AllocError, Global};
 use std::marker::Model;
 
 /// The columns of variables. The value names of all variables are stored one after another; `ends` contains the end of each variable's
-/// names.
+/// names. The value names of the next variable are appended as they are read; then `push` completes it, or `cut` removes them.
 #[derive(Debug)]
-pub struct Columns {
+pub struct VariableColumns {
     names: Lists<u8>,
     layers: Vec<Option<u32>>,
-    values: Lists<u8>,
+    pub values: Lists<u8>,
     ends: Ends,
 }
 
-impl Drop for Columns {
+impl Drop for VariableColumns {
     fn drop(self) {
-        let Columns {
+        let VariableColumns {
             names,
             layers,
             values,
@@ -39,7 +39,7 @@ impl Drop for Columns {
 /// A list of variables. In a contract its value is that list.
 #[derive(Debug, Drop)]
 pub struct Variables {
-    columns: Columns,
+    columns: VariableColumns,
 }
 
 impl Model for Variables {
@@ -54,57 +54,77 @@ impl Model for Variables {
     ghost invariant = { λ v. AreAligned v.columns };
 }
 
-impl Columns {
-    /// Appends a variable to each column. On `Err` (out of memory) some columns may contain it.
+impl VariableColumns {
+    /// Returns the columns of no variables. Allocates no memory.
+    pub fn new(alloc: Global) -> Self
+        ensures aligned { AreAligned result }
+        ensures none { variables_in result ≡ [] }
+    {
+        VariableColumns {
+            names: Lists::new(alloc),
+            layers: Vec::new(alloc),
+            values: Lists::new(alloc),
+            ends: Ends::new(alloc),
+        }
+    }
+
+    /// Completes a variable whose value names are already appended. On `Err` (out of memory) its name and layer may have been appended, but
+    /// no end.
     #[inline(always)]
-    fn push(
+    pub fn push(&mut self, name: &[u8], layer: Option<u32>) -> Result<(), AllocError>
+        requires { start_of self.old.ends (length self.old.ends) ≤ length self.old.values }
+        ensures names { Kept self.old.names self.new.names }
+        ensures layers { Kept self.old.layers.items self.new.layers.items }
+        ensures values { self.new.values ≡ self.old.values }
+        ensures name_ok { OnOk result (self.new.names ≡ self.old.names ++ name.now ∷ []) }
+        ensures layer_ok { OnOk result
+            (self.new.layers.items ≡ self.old.layers.items ++ layer ∷ []) }
+        ensures end_ok { OnOk result
+            (self.new.ends ≡ self.old.ends ++ length self.old.values ∷ []) }
+        ensures end_err { OnErr result (self.new.ends ≡ self.old.ends) }
+    {
+        self.names.push(name)?;
+        self.layers.push(layer)?;
+        self.ends.push(self.values.len())?;
+        Ok(())
+    }
+
+    /// Appends a variable whose values have these names. On `Err` (out of memory) parts of it may have been appended, but no end.
+    pub fn append(
         &mut self,
         name: &[u8],
         layer: Option<u32>,
         values: &Lists<u8>,
     ) -> Result<(), AllocError>
         requires { AreEnds self.old.ends (length self.old.values) }
-        ensures names { Kept self.old.names self.new.names }
-        ensures layers { Kept self.old.layers.items self.new.layers.items }
-        ensures values { Kept self.old.values self.new.values }
-        ensures ends { Kept self.old.ends self.new.ends }
         ensures ok { OnOk result (OneMore self.old self.new (variable name.now layer values.now)) }
+        ensures err { OnErr result (IsBegun self.old self.new) }
     {
-        self.names.push(name)?;
-        self.layers.push(layer)?;
         self.values.append(values)?;
-        self.ends.push(self.values.len())
+        self.push(name, layer)?;
+        Ok(())
     }
 
-    /// Keeps the first `variables` variables, which have `values` values in total.
-    fn truncate(&mut self, variables: usize, values: usize)
-        requires names { variables ≤ length self.old.names }
-        requires values { values ≤ length self.old.values }
-        ensures names { self.new.names ≡ take variables self.old.names }
-        ensures layers { self.new.layers.items ≡ take variables self.old.layers.items }
-        ensures values { self.new.values ≡ take values self.old.values }
-        ensures ends { self.new.ends ≡ take variables self.old.ends }
+    /// Removes what was appended after the last variable.
+    pub fn cut(&mut self)
+        requires names { length self.old.ends ≤ length self.old.names }
+        requires values { start_of self.old.ends (length self.old.ends) ≤ length self.old.values }
+        ensures { IsCut self.old self.new }
     {
+        let variables = self.ends.len();
         self.names.truncate(variables);
         self.layers.truncate(variables);
-        self.values.truncate(values);
-        self.ends.truncate(variables);
+        self.values.truncate(self.ends.start(variables));
     }
 }
 
 impl Variables {
-    /// Returns an empty list of variables. Allocates no memory.
-    pub fn new(alloc: Global) -> Self
-        ensures { result ≡ [] }
+    /// Returns the variables in these columns. Allocates no memory.
+    pub fn of_columns(columns: VariableColumns) -> Self
+        requires { AreAligned columns }
+        ensures { result ≡ variables_in columns }
     {
-        Variables {
-            columns: Columns {
-                names: Lists::new(alloc),
-                layers: Vec::new(alloc),
-                values: Lists::new(alloc),
-                ends: Ends::new(alloc),
-            },
-        }
+        Variables { columns }
     }
 
     /// Returns the number of variables.
@@ -112,28 +132,6 @@ impl Variables {
         ensures { result ≡ length self.now }
     {
         self.columns.ends.len()
-    }
-
-    /// Appends a variable whose values have these names. On `Err` (out of memory) the variables are unchanged.
-    #[inline(always)]
-    pub fn push(
-        &mut self,
-        name: &[u8],
-        layer: Option<u32>,
-        values: &Lists<u8>,
-    ) -> Result<(), AllocError>
-        ensures ok { OnOk result (self.new ≡ self.old ++ variable name.now layer values.now ∷ []) }
-        ensures err { OnErr result (self.new ≡ self.old) }
-    {
-        let variables = self.columns.ends.len();
-        let all_values = self.columns.values.len();
-        match self.columns.push(name, layer, values) {
-            Ok(()) => Ok(()),
-            Err(error) => {
-                self.columns.truncate(variables, all_values);
-                Err(error)
-            }
-        }
     }
 
     /// Returns the number of values of the variable.

@@ -1,6 +1,6 @@
 -- What the proofs use of other crates.
 pub use Rattle.std.proofs.Common.{◌≡◌, ℕ, zero, suc, ◌+◌, ◌*◌, ◌-◌, ◌<◌, ◌≤◌, ◌^◌, List, [], ◌∷◌, ◌++◌, length, take, drop, refl, sym, ap, subst, ◌∙◌}
-pub use Rattle.std.proofs.Common.{append_assoc, length-append, arith, Option, None, get_or, true, false, Bool, not, ◌&&◌, ◌==◌, IsTrue, ◌/◌, ◌%◌, map}
+pub use Rattle.std.proofs.Common.{append-nil, append_assoc, length-append, arith, Option, None, get_or, true, false, Bool, not, ◌&&◌, ◌==◌, IsTrue, ◌/◌, ◌%◌, map}
 pub use Rattle.std.proofs.Common.{codes, ◌≢◌, Some, if◌then◌else◌, slice_get, rules, ap₂}
 pub use Rattle.std.proofs.lemmas.Bool.{ne_eqb, and_parts, eqb-true}
 pub use Rattle.std.proofs.lemmas.Bool.Decides.{nat_tests, Decides-eqb}

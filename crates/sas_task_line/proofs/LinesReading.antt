@@ -1,11 +1,13 @@
 -- Reading several lines, each up to its LF.
-use Rattle.sas_task_line.proofs.Imports.{◌≡◌, ℕ, ◌+◌, ◌-◌, ◌<◌, Bool, ◌&&◌, List, [], ◌∷◌, ◌++◌, length, map, take, Option, refl, sym, ap, subst, ◌∙◌, append_assoc, length-append, arith, IsTrue, codes, flat_map, list_all, AllByRecursion, and_parts, flat_map-append, map-append, take_at, length-map, list_all-append, Fact, is_name, IsName, Change, text, LinesStandFirst, lines_stand_first, Plain}
-use Rattle.sas_task_line.proofs.Imports.{Front, plain, IsPlain, TaskLine, word, name, number, signed, fact, effect, head, line, task_line_bytes, TaskLineFits, variable_lines, group_lines, operator_lines, rule_lines, plain_effect}
+use Rattle.sas_task_line.proofs.Imports.{◌≡◌, ℕ, ◌+◌, ◌-◌, ◌<◌, Bool, ◌&&◌, List, [], ◌∷◌, ◌++◌, length, take, Option, refl, sym, ap, subst, ◌∙◌, append-nil, append_assoc, length-append, arith, IsTrue, codes, flat_map, list_all, AllByRecursion, and_parts, flat_map-append, map-append, take_at, length-map, list_all-append, Fact, is_name, IsName, Change, Effect, text, LinesStandFirst, lines_stand_first, Plain}
+use Rattle.sas_task_line.proofs.Imports.{Front, plain, IsPlain, TaskLine, word, name, number, signed, fact, effect, head, line, task_line_bytes, TaskLineFits, variable_lines, group_lines, operator_lines, rule_lines}
+use Rattle.sas_flat.specs.Operators as flat
+use Rattle.sas_flat.specs.Variables as flat_variables
 use Rattle.sas_task_line.specs.declared.sections.Gathered.{Gathered}
 use Rattle.sas_task_line.specs.Ahead.{LineAhead, NumberAhead}
-use Rattle.sas_task_line.specs.LinesBefore.{LinesBefore, CountedBefore, NamesBefore, FactsBefore, ChangesBefore}
-use Rattle.sas_task_line.specs.Sections.{spelled, LinesAhead, VariableAhead, GroupAhead, OperatorAhead, RuleAhead, gathered_variable, gathered_operator, gathered_rule}
-use Rattle.sas_task_line.specs.TaskRanges.{effect_in_ranges, change_in_ranges}
+use Rattle.sas_task_line.specs.LinesBefore.{LinesBefore, CountedBefore, AppendedBefore}
+use Rattle.sas_task_line.specs.Sections.{spelled, LinesAhead, VariableAhead, GroupAhead, OperatorAhead, RuleAhead, gathered_rule}
+use Rattle.sas_task_line.specs.TaskRanges.{fact_in_ranges, effect_in_ranges, change_in_ranges}
 use Rattle.sas_task_line.proofs.AheadReading.{number_is_ahead}
 
 -- ---- some lines, then more
@@ -54,8 +56,17 @@ module _ {A : Type 0} (says : A → TaskLine) (may_stand : A → Bool) where
         stand = list_all-append may_stand xs (x ∷ []) ∙ both_true (list_all may_stand xs) (list_all may_stand (x ∷ [])) h.stand (both_true (may_stand x) _ may refl);
       }
 
-pub one_change_more : (ranges : List ℕ) {count : ℕ} (changes : List Change) (c : Change) {bytes more rest : List ℕ} → ChangesBefore ranges count changes bytes more → LineAhead (effect (plain_effect c)) more rest → IsTrue (change_in_ranges ranges c.var c.old c.new) → ChangesBefore ranges count (changes ++ c ∷ []) bytes rest
-one_change_more ranges changes c h g exist = rw (map-append plain_effect changes (c ∷ [])) (one_more effect (effect_in_ranges ranges) (map plain_effect changes) (plain_effect c) h g exist)
+  -- the same, where the items are appended to a list
+  pub none_appended : (count : ℕ) (old : List A) {bytes rest : List ℕ} → NumberAhead bytes count 10 rest → AppendedBefore says may_stand count 0 old old bytes rest
+  none_appended count old h = record { items = []; are = sym (append-nil old); many = refl; lines = none_yet count h }
+
+  -- all were appended
+  pub all_appended : {count : ℕ} {old new : List A} {bytes rest : List ℕ} (h : AppendedBefore says may_stand count count old new bytes rest) → CountedBefore says may_stand (length h.items) h.items bytes rest
+  all_appended h = rw h.many h.lines
+
+  -- all were appended to an empty list
+  pub appended_alone : {count : ℕ} (old new : List A) {bytes rest : List ℕ} → old ≡ [] → AppendedBefore says may_stand count count old new bytes rest → CountedBefore says may_stand (length new) new bytes rest
+  appended_alone old new none h = rw (h.are ∙ ap (λ l. l ++ h.items) none) (all_appended h)
 
 -- ---- from the first byte on
 
@@ -90,16 +101,16 @@ all_named (w ∷ names) h =
 abbrev first_lines : List ℕ → Option ℕ → List TaskLine
 first_lines label layer = word (codes "begin_variable") ∷ name label ∷ signed layer ∷ []
 
-pub variable_is_ahead : (label : List ℕ) (layer : Option ℕ) (g : Gathered) (front : Front) {bytes names_on end_on rest : List ℕ} → IsName label × LinesBefore (first_lines label layer) bytes names_on → 0 < length g.values × NamesBefore (length g.values) g.values names_on end_on → LineAhead (word (codes "end_variable")) end_on rest → front.bytes ≡ length bytes - length rest → front.lines ≡ 5 + length g.values → VariableAhead bytes (gathered_variable label layer g) front
-variable_is_ahead label layer g front {bytes = bytes} {rest = rest} begins names ends taken many =
-    let name_lines : List TaskLine = number (length g.values) ∷ flat_map (line name) g.values in
+pub variable_is_ahead : (label : List ℕ) (layer : Option ℕ) (values : List (List ℕ)) (front : Front) {bytes names_on end_on rest : List ℕ} → IsName label × LinesBefore (first_lines label layer) bytes names_on → 0 < length values → CountedBefore name is_name (length values) values names_on end_on → LineAhead (word (codes "end_variable")) end_on rest → front.bytes ≡ length bytes - length rest → front.lines ≡ 5 + length values → VariableAhead bytes (flat_variables.variable label layer values) front
+variable_is_ahead label layer values front {bytes = bytes} {rest = rest} begins some names ends taken many =
+    let name_lines : List TaskLine = number (length values) ∷ flat_map (line name) values in
     let last : List TaskLine = word (codes "end_variable") ∷ [] in
-    let items = variable_lines (gathered_variable label layer g) in
-    let all : LinesBefore items bytes rest = lines_then (lines_then begins.1 names.1.lines) (one_line ends) in
-    let long : length items ≡ 5 + length g.values = omega (arith, length-append (flat_map (line name) g.values) last, one_each name g.values) in
-    (record { name = begins.0; values = all_named g.values names.1.stand; some = names.0 }, lines_are_ahead items bytes rest front all taken (many ∙ sym long))
+    let items = variable_lines (flat_variables.variable label layer values) in
+    let all : LinesBefore items bytes rest = lines_then (lines_then begins.1 names.lines) (one_line ends) in
+    let long : length items ≡ 5 + length values = omega (arith, length-append (flat_map (line name) values) last, one_each name values) in
+    (record { name = begins.0; values = all_named values names.stand; some = some }, lines_are_ahead items bytes rest front all taken (many ∙ sym long))
 
-pub group_is_ahead : (ranges : List ℕ) (facts : List Fact) (front : Front) {bytes facts_on end_on rest : List ℕ} → LineAhead (word (codes "begin_mutex_group")) bytes facts_on → FactsBefore ranges (length facts) facts facts_on end_on → LineAhead (word (codes "end_mutex_group")) end_on rest → front.bytes ≡ length bytes - length rest → front.lines ≡ 3 + length facts → GroupAhead ranges bytes facts front
+pub group_is_ahead : (ranges : List ℕ) (facts : List Fact) (front : Front) {bytes facts_on end_on rest : List ℕ} → LineAhead (word (codes "begin_mutex_group")) bytes facts_on → CountedBefore fact (fact_in_ranges ranges) (length facts) facts facts_on end_on → LineAhead (word (codes "end_mutex_group")) end_on rest → front.bytes ≡ length bytes - length rest → front.lines ≡ 3 + length facts → GroupAhead ranges bytes facts front
 group_is_ahead ranges facts front {bytes = bytes} {rest = rest} begins before ends taken many =
     let last : List TaskLine = word (codes "end_mutex_group") ∷ [] in
     let items = group_lines facts in
@@ -115,27 +126,25 @@ begin_lines label = word (codes "begin_operator") ∷ name label ∷ []
 abbrev end_lines : ℕ → List TaskLine
 end_lines cost = number cost ∷ word (codes "end_operator") ∷ []
 
-pub operator_is_ahead : (ranges label : List ℕ) (cost : ℕ) (g : Gathered) (front : Front) {bytes facts_on changes_on end_on rest : List ℕ} → IsName label × LinesBefore (begin_lines label) bytes facts_on → FactsBefore ranges (length g.facts) g.facts facts_on changes_on → ChangesBefore ranges (length g.changes) g.changes changes_on end_on → LinesBefore (end_lines cost) end_on rest → front.bytes ≡ length bytes - length rest → front.lines ≡ 6 + length g.facts + length g.changes → OperatorAhead ranges bytes (gathered_operator label cost g) front
-operator_is_ahead ranges label cost g front {bytes = bytes} {changes_on = changes_on} {end_on = end_on} {rest = rest} begins facts changes ends taken many =
-    let effects = map plain_effect g.changes in
-    let as_many : length effects ≡ length g.changes = length-map g.changes plain_effect in
-    let fact_lines : List TaskLine = number (length g.facts) ∷ flat_map (line fact) g.facts in
-    let effect_lines : List TaskLine = number (length effects) ∷ flat_map (line effect) effects in
-    let counted_effects : LinesBefore effect_lines changes_on end_on = rw as_many changes.lines in
-    let items = operator_lines (gathered_operator label cost g) in
-    let all = lines_then (lines_then (lines_then begins.1 facts.lines) counted_effects) ends in
-    let same : begin_lines label ++ fact_lines ++ effect_lines ++ end_lines cost ≡ items = ap (λ l. word (codes "begin_operator") ∷ name label ∷ l) (sym (append_assoc (fact_lines ++ effect_lines) (number cost ∷ []) (word (codes "end_operator") ∷ []))) in
-    let long : length items ≡ 6 + length g.facts + length g.changes = omega (arith, ap length same, length-append (begin_lines label ++ fact_lines ++ effect_lines) (end_lines cost), length-append (begin_lines label ++ fact_lines) effect_lines, length-append (begin_lines label) fact_lines, one_each fact g.facts, one_each effect effects, as_many) in
-    (record { name = begins.0; prevail = facts.stand; effects = changes.stand }, lines_are_ahead items bytes rest front (subst (λ l. LinesBefore l bytes rest) same all) taken (many ∙ sym long))
+module _ (ranges label : List ℕ) (cost : ℕ) (prevail : List Fact) (effects : List Effect) (front : Front) {bytes facts_on effects_on end_on rest : List ℕ} where
+  pub operator_is_ahead : IsName label × LinesBefore (begin_lines label) bytes facts_on → CountedBefore fact (fact_in_ranges ranges) (length prevail) prevail facts_on effects_on → CountedBefore effect (effect_in_ranges ranges) (length effects) effects effects_on end_on → LinesBefore (end_lines cost) end_on rest → front.bytes ≡ length bytes - length rest → front.lines ≡ 6 + length prevail + length effects → OperatorAhead ranges bytes (flat.operator label prevail effects cost) front
+  operator_is_ahead begins facts changes ends taken many =
+      let fact_lines : List TaskLine = number (length prevail) ∷ flat_map (line fact) prevail in
+      let effect_lines : List TaskLine = number (length effects) ∷ flat_map (line effect) effects in
+      let items = operator_lines (flat.operator label prevail effects cost) in
+      let all = lines_then (lines_then (lines_then begins.1 facts.lines) changes.lines) ends in
+      let same : begin_lines label ++ fact_lines ++ effect_lines ++ end_lines cost ≡ items = ap (λ l. word (codes "begin_operator") ∷ name label ∷ l) (sym (append_assoc (fact_lines ++ effect_lines) (number cost ∷ []) (word (codes "end_operator") ∷ []))) in
+      let long : length items ≡ 6 + length prevail + length effects = omega (arith, ap length same, length-append (begin_lines label ++ fact_lines ++ effect_lines) (end_lines cost), length-append (begin_lines label ++ fact_lines) effect_lines, length-append (begin_lines label) fact_lines, one_each fact prevail, one_each effect effects) in
+      (record { name = begins.0; prevail = facts.stand; effects = changes.stand }, lines_are_ahead items bytes rest front (subst (λ l. LinesBefore l bytes rest) same all) taken (many ∙ sym long))
 
 abbrev last_lines : Change → List TaskLine
 last_lines c = head c.var c.old c.new ∷ word (codes "end_rule") ∷ []
 
-pub rule_is_ahead : (ranges : List ℕ) (c : Change) (g : Gathered) (front : Front) {bytes facts_on head_on rest : List ℕ} → LineAhead (word (codes "begin_rule")) bytes facts_on → FactsBefore ranges (length g.facts) g.facts facts_on head_on → IsTrue (change_in_ranges ranges c.var c.old c.new) × LinesBefore (last_lines c) head_on rest → front.bytes ≡ length bytes - length rest → front.lines ≡ 4 + length g.facts → RuleAhead ranges bytes (gathered_rule c g) front
+pub rule_is_ahead : (ranges : List ℕ) (c : Change) (g : Gathered) (front : Front) {bytes facts_on head_on rest : List ℕ} → LineAhead (word (codes "begin_rule")) bytes facts_on → CountedBefore fact (fact_in_ranges ranges) (length g.facts.items) g.facts.items facts_on head_on → IsTrue (change_in_ranges ranges c.var c.old c.new) × LinesBefore (last_lines c) head_on rest → front.bytes ≡ length bytes - length rest → front.lines ≡ 4 + length g.facts.items → RuleAhead ranges bytes (gathered_rule c g) front
 rule_is_ahead ranges c g front {bytes = bytes} {rest = rest} begins facts ends taken many =
-    let fact_lines : List TaskLine = number (length g.facts) ∷ flat_map (line fact) g.facts in
+    let fact_lines : List TaskLine = number (length g.facts.items) ∷ flat_map (line fact) g.facts.items in
     let items = rule_lines (gathered_rule c g) in
     let all = lines_then (lines_then (one_line begins) facts.lines) ends.1 in
     let same : word (codes "begin_rule") ∷ (fact_lines ++ last_lines c) ≡ items = ap (λ l. word (codes "begin_rule") ∷ l) (sym (append_assoc fact_lines (head c.var c.old c.new ∷ []) (word (codes "end_rule") ∷ []))) in
-    let long : length items ≡ 4 + length g.facts = omega (arith, ap length same, length-append fact_lines (last_lines c), one_each fact g.facts) in
+    let long : length items ≡ 4 + length g.facts.items = omega (arith, ap length same, length-append fact_lines (last_lines c), one_each fact g.facts.items) in
     (record { conditions = facts.stand; change = ends.0 }, lines_are_ahead items bytes rest front (subst (λ l. LinesBefore l bytes rest) same all) taken (many ∙ sym long))

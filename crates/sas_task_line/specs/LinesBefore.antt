@@ -1,13 +1,12 @@
 -- Lines at the beginning of some bytes, before the rest.
-use Rattle.std.specs.Prelude.{◌≡◌, Bool, ℕ, List, ◌∷◌, ◌++◌, IsTrue, map}
+use Rattle.std.specs.Prelude.{◌≡◌, Bool, ℕ, List, ◌∷◌, ◌++◌, length, IsTrue}
 use Rattle.std.specs.List.{flat_map, list_all, AllByRecursion}
 use Rattle.sas_core.specs.declared.parts.Fact.{Fact}
 use Rattle.sas_core.specs.Names.{is_name}
-use Rattle.sas_core.specs.declared.grounded.Change.{Change}
+use Rattle.sas_core.specs.declared.parts.Effect.{Effect}
 use Rattle.sas_lines.specs.Lines.{text}
 use Rattle.sas_reader.specs.System.{IsPlain}
 use Rattle.sas_task_format.specs.TaskFormat.{TaskLine, name, number, fact, effect, line, TaskLineFits}
-use Rattle.sas_core.specs.Changes.{plain_effect}
 use Rattle.sas_task_line.specs.Sections.{spelled}
 use Rattle.sas_task_line.specs.TaskRanges.{fact_in_ranges, effect_in_ranges}
 
@@ -24,17 +23,23 @@ pub record CountedBefore {A : Type 0} (says : A → TaskLine) (may_stand : A →
   pub lines : LinesBefore (number count ∷ flat_map (line says) each) bytes rest
   pub stand : IsTrue (list_all may_stand each)
 
--- the bytes are this number, these names, and then the rest
-abbrev pub NamesBefore : ℕ → List (List ℕ) → List ℕ → List ℕ → Type 0
-NamesBefore count names bytes rest = CountedBefore name is_name count names bytes rest
+-- items were appended to a list, as many as `done`: the bytes are this number, a line for each of
+-- these items, which are all allowed, and then the rest
+pub record AppendedBefore {A : Type 0} (says : A → TaskLine) (may_stand : A → Bool)
+    (count done : ℕ) (old new : List A) (bytes rest : List ℕ) : Type 0 where
+  pub items : List A
+  pub are : new ≡ old ++ items
+  pub many : length items ≡ done
+  pub lines : CountedBefore says may_stand count items bytes rest
 
--- the bytes are this number, the lines of these facts, which all exist, and then the rest
-abbrev pub FactsBefore : List ℕ → ℕ → List Fact → List ℕ → List ℕ → Type 0
-FactsBefore ranges count facts bytes rest =
-    CountedBefore fact (fact_in_ranges ranges) count facts bytes rest
+-- names were appended to a list
+abbrev pub NamesBefore : ℕ → ℕ → List (List ℕ) → List (List ℕ) → List ℕ → List ℕ → Type 0
+NamesBefore = AppendedBefore name is_name
 
--- the bytes are this number, the lines of effects without conditions that make these changes, whose
--- facts all exist, and then the rest
-abbrev pub ChangesBefore : List ℕ → ℕ → List Change → List ℕ → List ℕ → Type 0
-ChangesBefore ranges count changes bytes rest =
-    CountedBefore effect (effect_in_ranges ranges) count (map plain_effect changes) bytes rest
+-- facts that all exist were appended to a list
+abbrev pub FactsBefore : List ℕ → ℕ → ℕ → List Fact → List Fact → List ℕ → List ℕ → Type 0
+FactsBefore ranges = AppendedBefore fact (fact_in_ranges ranges)
+
+-- effects whose facts all exist were appended to a list
+abbrev pub EffectsBefore : List ℕ → ℕ → ℕ → List Effect → List Effect → List ℕ → List ℕ → Type 0
+EffectsBefore ranges = AppendedBefore effect (effect_in_ranges ranges)

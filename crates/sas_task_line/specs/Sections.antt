@@ -1,5 +1,5 @@
 -- Whole sections at the beginning of some bytes: a variable, a mutex group, an operator, a rule.
-use Rattle.std.specs.Prelude.{◌≡◌, ◌<◌, ℕ, List, length, map, take, Option, IsTrue}
+use Rattle.std.specs.Prelude.{◌≡◌, ◌<◌, ℕ, List, length, map, take, IsTrue}
 use Rattle.std.specs.List.{AllByRecursion, list_all}
 use Rattle.sas_core.specs.declared.parts.Fact.{Fact}
 use Rattle.sas_core.specs.declared.parts.Variable.{Variable}
@@ -12,7 +12,6 @@ use Rattle.sas_reader.specs.declared.reader.Front.{Front}
 use Rattle.sas_reader.specs.Machine.{IsFront}
 use Rattle.sas_task_format.specs.TaskFormat.{TaskLine, task_line_bytes, TaskLineFits, variable_lines, group_lines, operator_lines, rule_lines}
 use Rattle.sas_task_line.specs.declared.sections.Gathered.{Gathered}
-use Rattle.sas_core.specs.Changes.{plain_effect}
 use Rattle.sas_task_line.specs.TaskRanges.{fact_in_ranges, effect_in_ranges, change_in_ranges}
 
 -- the bytes of each line
@@ -61,16 +60,7 @@ OperatorAhead ranges bytes o front = OperatorInRanges ranges o
 abbrev pub RuleAhead : List ℕ → List ℕ → Rule → Front → Type 0
 RuleAhead ranges bytes r front = RuleInRanges ranges r × LinesAhead (rule_lines r) bytes front
 
--- the variable with this name and layer, and with the gathered values
-abbrev pub gathered_variable : List ℕ → Option ℕ → Gathered → Variable
-gathered_variable name layer g = record { name = name; layer = layer; values = g.values }
-
--- the operator with this name and cost, and with the gathered facts and changes
-abbrev pub gathered_operator : List ℕ → ℕ → Gathered → Operator
-gathered_operator name cost g =
-    record { name = name; prevail = g.facts; effects = map plain_effect g.changes; cost = cost }
-
 -- the rule with this head, and with the gathered facts
 abbrev pub gathered_rule : Change → Gathered → Rule
 gathered_rule head g =
-    record { conditions = g.facts; var = head.var; old = head.old; new = head.new }
+    record { conditions = g.facts.items; var = head.var; old = head.old; new = head.new }

@@ -1,18 +1,22 @@
 // Parses a whole operator or rule at the beginning of some bytes. Most of a large file consists of these. Everything else, and every fault,
 // is left to the code that reads line by line.
-ghost use Rattle.std.specs.Prelude.{[], ◌∷◌, length, codes, IsTrue, IfOk, IfSome};
+ghost use Rattle.std.specs.Prelude.{◌≡◌, List, [], ◌∷◌, ◌++◌, codes, IsTrue, IfOk, IfSome};
+ghost use Rattle.sas_core.specs.declared.parts.Fact.{Fact};
+ghost use Rattle.sas_core.specs.declared.parts.Effect.{Effect};
 ghost use Rattle.sas_core.specs.Names.{IsName};
+ghost use Rattle.sas_flat.specs.Growing.{Kept};
+ghost use Rattle.sas_flat.specs.Operators.{operator};
 ghost use Rattle.sas_task_format.specs.TaskFormat as format;
-ghost use Rattle.sas_task_line.specs.LinesBefore.{LinesBefore, FactsBefore, ChangesBefore};
+ghost use Rattle.sas_task_line.specs.LinesBefore.{LinesBefore, FactsBefore, EffectsBefore};
 ghost use Rattle.sas_task_line.specs.TaskRanges.{change_in_ranges};
-ghost use Rattle.sas_task_line.specs.Sections.{OperatorAhead, RuleAhead, gathered_operator, gathered_rule};
+ghost use Rattle.sas_task_line.specs.Sections.{OperatorAhead, RuleAhead, gathered_rule};
 
 use crate::ahead::{
     change_before, effect_before, fact_before, name_before, number_before, word_before,
 };
 use crate::task_line::{change_in, value_in};
 use sas_core::{Change, Fact, Items};
-use sas_flat::Lists;
+use sas_flat::{Effects, Lists};
 use sas_reader::Front;
 use std::alloc::{AllocError, Global};
 
@@ -26,9 +30,9 @@ pub struct Gathered {
     /// The names of a variable's values.
     pub values: Lists<u8>,
     /// The facts of a mutex group, the prevail conditions of an operator, or the conditions of a rule.
-    pub facts: Items<Fact>,
-    /// The changes of an operator's effects.
-    pub changes: Items<Change>,
+    pub facts: Vec<Fact>,
+    /// The effects of an operator.
+    pub effects: Effects,
 }
 
 impl Gathered {
@@ -36,13 +40,13 @@ impl Gathered {
     pub fn new(alloc: Global) -> Self {
         Gathered {
             values: Lists::new(alloc),
-            facts: Items::new(alloc),
-            changes: Items::new(alloc),
+            facts: Vec::new(alloc),
+            effects: Effects::new(alloc),
         }
     }
 }
 
-/// An operator at the beginning of some bytes: its name and cost, and its extent. Its prevail conditions and effects are in a `Gathered`.
+/// An operator at the beginning of some bytes: its name and cost, and its extent.
 #[derive(Drop)]
 pub struct OperatorFound<'a> {
     pub name: &'a [u8],
@@ -57,18 +61,18 @@ pub struct RuleFound {
     pub front: Front,
 }
 
-/// Reads a count and this many facts into `facts`, and returns the bytes after them. Returns `None` if a fact doesn't exist or the lines
-/// have another form.
+/// Reads a count and this many facts, and appends these to `facts`. Returns the count and the bytes after them. Returns `None` if a fact
+/// doesn't exist or the lines have another form. After `None` or `Err` some facts may have been appended.
 #[inline(always)]
 pub(crate) fn facts_before<'a>(
     ranges: &Items<u32>,
     bytes: &'a [u8],
-    facts: &mut Items<Fact>,
-) -> Result<Option<&'a [u8]>, AllocError>
-    ensures { IfOk result (λ found. IfSome found (λ rest.
-        FactsBefore ranges.now (length facts.new) facts.new bytes.now rest.now)) }
+    facts: &mut Vec<Fact>,
+) -> Result<Option<(u32, &'a [u8])>, AllocError>
+    ensures found { IfOk result (λ found. IfSome found (λ f.
+        FactsBefore ranges.now f.0 f.0 facts.old.items facts.new.items bytes.now f.1.now)) }
+    ensures kept { Kept facts.old.items facts.new.items }
 {
-    facts.clear();
     let Some((count, mut rest)) = number_before(bytes, b'\n') else {
         return Ok(None);
     };
@@ -85,21 +89,22 @@ pub(crate) fn facts_before<'a>(
         facts.push(fact)?;
         rest = more;
     }
-    Ok(Some(rest))
+    Ok(Some((count, rest)))
 }
 
-/// Reads a count and this many effects without conditions into `changes`, and returns the bytes after them. Returns `None` if a fact of an
-/// effect doesn't exist or the lines have another form. It isn't inlined, so that its loop has all registers.
+/// Reads a count and this many effects without conditions, and appends these to `effects`. Returns the count and the bytes after them.
+/// Returns `None` if a fact of an effect doesn't exist or the lines have another form. After `None` or `Err` some effects may have been
+/// appended. It isn't inlined, so that its loop has all registers.
 #[inline(never)]
-fn changes_before<'a>(
+fn effects_before<'a>(
     ranges: &Items<u32>,
     bytes: &'a [u8],
-    changes: &mut Items<Change>,
-) -> Result<Option<&'a [u8]>, AllocError>
-    ensures { IfOk result (λ found. IfSome found (λ rest.
-        ChangesBefore ranges.now (length changes.new) changes.new bytes.now rest.now)) }
+    effects: &mut Effects,
+) -> Result<Option<(u32, &'a [u8])>, AllocError>
+    ensures found { IfOk result (λ found. IfSome found (λ f.
+        EffectsBefore ranges.now f.0 f.0 effects.old effects.new bytes.now f.1.now)) }
+    ensures kept { Kept effects.old effects.new }
 {
-    changes.clear();
     let Some((count, mut rest)) = number_before(bytes, b'\n') else {
         return Ok(None);
     };
@@ -110,10 +115,10 @@ fn changes_before<'a>(
         if !change_in(ranges, change.var, change.old, change.new) {
             return Ok(None);
         }
-        changes.push(change)?;
+        effects.push(&[], change)?;
         rest = more;
     }
-    Ok(Some(rest))
+    Ok(Some((count, rest)))
 }
 
 /// Reads the cost and the last word of an operator. Returns the cost and the bytes after the word.
@@ -139,33 +144,36 @@ fn begin_before(bytes: &[u8]) -> Option<(&[u8], &[u8])>
     name_before(rest)
 }
 
-/// Reads a whole operator at the beginning of the bytes. Its prevail conditions and changes are stored in `gathered`. Returns `None` if a
-/// fact doesn't exist, an effect has conditions, or the lines have another form; then the operator has to be read line by line. Returns
-/// `Err` if out of memory. After `None` or `Err` the content of `gathered` is unspecified.
+/// Reads a whole operator at the beginning of the bytes, and appends its prevail conditions to `prevail` and its effects to `effects`.
+/// Returns `None` if a fact doesn't exist, an effect has conditions, or the lines have another form; then the operator has to be read line
+/// by line. Returns `Err` if out of memory. After `None` or `Err` some of them may have been appended.
 #[inline(always)]
 pub fn operator_found<'a>(
     ranges: &Items<u32>,
     bytes: &'a [u8],
-    gathered: &mut Gathered,
+    prevail: &mut Vec<Fact>,
+    effects: &mut Effects,
 ) -> Result<Option<OperatorFound<'a>>, AllocError>
-    ensures { IfOk result (λ found. IfSome found (λ o.
-        OperatorAhead ranges.now bytes.now
-        (gathered_operator o.name.now o.cost gathered.new) o.front)) }
+    ensures found { IfOk result (λ found. IfSome found (λ f. (p : List Fact) × (e : List Effect)
+        × (prevail.new.items ≡ prevail.old.items ++ p) × (effects.new ≡ effects.old ++ e)
+        × OperatorAhead ranges.now bytes.now (operator f.name.now p e f.cost) f.front)) }
+    ensures prevail { Kept prevail.old.items prevail.new.items }
+    ensures effects { Kept effects.old effects.new }
 {
     let Some((name, rest)) = begin_before(bytes) else {
         return Ok(None);
     };
-    let Some(rest) = facts_before(ranges, rest, &mut gathered.facts)? else {
+    let Some((facts, rest)) = facts_before(ranges, rest, prevail)? else {
         return Ok(None);
     };
-    let Some(rest) = changes_before(ranges, rest, &mut gathered.changes)? else {
+    let Some((changed, rest)) = effects_before(ranges, rest, effects)? else {
         return Ok(None);
     };
     let Some((cost, rest)) = end_before(rest) else {
         return Ok(None);
     };
     let front = Front {
-        lines: 6 + gathered.facts.len() as u64 + gathered.changes.len() as u64,
+        lines: 6 + facts as u64 + changed as u64,
         bytes: bytes.len() - rest.len(),
     };
     Ok(Some(OperatorFound { name, cost, front }))
@@ -202,7 +210,8 @@ pub fn rule_found(
     let Some(rest) = word_before(bytes, b"begin_rule") else {
         return Ok(None);
     };
-    let Some(rest) = facts_before(ranges, rest, &mut gathered.facts)? else {
+    gathered.facts.clear();
+    let Some((_, rest)) = facts_before(ranges, rest, &mut gathered.facts)? else {
         return Ok(None);
     };
     let Some((head, rest)) = head_before(ranges, rest) else {

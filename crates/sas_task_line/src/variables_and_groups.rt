@@ -1,9 +1,11 @@
 // Parses a whole variable or mutex group at the beginning of some bytes.
-ghost use Rattle.std.specs.Prelude.{◌<◌, [], ◌∷◌, length, codes, IfOk, IfSome};
+ghost use Rattle.std.specs.Prelude.{◌≡◌, ◌<◌, ℕ, List, [], ◌∷◌, ◌++◌, length, codes, IfOk, IfSome};
 ghost use Rattle.sas_core.specs.Names.{IsName};
+ghost use Rattle.sas_flat.specs.Growing.{Kept};
+ghost use Rattle.sas_flat.specs.Variables.{variable};
 ghost use Rattle.sas_task_format.specs.TaskFormat as format;
 ghost use Rattle.sas_task_line.specs.LinesBefore.{LinesBefore, NamesBefore};
-ghost use Rattle.sas_task_line.specs.Sections.{VariableAhead, GroupAhead, gathered_variable};
+ghost use Rattle.sas_task_line.specs.Sections.{VariableAhead, GroupAhead};
 
 use crate::ahead::{name_before, number_before, signed_before, word_before};
 use crate::sections::{Gathered, facts_before};
@@ -12,11 +14,12 @@ use sas_flat::Lists;
 use sas_reader::Front;
 use std::alloc::AllocError;
 
-/// A variable at the beginning of some bytes: its name, its layer and its extent. Its values are in a `Gathered`.
+/// A variable at the beginning of some bytes: its name, its layer, the number of its values, and its extent.
 #[derive(Drop)]
 pub struct VariableFound<'a> {
     pub name: &'a [u8],
     pub layer: Option<u32>,
+    pub range: u32,
     pub front: Front,
 }
 
@@ -33,14 +36,17 @@ fn begin_before(bytes: &[u8]) -> Option<(&[u8], Option<u32>, &[u8])>
     Some((name, layer, rest))
 }
 
-/// Reads a positive count and this many names into `names`, and returns the bytes after them. Returns `None` if the lines have another
-/// form.
+/// Reads a positive count and this many names, and appends these to `names`. Returns the count and the bytes after them. Returns `None` if
+/// the lines have another form. After `None` or `Err` some names may have been appended.
 #[inline(always)]
-fn names_before<'a>(bytes: &'a [u8], names: &mut Lists<u8>) -> Result<Option<&'a [u8]>, AllocError>
-    ensures { IfOk result (λ found. IfSome found (λ rest. 0 < length names.new
-        × NamesBefore (length names.new) names.new bytes.now rest.now)) }
+fn names_before<'a>(
+    bytes: &'a [u8],
+    names: &mut Lists<u8>,
+) -> Result<Option<(u32, &'a [u8])>, AllocError>
+    ensures found { IfOk result (λ found. IfSome found (λ f. 0 < f.0
+        × NamesBefore f.0 f.0 names.old names.new bytes.now f.1.now)) }
+    ensures kept { Kept names.old names.new }
 {
-    names.clear();
     let Some((count, mut rest)) = number_before(bytes, b'\n') else {
         return Ok(None);
     };
@@ -54,34 +60,41 @@ fn names_before<'a>(bytes: &'a [u8], names: &mut Lists<u8>) -> Result<Option<&'a
         names.push(name)?;
         rest = more;
     }
-    Ok(Some(rest))
+    Ok(Some((count, rest)))
 }
 
-/// Reads a whole variable at the beginning of the bytes. Its values are stored in `gathered`. Returns `None` if the lines have another
-/// form; then the variable has to be read line by line. Returns `Err` if out of memory. After `None` or `Err` the content of `gathered` is
-/// unspecified.
+/// Reads a whole variable at the beginning of the bytes, and appends the names of its values to `names`. Returns `None` if the lines have
+/// another form; then the variable has to be read line by line. Returns `Err` if out of memory. After `None` or `Err` some names may have
+/// been appended.
 #[inline(always)]
 pub fn variable_found<'a>(
     bytes: &'a [u8],
-    gathered: &mut Gathered,
+    names: &mut Lists<u8>,
 ) -> Result<Option<VariableFound<'a>>, AllocError>
-    ensures { IfOk result (λ found. IfSome found (λ v.
-        VariableAhead bytes.now (gathered_variable v.name.now v.layer gathered.new) v.front)) }
+    ensures found { IfOk result (λ found. IfSome found (λ f. (values : List (List ℕ))
+        × (names.new ≡ names.old ++ values) × (length values ≡ f.range)
+        × VariableAhead bytes.now (variable f.name.now f.layer values) f.front)) }
+    ensures kept { Kept names.old names.new }
 {
     let Some((name, layer, rest)) = begin_before(bytes) else {
         return Ok(None);
     };
-    let Some(rest) = names_before(rest, &mut gathered.values)? else {
+    let Some((range, rest)) = names_before(rest, names)? else {
         return Ok(None);
     };
     let Some(rest) = word_before(rest, b"end_variable") else {
         return Ok(None);
     };
     let front = Front {
-        lines: 5 + gathered.values.len() as u64,
+        lines: 5 + range as u64,
         bytes: bytes.len() - rest.len(),
     };
-    Ok(Some(VariableFound { name, layer, front }))
+    Ok(Some(VariableFound {
+        name,
+        layer,
+        range,
+        front,
+    }))
 }
 
 /// Reads a whole mutex group at the beginning of the bytes. Returns the number of its lines and bytes. Its facts are stored in `gathered`.
@@ -94,12 +107,13 @@ pub fn group_found(
     gathered: &mut Gathered,
 ) -> Result<Option<Front>, AllocError>
     ensures { IfOk result (λ found. IfSome found (λ front.
-        GroupAhead ranges.now bytes.now gathered.new.facts front)) }
+        GroupAhead ranges.now bytes.now gathered.new.facts.items front)) }
 {
     let Some(rest) = word_before(bytes, b"begin_mutex_group") else {
         return Ok(None);
     };
-    let Some(rest) = facts_before(ranges, rest, &mut gathered.facts)? else {
+    gathered.facts.clear();
+    let Some((_, rest)) = facts_before(ranges, rest, &mut gathered.facts)? else {
         return Ok(None);
     };
     let Some(rest) = word_before(rest, b"end_mutex_group") else {

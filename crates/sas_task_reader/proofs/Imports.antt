@@ -1,5 +1,5 @@
 -- What the proofs use of other crates.
-pub use Rattle.std.proofs.Common.{◌≡◌, ◌-◌, ◌^◌, ℕ, List, length, refl, ap, ◌∙◌, arith, min, ◌≢◌, Option, None, sym, subst, ◌≤◌, Ok, Err, ◌++◌}
+pub use Rattle.std.proofs.Common.{◌≡◌, ◌-◌, ◌^◌, ℕ, List, [], ◌∷◌, length, refl, ap, ◌∙◌, arith, min, ◌≢◌, Option, None, sym, subst, ◌≤◌, Ok, Err, ◌++◌}
 pub use Rattle.std.proofs.Math.Logic.{∥∥₁_elim, ∥∥₁_map}
 pub use Rattle.std.proofs.Props.{props}
 pub use Rattle.std.proofs.lemmas.Result.{on_ok_weaker, IfOk-weaker}

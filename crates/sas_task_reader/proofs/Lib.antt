@@ -1,4 +1,5 @@
 mod TaskStanding
 mod Outlines
+mod StoredParts
 mod Reasons
 mod Imports

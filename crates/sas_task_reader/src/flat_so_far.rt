@@ -1,13 +1,15 @@
 // Stores the content of a task file in a few blocks of memory while it is read.
-ghost use Rattle.std.specs.Prelude.{◌≡◌, ◌<◌, List, [], OnOk, IfOk};
+ghost use Rattle.std.specs.Prelude.{◌≡◌, ◌<◌, List, [], length, OnOk, OnErr, IfOk, IfSome, IfNone};
 ghost use Rattle.sas_core.specs.declared.parts.Fact.{Fact};
 ghost use Rattle.sas_core.specs.declared.parts.Variable.{Variable};
 ghost use Rattle.sas_core.specs.declared.parts.Operator.{Operator};
 ghost use Rattle.sas_core.specs.declared.parts.Rule.{Rule};
 ghost use Rattle.sas_core.specs.WellRanged.{WellRanged};
+ghost use Rattle.sas_flat.specs.Operators.{OneMore, IsBegun};
+ghost use Rattle.sas_flat.specs.Variables as variables;
 ghost use Rattle.sas_task_line.specs.declared.task_events.Event.TheVariants as event;
 ghost use Rattle.sas_task_line.specs.declared.task_events.Said.{Said};
-ghost use Rattle.sas_task_line.specs.Sections.{GroupAhead, OperatorAhead, RuleAhead};
+ghost use Rattle.sas_task_line.specs.Sections.{VariableAhead, GroupAhead, OperatorAhead, RuleAhead};
 ghost use Rattle.sas_task_line.specs.TaskEvents.{nothing_yet, after};
 ghost use Rattle.sas_task_judge.specs.Sections.{VariableWithRange, behind_variable};
 ghost use Rattle.sas_task_judge.specs.Sections.{behind_group, behind_operator, behind_rule};
@@ -15,11 +17,14 @@ ghost use Rattle.sas_task_reader.specs.TaskOutline.{outline_with};
 
 use crate::fronts::NO_VARIABLE;
 use sas_core::{Change, Fact, Items};
-use sas_flat::{Effects, FlatTask, Lists, Operators, Outline, Rules, TaskColumns, Variables};
+use sas_flat::{
+    Effects, FlatTask, Lists, OperatorColumns, Operators, Outline, Rules, TaskColumns,
+    VariableColumns, Variables,
+};
 use sas_reader::{Front, Kind};
 use sas_task_judge::{Keeper, VariableKept};
 use sas_task_line::{
-    Event, Gathered, Said, group_found, operator_found, rule_found, variable_found,
+    Event, Gathered, Said, VariableFound, group_found, operator_found, rule_found, variable_found,
 };
 use std::alloc::{AllocError, Global};
 use std::marker::Model;
@@ -28,7 +33,13 @@ use std::marker::Model;
 #[derive(Drop)]
 pub struct FlatSoFar {
     alloc: Global,
-    columns: TaskColumns,
+    metric: bool,
+    variables: VariableColumns,
+    groups: Lists<Fact>,
+    init: Items<u32>,
+    goal: Items<Fact>,
+    operators: OperatorColumns,
+    rules: Rules,
     begun: Begun,
 }
 
@@ -46,21 +57,77 @@ struct Begun {
     gathered: Gathered,
 }
 
+/// Appends a whole variable at the beginning of the bytes, if `variable_found` finds one, and returns what it found. After `None` or `Err`
+/// parts of a variable may have been appended, but no end.
+#[inline(always)]
+fn append_variable<'a>(
+    bytes: &'a [u8],
+    columns: &mut VariableColumns,
+) -> Result<Option<VariableFound<'a>>, AllocError>
+    requires { variables.AreAligned columns.old }
+    ensures some { IfOk result (λ found. IfSome found (λ f. (v : Variable)
+        × VariableAhead bytes.now v f.front × (v.layer ≡ f.layer) × (length v.values ≡ f.range)
+        × variables.OneMore columns.old columns.new v)) }
+    ensures none { IfOk result (λ found. IfNone found
+        (variables.IsBegun columns.old columns.new)) }
+    ensures err { OnErr result (variables.IsBegun columns.old columns.new) }
+{
+    let found = variable_found(bytes, &mut columns.values)?;
+    let Some(found) = found else {
+        return Ok(None);
+    };
+    columns.push(found.name, found.layer)?;
+    Ok(Some(found))
+}
+
+/// Appends a whole operator at the beginning of the bytes, if `operator_found` finds one, and returns the extent of its lines. After `None`
+/// or `Err` parts of an operator may have been appended, but no head.
+#[inline(always)]
+fn append_operator(
+    ranges: &Items<u32>,
+    bytes: &[u8],
+    columns: &mut OperatorColumns,
+) -> Result<Option<Front>, AllocError>
+    ensures some { IfOk result (λ found. IfSome found (λ front.
+        (o : Operator) × OperatorAhead ranges.now bytes.now o front
+        × OneMore columns.old columns.new o)) }
+    ensures none { IfOk result (λ found. IfNone found (IsBegun columns.old columns.new)) }
+    ensures err { OnErr result (IsBegun columns.old columns.new) }
+{
+    let found = operator_found(ranges, bytes, &mut columns.prevail, &mut columns.effects)?;
+    let Some(found) = found else {
+        return Ok(None);
+    };
+    columns.push(found.name, found.cost)?;
+    Ok(Some(found.front))
+}
+
 impl Model for FlatSoFar {
-    ghost use Rattle.sas_flat.specs.FlatTasks.{parts_in};
+    ghost use Rattle.sas_flat.specs.Operators.{operators_in, OperatorColumnsAlign};
+    ghost use Rattle.sas_flat.specs.Variables.{variables_in, AreAligned};
     ghost use Rattle.sas_task_line.specs.declared.so_far.SoFar.{SoFar};
 
     ghost Value = { SoFar };
 
     ghost view = { λ s. record {
       alloc = s.alloc;
-      parts = parts_in s.columns;
+      parts = record {
+        metric = s.metric;
+        variables = variables_in s.variables;
+        groups = s.groups;
+        init = s.init;
+        goal = s.goal;
+        operators = operators_in s.operators;
+        rules = s.rules;
+      };
       name = s.begun.name;
       layer = s.begun.layer;
       values = s.begun.values;
       facts = s.begun.facts;
       effects = s.begun.effects;
     } };
+
+    ghost invariant = { λ s. AreAligned s.variables × OperatorColumnsAlign s.operators };
 }
 
 impl FlatSoFar {
@@ -70,15 +137,13 @@ impl FlatSoFar {
     {
         FlatSoFar {
             alloc,
-            columns: TaskColumns {
-                metric: false,
-                variables: Variables::new(alloc),
-                groups: Lists::new(alloc),
-                init: Items::new(alloc),
-                goal: Items::new(alloc),
-                operators: Operators::new(alloc),
-                rules: Rules::new(alloc),
-            },
+            metric: false,
+            variables: VariableColumns::new(alloc),
+            groups: Lists::new(alloc),
+            init: Items::new(alloc),
+            goal: Items::new(alloc),
+            operators: OperatorColumns::new(alloc),
+            rules: Rules::new(alloc),
             begun: Begun {
                 name: Items::new(alloc),
                 layer: None,
@@ -95,18 +160,34 @@ impl FlatSoFar {
         requires { WellRanged self.parts }
         ensures { result ≡ self.parts }
     {
-        let FlatSoFar { columns, begun, .. } = self;
+        let FlatSoFar {
+            metric,
+            variables,
+            groups,
+            init,
+            goal,
+            operators,
+            rules,
+            begun,
+            ..
+        } = self;
         drop(begun);
-        FlatTask::of_parts(columns)
+        FlatTask::of_parts(TaskColumns {
+            metric,
+            variables: Variables::of_columns(variables),
+            groups,
+            init,
+            goal,
+            operators: Operators::of_columns(operators),
+            rules,
+        })
     }
 
     /// Returns the outline of the parts read so far, with these numbers of groups, operators and rules.
     pub fn into_outline(self, groups: u32, operators: u32, rules: u32) -> Outline
         ensures { result ≡ outline_with self.parts groups operators rules }
     {
-        let FlatSoFar { columns, begun, .. } = self;
-        drop(begun);
-        let TaskColumns {
+        let FlatSoFar {
             metric,
             variables,
             groups: group_lists,
@@ -114,13 +195,16 @@ impl FlatSoFar {
             goal,
             operators: operator_columns,
             rules: rule_columns,
-        } = columns;
+            begun,
+            ..
+        } = self;
+        drop(begun);
         drop(rule_columns);
         drop(operator_columns);
         drop(group_lists);
         Outline {
             metric,
-            variables,
+            variables: Variables::of_columns(variables),
             groups,
             init,
             goal,
@@ -146,11 +230,15 @@ impl FlatSoFar {
     fn variable(&mut self) -> Result<(), AllocError>
         ensures { (said : Said) → OnOk result (self.new ≡ after self.old event.Variable said []) }
     {
-        self.columns.variables.push(
+        let added = self.variables.append(
             self.begun.name.as_slice(),
             self.begun.layer,
             &self.begun.values,
-        )?;
+        );
+        if let Err(error) = added {
+            self.variables.cut();
+            return Err(error);
+        }
         self.begun.name.clear();
         self.begun.values.clear();
         Ok(())
@@ -159,7 +247,7 @@ impl FlatSoFar {
     fn group(&mut self) -> Result<(), AllocError>
         ensures { (said : Said) → OnOk result (self.new ≡ after self.old event.Group said []) }
     {
-        self.columns.groups.push(self.begun.facts.as_slice())?;
+        self.groups.push(self.begun.facts.as_slice())?;
         self.begun.facts.clear();
         Ok(())
     }
@@ -180,12 +268,16 @@ impl FlatSoFar {
     fn operator(&mut self, said: &Said) -> Result<(), AllocError>
         ensures { OnOk result (self.new ≡ after self.old event.Operator said.now []) }
     {
-        self.columns.operators.push(
+        let added = self.operators.append(
             self.begun.name.as_slice(),
             self.begun.facts.as_slice(),
             &self.begun.effects,
             said.number,
-        )?;
+        );
+        if let Err(error) = added {
+            self.operators.cut();
+            return Err(error);
+        }
         self.begun.name.clear();
         self.begun.facts.clear();
         self.begun.effects.clear();
@@ -195,9 +287,7 @@ impl FlatSoFar {
     fn rule(&mut self, said: &Said) -> Result<(), AllocError>
         ensures { OnOk result (self.new ≡ after self.old event.Rule said.now []) }
     {
-        self.columns
-            .rules
-            .push(self.begun.facts.as_slice(), said.head)?;
+        self.rules.push(self.begun.facts.as_slice(), said.head)?;
         self.begun.facts.clear();
         Ok(())
     }
@@ -211,20 +301,25 @@ impl FlatSoFar {
             × (self.new ≡ behind_variable self.old v)) }
         ensures none { IfOk result (λ kept. kept.front.bytes ≡ 0 → self.new ≡ self.old) }
     {
-        let found = variable_found(bytes, &mut self.begun.gathered)?;
-        let Some(found) = found else {
-            return Ok(NO_VARIABLE);
-        };
-        self.columns
-            .variables
-            .push(found.name, found.layer, &self.begun.gathered.values)?;
-        self.begun.name.clear();
-        self.begun.layer = found.layer;
-        self.begun.values.clear();
-        Ok(VariableKept {
-            front: found.front,
-            range: self.begun.gathered.values.len() as u32,
-        })
+        match append_variable(bytes, &mut self.variables) {
+            Ok(Some(found)) => {
+                self.begun.name.clear();
+                self.begun.layer = found.layer;
+                self.begun.values.clear();
+                Ok(VariableKept {
+                    front: found.front,
+                    range: found.range,
+                })
+            }
+            Ok(None) => {
+                self.variables.cut();
+                Ok(NO_VARIABLE)
+            }
+            Err(error) => {
+                self.variables.cut();
+                Err(error)
+            }
+        }
     }
 
     /// Stores a whole mutex group at the beginning of the bytes, if `group_found` finds one. Returns the extent of its lines. After an
@@ -239,9 +334,7 @@ impl FlatSoFar {
         let Some(front) = found else {
             return Ok(Front::EMPTY);
         };
-        self.columns
-            .groups
-            .push(self.begun.gathered.facts.as_slice())?;
+        self.groups.push(self.begun.gathered.facts.as_slice())?;
         self.begun.facts.clear();
         Ok(front)
     }
@@ -254,20 +347,22 @@ impl FlatSoFar {
             × (self.new ≡ behind_operator self.old o)) }
         ensures none { IfOk result (λ front. front.bytes ≡ 0 → self.new ≡ self.old) }
     {
-        let found = operator_found(ranges, bytes, &mut self.begun.gathered)?;
-        let Some(found) = found else {
-            return Ok(Front::EMPTY);
-        };
-        self.columns.operators.push_plain(
-            found.name,
-            self.begun.gathered.facts.as_slice(),
-            self.begun.gathered.changes.as_slice(),
-            found.cost,
-        )?;
-        self.begun.name.clear();
-        self.begun.facts.clear();
-        self.begun.effects.clear();
-        Ok(found.front)
+        match append_operator(ranges, bytes, &mut self.operators) {
+            Ok(Some(front)) => {
+                self.begun.name.clear();
+                self.begun.facts.clear();
+                self.begun.effects.clear();
+                Ok(front)
+            }
+            Ok(None) => {
+                self.operators.cut();
+                Ok(Front::EMPTY)
+            }
+            Err(error) => {
+                self.operators.cut();
+                Err(error)
+            }
+        }
     }
 
     /// Stores a whole rule at the beginning of the bytes, if `rule_found` finds one. Returns the extent of its lines. After an `Err` the
@@ -282,8 +377,7 @@ impl FlatSoFar {
         let Some(found) = found else {
             return Ok(Front::EMPTY);
         };
-        self.columns
-            .rules
+        self.rules
             .push(self.begun.gathered.facts.as_slice(), found.head)?;
         self.begun.facts.clear();
         Ok(found.front)
@@ -295,7 +389,7 @@ impl FlatSoFar {
     {
         match event {
             Event::Nothing => {}
-            Event::Metric => self.columns.metric = said.number == 1,
+            Event::Metric => self.metric = said.number == 1,
             Event::Name => return self.name(line),
             Event::Layer => self.begun.layer = said.layer,
             Event::Values => self.begun.values.clear(),
@@ -304,8 +398,8 @@ impl FlatSoFar {
             Event::Facts => self.begun.facts.clear(),
             Event::Fact => return self.begun.facts.push(said.fact),
             Event::Group => return self.group(),
-            Event::State => return self.columns.init.push(said.number),
-            Event::Goal => return self.columns.goal.push(said.fact),
+            Event::State => return self.init.push(said.number),
+            Event::Goal => return self.goal.push(said.fact),
             Event::Effects => self.begun.effects.clear(),
             Event::Effect => return self.effect(said),
             Event::Operator => return self.operator(said),

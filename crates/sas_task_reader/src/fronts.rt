@@ -26,12 +26,13 @@ pub fn variable_front(bytes: &[u8], gathered: &mut Gathered) -> Result<Option<Va
         (v : Variable) × VariableWithRange bytes.now v kept)) }
     ensures err { IfErr result (λ k. k ≡ Kind.Memory) }
 {
-    let Some(found) = variable_found(bytes, gathered)? else {
+    gathered.values.clear();
+    let Some(found) = variable_found(bytes, &mut gathered.values)? else {
         return Ok(None);
     };
     Ok(Some(VariableKept {
         front: found.front,
-        range: gathered.values.len() as u32,
+        range: found.range,
     }))
 }
 
@@ -60,7 +61,10 @@ pub fn operator_front(
         (o : Operator) × OperatorAhead ranges.now bytes.now o front)) }
     ensures err { IfErr result (λ k. k ≡ Kind.Memory) }
 {
-    let Some(found) = operator_found(ranges, bytes, gathered)? else {
+    gathered.facts.clear();
+    gathered.effects.clear();
+    let found = operator_found(ranges, bytes, &mut gathered.facts, &mut gathered.effects)?;
+    let Some(found) = found else {
         return Ok(None);
     };
     Ok(Some(found.front))

@@ -1,6 +1,5 @@
-use Rattle.sas_task_line.proofs.Imports.{refl}
-use Rattle.sas_task_line.proofs.LinesReading.{none_yet}
+use Rattle.sas_task_line.proofs.LinesReading.{none_appended}
 use Rattle.sas_task_line.proofs.sections.facts_before.Goals as goal
 
 pub loop-i-init : goal.loop-i-init
-loop-i-init c = rw c.clear.ensures (none_yet _ _ c.in-Some.count c.in-Some.ensures, refl)
+loop-i-init c = none_appended _ _ c.in-Some.count _ c.in-Some.ensures

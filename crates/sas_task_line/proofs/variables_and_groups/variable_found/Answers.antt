@@ -1,10 +1,12 @@
 use Rattle.sas_task_line.proofs.Imports.{refl, arith}
-use Rattle.sas_task_line.specs.declared.sections.Gathered.{Gathered}
-use Rattle.sas_task_line.proofs.LinesReading.{variable_is_ahead}
+use Rattle.sas_task_line.proofs.LinesReading.{variable_is_ahead, all_appended}
 use Rattle.sas_task_line.proofs.variables_and_groups.variable_found.Goals as goal
 
-pub returns : goal.returns
-returns c =
-    let gathered : Gathered = record { values = c.names_before.new.names; facts = c.args.gathered.now.facts; changes = c.args.gathered.now.changes } in
-    let names = rw c.in-Some-2.is at c.in_ok-rest.ensures in
-    variable_is_ahead c.in-Some.name.now c.in-Some.layer gathered _ c.in-Some.ensures names c.in-Some-word_before.ensures refl (omega (arith, c.len.ensures))
+pub returns-clause-found : goal.returns-clause-found
+returns-clause-found c =
+    let (some, names) = rw c.in-Some-2.is at c.in_ok-range.ensures.found in (
+      names.items,
+      names.are,
+      names.many,
+      variable_is_ahead c.in-Some.name.now c.in-Some.layer names.items _ c.in-Some.ensures (omega (arith, some, names.many)) (all_appended _ _ names) c.in-Some-word_before.ensures refl (omega (arith, names.many)),
+    )

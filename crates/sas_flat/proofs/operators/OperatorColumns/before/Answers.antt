@@ -1,7 +1,7 @@
 use Rattle.sas_flat.proofs.Imports.{arith}
 use Rattle.sas_flat.specs.declared.operators.Head.{Head}
 use Rattle.sas_flat.proofs.FoundOperators.{start_is}
-use Rattle.sas_flat.proofs.operators.Columns.before.Goals as goal
+use Rattle.sas_flat.proofs.operators.OperatorColumns.before.Goals as goal
 
 pub returns-else-operator-eq0-clause-name : goal.returns-else-operator-eq0-clause-name
 returns-else-operator-eq0-clause-name c = start_is (λ (h : Head). h.name) c.args.self.now.heads.items c.args.operator c.index.result.now (omega (arith, c.if-operator-eq0.false)) c.requires c.index.ensures

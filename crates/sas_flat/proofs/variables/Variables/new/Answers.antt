@@ -1,7 +1,0 @@
-use Rattle.sas_flat.proofs.Imports.{length, ap, ◌∙◌}
-use Rattle.sas_flat.proofs.Tables.{length-table}
-use Rattle.sas_flat.proofs.Rows.{no_variable}
-use Rattle.sas_flat.proofs.variables.Variables.new.Goals as goal
-
-pub returns : goal.returns
-returns c = no_variable _ _ _ (length-table _ _ ∙ ap length c.new-4.ensures)
