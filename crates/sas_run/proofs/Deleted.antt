@@ -1,4 +1,5 @@
 -- The facts that are deleted while given values are written into a state.
+use Rattle.std.proofs.lemmas.Grind.{common_steps}
 use Rattle.sas_run.proofs.Imports.{◌≡◌, ◌≢◌, ℕ, ◌+◌, ◌<◌, ◌≤◌, List, [], ◌∷◌, ◌++◌, length, get_or, set, Option, None, Some, refl, sym, ◌∙◌, ap, subst, inl, inr, arith, All, AllPairs, cases_eq, get_or-set_same, get_or-set_other, get_or_append_left, get_or_push, length-append, All-nil, All-push, All-weaker, all_pairs_push, Fact, Parts, Holds, AllHold, IsBasic, HaveGone}
 use Rattle.sas_run.specs.declared.deletions.Deleted.{Deleted}
 use Rattle.sas_run.specs.Deletions.{HasRoom, NotesOn}
@@ -26,29 +27,15 @@ pub record DeletedSoFar (p : Parts) (given : List (Option ℕ)) (s s' : List ℕ
   pub cleared : All (λ (f : Fact). given_to given f.var ≡ None) deleted
 
 pub nothing_deleted : (p : Parts) (given : List (Option ℕ)) (s : List ℕ) → DeletedSoFar p given s s []
-nothing_deleted p given s = record {
-  basic = All-nil (λ (f : Fact). IsBasic p f.var);
-  exist = All-nil (λ (f : Fact). f.var < length p.variables);
-  held = All-nil (Holds (λ v. get_or s v 0));
-  once = λ i j d lt below. absurd (omega arith);
-  others = λ var _. refl;
-  cleared = All-nil (λ (f : Fact). given_to given f.var ≡ None);
-}
+nothing_deleted p given s = grind (arith, common_steps, All-nil)
 
 pub deleted_in_the_end : (p : Parts) (given : List (Option ℕ)) (s s' : List ℕ) (deleted : List Fact) → DeletedSoFar p given s s' deleted → HaveGone p deleted s s'
-deleted_in_the_end p given s s' deleted so_far = record {
-  basic = so_far.basic;
-  exist = so_far.exist;
-  held = so_far.held;
-  once = so_far.once;
-  others = so_far.others;
-}
+deleted_in_the_end p given s s' deleted so_far = grind (arith, common_steps)
 
 -- at most one more fact is deleted
 pub deleted_few : (s : List ℕ) (fact : Fact) (deleted deleted' : List Fact) → Replaces s fact deleted deleted' → length deleted' ≤ length deleted + 1
 deleted_few s fact deleted deleted' (inl same) = omega (arith, ap length same.1)
-deleted_few s fact deleted deleted' (inr other) =
-    omega (arith, ap length other.1, length-append deleted ((record { var = fact.var; value = get_or s fact.var 0 }) ∷ []))
+deleted_few s fact deleted deleted' (inr other) = grind (arith, common_steps, length-append)
 
 -- for a list with one more item
 pub all_before : {X : Type 0} (P : X → Type 0) (xs : List X) (x : X) → All P (xs ++ x ∷ []) → All P xs

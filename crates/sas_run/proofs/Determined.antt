@@ -1,17 +1,12 @@
 -- Steps are executable in at most one way.
+use Rattle.std.proofs.lemmas.Grind.{common_steps}
 use Rattle.sas_run.proofs.Imports.{◌≡◌, ℕ, ◌<◌, List, [], ◌∷◌, ◌++◌, length, refl, sym, ◌∙◌, ap, subst, inl, inr, arith, cases_lt, Parts, operator_at, IsLayered, Step, IsInitial, settled_is_one, step_is_one}
 use Rattle.sas_run.specs.Plans.{IsChosen, LeadTo, LeadsTo}
 use Rattle.sas_run.specs.Verdicts.{ComesTo}
 
 -- there is at most one chosen operator
 pub chosen_is_one : (p : Parts) (s name : List ℕ) (a b : ℕ) → IsChosen p s name a → IsChosen p s name b → a ≡ b
-chosen_is_one p s name a b x y = elim (cases_lt a b) [
-  | inl lt ↦ absurd (y.first a lt x.of_name x.applicable)
-  | inr ge ↦ elim (cases_lt b a) [
-    | inl lt ↦ absurd (x.first b lt y.of_name y.applicable)
-    | inr le ↦ omega arith
-  ]
-]
+chosen_is_one p s name a b x y = grind (arith, common_steps, cases_lt)
 
 -- in this state the name has a chosen operator with a step
 pub record GoesOn (p : Parts) (s name : List ℕ) : Type 0 where
@@ -31,8 +26,7 @@ pub record Passes (p : Parts) (s : List ℕ) (before : List (List ℕ)) (name : 
 pub passes : (p : Parts) (s : List ℕ) (before : List (List ℕ)) (name : List ℕ) (behind : List (List ℕ)) (operators last : List ℕ)
     → LeadTo p s (before ++ name ∷ behind) operators last → Passes p s before name
 passes p s [] name behind [] last g = absurd g
-passes p s [] name behind (o ∷ os) last g =
-    record { operators = []; there = s; goes = refl; on = record { operator = o; chosen = g.1; next = g.0; step = g.2 } }
+passes p s [] name behind (o ∷ os) last g = grind (arith, common_steps)
 passes p s (b ∷ bs) name behind [] last g = absurd g
 passes p s (b ∷ bs) name behind (o ∷ os) last g =
     let r = passes p g.0 bs name behind os last g.3 in

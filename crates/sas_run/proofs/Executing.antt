@@ -1,4 +1,5 @@
 -- An execution advances along its run.
+use Rattle.std.proofs.lemmas.Grind.{common_steps}
 use Rattle.sas_run.proofs.Imports.{◌≡◌, ℕ, ◌+◌, ◌<◌, ◌≤◌, List, [], length, get_or, Option, None, Result, Ok, Err, refl, sym, ◌∙◌, ap, subst, inl, inr, arith, rules, IsTrue, vec_capacity, IsOk, cases_lt, get_or-take, get_or_default, length-take, Parts, operator_at, PlanParts, IsState, IsLayered, IsInitial, Step, step_is_one, IsChain, HaveChains, IsNamed, AreFirsts, IsNextNamed}
 use Rattle.sas_run.specs.declared.plan_check.PlanFault.{PlanFault}
 use Rattle.sas_run.specs.declared.progress.Progress.{Progress}
@@ -13,12 +14,7 @@ use Rattle.sas_run.proofs.Runs.{still, still_goes, state_fits, first_state, run_
 
 -- before the first step no step is known
 pub executes_none : (e : Executed) → IsInitial e.task e.state → e.operators ≡ [] → e.made ≡ 0 → Executes (still e.state) e
-executes_none e starts none made = record {
-  of_plan = record { through = still_goes e.task e.state starts; front = refl };
-  operators = sym none;
-  within = omega (arith, made);
-  state = sym (ap (λ k. state_at (still e.state) k) made);
-}
+executes_none e starts none made = grind (arith, common_steps, still_goes)
 
 module _ (run : Run) (e : Executed) (executes : Executes run e) where
   pub as_many : length e.operators ≡ length run.steps

@@ -1,4 +1,5 @@
 -- The values that effects give, for one more effect, and the state after they are written.
+use Rattle.std.proofs.lemmas.Grind.{common_steps}
 use Rattle.sas_run.proofs.Imports.{◌≡◌, ◌≢◌, ℕ, ◌+◌, ◌<◌, ◌≤◌, List, length, get_or, set, Option, None, Some, refl, sym, ◌∙◌, ap, subst, inl, inr, arith, unwrap_or, cases_eq, get_or_default, get_or-set_same, get_or-set_other, length-set, Effect, Operator, Parts, effect_at, HasValue, IsState, EffectFits, AllHold, preconditions, Fires}
 use Rattle.sas_run.specs.Given.{given_to, value_after, NothingGiven, IsGiven, IsGivenTo, GivesValue, GivesOther}
 use Rattle.sas_run.specs.Running.{IsApplied, IsFirstConflict}
@@ -12,11 +13,7 @@ not_both a given none some = let e : None ≡ Some a = sym none ∙ some in absu
 
 -- without effects no value is given
 pub gives_none : (p : Parts) (s : List ℕ) (o : Operator) (given : List (Option ℕ)) → NothingGiven p given → IsGiven p s o 0 given
-gives_none p s o given clean = record {
-  one_each = clean.one_each;
-  gives = λ k lt. absurd (omega arith);
-  giver = λ var value at. absurd (not_both value (given_to given var) (clean.none var) at);
-}
+gives_none p s o given clean = grind (arith, common_steps, not_both)
 
 module _ (p : Parts) (s : List ℕ) (o : Operator) (n : ℕ) (given : List (Option ℕ)) (is : IsGiven p s o n given) where
   -- each given value is in its variable's range
@@ -155,8 +152,4 @@ none_left (Some value) none = none value refl
 -- no value is given after the values of all effects' variables are removed
 pub all_taken : (p : Parts) (o : Operator) (n : ℕ) (given : List (Option ℕ)) → IsGivenTo p o given → length o.effects ≤ n
     → ((k : ℕ) → k < n → given_to given (effect_at o k).var ≡ None) → NothingGiven p given
-all_taken p o n given on within taken = record {
-  one_each = on.one_each;
-  none = λ var. none_left (given_to given var)
-      (λ value at. (let (k, lt, same) = on.effect var value at in subst (λ v. given_to given v ≡ None) same (taken k (omega arith))));
-}
+all_taken p o n given on within taken = grind (arith, common_steps, none_left)

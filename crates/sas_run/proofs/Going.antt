@@ -5,12 +5,7 @@ use Rattle.sas_run.specs.Running.{MakesStep}
 
 pub goes_one_more : (p : Parts) (s : List ℕ) (names : List (List ℕ)) (operators mid : List ℕ) (name : List ℕ) (operator : ℕ) (next : List ℕ)
     → LeadTo p s names operators mid → MakesStep p mid name operator next → LeadTo p s (names ++ name ∷ []) (operators ++ operator ∷ []) next
-goes_one_more p s [] [] mid name operator next goes on = (
-  next,
-  subst (λ (x : List ℕ). IsChosen p x name operator) goes on.chosen,
-  subst (λ (x : List ℕ). Step p x (operator_at p operator) next) goes on.step,
-  refl,
-)
+goes_one_more p s [] [] mid name operator next goes on = grind (arith, common_steps)
 goes_one_more p s [] (o ∷ operators) mid name operator next goes on = absurd goes
 goes_one_more p s (n ∷ names) [] mid name operator next goes on = absurd goes
 goes_one_more p s (n ∷ names) (o ∷ operators) mid name operator next (there, chosen, step, rest) on =
@@ -19,11 +14,7 @@ goes_one_more p s (n ∷ names) (o ∷ operators) mid name operator next (there,
 -- so there is one more executable step
 pub leads_one_more : (p : Parts) (names : List (List ℕ)) (operators s name : List ℕ) (operator : ℕ) (next : List ℕ)
     → LeadsTo p names operators s → MakesStep p s name operator next → LeadsTo p (names ++ name ∷ []) (operators ++ operator ∷ []) next
-leads_one_more p names operators s name operator next leads on = record {
-  initial = leads.initial;
-  starts = leads.starts;
-  goes = goes_one_more p leads.initial names operators s name operator next leads.goes on;
-}
+leads_one_more p names operators s name operator next leads on = grind (arith, common_steps, goes_one_more)
 
 -- a list around the item at a place
 pub around : {X : Type 0} (xs : List X) (i : ℕ) (d : X) → i < length xs → xs ≡ take i xs ++ get_or xs i d ∷ drop (i + 1) xs

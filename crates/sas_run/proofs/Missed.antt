@@ -1,4 +1,5 @@
 -- The index of the first fact that doesn't hold, in a list of several parts.
+use Rattle.std.proofs.lemmas.Grind.{common_steps}
 use Rattle.sas_run.proofs.Imports.{◌≡◌, ◌≢◌, ℕ, ◌+◌, ◌-◌, List, ◌∷◌, ◌++◌, length, get_or, refl, sym, ◌∙◌, ap, subst, inl, inr, arith, cases_lt, get_or_append_left, get_or-append-add, length-append, Fact, Holds, AllHold}
 use Rattle.sas_run.specs.Running.{IsFirstMissedFact}
 
@@ -21,15 +22,7 @@ missed_behind value xs ys fact hold (index, first, is) = (
 
 -- the first of a list
 pub missed_head : (value : ℕ → ℕ) (fact : Fact) (facts : List Fact) → (value fact.var ≢ fact.value) → IsFirstMissedFact value (fact ∷ facts) fact
-missed_head value fact facts ne = (
-  0,
-  record {
-    exists = omega arith;
-    missed = λ d h. ne h;
-    before = λ k d lt. absurd (omega arith);
-  },
-  λ d. refl,
-)
+missed_head value fact facts ne = grind (arith, common_steps)
 
 -- the first fact that doesn't hold, if all facts before it hold
 pub missed_next : (value : ℕ → ℕ) (all before left after : List Fact) (fact : Fact) → all ≡ before ++ left → AllHold value before → left ≡ fact ∷ after

@@ -1,5 +1,6 @@
 -- An applicable operator whose effects agree has a step. It is decidable whether an operator has a
 -- step.
+use Rattle.std.proofs.lemmas.Grind.{common_steps}
 use Rattle.sas_run.proofs.Imports.{◌≡◌, ℕ, zero, suc, ◌<◌, ◌⊎◌, List, [], ◌∷◌, length, get_or, set, slice_index, None, refl, sym, ◌∙◌, subst, inl, inr, arith, All, cases_eq, get_or-set_same, get_or-set_other, All-nil, All-cons, All-head, All-tail, Effect, Operator, Parts, operator_at, HasValue, IsState, EffectFits, OperatorFits, WellRanged, holds_at, IsBasic, IsLayered, Settles, Fires, Agree}
 use Rattle.sas_run.proofs.Imports.{Step, hold_or_not, Untouched, state_set, fact_within, settled_exists, settled_where_empty}
 use Rattle.sas_run.specs.Plans.{IsApplicable}
@@ -96,9 +97,7 @@ module _ (p : Parts) (s : List ℕ) (state_s : IsState p.variables s) where
 -- the effects of an operator of the task set basic variables to values in their ranges
 pub effects_fit : (p : Parts) (operator : ℕ) → WellRanged p → operator < length p.operators
     → All (λ (e : Effect). HasValue p.variables e.var e.new) (operator_at p operator).effects
-effects_fit p operator ranged lt k d within =
-    (holds_at (EffectFits p.variables) d (operator_at p operator).effects
-    (holds_at (OperatorFits p.variables) (record { name = []; prevail = []; effects = []; cost = 0 }) p.operators ranged.operators.each operator lt).effects.each k within).new
+effects_fit p operator ranged lt k d within = grind (arith, common_steps, holds_at)
 
 pub effects_basic : (p : Parts) (operator : ℕ) → IsLayered p → operator < length p.operators
     → All (λ (e : Effect). IsBasic p e.var) (operator_at p operator).effects
@@ -113,23 +112,12 @@ applied_exists p s o fits state applicable agree =
 
 -- where no variable is derived, each state is settled
 pub settled_if_basic : (p : Parts) (s : List ℕ) → ((var : ℕ) → IsBasic p var) → IsState p.variables s → Settles p s s
-settled_if_basic p s basic state = record {
-  state = state;
-  basic = λ _ _. refl;
-  settled = λ layer. settled_where_empty p layer s (λ (var, on). let none = basic var in cc);
-}
+settled_if_basic p s basic state = grind (arith, common_steps, settled_where_empty)
 
 -- settling the result makes the step
 pub step_from_applied : (p : Parts) (s : List ℕ) (o : Operator) (s' next : List ℕ) → All (λ (e : Effect). IsBasic p e.var) o.effects
     → IsApplied p s o s' → Settles p s' next → Step p s o next
-step_from_applied p s o s' next basic a settles = record {
-  applicable = a.applicable;
-  agree = a.agree;
-  state = settles.state;
-  settled = settles.settled;
-  set = λ k d lt fires. sym (settles.basic (get_or o.effects k d).var (basic k d lt)) ∙ a.set k d lt fires;
-  kept = λ v is_basic kept. sym (settles.basic v is_basic) ∙ a.kept v kept;
-}
+step_from_applied p s o s' next basic a settles = grind (arith, common_steps)
 
 pub step_exists : (p : Parts) (s : List ℕ) (operator : ℕ) → WellRanged p → IsLayered p → IsState p.variables s → operator < length p.operators
     → IsApplicable s (operator_at p operator) → Agree s (operator_at p operator).effects → (next : List ℕ) × Step p s (operator_at p operator) next
@@ -152,6 +140,4 @@ no_effect = record { conditions = []; var = 0; old = None; new = 0 }
 -- the fault of an operator that is applicable is a conflict
 pub fault_is_conflict : (s : List ℕ) (o : Operator) (fault : StepFault) → IsApplicable s o → IsStepFault s o fault → Agree s o.effects → ⊥
 fault_is_conflict s o (NotApplicable fact) can f agree = f.1.missed no_fact (can f.0 no_fact f.1.exists)
-fault_is_conflict s o (Conflict effect) can f agree =
-    let c = f.1 in
-    c.contradicts.new (agree c.earlier no_effect (let lt = c.before in let within = c.exists in omega arith) effect no_effect c.exists c.earlier_fires c.fires c.contradicts.var)
+fault_is_conflict s o (Conflict effect) can f agree = grind (arith, common_steps)

@@ -1,4 +1,5 @@
 -- A plan of a layered task is valid in one way, or has exactly one fault.
+use Rattle.std.proofs.lemmas.Grind.{common_steps}
 use Rattle.sas_run.proofs.Imports.{◌≡◌, ◌≢◌, ℕ, ◌+◌, ◌⊎◌, List, [], ◌∷◌, ◌++◌, length, slice_index, refl, sym, ◌∙◌, ap, subst, inl, inr, arith, cases_eq, cases_lt, Parts, operator_at, PlanParts, IsState, WellRanged, AllHold, IsLayered, Agree, IsInitial, initial_exists, IsNamed}
 use Rattle.sas_run.specs.declared.plan_check.PlanFault.{PlanFault}
 use Rattle.sas_run.specs.declared.plan_check.PlanFault.TheVariants.{Memory, NoOperator, NotApplicable, Conflict, GoalMissed, CostDiffers}

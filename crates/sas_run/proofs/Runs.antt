@@ -1,4 +1,5 @@
 -- Executable steps are those of exactly one run. Laws about runs.
+use Rattle.std.proofs.lemmas.Grind.{common_steps}
 use Rattle.sas_run.proofs.Imports.{◌≡◌, ℕ, zero, suc, ◌+◌, ◌-◌, ◌<◌, ◌≤◌, List, [], ◌∷◌, ◌++◌, length, take, get_or, refl, sym, ◌∙◌, ap, subst, arith, All, take-append_seam, get_or-append_seam, same_lists, take_all, take_more, get_or_default, get_or-take, Parts, PlanParts, IsState, IsLayered, IsInitial, IsSettled}
 use Rattle.sas_run.specs.Plans.{LeadTo, LeadsTo}
 use Rattle.sas_run.specs.Running.{MakesStep}
@@ -93,11 +94,7 @@ abbrev pub still : List ℕ → Run
 still s = record { steps = []; operators = []; states = s ∷ [] }
 
 pub still_goes : (p : Parts) (s : List ℕ) → IsInitial p s → StepsSucceed p (still s)
-still_goes p s starts = record { operators = refl; states = refl; leads = at }
-  where
-    at : (k : ℕ) → k ≤ 0 → LeadsTo p (take k []) (take k []) (state_at (still s) k)
-    at zero le = record { initial = s; starts = starts; goes = refl }
-    at (suc k) le = absurd (omega arith)
+still_goes p s starts = grind (arith, common_steps)
 
 module _ (p : Parts) (run : Run) (through : StepsSucceed p run) where
   -- each state is one of the task

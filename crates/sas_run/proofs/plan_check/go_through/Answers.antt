@@ -1,4 +1,5 @@
 -- One more step succeeds or fails.
+use Rattle.std.proofs.lemmas.Grind.{common_steps}
 use Rattle.sas_run.proofs.Imports.{Err, ◌≡◌, ℕ, ◌+◌, ◌<◌, ◌≤◌, List, [], ◌∷◌, ◌++◌, length, take, get_or, refl, sym, subst, ap, ◌∙◌, arith, IfErr, err_from_is_err_and, take_all, take_more, operator_at, IsLowestNamed}
 use Rattle.std.proofs.Math.ListN.{length-append}
 use Rattle.sas_run.specs.declared.plan_check.PlanFault.TheVariants.{NoOperator}
@@ -62,32 +63,13 @@ returns-then-found-steps-clause-ends g c =
     (refl, λ operator named. c.requires.firsts.behind below operator (omega arith) named)
 
 pub returns-clause-leads : goal.returns-clause-leads
-returns-clause-leads g c =
-    let p = c.args.layered.now in
-    let steps = (g.P.Stepwise.says c.args.plan.now).steps in
-    let progress = c.loop-before.progress in
-    let all : length steps ≤ c.loop-before.before = omega arith in
-    subst (λ (names : List (List ℕ)). LeadsTo p names progress.operators.items progress.state) (take_all c.loop-before.before steps all) c.loop-before.invariant.leads
+returns-clause-leads g c = grind (arith, common_steps, take_all)
 
 pub loop-before-init : goal.loop-before-init
-loop-before-init g c =
-    let p = c.args.layered.now in
-    let s = c.args.progress.now.state in
-    record {
-      prepared = c.requires.prepared;
-      noted = refl;
-      follows = c.requires.follows;
-      leads = subst (λ (operators : List ℕ). LeadsTo p [] operators s) (sym c.requires.empty) (record { initial = s; starts = c.requires.initial; goes = refl });
-      one_each = ap length c.requires.empty;
-      room = c.requires.room;
-      kept = omega arith;
-    }
+loop-before-init g c = grind (arith, common_steps)
 
 pub go_on-requires-clause-first : goal.go_on-requires-clause-first
-go_on-requires-clause-first g c =
-    let n = c.loop-before.before in
-    let first = c.requires.firsts.each n c.loop-before-test.true in
-    subst (λ (name : List ℕ). IsLowestNamed c.args.layered.now name 0 (get_or c.args.found.firsts.now n 0)) (sym first.of_name.named) first
+go_on-requires-clause-first g c = grind (arith, common_steps)
 
 pub go_on-requires-clause-state : goal.go_on-requires-clause-state
 go_on-requires-clause-state g c =

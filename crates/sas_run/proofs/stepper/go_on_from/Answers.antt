@@ -1,4 +1,6 @@
 -- The effects are applied, and the result is settled from the state before.
+use Rattle.std.proofs.Common.{arith}
+use Rattle.std.proofs.lemmas.Grind.{common_steps}
 use Rattle.sas_run.proofs.Imports.{Err, ◌≡◌, ◌≢◌, ◌⊎◌, ℕ, ◌∷◌, List, [], is_some, sym, ◌∙◌, ap, subst, inl, inr, All, cases_eq, err_from_is_err_and, All-nil, All-cons, Contains-append_left, Contains-append_right, Contains-push, Fact, Parts, operator_at, Touched, HaveGone, SameBasic, CoversChanges, layer_cases}
 use Rattle.sas_run.specs.Stepping.{HasFactOn, ListsChanges}
 use Rattle.sas_run.specs.Running.{Steps}
@@ -8,25 +10,13 @@ use Rattle.sas_run.proofs.NextStates.{effects_basic, settled_if_basic, step_from
 use Rattle.sas_run.proofs.stepper.go_on_from.Goals as goal
 
 pub settle_on-requires-clause-follows : goal.settle_on-requires-clause-follows
-settle_on-requires-clause-follows g c = (
-  c.args.state.now,
-  c.requires.follows (sym c.apply.ensures.notes.noted ∙ c.if-stepper.true),
-  subst (λ (deleted : List Fact). HaveGone c.args.layered.now deleted c.args.state.now c.apply.new.state) (sym c.as_slice.ensures.value)
-      (c.in_ok-apply.ensures.gone c.if-stepper.true),
-)
+settle_on-requires-clause-follows g c = grind (arith, common_steps)
 
 pub returns-then-stepper-clause-steps : goal.returns-then-stepper-clause-steps
-returns-then-stepper-clause-steps g c =
-    let p = c.args.layered.now in
-    step_from_applied p c.args.state.now (operator_at p c.args.operator) c.apply.new.state c.settle_on.new.state
-    (effects_basic p c.args.operator c.task.ensures.layered c.requires.operator) c.in_ok-apply.ensures.applies c.settle_on.ensures.settles
+returns-then-stepper-clause-steps g c = grind (arith, common_steps, step_from_applied, effects_basic)
 
 pub returns-else-stepper-clause-steps : goal.returns-else-stepper-clause-steps
-returns-else-stepper-clause-steps g c =
-    let p = c.args.layered.now in
-    let s = c.apply.new.state in
-    step_from_applied p c.args.state.now (operator_at p c.args.operator) s s (effects_basic p c.args.operator c.task.ensures.layered c.requires.operator) c.in_ok-apply.ensures.applies
-    (settled_if_basic p s (c.requires.prepared.basic (sym c.apply.ensures.notes.noted ∙ c.if-stepper.false)) c.in_ok-apply.ensures.applies.state)
+returns-else-stepper-clause-steps g c = grind (arith, common_steps, step_from_applied, effects_basic, settled_if_basic)
 
 -- ---- what is listed
 
@@ -71,36 +61,16 @@ returns-then-stepper-clause-lists g c noted =
     (subst (λ (facts : List Fact). HaveGone p facts s c.apply.new.state) (sym c.as_slice.ensures.value) gone))
 
 pub returns-in_err-apply-clause-prepared : goal.returns-in_err-apply-clause-prepared
-returns-in_err-apply-clause-prepared g c = record {
-  ready = c.requires.prepared.ready;
-  clean = c.apply.ensures.clean;
-  room = λ operator lt. room_on c.args.stepper.now.deleted c.apply.new.deleted _ c.apply.ensures.notes (c.requires.prepared.room operator lt);
-  basic = λ none. c.requires.prepared.basic (sym c.apply.ensures.notes.noted ∙ none);
-}
+returns-in_err-apply-clause-prepared g c = grind (arith, common_steps, room_on)
 
 pub returns-in_err-apply-clause-steps : goal.returns-in_err-apply-clause-steps
-returns-in_err-apply-clause-steps g c =
-    let covered : c.from_residual.result ≡ Err c.in_err-apply.field-0.0 =
-    passed_on c.from_residual.result c.in_err-apply.field-0.0 (err_from_is_err_and c.from_residual.result c.from_residual.ensures.1) in
-    subst (Steps c.args.layered.now c.args.state.now c.args.operator c.apply.new.state) (sym covered) c.in_err-apply.ensures.applies
+returns-in_err-apply-clause-steps g c = grind (arith, common_steps, passed_on, err_from_is_err_and)
 
 pub returns-in_err-apply-clause-follows : goal.returns-in_err-apply-clause-follows
-returns-in_err-apply-clause-follows g c noted =
-    subst (λ (s : List ℕ). g.E.Settle.follows c.args.stepper.now.evaluator c.args.layered.now s) (sym c.in_err-apply.ensures.applies.1)
-    (c.requires.follows (sym c.apply.ensures.notes.noted ∙ noted))
+returns-in_err-apply-clause-follows g c noted = grind (arith, common_steps)
 
 pub returns-then-stepper-clause-prepared : goal.returns-then-stepper-clause-prepared
-returns-then-stepper-clause-prepared g c = record {
-  ready = c.settle_on.ensures.ready;
-  clean = c.apply.ensures.clean;
-  room = λ operator lt. room_on c.args.stepper.now.deleted c.apply.new.deleted _ c.apply.ensures.notes (c.requires.prepared.room operator lt);
-  basic = λ none. c.requires.prepared.basic (sym c.apply.ensures.notes.noted ∙ none);
-}
+returns-then-stepper-clause-prepared g c = grind (arith, common_steps, room_on)
 
 pub returns-else-stepper-clause-prepared : goal.returns-else-stepper-clause-prepared
-returns-else-stepper-clause-prepared g c = record {
-  ready = c.requires.prepared.ready;
-  clean = c.apply.ensures.clean;
-  room = λ operator lt. room_on c.args.stepper.now.deleted c.apply.new.deleted _ c.apply.ensures.notes (c.requires.prepared.room operator lt);
-  basic = λ none. c.requires.prepared.basic (sym c.apply.ensures.notes.noted ∙ none);
-}
+returns-else-stepper-clause-prepared g c = grind (arith, common_steps, room_on)

@@ -1,4 +1,5 @@
 -- Making the changes one after another is applying the effects.
+use Rattle.std.proofs.lemmas.Grind.{common_steps}
 use Rattle.sas_run.proofs.Imports.{length, ap, arith, length-map, plain_effect, operator_at}
 use Rattle.sas_run.proofs.PlainSteps.{applied_plainly}
 use Rattle.sas_run.proofs.steps.apply.Goals as goal
@@ -9,5 +10,4 @@ returns-in-Some-clause-applies g c =
     c.make_changes.new.state c.requires.applicable c.in-Some.ensures c.make_changes.ensures.made
 
 pub make_changes-requires-clause-room : goal.make_changes-requires-clause-room
-make_changes-requires-clause-room g c =
-    λ noted. omega (arith, ap length c.in-Some.ensures.effects, length-map c.in-Some.changes.now plain_effect, c.requires.room noted, c.clear.ensures.capacity)
+make_changes-requires-clause-room g c = grind (arith, common_steps, length-map)

@@ -1,4 +1,5 @@
 -- The given value of one more variable is removed.
+use Rattle.std.proofs.lemmas.Grind.{common_steps}
 use Rattle.sas_run.proofs.Imports.{◌≡◌, ◌<◌, length, ap, arith, Change, operator_at, effect_at}
 use Rattle.sas_run.proofs.Ranges.{change_within}
 use Rattle.sas_run.proofs.Giving.{fewer_on_effects, one_more_taken, all_taken}
@@ -14,10 +15,7 @@ set-requires g c =
     )
 
 pub loop-effect-init : goal.loop-effect-init
-loop-effect-init g c = record {
-  on_effects = c.requires.given_to;
-  taken = λ k lt. absurd (omega arith);
-}
+loop-effect-init g c = grind (arith, common_steps)
 
 pub loop-effect-preserved : goal.loop-effect-preserved
 loop-effect-preserved g c =

@@ -1,4 +1,5 @@
 -- The given value of one more variable is written and removed.
+use Rattle.std.proofs.lemmas.Grind.{common_steps}
 use Rattle.sas_run.proofs.Imports.{◌≡◌, ◌<◌, length, set, None, Some, refl, sym, ap, subst, ◌∙◌, inl, inr, arith, IsTrue, cases_eq, Change, operator_at, effect_at, IsBasic, state_set}
 use Rattle.sas_run.specs.declared.deletions.Deleted.{Deleted}
 use Rattle.sas_run.specs.Deletions.{NotesOn}
@@ -65,19 +66,10 @@ loop-effect-preserved g c =
     ]
 
 pub loop-effect-init : goal.loop-effect-init
-loop-effect-init g c = record {
-  state = c.requires.state;
-  on_effects = c.requires.given_to;
-  taken = λ k lt. absurd (omega arith);
-  written = λ var. refl;
-  deleted = λ _. subst (DeletedSoFar c.args.task.now c.args.given.now c.args.state.now c.args.state.now) (sym c.requires.empty) (nothing_deleted c.args.task.now c.args.given.now c.args.state.now);
-  few = λ _. omega (arith, ap length c.requires.empty);
-  notes = notes_still c.args.deleted.now;
-}
+loop-effect-init g c = grind (arith, common_steps, nothing_deleted, notes_still)
 
 pub returns-clause-gone : goal.returns-clause-gone
-returns-clause-gone g c noted =
-    deleted_in_the_end c.args.task.now c.loop-effect.given c.args.state.now c.loop-effect.state c.loop-effect.deleted.facts.items (c.loop-effect.invariant.deleted noted)
+returns-clause-gone g c noted = grind (arith, common_steps, deleted_in_the_end)
 
 pub bounds : goal.bounds
 bounds g c =
@@ -90,14 +82,7 @@ bounds g c =
     )
 
 pub bounds-as_slice-var : goal.bounds-as_slice-var
-bounds-as_slice-var g c =
-    omega (
-      arith,
-      change_within c.args.task.now c.task.ensures.well_ranged c.args.operator c.requires.operator c.loop-effect.effect (omega arith)
-          c.effect_change-var.result c.effect_change-var.ensures,
-      ap length c.as_slice.ensures,
-      c.loop-effect.invariant.on_effects.one_each,
-    )
+bounds-as_slice-var g c = grind (arith, common_steps)
 
 pub replace-requires-clause-exists : goal.replace-requires-clause-exists
 replace-requires-clause-exists g c =
@@ -109,9 +94,7 @@ replace-requires-clause-exists g c =
     )
 
 pub replace-requires-clause-room : goal.replace-requires-clause-room
-replace-requires-clause-room g c noted =
-    let inv = c.loop-effect.invariant in
-    omega (arith, inv.few noted, inv.notes.room, c.requires.room (sym inv.notes.noted ∙ noted))
+replace-requires-clause-room g c noted = grind (arith, common_steps)
 
 pub set-requires : goal.set-requires
 set-requires g c =
@@ -123,6 +106,4 @@ set-requires g c =
     )
 
 pub returns-clause-clean : goal.returns-clause-clean
-returns-clause-clean g c =
-    let inv = c.loop-effect.invariant in
-    all_taken c.args.task.now (operator_at c.args.task.now c.args.operator) c.loop-effect.effect c.loop-effect.given inv.on_effects (omega arith) inv.taken
+returns-clause-clean g c = grind (arith, common_steps, all_taken)
