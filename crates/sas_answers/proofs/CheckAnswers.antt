@@ -1,6 +1,5 @@
 -- A task has an answer about its layers, and only one.
-use Rattle.sas_answers.proofs.Imports.{◌≡◌, ℕ, ◌+◌, Bool, true, false, if◌then◌else◌, List, [], ◌∷◌, ◌++◌, flat_map, codes, refl, ap, Option, Some, enumerate_from, Operator, Rule, Parts, Check, first_fault, check, LayerFault, can_fire, IsLayered, effect_layer_checks, operator_layer_checks, firing_checks, rule_layer_checks, layer_checks, checks_are_rules, Yes, Output}
-use Rattle.sas_answers.specs.Answers.{layers_refusal, layers_verdict, CheckAnswer}
+use Rattle.sas_answers.proofs.Imports.{◌≡◌, ℕ, ◌+◌, Bool, true, false, if◌then◌else◌, List, [], ◌∷◌, ◌++◌, flat_map, codes, refl, ap, Option, Some, enumerate_from, Operator, Rule, Parts, Check, first_fault, check, LayerFault, can_fire, IsLayered, effect_layer_checks, operator_layer_checks, firing_checks, rule_layer_checks, layer_checks, checks_are_rules, Yes, Output, layers_refusal, layers_verdict, CheckAnswer}
 use Rattle.sas_answers.proofs.AnswerLaws.{OneAnswer, SomeAnswer}
 
 -- a layered task is said to be so

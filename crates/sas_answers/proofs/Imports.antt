@@ -1,6 +1,5 @@
--- What the proofs use of other crates.
-pub use Rattle.std.proofs.Common.{◌≡◌, ℕ, ◌+◌, Bool, true, false, if◌then◌else◌, List, [], ◌∷◌, ◌++◌, flat_map, codes, refl, ap, Option, Some, ◌<◌}
-pub use Rattle.std.proofs.Common.{length, take, get_or, sym, subst, ◌∙◌, arith, append-nil, None, inl, inr, option_map, rules}
+-- What the proofs use of other crates, and of the definitions of this one.
+pub use Rattle.std.proofs.Common.{◌≡◌, ℕ, ◌+◌, Bool, true, false, if◌then◌else◌, List, [], ◌∷◌, ◌++◌, flat_map, codes, refl, ap, Option, Some, ◌<◌, length, take, get_or, sym, subst, ◌∙◌, arith, append-nil, None, inl, inr, option_map, rules}
 pub use Rattle.std.proofs.lemmas.Grind.{flat_map-append, common_steps}
 pub use Rattle.std.proofs.lemmas.List.{take_more, length-take}
 pub use Rattle.std.proofs.lemmas.Option.{none-some}
@@ -24,3 +23,5 @@ pub use Rattle.sas_run.proofs.PlanVerdicts.{some_verdict, valid_has_no_fault, fa
 pub use Rattle.sas_run.specs.Verdicts.{IsFaultOf}
 pub use Rattle.sas_run.specs.declared.plan_check.PlanFault.{PlanFault}
 pub use Rattle.sas_run.specs.declared.plan_check.PlanFault.TheVariants.{Memory, NoOperator, NotApplicable, Conflict, GoalMissed, CostDiffers}
+pub use Rattle.sas_answers.specs.Answers.{layers_refusal, layers_verdict, CheckAnswer, GroupsAnswer, LayeredGroupsAnswer, MutexAnswer, valid_answer, invalid_answer, VerdictAnswer}
+pub use Rattle.sas_answers.specs.GroupWords.{group_line, verdict_lines_from, verdict_lines, groups_status}

@@ -1,7 +1,5 @@
 -- A task has an answer about its mutex groups, and only one; and how the answer comes about.
-use Rattle.sas_answers.proofs.Imports.{◌≡◌, ℕ, ◌+◌, ◌<◌, List, [], ◌∷◌, ◌++◌, length, take, get_or, refl, sym, ap, subst, ◌∙◌, arith, append-nil, Option, Some, None, take_more, length-take, flat_map-append, Parts, first_fault, LayerFault, IsLayered, layer_checks, checks_are_rules, text, Verdict, one_list, some_list, Output}
-use Rattle.sas_answers.specs.GroupWords.{group_line, verdict_lines_from, verdict_lines, groups_status}
-use Rattle.sas_answers.specs.Answers.{GroupsAnswer, LayeredGroupsAnswer, MutexAnswer}
+use Rattle.sas_answers.proofs.Imports.{◌≡◌, ℕ, ◌+◌, ◌<◌, List, [], ◌∷◌, ◌++◌, length, take, get_or, refl, sym, ap, subst, ◌∙◌, arith, append-nil, Option, Some, None, take_more, length-take, flat_map-append, Parts, first_fault, LayerFault, IsLayered, layer_checks, checks_are_rules, text, Verdict, one_list, some_list, Output, group_line, verdict_lines_from, verdict_lines, groups_status, GroupsAnswer, LayeredGroupsAnswer, MutexAnswer}
 use Rattle.sas_answers.proofs.AnswerLaws.{OneAnswer, SomeAnswer}
 use Rattle.sas_answers.proofs.CheckAnswers.{some_check_answer}
 

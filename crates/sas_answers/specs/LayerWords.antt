@@ -1,8 +1,7 @@
 -- The words for why a task isn't layered.
 use Rattle.std.specs.Prelude.{ℕ, List, ◌++◌, codes, decimal, Option, Some, None}
 use Rattle.sas_meaning.specs.declared.layered.LayerFault.{LayerFault}
-use Rattle.sas_meaning.specs.declared.layered.LayerFault.TheVariants.{EffectOnDerived, RuleOnBasic, OldValue}
-use Rattle.sas_meaning.specs.declared.layered.LayerFault.TheVariants.{TwoValues, LayerOrder, Memory}
+use Rattle.sas_meaning.specs.declared.layered.LayerFault.TheVariants.{EffectOnDerived, RuleOnBasic, OldValue, TwoValues, LayerOrder, Memory}
 
 -- `PART I: WHAT`, where I is the part's place
 abbrev pub words_at_part : List ℕ → ℕ → List ℕ → List ℕ

@@ -2,8 +2,7 @@
 ghost use Rattle.std.specs.Prelude.{◌≡◌, option_map, Some, IfOk};
 ghost use Rattle.sas_answers.specs.Answers.{VerdictAnswer, valid_answer, invalid_answer};
 ghost use Rattle.sas_output.specs.Ending.{output_of};
-ghost use Rattle.sas_answers.specs.PlanWords.{valid_line, fault_words, step_words};
-ghost use Rattle.sas_answers.specs.PlanWords.{goal_words, sum_words, invalid_line};
+ghost use Rattle.sas_answers.specs.PlanWords.{valid_line, fault_words, step_words, goal_words, sum_words, invalid_line};
 
 use sas_axioms::Worklist;
 use sas_core::{Grounded, Stepwise};

@@ -1,10 +1,5 @@
 -- The index of all conditions, and how the counters change with the value of a variable.
-use Rattle.sas_axioms.proofs.Imports.{◌≡◌, ◌≢◌, ℕ, ◌+◌, ◌<◌, ◌≤◌, ◌==◌, ◌&&◌, ◌^◌, Bool, true, false, cond, List, [], ◌∷◌, ◌++◌, length, get_or, set, None, refl, sym, ◌∙◌, ap, subst, inl, inr, arith, All, get_or-set_same, get_or-set_other, length-set, cases_eq, eq-eqb, eqb_tells, All-nil, All-cons, All-tail, All-append, All-weaker, Fact, Parts, rule_at, WellRanged, RuleFits, holds_at, Entry}
-use Rattle.sas_axioms.proofs.Imports.{items_of, by_key, length-table, items_none, items_cons, under_key, all_items, condition_within}
-use Rattle.sas_axioms.specs.declared.conditions.Waiting.{Waiting}
-use Rattle.sas_axioms.specs.LayerRules.{IsRuleOn}
-use Rattle.sas_axioms.specs.Conditions.{asking, waiting_entry, waits, waiting_at, released, occurrences, open_conditions, IsOfRule, IsCondition, entries, AreAllConditions, IsFullIndex, AreCounted}
-use Rattle.sas_axioms.specs.Worklist.{AreCountedBy}
+use Rattle.sas_axioms.proofs.Imports.{◌≡◌, ◌≢◌, ℕ, ◌+◌, ◌<◌, ◌≤◌, ◌==◌, ◌&&◌, ◌^◌, Bool, true, false, cond, List, [], ◌∷◌, ◌++◌, length, get_or, set, None, refl, sym, ◌∙◌, ap, subst, inl, inr, arith, All, get_or-set_same, get_or-set_other, length-set, cases_eq, eq-eqb, eqb_tells, All-nil, All-cons, All-tail, All-append, All-weaker, Fact, Parts, rule_at, WellRanged, RuleFits, holds_at, Entry, Waiting, IsRuleOn, asking, waiting_entry, waits, waiting_at, released, occurrences, open_conditions, IsOfRule, IsCondition, entries, AreAllConditions, IsFullIndex, AreCounted, AreCountedBy, items_of, by_key, length-table, items_none, items_cons, under_key, all_items, condition_within}
 
 -- ---- building the index
 

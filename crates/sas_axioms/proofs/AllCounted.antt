@@ -1,9 +1,5 @@
 -- After all layers are settled, each derived variable was set by its source.
-use Rattle.sas_axioms.proofs.Imports.{ℕ, ◌+◌, ◌<◌, ◌≤◌, ◌≡◌, List, length, sym, subst, inl, inr, arith, cases_eq, cases_lt, Parts, IsState, IsLayered, IsSettled, SameOff, AtDefault, default_off}
-use Rattle.sas_axioms.specs.declared.firing.Work.{Work}
-use Rattle.sas_axioms.specs.Conditions.{AreCounted}
-use Rattle.sas_axioms.specs.Following.{IsFollowed}
-use Rattle.sas_axioms.specs.Sources.{AreGiven, SameSourcesOff}
+use Rattle.sas_axioms.proofs.Imports.{ℕ, ◌+◌, ◌<◌, ◌≤◌, ◌≡◌, List, length, sym, subst, inl, inr, arith, cases_eq, cases_lt, Parts, IsState, IsLayered, IsSettled, SameOff, AtDefault, default_off, Work, AreCounted, IsFollowed, AreGiven, SameSourcesOff}
 use Rattle.sas_axioms.proofs.Sources.{given_off, given_at_default}
 
 pub given_to_next : (p : Parts) (layer : ℕ) (s s' sources sources' : List ℕ) → IsLayered p → SameOff p layer s s' → SameSourcesOff p layer sources sources' → AreGiven p layer s' sources'

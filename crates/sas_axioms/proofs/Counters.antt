@@ -1,15 +1,8 @@
 -- The counters of a worklist.
-use Rattle.sas_axioms.proofs.Imports.{◌≡◌, ◌≢◌, ℕ, ◌+◌, ◌-◌, ◌<◌, ◌≤◌, ◌==◌, ◌&&◌, ◌⊎◌, true, cond, List, [], ◌∷◌, ◌++◌, length, get_or, set, refl, sym, ◌∙◌, ap, subst, inl, inr, arith, cases_eq, eq-eqb, eqb_tells, get_or-set_same, get_or-set_other, length-set, get_or_default, length-append, vec_capacity, Fact, Rule, Parts, rule_at, IsState, WellRanged, Holds, AllHold, IsOnLayer, default_of}
-use Rattle.sas_axioms.proofs.Imports.{IsLayered, differs, IsSettledAt, OnlyForced, HasFired, SameOff, AtDefault, equal_places, All, All-nil, All-cons, All-head, All-tail, Fired, fired_there, rule_new, differs_true, differs_not, fact_within, new_value_is, forced_at_default, settled_when_fired, differs_decides}
-use Rattle.sas_axioms.specs.LayerRules.{IsRuleOn}
-use Rattle.sas_axioms.specs.Sources.{AreGiven}
-use Rattle.sas_axioms.specs.Conditions.{open_conditions, occurrences, released, asking, waiting_at, IsFullIndex}
-use Rattle.sas_axioms.specs.declared.conditions.Waiting.{Waiting}
-use Rattle.sas_axioms.specs.declared.firing.Work.{Work}
+use Rattle.sas_axioms.proofs.Imports.{◌≡◌, ◌≢◌, ℕ, ◌+◌, ◌<◌, ◌≤◌, ◌==◌, ◌⊎◌, true, cond, List, [], ◌∷◌, ◌++◌, length, get_or, set, refl, sym, ◌∙◌, ap, subst, inl, inr, arith, cases_eq, eqb_tells, get_or-set_same, get_or-set_other, length-set, get_or_default, length-append, vec_capacity, Fact, Rule, Parts, rule_at, IsState, WellRanged, Holds, AllHold, IsOnLayer, default_of, IsRuleOn, AreGiven, open_conditions, occurrences, asking, Waiting, Work, value_seen, IsRunning, AreCountedBy, HaveFired, HasRoom, IsAtWork, IsPopped, WorkGoesOn, FiresRule, IsLayered, differs, IsSettledAt, OnlyForced, HasFired, SameOff, AtDefault, equal_places, All, All-nil, All-cons, All-head, All-tail, Fired, fired_there, rule_new, differs_true, differs_not, fact_within, new_value_is, forced_at_default, settled_when_fired, differs_decides}
 use Rattle.sas_axioms.proofs.AllConditions.{open_changed}
 use Rattle.sas_axioms.proofs.CountingEntries.{CountersSoFar, counters_after}
 use Rattle.sas_axioms.proofs.Sources.{no_rule}
-use Rattle.sas_axioms.specs.Worklist.{value_seen, IsRunning, AreCountedBy, HaveFired, HasRoom, IsAtWork, IsPopped, WorkGoesOn, FiresRule}
 
 pub occurrences-append : (n : ℕ) (xs ys : List ℕ) → occurrences n (xs ++ ys) ≡ occurrences n xs + occurrences n ys
 occurrences-append n [] ys = omega arith

@@ -1,13 +1,5 @@
 -- Updating the counters for the conditions on a variable, one entry at a time.
-use Rattle.sas_axioms.proofs.Imports.{◌≡◌, ◌≢◌, ◌⊎◌, ◌↔◌, ℕ, ◌+◌, ◌*◌, ◌<◌, ◌≤◌, Vec, Global, List, ◌∷◌, length, get_or, set, drop, refl, sym, ◌∙◌, ap, subst, inl, inr, arith, Contains, heap_items, cases_eq, eqb_tells, drop_all, drop_more, get_or-set_same, get_or-set_other, length-set, Contains-get_or, All-contains, Reverse, Parts}
-use Rattle.sas_axioms.specs.declared.agenda.Agenda.{Agenda}
-use Rattle.sas_axioms.specs.declared.firing.Work.{Work}
-use Rattle.sas_axioms.specs.declared.layer_rules.LayerRule.{LayerRule}
-use Rattle.sas_axioms.specs.declared.conditions.Waiting.{Waiting}
-use Rattle.sas_axioms.specs.Agenda.{IsOnAgenda, IsOrdered, work_left}
-use Rattle.sas_axioms.specs.Following.{SameWork, NotesMore, CountsTo, Recounts}
-use Rattle.sas_axioms.specs.LayerRules.{IsRuleOn}
-use Rattle.sas_axioms.specs.Conditions.{occurrences, released}
+use Rattle.sas_axioms.proofs.Imports.{◌≡◌, ◌≢◌, ◌⊎◌, ◌↔◌, ℕ, ◌+◌, ◌*◌, ◌<◌, ◌≤◌, Vec, Global, List, ◌∷◌, length, get_or, set, drop, refl, sym, ◌∙◌, ap, subst, inl, inr, arith, Contains, heap_items, cases_eq, eqb_tells, drop_all, drop_more, get_or-set_same, get_or-set_other, length-set, Contains-get_or, All-contains, Reverse, Parts, Agenda, Work, LayerRule, Waiting, IsOnAgenda, IsOrdered, work_left, SameWork, NotesMore, CountsTo, Recounts, IsRuleOn, occurrences, released}
 
 abbrev pub no_entry : Waiting
 no_entry = record { value = 0; rule = 0 }

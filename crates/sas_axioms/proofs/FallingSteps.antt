@@ -1,13 +1,5 @@
 -- Resetting the variables of a layer one by one, and the rules that depend on them.
-use Rattle.sas_axioms.proofs.Imports.{◌≡◌, ◌≢◌, ◌⊎◌, ℕ, ◌+◌, ◌<◌, ◌≤◌, true, List, [], ◌∷◌, length, get_or, set, sym, ◌∙◌, ap, subst, inl, inr, arith, All, Contains, cases_eq, get_or-set_same, get_or-set_other, All-nil, All-cons, Contains-append_left, Contains-append_right, Contains-push, All-contains, Reverse, Parts, Change, rule_change, WellRanged, rule_at, IsState, IsOnLayer, default_of}
-use Rattle.sas_axioms.proofs.Imports.{IsLayered, differs, IsSettled, state_set, differs_true, differs_not, heap_items}
-use Rattle.sas_axioms.specs.declared.agenda.Agenda.{Agenda}
-use Rattle.sas_axioms.specs.declared.firing.Work.{Work}
-use Rattle.sas_axioms.specs.declared.layer_rules.LayerRule.{LayerRule}
-use Rattle.sas_axioms.specs.Agenda.{entry_for, IsOnAgenda, IsAwaited, AreBehind, RemovesFromAgenda, IsMadeReady, AreMadeReady, work_left}
-use Rattle.sas_axioms.specs.Following.{SameFrom, ChangesAreNoted, SameWork, CountsChange, IsOnTrack, IsFalling, IsRising}
-use Rattle.sas_axioms.specs.Sources.{IsHolding, HaveSources, SourcesHold}
-use Rattle.sas_axioms.specs.LayerRules.{IsRuleOn}
+use Rattle.sas_axioms.proofs.Imports.{◌≡◌, ◌≢◌, ◌⊎◌, ℕ, ◌+◌, ◌<◌, ◌≤◌, true, List, [], ◌∷◌, length, get_or, set, sym, ◌∙◌, ap, subst, inl, inr, arith, All, Contains, cases_eq, get_or-set_same, get_or-set_other, All-nil, All-cons, Contains-append_left, Contains-append_right, Contains-push, All-contains, Reverse, Parts, Change, rule_change, WellRanged, rule_at, IsState, IsOnLayer, default_of, Agenda, Work, LayerRule, entry_for, IsOnAgenda, IsAwaited, AreBehind, RemovesFromAgenda, IsMadeReady, AreMadeReady, work_left, SameFrom, ChangesAreNoted, SameWork, CountsChange, IsOnTrack, IsFalling, IsRising, IsHolding, HaveSources, SourcesHold, IsRuleOn, IsLayered, differs, IsSettled, state_set, differs_true, differs_not, heap_items}
 use Rattle.sas_axioms.proofs.OneLayer.{one_layer}
 use Rattle.sas_axioms.proofs.Sources.{sources_fall}
 use Rattle.sas_axioms.proofs.Tracking.{awaited_on, track_taken, track_ready, track_moved}

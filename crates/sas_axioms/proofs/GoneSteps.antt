@@ -1,12 +1,5 @@
 -- Updating the counters for the basic variables that changed, one at a time.
-use Rattle.sas_axioms.proofs.Imports.{◌≡◌, ◌≢◌, ℕ, zero, suc, ◌<◌, List, [], ◌∷◌, length, get_or, set, refl, sym, ◌∙◌, ap, subst, inl, inr, arith, All, AllPairs, heap_items, cases_eq, get_or-set_same, get_or-set_other, All-nil, All-cons, All-head, All-tail, All-contains, Reverse, Fact, Parts, rule_at, IsState, HaveGone, IsBasic, IsOnLayer, IsLayered, IsSettledAt, Settles, Holds, differs_true}
-use Rattle.sas_axioms.proofs.Imports.{differs_not}
-use Rattle.sas_axioms.specs.declared.firing.Work.{Work}
-use Rattle.sas_axioms.specs.declared.layer_rules.LayerRule.{LayerRule}
-use Rattle.sas_axioms.specs.Agenda.{IsEmpty}
-use Rattle.sas_axioms.specs.Sources.{IsHolding, SourcesHold, AreGiven}
-use Rattle.sas_axioms.specs.Following.{CountsChange, IsFollowed, CountedSoFar, IsBetween}
-use Rattle.sas_axioms.specs.LayerRules.{IsRuleOn}
+use Rattle.sas_axioms.proofs.Imports.{◌≡◌, ◌≢◌, ℕ, zero, suc, ◌<◌, List, [], ◌∷◌, length, get_or, set, refl, sym, ◌∙◌, ap, subst, inl, inr, arith, All, AllPairs, heap_items, cases_eq, get_or-set_same, get_or-set_other, All-nil, All-cons, All-head, All-tail, All-contains, Reverse, Fact, Parts, rule_at, IsState, HaveGone, IsBasic, IsOnLayer, IsLayered, IsSettledAt, Settles, Holds, differs_true, Work, LayerRule, IsEmpty, IsHolding, SourcesHold, AreGiven, CountsChange, IsFollowed, CountedSoFar, IsBetween, IsRuleOn, differs_not}
 use Rattle.sas_axioms.proofs.Counters.{open_same}
 use Rattle.sas_axioms.proofs.FallingSteps.{noted_moved}
 use Rattle.sas_axioms.proofs.Sources.{sources_same, settled_when_given}

@@ -1,7 +1,5 @@
 -- The rules of one layer, among all rules.
-use Rattle.sas_axioms.proofs.Imports.{◌≡◌, ℕ, ◌+◌, ◌-◌, ◌<◌, ◌≤◌, List, length, get_or, take, drop, sym, ◌∙◌, ap, subst, inl, inr, arith, All, Contains, slice_index_or, cases_lt, get_or-take, get_or-drop, length-take, length-drop, Parts}
-use Rattle.sas_axioms.specs.declared.layer_rules.LayerRule.{LayerRule}
-use Rattle.sas_axioms.specs.LayerRules.{IsRuleOn, AreLayerRules, IsLayerEnd, AreRulesOn}
+use Rattle.sas_axioms.proofs.Imports.{◌≡◌, ℕ, ◌+◌, ◌-◌, ◌<◌, ◌≤◌, List, length, get_or, take, drop, sym, ◌∙◌, ap, subst, inl, inr, arith, All, Contains, slice_index_or, cases_lt, get_or-take, get_or-drop, length-take, length-drop, Parts, LayerRule, IsRuleOn, AreLayerRules, IsLayerEnd, AreRulesOn}
 
 -- what is said of each item from one place up to another is said of the part of the list there
 pub all_part : {X : Type 0} (P : X → Type 0) (xs : List X) (from to : ℕ) → ((place : ℕ) (d : X) → from ≤ place → place < to → place < length xs → P (get_or xs place d))

@@ -1,6 +1,5 @@
 -- Late rules don't fire first.
-use Rattle.sas_axioms.proofs.Imports.{ℕ, List, get_or, sym, subst, Fact, Parts, rule_at, AllHold, IsOnLayer, IsLayered, AtDefault, differs_not}
-use Rattle.sas_axioms.specs.LayerRules.{IsRuleOn, IsLate}
+use Rattle.sas_axioms.proofs.Imports.{ℕ, List, get_or, sym, subst, Fact, Parts, rule_at, AllHold, IsOnLayer, IsLayered, AtDefault, differs_not, IsRuleOn, IsLate}
 use Rattle.sas_axioms.proofs.Sources.{condition_differs}
 
 -- a late rule doesn't hold while the variables of its layer have their defaults

@@ -1,7 +1,5 @@
 -- Collecting the rules that can fire, without late ones.
-use Rattle.sas_axioms.proofs.Imports.{◌≡◌, ◌⊎◌, ℕ, ◌+◌, ◌<◌, List, [], ◌∷◌, ◌++◌, length, sym, subst, inl, inr, arith, All, Contains, cases_eq, All-nil, All-push, Contains-append_left, Contains-push, Parts}
-use Rattle.sas_axioms.specs.declared.layer_rules.LayerRule.{LayerRule}
-use Rattle.sas_axioms.specs.LayerRules.{IsRuleOn, IsLate, AreFirstRules}
+use Rattle.sas_axioms.proofs.Imports.{◌≡◌, ◌⊎◌, ℕ, ◌+◌, ◌<◌, List, [], ◌∷◌, ◌++◌, length, sym, subst, inl, inr, arith, All, Contains, cases_eq, All-nil, All-push, Contains-append_left, Contains-push, Parts, LayerRule, IsRuleOn, IsLate, AreFirstRules}
 
 -- those of the first `k` rules that can fire, without late ones
 pub record FirstUpTo (p : Parts) (k : ℕ) (rules : List LayerRule) : Type 0 where

@@ -1,10 +1,5 @@
 -- When the value of a variable changes: which counters change, and which rules are noted.
-use Rattle.sas_axioms.proofs.Imports.{◌≡◌, ℕ, zero, suc, ◌+◌, ◌<◌, ◌≤◌, List, [], ◌∷◌, length, get_or, set, refl, sym, subst, inl, inr, arith, Contains, heap_items, eq-eqb, eqb_tells, Fact, Parts, rule_at, WellRanged}
-use Rattle.sas_axioms.specs.declared.firing.Work.{Work}
-use Rattle.sas_axioms.specs.declared.conditions.Waiting.{Waiting}
-use Rattle.sas_axioms.specs.Conditions.{IsFullIndex, AreCounted, asking, occurrences, released, waiting_at}
-use Rattle.sas_axioms.specs.Following.{AsksAbout, SameWork, Recounts, CountsChange}
-use Rattle.sas_axioms.specs.LayerRules.{IsRuleOn}
+use Rattle.sas_axioms.proofs.Imports.{◌≡◌, ℕ, zero, suc, ◌+◌, ◌<◌, ◌≤◌, List, [], ◌∷◌, length, get_or, set, refl, sym, subst, inl, inr, arith, Contains, heap_items, eq-eqb, eqb_tells, Fact, Parts, rule_at, Work, Waiting, IsFullIndex, AreCounted, asking, occurrences, released, waiting_at, AsksAbout, SameWork, Recounts, CountsChange, IsRuleOn}
 use Rattle.sas_axioms.proofs.AllConditions.{recounted}
 use Rattle.sas_axioms.proofs.Tracking.{holding_when_zero, zero_when_holding}
 

@@ -1,13 +1,5 @@
 -- The rules of a layer that hold set their variables, one by one.
-use Rattle.sas_axioms.proofs.Imports.{◌≡◌, ◌≢◌, ◌⊎◌, ◌↔◌, ℕ, ◌+◌, ◌<◌, ◌≤◌, true, List, [], length, get_or, set, sym, ◌∙◌, ap, subst, inl, inr, arith, heap_items, cases_eq, cases_lt, get_or-set_same, get_or-set_other, length-set, All-nil, All-contains, Reverse, Parts, rule_at, WellRanged, IsOnLayer, IsLayered, differs, IsSettledAt, IsSettled, SameOff, Fired, fired_there, differs_true, differs_not}
-use Rattle.sas_axioms.proofs.Imports.{settled_off}
-use Rattle.sas_axioms.specs.declared.firing.Work.{Work}
-use Rattle.sas_axioms.specs.declared.agenda.Agenda.{Agenda}
-use Rattle.sas_axioms.specs.declared.layer_rules.LayerRule.{LayerRule}
-use Rattle.sas_axioms.specs.Agenda.{entry_for, IsOnAgenda, IsAwaited, NoLowerLayer, AreBehind, RemovesFromAgenda}
-use Rattle.sas_axioms.specs.Following.{SameFrom, ChangesAreNoted, SameWork, CountsChange, IsOnTrack, IsBetween, IsFalling, IsRising, HasRisen, IsFollowed}
-use Rattle.sas_axioms.specs.LayerRules.{IsRuleOn}
-use Rattle.sas_axioms.specs.Sources.{IsHolding, HaveSources, SourcesHold, AreGiven}
+use Rattle.sas_axioms.proofs.Imports.{◌≡◌, ◌≢◌, ◌⊎◌, ◌↔◌, ℕ, ◌+◌, ◌<◌, ◌≤◌, true, List, [], length, get_or, set, sym, ◌∙◌, ap, subst, inl, inr, arith, heap_items, cases_eq, cases_lt, get_or-set_same, get_or-set_other, length-set, All-nil, All-contains, Reverse, Parts, rule_at, WellRanged, IsOnLayer, IsLayered, differs, IsSettledAt, IsSettled, SameOff, Fired, fired_there, differs_true, differs_not, Work, Agenda, LayerRule, entry_for, IsOnAgenda, IsAwaited, NoLowerLayer, AreBehind, RemovesFromAgenda, SameFrom, ChangesAreNoted, SameWork, CountsChange, IsOnTrack, IsBetween, IsFalling, IsRising, HasRisen, IsFollowed, IsRuleOn, IsHolding, HaveSources, SourcesHold, AreGiven, settled_off}
 use Rattle.sas_axioms.proofs.Counters.{was_default}
 use Rattle.sas_axioms.proofs.FallingSteps.{noted_taken, noted_moved, same_moved, still_awaited}
 use Rattle.sas_axioms.proofs.Sources.{no_rule, forced_when_given, sources_same, given_off, given_when_fired, differs_where_holding, settled_when_given}

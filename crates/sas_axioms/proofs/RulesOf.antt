@@ -1,7 +1,5 @@
 -- The rules of each variable that can fire, one rule more.
-use Rattle.sas_axioms.proofs.Imports.{◌≡◌, ◌≢◌, ℕ, ◌+◌, ◌<◌, ◌≤◌, Bool, true, false, List, [], ◌∷◌, ◌++◌, length, get_or, refl, sym, ◌∙◌, ap, subst, inl, inr, arith, ◌==◌, ◌&&◌, not, if◌then◌else◌, All, Contains, eqb-true, eq-eqb, ne_eqb, and_parts, and_from, eqb_tells, Decides-eqb, Decides-not, append-nil, All-nil, All-push, Contains-get_or, Rule, Parts, rule_at, Entry, items_of, by_key}
-use Rattle.sas_axioms.proofs.Imports.{length-table, item_if, items_none, items_append, items_cons, under_key, IsOnLayer, default_of, CanFire, can_fire, places, can_give, on_layer_within, places_to, places_one_more, places_all, place_is, is_place}
-use Rattle.sas_axioms.specs.LayerRules.{IsRuleOn, AreRulesOf}
+use Rattle.sas_axioms.proofs.Imports.{◌≡◌, ◌≢◌, ℕ, ◌+◌, ◌<◌, ◌≤◌, Bool, true, false, List, [], ◌∷◌, ◌++◌, length, get_or, refl, sym, ◌∙◌, ap, subst, inl, inr, arith, ◌==◌, ◌&&◌, not, if◌then◌else◌, All, Contains, eqb-true, eq-eqb, ne_eqb, and_parts, and_from, eqb_tells, Decides-eqb, Decides-not, append-nil, All-nil, All-push, Contains-get_or, Rule, Parts, rule_at, Entry, items_of, by_key, IsRuleOn, AreRulesOf, length-table, item_if, items_none, items_append, items_cons, under_key, IsOnLayer, default_of, CanFire, can_fire, places, can_give, on_layer_within, places_to, places_one_more, places_all, place_is, is_place}
 
 module _ (p : Parts) where
   abbrev pub entry_of : ℕ → Entry ℕ

@@ -1,9 +1,6 @@
 -- Variables set by sources are forced, and a rule that fires is a source.
-use Rattle.sas_axioms.proofs.Imports.{◌≡◌, ◌≢◌, ℕ, zero, suc, ◌+◌, ◌<◌, ◌==◌, Bool, true, cond, List, [], ◌∷◌, length, get_or, set, None, refl, sym, ◌∙◌, ap, subst, inl, inr, arith, cases_eq, eq-eqb, eqb_tells, get_or_default, get_or-set_same, get_or-set_other, Fact, Rule, Parts, rule_at, IsOnLayer, default_of, IsLayered, new_value_of, value_with, IsClosed, differs, IsSettledAt, OnlyForced}
-use Rattle.sas_axioms.proofs.Imports.{HasFired, AtDefault, SameOff, differs_true, differs_not, layer_decides, given_on, looks_down, new_value_is, settled_when_fired, differs_decides}
+use Rattle.sas_axioms.proofs.Imports.{◌≡◌, ◌≢◌, ℕ, zero, suc, ◌+◌, ◌<◌, ◌==◌, Bool, true, cond, List, [], ◌∷◌, length, get_or, set, None, refl, sym, ◌∙◌, ap, subst, inl, inr, arith, cases_eq, eq-eqb, eqb_tells, get_or_default, get_or-set_same, get_or-set_other, Fact, Rule, Parts, rule_at, IsOnLayer, default_of, IsLayered, new_value_of, value_with, IsClosed, differs, IsSettledAt, OnlyForced, IsRuleOn, IsHolding, IsSourceOf, HaveSources, AreGiven, HasFired, AtDefault, SameOff, differs_true, differs_not, layer_decides, given_on, looks_down, new_value_is, settled_when_fired, differs_decides}
 use Rattle.sas_meaning.proofs.Layers.{given_off as value_off}
-use Rattle.sas_axioms.specs.LayerRules.{IsRuleOn}
-use Rattle.sas_axioms.specs.Sources.{IsHolding, IsSourceOf, HaveSources, AreGiven}
 
 abbrev pub no_rule : Rule
 no_rule = record { conditions = []; var = 0; old = None; new = 0 }

@@ -1,8 +1,5 @@
 -- The spans of the layers in a list of rules.
-use Rattle.sas_axioms.proofs.Imports.{◌≡◌, ℕ, ◌+◌, ◌<◌, ◌≤◌, List, [], ◌∷◌, ◌++◌, length, get_or, drop, refl, sym, ◌∙◌, ap, subst, inl, inr, arith, cases_lt, drop_more, drop_all}
-use Rattle.sas_axioms.specs.declared.layer_rules.LayerRule.{LayerRule}
-use Rattle.sas_axioms.specs.declared.layer_rules.LayerSpan.{LayerSpan}
-use Rattle.sas_axioms.specs.LayerRules.{IsLayerSpan, AreSpans}
+use Rattle.sas_axioms.proofs.Imports.{◌≡◌, ℕ, ◌+◌, ◌<◌, ◌≤◌, List, [], ◌∷◌, ◌++◌, length, get_or, drop, refl, sym, ◌∙◌, ap, subst, inl, inr, arith, cases_lt, drop_more, drop_all, LayerRule, LayerSpan, IsLayerSpan, AreSpans}
 
 -- a layer has a rule
 pub span_moves : (rules : List LayerRule) (place layer end : ℕ) → IsLayerSpan rules place layer end → place < end

@@ -1,9 +1,5 @@
 -- Where the layers of a worklist begin and end.
-use Rattle.sas_axioms.proofs.Imports.{◌≡◌, ◌≢◌, ℕ, ◌+◌, ◌-◌, ◌<◌, ◌≤◌, List, length, get_or, take, drop, ap, inl, inr, arith, cases_lt, Contains, Parts}
-use Rattle.sas_axioms.specs.declared.layer_rules.LayerRule.{LayerRule}
-use Rattle.sas_axioms.specs.ByLayers.{IsIdle}
-use Rattle.sas_axioms.specs.LayerRules.{AreLayerRules, IsLayerSpan, AreRulesOn}
-use Rattle.sas_axioms.specs.Worklist.{LayerBeginsAt}
+use Rattle.sas_axioms.proofs.Imports.{◌≡◌, ◌≢◌, ℕ, ◌+◌, ◌-◌, ◌<◌, ◌≤◌, List, length, get_or, take, drop, ap, inl, inr, arith, cases_lt, Contains, Parts, LayerRule, IsIdle, AreLayerRules, IsLayerSpan, AreRulesOn, LayerBeginsAt}
 use Rattle.sas_axioms.proofs.Groups.{layer_group}
 
 module _ (p : Parts) (rules : List LayerRule) (from place : ℕ) (rules_are : AreLayerRules p rules) (stands : LayerBeginsAt rules from place) where

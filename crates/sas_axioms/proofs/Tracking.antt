@@ -1,13 +1,5 @@
 -- What is counted and noted goes on to fit the state.
-use Rattle.sas_axioms.proofs.Imports.{◌≡◌, ℕ, ◌≤◌, List, ◌++◌, length, get_or, set, is_some, sym, ap, ◌∙◌, subst, inl, inr, All, Contains, heap_items, All-contains, All-append, Reverse, Parts, rule_at, IsState, IsOnLayer, IsLayered, LooksDown, Touched, AddsTouched, StillCovers, looks_down, covers_set, SameOff, get_or-set_other}
-use Rattle.sas_axioms.specs.declared.agenda.Agenda.{Agenda}
-use Rattle.sas_axioms.specs.declared.firing.Work.{Work}
-use Rattle.sas_axioms.specs.declared.layer_rules.LayerRule.{LayerRule}
-use Rattle.sas_axioms.specs.Agenda.{IsAwaited, RemovesFromAgenda}
-use Rattle.sas_axioms.specs.Conditions.{AreCounted}
-use Rattle.sas_axioms.specs.Sources.{IsHolding}
-use Rattle.sas_axioms.specs.Following.{AsksAbout, CountsChange, IsOnTrack, SameWork, KeepsRoom}
-use Rattle.sas_axioms.specs.LayerRules.{IsRuleOn}
+use Rattle.sas_axioms.proofs.Imports.{◌≡◌, ℕ, ◌≤◌, List, ◌++◌, length, get_or, set, is_some, sym, ap, ◌∙◌, subst, inl, inr, All, Contains, heap_items, All-contains, All-append, Reverse, Parts, rule_at, IsState, IsOnLayer, IsLayered, LooksDown, Touched, AddsTouched, StillCovers, looks_down, covers_set, SameOff, get_or-set_other, Agenda, Work, LayerRule, IsAwaited, RemovesFromAgenda, AreCounted, IsHolding, AsksAbout, CountsChange, IsOnTrack, SameWork, KeepsRoom, IsRuleOn}
 use Rattle.sas_axioms.proofs.Counters.{all_hold_when_none_open, none_open_when_all_hold}
 use Rattle.sas_axioms.proofs.Sources.{no_rule}
 

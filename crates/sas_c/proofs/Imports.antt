@@ -1,6 +1,5 @@
--- What the proofs use of other crates.
-pub use Rattle.std.proofs.Common.{◌≡◌, ℕ, zero, suc, List, [], ◌∷◌, ◌++◌, refl, subst, Option, Some, None, ◌<◌, length, take, drop, codes, arith, sym}
-pub use Rattle.std.proofs.Common.{ap, ◌∙◌, inr, Result, Ok, Err, IfSome, decimal, inl, Bor, true≢false, IsSome, lit<}
+-- What the proofs use of other crates, and of the definitions of this one.
+pub use Rattle.std.proofs.Common.{◌≡◌, ℕ, zero, suc, List, [], ◌∷◌, ◌++◌, refl, subst, Option, Some, None, ◌<◌, length, take, drop, codes, arith, sym, ap, ◌∙◌, inr, Result, Ok, Err, IfSome, decimal, inl, Bor, true≢false, IsSome, lit<}
 pub use Rattle.std.proofs.lemmas.List.{same_from_push}
 pub use Rattle.std.proofs.raw_atomic.Walks.{proved_at, leaves}
 pub use Rattle.std.specs.Global.{Vec}
@@ -12,6 +11,10 @@ pub use Rattle.core.proofs.alloc.Shapes.{after}
 pub use Rattle.core.proofs.atomic.Steps.{fm}
 pub use Rattle.core.proofs.cell.Inside.{Good, one}
 pub use Rattle.core.specs.declared.alloc.Allocator.{Ghosts}
+pub use Rattle.std_alloc.proofs.BoxSteps.Steps.{box_out, box_in}
+pub use Rattle.std_alloc.proofs.ResultValues.{and_tt}
+pub use Rattle.std_alloc.proofs.boxed.Box.from_raw.Met.{met}
+pub use Rattle.std_alloc.specs.Box.Ownership.{box_owns}
 pub use Rattle.sas_answers.specs.Answers.{layers_verdict, VerdictAnswer, MutexAnswer}
 pub use Rattle.sas_answers.specs.PlanWords.{valid_line}
 pub use Rattle.sas_core.specs.PlanParts.{PlanParts}
@@ -22,7 +25,6 @@ unfoldable pub use Rattle.sas_lines.specs.Lines.{lines}
 pub use Rattle.sas_meaning.proofs.LayerChecksAreRules.{checks_are_rules}
 pub use Rattle.sas_meaning.specs.Layers.{IsLayered}
 pub use Rattle.sas_meaning.specs.declared.layered.LayerFault.{LayerFault}
-pub use Rattle.sas_output.proofs.Sent.{counting_ends}
 pub use Rattle.sas_output.specs.Ending.{Output, EndsCounting, output_of}
 pub use Rattle.sas_output.specs.declared.ending.Status.{Status}
 pub use Rattle.sas_output.specs.declared.ending.Status.TheVariants.{Yes, No}
@@ -33,7 +35,7 @@ pub use Rattle.sas_outputs.proofs.Headlines.{ReportsValid, headline_of, reports_
 pub use Rattle.sas_outputs.proofs.Outputs.{same_output}
 pub use Rattle.sas_outputs.proofs.PlanOutputs.{Refuses, plain_refuses}
 pub use Rattle.sas_outputs.specs.Headline.{Headline, Invariants}
-pub use Rattle.sas_outputs.specs.Output.{CheckOut, FileOut, PlanOut, PlanOutBy, VerdictOut, plain_refusal, Out}
+pub use Rattle.sas_outputs.specs.Output.{CheckOut, FileOut, PlanOut, PlanOutBy, VerdictOut, plain_refusal}
 pub use Rattle.sas_outputs.specs.declared.Request.{Request}
 pub use Rattle.sas_outputs.specs.declared.Request.TheVariants.{Plan, Mutex}
 pub use Rattle.sas_plans.proofs.PlanLines.{IsLine, valid_plain, verdict_line, task_refused}
@@ -54,7 +56,10 @@ pub use Rattle.sas_requests.specs.declared.detail.Detail.TheVariants.{Reasons}
 pub use Rattle.sas_task_format.specs.TaskFormat.{task_format}
 pub use Rattle.sas_trace.specs.Traced.{TraceVerdict}
 pub use Rattle.sas_why.specs.Verdict.{WhyVerdict}
-pub use Rattle.std_alloc.proofs.BoxSteps.Steps.{box_out, box_in}
-pub use Rattle.std_alloc.proofs.ResultValues.{and_tt}
-pub use Rattle.std_alloc.proofs.boxed.Box.from_raw.Met.{met}
-pub use Rattle.std_alloc.specs.Box.Ownership.{box_owns}
+pub use Rattle.sas_c.specs.Holding.{HoldsTask}
+pub use Rattle.sas_c.specs.Reporting.{Returns, ReturnsHeadline, EndsInLine, ReturnsLastLine, ReturnsInvariants, number_of_fault, number_of_status}
+pub use Rattle.sas_c.specs.TaskPointers.{owns_task}
+pub use Rattle.sas_c.specs.Written.{IsWritten}
+pub use Rattle.sas_c.specs.contracts.box_pointer.BoxPointer.into_box.{ended, clauses}
+pub use Rattle.sas_c.specs.declared.answering.Call.{Call}
+pub use Rattle.sas_c.specs.declared.prepared.Prepared.{Prepared}

@@ -1,13 +1,7 @@
 -- What is returned follows from how a run ended.
-use Rattle.sas_c.proofs.Imports.{◌≡◌, ℕ, ◌<◌, List, [], ◌++◌, length, take, drop, codes, arith, refl, sym, ap, subst, ◌∙◌, inr, Option, Some, None, Result, Ok, Err, IfSome, Appends, Parts, LayerFault, IsLayered, checks_are_rules, ReadsAs, most_bytes, task_format, Status, Yes, No, ToolFault, Memory, Read, TooLong, Write, Answer, Output, EndsCounting, output_of, layers_verdict, VerdictAnswer}
-use Rattle.sas_c.proofs.Imports.{PlanParts, WhyVerdict, TraceVerdict, Request, Plan, Mutex, Headline, Invariants, CheckOut, FileOut, PlanOut, PlanOutBy, VerdictOut, same_output, ReportsValid, headline_of, Refuses, ReportsGroups, invariants_of, headline_why, invariants_why, judged_by, Reasons, PlanFileReasons, OutWhy, WithReasons, Opening, Ready, Refused, Opens, TraceOut}
+use Rattle.sas_c.proofs.Imports.{◌≡◌, ℕ, ◌<◌, List, [], ◌++◌, length, take, drop, codes, arith, refl, sym, ap, subst, ◌∙◌, inr, Option, Some, None, Result, Ok, Err, IfSome, Appends, Parts, LayerFault, IsLayered, checks_are_rules, ReadsAs, most_bytes, task_format, Status, Yes, No, ToolFault, Memory, Read, TooLong, Write, Answer, Output, EndsCounting, output_of, layers_verdict, VerdictAnswer, Call, Prepared, HoldsTask, IsWritten, Returns, ReturnsHeadline, EndsInLine, ReturnsLastLine, ReturnsInvariants, number_of_fault, number_of_status, PlanParts, WhyVerdict, TraceVerdict, Request, Plan, Mutex, Headline, Invariants, CheckOut, FileOut, PlanOut, PlanOutBy, VerdictOut, same_output, ReportsValid, headline_of, Refuses, ReportsGroups, invariants_of, headline_why, invariants_why, judged_by, Reasons, PlanFileReasons, OutWhy, WithReasons, Opening, Ready, Refused, Opens, TraceOut}
 use Rattle.sas_requests.specs.Answering.{OutBy}
 use Rattle.sas_requests.specs.declared.detail.Detail.{Detail}
-use Rattle.sas_c.specs.declared.answering.Call.{Call}
-use Rattle.sas_c.specs.declared.prepared.Prepared.{Prepared}
-use Rattle.sas_c.specs.Holding.{HoldsTask}
-use Rattle.sas_c.specs.Written.{IsWritten}
-use Rattle.sas_c.specs.Reporting.{Returns, ReturnsHeadline, EndsInLine, ReturnsLastLine, ReturnsInvariants, number_of_fault, number_of_status}
 use Rattle.sas_c.proofs.TracedPlans.{traced_headline}
 
 same_number : (s t : Status) → number_of_status s ≡ number_of_status t → s ≡ t

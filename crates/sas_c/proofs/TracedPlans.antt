@@ -1,6 +1,5 @@
 -- Behind a trace stands, as its last line, whether the plan solves the task.
-use Rattle.sas_c.proofs.Imports.{◌≡◌, ℕ, List, [], ◌∷◌, ◌++◌, codes, decimal, refl, sym, ap, ◌∙◌, inl, inr, Some, same_from_push, lines, text, lines-append, lines-one, unfinished-text, plain, Output, VerdictAnswer, valid_line, Headline, PlanOut, plain_refusal, reports_valid, headline_of, plain_refuses, TraceOut, trace_ends, IsLine, valid_plain, verdict_line, task_refused}
-use Rattle.sas_c.specs.Reporting.{EndsInLine}
+use Rattle.sas_c.proofs.Imports.{◌≡◌, ℕ, List, [], ◌∷◌, ◌++◌, codes, decimal, refl, sym, ap, ◌∙◌, inl, inr, Some, same_from_push, lines, text, lines-append, lines-one, unfinished-text, plain, Output, VerdictAnswer, valid_line, Headline, PlanOut, plain_refusal, reports_valid, headline_of, plain_refuses, TraceOut, trace_ends, IsLine, valid_plain, verdict_line, task_refused, EndsInLine}
 
 -- ---- the last line of a text
 

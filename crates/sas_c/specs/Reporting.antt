@@ -16,9 +16,7 @@ number_of_status No = 1
 -- the number of a run that ended without an answer; of bytes in memory no read or write fails
 abbrev pub number_of_fault : ToolFault → ℕ
 number_of_fault TooLong = 4
-number_of_fault Memory = 3
-number_of_fault Read = 3
-number_of_fault (Write written) = 3
+number_of_fault _ = 3
 
 -- What a call returns: its number, `size`, and the caller's memory for the answer, which held
 -- `before` and now holds `room`. `Out` holds of the right output, or of none if there is none.

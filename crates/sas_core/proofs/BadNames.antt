@@ -1,8 +1,6 @@
 -- The first step that isn't a name: it exists only if not every step is a name.
 use Rattle.std.proofs.lemmas.Grind.{common_steps}
-use Rattle.sas_core.proofs.Imports.{◌≡◌, ℕ, suc, ◌+◌, ◌<◌, Bool, false, List, [], ◌∷◌, ◌++◌, length, length-take, take, drop, get_or, sym, ◌∙◌, ap, subst, arith, AllByRecursion, false≢true, take-append-drop, drop-cons}
-use Rattle.sas_core.specs.Names.{IsName, is_name}
-use Rattle.sas_core.specs.Plans.{IsFirstBadName}
+use Rattle.sas_core.proofs.Imports.{◌≡◌, ℕ, suc, ◌+◌, ◌<◌, Bool, false, List, [], ◌∷◌, ◌++◌, length, length-take, take, drop, get_or, sym, ◌∙◌, ap, arith, AllByRecursion, false≢true, take-append-drop, drop-cons, IsName, is_name, IsFirstBadName}
 
 -- the step at place i, of which the test says that it isn't a name, after i names
 pub first_bad : (steps : List (List ℕ)) (i : ℕ) (step bytes : List ℕ) (name : Bool) → i < length steps → AllByRecursion IsName (take i steps) → step ≡ get_or steps i step → bytes ≡ step → name ≡ is_name bytes → name ≡ false → IsFirstBadName steps (i + 1)

@@ -1,22 +1,8 @@
 -- All checks of a task pass if and only if its parts are well ranged: each section's checks are
 -- equivalent to its rules.
 use Rattle.std.proofs.lemmas.Grind.{common_steps}
-use Rattle.sas_core.proofs.Imports.{◌≡◌, ℕ, zero, suc, ◌^◌, ◌<◌, Bool, true, false, not, ◌==◌, nat_lt, if◌then◌else◌, ◌↔◌, List, [], ◌∷◌, ◌++◌, length, flat_map, slice_index, Option, Some, None, refl, arith, ltb-true, lt-ltb, eqb-true, eq-eqb, AllByRecursion, nat_tests, first_so, second_so, both_true}
-use Rattle.sas_core.specs.declared.checks.PartsFault.{PartsFault}
-use Rattle.sas_core.specs.declared.checks.PartsFault.TheVariants.{NoVariable, TooMany, BadName, BadNumber, BadRange, BadFact, InitLength}
-use Rattle.sas_core.specs.declared.parts.Fact.{Fact}
-use Rattle.sas_core.specs.declared.parts.Variable.{Variable}
-use Rattle.sas_core.specs.declared.parts.Effect.{Effect}
-use Rattle.sas_core.specs.declared.parts.Operator.{Operator}
-use Rattle.sas_core.specs.declared.parts.Rule.{Rule}
-use Rattle.sas_core.specs.declared.parts.Parts.{Parts}
-use Rattle.sas_core.specs.Names.{IsName, is_name}
-use Rattle.sas_core.specs.Numbers.{IsNumber, is_number, IsSigned}
-use Rattle.sas_core.specs.Variables.{range_of, HasValue, has_value, MayHaveValue, FactExists, IsState}
-use Rattle.sas_core.specs.WellRanged.{Listed, VariableFits, EffectFits, OperatorFits, RuleFits, WellRanged}
-use Rattle.sas_core.proofs.Passing.{Pass, by_test, split_row, join_row, and_then}
-use Rattle.sas_core.specs.Checks.{name_checks, signed_checks, variable_checks, fact_checks, change_checks, effect_checks, operator_checks, rule_checks, values_in_range, state_checks, checks, ChecksAreTheRules}
-use Rattle.sas_core.specs.FirstFault.{Check, first_fault, check, listed}
+use Rattle.sas_core.proofs.Imports.{◌≡◌, ℕ, zero, suc, ◌^◌, ◌<◌, true, not, ◌==◌, nat_lt, ◌↔◌, List, [], ◌∷◌, ◌++◌, length, flat_map, slice_index, Option, Some, None, refl, arith, ltb-true, lt-ltb, AllByRecursion, nat_tests, first_so, second_so, both_true, PartsFault, NoVariable, TooMany, BadName, BadNumber, BadRange, BadFact, Fact, Variable, Effect, Operator, Rule, Parts, IsName, is_name, IsNumber, is_number, IsSigned, range_of, HasValue, has_value, MayHaveValue, FactExists, IsState, Listed, VariableFits, EffectFits, OperatorFits, RuleFits, WellRanged, name_checks, signed_checks, variable_checks, fact_checks, change_checks, effect_checks, operator_checks, rule_checks, values_in_range, state_checks, checks, ChecksAreTheRules, Check, check, listed}
+use Rattle.sas_core.proofs.Passing.{Pass, by_test, and_then}
 
 number : (n : ℕ) (e : PartsFault) → Pass (check (is_number n) e) ↔ IsNumber n
 number n e = by_test (is_number n) e (IsNumber n) (ltb-true n (2 ^ 31), lt-ltb n (2 ^ 31))

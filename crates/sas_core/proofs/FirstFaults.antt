@@ -1,9 +1,5 @@
 -- The first fault of a sequence of checks, and of a list with its length.
-use Rattle.sas_core.proofs.Imports.{◌≡◌, ℕ, ◌+◌, ◌<◌, ◌≤◌, Bool, true, false, if◌then◌else◌, List, [], ◌∷◌, ◌++◌, length, flat_map, drop, get_or, Option, Some, None, refl, sym, ◌∙◌, ap, add-one, drop-cons, drop_all}
-use Rattle.sas_core.specs.declared.checks.PartsFault.{PartsFault}
-use Rattle.sas_core.specs.declared.checks.PartsFault.TheVariants.{TooMany}
-use Rattle.sas_core.specs.Numbers.{is_number}
-use Rattle.sas_core.specs.FirstFault.{Check, first_fault, check, listed}
+use Rattle.sas_core.proofs.Imports.{◌≡◌, ℕ, ◌+◌, ◌<◌, ◌≤◌, Bool, true, false, if◌then◌else◌, List, [], ◌∷◌, ◌++◌, length, flat_map, drop, get_or, Option, Some, None, refl, sym, ◌∙◌, ap, add-one, drop-cons, drop_all, PartsFault, TooMany, is_number, Check, first_fault, check, listed}
 
 fails_first : {F : Type 0} (passes : Bool) (d e : F) (rest whole : Option F) → (Some e ≡ rest → Some e ≡ whole) → Some e ≡ (if passes then rest else Some d) → Some e ≡ (if passes then whole else Some d)
 fails_first true d e rest whole later some = later some

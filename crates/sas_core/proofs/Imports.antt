@@ -1,7 +1,5 @@
--- What the proofs use of other crates.
-pub use Rattle.std.proofs.Common.{◌≡◌, ℕ, suc, ◌+◌, ◌<◌, Bool, false, List, [], ◌∷◌, ◌++◌, length, length-take, take, drop, get_or, sym, ◌∙◌, ap}
-pub use Rattle.std.proofs.Common.{subst, arith, zero, ◌^◌, true, not, ◌==◌, nat_lt, if◌then◌else◌, ◌↔◌, flat_map, slice_index, Option, Some, None}
-pub use Rattle.std.proofs.Common.{refl, ltb-true, lt-ltb, eqb-true, eq-eqb, ◌≤◌, add-one, slice_index_or, inl, inr, ◌&&◌, ◌||◌, nat_eq, rules}
+-- What the proofs use of other crates, and of the definitions of this one.
+pub use Rattle.std.proofs.Common.{◌≡◌, ℕ, suc, ◌+◌, ◌<◌, Bool, false, List, [], ◌∷◌, ◌++◌, length, length-take, take, drop, get_or, sym, ◌∙◌, ap, arith, zero, ◌^◌, true, not, ◌==◌, nat_lt, if◌then◌else◌, ◌↔◌, flat_map, slice_index, Option, Some, None, refl, ltb-true, lt-ltb, ◌≤◌, add-one, slice_index_or, ◌&&◌, ◌||◌, nat_eq, rules}
 pub use Rattle.std.proofs.Math.Seq.{drop-cons}
 pub use Rattle.std.proofs.lemmas.Bool.{false≢true, cases_eq}
 pub use Rattle.std.proofs.lemmas.Bool.Decides.{nat_tests}
@@ -17,3 +15,18 @@ pub use Rattle.std.specs.List.{AllByRecursion, list_all}
 pub use Rattle.std.specs.Option.{is_some, option_eq}
 pub use Rattle.std.specs.Result.{result_err}
 pub use Rattle.memchr.specs.Find.{IsFirstByte, is_byte2}
+pub use Rattle.sas_core.specs.Checks.{name_checks, signed_checks, variable_checks, fact_checks, change_checks, effect_checks, operator_checks, rule_checks, values_in_range, state_checks, checks, ChecksAreTheRules}
+pub use Rattle.sas_core.specs.FirstFault.{Check, first_fault, check, listed}
+pub use Rattle.sas_core.specs.Names.{IsName, is_name, is_plain}
+pub use Rattle.sas_core.specs.Numbers.{IsNumber, is_number, IsSigned}
+pub use Rattle.sas_core.specs.Plans.{IsFirstBadName}
+pub use Rattle.sas_core.specs.Variables.{range_of, HasValue, has_value, MayHaveValue, FactExists, IsState}
+pub use Rattle.sas_core.specs.WellRanged.{Listed, VariableFits, EffectFits, OperatorFits, RuleFits, WellRanged}
+pub use Rattle.sas_core.specs.declared.checks.PartsFault.{PartsFault}
+pub use Rattle.sas_core.specs.declared.checks.PartsFault.TheVariants.{NoVariable, TooMany, BadName, BadNumber, BadRange, BadFact}
+pub use Rattle.sas_core.specs.declared.parts.Effect.{Effect}
+pub use Rattle.sas_core.specs.declared.parts.Fact.{Fact}
+pub use Rattle.sas_core.specs.declared.parts.Operator.{Operator}
+pub use Rattle.sas_core.specs.declared.parts.Parts.{Parts}
+pub use Rattle.sas_core.specs.declared.parts.Rule.{Rule}
+pub use Rattle.sas_core.specs.declared.parts.Variable.{Variable}

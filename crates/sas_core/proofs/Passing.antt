@@ -2,8 +2,7 @@
 -- other.
 use Rattle.std.proofs.Common.{arith}
 use Rattle.std.proofs.lemmas.Grind.{common_steps}
-use Rattle.sas_core.proofs.Imports.{◌≡◌, ◌↔◌, Bool, true, false, if◌then◌else◌, List, [], ◌∷◌, ◌++◌, Option, Some, None, refl}
-use Rattle.sas_core.specs.FirstFault.{Check, first_fault, check}
+use Rattle.sas_core.proofs.Imports.{◌≡◌, ◌↔◌, Bool, true, false, if◌then◌else◌, List, [], ◌∷◌, ◌++◌, Option, Some, None, refl, Check, first_fault, check}
 
 -- no check of these fails
 pub record Pass {F : Type 0} (row : List (Check F)) : Type 0 where

@@ -1,6 +1,6 @@
 -- A property of each item of a list, as a property of the item at each index.
 use Rattle.std.proofs.lemmas.Grind.{common_steps}
-use Rattle.sas_core.proofs.Imports.{ℕ, zero, suc, ◌+◌, ◌<◌, List, [], ◌∷◌, length, slice_index_or, sym, ap, subst, ◌∙◌, inl, inr, arith, AllByRecursion, cases_eq, get_or_default}
+use Rattle.sas_core.proofs.Imports.{ℕ, zero, suc, ◌+◌, ◌<◌, List, [], ◌∷◌, length, slice_index_or, arith, AllByRecursion, cases_eq, get_or_default}
 
 module _ {A : Type 0} (P : A → Type 0) (otherwise : A) where
   -- each item has it, so that at a place within the list has it

@@ -1,7 +1,6 @@
 -- What the result of a search for LF and CR means for the bytes.
 use Rattle.std.proofs.lemmas.Grind.{common_steps}
-use Rattle.sas_core.proofs.Imports.{◌≡◌, ℕ, Bool, true, false, not, ◌&&◌, ◌||◌, ◌==◌, List, Option, Some, None, get_or, refl, sym, ◌∙◌, ap, arith, list_all, is_some, list_all_at, All-from_get_or, list_all-from_AllPass, IsFirstByte, is_byte2}
-use Rattle.sas_core.specs.Names.{is_plain}
+use Rattle.sas_core.proofs.Imports.{◌≡◌, ℕ, Bool, true, false, not, ◌&&◌, ◌||◌, ◌==◌, List, Option, Some, None, get_or, refl, sym, ◌∙◌, ap, arith, list_all, is_some, list_all_at, All-from_get_or, list_all-from_AllPass, IsFirstByte, is_byte2, is_plain}
 
 neither : (a b : Bool) → (not a && not b) ≡ not (a || b)
 neither true b = refl

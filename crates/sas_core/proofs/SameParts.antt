@@ -1,13 +1,7 @@
 -- The equality of each type of parts, and of a whole task, decides whether the values are the same.
 use Rattle.std.proofs.Common.{arith}
 use Rattle.std.proofs.lemmas.Grind.{common_steps}
-use Rattle.sas_core.proofs.Imports.{◌≡◌, ℕ, Bool, ◌&&◌, Option, Some, None, refl, ap, nat_eq, List, Decides, beq, option_eq, first_so, second_so, unsigned_Decides, booleans_Decides, both_true, pointwise, pointwise_decides, false≢true}
-use Rattle.sas_core.specs.declared.parts.Fact.{Fact}
-use Rattle.sas_core.specs.declared.parts.Variable.{Variable}
-use Rattle.sas_core.specs.declared.parts.Effect.{Effect}
-use Rattle.sas_core.specs.declared.parts.Operator.{Operator}
-use Rattle.sas_core.specs.declared.parts.Rule.{Rule}
-use Rattle.sas_core.specs.declared.parts.Parts.{Parts}
+use Rattle.sas_core.proofs.Imports.{◌≡◌, ℕ, Bool, ◌&&◌, Option, Some, None, refl, ap, nat_eq, List, Decides, beq, option_eq, unsigned_Decides, booleans_Decides, pointwise, pointwise_decides, false≢true, Fact, Variable, Effect, Operator, Rule, Parts}
 
 also : {P Q : Type 0} {a b : Bool} → Decides a P → Decides b Q → Decides (a && b) (P × Q)
 also {P} {Q} {a} {b} first second = grind (arith, common_steps)

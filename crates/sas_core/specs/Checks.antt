@@ -1,10 +1,8 @@
 -- The rules of a task file as checks in the order of the file, each with the fault that it reports.
-use Rattle.std.specs.Prelude.{◌≡◌, ℕ, ◌↔◌, ◌==◌, Bool, not, nat_lt}
-use Rattle.std.specs.Prelude.{List, [], ◌++◌, length, zip, Option, Some, None}
+use Rattle.std.specs.Prelude.{◌≡◌, ℕ, ◌↔◌, ◌==◌, Bool, not, nat_lt, List, [], ◌++◌, length, zip, Option, Some, None}
 use Rattle.std.specs.List.{list_all}
 use Rattle.sas_core.specs.declared.checks.PartsFault.{PartsFault}
-use Rattle.sas_core.specs.declared.checks.PartsFault.TheVariants.{NoVariable, TooMany, BadName, BadNumber}
-use Rattle.sas_core.specs.declared.checks.PartsFault.TheVariants.{BadRange, BadFact, InitLength}
+use Rattle.sas_core.specs.declared.checks.PartsFault.TheVariants.{NoVariable, TooMany, BadName, BadNumber, BadRange, BadFact, InitLength}
 use Rattle.sas_core.specs.declared.parts.Fact.{Fact}
 use Rattle.sas_core.specs.declared.parts.Variable.{Variable}
 use Rattle.sas_core.specs.declared.parts.Effect.{Effect}

@@ -1,7 +1,6 @@
 -- The variables of a task and their facts. Variables and values are identified by their index,
 -- counted from 0.
-use Rattle.std.specs.Prelude.{◌≡◌, ℕ, ◌<◌, Bool, nat_lt, List, length}
-use Rattle.std.specs.Prelude.{slice_get, slice_index, Option, None, Some, IsSome, option_and_then}
+use Rattle.std.specs.Prelude.{◌≡◌, ℕ, ◌<◌, Bool, nat_lt, List, length, slice_get, slice_index, Option, None, Some, IsSome, option_and_then}
 use Rattle.std.specs.Option.{option_map_or}
 use Rattle.sas_core.specs.declared.parts.Fact.{Fact}
 use Rattle.sas_core.specs.declared.parts.Variable.{Variable}

@@ -6,9 +6,8 @@ ghost use Rattle.std.specs.Result.{result_err};
 ghost use Rattle.sas_core.specs.Numbers.{is_number};
 ghost use Rattle.sas_core.specs.declared.checks.PartsFault.TheVariants.{TooMany};
 ghost use Rattle.sas_core.specs.Variables as spec;
-ghost use Rattle.sas_core.specs.Checks.{name_checks, signed_checks};
+ghost use Rattle.sas_core.specs.Checks.{name_checks, signed_checks, variable_checks, fact_checks, change_checks, effect_checks};
 ghost use Rattle.sas_core.specs.FirstFault.{first_fault, check, listed};
-ghost use Rattle.sas_core.specs.Checks.{variable_checks, fact_checks, change_checks, effect_checks};
 ghost use Rattle.sas_core.specs.Checks.{operator_checks, rule_checks, state_checks, values_in_range, checks};
 
 use crate::items::Items;

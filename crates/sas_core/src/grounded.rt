@@ -31,8 +31,7 @@ impl Change {
 pub trait Grounded {
     ghost use Rattle.std.specs.Prelude.{◌≡◌, ◌<◌, length, slice_index, IfSome};
     ghost use Rattle.sas_core.specs.declared.parts.Parts.{Parts};
-    ghost use Rattle.sas_core.specs.Grounded.{operator_at, effect_at, rule_at};
-    ghost use Rattle.sas_core.specs.Grounded.{group_at};
+    ghost use Rattle.sas_core.specs.Grounded.{operator_at, effect_at, rule_at, group_at};
     ghost use Rattle.sas_core.specs.Changes.{effect_change, plain_effects, rule_change};
     ghost use Rattle.sas_core.specs.Tasks.{cost_of};
     ghost use Rattle.sas_core.specs.Variables.{range_of, layer_of};

@@ -1,8 +1,5 @@
 -- Appending a list to a block of lists.
-use Rattle.sas_flat.proofs.Imports.{◌≡◌, ℕ, zero, suc, ◌+◌, ◌-◌, ◌<◌, ◌≤◌, ◌⊎◌, inl, inr, List, [], ◌∷◌, ◌++◌, length, get_or, take, drop, replicate, refl, sym, ap, map, subst, ◌∙◌, arith, append-nil, append_assoc, length-append, length-drop, slice_index, slice_range, take-append-le, drop-append-le, take-append-drop, length-take-le, length-map, get_or-take, get_or-drop, get_or-map}
-use Rattle.sas_flat.proofs.Imports.{get_or-append-add, leb_tells, eq-or-lt_of_le, get_or-append, get_or-append_seam, drop-append_seam, drop-append-add, take-length}
-use Rattle.sas_flat.specs.Table.{table}
-use Rattle.sas_flat.specs.Lists.{start_of, list_at, lists_of, AreEnds}
+use Rattle.sas_flat.proofs.Imports.{◌≡◌, ℕ, zero, suc, ◌+◌, ◌-◌, ◌<◌, ◌≤◌, ◌⊎◌, inl, inr, List, [], ◌∷◌, ◌++◌, length, get_or, take, drop, replicate, refl, sym, ap, map, subst, ◌∙◌, arith, append-nil, append_assoc, length-append, length-drop, slice_index, slice_range, take-append-le, drop-append-le, take-append-drop, length-take-le, length-map, get_or-take, get_or-drop, get_or-map, table, start_of, list_at, lists_of, AreEnds, get_or-append-add, leb_tells, eq-or-lt_of_le, get_or-append, get_or-append_seam, drop-append_seam, drop-append-add, take-length}
 use Rattle.sas_flat.proofs.Tables.{length-table, table_same, table_more, table_append, get_or-table, take-table}
 
 start_same : (ends more : List ℕ) (k : ℕ) → k ≤ length ends → start_of (ends ++ more) k ≡ start_of ends k

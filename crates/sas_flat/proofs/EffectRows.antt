@@ -1,8 +1,5 @@
 -- Effects in columns: the effect at an index, appending an effect, and truncating.
-use Rattle.sas_flat.proofs.Imports.{◌≡◌, ℕ, zero, suc, ◌+◌, ◌-◌, ◌<◌, ◌≤◌, List, [], ◌∷◌, ◌++◌, length, take, replicate, get_or, Result, Ok, Err, OnErr, refl, sym, ap, ◌∙◌, arith, append-nil, append_assoc, length-append, slice_range, drop, length-take-le, length-replicate, get_or-take, get_or-append-add, take-append-drop, take-map, get_or-append, get_or-append_seam, drop-append_seam, Change, Fact}
-use Rattle.sas_flat.proofs.Imports.{Effect, plain_effect, plain_effects}
-use Rattle.sas_flat.specs.Table.{table}
-use Rattle.sas_flat.specs.Effects.{effect, change_in_list, effects_of, effect_in_list}
+use Rattle.sas_flat.proofs.Imports.{◌≡◌, ℕ, zero, suc, ◌+◌, ◌-◌, ◌<◌, ◌≤◌, List, [], ◌∷◌, ◌++◌, length, take, replicate, get_or, Result, Ok, Err, OnErr, refl, sym, ap, ◌∙◌, arith, append-nil, append_assoc, length-append, slice_range, drop, length-take-le, length-replicate, get_or-take, get_or-append-add, take-append-drop, take-map, get_or-append, get_or-append_seam, drop-append_seam, Change, Fact, table, effect, change_in_list, effects_of, effect_in_list, Effect, plain_effect, plain_effects}
 use Rattle.sas_flat.proofs.Tables.{length-table, table_same, table_none, table_more, table_append, get_or-table, take-table}
 
 pub no_effect : (cs : List Change) (ds : List (List Fact)) → cs ≡ [] → effects_of cs ds ≡ []

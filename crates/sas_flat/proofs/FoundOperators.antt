@@ -1,10 +1,6 @@
 -- The operator at an index of the columns, and appending an operator.
-use Rattle.sas_flat.proofs.Imports.{◌≡◌, ℕ, zero, suc, ◌+◌, ◌-◌, ◌<◌, ◌≤◌, List, [], ◌∷◌, ◌++◌, length, map, get_or, refl, sym, ap, ◌∙◌, arith, length-append, slice_index, length-map, map-append, get_or-map, get_or-append, Fact, Effect, Operator}
-use Rattle.sas_flat.specs.declared.operators.Head.{Head}
-use Rattle.sas_flat.specs.declared.operators.OperatorColumns.{OperatorColumns}
-use Rattle.sas_flat.specs.Effects.{effect_in_list}
-use Rattle.sas_flat.specs.Lists.{start_of, list_at, lists_of, AreEnds}
-use Rattle.sas_flat.specs.Operators.{operator, name_ends, prevail_ends, effect_ends, costs, operators_in, operator_in, end_head, OperatorColumnsAlign, OneMore}
+use Rattle.sas_flat.proofs.Imports.{◌≡◌, ℕ, zero, suc, ◌+◌, ◌-◌, ◌<◌, ◌≤◌, List, [], ◌∷◌, ◌++◌, length, map, get_or, refl, sym, ap, ◌∙◌, arith, length-append, slice_index, length-map, map-append, get_or-map, get_or-append, Fact, Effect, Operator, Head, OperatorColumns, effect_in_list, start_of, list_at, lists_of, AreEnds, operator, name_ends, prevail_ends, effect_ends, costs, operators_in, operator_in, end_head, OperatorColumnsAlign}
+use Rattle.sas_flat.specs.Operators.{OneMore}
 use Rattle.sas_flat.proofs.Tables.{length-table, table_more, get_or-table}
 use Rattle.sas_flat.proofs.Blocks.{list_of, lists_more, ends_more, list_length, item_of_list}
 use Rattle.sas_flat.proofs.Rows.{last_item}

@@ -1,8 +1,5 @@
 -- The variable at an index of the columns.
-use Rattle.sas_flat.proofs.Imports.{◌≡◌, ℕ, ◌+◌, ◌<◌, ◌≤◌, List, [], ◌∷◌, ◌++◌, length, get_or, sym, ap, ◌∙◌, arith, slice_index, slice_get, None, Some, option_map, slice_get-get_or, Variable, range_of, layer_of, value_name}
-use Rattle.sas_flat.specs.declared.variables.VariableColumns.{VariableColumns}
-use Rattle.sas_flat.specs.Lists.{start_of, list_at, lists_of}
-use Rattle.sas_flat.specs.Variables.{variables_in, variables_from, AreAligned, OneMore}
+use Rattle.sas_flat.proofs.Imports.{◌≡◌, ℕ, ◌+◌, ◌<◌, ◌≤◌, List, [], ◌∷◌, ◌++◌, length, get_or, sym, ap, ◌∙◌, arith, slice_index, slice_get, None, Some, option_map, slice_get-get_or, Variable, range_of, layer_of, value_name, VariableColumns, start_of, list_at, lists_of, variables_in, variables_from, AreAligned, OneMore}
 use Rattle.sas_flat.proofs.Tables.{length-table, get_or-table}
 use Rattle.sas_flat.proofs.Blocks.{lists_more, list_length, item_of_list}
 use Rattle.sas_flat.proofs.Rows.{variable_count, name_is, range_is, layer_is, value_is, variables_more}

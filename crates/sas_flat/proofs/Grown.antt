@@ -1,14 +1,8 @@
 -- Columns to which items were only appended, and truncating them to what they were.
-use Rattle.sas_flat.proofs.Imports.{◌≡◌, ℕ, ◌≤◌, List, length, take, sym, ap, ◌∙◌, ◌+◌, refl, arith, length-append, slice_index, take-append_seam, Effect, Fact, Operator, Variable, map, length-map}
-use Rattle.sas_flat.specs.Lists.{start_of, list_at, lists_of, AreEnds}
-use Rattle.sas_flat.specs.Table.{table}
+use Rattle.sas_flat.proofs.Imports.{◌≡◌, ℕ, ◌≤◌, List, length, take, sym, ap, ◌∙◌, ◌+◌, refl, arith, length-append, slice_index, take-append_seam, Effect, Fact, Operator, Variable, map, length-map, start_of, list_at, lists_of, AreEnds, table, Kept, Head, VariableColumns, AreAligned, OneMore, IsBegun, IsCut, variables_in, variables_from}
 use Rattle.sas_flat.proofs.Blocks.{ends_more}
-use Rattle.sas_flat.specs.Growing.{Kept}
-use Rattle.sas_flat.specs.declared.operators.Head.{Head}
 use Rattle.sas_flat.specs.declared.operators.OperatorColumns as in_operators
 use Rattle.sas_flat.specs.Operators as operators
-use Rattle.sas_flat.specs.declared.variables.VariableColumns.{VariableColumns}
-use Rattle.sas_flat.specs.Variables.{AreAligned, OneMore, IsBegun, IsCut, variables_in, variables_from}
 
 -- ---- one list
 

@@ -1,6 +1,5 @@
 -- Lists whose block and ends are unchanged, or got empty lists at the end.
-use Rattle.sas_flat.proofs.Imports.{◌≡◌, ℕ, zero, suc, ◌-◌, ◌≤◌, List, [], ◌∷◌, ◌++◌, length, take, replicate, sym, ap, subst, ◌∙◌, arith, append-nil, append_assoc, Result, Ok, Err, OnOk, OnErr, IsErr, false≢true, take-append_seam}
-use Rattle.sas_flat.specs.Lists.{lists_of, AreEnds}
+use Rattle.sas_flat.proofs.Imports.{◌≡◌, ℕ, zero, suc, ◌-◌, ◌≤◌, List, [], ◌∷◌, ◌++◌, length, take, replicate, sym, ap, subst, ◌∙◌, arith, append-nil, append_assoc, Result, Ok, Err, OnOk, OnErr, IsErr, false≢true, take-append_seam, lists_of, AreEnds}
 use Rattle.sas_flat.proofs.Blocks.{ends_more}
 
 -- an error says nothing of a value

@@ -1,6 +1,5 @@
 -- Variables in columns: the variable at an index, and appending a variable.
-use Rattle.sas_flat.proofs.Imports.{◌≡◌, ℕ, ◌<◌, ◌≤◌, List, [], ◌∷◌, ◌++◌, length, get_or, refl, sym, ap, ◌∙◌, arith, length-append, slice_get_past, slice_get, Option, Some, None, option_map, option_and_then, option_map_or, get_or-append, get_or-append_seam, Variable, range_of, layer_of, value_name}
-use Rattle.sas_flat.specs.Variables.{variable, variables_from}
+use Rattle.sas_flat.proofs.Imports.{◌≡◌, ℕ, ◌<◌, ◌≤◌, List, [], ◌∷◌, ◌++◌, length, get_or, refl, sym, ap, ◌∙◌, arith, length-append, slice_get_past, slice_get, Option, Some, None, option_map, option_and_then, option_map_or, get_or-append, get_or-append_seam, Variable, range_of, layer_of, value_name, variable, variables_from}
 use Rattle.sas_flat.proofs.Tables.{length-table, table_none, table_more, slice_get-table}
 
 -- in a column with as many items as another, what is put behind the items stands at the other's end

@@ -1,6 +1,5 @@
 -- Properties of tables.
-use Rattle.sas_flat.proofs.Imports.{◌≡◌, ℕ, zero, suc, ◌+◌, ◌<◌, ◌≤◌, ◌⊎◌, inl, inr, [], ◌∷◌, ◌++◌, length, take, get_or, refl, sym, ap, ◌∙◌, arith, append-nil, append_assoc, length-append, eq-or-lt_of_le, get_or-append, get_or-append_seam, take-length, take-append-le, slice_get-get_or, slice_get, Some}
-use Rattle.sas_flat.specs.Table.{table}
+use Rattle.sas_flat.proofs.Imports.{◌≡◌, ℕ, zero, suc, ◌+◌, ◌<◌, ◌≤◌, ◌⊎◌, inl, inr, [], ◌∷◌, ◌++◌, length, take, get_or, refl, sym, ap, ◌∙◌, arith, append-nil, append_assoc, length-append, eq-or-lt_of_le, get_or-append, get_or-append_seam, take-length, take-append-le, slice_get-get_or, slice_get, Some, table}
 
 pub length-table : {X : Type 0} (n : ℕ) (f : ℕ → X) → length (table n f) ≡ n
 unfolding table

@@ -1,7 +1,5 @@
 -- The first line and the first lines of some bytes.
-use Rattle.sas_lines.proofs.Imports.{◌≡◌, ℕ, ◌+◌, List, [], ◌∷◌, ◌++◌, length, length-append, take, refl, sym, ap, ◌∙◌, append_assoc, arith, take_at, length_push, AllByRecursion}
-use Rattle.sas_lines.specs.Lines.{lines, unfinished, text}
-use Rattle.sas_lines.specs.FirstLines.{LineStandsFirst, LinesStandFirst}
+use Rattle.sas_lines.proofs.Imports.{◌≡◌, ℕ, ◌+◌, List, [], ◌∷◌, ◌++◌, length, length-append, take, refl, sym, ap, ◌∙◌, append_assoc, arith, take_at, length_push, AllByRecursion, lines, unfinished, text, LineStandsFirst, LinesStandFirst}
 use Rattle.sas_lines.proofs.Splitting.{Plain, lines-one, unfinished-one, lines-text, unfinished-text}
 
 -- a line, its end and the rest

@@ -1,6 +1,5 @@
 -- Properties of decimal notation.
-use Rattle.sas_lines.proofs.Imports.{◌≡◌, ℕ, zero, suc, ◌+◌, ◌*◌, ◌-◌, ◌/◌, ◌%◌, ◌<◌, ◌≤◌, ◌^◌, List, [], ◌∷◌, ◌++◌, length, get_or, take, refl, sym, ap, subst, ◌∙◌, arith, rules, inl, inr, decimal, digit_value, IsInRange, AllDigits, digits_value, IsNumeralModel, numerals_by_value, tells_digits, digits_value_short, digit_at, decimal_nonempty, length-decimal-le, first_decimal, digits_decimal}
-use Rattle.sas_lines.proofs.Imports.{digits_more, digits_value_more, digits_value-decimal, decimal-digits_value, decimal_digit, decimal_step, decimal_injective, length-take, take_all, take_at, take_more, get_or_at, length_push, cases_lt}
+use Rattle.sas_lines.proofs.Imports.{◌≡◌, ℕ, zero, suc, ◌+◌, ◌*◌, ◌-◌, ◌/◌, ◌%◌, ◌<◌, ◌≤◌, ◌^◌, List, [], ◌∷◌, ◌++◌, length, get_or, take, refl, sym, ap, subst, ◌∙◌, arith, rules, inl, inr, decimal, digit_value, IsInRange, AllDigits, digits_value, IsNumeralModel, numerals_by_value, tells_digits, digits_value_short, digit_at, decimal_nonempty, length-decimal-le, first_decimal, digits_decimal, digits_more, digits_value_more, digits_value-decimal, decimal-digits_value, decimal_digit, decimal_step, decimal_injective, length-take, take_all, take_at, take_more, get_or_at, length_push, cases_lt}
 
 pub own : IsNumeralModel (AllDigits 10) (digits_value 10)
 own = numerals_by_value (AllDigits 10) tells_digits

@@ -1,8 +1,6 @@
 -- Any bytes are their lines, each with a line end, followed by the rest.
-use Rattle.sas_lines.proofs.Imports.{◌≡◌, ℕ, Bool, true, false, eqb, List, [], ◌∷◌, ◌++◌, refl, sym, ap, subst, ◌∙◌, append_assoc, ◌⊎◌, inl, inr, if◌then◌else◌, ◌==◌, eqb-true}
-use Rattle.sas_lines.specs.Parts.{parts, onto_first}
+use Rattle.sas_lines.proofs.Imports.{◌≡◌, ℕ, Bool, true, false, eqb, List, [], ◌∷◌, ◌++◌, refl, sym, ap, subst, ◌∙◌, append_assoc, ◌⊎◌, inl, inr, if◌then◌else◌, ◌==◌, eqb-true, parts, onto_first, without_return, lines_among, rest_among, lines, unfinished, EndedLines}
 use Rattle.sas_lines.proofs.Separated.{parts-some}
-use Rattle.sas_lines.specs.Lines.{without_return, lines_among, rest_among, lines, unfinished, EndedLines}
 
 -- ---- parts, joined again
 

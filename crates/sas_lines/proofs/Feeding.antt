@@ -1,9 +1,5 @@
 -- How a feed combines the pending bytes with those that it takes.
-use Rattle.sas_lines.proofs.Imports.{◌≡◌, ℕ, ◌+◌, ◌≤◌, Bool, true, false, List, [], ◌∷◌, ◌++◌, length, take, drop, sym, arith, ap, subst, ◌∙◌, append_assoc, if◌then◌else◌, take_all, length-take}
-use Rattle.sas_lines.specs.Parts.{StandsFirst}
-use Rattle.sas_lines.specs.Lines.{without_return, lines, unfinished, NoEnd}
-use Rattle.sas_lines.specs.FirstLines.{TakesLine}
-use Rattle.sas_lines.specs.Progress.{Progress}
+use Rattle.sas_lines.proofs.Imports.{◌≡◌, ℕ, ◌+◌, ◌≤◌, Bool, true, false, List, [], ◌∷◌, ◌++◌, length, take, drop, sym, arith, ap, subst, ◌∙◌, append_assoc, if◌then◌else◌, take_all, length-take, StandsFirst, without_return, lines, unfinished, NoEnd, TakesLine, Progress}
 use Rattle.sas_lines.proofs.Separated.{Without-append}
 use Rattle.sas_lines.proofs.Found.{up_to, in_two_at, Without-return}
 use Rattle.sas_lines.proofs.Splitting.{lines-without, unfinished-without, lines-one, unfinished-one}

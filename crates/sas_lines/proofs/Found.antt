@@ -1,7 +1,5 @@
 -- Where a search for a separator stops, and a CR before LF.
-use Rattle.sas_lines.proofs.Imports.{◌≡◌, ℕ, zero, suc, ◌+◌, ◌<◌, ◌≢◌, List, [], ◌∷◌, ◌++◌, length, get_or, take, drop, refl, sym, ap, ◌∙◌, arith, inl, inr, eq-eqb, ne_eqb, eqb-true, eqb_tells, length-take, get_or-take, take-append-drop, drop_more, take_more, Nowhere, NoneBefore, Passes, is_byte}
-use Rattle.sas_lines.specs.Lines.{without_return}
-use Rattle.sas_lines.specs.Parts.{Without, StandsFirst}
+use Rattle.sas_lines.proofs.Imports.{◌≡◌, ℕ, zero, suc, ◌+◌, ◌<◌, ◌≢◌, List, [], ◌∷◌, ◌++◌, length, get_or, take, drop, refl, sym, ap, ◌∙◌, arith, inl, inr, eq-eqb, ne_eqb, eqb-true, eqb_tells, length-take, get_or-take, take-append-drop, drop_more, take_more, Nowhere, NoneBefore, Passes, is_byte, without_return, Without, StandsFirst}
 
 pub Without-index : (separator : ℕ) (bytes : List ℕ) → ((k : ℕ) → k < length bytes → get_or bytes k 0 ≢ separator) → Without separator bytes
 Without-index separator [] h = tt

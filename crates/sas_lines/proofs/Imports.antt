@@ -1,17 +1,12 @@
--- What the proofs use of other crates.
-pub use Rattle.std.proofs.Common.{◌≡◌, ℕ, ◌+◌, List, [], ◌∷◌, ◌++◌, length, length-append, take, refl, sym, ap, ◌∙◌, append_assoc, arith, zero, suc}
-pub use Rattle.std.proofs.Common.{◌*◌, ◌-◌, ◌/◌, ◌%◌, ◌<◌, ◌≤◌, ◌^◌, get_or, subst, rules, inl, inr, Bool, true, false, eqb, ◌⊎◌, if◌then◌else◌, ◌==◌}
-pub use Rattle.std.proofs.Common.{drop, ◌≢◌, Option, cond, Some, None, nat_lt, IfSome}
+-- What the proofs use of other crates, and of the definitions of this one.
+pub use Rattle.std.proofs.Common.{◌≡◌, ℕ, ◌+◌, List, [], ◌∷◌, ◌++◌, length, length-append, take, refl, sym, ap, ◌∙◌, append_assoc, arith, zero, suc, ◌*◌, ◌-◌, ◌/◌, ◌%◌, ◌<◌, ◌≤◌, ◌^◌, get_or, subst, rules, inl, inr, Bool, true, false, eqb, ◌⊎◌, if◌then◌else◌, ◌==◌, drop, ◌≢◌, Option, cond, Some, None, nat_lt, IfSome}
 pub use Rattle.std.proofs.KnownBytes.{Appends-trans}
 pub use Rattle.std.proofs.Math.Seq.{take-add}
-pub use Rattle.std.proofs.lemmas.Bool.{cases_lt, eqb-true, eq-eqb, ne_eqb, eqb-false, MatchBool-at_true, MatchBool-at_false, iff_false}
-pub use Rattle.std.proofs.lemmas.Bool.Decides.{eqb_tells, nat_tests}
-pub use Rattle.std.proofs.lemmas.Fmt.{decimal_nonempty, length-decimal-le, first_decimal, digits_decimal, digits_value-decimal, decimal-digits_value}
-pub use Rattle.std.proofs.lemmas.Fmt.{decimal_digit, decimal_step, decimal_injective, decimal_is_IsNumeral, decimal_is_IsNumeral_wide}
-pub use Rattle.std.proofs.lemmas.Fmt.{decimal_step_wide}
+pub use Rattle.std.proofs.lemmas.Bool.{cases_lt, eqb-true, eq-eqb, ne_eqb, eqb-false}
+pub use Rattle.std.proofs.lemmas.Bool.Decides.{eqb_tells}
+pub use Rattle.std.proofs.lemmas.Fmt.{decimal_nonempty, length-decimal-le, first_decimal, digits_decimal, digits_value-decimal, decimal-digits_value, decimal_injective, decimal_digit, decimal_step, decimal_is_IsNumeral, decimal_is_IsNumeral_wide, decimal_step_wide}
 pub use Rattle.std.proofs.lemmas.Int.Digits.{digits_more, digits_value_more}
-pub use Rattle.std.proofs.lemmas.List.{take_at, length_push, length-take, take_all, take_more, get_or_at, get_or-take, take-append-drop, drop_more}
-pub use Rattle.std.proofs.lemmas.List.{take_rest, append-nil}
+pub use Rattle.std.proofs.lemmas.List.{take_at, length_push, length-take, take_all, take_more, get_or_at, get_or-take, take-append-drop, drop_more, take_rest, append-nil}
 pub use Rattle.std.proofs.lemmas.Str.Parse.{IsNumeralModel, numerals_by_value, tells_digits, digits_value_short, digit_at, digit_from_value}
 pub use Rattle.std.specs.Char.{digit_value}
 pub use Rattle.std.specs.Fmt.{decimal, digits_onto, digit_glyph}
@@ -22,3 +17,10 @@ pub use Rattle.std.specs.List.{AllByRecursion}
 pub use Rattle.std.specs.Option.{IfNone}
 pub use Rattle.std.specs.Str.Parse.{AllDigits, digits_value}
 pub use Rattle.memchr.specs.Find.{Nowhere, NoneBefore, Passes, is_byte}
+pub use Rattle.sas_lines.specs.FirstLines.{LineStandsFirst, LinesStandFirst, TakesLine}
+pub use Rattle.sas_lines.specs.Lines.{text, without_return, lines_among, rest_among, EndedLines, NoEnd}
+pub use Rattle.sas_lines.specs.Parts.{onto_first, StandsFirst, Without}
+pub use Rattle.sas_lines.specs.Progress.{Progress}
+pub use Rattle.sas_lines.specs.Spelling.{signed_decimal, joined}
+unfoldable pub use Rattle.sas_lines.specs.Lines.{lines, unfinished}
+unfoldable pub use Rattle.sas_lines.specs.Parts.{parts}

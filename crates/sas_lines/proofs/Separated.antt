@@ -1,7 +1,5 @@
 -- The parts of bytes between separators, derived from the last part.
-use Rattle.sas_lines.proofs.Imports.{◌≡◌, ℕ, Bool, true, false, cond, eqb, List, [], ◌∷◌, ◌++◌, refl, sym, ap, subst, ◌∙◌, ne_eqb, eq-eqb, eqb-false}
-use Rattle.sas_lines.specs.Parts.{Without, onto_first, parts}
-use Rattle.sas_lines.specs.Lines.{rest_among}
+use Rattle.sas_lines.proofs.Imports.{◌≡◌, ℕ, Bool, true, false, cond, eqb, List, [], ◌∷◌, ◌++◌, refl, sym, ap, subst, ◌∙◌, ne_eqb, eq-eqb, eqb-false, Without, onto_first, parts, rest_among}
 
 pub Without-append : (separator : ℕ) (a b : List ℕ) → Without separator a → Without separator b → Without separator (a ++ b)
 Without-append separator [] b h g = g

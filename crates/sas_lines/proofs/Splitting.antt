@@ -1,7 +1,5 @@
 -- The lines of concatenated bytes.
-use Rattle.sas_lines.proofs.Imports.{◌≡◌, ℕ, suc, ◌≤◌, ◌≢◌, Bool, true, false, ◌==◌, if◌then◌else◌, length, List, [], ◌∷◌, ◌++◌, refl, sym, ap, ◌∙◌, arith, AllByRecursion, append-nil}
-use Rattle.sas_lines.specs.Parts.{parts, onto_first}
-use Rattle.sas_lines.specs.Lines.{without_return, lines_among, rest_among, lines, unfinished, text, NoEnd}
+use Rattle.sas_lines.proofs.Imports.{◌≡◌, ℕ, suc, ◌≤◌, ◌≢◌, Bool, true, false, ◌==◌, if◌then◌else◌, length, List, [], ◌∷◌, ◌++◌, refl, sym, ap, ◌∙◌, arith, AllByRecursion, append-nil, parts, onto_first, without_return, lines_among, rest_among, lines, unfinished, text, NoEnd}
 use Rattle.sas_lines.proofs.Separated.{Without-append, parts-first, parts-only, parts-some, front, parts-append, last-without}
 
 -- ---- parts in a row

@@ -1,8 +1,5 @@
 -- Splitting at single spaces is the inverse of joining; a decimal contains no space.
-use Rattle.sas_lines.proofs.Imports.{◌≡◌, ℕ, zero, suc, ◌+◌, ◌<◌, ◌≤◌, ◌^◌, ◌≢◌, Bool, true, false, cond, eqb, List, [], ◌∷◌, ◌++◌, length, refl, sym, ap, ◌∙◌, arith, Option, Some, None, inl, inr, AllByRecursion, ◌/◌, ◌%◌, nat_lt, decimal, digits, digits_onto, digit_glyph, AllDigits, digits_value, eqb-true, ne_eqb, cases_lt, digits_decimal, decimal_injective, decimal_is_IsNumeral}
-use Rattle.sas_lines.proofs.Imports.{decimal_is_IsNumeral_wide, length-decimal-le, digit_from_value, IfSome}
-use Rattle.sas_lines.specs.Parts.{Without, onto_first, parts}
-use Rattle.sas_lines.specs.Spelling.{signed_decimal, joined}
+use Rattle.sas_lines.proofs.Imports.{◌≡◌, ℕ, zero, suc, ◌+◌, ◌<◌, ◌≤◌, ◌^◌, ◌≢◌, Bool, true, false, cond, eqb, List, [], ◌∷◌, ◌++◌, length, refl, sym, ap, ◌∙◌, arith, Option, Some, None, inl, inr, AllByRecursion, ◌/◌, ◌%◌, nat_lt, decimal, digits, digits_onto, digit_glyph, AllDigits, digits_value, eqb-true, ne_eqb, cases_lt, digits_decimal, decimal_injective, decimal_is_IsNumeral, Without, onto_first, parts, signed_decimal, joined, decimal_is_IsNumeral_wide, length-decimal-le, digit_from_value, IfSome}
 use Rattle.sas_lines.proofs.Separated.{parts-first, parts-only, parts-some}
 use Rattle.sas_lines.proofs.Digits.{own}
 
@@ -75,9 +72,6 @@ pub NoSpace-signed : (n : Option ℕ) → IfSome n (λ k. k < 2 ^ 31) → NoSpac
 NoSpace-signed None h = (omega arith, (omega arith, tt))
 NoSpace-signed (Some n) h = NoSpace-number n h
 
-pub same_number : (m n : ℕ) → m < 2 ^ 64 → n < 2 ^ 64 → decimal m ≡ decimal n → m ≡ n
-same_number m n f g e = decimal_injective m n f g e
-
 -- a number of more than 64 digits has its last 64 as its decimal
 ten_pos : (k : ℕ) → 0 < 10 ^ k
 ten_pos zero = omega arith
@@ -115,4 +109,4 @@ pub same_signed : (m n : Option ℕ) → IfSome m (λ k. k < 2 ^ 31) → IfSome 
 same_signed None None f g e = refl
 same_signed None (Some n) f g e = absurd (decimal_no_minus n _ (omega arith) (sym e))
 same_signed (Some m) None f g e = absurd (decimal_no_minus m _ (omega arith) e)
-same_signed (Some m) (Some n) f g e = ap (λ (x : ℕ). Some x) (same_number m n (omega arith) (omega arith) e)
+same_signed (Some m) (Some n) f g e = ap (λ (x : ℕ). Some x) (decimal_injective m n (omega arith) (omega arith) e)

@@ -1,9 +1,7 @@
 // Splits a stream that arrives in pieces into lines.
-ghost use Rattle.std.specs.Prelude.{◌≡◌, ◌<◌, [], ◌++◌, take, false, true};
-ghost use Rattle.std.specs.Prelude.{IfOk, OnErr, IfSome, IfNone, if◌then◌else◌};
-ghost use Rattle.sas_lines.specs.Lines.{lines, unfinished, without_return, NoEnd};
+ghost use Rattle.std.specs.Prelude.{◌≡◌, ◌<◌, [], ◌++◌, take, false, true, IfOk, OnErr, IfSome, IfNone, if◌then◌else◌};
+ghost use Rattle.sas_lines.specs.Lines.{lines, unfinished, without_return, NoEnd, BytesAreEndedLines};
 ghost use Rattle.sas_lines.specs.FirstLines.{TakesLine, LineStandsFirst};
-ghost use Rattle.sas_lines.specs.Lines.{BytesAreEndedLines};
 ghost use Rattle.sas_lines.specs.Progress.{completed};
 
 use crate::separators::first_place;

@@ -1,8 +1,7 @@
 // Parses numbers.
 #![tactic(auto, using(crate::proofs::Digits::spelled))]
 
-ghost use Rattle.std.specs.Prelude.{◌≡◌, ◌<◌, ◌≤◌, ◌^◌, ◌↔◌, ℕ, Option, Some, None};
-ghost use Rattle.std.specs.Prelude.{IfSome, IfNone, IsTrue, length, slice_index, decimal};
+ghost use Rattle.std.specs.Prelude.{◌≡◌, ◌<◌, ◌≤◌, ◌^◌, ◌↔◌, ℕ, Option, Some, None, IfSome, IfNone, IsTrue, length, slice_index, decimal};
 ghost use Rattle.sas_lines.specs.Spelling.{SpellingIsDecimal, signed_decimal};
 
 /// Returns whether the digits begin with a zero that other digits follow.

@@ -1,10 +1,6 @@
 -- The list of variables that may have changed continues to cover all changes.
-use Rattle.sas_meaning.proofs.Imports.{◌≡◌, ◌⊎◌, ℕ, Bool, true, false, List, [], ◌∷◌, ◌++◌, set, if◌then◌else◌, refl, sym, ◌∙◌, ap, subst, inl, inr, All, cases_eq, get_or-set_other, All-nil, All-push, Contains-append_left, Contains-push, Fact, Parts, layer_of, IsDerived}
+use Rattle.sas_meaning.proofs.Imports.{◌≡◌, ◌⊎◌, ℕ, Bool, true, false, List, [], ◌∷◌, ◌++◌, set, if◌then◌else◌, refl, sym, ◌∙◌, ap, subst, inl, inr, All, cases_eq, get_or-set_other, All-nil, All-push, Contains-append_left, Contains-push, Fact, Parts, layer_of, IsDerived, Touched, HaveGone, IsBasic, MayHaveChanged, IsCleared, AddsTouched, CoversChanges, StillCovers}
 use Rattle.std.proofs.Common.{is_some}
-use Rattle.sas_meaning.specs.declared.touched.Touched.{Touched}
-use Rattle.sas_meaning.specs.Following.{HaveGone}
-use Rattle.sas_meaning.specs.Layers.{IsBasic}
-use Rattle.sas_meaning.specs.Touched.{MayHaveChanged, IsCleared, AddsTouched, CoversChanges, StillCovers}
 
 by_test : (b : Bool) (xs ys zs : List ℕ) → zs ≡ (if b then xs else ys) → ((b ≡ true) × (zs ≡ xs)) ⊎ (zs ≡ ys)
 by_test true xs ys zs e = inl (refl, e)

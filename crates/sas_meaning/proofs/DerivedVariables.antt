@@ -1,7 +1,5 @@
 -- Which variables are derived.
-use Rattle.sas_meaning.proofs.Imports.{◌≡◌, ◌≢◌, ℕ, ◌+◌, ◌<◌, ◌≤◌, true, false, None, List, [], ◌∷◌, ◌++◌, length, refl, sym, subst, inl, inr, arith, All, Contains, cases_eq, All-nil, All-push, Contains-append_left, Contains-push, Parts, IsDerived, layer_of}
-use Rattle.sas_meaning.specs.Layers.{IsBasic}
-use Rattle.sas_meaning.specs.DerivedVariables.{AreDerived}
+use Rattle.sas_meaning.proofs.Imports.{◌≡◌, ◌≢◌, ℕ, ◌+◌, ◌<◌, ◌≤◌, true, false, None, List, [], ◌∷◌, ◌++◌, length, refl, sym, subst, inl, inr, arith, All, Contains, cases_eq, All-nil, All-push, Contains-append_left, Contains-push, Parts, IsDerived, layer_of, IsBasic, AreDerived}
 use Rattle.sas_meaning.proofs.Layers.{layer_cases, on_layer_within}
 
 -- a derived variable isn't basic

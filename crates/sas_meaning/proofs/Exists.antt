@@ -1,9 +1,5 @@
 -- For all values of the basic variables there is a settled state.
-use Rattle.sas_meaning.proofs.Imports.{◌≡◌, ℕ, zero, suc, ◌+◌, ◌<◌, ◌≤◌, ◌⊎◌, List, [], ◌∷◌, length, get_or, set, Option, None, Some, refl, sym, ◌∙◌, subst, inl, inr, arith, cases_eq, get_or-set_same, get_or-set_other, get_or_default, slice_get, option_and_then, Rule, Variable, Parts, IsState, WellRanged}
-use Rattle.sas_meaning.specs.Laws.{SettledExists, InitialExists}
-use Rattle.sas_meaning.specs.Layers.{IsBasic, IsOnLayer, default_of, IsLayered}
-use Rattle.sas_meaning.specs.Settled.{IsSettledAt, SameBasic}
-use Rattle.sas_meaning.specs.Forced.{OnlyForced, HasFired, Changes, SameOff, AtDefault, equal_places}
+use Rattle.sas_meaning.proofs.Imports.{◌≡◌, ℕ, zero, suc, ◌+◌, ◌<◌, ◌≤◌, ◌⊎◌, List, [], ◌∷◌, length, get_or, set, Option, None, Some, refl, sym, ◌∙◌, subst, inl, inr, arith, cases_eq, get_or-set_same, get_or-set_other, get_or_default, slice_get, option_and_then, Rule, Variable, Parts, IsState, WellRanged, SettledExists, InitialExists, IsBasic, IsOnLayer, default_of, IsLayered, IsSettledAt, SameBasic, OnlyForced, HasFired, Changes, SameOff, AtDefault, equal_places}
 use Rattle.sas_meaning.proofs.Layers.{layer_decides, layer_cases, on_layer_within}
 use Rattle.sas_meaning.proofs.Forced.{Fired, fired_there, state_set}
 use Rattle.sas_meaning.proofs.Facts.{hold_or_not}

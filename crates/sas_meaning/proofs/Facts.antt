@@ -1,7 +1,5 @@
 -- Whether facts hold and whether an effect sets a variable is decidable.
-use Rattle.sas_meaning.proofs.Imports.{◌≡◌, ◌≢◌, ℕ, ◌⊎◌, List, [], ◌∷◌, get_or, refl, inl, inr, arith, cases_eq, All, Contains, All-nil, All-cons, All-head, All-tail, Contains-append_right, Fact, Effect}
-use Rattle.sas_meaning.specs.States.{Holds, AllHold}
-use Rattle.sas_meaning.specs.Steps.{Fires}
+use Rattle.sas_meaning.proofs.Imports.{◌≡◌, ◌≢◌, ℕ, ◌⊎◌, List, [], ◌∷◌, get_or, refl, inl, inr, arith, cases_eq, All, Contains, All-nil, All-cons, All-head, All-tail, Contains-append_right, Fact, Effect, Holds, AllHold, Fires}
 
 -- whether all facts hold can be decided
 pub hold_or_not : (value : ℕ → ℕ) (facts : List Fact) → AllHold value facts ⊎ (AllHold value facts → ⊥)

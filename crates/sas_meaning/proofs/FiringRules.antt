@@ -1,10 +1,5 @@
 -- A rule that can fire: the tests of it by what is known of the rules before it, and which of its checks is the first to fail.
-use Rattle.sas_meaning.proofs.Imports.{◌≡◌, ◌∙◌, ℕ, ◌+◌, ◌<◌, ◌==◌, Bool, true, false, List, ◌++◌, length, take, slice_index, slice_index_or, slice_set, Option, Some, None, refl, sym, ap, subst, arith, option_map_or, Change, Rule, Parts, Check, first_fault, check, rule_at, rule_change, RuleFits, WellRanged, fails_before, decides_after, holds_at}
-use Rattle.sas_meaning.specs.declared.layered.LayerFault.{LayerFault}
-use Rattle.sas_meaning.specs.declared.layered.LayerFault.TheVariants.{OldValue, TwoValues, LayerOrder}
-use Rattle.sas_meaning.specs.Layers.{CanFire, default_of}
-use Rattle.sas_meaning.specs.LayerChecks.{numbered_checks, agrees_with, looks_down, firing_checks}
-use Rattle.sas_meaning.specs.NewValues.{NewValues}
+use Rattle.sas_meaning.proofs.Imports.{◌≡◌, ◌∙◌, ℕ, ◌+◌, ◌<◌, ◌==◌, Bool, true, false, List, ◌++◌, length, take, slice_index, slice_index_or, slice_set, Option, Some, None, refl, sym, ap, subst, arith, option_map_or, Change, Rule, Parts, Check, first_fault, check, rule_at, rule_change, RuleFits, WellRanged, fails_before, decides_after, holds_at, LayerFault, OldValue, TwoValues, LayerOrder, CanFire, default_of, numbered_checks, agrees_with, looks_down, firing_checks, NewValues}
 use Rattle.sas_meaning.proofs.Forced.{fact_within}
 use Rattle.sas_meaning.proofs.NumberedChecks.{same_check}
 use Rattle.sas_meaning.proofs.KnownValues.{agrees_by_value, known_behind}

@@ -1,9 +1,5 @@
 -- When one rule fires, all variables that differ from their default are still forced.
-use Rattle.sas_meaning.proofs.Imports.{◌≡◌, ◌≢◌, ℕ, zero, suc, ◌<◌, Bool, true, cond, List, [], ◌∷◌, length, get_or, set, sym, ◌∙◌, ap, subst, inl, inr, arith, cases_eq, eqb_tells, get_or-set_same, get_or-set_other, length-set, slice_get, option_map_or, Fact, Variable, Rule, Parts, rule_at, range_of, HasValue, FactExists, IsState, WellRanged, RuleFits, holds_at}
-use Rattle.sas_meaning.specs.States.{AllHold}
-use Rattle.sas_meaning.specs.Layers.{IsOnLayer, default_of, CanFire, LooksDown, IsLayered}
-use Rattle.sas_meaning.specs.Settled.{new_value_of, value_with, IsClosed, differs}
-use Rattle.sas_meaning.specs.Forced.{OnlyForced, HasFired, Changes, SameOff, equal_places}
+use Rattle.sas_meaning.proofs.Imports.{◌≡◌, ◌≢◌, ℕ, zero, suc, ◌<◌, Bool, true, cond, List, [], ◌∷◌, length, get_or, set, sym, ◌∙◌, ap, subst, inl, inr, arith, cases_eq, eqb_tells, get_or-set_same, get_or-set_other, length-set, slice_get, option_map_or, Fact, Variable, Rule, Parts, rule_at, range_of, HasValue, FactExists, IsState, WellRanged, RuleFits, holds_at, AllHold, IsOnLayer, default_of, CanFire, LooksDown, IsLayered, new_value_of, value_with, IsClosed, differs, OnlyForced, HasFired, Changes, SameOff, equal_places}
 use Rattle.sas_meaning.proofs.Layers.{AgreeBelow, agree_sym, closed_agrees, layer_decides, given_on, given_off}
 use Rattle.sas_meaning.proofs.Rules.{new_value_is}
 use Rattle.sas_meaning.proofs.Unique.{differs_decides}

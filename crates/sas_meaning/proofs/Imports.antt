@@ -1,15 +1,11 @@
--- What the proofs use of other crates.
-pub use Rattle.std.proofs.Common.{◌≡◌, ◌≢◌, ℕ, ◌+◌, ◌<◌, ◌≤◌, true, false, None, List, [], ◌∷◌, ◌++◌, length, refl, sym, subst, inl, inr, arith, zero}
-pub use Rattle.std.proofs.Common.{suc, ◌⊎◌, get_or, set, Option, Some, ◌∙◌, ◌==◌, Bool, take, slice_index, slice_index_or, slice_set, ap, cond}
-pub use Rattle.std.proofs.Common.{eqb-true, eq-eqb, below_more, ◌↔◌, nat_lt, nat_le, if◌then◌else◌, flat_map, not, ltb-true, lt-ltb, leb-true, le-leb}
-pub use Rattle.std.proofs.Common.{drop, add-one, ◌&&◌, ◌||◌, get_or-take, rules, Result, Ok, Err, ◌-◌}
+-- What the proofs use of other crates, and of the definitions of this one.
+pub use Rattle.std.proofs.Common.{◌≡◌, ◌≢◌, ℕ, ◌+◌, ◌<◌, ◌≤◌, true, false, None, List, [], ◌∷◌, ◌++◌, length, refl, sym, subst, inl, inr, arith, zero, suc, ◌⊎◌, get_or, set, Option, Some, ◌∙◌, ◌==◌, Bool, take, slice_index, slice_index_or, slice_set, ap, cond, eqb-true, eq-eqb, below_more, ◌↔◌, nat_lt, nat_le, if◌then◌else◌, flat_map, not, ltb-true, lt-ltb, leb-true, le-leb, drop, add-one, ◌&&◌, ◌||◌, get_or-take, rules, Result, Ok, Err, ◌-◌}
 pub use Rattle.std.proofs.Math.Seq.{drop-cons, take-suc}
 pub use Rattle.std.proofs.lemmas.Bool.{cases_eq, false_from_ne_true, cases_Bool, cases_lt}
 pub use Rattle.std.proofs.lemmas.Bool.Decides.{eqb_tells, nat_tests}
 pub use Rattle.std.proofs.lemmas.Grind.{same_number_lists, common_steps, elements}
 pub use Rattle.std.proofs.lemmas.List.{get_or-set_same, get_or-set_other, get_or_default, length-set, drop_all, take_all, length-take-le}
-pub use Rattle.std.proofs.lemmas.List.Elements.{All-nil, All-push, Contains-append_left, Contains-push, All-cons, All-head, All-tail}
-pub use Rattle.std.proofs.lemmas.List.Elements.{Contains-append_right, Contains-get_or, All-contains}
+pub use Rattle.std.proofs.lemmas.List.Elements.{All-nil, All-push, Contains-append_left, Contains-push, All-cons, All-head, All-tail, Contains-append_right, Contains-get_or, All-contains}
 pub use Rattle.std.proofs.lemmas.List.FromFn.{get_or-enumerate_from, length-enumerate_from}
 pub use Rattle.std.proofs.lemmas.List.Kept.{AllPairs-cons}
 pub use Rattle.std.proofs.lemmas.List.Sums.{AllPass-from_list_all, list_all-from_AllPass}
@@ -32,3 +28,19 @@ pub use Rattle.sas_core.specs.declared.parts.Operator.{Operator}
 pub use Rattle.sas_core.specs.declared.parts.Parts.{Parts}
 pub use Rattle.sas_core.specs.declared.parts.Rule.{Rule}
 pub use Rattle.sas_core.specs.declared.parts.Variable.{Variable}
+pub use Rattle.sas_meaning.specs.DerivedVariables.{AreDerived}
+pub use Rattle.sas_meaning.specs.Following.{HaveGone}
+pub use Rattle.sas_meaning.specs.Forced.{OnlyForced, HasFired, Changes, SameOff, AtDefault, equal_places, Occurs}
+pub use Rattle.sas_meaning.specs.Laws.{SettledExists, InitialExists, SettledIsOne, StepIsOne}
+pub use Rattle.sas_meaning.specs.LayerChecks.{numbered_checks, agrees_with, looks_down, firing_checks, effect_layer_checks, operator_layer_checks, rule_layer_checks, layer_checks, LayerChecksAreTheRules}
+pub use Rattle.sas_meaning.specs.Layers.{IsBasic, IsOnLayer, default_of, IsLayered, CanFire, LooksDown, can_fire, IsLayeredRule}
+pub use Rattle.sas_meaning.specs.NewValues.{NewValues, IsGiverBefore}
+pub use Rattle.sas_meaning.specs.Places.{places_from, places}
+pub use Rattle.sas_meaning.specs.Preconditions.{preconditions_left, IsAtOperator}
+pub use Rattle.sas_meaning.specs.Settled.{IsSettledAt, SameBasic, new_value_of, value_with, IsClosed, differs, is_on_layer, IsSettled}
+pub use Rattle.sas_meaning.specs.States.{Holds, AllHold}
+pub use Rattle.sas_meaning.specs.Steps.{Fires, Step}
+pub use Rattle.sas_meaning.specs.Touched.{MayHaveChanged, IsCleared, AddsTouched, CoversChanges, StillCovers}
+pub use Rattle.sas_meaning.specs.declared.layered.LayerFault.{LayerFault}
+pub use Rattle.sas_meaning.specs.declared.layered.LayerFault.TheVariants.{OldValue, TwoValues, LayerOrder, EffectOnDerived, RuleOnBasic}
+pub use Rattle.sas_meaning.specs.declared.touched.Touched.{Touched}

@@ -1,10 +1,7 @@
 -- The stored new values of the rules before an index: whether the rule at the index agrees with
 -- them, and what is stored after it.
-use Rattle.sas_meaning.proofs.Imports.{◌≡◌, ◌≢◌, ℕ, ◌+◌, ◌<◌, ◌≤◌, ◌⊎◌, inl, inr, ◌==◌, Bool, true, false, List, length, take, slice_index_or, slice_set, Option, Some, None, refl, sym, ap, ◌∙◌, arith, eqb-true, eq-eqb, below_more, false_from_ne_true, option_map_or, Rule, Parts, rule_at}
+use Rattle.sas_meaning.proofs.Imports.{◌≡◌, ◌≢◌, ℕ, ◌+◌, ◌<◌, ◌≤◌, ◌⊎◌, inl, inr, ◌==◌, Bool, true, false, List, length, take, slice_index_or, slice_set, Option, Some, None, refl, sym, ap, ◌∙◌, arith, eqb-true, eq-eqb, below_more, false_from_ne_true, option_map_or, Rule, Parts, rule_at, CanFire, agrees_with, IsGiverBefore, NewValues}
 use Rattle.std.proofs.Common.{length-set, get_or-set_same, get_or-set_other}
-use Rattle.sas_meaning.specs.Layers.{CanFire}
-use Rattle.sas_meaning.specs.LayerChecks.{agrees_with}
-use Rattle.sas_meaning.specs.NewValues.{IsGiverBefore, NewValues}
 use Rattle.sas_meaning.proofs.RuleTests.{agrees_with_earlier}
 
 same_or_other : (a b : ℕ) (same : Bool) → (a == b) ≡ same → (a ≡ b) ⊎ (a ≢ b)

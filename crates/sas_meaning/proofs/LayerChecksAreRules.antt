@@ -1,11 +1,6 @@
 -- All layer checks pass if and only if the task is layered: each check is equivalent to its rule.
-use Rattle.sas_meaning.proofs.Imports.{◌≡◌, ℕ, zero, suc, ◌+◌, ◌<◌, ◌≤◌, ◌==◌, ◌↔◌, Bool, true, false, nat_lt, nat_le, if◌then◌else◌, List, [], ◌∷◌, ◌++◌, length, take, flat_map, get_or, ◌⊎◌, inl, inr, not, Option, Some, None, refl, sym, ap, ◌∙◌, subst, arith, eqb-true, eq-eqb, ltb-true, lt-ltb, leb-true, le-leb, get_or_default, nat_tests, enumerate_from, option_map_or, is_some, Effect, Operator}
-use Rattle.sas_meaning.proofs.Imports.{Rule, Parts, Pass, by_test, split_row, join_row, and_then, Check, first_fault, check, rule_at, layer_of, IsDerived}
+use Rattle.sas_meaning.proofs.Imports.{◌≡◌, ℕ, zero, suc, ◌+◌, ◌<◌, ◌≤◌, ◌==◌, ◌↔◌, Bool, true, false, nat_lt, nat_le, if◌then◌else◌, List, [], ◌∷◌, ◌++◌, length, take, flat_map, get_or, ◌⊎◌, inl, inr, not, Option, Some, None, refl, sym, ap, ◌∙◌, subst, arith, eqb-true, eq-eqb, ltb-true, lt-ltb, leb-true, le-leb, get_or_default, nat_tests, enumerate_from, option_map_or, is_some, Effect, Operator, LayerFault, EffectOnDerived, RuleOnBasic, OldValue, TwoValues, LayerOrder, IsBasic, default_of, CanFire, can_fire, LooksDown, IsLayeredRule, IsLayered, numbered_checks, effect_layer_checks, operator_layer_checks, agrees_with, looks_down, firing_checks, rule_layer_checks, layer_checks, LayerChecksAreTheRules, Rule, Parts, Pass, by_test, split_row, join_row, and_then, Check, first_fault, check, rule_at, layer_of, IsDerived}
 use Rattle.std.proofs.Common.{All}
-use Rattle.sas_meaning.specs.declared.layered.LayerFault.{LayerFault}
-use Rattle.sas_meaning.specs.declared.layered.LayerFault.TheVariants.{EffectOnDerived, RuleOnBasic, OldValue, TwoValues, LayerOrder}
-use Rattle.sas_meaning.specs.Layers.{IsBasic, default_of, CanFire, can_fire, LooksDown, IsLayeredRule, IsLayered}
-use Rattle.sas_meaning.specs.LayerChecks.{numbered_checks, effect_layer_checks, operator_layer_checks, agrees_with, looks_down, firing_checks, rule_layer_checks, layer_checks, LayerChecksAreTheRules}
 use Rattle.sas_meaning.proofs.RuleTests.{fires, agrees_with_earlier}
 
 -- checks that are made only where a test says so

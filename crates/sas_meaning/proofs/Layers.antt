@@ -1,7 +1,5 @@
 -- Which variables the conditions of a layer's rules may mention.
-use Rattle.sas_meaning.proofs.Imports.{◌≡◌, ◌≢◌, ℕ, zero, suc, ◌<◌, ◌≤◌, ◌==◌, ◌⊎◌, Bool, true, false, cond, List, [], ◌∷◌, length, get_or, Option, None, Some, refl, sym, ◌∙◌, ap, subst, inl, inr, arith, eqb_tells, slice_get, option_map_or, option_and_then, Variable, Fact, Rule, Parts, layer_of}
-use Rattle.sas_meaning.specs.Layers.{IsBasic, IsOnLayer, default_of, LooksDown, IsLayered}
-use Rattle.sas_meaning.specs.Settled.{is_on_layer, new_value_of, value_with, IsClosed, SameBasic}
+use Rattle.sas_meaning.proofs.Imports.{◌≡◌, ◌≢◌, ℕ, zero, suc, ◌<◌, ◌≤◌, ◌==◌, ◌⊎◌, Bool, true, false, cond, List, [], ◌∷◌, length, get_or, Option, None, Some, refl, sym, ◌∙◌, ap, subst, inl, inr, arith, eqb_tells, slice_get, option_map_or, option_and_then, Variable, Fact, Rule, Parts, layer_of, IsBasic, IsOnLayer, default_of, LooksDown, IsLayered, is_on_layer, new_value_of, value_with, IsClosed, SameBasic}
 
 -- a variable is on the layer or off it, and the test shows which
 option_shows : (o : Option ℕ) (layer : ℕ) → ((o ≡ Some layer) × (option_map_or (λ m. m == layer) o false ≡ true)) ⊎ ((o ≢ Some layer) × (option_map_or (λ m. m == layer) o false ≡ false))

@@ -1,7 +1,5 @@
 -- The first fault among the checks of the items of a list.
-use Rattle.sas_meaning.proofs.Imports.{◌≡◌, ℕ, ◌+◌, ◌<◌, ◌≤◌, Bool, List, ◌∷◌, length, flat_map, drop, get_or, Option, Some, None, refl, sym, ◌∙◌, ap, add-one, arith, drop-cons, drop_all, get_or-enumerate_from, length-enumerate_from, enumerate_from, Check, first_fault, check, fails_before, decides_after}
-use Rattle.sas_meaning.specs.declared.layered.LayerFault.{LayerFault}
-use Rattle.sas_meaning.specs.LayerChecks.{numbered_checks}
+use Rattle.sas_meaning.proofs.Imports.{◌≡◌, ℕ, ◌+◌, ◌<◌, ◌≤◌, Bool, List, ◌∷◌, length, flat_map, drop, get_or, Option, Some, None, refl, sym, ◌∙◌, ap, add-one, arith, drop-cons, drop_all, get_or-enumerate_from, length-enumerate_from, enumerate_from, Check, first_fault, check, fails_before, decides_after, LayerFault, numbered_checks}
 
 -- a check, and one whose test says the same
 pub same_check : (passes test : Bool) (e : LayerFault) (found : Option LayerFault) → passes ≡ test → found ≡ first_fault (check passes e) → found ≡ first_fault (check test e)

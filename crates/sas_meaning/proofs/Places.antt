@@ -1,6 +1,5 @@
 -- The places of the items of a list that pass a test.
-use Rattle.sas_meaning.proofs.Imports.{◌≡◌, ℕ, zero, suc, ◌+◌, ◌<◌, ◌≤◌, Bool, true, false, List, [], ◌∷◌, ◌++◌, length, get_or, take, refl, sym, ◌∙◌, ap, subst, inl, inr, arith, if◌then◌else◌, AllPairs, Contains, cases_Bool, take_all, length-take-le, Contains-get_or, AllPairs-cons, take-suc}
-use Rattle.sas_meaning.specs.Places.{places_from, places}
+use Rattle.sas_meaning.proofs.Imports.{◌≡◌, ℕ, zero, suc, ◌+◌, ◌<◌, ◌≤◌, Bool, true, false, List, [], ◌∷◌, ◌++◌, length, get_or, take, refl, sym, ◌∙◌, ap, subst, inl, inr, arith, if◌then◌else◌, AllPairs, Contains, cases_Bool, take_all, length-take-le, Contains-get_or, AllPairs-cons, take-suc, places_from, places}
 use Rattle.sas_meaning.proofs.Members.{contains_head, contains_tail, contains_cases, contains_none}
 
 module _ {A : Type 0} (test : A → Bool) where

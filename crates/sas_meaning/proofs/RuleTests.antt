@@ -1,7 +1,5 @@
 -- The tests of a rule, and what they imply for the rules at their indexes.
-use Rattle.sas_meaning.proofs.Imports.{◌≡◌, ℕ, ◌<◌, ◌≤◌, ◌==◌, ◌&&◌, ◌||◌, ◌↔◌, Bool, true, false, not, length, take, get_or, refl, sym, ap, ◌∙◌, arith, eqb-true, eq-eqb, get_or-take, get_or_default, length-take-le, AllPass-from_list_all, list_all-from_AllPass, AllPass, list_all, Rule, Parts, rule_at}
-use Rattle.sas_meaning.specs.Layers.{CanFire, can_fire}
-use Rattle.sas_meaning.specs.LayerChecks.{agrees_with}
+use Rattle.sas_meaning.proofs.Imports.{◌≡◌, ℕ, ◌<◌, ◌≤◌, ◌==◌, ◌&&◌, ◌||◌, ◌↔◌, Bool, true, false, not, length, take, get_or, refl, sym, ap, ◌∙◌, arith, eqb-true, eq-eqb, get_or-take, get_or_default, length-take-le, AllPass-from_list_all, list_all-from_AllPass, AllPass, list_all, Rule, Parts, rule_at, CanFire, can_fire, agrees_with}
 
 differs : (a b : ℕ) (same : Bool) → (a == b) ≡ same → (not same ≡ true) ↔ (a ≡ b → ⊥)
 differs a b true is = (λ test. absurd (cc), λ differ. absurd (differ (eqb-true a b is)))

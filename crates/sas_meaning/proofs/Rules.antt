@@ -1,7 +1,5 @@
 -- The new value of the rules of a variable.
-use Rattle.sas_meaning.proofs.Imports.{◌≡◌, ℕ, zero, suc, ◌<◌, ◌==◌, ◌&&◌, Bool, true, false, List, [], ◌∷◌, length, get_or, Option, Some, refl, sym, ◌∙◌, ap, subst, inl, inr, arith, cases_Bool, eqb_tells, find, option_map_or, Rule, Parts}
-use Rattle.sas_meaning.specs.Layers.{default_of, CanFire, can_fire, IsLayered}
-use Rattle.sas_meaning.specs.Settled.{new_value_of}
+use Rattle.sas_meaning.proofs.Imports.{◌≡◌, ℕ, zero, suc, ◌<◌, ◌==◌, ◌&&◌, Bool, true, false, List, [], ◌∷◌, length, get_or, Option, Some, refl, sym, ◌∙◌, ap, subst, inl, inr, arith, cases_Bool, eqb_tells, find, option_map_or, Rule, Parts, default_of, CanFire, can_fire, IsLayered, new_value_of}
 
 -- what `find` finds, where an element passes
 pub record Found {X : Type 0} (p : X → Bool) (xs : List X) (d : X) : Type 0 where

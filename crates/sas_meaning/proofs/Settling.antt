@@ -1,8 +1,5 @@
 -- From a layer to all layers.
-use Rattle.sas_meaning.proofs.Imports.{◌≡◌, ◌≢◌, ℕ, suc, ◌+◌, ◌<◌, ◌≤◌, ◌==◌, Bool, true, not, cond, List, length, get_or, sym, ◌∙◌, ap, subst, inl, inr, arith, cases_eq, cases_lt, Rule, Parts}
-use Rattle.sas_meaning.specs.Layers.{IsOnLayer, default_of, IsLayered}
-use Rattle.sas_meaning.specs.Settled.{new_value_of, value_with, IsClosed, differs, IsSettledAt, IsSettled, SameBasic}
-use Rattle.sas_meaning.specs.Forced.{OnlyForced, HasFired, SameOff, AtDefault, Occurs}
+use Rattle.sas_meaning.proofs.Imports.{◌≡◌, ◌≢◌, ℕ, suc, ◌+◌, ◌<◌, ◌≤◌, ◌==◌, Bool, true, not, cond, List, length, get_or, sym, ◌∙◌, ap, subst, inl, inr, arith, cases_eq, cases_lt, Rule, Parts, IsOnLayer, default_of, IsLayered, new_value_of, value_with, IsClosed, differs, IsSettledAt, IsSettled, SameBasic, OnlyForced, HasFired, SameOff, AtDefault, Occurs}
 use Rattle.sas_meaning.proofs.Layers.{AgreeBelow, agree_sym, closed_agrees, layer_decides, given_on, given_off}
 use Rattle.sas_meaning.proofs.Forced.{closed_when_fired, differs_not}
 

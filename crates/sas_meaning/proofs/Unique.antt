@@ -1,10 +1,6 @@
 -- Two settled states with the same basic values are equal, layer by layer.
-use Rattle.sas_meaning.proofs.Imports.{◌≡◌, ◌≢◌, ℕ, zero, suc, ◌<◌, ◌⊎◌, true, false, not, List, get_or, refl, sym, ◌∙◌, ap, subst, inl, inr, arith, eqb_tells, same_number_lists, Parts, Effect, Operator, All-contains}
-use Rattle.sas_meaning.specs.Laws.{SettledIsOne, StepIsOne}
-use Rattle.sas_meaning.specs.Steps.{Fires, Step}
+use Rattle.sas_meaning.proofs.Imports.{◌≡◌, ◌≢◌, ℕ, zero, suc, ◌<◌, ◌⊎◌, true, false, not, List, get_or, refl, sym, ◌∙◌, ap, subst, inl, inr, arith, eqb_tells, same_number_lists, Parts, Effect, Operator, All-contains, SettledIsOne, StepIsOne, Fires, Step, IsOnLayer, default_of, IsLayered, differs, IsSettledAt, IsSettled, SameBasic}
 use Rattle.sas_meaning.proofs.Facts.{set_or_kept}
-use Rattle.sas_meaning.specs.Layers.{IsOnLayer, default_of, IsLayered}
-use Rattle.sas_meaning.specs.Settled.{differs, IsSettledAt, IsSettled, SameBasic}
 use Rattle.sas_meaning.proofs.Layers.{AgreeBelow, agree_sym, closed_agrees, layer_cases}
 
 -- the test shows whether a variable differs from its default

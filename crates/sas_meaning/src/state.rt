@@ -1,6 +1,5 @@
 // States of a task.
-ghost use Rattle.std.specs.Prelude.{◌≡◌, ◌<◌, ◌↔◌, List, ℕ, length, All};
-ghost use Rattle.std.specs.Prelude.{slice_index, slice_set, IfOk, IsErrOf, IsTrue, IsFalse};
+ghost use Rattle.std.specs.Prelude.{◌≡◌, ◌<◌, ◌↔◌, List, ℕ, length, All, slice_index, slice_set, IfOk, IsErrOf, IsTrue, IsFalse};
 ghost use Rattle.sas_core.specs.declared.parts.Fact.{Fact};
 ghost use Rattle.sas_core.specs.Variables.{IsState};
 ghost use Rattle.sas_meaning.specs.States.{Holds, AllHold};

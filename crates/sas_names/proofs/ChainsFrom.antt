@@ -1,6 +1,5 @@
 -- The operators of numbered names, stored from the last operator to the first.
-use Rattle.sas_names.proofs.Imports.{◌≡◌, ℕ, ◌+◌, ◌<◌, ◌≤◌, ◌≢◌, List, length, get_or, slice_set, Option, None, Some, sym, ap, subst, ◌∙◌, inl, inr, arith, eq-or-lt_of_le, cases_eq, none-some, same_Some, get_or-set_same, get_or-set_other, Parts, operator_at}
-use Rattle.sas_names.specs.Names.{IsNextNamed}
+use Rattle.sas_names.proofs.Imports.{◌≡◌, ℕ, ◌+◌, ◌<◌, ◌≤◌, ◌≢◌, List, length, get_or, slice_set, Option, None, Some, sym, ap, subst, ◌∙◌, inl, inr, arith, eq-or-lt_of_le, cases_eq, none-some, same_Some, get_or-set_same, get_or-set_other, Parts, operator_at, IsNextNamed}
 use Rattle.sas_names.proofs.NamesFrom.{IsNextNamed-pass}
 
 -- Considers the operators from number `from` on. The first list has the lowest operator of each

@@ -1,11 +1,5 @@
 -- The operators that are found for the names of steps.
-use Rattle.sas_names.proofs.Imports.{◌≡◌, ℕ, ◌+◌, ◌<◌, List, [], length, get_or, None, ap, subst, ◌∙◌, arith, Parts, operator_at}
-use Rattle.sas_names.specs.declared.chains.Chains.{Chains}
-use Rattle.sas_names.specs.declared.step_names.StepNames.{StepNames}
-use Rattle.sas_names.specs.Names.{IsNextNamed, IsLowestNamed, AreFirsts}
-use Rattle.sas_names.specs.NameTable.{value_of}
-use Rattle.sas_names.specs.StepNames.{AreStepNames, step_names}
-use Rattle.sas_names.specs.Chains.{AreChains, AreFound, HaveChains}
+use Rattle.sas_names.proofs.Imports.{◌≡◌, ℕ, ◌+◌, ◌<◌, List, [], length, get_or, None, ap, subst, ◌∙◌, arith, Parts, operator_at, Chains, StepNames, IsNextNamed, IsLowestNamed, AreFirsts, value_of, AreStepNames, step_names, AreChains, AreFound, HaveChains}
 
 module _ (p : Parts) (steps : List (List ℕ)) (names : StepNames) (chains : Chains) (firsts : List ℕ) (named : AreStepNames steps names)
     (are : AreChains p steps names chains) (found : AreFound chains.first.items names.of_steps.items firsts) where

@@ -1,7 +1,5 @@
--- What the proofs use of other crates.
-pub use Rattle.std.proofs.Common.{◌≡◌, ℕ, ◌+◌, ◌<◌, ◌≤◌, ◌≢◌, List, length, get_or, slice_set, Option, None, Some, sym, ap, subst, ◌∙◌, inl, inr}
-pub use Rattle.std.proofs.Common.{arith, [], Bool, true, false, nat_eq, refl, if◌then◌else◌, true≢false, option_map, ◌-◌, ◌⊎◌, ◌∷◌, ◌++◌}
-pub use Rattle.std.proofs.Common.{vec_capacity, rules}
+-- What the proofs use of other crates, and of the definitions of this one.
+pub use Rattle.std.proofs.Common.{◌≡◌, ℕ, ◌+◌, ◌<◌, ◌≤◌, ◌≢◌, List, length, get_or, slice_set, Option, None, Some, sym, ap, subst, ◌∙◌, inl, inr, arith, [], Bool, true, false, nat_eq, refl, if◌then◌else◌, true≢false, ◌-◌, ◌⊎◌, ◌∷◌, ◌++◌, vec_capacity, rules}
 pub use Rattle.std.proofs.Math.Nat.{eq-or-lt_of_le}
 pub use Rattle.std.proofs.lemmas.Bool.{cases_eq, eqb-true, eq-eqb, cases_lt}
 pub use Rattle.std.proofs.lemmas.List.{get_or-set_same, get_or-set_other, length-set, get_or_append_left, get_or_push, get_or_read, length-append}
@@ -17,3 +15,14 @@ pub use Rattle.std.specs.Ordering.{eq_by_cmp, nat_cmp}
 pub use Rattle.indexmap.specs.IndexMap.{get, IndexMap, UpdatesBy}
 pub use Rattle.sas_core.specs.Grounded.{operator_at}
 pub use Rattle.sas_core.specs.declared.parts.Parts.{Parts}
+pub use Rattle.sas_names.specs.Chains.{AreChains, AreFound, HaveChains}
+pub use Rattle.sas_names.specs.Likely.{IsLikely, AreLikely}
+pub use Rattle.sas_names.specs.NameTable.{value_of, AreNames, other_of, own_else, first_else, likely_of, operator_names, AreMappedFrom, AreNamesFrom, Exist, IsEmptyTable, PutsName, PutsDigest, PutsOther}
+pub use Rattle.sas_names.specs.Named.{IsNamed}
+pub use Rattle.sas_names.specs.Names.{IsNextNamed, IsLowestNamed, AreFirsts}
+pub use Rattle.sas_names.specs.StepNames.{AreStepNames, step_names, AreStepsOf, Numbers, HaveNumbers}
+pub use Rattle.sas_names.specs.declared.chains.Chains.{Chains}
+pub use Rattle.sas_names.specs.declared.name_table.NameTable.{NameTable}
+pub use Rattle.sas_names.specs.declared.names.Names.{Names}
+pub use Rattle.sas_names.specs.declared.step_names.StepNames.{StepNames}
+unfoldable pub use Rattle.sas_names.specs.NameDigest.{digest_of}

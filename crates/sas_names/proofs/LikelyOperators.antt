@@ -1,10 +1,5 @@
 -- The likely operators of names.
-use Rattle.sas_names.proofs.Imports.{◌≡◌, ℕ, ◌+◌, ◌<◌, ◌≤◌, ◌≢◌, Bool, true, false, List, [], length, nat_eq, get_or, slice_set, Option, None, Some, refl, sym, ap, subst, ◌∙◌, inl, inr, if◌then◌else◌, true≢false, arith, pointwise, bytes_decides, eq-or-lt_of_le, eqb-true, eq-eqb, get_or-set_same, get_or-set_other, length-set, none-some, get, Parts, operator_at}
-use Rattle.sas_names.specs.Names.{IsNextNamed, IsLowestNamed, HaveFirsts}
-use Rattle.sas_names.specs.NameDigest.{digest_of}
-use Rattle.sas_names.specs.NameTable.{AreNames, value_of, other_of, own_else, first_else, likely_of, operator_names}
-use Rattle.sas_names.specs.Likely.{IsLikely, AreLikely}
-use Rattle.sas_names.specs.declared.names.Names.{Names}
+use Rattle.sas_names.proofs.Imports.{◌≡◌, ℕ, ◌+◌, ◌<◌, ◌≢◌, Bool, true, false, List, [], length, nat_eq, get_or, slice_set, Option, None, Some, refl, sym, ap, subst, ◌∙◌, if◌then◌else◌, true≢false, arith, bytes_decides, eqb-true, eq-eqb, get_or-set_same, get_or-set_other, length-set, none-some, get, Parts, operator_at, IsNextNamed, IsLowestNamed, digest_of, AreNames, other_of, own_else, first_else, likely_of, operator_names, IsLikely, AreLikely, Names}
 
 module _ (p : Parts) (names : Names) (are : AreNames p names) (name : List ℕ) where
   abbrev other : Option ℕ

@@ -1,10 +1,5 @@
 -- A table of names that is built from the last operator to the first.
-use Rattle.sas_names.proofs.Imports.{◌≡◌, ℕ, ◌+◌, ◌<◌, ◌≤◌, ◌≢◌, Bool, true, false, List, length, nat_eq, get_or, slice_set, Option, None, Some, refl, sym, ap, subst, ◌∙◌, inl, inr, if◌then◌else◌, option_map, true≢false, arith, pointwise, bytes_decides, eq-or-lt_of_le, get_or-set_same, get_or-set_other, length-set, Parts, operator_at}
-use Rattle.sas_names.specs.Named.{IsNamed}
-use Rattle.sas_names.specs.Names.{IsNextNamed}
-use Rattle.sas_names.specs.declared.name_table.NameTable.{NameTable}
-use Rattle.sas_names.specs.declared.names.Names.{Names}
-use Rattle.sas_names.specs.NameTable.{AreMappedFrom, AreNamesFrom, Exist, IsEmptyTable, PutsName, value_of, operator_names}
+use Rattle.sas_names.proofs.Imports.{◌≡◌, ℕ, ◌+◌, ◌<◌, ◌≤◌, ◌≢◌, Bool, true, false, List, length, nat_eq, get_or, slice_set, Option, None, Some, refl, sym, subst, ◌∙◌, inl, inr, if◌then◌else◌, true≢false, arith, pointwise, bytes_decides, eq-or-lt_of_le, get_or-set_same, get_or-set_other, length-set, Parts, operator_at, IsNamed, IsNextNamed, Names, AreMappedFrom, AreNamesFrom, Exist, IsEmptyTable, PutsName, value_of, operator_names}
 use Rattle.sas_names.proofs.TablePuts.{Exist-empty, value_of-empty}
 
 -- after the last operator no name has an operator

@@ -1,8 +1,5 @@
 -- The numbers of steps' names, after one more name is numbered.
-use Rattle.sas_names.proofs.Imports.{◌≡◌, ℕ, ◌<◌, ◌⊎◌, Bool, true, false, List, length, nat_eq, Option, None, Some, refl, sym, ap, subst, ◌∙◌, inl, inr, if◌then◌else◌, arith, pointwise, bytes_decides, none-some, same_Some}
-use Rattle.sas_names.specs.declared.name_table.NameTable.{NameTable}
-use Rattle.sas_names.specs.NameTable.{IsEmptyTable, Exist, PutsName, value_of}
-use Rattle.sas_names.specs.StepNames.{AreStepsOf, Numbers, step_names}
+use Rattle.sas_names.proofs.Imports.{◌≡◌, ℕ, ◌<◌, ◌⊎◌, Bool, true, false, List, length, nat_eq, Option, None, Some, refl, sym, ap, subst, ◌∙◌, inl, inr, if◌then◌else◌, arith, pointwise, bytes_decides, none-some, same_Some, NameTable, IsEmptyTable, Exist, PutsName, value_of, AreStepsOf, Numbers, step_names}
 use Rattle.sas_names.proofs.TablePuts.{Exist-empty, value_of-empty}
 
 -- no step has a number yet

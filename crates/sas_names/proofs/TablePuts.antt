@@ -1,9 +1,6 @@
 -- The value of each name in a table after one value was put.
-use Rattle.sas_names.proofs.Imports.{◌≡◌, ℕ, ◌≢◌, Bool, true, false, List, nat_eq, Option, None, Some, refl, sym, ap, subst, ◌∙◌, if◌then◌else◌, true≢false, BTreeMap, is_at, nat_eq_equiv, pointwise, slice_cmp, lists_equiv, bytes_decides, Vec, IsKeyTest, AreApart, KeepsOthers, eq_by_cmp, nat_cmp, eqb-true, eq-eqb, none-some, is_eq-slice_cmp, IndexMap, get, UpdatesBy}
+use Rattle.sas_names.proofs.Imports.{◌≡◌, ℕ, ◌≢◌, Bool, true, false, List, nat_eq, Option, None, Some, refl, sym, ap, subst, ◌∙◌, if◌then◌else◌, true≢false, BTreeMap, is_at, nat_eq_equiv, pointwise, slice_cmp, lists_equiv, bytes_decides, Vec, IsKeyTest, AreApart, KeepsOthers, eq_by_cmp, nat_cmp, eqb-true, eq-eqb, none-some, is_eq-slice_cmp, IndexMap, get, UpdatesBy, NameTable, digest_of, IsEmptyTable, Exist, PutsName, PutsDigest, PutsOther, value_of, other_of, own_else}
 use Rattle.std.specs.BTreeMap as tree
-use Rattle.sas_names.specs.declared.name_table.NameTable.{NameTable}
-use Rattle.sas_names.specs.NameDigest.{digest_of}
-use Rattle.sas_names.specs.NameTable.{IsEmptyTable, Exist, PutsName, PutsDigest, PutsOther, value_of, other_of, own_else}
 
 -- ---- the two maps
 

@@ -1,7 +1,6 @@
 //! A table from names to values.
 ghost use Rattle.std.specs.Prelude.{◌≡◌, IfOk, OnOk};
-ghost use Rattle.sas_names.specs.NameTable.{IsEmptyTable, Exist, PutsName, PutsDigest, PutsEither, PutsOther};
-ghost use Rattle.sas_names.specs.NameTable.{value_of, likely_of, other_of};
+ghost use Rattle.sas_names.specs.NameTable.{IsEmptyTable, Exist, PutsName, PutsDigest, PutsEither, PutsOther, value_of, likely_of, other_of};
 
 use crate::digest::digest;
 use crate::named::Named;

@@ -1,8 +1,5 @@
--- What the proofs use of other crates.
-pub use Rattle.std.proofs.Common.{◌≡◌, ◌⊎◌, inl, inr, ℕ, List, [], ◌∷◌, ◌++◌, length, flat_map, take, ◌≤◌, refl, ap, ◌∙◌, ◌+◌, ◌/◌, ◌%◌, ◌<◌, set, append_assoc}
-pub use Rattle.std.proofs.Common.{length-append, arith, sym, subst, Option, Some, None, zero, suc, ◌-◌, get_or, IsTrue, not, ◌==◌, if◌then◌else◌}
-pub use Rattle.std.proofs.Common.{codes, slice_get, append-nil, true, false, ◌^◌, drop, min, Bool, Result, Ok, Err, ◌↔◌, bytes_eq, take_at, map}
-pub use Rattle.std.proofs.Common.{replicate, rules, Bor}
+-- What the proofs use of other crates, and of the definitions of this one.
+pub use Rattle.std.proofs.Common.{◌≡◌, ◌⊎◌, inl, inr, ℕ, List, [], ◌∷◌, ◌++◌, length, flat_map, take, ◌≤◌, refl, ap, ◌∙◌, ◌+◌, ◌/◌, ◌%◌, ◌<◌, set, append_assoc, length-append, arith, sym, subst, Option, Some, None, zero, suc, ◌-◌, get_or, IsTrue, not, ◌==◌, if◌then◌else◌, codes, slice_get, append-nil, true, false, ◌^◌, drop, min, Bool, Result, Ok, Err, ◌↔◌, bytes_eq, take_at, map, replicate, rules, Bor}
 pub use Rattle.std.proofs.KnownBytes.{Appends-trans}
 pub use Rattle.std.proofs.Math.ListN.{length-set}
 pub use Rattle.std.proofs.lemmas.Bool.{and_parts, and_from, ne_eqb, eq-eqb, false≢true}
@@ -32,3 +29,21 @@ pub use Rattle.sas_lines.specs.Parts.{Without}
 unfoldable pub use Rattle.sas_lines.specs.Parts.{parts}
 pub use Rattle.sas_lines.specs.Spelling.{joined}
 pub use Rattle.sas_lines.specs.declared.devices.Short.{Short}
+pub use Rattle.sas_output.specs.Ending.{Output, StopsAt, Ends, EndsCounting}
+pub use Rattle.sas_output.specs.Facts.{fact_of_effect, fact_of_rule}
+pub use Rattle.sas_output.specs.Laws.{IsReasonLine, LinesAreReasons, RuleLinesDiffer}
+pub use Rattle.sas_output.specs.Line.{line_bytes, reasons_text, words_of, effect_words, rule_words, rule_numbers, is_rule_line, is_same_rule_line}
+pub use Rattle.sas_output.specs.Pieces.{Piece, Puts, Breaks, CountsOn, PutsOrBreaks}
+pub use Rattle.sas_output.specs.Placing.{Places, PlacesOrLeaves}
+pub use Rattle.sas_output.specs.Sink.{empty_piece, Pushed, PushedBy, Pushes}
+pub use Rattle.sas_output.specs.Wording.{steps_of}
+pub use Rattle.sas_output.specs.Words.{line, word_bytes, behind_space, spaces_of, words_line}
+pub use Rattle.sas_output.specs.declared.ending.Status.{Status}
+pub use Rattle.sas_output.specs.declared.ending.ToolFault.{ToolFault}
+pub use Rattle.sas_output.specs.declared.ending.ToolFault.TheVariants.{Memory, Read, TooLong, Write}
+pub use Rattle.sas_output.specs.declared.line.Line.{Line}
+pub use Rattle.sas_output.specs.declared.line.Line.TheVariants.{Step, SimilarOperator, NamedOperator, GoalFact, Requires, Actual, SinceInitialState, SinceStep, RuleDerives, NoRuleDerives, RuleRequires, ConflictingEffect, Metric, Steps, CostLines, CouldBe, EffectSets, Rule, ConditionRequires, OldValue, DefaultValue, OnLayer, Derived, Holds, MayRemain}
+pub use Rattle.sas_output.specs.declared.sink.Sink.{Sink}
+pub use Rattle.sas_output.specs.declared.words.Word.{Word}
+pub use Rattle.sas_output.specs.declared.words.Word.TheVariants.{Text}
+pub use Rattle.sas_output.specs.declared.words.Words.{Words}

@@ -1,7 +1,5 @@
 -- The text of lines, line by line.
-use Rattle.sas_output.proofs.Imports.{◌≡◌, ℕ, List, [], ◌∷◌, ◌++◌, length, flat_map, take, ◌≤◌, refl, ap, ◌∙◌, take_all, Parts}
-use Rattle.sas_output.specs.declared.line.Line.{Line}
-use Rattle.sas_output.specs.Line.{line_bytes, reasons_text}
+use Rattle.sas_output.proofs.Imports.{◌≡◌, ℕ, List, [], ◌∷◌, ◌++◌, length, flat_map, take, ◌≤◌, refl, ap, ◌∙◌, take_all, Parts, Line, line_bytes, reasons_text}
 
 module _ (p : Parts) (steps : List (List ℕ)) where
   -- a line with its end

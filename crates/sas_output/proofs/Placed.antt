@@ -1,6 +1,5 @@
 -- Bytes that are placed behind others, call after call.
-use Rattle.sas_output.proofs.Imports.{◌≡◌, ℕ, ◌+◌, ◌/◌, ◌%◌, ◌≤◌, ◌<◌, List, [], ◌∷◌, ◌++◌, length, take, set, append_assoc, length-append, arith, refl, sym, ap, subst, ◌∙◌, Option, Some, None, decimal, decimal_digit, decimal_step, take-set_at, length-take-le, take-take, take-append-le, length-set}
-use Rattle.sas_output.specs.Placing.{Places, PlacesOrLeaves}
+use Rattle.sas_output.proofs.Imports.{◌≡◌, ℕ, ◌+◌, ◌/◌, ◌%◌, ◌≤◌, ◌<◌, List, [], ◌∷◌, ◌++◌, length, take, set, append_assoc, length-append, arith, refl, sym, ap, subst, ◌∙◌, Option, Some, None, decimal, decimal_digit, decimal_step, take-set_at, length-take-le, take-take, take-append-le, length-set, Places, PlacesOrLeaves}
 
 -- two bytes, and three, that were written one by one
 pub two_placed : (p : List ℕ) (at x y : ℕ) → at + 2 ≤ length p → take (at + 2) (set (set p at x) (at + 1) y) ≡ take at p ++ x ∷ y ∷ []

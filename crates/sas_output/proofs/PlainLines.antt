@@ -1,11 +1,7 @@
 -- Each line begins with two spaces, and holds neither LF nor CR.
-use Rattle.sas_output.proofs.Imports.{ℕ, zero, suc, ◌-◌, List, [], ◌∷◌, ◌++◌, get_or, refl, ap, arith, IsTrue, not, ◌==◌, length, if◌then◌else◌, codes, slice_get, AllByRecursion, list_all, unwrap_or, and_parts, and_from, ne_eqb, Fact, Operator, Variable, Parts, operator_at, effect_at, rule_at, is_plain, IsName, value_name, VariableFits, OperatorFits, WellRanged, Without, joined, Without-decimal}
+use Rattle.sas_output.proofs.Imports.{ℕ, zero, suc, ◌-◌, List, [], ◌∷◌, ◌++◌, get_or, refl, ap, arith, IsTrue, not, ◌==◌, length, if◌then◌else◌, codes, slice_get, AllByRecursion, list_all, unwrap_or, and_parts, and_from, ne_eqb, Fact, Operator, Variable, Parts, operator_at, effect_at, rule_at, is_plain, IsName, value_name, VariableFits, OperatorFits, WellRanged, Without, joined, Without-decimal, Line, Step, SimilarOperator, NamedOperator, GoalFact, Requires, Actual, SinceInitialState, SinceStep, RuleDerives, NoRuleDerives, RuleRequires, ConflictingEffect, Metric, Steps, CostLines, CouldBe, EffectSets, Rule, ConditionRequires, OldValue, DefaultValue, OnLayer, Derived, Holds, MayRemain, fact_of_effect, fact_of_rule, words_of, effect_words, rule_words, line_bytes, IsReasonLine, LinesAreReasons}
 use Rattle.std.specs.Prelude.{decimal}
-use Rattle.sas_output.specs.declared.line.Line.{Line}
-use Rattle.sas_output.specs.declared.line.Line.TheVariants.{Step, SimilarOperator, Operator as TheOperator, NamedOperator, GoalFact, Requires, Actual, SinceInitialState, SinceStep, RuleDerives, NoRuleDerives, RuleRequires, ConflictingEffect, Metric, Steps, CostLines, CouldBe, EffectSets, Rule, ConditionRequires, OldValue, DefaultValue, OnLayer, Derived, Holds, MayRemain}
-use Rattle.sas_output.specs.Facts.{fact_of_effect, fact_of_rule}
-use Rattle.sas_output.specs.Line.{words_of, effect_words, rule_words, line_bytes}
-use Rattle.sas_output.specs.Laws.{IsReasonLine, LinesAreReasons}
+use Rattle.sas_output.specs.declared.line.Line.TheVariants.{Operator as TheOperator}
 
 abbrev pub IsPlain : List ℕ → Type 0
 IsPlain bytes = IsTrue (list_all is_plain bytes)

@@ -1,8 +1,5 @@
 -- Bytes that are pushed, call after call.
-use Rattle.sas_output.proofs.Imports.{◌≡◌, ℕ, ◌+◌, ◌<◌, List, [], ◌++◌, append_assoc, append-nil, take, get_or, flat_map, length, refl, sym, subst, ◌∙◌, Option, true, false, Short}
-use Rattle.sas_output.specs.declared.sink.Sink.{Sink}
-use Rattle.sas_output.specs.Pieces.{Piece, Puts, Breaks}
-use Rattle.sas_output.specs.Sink.{empty_piece, Pushed, PushedBy, Pushes}
+use Rattle.sas_output.proofs.Imports.{◌≡◌, ℕ, ◌+◌, ◌<◌, List, [], ◌++◌, append_assoc, append-nil, take, get_or, flat_map, length, refl, sym, subst, ◌∙◌, Option, true, false, Short, Sink, Piece, Puts, Breaks, empty_piece, Pushed, PushedBy, Pushes}
 use Rattle.sas_output.proofs.Putting.{next_item, puts_then, puts_then_breaks, breaks_with_more}
 
 -- the last bytes that are held go out, or break off

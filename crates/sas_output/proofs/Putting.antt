@@ -1,6 +1,5 @@
 -- Bytes that are put behind others, call after call.
-use Rattle.sas_output.proofs.Imports.{◌≡◌, ℕ, ◌+◌, ◌-◌, ◌^◌, ◌<◌, List, [], ◌∷◌, ◌++◌, length, take, drop, get_or, flat_map, min, append_assoc, append-nil, length-append, arith, refl, sym, ap, subst, ◌∙◌, Bool, true, false, Option, Result, Ok, Err, ⊤, ◌↔◌, IsTrue, Appends, Appends-trans, flat_map-append, take_more, take-append-drop, length-drop, length-take, Short}
-use Rattle.sas_output.specs.Pieces.{Piece, CountsOn, Puts, Breaks, PutsOrBreaks}
+use Rattle.sas_output.proofs.Imports.{◌≡◌, ℕ, ◌+◌, ◌-◌, ◌^◌, ◌<◌, List, [], ◌∷◌, ◌++◌, length, take, drop, get_or, flat_map, min, append_assoc, append-nil, length-append, arith, refl, sym, ap, subst, ◌∙◌, Bool, true, false, Option, Result, Ok, Err, ⊤, ◌↔◌, IsTrue, Appends, Appends-trans, flat_map-append, take_more, take-append-drop, length-drop, length-take, Short, Piece, CountsOn, Puts, Breaks, PutsOrBreaks}
 
 -- after a call that came through the device hasn't failed
 pub no_failure : (failed : Bool) → false ≡ true ↔ IsTrue failed → failed ≡ false

@@ -1,12 +1,6 @@
 -- The bytes of a line of a rule are those of no other line.
-use Rattle.sas_output.proofs.Imports.{◌≡◌, ◌⊎◌, inl, inr, ℕ, ◌<◌, ◌^◌, true, false, List, [], ◌∷◌, ◌++◌, length, drop, get_or, refl, sym, ap, subst, ◌∙◌, arith, ◌==◌, not, bytes_eq, codes, AllByRecursion, list_all, and_parts, and_from, eq-eqb, false≢true, bytes_eq-Decides, unwrap_or, Fact, Parts, rule_at, value_name, parts, joined, NoSpace, words-first, same_first, NoSpace-decimal, own_decimal}
+use Rattle.sas_output.proofs.Imports.{◌≡◌, ◌⊎◌, inl, inr, ℕ, ◌<◌, ◌^◌, true, false, List, [], ◌∷◌, ◌++◌, length, drop, get_or, refl, sym, ap, subst, ◌∙◌, arith, ◌==◌, not, bytes_eq, codes, AllByRecursion, list_all, and_parts, and_from, eq-eqb, false≢true, bytes_eq-Decides, unwrap_or, Fact, Parts, rule_at, value_name, parts, joined, NoSpace, words-first, same_first, NoSpace-decimal, own_decimal, line, Line, RuleDerives, RuleRequires, Metric, fact_of_rule, words_of, line_bytes, rule_numbers, is_rule_line, is_same_rule_line, RuleLinesDiffer}
 use Rattle.std.specs.Prelude.{decimal}
-use Rattle.sas_output.specs.Words.{line}
-use Rattle.sas_output.specs.declared.line.Line.{Line}
-use Rattle.sas_output.specs.declared.line.Line.TheVariants.{Step, SimilarOperator, Operator, NamedOperator, GoalFact, Requires, Actual, SinceInitialState, SinceStep, RuleDerives, NoRuleDerives, RuleRequires, ConflictingEffect, Metric, Steps, CostLines, CouldBe, EffectSets, Rule, ConditionRequires, OldValue, DefaultValue, OnLayer, Derived, Holds, MayRemain}
-use Rattle.sas_output.specs.Facts.{fact_of_rule}
-use Rattle.sas_output.specs.Line.{words_of, line_bytes, rule_numbers, is_rule_line, is_same_rule_line}
-use Rattle.sas_output.specs.Laws.{RuleLinesDiffer}
 
 -- ---- lines of rules
 
@@ -26,30 +20,7 @@ record IsOther (l : Line) : Type 0 where
 tells : (l : Line) → IsOfRule l ⊎ IsOther l
 tells (RuleDerives r) = inl (Deriving r)
 tells (RuleRequires r f) = inl (Requiring r f)
-tells (Step n) = inr (record { no_rule = refl; apart = λ p steps. refl })
-tells (SimilarOperator n) = inr (record { no_rule = refl; apart = λ p steps. refl })
-tells (Operator n) = inr (record { no_rule = refl; apart = λ p steps. refl })
-tells (NamedOperator n) = inr (record { no_rule = refl; apart = λ p steps. refl })
-tells (GoalFact n) = inr (record { no_rule = refl; apart = λ p steps. refl })
-tells (Requires f) = inr (record { no_rule = refl; apart = λ p steps. refl })
-tells (Actual f) = inr (record { no_rule = refl; apart = λ p steps. refl })
-tells SinceInitialState = inr (record { no_rule = refl; apart = λ p steps. refl })
-tells (SinceStep n) = inr (record { no_rule = refl; apart = λ p steps. refl })
-tells NoRuleDerives = inr (record { no_rule = refl; apart = λ p steps. refl })
-tells (ConflictingEffect o k) = inr (record { no_rule = refl; apart = λ p steps. refl })
-tells Metric = inr (record { no_rule = refl; apart = λ p steps. refl })
-tells (Steps n) = inr (record { no_rule = refl; apart = λ p steps. refl })
-tells (CostLines n) = inr (record { no_rule = refl; apart = λ p steps. refl })
-tells (CouldBe n o) = inr (record { no_rule = refl; apart = λ p steps. refl })
-tells (EffectSets o k) = inr (record { no_rule = refl; apart = λ p steps. refl })
-tells (Rule r) = inr (record { no_rule = refl; apart = λ p steps. refl })
-tells (ConditionRequires c f) = inr (record { no_rule = refl; apart = λ p steps. refl })
-tells (OldValue f) = inr (record { no_rule = refl; apart = λ p steps. refl })
-tells (DefaultValue f) = inr (record { no_rule = refl; apart = λ p steps. refl })
-tells (OnLayer n) = inr (record { no_rule = refl; apart = λ p steps. refl })
-tells (Derived f) = inr (record { no_rule = refl; apart = λ p steps. refl })
-tells (Holds f) = inr (record { no_rule = refl; apart = λ p steps. refl })
-tells (MayRemain f) = inr (record { no_rule = refl; apart = λ p steps. refl })
+tells _ = inr (record { no_rule = refl; apart = λ p steps. refl })
 
 pub rule_cases : (l : Line) → is_rule_line l ≡ true → IsOfRule l
 rule_cases l e = elim (tells l) [ inl is ↦ is | inr other ↦ absurd (false≢true (sym other.no_rule ∙ e)) ]

@@ -1,10 +1,5 @@
 -- What went out of a text that was put in pieces.
-use Rattle.sas_output.proofs.Imports.{◌≡◌, ℕ, ◌+◌, ◌^◌, ◌<◌, List, [], ◌++◌, length, take, append-nil, length-append, take_at, arith, refl, sym, ap, subst, ◌∙◌, Option, Some, Result, Ok, Err, Appends, none-some, Short}
-use Rattle.sas_output.specs.declared.ending.Status.{Status}
-use Rattle.sas_output.specs.declared.ending.ToolFault.{ToolFault}
-use Rattle.sas_output.specs.declared.ending.ToolFault.TheVariants.{Memory, Read, TooLong, Write}
-use Rattle.sas_output.specs.Ending.{Output, StopsAt, Ends, EndsCounting}
-use Rattle.sas_output.specs.Pieces.{Piece, Puts, Breaks}
+use Rattle.sas_output.proofs.Imports.{◌≡◌, ℕ, ◌+◌, ◌^◌, ◌<◌, List, [], ◌++◌, length, take, append-nil, length-append, take_at, arith, refl, sym, ap, subst, ◌∙◌, Option, Some, Result, Ok, Err, Appends, none-some, Short, Status, ToolFault, Memory, Read, TooLong, Write, Output, StopsAt, Ends, EndsCounting, Piece, Puts, Breaks}
 
 -- what was put where nothing is held in the end went out
 pub all_sent : (a b : Option (List ℕ)) (p q : Piece) (bytes whole : List ℕ) → p ≡ record { held = []; written = 0 } → q.held ≡ [] → bytes ≡ whole → Puts a b p q bytes → Appends a b whole

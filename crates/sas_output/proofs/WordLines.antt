@@ -1,8 +1,5 @@
 -- The bytes of a line of words, one word after another.
-use Rattle.sas_output.proofs.Imports.{◌≡◌, ℕ, List, [], ◌∷◌, ◌++◌, map, flat_map, append-nil, append_assoc, ap, subst, ◌∙◌, Option, Result, ⊤, replicate, joined, Short}
-use Rattle.sas_output.specs.Pieces.{Piece, Breaks, PutsOrBreaks}
-use Rattle.sas_output.specs.declared.words.Word.{Word}
-use Rattle.sas_output.specs.Words.{line, word_bytes, behind_space}
+use Rattle.sas_output.proofs.Imports.{◌≡◌, ℕ, List, [], ◌∷◌, ◌++◌, map, flat_map, append-nil, append_assoc, ap, subst, ◌∙◌, Option, Result, ⊤, replicate, joined, Short, Piece, Breaks, PutsOrBreaks, Word, line, word_bytes, behind_space}
 
 -- the words behind the first one have a space in front of each
 joined_is : (first : List ℕ) (words : List Word) → first ++ flat_map behind_space words ≡ joined (first ∷ map word_bytes words)

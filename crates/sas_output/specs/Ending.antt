@@ -17,9 +17,7 @@ output_of answer = record { text = answer.text.items; status = answer.status }
 -- a write failed
 abbrev pub IsWrite : ToolFault → Type 0
 IsWrite (Write written) = ⊤
-IsWrite Memory = ⊥
-IsWrite Read = ⊥
-IsWrite TooLong = ⊥
+IsWrite _ = ⊥
 
 -- the inputs decided how it ended: no memory was refused, and no read failed
 abbrev pub IsDecided : {T : Type 0} → Result T ToolFault → Type 0

@@ -7,14 +7,10 @@ use Rattle.sas_core.specs.Grounded.{operator_at, effect_at, rule_at}
 use Rattle.sas_lines.specs.Lines.{text}
 use Rattle.sas_output.specs.Words.{line}
 use Rattle.sas_output.specs.declared.line.Line.{Line}
-use Rattle.sas_output.specs.declared.line.Line.TheVariants.{Step, SimilarOperator, Operator}
-use Rattle.sas_output.specs.declared.line.Line.TheVariants.{NamedOperator, GoalFact, Requires}
-use Rattle.sas_output.specs.declared.line.Line.TheVariants.{Actual, SinceInitialState, SinceStep}
-use Rattle.sas_output.specs.declared.line.Line.TheVariants.{RuleDerives, NoRuleDerives}
-use Rattle.sas_output.specs.declared.line.Line.TheVariants.{RuleRequires, ConflictingEffect}
-use Rattle.sas_output.specs.declared.line.Line.TheVariants.{Metric, Steps, CostLines, CouldBe}
-use Rattle.sas_output.specs.declared.line.Line.TheVariants.{EffectSets, Rule, ConditionRequires}
-use Rattle.sas_output.specs.declared.line.Line.TheVariants.{OldValue, DefaultValue, OnLayer}
+use Rattle.sas_output.specs.declared.line.Line.TheVariants.{Step, SimilarOperator, Operator, NamedOperator, GoalFact, Requires}
+use Rattle.sas_output.specs.declared.line.Line.TheVariants.{Actual, SinceInitialState, SinceStep, RuleDerives, NoRuleDerives}
+use Rattle.sas_output.specs.declared.line.Line.TheVariants.{RuleRequires, ConflictingEffect, Metric, Steps, CostLines, CouldBe}
+use Rattle.sas_output.specs.declared.line.Line.TheVariants.{EffectSets, Rule, ConditionRequires, OldValue, DefaultValue, OnLayer}
 use Rattle.sas_output.specs.declared.line.Line.TheVariants.{Derived, Holds, MayRemain}
 use Rattle.sas_output.specs.Facts.{fact_words, fact_of_effect, fact_of_rule}
 

@@ -1,8 +1,7 @@
 // A text that is at hand, and how it is written.
 ghost use Rattle.std.specs.Prelude.{◌≡◌, ◌↔◌, false, Some, IfErr, IsErrAnd, IsTrue};
 ghost use Rattle.std.specs.Io.KnownBytes.{Appends};
-ghost use Rattle.sas_output.specs.Ending.{output_of};
-ghost use Rattle.sas_output.specs.Ending.{Ends, IsWrite};
+ghost use Rattle.sas_output.specs.Ending.{output_of, Ends, IsWrite};
 
 use crate::ending::{Status, ToolFault};
 use sas_lines::{Watched, write_out};

@@ -1,6 +1,5 @@
 // A text that is written in pieces.
-ghost use Rattle.std.specs.Prelude.{◌≡◌, ◌↔◌, [], ◌∷◌, ◌++◌, false};
-ghost use Rattle.std.specs.Prelude.{IfOk, IfErr, IsErr, IsTrue, IsFalse, OnOk, flat_map};
+ghost use Rattle.std.specs.Prelude.{◌≡◌, ◌↔◌, [], ◌∷◌, ◌++◌, false, IfOk, IfErr, IsErr, IsTrue, IsFalse, OnOk, flat_map};
 ghost use Rattle.std.specs.Io.KnownBytes.{Appends};
 ghost use Rattle.sas_output.specs.Pieces.{Adds, Breaks, CountsOn};
 ghost use Rattle.sas_output.specs.Words.{numbered_line, words_line};

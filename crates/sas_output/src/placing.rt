@@ -1,7 +1,6 @@
 // Writes a line of words into a piece, if there is room for it. Most lines go this fast way: nothing is written to a device in between,
 // so only a lack of room can end it early. It is compiled into its callers, which know the first word and how many words there are.
-ghost use Rattle.std.specs.Prelude.{◌≡◌, ◌<◌, ◌≤◌, ◌+◌, ◌/◌, ◌%◌, [], ◌∷◌, ◌++◌};
-ghost use Rattle.std.specs.Prelude.{decimal, flat_map, length, replicate};
+ghost use Rattle.std.specs.Prelude.{◌≡◌, ◌<◌, ◌≤◌, ◌+◌, ◌/◌, ◌%◌, [], ◌∷◌, ◌++◌, decimal, flat_map, length, replicate};
 ghost use Rattle.sas_output.specs.Placing.{PlacesOrLeaves};
 ghost use Rattle.sas_output.specs.Words.{behind_space, numbered_line, spaces_of, words_line};
 

@@ -1,7 +1,7 @@
 -- How the writing of an answer ends.
 use Rattle.std.proofs.Common.{arith}
 use Rattle.std.proofs.lemmas.Grind.{common_steps}
-use Rattle.sas_outputs.proofs.Imports.{◌≡◌, ℕ, List, ap, sym, subst, ◌∙◌, Option, Some, None, Result, Ok, Err, IfOk, none-some, Status, ToolFault, Output, Ends, EndsCounting, IsDecided, counting_ends}
+use Rattle.sas_outputs.proofs.Imports.{◌≡◌, ℕ, List, Option, Some, None, Result, Ok, Err, IfOk, none-some, Status, ToolFault, Output, Ends, EndsCounting, IsDecided, counting_ends}
 use Rattle.sas_output.specs.declared.ending.ToolFault.TheVariants as tool_fault
 
 module _ (o : Output) (Sent : List ℕ → Type 0) where

@@ -1,8 +1,6 @@
 -- The text of lines of reasons, line by line.
 use Rattle.std.proofs.lemmas.Grind.{common_steps}
-use Rattle.sas_outputs.proofs.Imports.{◌≡◌, ℕ, List, [], ◌∷◌, ◌++◌, ◌∙◌, arith, append_assoc}
-use Rattle.sas_outputs.specs.FileLine.{FileLine, ended}
-use Rattle.sas_outputs.specs.FileReasons.{file_text}
+use Rattle.sas_outputs.proofs.Imports.{◌≡◌, ℕ, List, [], ◌∷◌, ◌++◌, ◌∙◌, arith, append_assoc, FileLine, ended, file_text}
 
 -- one line more
 pub text_then : (old before after : List ℕ) (lines : List FileLine) (l : FileLine) → before ≡ old ++ file_text lines → after ≡ before ++ ended l

@@ -1,8 +1,6 @@
 -- Outputs about one file.
 use Rattle.std.proofs.lemmas.Grind.{common_steps}
-use Rattle.sas_outputs.proofs.Imports.{◌≡◌, ◌≢◌, ℕ, ◌+◌, ◌<◌, List, [], ◌∷◌, codes, length, length-append, arith, refl, sym, ap, subst, ◌∙◌, inl, inr, Option, Some, None, Result, Ok, Err, option_map, Consumes, none-some, Parts, PlanParts, Fault, Kind, TooLong, Read, Memory, most_bytes, Format, FaultOf, KindAt, too_long, trailing, wrong, ReadsAs, Laws, plan_format, PlanKind, like_step, like_cost}
-use Rattle.sas_outputs.proofs.Imports.{like_none, task_format, TaskSlot, word_slot, name_slot, number_slot, signed_slot, fact_slot, effect_slot, head_slot, NumbersKind, no_shape, no_value, plan_laws_hold, task_laws_hold, Refuses, unread_at, ended_at, faulty_at, Status, Output, OneAnswer, SomeAnswer}
-use Rattle.sas_outputs.specs.Output.{word_of, refusal, IsAnswerOrRefusal, FileOut, TaskOut, HasOneOutput}
+use Rattle.sas_outputs.proofs.Imports.{◌≡◌, ◌≢◌, ℕ, ◌+◌, ◌<◌, List, [], ◌∷◌, codes, length, length-append, arith, refl, sym, ap, subst, ◌∙◌, Option, Some, None, Result, Ok, Err, option_map, none-some, Parts, PlanParts, Fault, Kind, TooLong, Read, Memory, most_bytes, Format, FaultOf, KindAt, wrong, ReadsAs, Laws, plan_format, PlanKind, word_of, refusal, IsAnswerOrRefusal, FileOut, TaskOut, HasOneOutput, task_format, TaskSlot, word_slot, name_slot, number_slot, signed_slot, fact_slot, effect_slot, head_slot, NumbersKind, no_shape, no_value, plan_laws_hold, task_laws_hold, Refuses, Status, Output, OneAnswer, SomeAnswer}
 
 -- outputs are equal if their texts and statuses are
 pub same_output : (o q : Output) → o.text ≡ q.text → o.status ≡ q.status → o ≡ q
@@ -26,11 +24,6 @@ too_long_else k other e apart same = apart (sym e ∙ same)
 -- the fault of bytes that were read from a device
 pub reading_of_refusal : {V I S : Type 0} (F : Format V I S) (bytes : List ℕ) (At_end : Type 0) (f : Fault) → Refuses F bytes At_end f → f.kind ≢ Read → ReadsAs F most_bytes bytes (Err f)
 reading_of_refusal F bytes At_end f why other = grind (arith, common_steps)
-
--- nothing was read from a device that is unchanged
-pub takes_nothing : (remaining : Option (List ℕ)) → Consumes remaining remaining []
-takes_nothing None = tt
-takes_nothing (Some bytes) = refl
 
 -- the fault is that of the input, unless memory ran out or a read failed
 abbrev pub IsFaultOf : {V I S : Type 0} → Format V I S → List ℕ → Fault → Type 0

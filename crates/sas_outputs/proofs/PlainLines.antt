@@ -1,11 +1,10 @@
 -- Lines that refuse a file or a task, and verdicts on a plan, contain no line end.
 use Rattle.std.proofs.Common.{arith}
 use Rattle.std.proofs.lemmas.Grind.{common_steps}
-use Rattle.sas_outputs.proofs.Imports.{◌≡◌, ℕ, List, ◌++◌, codes, refl, subst, Some, decimal, none-some, LayerFault, Kind, IsPlain, plain-decimal, plain_bytes, plain-append, PlanFault, layer_words, words_at_part, fault_words, step_words, goal_words, sum_words}
+use Rattle.sas_outputs.proofs.Imports.{◌≡◌, ℕ, List, ◌++◌, codes, refl, subst, Some, decimal, none-some, LayerFault, Kind, IsPlain, plain-decimal, plain_bytes, plain-append, PlanFault, layer_words, words_at_part, fault_words, step_words, word_of}
 use Rattle.sas_meaning.specs.declared.layered.LayerFault.TheVariants as layer_fault
 use Rattle.sas_reader.specs.declared.fault.Kind.TheVariants as kinds
 use Rattle.sas_run.specs.declared.plan_check.PlanFault.TheVariants as plan_fault
-use Rattle.sas_outputs.specs.Output.{word_of}
 
 some_words : (x w : List ℕ) → Some x ≡ Some w → IsPlain x → IsPlain w
 some_words x w e h = subst IsPlain (let same : x ≡ w = cc in same) h

@@ -1,10 +1,6 @@
 -- A request has exactly one output.
-use Rattle.sas_outputs.proofs.Imports.{◌≡◌, ◌≢◌, ℕ, ◌<◌, Bool, true, false, ◌⊎◌, List, [], ◌++◌, length, codes, append-nil, refl, sym, ap, subst, ◌∙◌, inl, inr, Option, Some, None, Result, Ok, Err, ◌↔◌, ◌||◌, IsTrue, none-some, Parts, PlanParts, first_fault, WellRanged, LayerFault, IsLayered, layer_checks, checks_are_rules, Fault, most_bytes, ReadsAs, plan_format, task_format, task_laws_hold}
-use Rattle.sas_outputs.proofs.Imports.{layers_refusal, layers_verdict, Output, some_check_answer, OneAnswer, SomeAnswer}
+use Rattle.sas_outputs.proofs.Imports.{◌≡◌, ◌≢◌, ℕ, ◌<◌, Bool, true, false, ◌⊎◌, List, [], ◌++◌, length, codes, append-nil, refl, sym, ap, subst, ◌∙◌, inl, inr, Option, Some, None, Result, Ok, Err, ◌↔◌, ◌||◌, IsTrue, none-some, Parts, PlanParts, first_fault, WellRanged, LayerFault, IsLayered, layer_checks, checks_are_rules, Fault, most_bytes, ReadsAs, plan_format, task_format, task_laws_hold, IsAnswerOrRefusal, refusal, ShowAnswer, PrintAnswer, TaskOut, UnlayeredAnswer, LayeredOut, VerdictOut, PlanOutBy, OutOf, plain_refusal, IsLayeredText, IsLong, HasOneOutput, Request, Show, Print, Steps, Check, Plan, Mutex, layers_refusal, layers_verdict, Output, some_check_answer, OneAnswer, SomeAnswer}
 use Rattle.sas_meaning.specs.declared.layered.LayerFault.TheVariants as layer_fault
-use Rattle.sas_outputs.specs.Output.{IsAnswerOrRefusal, refusal, ShowAnswer, PrintAnswer, TaskOut, UnlayeredAnswer, LayeredOut, VerdictOut, PlanOutBy, OutOf, plain_refusal, IsLayeredText, IsLong, HasOneOutput}
-use Rattle.sas_outputs.specs.declared.Request.{Request}
-use Rattle.sas_outputs.specs.declared.Request.TheVariants.{Show, Print, Steps, Check, Plan, Mutex}
 use Rattle.sas_outputs.proofs.Outputs.{one_file, long_file, task_worded, one_made, some_made, task_output, plan_output}
 
 -- ---- lemmas for all answers about a plan

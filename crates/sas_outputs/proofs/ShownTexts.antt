@@ -1,6 +1,5 @@
 -- A whole text is shown byte by byte, except for a space at its end.
-use Rattle.sas_outputs.proofs.Imports.{◌≡◌, ◌≢◌, ℕ, ◌-◌, Bool, true, false, List, [], ◌∷◌, ◌++◌, ◌==◌, length, take, drop, append_assoc, append-nil, codes, flat_map, refl, sym, ap, ◌∙◌, eqb-true, arith, length-append, if◌then◌else◌, nat_eq, pointwise, same_text, other_text, take-append-drop, drop-append_seam}
-use Rattle.sas_outputs.specs.FileLine.{in_digits, shown_byte, shown_whole}
+use Rattle.sas_outputs.proofs.Imports.{◌≡◌, ◌≢◌, ℕ, ◌-◌, Bool, true, false, List, [], ◌∷◌, ◌++◌, ◌==◌, length, take, drop, append_assoc, append-nil, codes, flat_map, refl, sym, ap, ◌∙◌, eqb-true, arith, length-append, if◌then◌else◌, nat_eq, pointwise, same_text, other_text, take-append-drop, drop-append_seam, in_digits, shown_byte, shown_whole}
 
 behind_front : (front : List ℕ) → shown_whole (front ++ 32 ∷ []) ≡ flat_map shown_byte front ++ in_digits 32
 behind_front [] = refl

@@ -1,7 +1,6 @@
 -- The text of a summary, line by line.
-use Rattle.sas_outputs.proofs.Imports.{◌≡◌, ℕ, ◌<◌, ◌≤◌, List, ◌++◌, length, take, get_or, codes, zero-add, arith, sym, ap, ◌∙◌, enumerate_from, take_all, length-enumerate_from, get_or-enumerate_from, Fact, Variable, text, Outline, text_of_both, text_of_each}
+use Rattle.sas_outputs.proofs.Imports.{◌≡◌, ℕ, ◌<◌, ◌≤◌, List, ◌++◌, length, take, get_or, codes, zero-add, arith, sym, ap, ◌∙◌, enumerate_from, take_all, length-enumerate_from, get_or-enumerate_from, Fact, Variable, text, Outline, text_of_both, text_of_each, number_lines, fact_lines, initial_lines, goal_fact_lines, summary_lines}
 use Rattle.std.specs.List.{flat_map}
-use Rattle.sas_outputs.specs.Summary.{number_lines, fact_lines, initial_lines, goal_fact_lines, summary_lines}
 
 -- the summary, part by part
 pub summary_is : (o : Outline) (numbers : List ℕ) → numbers ≡ text (number_lines o) → numbers ++ text (initial_lines o.variables o.init) ++ text (goal_fact_lines o.variables o.goal) ≡ text (summary_lines o)

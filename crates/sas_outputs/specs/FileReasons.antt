@@ -5,8 +5,7 @@ use Rattle.sas_lines.specs.Lines.{text}
 use Rattle.sas_reader.specs.declared.fault.Kind.{Kind}
 use Rattle.sas_task_format.specs.declared.marks.Mark.{Mark}
 use Rattle.sas_task_format.specs.declared.marks.WrongWord.{WrongWord}
-use Rattle.sas_outputs.specs.FileLine.{FileLine, At, Expected, ExpectedInPlan, NumberMustBe, Found}
-use Rattle.sas_outputs.specs.FileLine.{file_line_bytes}
+use Rattle.sas_outputs.specs.FileLine.{FileLine, At, Expected, ExpectedInPlan, NumberMustBe, Found, file_line_bytes}
 
 -- for a task: the location of the line, what is expected there, which number is wrong, and what was
 -- found, by its first bytes and whether more follow

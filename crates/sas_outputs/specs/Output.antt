@@ -10,8 +10,7 @@ use Rattle.sas_meaning.specs.LayerChecks.{layer_checks}
 use Rattle.sas_lines.specs.Lines.{text}
 use Rattle.sas_reader.specs.declared.fault.Fault.{Fault}
 use Rattle.sas_reader.specs.declared.fault.Kind.{Kind}
-use Rattle.sas_reader.specs.declared.fault.Kind.TheVariants.{Keyword, Name, Shape, Value, End}
-use Rattle.sas_reader.specs.declared.fault.Kind.TheVariants.{Trailing, TooLong, Read, Memory}
+use Rattle.sas_reader.specs.declared.fault.Kind.TheVariants.{Keyword, Name, Shape, Value, End, Trailing, TooLong, Read, Memory}
 use Rattle.sas_reader.specs.Texts.{lines_of}
 use Rattle.sas_reader.specs.Format.{Format, ReadsAs}
 use Rattle.sas_reader.specs.Limit.{most_bytes}
@@ -33,9 +32,7 @@ word_of Shape = Some (codes "shape")
 word_of Value = Some (codes "value")
 word_of End = Some (codes "end")
 word_of Trailing = Some (codes "trailing")
-word_of TooLong = None
-word_of Read = None
-word_of Memory = None
+word_of _ = None
 
 -- the line that refuses the file with this name
 abbrev pub refusal_line : List ℕ → ℕ → List ℕ → List ℕ

@@ -1,7 +1,6 @@
 -- The summary of a task: a line for each of its numbers, for each variable's initial value
 -- and for each fact of its goal.
-use Rattle.std.specs.Prelude.{ℕ, Bool, if◌then◌else◌, List, [], ◌∷◌, ◌++◌}
-use Rattle.std.specs.Prelude.{length, flat_map, count_by, is_some, codes, decimal}
+use Rattle.std.specs.Prelude.{ℕ, Bool, if◌then◌else◌, List, [], ◌∷◌, ◌++◌, length, flat_map, count_by, is_some, codes, decimal}
 use Rattle.std.specs.Option.{option_map_or}
 use Rattle.std.specs.List.{enumerate_from}
 use Rattle.sas_core.specs.declared.parts.Fact.{Fact}

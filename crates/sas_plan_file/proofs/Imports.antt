@@ -1,15 +1,11 @@
--- What the proofs use of other crates.
-pub use Rattle.std.proofs.Common.{◌≡◌, ℕ, ◌-◌, true, false, List, ◌++◌, length, take, drop, sym, ap, ◌∙◌, arith, length-append, Option, None, Some}
-pub use Rattle.std.proofs.Common.{nat_eq, ◌⊎◌, inl, inr, suc, ◌+◌, ◌<◌, ◌≤◌, [], ◌∷◌, get_or, refl, subst, Ok, append_assoc, Bool, not, ◌&&◌, ◌==◌}
-pub use Rattle.std.proofs.Common.{codes, map, IsTrue, ◌↔◌, Err, Bor, rules}
+-- What the proofs use of other crates, and of the definitions of this one.
+pub use Rattle.std.proofs.Common.{◌≡◌, ℕ, ◌-◌, true, false, List, ◌++◌, length, take, drop, sym, ap, ◌∙◌, arith, length-append, Option, None, Some, nat_eq, ◌⊎◌, inl, inr, suc, ◌+◌, ◌<◌, ◌≤◌, [], ◌∷◌, get_or, refl, subst, Ok, append_assoc, Bool, not, ◌&&◌, ◌==◌, codes, map, IsTrue, ◌↔◌, Err, rules}
 pub use Rattle.std.proofs.Math.ListN.{get_or-append}
 pub use Rattle.std.proofs.Math.Seq.{drop-append_seam, take-append_seam}
 pub use Rattle.std.proofs.lemmas.Bool.{ne_eqb, false_from_ne_true}
 pub use Rattle.std.proofs.lemmas.Fmt.{decimal_injective}
 pub use Rattle.std.proofs.lemmas.Grind.{flat_map-append}
-pub use Rattle.std.proofs.lemmas.List.{take-append-drop, length-take-le, get_or-take, take_at, drop_more, drop_all, append-nil, append_cancel_left}
-pub use Rattle.std.proofs.lemmas.List.{append_cancel_right, take_rest, take_all, map-append}
-pub use Rattle.std.proofs.lemmas.Result.{on_ok_weaker}
+pub use Rattle.std.proofs.lemmas.List.{take-append-drop, length-take-le, get_or-take, take_at, drop_more, append-nil, append_cancel_left, append_cancel_right, take_rest}
 pub use Rattle.std.specs.Cmp.Lexicographic.{pointwise, same_text, other_text}
 pub use Rattle.std.specs.Fmt.{decimal}
 pub use Rattle.std.specs.List.{list_all, AllByRecursion}
@@ -47,3 +43,11 @@ pub use Rattle.sas_reader.specs.Texts.{lines_of, Reads}
 pub use Rattle.sas_reader.specs.declared.fault.Fault.{Fault}
 pub use Rattle.sas_reader.specs.declared.fault.Kind.{Kind}
 pub use Rattle.sas_reader.specs.declared.fault.Kind.TheVariants.{Keyword, Name, Shape}
+pub use Rattle.sas_plan_file.specs.PlanFormat.{step, plan_line_bytes, plan_format, PlanLineFits, cost, plan_texts, PlanLine, plan_layout, cost_front, cost_words, like_step, like_cost, like_none, BeginsWith, PlanKind}
+pub use Rattle.sas_plan_file.specs.PlanLaws.{PlanIsFilled, filling_cost_line}
+pub use Rattle.sas_plan_file.specs.PlanLine.{EndsLine, StepStandsFirst, Names, Costs}
+pub use Rattle.sas_plan_file.specs.PlanMachine.{plan_line_ok, PlanState, going, closed, plan_node, plan_start, plan_next, HasCostLine, plan_state, StepsOn, plan_stays}
+pub use Rattle.sas_plan_file.specs.PlanReader.{plan_led, plan_rejects, plan_view}
+pub use Rattle.sas_plan_file.specs.PlanRefusal.{fault_of, found_of, nothing_else}
+pub use Rattle.sas_plan_file.specs.PlanText.{KeepsLines, text_stays}
+pub use Rattle.sas_plan_file.specs.declared.plan_text.PlanText.{PlanText}

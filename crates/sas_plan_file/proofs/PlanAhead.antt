@@ -1,9 +1,5 @@
 -- A step on the first line of some bytes.
-use Rattle.sas_plan_file.proofs.Imports.{◌≡◌, ◌⊎◌, inl, inr, ℕ, suc, ◌+◌, ◌<◌, List, [], ◌∷◌, ◌++◌, length, get_or, take, drop, refl, subst, Ok, sym, ap, ◌∙◌, append_assoc, length-append, arith, None, true, false, Bool, not, ◌&&◌, ◌==◌, codes, list_all, ne_eqb, length-take-le, get_or-take, take_at, take-append-drop, get_or-append, Nowhere, NoneBefore, Passes, is_byte2}
-use Rattle.sas_plan_file.proofs.Imports.{is_plain, IsName, is_none-search, LineStandsFirst, stands_first, one_stands_first, AcceptsAhead, plain, return_stands_first, IsAllowed}
-use Rattle.sas_plan_file.specs.PlanFormat.{step, plan_line_bytes, plan_format, PlanLineFits}
-use Rattle.sas_plan_file.specs.PlanMachine.{plan_line_ok}
-use Rattle.sas_plan_file.specs.PlanLine.{EndsLine, StepStandsFirst}
+use Rattle.sas_plan_file.proofs.Imports.{◌≡◌, ◌⊎◌, inl, inr, ℕ, suc, ◌+◌, ◌<◌, List, [], ◌∷◌, ◌++◌, length, get_or, take, drop, refl, subst, Ok, sym, ap, ◌∙◌, append_assoc, length-append, arith, None, true, false, Bool, not, ◌&&◌, ◌==◌, codes, list_all, ne_eqb, length-take-le, get_or-take, take_at, take-append-drop, get_or-append, Nowhere, NoneBefore, Passes, is_byte2, step, plan_line_bytes, plan_format, PlanLineFits, plan_line_ok, EndsLine, StepStandsFirst, is_plain, IsName, is_none-search, LineStandsFirst, stands_first, one_stands_first, AcceptsAhead, plain, return_stands_first, IsAllowed}
 use Rattle.sas_plan_file.proofs.PlanGrammar.{plain-step}
 
 -- there is no LF and no CR before the end of the line

@@ -1,8 +1,6 @@
 -- Lines that begin a plan can be completed by the cost 0.
-use Rattle.sas_plan_file.proofs.Imports.{◌≡◌, ℕ, List, [], ◌∷◌, ◌++◌, map, refl, sym, ap, ◌∙◌, arith, ◌⊎◌, inl, inr, AllByRecursion, append-nil, CostKind, IsName, PlanParts, WellNamed, lines_of}
+use Rattle.sas_plan_file.proofs.Imports.{◌≡◌, ℕ, List, [], ◌∷◌, ◌++◌, map, refl, sym, ap, ◌∙◌, arith, ◌⊎◌, inl, inr, AllByRecursion, append-nil, CostKind, IsName, PlanParts, WellNamed, lines_of, step, cost, plan_line_bytes, plan_texts, PlanIsFilled, filling_cost_line}
 use Rattle.sas_core.specs.declared.plan.CostKind.TheVariants as costs
-use Rattle.sas_plan_file.specs.PlanFormat.{step, cost, plan_line_bytes, plan_texts}
-use Rattle.sas_plan_file.specs.PlanLaws.{PlanIsFilled, filling_cost_line}
 
 abbrev step_lines : List (List ℕ) → List (List ℕ)
 step_lines steps = map plan_line_bytes (map step steps)

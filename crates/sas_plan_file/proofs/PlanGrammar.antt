@@ -1,8 +1,6 @@
 -- The grammar of plan files.
-use Rattle.sas_plan_file.proofs.Imports.{◌≡◌, ℕ, List, [], ◌∷◌, ◌++◌, map, refl, sym, ap, subst, ◌∙◌, append_assoc, arith, codes, AllByRecursion, decimal, append-nil, CostKind, IsName, PlanParts, IsPlanCost, WellNamed, lines_of, Node, ended, LeadsToEnd, Grammar, IsPlain, one_ended, plain-decimal, plain_bytes, plain-name, plain-append}
+use Rattle.sas_plan_file.proofs.Imports.{◌≡◌, ℕ, List, [], ◌∷◌, ◌++◌, map, refl, sym, ap, subst, ◌∙◌, append_assoc, arith, codes, AllByRecursion, decimal, append-nil, CostKind, IsName, PlanParts, IsPlanCost, WellNamed, lines_of, Node, ended, LeadsToEnd, Grammar, IsPlain, one_ended, plain-decimal, plain_bytes, plain-name, plain-append, PlanLine, step, cost, plan_line_bytes, plan_layout, plan_texts, plan_format, cost_front, cost_words, PlanLineFits, PlanState, going, closed, plan_node, plan_start}
 use Rattle.sas_core.specs.declared.plan.CostKind.TheVariants as costs
-use Rattle.sas_plan_file.specs.PlanFormat.{PlanLine, step, cost, plan_line_bytes, plan_layout, plan_texts, plan_format, cost_front, cost_words, PlanLineFits}
-use Rattle.sas_plan_file.specs.PlanMachine.{PlanState, going, closed, plan_node, plan_start}
 use Rattle.sas_plan_file.proofs.PlanLines.{one_plan_line, one_plan_kind, some_plan_kind}
 
 abbrev plan_with : List (List ℕ) → ℕ → CostKind → PlanParts

@@ -1,8 +1,5 @@
 -- Why a line may not stand in a plan.
-use Rattle.sas_plan_file.proofs.Imports.{◌≡◌, ℕ, List, ◌++◌, length, take, get_or, sym, ap, ◌∙◌, arith, IsTrue, codes, decimal, append_cancel_left, take-append_seam, CostKind, Keyword, Name, Shape, IsRejected}
-use Rattle.sas_plan_file.specs.PlanFormat.{PlanLine, step, cost, plan_line_bytes, PlanLineFits, like_step, like_cost, like_none, cost_front, cost_words, BeginsWith, plan_format}
-use Rattle.sas_plan_file.specs.PlanLine.{Names, Costs}
-use Rattle.sas_plan_file.specs.PlanMachine.{plan_line_ok}
+use Rattle.sas_plan_file.proofs.Imports.{◌≡◌, ℕ, List, ◌++◌, length, take, get_or, sym, ap, ◌∙◌, arith, IsTrue, codes, decimal, append_cancel_left, take-append_seam, CostKind, Keyword, Name, Shape, IsRejected, PlanLine, step, cost, plan_line_bytes, PlanLineFits, like_step, like_cost, like_none, cost_front, cost_words, BeginsWith, plan_format, Names, Costs, plan_line_ok}
 
 begins_with : (front rest line : List ℕ) → line ≡ front ++ rest → BeginsWith front line
 begins_with front rest line e = ap (take (length front)) e ∙ take-append_seam front rest

@@ -1,9 +1,5 @@
 -- The text of a plan, stored line by line.
-use Rattle.sas_plan_file.proofs.Imports.{◌≡◌, ℕ, true, List, [], ◌∷◌, ◌++◌, refl, sym, ap, ◌∙◌, IsTrue, ◌↔◌, flat_map-append, append-nil, CostKind, PlanParts, text, lines, Kind, lines_of, Reads, IsAllowed, IsRejected, Leads, Rejects, Follows}
-use Rattle.sas_plan_file.specs.declared.plan_text.PlanText.{PlanText}
-use Rattle.sas_plan_file.specs.PlanFormat.{PlanLine, step, cost, plan_line_bytes, plan_texts, plan_format, PlanLineFits}
-use Rattle.sas_plan_file.specs.PlanMachine.{PlanState, going, closed, plan_node, plan_next, plan_start, plan_line_ok, HasCostLine}
-use Rattle.sas_plan_file.specs.PlanText.{KeepsLines}
+use Rattle.sas_plan_file.proofs.Imports.{◌≡◌, ℕ, true, List, [], ◌∷◌, ◌++◌, refl, sym, ap, ◌∙◌, IsTrue, ◌↔◌, flat_map-append, append-nil, CostKind, PlanParts, text, lines, Kind, lines_of, Reads, IsAllowed, IsRejected, Leads, Rejects, Follows, PlanText, PlanLine, step, cost, plan_line_bytes, plan_texts, plan_format, PlanLineFits, PlanState, going, closed, plan_node, plan_next, plan_start, plan_line_ok, HasCostLine, KeepsLines}
 use Rattle.sas_plan_file.proofs.PlanStanding.{closed_value, closed_is}
 use Rattle.sas_plan_file.proofs.PlanSteps.{led_on}
 

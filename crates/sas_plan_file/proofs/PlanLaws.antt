@@ -1,7 +1,5 @@
 -- The laws of plan files, for the crates above.
-use Rattle.sas_plan_file.proofs.Imports.{Laws, laws_of}
-use Rattle.sas_plan_file.specs.PlanFormat.{plan_format, PlanLineFits}
-use Rattle.sas_plan_file.specs.PlanMachine.{plan_node, plan_start}
+use Rattle.sas_plan_file.proofs.Imports.{Laws, laws_of, plan_format, PlanLineFits, plan_node, plan_start}
 use Rattle.sas_plan_file.proofs.PlanGrammar.{plan_grammar}
 
 pub plan_laws_hold : Laws plan_format

@@ -1,7 +1,6 @@
 -- A line of a plan has one meaning, and its fault has one kind.
-use Rattle.sas_plan_file.proofs.Imports.{◌≡◌, ℕ, List, [], ◌∷◌, ◌++◌, get_or, refl, sym, ap, ◌∙◌, arith, codes, decimal, decimal_injective, append_cancel_right, append_cancel_left, CostKind, IsPlanCost, NoSpace, NoSpace-decimal, Kind, Keyword, Name, Shape}
+use Rattle.sas_plan_file.proofs.Imports.{◌≡◌, ℕ, List, [], ◌∷◌, ◌++◌, get_or, refl, sym, ap, ◌∙◌, arith, codes, decimal, decimal_injective, append_cancel_right, append_cancel_left, CostKind, IsPlanCost, NoSpace, NoSpace-decimal, Kind, Keyword, Name, Shape, PlanLine, step, cost, plan_line_bytes, PlanLineFits, PlanKind, like_step, like_cost, like_none, cost_words, cost_front, BeginsWith}
 use Rattle.sas_core.specs.declared.plan.CostKind.TheVariants as costs
-use Rattle.sas_plan_file.specs.PlanFormat.{PlanLine, step, cost, plan_line_bytes, PlanLineFits, PlanKind, like_step, like_cost, like_none, cost_words, cost_front, BeginsWith}
 
 -- ---- the digits of a cost
 

@@ -1,8 +1,5 @@
 -- What a reader of plans represents, in terms of the plan format.
-use Rattle.sas_plan_file.proofs.Imports.{◌≡◌, ℕ, ◌≤◌, List, length, refl, ap, Ok, PlanParts, ReadsAs, ended, Follows, reads_of_format}
-use Rattle.sas_plan_file.specs.PlanFormat.{plan_format, PlanLineFits}
-use Rattle.sas_plan_file.specs.PlanMachine.{PlanState, going, closed, plan_node, plan_start, HasCostLine}
-use Rattle.sas_plan_file.specs.PlanReader.{plan_led, plan_rejects}
+use Rattle.sas_plan_file.proofs.Imports.{◌≡◌, ℕ, ◌≤◌, List, length, refl, ap, Ok, PlanParts, ReadsAs, ended, Follows, reads_of_format, plan_format, PlanLineFits, PlanState, going, closed, plan_node, plan_start, HasCostLine, plan_led, plan_rejects}
 use Rattle.sas_reader.specs.Reader as reading
 use Rattle.sas_plan_file.proofs.PlanGrammar.{plan_grammar}
 

@@ -1,7 +1,5 @@
 -- One more line of a plan.
-use Rattle.sas_plan_file.proofs.Imports.{◌≡◌, ℕ, List, [], ◌∷◌, ◌++◌, refl, sym, subst, ◌∙◌, Option, None, Some, CostKind, IsAllowed, Leads, leads_line}
-use Rattle.sas_plan_file.specs.PlanFormat.{PlanLine, step, cost, plan_line_bytes, plan_format, PlanLineFits}
-use Rattle.sas_plan_file.specs.PlanMachine.{PlanState, going, closed, plan_node, plan_next, plan_line_ok, plan_start, plan_state, HasCostLine, StepsOn}
+use Rattle.sas_plan_file.proofs.Imports.{◌≡◌, ℕ, List, [], ◌∷◌, ◌++◌, refl, sym, subst, ◌∙◌, Option, None, Some, CostKind, IsAllowed, Leads, leads_line, PlanLine, step, cost, plan_line_bytes, plan_format, PlanLineFits, PlanState, going, closed, plan_node, plan_next, plan_line_ok, plan_start, plan_state, HasCostLine, StepsOn}
 
 abbrev Led : List (List ℕ) → PlanState → Type 0
 Led lines p = Leads plan_format PlanLineFits plan_node plan_start lines p

@@ -1,8 +1,5 @@
 -- The first of the valid plans that cost least: one at most, and one where a plan is valid.
-use Rattle.sas_plans.proofs.Imports.{◌≡◌, ℕ, ◌<◌, ◌≤◌, ◌⊎◌, List, [], ◌∷◌, ◌++◌, length, append_assoc, refl, sym, ap, ◌∙◌, arith, inl, inr, Option, Some, None, All, codes, decimal, cases_lt, none-some, All-nil, All-cons, All-head, All-tail, All-same, All-append, All-push, All-weaker}
-use Rattle.sas_plans.specs.declared.tally.Best.{Best}
-use Rattle.sas_plans.specs.Judged.{Judged, IsBest, IsSummary, count_words}
-use Rattle.sas_plans.specs.Judging.{HasBest, IsLower}
+use Rattle.sas_plans.proofs.Imports.{◌≡◌, ℕ, ◌<◌, ◌≤◌, ◌⊎◌, List, [], ◌∷◌, ◌++◌, length, append_assoc, refl, sym, ap, ◌∙◌, arith, inl, inr, Option, Some, None, All, codes, decimal, cases_lt, none-some, All-nil, All-cons, All-head, All-tail, All-same, All-append, All-push, All-weaker, Best, Judged, IsBest, IsSummary, count_words, HasBest, IsLower}
 
 -- the plan isn't valid
 abbrev pub HasNoCost : Judged → Type 0

@@ -1,17 +1,12 @@
--- What the proofs use of other crates.
-pub use Rattle.std.proofs.Common.{◌≡◌, ℕ, ◌<◌, ◌≤◌, ◌⊎◌, List, [], ◌∷◌, ◌++◌, length, append_assoc, refl, sym, ap, ◌∙◌, arith, inl, inr, Option, Some}
-pub use Rattle.std.proofs.Common.{None, All, codes, decimal, subst, Ok, Err, slice_index_or, Result, IfOk, zip, flat_map, Contains, if◌then◌else◌}
-pub use Rattle.std.proofs.Common.{zero, suc, ◌+◌, Bool, true, false, cond, eqb, ◌/◌, ◌%◌, nat_lt, ◌≢◌, ◌↔◌, IsErrOf, IsTrue, get_or, IfErr, is_some}
-pub use Rattle.std.proofs.Common.{append-nil, count_by, min, IfSome, add-one, Bor, rules}
+-- What the proofs use of other crates, and of the definitions of this one.
+pub use Rattle.std.proofs.Common.{◌≡◌, ℕ, ◌<◌, ◌≤◌, ◌⊎◌, List, [], ◌∷◌, ◌++◌, length, append_assoc, refl, sym, ap, ◌∙◌, arith, inl, inr, Option, Some, None, All, codes, decimal, subst, Ok, Err, slice_index_or, Result, IfOk, zip, flat_map, Contains, if◌then◌else◌, zero, suc, ◌+◌, Bool, true, false, cond, eqb, ◌/◌, ◌%◌, nat_lt, ◌≢◌, ◌↔◌, IsErrOf, IsTrue, get_or, IfErr, is_some, append-nil, count_by, min, IfSome, add-one, Bor, rules}
 pub use Rattle.std.proofs.Math.ListN.{get_or-map, get_or-append}
 pub use Rattle.std.proofs.Math.Nat.{le-min, min-le_left, min-le_right}
 pub use Rattle.std.proofs.Math.Seq.{get_or-append_seam}
 pub use Rattle.std.proofs.lemmas.Bool.{cases_lt, lt-ltb}
 pub use Rattle.std.proofs.lemmas.Grind.{flat_map-append}
 pub use Rattle.std.proofs.lemmas.List.{length-map, append_cancel_left, append_cancel_right, length_push}
-pub use Rattle.std.proofs.lemmas.List.Elements.{All-nil, All-cons, All-head, All-tail, All-same, All-append, All-push, All-weaker, All-contains}
-pub use Rattle.std.proofs.lemmas.List.Elements.{Contains-append_right, Contains-append_left, Contains-push, recursion_from_All, All-get_or}
-pub use Rattle.std.proofs.lemmas.List.Elements.{All-from_get_or, Contains-get_or, All-map}
+pub use Rattle.std.proofs.lemmas.List.Elements.{All-nil, All-cons, All-head, All-tail, All-same, All-append, All-push, All-weaker, All-contains, Contains-append_right, Contains-append_left, Contains-push, recursion_from_All, All-get_or, All-from_get_or, Contains-get_or, All-map}
 pub use Rattle.std.proofs.lemmas.List.Sums.{AllPass-from_list_all, list_all-from_AllPass, count_by-le-length, sum_by-cons, sum_by_push}
 pub use Rattle.std.proofs.lemmas.Result.{err_from_is_err_and}
 pub use Rattle.std.proofs.lemmas.Option.{none-some, same_Some}
@@ -40,17 +35,14 @@ pub use Rattle.sas_output.specs.Ending.{Ends, Output, IsWrite, output_of, IsDeci
 pub use Rattle.sas_output.specs.declared.ending.Status.{Status}
 pub use Rattle.sas_output.specs.declared.ending.Status.TheVariants.{Yes, No}
 pub use Rattle.sas_output.specs.declared.ending.ToolFault.{ToolFault}
-pub use Rattle.sas_output.specs.declared.ending.ToolFault.TheVariants.{Read}
 pub use Rattle.sas_output.specs.declared.answer.Answer.{Answer}
 pub use Rattle.sas_outputs.proofs.Endings.{ends_as, ends_well}
 pub use Rattle.sas_outputs.proofs.Headlines.{reports_valid, headline_of, sent_same}
-pub use Rattle.sas_outputs.proofs.Outputs.{same_output, refused_kind, too_long_else, reading_of_refusal, file_refused, file_too_long, long_file}
-pub use Rattle.sas_outputs.proofs.Outputs.{plan_worded}
+pub use Rattle.sas_outputs.proofs.Outputs.{same_output, refused_kind, too_long_else, reading_of_refusal, file_refused, file_too_long, long_file, plan_worded}
 pub use Rattle.sas_outputs.proofs.PlainLines.{file_words, file_plain, kind_plain, layer_plain, invalid_plain}
 pub use Rattle.sas_outputs.proofs.PlanOutputs.{plain_refuses, not_refused, verdict_output, layered_output, reported_fault}
 pub use Rattle.sas_outputs.specs.Headline.{Solves, Headline}
-pub use Rattle.sas_outputs.specs.Output.{Out, VerdictOut, plain_refusal, IsAnswerOrRefusal, HasOneOutput, refusal_line, word_of, CheckOut, refusal}
-pub use Rattle.sas_outputs.specs.Output.{TaskOut, UnlayeredAnswer, IsLayeredText}
+pub use Rattle.sas_outputs.specs.Output.{Out, VerdictOut, plain_refusal, IsAnswerOrRefusal, HasOneOutput, refusal_line, word_of, CheckOut, refusal, TaskOut, UnlayeredAnswer, IsLayeredText}
 pub use Rattle.sas_outputs.specs.declared.Request.TheVariants.{Plan}
 pub use Rattle.sas_plan_file.proofs.PlanLaws.{plan_laws_hold}
 pub use Rattle.sas_plan_file.specs.PlanFormat.{plan_format}
@@ -63,3 +55,20 @@ pub use Rattle.sas_reader.specs.System.{IsPlain}
 pub use Rattle.sas_reader.specs.declared.fault.Fault.{Fault}
 pub use Rattle.sas_reader.specs.declared.fault.Kind.{Kind}
 pub use Rattle.sas_task_format.specs.TaskFormat.{task_format}
+pub use Rattle.sas_plans.specs.InTurn.{IsRightlyLong, OpensAll, OpensFirst, OpensInTurn, OpensTo}
+pub use Rattle.sas_plans.specs.Inputs.{HaveBytes, tool_result, IsLabel, WereRead, tool_fault}
+pub use Rattle.sas_plans.specs.Judged.{Judged, IsBest, IsSummary, count_words, HasCost, IsJudged, PlansAnswer, PlansOut, JudgeOut, is_valid, labelled}
+pub use Rattle.sas_plans.specs.Judging.{HasBest, IsLower, unjudged, KnownBeginsWith, IsVerdictOnRefusal, IsVerdict, IsVerdictOnPlan, cost_if, Judges, AreSaid, AreReported, IsOneUnsaid, IsPlace, IsOfPlan, IsSaid, IsUnsaid, JudgesPlans, Tallies, summary_of, AnswersPlans, IsOutputFor, EndsAt, IsOpened, OpensUntil}
+pub use Rattle.sas_plans.specs.Laws.{EachIsThatOfPlan, IsOneLong, RefusesAsPlan}
+pub use Rattle.sas_plans.specs.Opened.{Opens, OpensAs, OpensDevice}
+pub use Rattle.sas_plans.specs.PlansHeadline.{line_of, PlansHeadline, labelled_valid}
+pub use Rattle.sas_plans.specs.Slices.{bytes_of, labels_of}
+pub use Rattle.sas_plans.specs.declared.held.Opening.{Opening}
+pub use Rattle.sas_plans.specs.declared.held.Opening.TheVariants.{Ready, Refused}
+pub use Rattle.sas_plans.specs.declared.inputs.InputFault.TheVariants.{NotOpened, TooLong}
+pub use Rattle.sas_plans.specs.declared.inputs.JudgeFault.{JudgeFault}
+pub use Rattle.sas_plans.specs.declared.inputs.JudgeFault.TheVariants.{Tool}
+pub use Rattle.sas_plans.specs.declared.slices.PlanBytes.{PlanBytes}
+pub use Rattle.sas_plans.specs.declared.tally.Best.{Best}
+pub use Rattle.sas_plans.specs.declared.tally.Tally.{Tally}
+pub use Rattle.sas_plans.specs.declared.verdicts.Verdict.{Verdict}

@@ -1,9 +1,6 @@
 -- Plans whose bytes are all in memory, and the answer about them in a text.
-use Rattle.sas_plans.proofs.Imports.{◌≡◌, ℕ, List, [], length, refl, sym, subst, ◌∙◌, Option, Some, None, Ok, Err, All, slice_index_or, Appends, get_or-map, length-map, Status, ToolFault, Ends, Output}
+use Rattle.sas_plans.proofs.Imports.{◌≡◌, ℕ, List, [], length, refl, sym, subst, ◌∙◌, Option, Some, None, Ok, Err, All, slice_index_or, Appends, get_or-map, length-map, Status, ToolFault, Ends, Output, PlanBytes, HaveBytes, bytes_of, labels_of}
 use Rattle.sas_output.specs.declared.ending.ToolFault.TheVariants as tool_fault
-use Rattle.sas_plans.specs.declared.slices.PlanBytes.{PlanBytes}
-use Rattle.sas_plans.specs.Inputs.{HaveBytes}
-use Rattle.sas_plans.specs.Slices.{bytes_of, labels_of}
 
 -- there are as many labels as files
 as_many : (plans : List PlanBytes) → length (bytes_of plans) ≡ length (labels_of plans)

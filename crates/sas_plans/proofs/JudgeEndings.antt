@@ -1,8 +1,6 @@
 -- How a run over many plans ends.
-use Rattle.sas_plans.proofs.Imports.{◌≡◌, List, ℕ, refl, Option, None, Result, Ok, Err, IfOk, Status, ToolFault, Ends, IsWrite, Output}
+use Rattle.sas_plans.proofs.Imports.{◌≡◌, List, ℕ, refl, Option, None, Result, Ok, Err, IfOk, Status, ToolFault, Ends, IsWrite, Output, JudgeFault, tool_result}
 use Rattle.sas_output.specs.declared.ending.ToolFault.TheVariants as tool_fault
-use Rattle.sas_plans.specs.declared.inputs.JudgeFault.{JudgeFault}
-use Rattle.sas_plans.specs.Inputs.{tool_result}
 
 -- without an answer, at a fault before anything was written
 pub ends_at : (Out : Option Output → Type 0) (Sent : List ℕ → Type 0) (why : ToolFault) → (why ≡ tool_fault.TooLong → Out None) → (IsWrite why → ⊥) → Ends Out Sent (Err why)

@@ -1,8 +1,5 @@
 -- Laws of what is printed of many plans.
-use Rattle.sas_plans.proofs.Imports.{◌≡◌, ℕ, ◌<◌, List, [], ◌∷◌, ◌++◌, length, codes, refl, sym, ap, subst, ◌∙◌, arith, inl, inr, Option, Some, None, Result, Ok, Err, zip, flat_map, All, Contains, if◌then◌else◌, AllZip, list_all, none-some, All-nil, All-cons, All-contains, Contains-append_right, Contains-append_left, Contains-push, Parts, PlanParts, WellRanged, IsLayered, Fault, ReadsAs}
-use Rattle.sas_plans.proofs.Imports.{most_bytes, plan_format, plan_laws_hold, task_format, Status, Yes, No, Output, VerdictAnswer, one_verdict_answer, some_verdict_answer, Plan, Out, VerdictOut, plain_refusal, IsAnswerOrRefusal, HasOneOutput, refusal_line, word_of, same_output, plain_refuses, not_refused, verdict_output, layered_output, worded}
-use Rattle.sas_plans.specs.Judged.{Judged, HasCost, IsJudged, PlansAnswer, PlansOut, JudgeOut, is_valid, labelled}
-use Rattle.sas_plans.specs.Laws.{EachIsThatOfPlan, IsOneLong, RefusesAsPlan}
+use Rattle.sas_plans.proofs.Imports.{◌≡◌, ℕ, ◌<◌, List, [], ◌∷◌, ◌++◌, length, codes, refl, sym, ap, subst, ◌∙◌, arith, inl, inr, Option, Some, None, Result, Ok, Err, zip, flat_map, All, Contains, if◌then◌else◌, AllZip, list_all, none-some, All-nil, All-cons, All-contains, Contains-append_right, Contains-append_left, Contains-push, Parts, PlanParts, WellRanged, IsLayered, Fault, ReadsAs, Judged, HasCost, IsJudged, PlansAnswer, PlansOut, JudgeOut, is_valid, labelled, EachIsThatOfPlan, IsOneLong, RefusesAsPlan, most_bytes, plan_format, plan_laws_hold, task_format, Status, Yes, No, Output, VerdictAnswer, one_verdict_answer, some_verdict_answer, Plan, Out, VerdictOut, plain_refusal, IsAnswerOrRefusal, HasOneOutput, refusal_line, word_of, same_output, plain_refuses, not_refused, verdict_output, layered_output, worded}
 use Rattle.sas_plans.proofs.BestPlans.{one_summary, some_summary}
 use Rattle.sas_plans.proofs.SideBySide.{contains_second}
 

@@ -73,9 +73,7 @@ kind_letter kinds.Shape w e = some_letter (codes "shape") w e (omega arith)
 kind_letter kinds.Value w e = some_letter (codes "value") w e (omega arith)
 kind_letter kinds.End w e = some_letter (codes "end") w e (omega arith)
 kind_letter kinds.Trailing w e = some_letter (codes "trailing") w e (omega arith)
-kind_letter kinds.TooLong w e = absurd (none-some w e)
-kind_letter kinds.Read w e = absurd (none-some w e)
-kind_letter kinds.Memory w e = absurd (none-some w e)
+kind_letter _ w e = absurd (none-some w e)
 
 part_letter : (part : List ℕ) (place : ℕ) (what w : List ℕ) → EndsInLetter what → Some (words_at_part part place what) ≡ Some w → EndsInLetter w
 part_letter part place what w h e = some_letter (words_at_part part place what) w e (letter_behind (part ++ codes " " ++ decimal place ++ codes ": ") what h)

@@ -1,12 +1,8 @@
 -- What comes of opening a task, and of judging a plan file that is refused, by what was read.
-use Rattle.sas_plans.proofs.Imports.{◌≡◌, ◌≢◌, ℕ, List, codes, refl, ap, ◌∙◌, Option, Some, None, Result, Ok, Err, ◌↔◌, IfOk, IsErrOf, IsTrue, IsAtEnd, Parts, first_fault, LayerFault, IsLayered, layer_checks, Device, Fault, ValueOf, ReadsAll, ReadsAs, most_bytes, known_answer, known_fault, plan_format, task_format, ToolFault, Answer, output_of, IsWrite, CheckAnswer, VerdictAnswer, layers_refusal}
-use Rattle.sas_plans.proofs.Imports.{layers_verdict, layer_words, layers_line, CheckOut, VerdictOut, refusal, refused_kind, too_long_else, reading_of_refusal, file_refused, file_too_long, reported_fault, worded}
+use Rattle.sas_plans.proofs.Imports.{◌≡◌, ◌≢◌, ℕ, List, codes, refl, ap, ◌∙◌, Option, Some, None, Result, Ok, Err, ◌↔◌, IfOk, IsErrOf, IsTrue, IsAtEnd, Parts, first_fault, LayerFault, IsLayered, layer_checks, Device, Fault, ValueOf, ReadsAll, ReadsAs, most_bytes, known_answer, known_fault, plan_format, task_format, ToolFault, Answer, output_of, IsWrite, CheckAnswer, VerdictAnswer, layers_refusal, Opening, Ready, Refused, Opens, OpensAs, OpensDevice, layers_verdict, layer_words, layers_line, CheckOut, VerdictOut, refusal, refused_kind, too_long_else, reading_of_refusal, file_refused, file_too_long, reported_fault, worded}
 use Rattle.sas_meaning.specs.declared.layered.LayerFault.TheVariants as layer_fault
 use Rattle.sas_reader.specs.declared.fault.Kind.TheVariants as kinds
 use Rattle.sas_output.specs.declared.ending.ToolFault.TheVariants as tool_fault
-use Rattle.sas_plans.specs.declared.held.Opening.{Opening}
-use Rattle.sas_plans.specs.declared.held.Opening.TheVariants.{Ready, Refused}
-use Rattle.sas_plans.specs.Opened.{Opens, OpensAs, OpensDevice}
 use Rattle.sas_plans.proofs.PlanVerdicts.{refused_status}
 use Rattle.sas_plans.proofs.SaidPlans.{decided_long}
 

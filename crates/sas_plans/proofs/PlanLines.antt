@@ -1,10 +1,5 @@
 -- What is printed of each plan is one line, and a task is refused by one.
-use Rattle.sas_plans.proofs.Imports.{◌≡◌, ◌≢◌, ℕ, zero, suc, ◌<◌, List, [], ◌∷◌, ◌++◌, length, get_or, codes, decimal, append_assoc, refl, sym, ap, subst, ◌∙◌, arith, inl, inr, Some, Result, Ok, Err, flat_map, AllByRecursion, get_or-append, recursion_from_All, Parts, PlanParts, LayerFault, lines, text, Plain, lines-append, lines-text, unfinished-text, Fault, IsPlain, plain, plain-decimal}
-use Rattle.sas_plans.proofs.Imports.{plain_bytes, plain-append, Output, VerdictAnswer, layers_refusal, layer_words, layers_line, fault_words, invalid_line, No, VerdictOut, IsAnswerOrRefusal, TaskOut, UnlayeredAnswer, plain_refusal, refusal, refusal_line, word_of, file_words, file_plain, kind_plain, layer_plain, invalid_plain, worded}
-use Rattle.sas_plans.specs.Inputs.{IsLabel}
-use Rattle.sas_plans.specs.Judged.{Judged, labelled}
-use Rattle.sas_plans.specs.Judging.{unjudged}
-use Rattle.sas_plans.specs.PlansHeadline.{line_of}
+use Rattle.sas_plans.proofs.Imports.{◌≡◌, ◌≢◌, ℕ, zero, suc, ◌<◌, List, [], ◌∷◌, ◌++◌, length, get_or, codes, decimal, append_assoc, refl, sym, ap, subst, ◌∙◌, arith, inl, inr, Some, Result, Ok, Err, flat_map, AllByRecursion, get_or-append, recursion_from_All, Parts, PlanParts, LayerFault, lines, text, Plain, lines-append, lines-text, unfinished-text, Fault, IsPlain, plain, plain-decimal, IsLabel, Judged, labelled, unjudged, line_of, plain_bytes, plain-append, Output, VerdictAnswer, layers_refusal, layer_words, layers_line, fault_words, invalid_line, No, VerdictOut, IsAnswerOrRefusal, TaskOut, UnlayeredAnswer, plain_refusal, refusal, refusal_line, word_of, file_words, file_plain, kind_plain, layer_plain, invalid_plain, worded}
 use Rattle.sas_plans.proofs.LastBytes.{EndsInLetter, letter_behind, kind_letter, layer_letter}
 
 -- the bytes are a line with its end

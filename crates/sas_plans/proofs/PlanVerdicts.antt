@@ -1,11 +1,7 @@
 -- The verdict on one plan, by what was read of it.
-use Rattle.sas_plans.proofs.Imports.{◌≡◌, ◌≢◌, ℕ, List, codes, refl, sym, ◌∙◌, Option, Some, None, Result, Ok, Err, IfOk, IfErr, IsErrOf, Consumes, IsAtEnd, Parts, PlanParts, Device, Fault, ValueOf, ReadsAll, ReadsAs, most_bytes, known_answer, known_fault, plan_format, Status, Yes, No, ToolFault, Output, IsWrite, VerdictAnswer, refusal, refusal_line, word_of, refused_kind, too_long_else}
-use Rattle.sas_plans.proofs.Imports.{reading_of_refusal, file_refused, file_too_long, worded}
+use Rattle.sas_plans.proofs.Imports.{◌≡◌, ◌≢◌, ℕ, List, codes, refl, sym, ◌∙◌, Option, Some, None, Result, Ok, Err, IfOk, IfErr, IsErrOf, Consumes, IsAtEnd, Parts, PlanParts, Device, Fault, ValueOf, ReadsAll, ReadsAs, most_bytes, known_answer, known_fault, plan_format, Status, Yes, No, ToolFault, Output, IsWrite, VerdictAnswer, refusal, refusal_line, word_of, refused_kind, too_long_else, Verdict, HasCost, KnownBeginsWith, IsVerdictOnRefusal, IsVerdict, IsVerdictOnPlan, cost_if, Judges, reading_of_refusal, file_refused, file_too_long, worded}
 use Rattle.sas_reader.specs.declared.fault.Kind.TheVariants as kinds
 use Rattle.sas_output.specs.declared.ending.ToolFault.TheVariants as tool_fault
-use Rattle.sas_plans.specs.declared.verdicts.Verdict.{Verdict}
-use Rattle.sas_plans.specs.Judged.{HasCost}
-use Rattle.sas_plans.specs.Judging.{KnownBeginsWith, IsVerdictOnRefusal, IsVerdict, IsVerdictOnPlan, cost_if, Judges}
 
 -- ---- what was read of known bytes
 

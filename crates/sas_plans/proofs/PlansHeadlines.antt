@@ -1,10 +1,5 @@
 -- What is printed of many plans says which of them solve the task.
-use Rattle.sas_plans.proofs.Imports.{◌≡◌, ℕ, zero, suc, ◌<◌, Bool, true, false, List, [], ◌∷◌, ◌++◌, length, get_or, codes, decimal, append_assoc, refl, sym, ap, subst, ◌∙◌, arith, inl, inr, Option, Some, Ok, ◌↔◌, All, zip, is_some, if◌then◌else◌, list_all, Appends, append_cancel_left, append_cancel_right, All-get_or, All-from_get_or, AllPass-from_list_all, list_all-from_AllPass, Parts, IsLayered}
-use Rattle.sas_plans.proofs.Imports.{lines, lines-one, ReadsAs, most_bytes, plain, task_format, Status, Yes, No, Output, VerdictAnswer, valid_line, Solves, Headline, IsLayeredText, plain_refusal, reports_valid, headline_of, sent_same, plain_refuses, not_refused}
-use Rattle.sas_plans.specs.Inputs.{IsLabel}
-use Rattle.sas_plans.specs.Judged.{Judged, HasCost, IsJudged, PlansAnswer, JudgeOut, is_valid, labelled}
-use Rattle.sas_plans.specs.Judging.{unjudged}
-use Rattle.sas_plans.specs.PlansHeadline.{PlansHeadline, line_of, labelled_valid}
+use Rattle.sas_plans.proofs.Imports.{◌≡◌, ℕ, zero, suc, ◌<◌, Bool, true, false, List, [], ◌∷◌, ◌++◌, length, get_or, codes, decimal, append_assoc, refl, sym, ap, subst, ◌∙◌, arith, inl, inr, Option, Some, Ok, ◌↔◌, All, zip, is_some, if◌then◌else◌, list_all, Appends, append_cancel_left, append_cancel_right, All-get_or, All-from_get_or, AllPass-from_list_all, list_all-from_AllPass, Parts, IsLayered, IsLabel, Judged, HasCost, IsJudged, PlansAnswer, JudgeOut, is_valid, labelled, unjudged, PlansHeadline, line_of, labelled_valid, lines, lines-one, ReadsAs, most_bytes, plain, task_format, Status, Yes, No, Output, VerdictAnswer, valid_line, Solves, Headline, IsLayeredText, plain_refusal, reports_valid, headline_of, sent_same, plain_refuses, not_refused}
 use Rattle.sas_plans.proofs.SideBySide.{zip_long, zip_at}
 use Rattle.sas_plans.proofs.JudgeLaws.{refuses_as_plan}
 use Rattle.sas_plans.proofs.LastBytes.{last, IsDigit, digit_behind}

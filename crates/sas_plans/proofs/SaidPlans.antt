@@ -1,19 +1,11 @@
 -- What is said of one plan after another.
-use Rattle.sas_plans.proofs.Imports.{◌≡◌, ◌≢◌, ℕ, ◌+◌, ◌<◌, ◌≤◌, ◌⊎◌, List, [], ◌∷◌, ◌++◌, length, get_or, codes, decimal, append_assoc, append-nil, refl, sym, ap, subst, ◌∙◌, arith, inl, inr, Option, Some, None, Ok, Err, zip, flat_map, count_by, if◌then◌else◌, list_all, get_or-append, get_or-append_seam, cases_lt, length_push, count_by-le-length, flat_map-append, Parts, Status, Yes, No}
+use Rattle.sas_plans.proofs.Imports.{◌≡◌, ◌≢◌, ℕ, ◌+◌, ◌<◌, ◌≤◌, ◌⊎◌, List, [], ◌∷◌, ◌++◌, length, get_or, codes, decimal, append_assoc, append-nil, refl, sym, ap, subst, ◌∙◌, arith, inl, inr, Option, Some, None, Ok, Err, zip, flat_map, count_by, if◌then◌else◌, list_all, get_or-append, get_or-append_seam, cases_lt, length_push, count_by-le-length, flat_map-append, Parts, Status, Yes, No, NotOpened, TooLong, JudgeFault, Tool, IsRightlyLong, Best, Tally, Verdict, Judged, IsJudged, IsBest, IsSummary, PlansAnswer, PlansOut, count_words, is_valid, labelled, AreSaid, AreReported, HasBest, KnownBeginsWith, IsOneUnsaid, IsPlace, IsOfPlan, IsSaid, IsUnsaid, Judges, JudgesPlans, Tallies, summary_of, unjudged, ToolFault, IsDecided, IsWrite, VerdictAnswer, plan_format, VerdictOut, long_file, plan_worded}
 use Rattle.std.proofs.Common.{length-append}
 use Rattle.std.proofs.lemmas.Bool.Decides.{eqb_tells}
-use Rattle.sas_plans.proofs.Imports.{ToolFault, IsDecided, IsWrite, VerdictAnswer, plan_format, VerdictOut, long_file, plan_worded}
 use Rattle.sas_output.specs.declared.ending.ToolFault.TheVariants as tool_fault
-use Rattle.sas_plans.specs.declared.inputs.InputFault.TheVariants.{NotOpened, Read, TooLong}
-use Rattle.sas_plans.specs.declared.inputs.JudgeFault.{JudgeFault}
-use Rattle.sas_plans.specs.declared.inputs.JudgeFault.TheVariants.{Tool, Plan}
-use Rattle.sas_plans.specs.InTurn.{IsRightlyLong}
-use Rattle.sas_plans.specs.declared.tally.Best.{Best}
-use Rattle.sas_plans.specs.declared.tally.Tally.{Tally}
-use Rattle.sas_plans.specs.declared.verdicts.Verdict.{Verdict}
+use Rattle.sas_plans.specs.declared.inputs.InputFault.TheVariants.{Read}
+use Rattle.sas_plans.specs.declared.inputs.JudgeFault.TheVariants.{Plan}
 use Rattle.sas_plans.specs.Inputs.{tool_fault as fault_of}
-use Rattle.sas_plans.specs.Judged.{Judged, IsJudged, IsBest, IsSummary, PlansAnswer, PlansOut, count_words, is_valid, labelled}
-use Rattle.sas_plans.specs.Judging.{AreSaid, AreReported, HasBest, KnownBeginsWith, IsOneUnsaid, IsPlace, IsOfPlan, IsSaid, IsUnsaid, Judges, JudgesPlans, Tallies, summary_of, unjudged}
 use Rattle.sas_plans.proofs.SideBySide.{all_zip, choose, contains_pair}
 use Rattle.sas_plans.proofs.Tallying.{status_yes, status_no}
 

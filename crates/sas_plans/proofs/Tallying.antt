@@ -1,8 +1,5 @@
 -- One plan more in a tally; and what a tally says of all plans.
-use Rattle.sas_plans.proofs.Imports.{◌≡◌, ◌≢◌, ℕ, ◌+◌, Bool, true, false, cond, List, [], ◌∷◌, ◌++◌, length, refl, sym, ap, ◌∙◌, arith, Option, Some, None, count_by, is_some, if◌then◌else◌, list_all, sum_by-cons, sum_by_push, count_by-le-length, Yes, No}
-use Rattle.sas_plans.specs.declared.tally.Tally.{Tally}
-use Rattle.sas_plans.specs.Judged.{Judged, is_valid}
-use Rattle.sas_plans.specs.Judging.{IsLower, Tallies}
+use Rattle.sas_plans.proofs.Imports.{◌≡◌, ◌≢◌, ℕ, ◌+◌, Bool, true, false, cond, List, [], ◌∷◌, ◌++◌, length, refl, sym, ap, ◌∙◌, arith, Option, Some, None, count_by, is_some, if◌then◌else◌, list_all, sum_by-cons, sum_by_push, count_by-le-length, Yes, No, Tally, Judged, is_valid, IsLower, Tallies}
 use Rattle.sas_plans.proofs.BestPlans.{best_if_any, better, no_better}
 
 -- 1 for a plan that is valid

@@ -1,13 +1,6 @@
 -- The answer about a task and plans, by what came of opening the task.
-use Rattle.sas_plans.proofs.Imports.{◌≡◌, ℕ, List, [], ◌++◌, length, refl, sym, ap, subst, ◌∙◌, inl, inr, Option, Some, None, Result, Ok, Err, zip, IfSome, same_Some, Parts, first_fault, LayerFault, layer_checks, Device, Yes, No, ToolFault, Answer, Output, output_of, layers_verdict, CheckOut, TaskOut, UnlayeredAnswer, plain_refusal, IsLayeredText, not_refused}
+use Rattle.sas_plans.proofs.Imports.{◌≡◌, ℕ, List, [], ◌++◌, length, refl, sym, ap, subst, ◌∙◌, inl, inr, Option, Some, None, Result, Ok, Err, zip, IfSome, same_Some, Parts, first_fault, LayerFault, layer_checks, Device, Yes, No, ToolFault, Answer, Output, output_of, layers_verdict, CheckOut, TaskOut, UnlayeredAnswer, plain_refusal, IsLayeredText, not_refused, Ready, Refused, JudgeFault, Tool, WereRead, JudgeOut, PlansOut, AnswersPlans, JudgesPlans, IsOutputFor, OpensDevice}
 use Rattle.sas_output.specs.declared.ending.ToolFault.TheVariants as tool_fault
-use Rattle.sas_plans.specs.declared.held.Opening.TheVariants.{Ready, Refused}
-use Rattle.sas_plans.specs.declared.inputs.JudgeFault.{JudgeFault}
-use Rattle.sas_plans.specs.declared.inputs.JudgeFault.TheVariants.{Tool}
-use Rattle.sas_plans.specs.Inputs.{WereRead}
-use Rattle.sas_plans.specs.Judged.{JudgeOut, PlansOut}
-use Rattle.sas_plans.specs.Judging.{AnswersPlans, JudgesPlans, IsOutputFor}
-use Rattle.sas_plans.specs.Opened.{OpensDevice}
 use Rattle.sas_plans.proofs.SideBySide.{choose}
 
 -- an answer of one output is one of another that follows from it

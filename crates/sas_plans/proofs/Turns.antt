@@ -1,20 +1,15 @@
 -- Which plans were opened, one after another, up to the end of a run.
-use Rattle.sas_plans.proofs.Imports.{◌≡◌, ◌≢◌, ℕ, suc, ◌+◌, ◌<◌, List, add-one, refl, sym, subst, arith, inl, Option, Result, Ok, Err, IfOk, IfErr, ToolFault, IsWrite}
+use Rattle.sas_plans.proofs.Imports.{◌≡◌, ◌≢◌, ℕ, suc, ◌+◌, ◌<◌, List, add-one, refl, sym, subst, arith, inl, Option, Result, Ok, Err, IfOk, IfErr, ToolFault, IsWrite, NotOpened, TooLong, JudgeFault, Tool, IsRightlyLong, OpensAll, OpensFirst, OpensInTurn, OpensTo, EndsAt, IsOfPlan, IsOpened, OpensUntil}
 use Rattle.sas_output.specs.declared.ending.ToolFault.TheVariants as tool_fault
-use Rattle.sas_plans.specs.declared.inputs.InputFault.TheVariants.{NotOpened, Read, TooLong}
-use Rattle.sas_plans.specs.declared.inputs.JudgeFault.{JudgeFault}
-use Rattle.sas_plans.specs.declared.inputs.JudgeFault.TheVariants.{Tool, Plan}
+use Rattle.sas_plans.specs.declared.inputs.InputFault.TheVariants.{Read}
+use Rattle.sas_plans.specs.declared.inputs.JudgeFault.TheVariants.{Plan}
 use Rattle.sas_plans.specs.Inputs.{tool_fault as fault_of}
-use Rattle.sas_plans.specs.InTurn.{IsRightlyLong, OpensAll, OpensFirst, OpensInTurn, OpensTo}
-use Rattle.sas_plans.specs.Judging.{EndsAt, IsOfPlan, IsOpened, OpensUntil}
 
 -- ---- the fault of one plan
 
 pub of_plan : {S I : Type 0} (gives : S → ℕ → Option I → S → Type 0) (number : ℕ) (old new : S) (why : JudgeFault) → EndsAt gives number old new why → IsOfPlan number why
-of_plan gives number old new (Plan other NotOpened) h = h.0
-of_plan gives number old new (Plan other Read) h = h.0
-of_plan gives number old new (Plan other TooLong) h = h.0
 of_plan gives number old new (Tool why) h = tt
+of_plan gives number old new _ h = h.0
 
 -- it isn't reported of the task
 pub not_of_task : {S I : Type 0} (gives : S → ℕ → Option I → S → Type 0) (number : ℕ) (old new : S) (why : JudgeFault) → EndsAt gives number old new why → why ≢ Tool tool_fault.Read

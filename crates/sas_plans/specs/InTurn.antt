@@ -1,6 +1,5 @@
 -- Which plans a run opens: in order, each once, and none behind the one at whose fault it ends.
-use Rattle.std.specs.Prelude.{◌≡◌, ◌⊎◌, ℕ, zero, suc, ◌<◌, ◌≤◌, List, length, ⊤}
-use Rattle.std.specs.Prelude.{Option, Some, None, Result, Ok, Err}
+use Rattle.std.specs.Prelude.{◌≡◌, ◌⊎◌, ℕ, zero, suc, ◌<◌, ◌≤◌, List, length, ⊤, Option, Some, None, Result, Ok, Err}
 use Rattle.sas_output.specs.declared.ending.ToolFault.TheVariants as tool
 use Rattle.sas_outputs.specs.Output.{IsLayeredText}
 use Rattle.sas_reader.specs.Limit.{most_bytes}
@@ -53,5 +52,4 @@ abbrev pub IsRightlyLong : (ℕ → Option (List ℕ)) → JudgeFault → Type 0
 IsRightlyLong known (Plan number TooLong) =
     (c : List ℕ) → known number ≡ Some c → most_bytes < length c
 IsRightlyLong known (Plan number NotOpened) = ⊤
-IsRightlyLong known (Plan number Read) = ⊤
-IsRightlyLong known (Tool why) = ⊤
+IsRightlyLong known _ = ⊤

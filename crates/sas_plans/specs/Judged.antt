@@ -1,8 +1,7 @@
 -- What `plans` prints: of each of many plans the line that `plan` prints of it, with a label in
 -- front, and how many of them are valid.
 use Rattle.std.specs.Prelude.{◌≡◌, ◌⊎◌, ℕ, ◌<◌, ◌≤◌, Bool, is_some, if◌then◌else◌, List, ◌∷◌, ◌++◌}
-use Rattle.std.specs.Prelude.{length, flat_map, count_by, zip, All, Contains, codes, decimal}
-use Rattle.std.specs.Prelude.{Option, Some, None}
+use Rattle.std.specs.Prelude.{length, flat_map, count_by, zip, All, Contains, codes, decimal, Option, Some, None}
 use Rattle.std.specs.List.{AllZip, list_all}
 use Rattle.sas_core.specs.declared.parts.Parts.{Parts}
 use Rattle.sas_core.specs.PlanParts.{PlanParts}

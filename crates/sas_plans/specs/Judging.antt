@@ -1,7 +1,6 @@
 -- What the private steps of a run over many plans promise.
 use Rattle.std.specs.Prelude.{◌≡◌, ◌≢◌, ◌↔◌, ℕ, ◌<◌, ◌≤◌, List, [], ◌++◌, length, count_by, zip}
-use Rattle.std.specs.Prelude.{slice_index_or, codes, decimal, flat_map, All, IsTrue, ⊤}
-use Rattle.std.specs.Prelude.{Option, Some, None, Result, Ok, Err, IfErr, IsErrOf}
+use Rattle.std.specs.Prelude.{slice_index_or, codes, decimal, flat_map, All, IsTrue, ⊤, Option, Some, None, Result, Ok, Err, IfErr, IsErrOf}
 use Rattle.std.specs.Io.KnownBytes.{Consumes}
 use Rattle.sas_core.specs.declared.parts.Parts.{Parts}
 use Rattle.sas_core.specs.PlanParts.{PlanParts}

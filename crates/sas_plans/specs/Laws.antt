@@ -1,6 +1,5 @@
 -- What follows from the definition of what `plans` prints.
-use Rattle.std.specs.Prelude.{◌≡◌, ◌⊎◌, ℕ, ◌<◌, List, ◌++◌, length, flat_map, zip, codes, Contains}
-use Rattle.std.specs.Prelude.{Some}
+use Rattle.std.specs.Prelude.{◌≡◌, ◌⊎◌, ℕ, ◌<◌, List, ◌++◌, length, flat_map, zip, codes, Contains, Some}
 use Rattle.std.specs.List.{AllZip}
 use Rattle.sas_output.specs.Ending.{Output}
 use Rattle.sas_reader.specs.Limit.{most_bytes}

@@ -1,6 +1,5 @@
 // Many plans of one task, judged one after another.
-ghost use Rattle.std.specs.Prelude.{◌≡◌, ◌↔◌, ◌⊎◌, ℕ, List, length, All, Some, false};
-ghost use Rattle.std.specs.Prelude.{IfOk, IfErr, IsErrAnd, IsErrOf, IsTrue};
+ghost use Rattle.std.specs.Prelude.{◌≡◌, ◌↔◌, ◌⊎◌, ℕ, List, length, All, Some, false, IfOk, IfErr, IsErrAnd, IsErrOf, IsTrue};
 ghost use Rattle.std.specs.Io.KnownBytes.{Appends, Consumes};
 ghost use Rattle.sas_output.specs.Ending.{Ends, IsDecided, IsWrite, output_of};
 ghost use Rattle.sas_outputs.specs.Output.{IsLayeredText};

@@ -2,8 +2,7 @@
 ghost use Rattle.std.specs.Prelude.{◌≡◌, ◌<◌, ◌++◌, ℕ, [], length, codes, decimal, IfOk, IfErr, OnOk, slice_index_or};
 ghost use Rattle.sas_plans.specs.Judged.{Judged, labelled};
 ghost use Rattle.sas_plans.specs.InTurn.{OpensFirst};
-ghost use Rattle.sas_plans.specs.Judging.{AreReported, IsOneUnsaid, IsPlace, IsSaid, IsUnsaid};
-ghost use Rattle.sas_plans.specs.Judging.{EndsAt, IsOpened, OpensUntil};
+ghost use Rattle.sas_plans.specs.Judging.{AreReported, IsOneUnsaid, IsPlace, IsSaid, IsUnsaid, EndsAt, IsOpened, OpensUntil};
 ghost use Rattle.sas_plans.specs.Judging.{JudgesPlans, answer_of, summary_of};
 
 use crate::inputs::{JudgeFault, PlanInputs};

@@ -1,10 +1,8 @@
 // The verdict on one of many plans.
-ghost use Rattle.std.specs.Prelude.{◌≡◌, ◌↔◌, ◌<◌, ℕ, length, false};
-ghost use Rattle.std.specs.Prelude.{IfOk, IfErr, IsErrOf, IsTrue};
+ghost use Rattle.std.specs.Prelude.{◌≡◌, ◌↔◌, ◌<◌, ℕ, length, false, IfOk, IfErr, IsErrOf, IsTrue};
 ghost use Rattle.sas_output.specs.Ending.{IsWrite};
 ghost use Rattle.sas_plans.specs.Inputs.{tool_fault, tool_result};
-ghost use Rattle.sas_plans.specs.Judging.{EndsAt, IsBehindOpening, IsOpened};
-ghost use Rattle.sas_plans.specs.Judging.{IsVerdictOnRefusal, Judges, IsVerdictOnPlan};
+ghost use Rattle.sas_plans.specs.Judging.{EndsAt, IsBehindOpening, IsOpened, IsVerdictOnRefusal, Judges, IsVerdictOnPlan};
 
 use crate::inputs::{InputFault, JudgeFault, PlanInputs};
 use sas_answers::answer_by;

@@ -1,10 +1,6 @@
 -- What a fault is about, for any format.
-use Rattle.sas_reader.proofs.Imports.{◌≡◌, ◌≢◌, ℕ, List, [], ◌∷◌, ◌++◌, refl, sym, ap, ◌∙◌, append_assoc, ◌⊎◌, inl, inr, lines, unfinished}
-use Rattle.sas_reader.specs.declared.fault.Fault.{Fault}
+use Rattle.sas_reader.proofs.Imports.{◌≡◌, ◌≢◌, ℕ, List, [], ◌∷◌, ◌++◌, refl, sym, ap, ◌∙◌, append_assoc, ◌⊎◌, inl, inr, lines, unfinished, Fault, Format, KindAt, too_long, trailing, wrong, FaultOf, EndOf, Node, Grammar, IsAbout, of_line, of_byte, of_end, ConcernsText, AboutLaws}
 use Rattle.sas_reader.specs.declared.fault.Kind.TheVariants as kinds
-use Rattle.sas_reader.specs.Format.{Format, KindAt, too_long, trailing, wrong, FaultOf, EndOf}
-use Rattle.sas_reader.specs.System.{Node, Grammar}
-use Rattle.sas_reader.specs.About.{IsAbout, of_line, of_byte, of_end, ConcernsText, AboutLaws}
 use Rattle.sas_reader.proofs.Whole.{fault_is_dead, no_slot_at_end, one_line, one_place}
 
 about_of : {V I S : Type 0} (F : Format V I S) (limit : ℕ) (bytes : List ℕ) (f : Fault) → f.kind ≢ kinds.TooLong → (h : FaultOf F limit bytes f) → KindAt F limit h.before h.byte f.kind → (a : List (List ℕ)) × (t : List ℕ) × IsAbout F limit bytes f a t

@@ -1,16 +1,7 @@
 -- One step of a reader: it takes a piece up to and including the first line end, or all of it.
 use Rattle.std.proofs.lemmas.Grind.{common_steps}
-use Rattle.sas_reader.proofs.Imports.{◌≡◌, ◌≢◌, ℕ, ◌+◌, ◌-◌, ◌≤◌, ◌<◌, Bool, true, false, not, List, [], ◌∷◌, ◌++◌, length, take, drop, refl, sym, ap, subst, ◌∙◌, append_assoc, arith, length-append, length-drop, Result, Ok, Err, append-nil, length-take, take_all, take-append-drop, take-add, lines, unfinished, TakesLine, LineStandsFirst, LinesStandFirst, lines-append, unfinished-append, lines-few}
-use Rattle.sas_reader.proofs.Imports.{Progress, completed}
-use Rattle.sas_reader.specs.declared.fault.Fault.{Fault}
-use Rattle.sas_reader.specs.declared.fault.Kind.{Kind}
+use Rattle.sas_reader.proofs.Imports.{◌≡◌, ◌≢◌, ℕ, ◌+◌, ◌-◌, ◌≤◌, ◌<◌, Bool, true, false, not, List, [], ◌∷◌, ◌++◌, length, take, drop, refl, sym, ap, subst, ◌∙◌, append_assoc, arith, length-append, length-drop, Result, Ok, Err, append-nil, length-take, take_all, take-append-drop, take-add, lines, unfinished, TakesLine, LineStandsFirst, LinesStandFirst, lines-append, unfinished-append, lines-few, Fault, Kind, Reader, Front, IsOfBytes, IsFront, IsFoundOf, Reached, Accepted, LineIsDue, FaultBehind, TookFront, Stopped, TakesFrontOrStops, Progress, completed}
 use Rattle.sas_reader.specs.declared.fault.Kind.TheVariants as kinds
-use Rattle.sas_reader.specs.declared.reader.Reader.{Reader}
-use Rattle.sas_reader.specs.declared.reader.Front.{Front}
-use Rattle.sas_reader.specs.Faults.{IsOfBytes}
-use Rattle.sas_reader.specs.Machine.{IsFront}
-use Rattle.sas_reader.specs.Found.{IsFoundOf}
-use Rattle.sas_reader.specs.Reader.{Reached, Accepted, LineIsDue, FaultBehind, TookFront, Stopped, TakesFrontOrStops}
 use Rattle.sas_reader.proofs.Pieces.{takes_bound, front_of, lines_fed, unfinished_fed, reached_part, reached_line, due_first, due_wider, due_behind, fault_full, fault_over, fault_line, fault_wider, fault_behind}
 
 is_false : (b : Bool) → not b ≡ true → b ≡ false

@@ -1,7 +1,6 @@
 -- What follows the line ends of some bytes. No line contains LF.
 use Rattle.std.proofs.lemmas.Grind.{common_steps}
-use Rattle.sas_reader.proofs.Imports.{◌≡◌, ◌≢◌, ℕ, ◌+◌, ◌-◌, List, [], ◌∷◌, ◌++◌, length, take, refl, sym, ap, subst, ◌∙◌, append_assoc, inl, inr, arith, cases_eq, ne_eqb, append-nil, without_return, lines, unfinished, NoEnd, lines-append, unfinished-append, lines-none, lines-one, unfinished-one, unfinished-without}
-use Rattle.sas_reader.specs.Found.{behind_ends}
+use Rattle.sas_reader.proofs.Imports.{◌≡◌, ◌≢◌, ℕ, ◌+◌, List, [], ◌∷◌, ◌++◌, length, take, refl, sym, ap, subst, ◌∙◌, append_assoc, inl, inr, arith, cases_eq, ne_eqb, append-nil, without_return, lines, unfinished, NoEnd, lines-append, unfinished-append, lines-none, lines-one, unfinished-one, unfinished-without, behind_ends}
 
 no_end-more : (w : List ℕ) (b : ℕ) → NoEnd w → b ≢ 10 → NoEnd (w ++ b ∷ [])
 no_end-more [] b h ne = (ne, tt)

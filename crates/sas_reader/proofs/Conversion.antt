@@ -1,16 +1,6 @@
 -- Converts promises about a machine that follows a grammar to promises about the format.
-use Rattle.sas_reader.proofs.Imports.{◌≡◌, ℕ, ◌+◌, ◌≤◌, List, [], ◌∷◌, length, sym, subst, ◌∙◌, append_assoc, inl, inr, Err, ◌++◌, take, drop, refl, arith, length-drop, take-append-drop, without_return, lines, unfinished}
-use Rattle.sas_reader.specs.declared.fault.Fault.{Fault}
-use Rattle.sas_reader.specs.declared.fault.Kind.{Kind}
+use Rattle.sas_reader.proofs.Imports.{◌≡◌, ℕ, ◌+◌, ◌≤◌, List, [], ◌∷◌, length, sym, subst, ◌∙◌, append_assoc, inl, inr, Err, ◌++◌, take, drop, refl, arith, length-drop, take-append-drop, without_return, lines, unfinished, Fault, Kind, Reads, Format, Live, FaultOf, EndOf, MoreIsDue, ReadsAs, Node, ended, Rejects, Leads, Grammar, most_bytes, Reached, LineIsDue, Stops, full, over, rejected, FaultIn, EndsEarly, IsRefused, ReadFails, unread, early, faulty, Found, Refused, Refuses, unread_at, ended_at, faulty_at}
 use Rattle.sas_reader.specs.declared.fault.Kind.TheVariants as kinds
-use Rattle.sas_reader.specs.Texts.{Reads}
-use Rattle.sas_reader.specs.Format.{Format, Live, FaultOf, EndOf, MoreIsDue, ReadsAs}
-use Rattle.sas_reader.specs.System.{Node, ended, Rejects, Leads, Grammar}
-use Rattle.sas_reader.specs.Limit.{most_bytes}
-use Rattle.sas_reader.specs.Reader.{Reached, LineIsDue, Stops, full, over, rejected, FaultIn, EndsEarly, IsRefused, ReadFails, unread, early, faulty}
-use Rattle.sas_reader.specs.declared.found.Found.{Found}
-use Rattle.sas_reader.specs.declared.reader.Refused.{Refused}
-use Rattle.sas_reader.specs.Devices.{Refuses, unread_at, ended_at, faulty_at}
 use Rattle.sas_reader.proofs.Live.{one_more, live, reads_done, fault_long, fault_done, fault_rejected, fault_stays, end_open}
 use Rattle.sas_reader.proofs.Paths.{Path}
 

@@ -1,13 +1,11 @@
 -- Adding bytes to a copy without CRs.
 use Rattle.std.proofs.lemmas.Grind.{common_steps}
-use Rattle.sas_reader.proofs.Imports.{◌≡◌, ℕ, ◌+◌, ◌-◌, ◌*◌, ◌/◌, ◌^◌, ◌<◌, ◌≤◌, Bool, true, false, not, cond, ◌==◌, if◌then◌else◌, zero, suc, List, [], ◌∷◌, ◌++◌, length, take, drop, get_or, map, refl, sym, ap, ap₂, ◌∙◌, inl, inr, arith, prefix_len, cases_lt, cases_eq, ne_eqb, append-nil, drop-take, drop-drop, get_or-take, get_or-drop, length-take-le, take_at, take-take, filter-append}
-use Rattle.sas_reader.proofs.Imports.{filter_more, prefix_len-le-length, prefix_len_passes, prefix_len_stops, leading_from_mask_l, trailing_mask_l, take-append-add}
+use Rattle.sas_reader.proofs.Imports.{◌≡◌, ℕ, ◌+◌, ◌-◌, ◌*◌, ◌/◌, ◌^◌, ◌<◌, ◌≤◌, Bool, true, false, not, cond, ◌==◌, if◌then◌else◌, zero, suc, List, [], ◌∷◌, ◌++◌, length, take, drop, get_or, map, refl, sym, ap, ap₂, ◌∙◌, inl, inr, arith, prefix_len, cases_lt, cases_eq, ne_eqb, append-nil, drop-take, drop-drop, get_or-take, get_or-drop, length-take-le, take_at, take-take, filter-append, without_returns, returns_in, CopiesSoFar, ReturnsEndLinesUpTo, filter_more, prefix_len-le-length, prefix_len_passes, prefix_len_stops, leading_from_mask_l, trailing_mask_l, take-append-add}
 use Rattle.std.proofs.Common.{take-add}
 use Rattle.std.proofs.lemmas.List.{length-drop}
 use native.Mathlib.Nat.{pow-zero, pow-suc, mul_comm, zero-div, div-one, div-div-eq-div-mul}
 use lib.Lanes.{mask_l}
 use lib.Count.{count_trailing_zeros}
-use Rattle.sas_reader.specs.Returns.{without_returns, returns_in, CopiesSoFar, ReturnsEndLinesUpTo}
 
 abbrev is_return : ℕ → Bool
 is_return b = b == 13

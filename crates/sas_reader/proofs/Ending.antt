@@ -1,12 +1,6 @@
 -- Why a reader refuses the input at its end.
-use Rattle.sas_reader.proofs.Imports.{◌≡◌, ℕ, ◌+◌, List, refl, sym, ap, subst, ◌∙◌, arith, inl, inr, Option, Some, None}
-use Rattle.sas_reader.specs.declared.fault.Fault.{Fault}
-use Rattle.sas_reader.specs.declared.fault.Kind.{Kind}
+use Rattle.sas_reader.proofs.Imports.{◌≡◌, ℕ, ◌+◌, List, refl, sym, ap, subst, ◌∙◌, arith, inl, inr, Option, Some, None, Fault, Kind, Found, Reader, IsFoundOf, FaultIn, RefusedAtEnd}
 use Rattle.sas_reader.specs.declared.fault.Kind.TheVariants as kinds
-use Rattle.sas_reader.specs.declared.found.Found.{Found}
-use Rattle.sas_reader.specs.declared.reader.Reader.{Reader}
-use Rattle.sas_reader.specs.Found.{IsFoundOf}
-use Rattle.sas_reader.specs.Reader.{FaultIn, RefusedAtEnd}
 use Rattle.sas_reader.proofs.Standing.{accepted_of, fault_of}
 
 module _ {M : Type 0} (led_by : List (List ℕ) → M → Type 0) (ended : M → Type 0) (rejects : M → List ℕ → Kind → Type 0) (halted : M → List ℕ → Kind → M → Type 0) where

@@ -1,7 +1,5 @@
 -- All laws of a format with a grammar.
-use Rattle.sas_reader.specs.Format.{Format}
-use Rattle.sas_reader.specs.System.{Node, Grammar}
-use Rattle.sas_reader.specs.Laws.{Laws}
+use Rattle.sas_reader.proofs.Imports.{Format, Node, Grammar, Laws}
 use Rattle.sas_reader.proofs.Live.{fault_stays}
 use Rattle.sas_reader.proofs.Whole.{one_value, one_slot, no_slot_at_end, text_is_live, fault_is_dead, one_fault, one_reading, fault_is_no_text}
 use Rattle.sas_reader.proofs.Texts.{texts_are_ended_lines, text_is_read}

@@ -1,11 +1,5 @@
 -- Bytes that aren't live have a fault, and so reading any bytes has a result.
-use Rattle.sas_reader.proofs.Imports.{◌≡◌, ℕ, ◌+◌, ◌≤◌, ◌≢◌, Bool, List, [], ◌∷◌, ◌++◌, length, refl, sym, subst, ◌∙◌, append_assoc, arith, ◌⊎◌, inl, inr, length-append, Ok, Err, append-nil, eqb_tells, without_return, lines, unfinished}
-use Rattle.sas_reader.specs.declared.fault.Fault.{Fault}
-use Rattle.sas_reader.specs.declared.fault.Kind.{Kind}
-use Rattle.sas_reader.specs.declared.fault.Kind.TheVariants.{End, Trailing, TooLong}
-use Rattle.sas_reader.specs.Format.{Format, Live, FaultOf, EndOf}
-use Rattle.sas_reader.specs.System.{Node, ended, before, IsAllowed, OneLine, After, Grammar}
-use Rattle.sas_reader.specs.Laws.{FaultlessIsLive, SomeReading}
+use Rattle.sas_reader.proofs.Imports.{◌≡◌, ℕ, ◌+◌, ◌≤◌, ◌≢◌, Bool, List, [], ◌∷◌, ◌++◌, length, refl, sym, subst, ◌∙◌, append_assoc, arith, ◌⊎◌, inl, inr, length-append, Ok, Err, append-nil, eqb_tells, without_return, lines, unfinished, Fault, Kind, End, Trailing, TooLong, Format, Live, FaultOf, EndOf, Node, ended, before, IsAllowed, OneLine, After, Grammar, FaultlessIsLive, SomeReading}
 use Rattle.sas_reader.proofs.Live.{one_more, live, path_start, path_plain, path_line, fault_long, fault_done, fault_line, fault_stays}
 use Rattle.sas_reader.proofs.Paths.{Path}
 

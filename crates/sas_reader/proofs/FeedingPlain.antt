@@ -1,15 +1,7 @@
 -- What a reader took of a copy without CRs, and where it stopped, also holds for the bytes with
 -- CRs.
 use Rattle.std.proofs.lemmas.Grind.{common_steps}
-use Rattle.sas_reader.proofs.Imports.{◌≡◌, ◌≢◌, ℕ, ◌+◌, ◌-◌, ◌≤◌, Bool, true, false, not, cond, ◌==◌, List, [], ◌∷◌, ◌++◌, length, take, drop, get_or, refl, sym, ap, ap₂, subst, ◌∙◌, append_assoc, inl, inr, arith, length-append, Result, Ok, Err, cases_eq, take_at, take_all, drop_more, take-append-drop, filter-append, drop-append_seam, without_return, lines, unfinished, Progress, lines-append}
-use Rattle.sas_reader.proofs.Imports.{unfinished-append, unfinished-plain_all, lines-end}
-use Rattle.sas_reader.specs.declared.fault.Fault.{Fault}
-use Rattle.sas_reader.specs.declared.fault.Kind.{Kind}
-use Rattle.sas_reader.specs.declared.reader.Reader.{Reader}
-use Rattle.sas_reader.specs.declared.found.Found.{Found}
-use Rattle.sas_reader.specs.Found.{kept_bytes, IsFoundOf, behind_ends}
-use Rattle.sas_reader.specs.Reader.{Reached, Accepted, LineIsDue, full, over, rejected, FaultBehind, TookFront, Stopped, TakesFrontOrStops}
-use Rattle.sas_reader.specs.Returns.{without_returns}
+use Rattle.sas_reader.proofs.Imports.{◌≡◌, ◌≢◌, ℕ, ◌+◌, ◌-◌, ◌≤◌, Bool, true, false, not, cond, ◌==◌, List, [], ◌∷◌, ◌++◌, length, take, drop, get_or, refl, sym, ap, ap₂, subst, ◌∙◌, append_assoc, inl, inr, arith, length-append, Result, Ok, Err, cases_eq, take_at, take_all, drop_more, take-append-drop, filter-append, drop-append_seam, without_return, lines, unfinished, Progress, lines-append, Fault, Kind, Reader, Found, kept_bytes, IsFoundOf, behind_ends, Reached, Accepted, LineIsDue, full, over, rejected, FaultBehind, TookFront, Stopped, TakesFrontOrStops, without_returns, unfinished-append, unfinished-plain_all, lines-end}
 use Rattle.sas_reader.proofs.BehindEnds.{behind_front, no_end-without, no_lf}
 use Rattle.sas_reader.proofs.WithLfAlone.{EachEnds, lines_behind, rest_behind, nothing, return, FrontOf, front_of}
 

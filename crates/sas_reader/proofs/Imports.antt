@@ -1,17 +1,12 @@
--- What the proofs use of other crates.
-pub use Rattle.std.proofs.Common.{◌≡◌, ◌≢◌, ℕ, List, [], ◌∷◌, ◌++◌, refl, sym, ap, ◌∙◌, append_assoc, ◌⊎◌, inl, inr, ◌+◌, ◌-◌, ◌≤◌, ◌<◌, Bool, true}
-pub use Rattle.std.proofs.Common.{false, not, length, take, drop, subst, arith, length-append, length-drop, Result, Ok, Err, ◌*◌, ◌/◌, ◌^◌, cond}
-pub use Rattle.std.proofs.Common.{◌==◌, if◌then◌else◌, zero, suc, get_or, map, ap₂, Option, Some, None, IsTrue, ◌&&◌, eqb, IfOk, IsErr, IsErrAnd}
-pub use Rattle.std.proofs.Common.{rules}
+-- What the proofs use of other crates, and of the definitions of this one.
+pub use Rattle.std.proofs.Common.{◌≡◌, ◌≢◌, ℕ, List, [], ◌∷◌, ◌++◌, refl, sym, ap, ◌∙◌, append_assoc, ◌⊎◌, inl, inr, ◌+◌, ◌-◌, ◌≤◌, ◌<◌, Bool, true, false, not, length, take, drop, subst, arith, length-append, length-drop, Result, Ok, Err, ◌*◌, ◌/◌, ◌^◌, cond, ◌==◌, if◌then◌else◌, zero, suc, get_or, map, ap₂, Option, Some, None, IsTrue, ◌&&◌, eqb, IfOk, IsErr, IsErrAnd, rules}
 pub use Rattle.std.proofs.KnownBytes.{Consumes-nil, Consumes-trans, Consumes-kept}
 pub use Rattle.std.proofs.Math.Dec.{ltb}
 pub use Rattle.std.proofs.Math.Nat.{min_comm}
 pub use Rattle.std.proofs.Math.Seq.{take-add, take-append-add, drop-append_seam}
 pub use Rattle.std.proofs.lemmas.Bool.{cases_eq, ne_eqb, cases_lt, lt-ltb, ltb-true, eq-eqb, eqb-true, eqb-false, false≢true}
 pub use Rattle.std.proofs.lemmas.Bool.Decides.{eqb_tells}
-pub use Rattle.std.proofs.lemmas.List.{append-nil, length-take, take_all, take-append-drop, drop-take, drop-drop, get_or-take, get_or-drop}
-pub use Rattle.std.proofs.lemmas.List.{length-take-le, take_at, take-take, drop_more, take-append-le, length_push, nil_from_length}
-pub use Rattle.std.proofs.lemmas.List.{append_cancel_left, take_min}
+pub use Rattle.std.proofs.lemmas.List.{append-nil, length-take, take_all, take-append-drop, drop-take, drop-drop, get_or-take, get_or-drop, length-take-le, take_at, take-take, drop_more, take-append-le, length_push, nil_from_length, append_cancel_left, take_min}
 pub use Rattle.std.proofs.lemmas.List.Elements.{filter-append, filter_more}
 pub use Rattle.std.proofs.lemmas.List.Sums.{prefix_len-le-length, prefix_len_passes, prefix_len_stops}
 pub use Rattle.std.proofs.lemmas.Simd.{leading_from_mask_l, trailing_mask_l, length-chunk, take_more_put_chunk, bitmask_splat}
@@ -21,9 +16,7 @@ pub use Rattle.std.specs.List.{prefix_len, list_all, AllByRecursion}
 pub use Rattle.std.specs.Result.{OnOk, IfErr}
 pub use Rattle.sas_core.specs.Names.{is_plain, IsName}
 pub use Rattle.sas_lines.proofs.EndedLines.{ended_lines}
-pub use Rattle.sas_lines.proofs.Splitting.{lines-append, unfinished-append, lines-few, lines-none, lines-one, unfinished-one, unfinished-without}
-pub use Rattle.sas_lines.proofs.Splitting.{unfinished-plain_all, lines-end, unfinished-none, lines-plain, unfinished-plain, unfinished-end}
-pub use Rattle.sas_lines.proofs.Splitting.{lines-part, lines-without, Plain}
+pub use Rattle.sas_lines.proofs.Splitting.{lines-append, unfinished-append, lines-few, lines-none, lines-one, unfinished-one, unfinished-without, unfinished-plain_all, lines-end, unfinished-none, lines-plain, unfinished-plain, unfinished-end, lines-part, lines-without, Plain}
 pub use Rattle.sas_lines.proofs.Words.{Without-decimal}
 pub use Rattle.sas_lines.specs.Device.{Device}
 pub use Rattle.sas_lines.specs.FirstLines.{TakesLine, LineStandsFirst, LinesStandFirst}
@@ -31,3 +24,25 @@ pub use Rattle.sas_lines.specs.Lines.{without_return, NoEnd, text, EndedLines}
 unfoldable pub use Rattle.sas_lines.specs.Lines.{lines, unfinished}
 pub use Rattle.sas_lines.specs.Parts.{Without}
 pub use Rattle.sas_lines.specs.Progress.{Progress, completed}
+pub use Rattle.sas_reader.specs.About.{IsAbout, of_line, of_byte, of_end, ConcernsText, AboutLaws}
+pub use Rattle.sas_reader.specs.Devices.{Refuses, unread_at, ended_at, faulty_at, ReadsAll}
+pub use Rattle.sas_reader.specs.Faults.{IsOfBytes, answer}
+pub use Rattle.sas_reader.specs.Format.{Format, KindAt, too_long, trailing, wrong, FaultOf, EndOf, Live, MoreIsDue, ReadsAs, IsBegun, Next}
+pub use Rattle.sas_reader.specs.Found.{IsFoundOf, behind_ends, kept_bytes}
+pub use Rattle.sas_reader.specs.Laws.{Laws, FaultlessIsLive, SomeReading, TextsAreEndedLines, TextIsRead, OneValue, OneSlot, NoSlotAtEnd, FaultIsDead, OneFault, TextIsLive, FaultIsNoText, OneReading}
+pub use Rattle.sas_reader.specs.Limit.{most_bytes}
+pub use Rattle.sas_reader.specs.Machine.{IsFront}
+pub use Rattle.sas_reader.specs.Reader.{Reached, Accepted, LineIsDue, FaultBehind, TookFront, Stopped, TakesFrontOrStops, Stops, full, over, rejected, FaultIn, EndsEarly, IsRefused, ReadFails, unread, early, faulty, RefusedAtEnd, TakesPiece, FeedsMachine, StandsAt, ReachesEnd}
+pub use Rattle.sas_reader.specs.Reading.{View, Feeds}
+pub use Rattle.sas_reader.specs.Refusals.{ExplainsRefusal, ReadsOrExplains, StandsBehind, behind_line, behind_text, at_end}
+pub use Rattle.sas_reader.specs.Returns.{without_returns, returns_in, CopiesSoFar, ReturnsEndLinesUpTo, ReturnsEndLines}
+pub use Rattle.sas_reader.specs.System.{Node, Grammar, ended, Rejects, Leads, before, IsAllowed, OneLine, After, LeadsToEnd, IsRejected, IsPlain}
+pub use Rattle.sas_reader.specs.Texts.{Reads, lines_of}
+pub use Rattle.sas_reader.specs.declared.fault.Fault.{Fault}
+pub use Rattle.sas_reader.specs.declared.fault.Kind.{Kind}
+pub use Rattle.sas_reader.specs.declared.fault.Kind.TheVariants.{End, Trailing, TooLong}
+pub use Rattle.sas_reader.specs.declared.found.Found.{Found}
+pub use Rattle.sas_reader.specs.declared.reader.Front.{Front}
+pub use Rattle.sas_reader.specs.declared.reader.Reader.{Reader}
+pub use Rattle.sas_reader.specs.declared.reader.Refused.{Refused}
+unfoldable pub use Rattle.sas_reader.specs.Reader.{Stands}

@@ -1,6 +1,5 @@
 -- The part of a text that is kept.
-use Rattle.sas_reader.proofs.Imports.{refl, ap, ◌∙◌, arith, ◌≡◌, take, ℕ, length, List, ◌++◌, ltb, lt-ltb, ltb-true, take_at, length-take}
-use Rattle.sas_reader.specs.Found.{IsFoundOf}
+use Rattle.sas_reader.proofs.Imports.{refl, ap, ◌∙◌, arith, ◌≡◌, take, ℕ, length, List, ◌++◌, ltb, lt-ltb, ltb-true, take_at, length-take, IsFoundOf}
 
 pub kept : (t new rest : List ℕ) (m : ℕ) → take m t ≡ take 64 t → new ≡ take m t → IsFoundOf t (record { bytes = new ++ rest; count = length (take m t); more = ltb (length (take m t)) (length t) })
 kept t new rest m same is =

@@ -1,10 +1,6 @@
 -- Inputs whose bytes are known: the bytes read are all of them, or the first of them.
-use Rattle.sas_reader.proofs.Imports.{◌≡◌, ◌≢◌, ℕ, List, ◌++◌, sym, ap, subst, ◌∙◌, inl, inr, Ok, Err, Option, Some, None, Consumes, IsAtEnd, append-nil, Device}
-use Rattle.sas_reader.specs.declared.fault.Fault.{Fault}
+use Rattle.sas_reader.proofs.Imports.{◌≡◌, ◌≢◌, ℕ, List, ◌++◌, sym, ap, subst, ◌∙◌, inl, inr, Ok, Err, Option, Some, None, Consumes, IsAtEnd, append-nil, Device, Fault, Refuses, unread_at, ended_at, faulty_at, ReadsAll, Format, FaultOf, EndOf, ReadsAs, most_bytes}
 use Rattle.sas_reader.specs.declared.fault.Kind.TheVariants as kinds
-use Rattle.sas_reader.specs.Devices.{Refuses, unread_at, ended_at, faulty_at, ReadsAll}
-use Rattle.sas_reader.specs.Format.{Format, FaultOf, EndOf, ReadsAs}
-use Rattle.sas_reader.specs.Limit.{most_bytes}
 use Rattle.sas_reader.proofs.Live.{fault_stays}
 
 -- the bytes read are the first of them

@@ -1,13 +1,6 @@
 -- Inputs whose bytes are known: a refusal explains the fault of all their bytes.
-use Rattle.sas_reader.proofs.Imports.{◌≡◌, ◌≢◌, ℕ, List, subst, Err, Option, Some, Consumes, IsAtEnd, Device}
-use Rattle.sas_reader.specs.declared.fault.Fault.{Fault}
+use Rattle.sas_reader.proofs.Imports.{◌≡◌, ◌≢◌, ℕ, List, subst, Err, Option, Some, Consumes, IsAtEnd, Device, Fault, Found, Refuses, unread_at, ended_at, faulty_at, Format, most_bytes, ConcernsText, IsAbout, AboutLaws, ExplainsRefusal, ReadsOrExplains}
 use Rattle.sas_reader.specs.declared.fault.Kind.TheVariants as kinds
-use Rattle.sas_reader.specs.declared.found.Found.{Found}
-use Rattle.sas_reader.specs.Devices.{Refuses, unread_at, ended_at, faulty_at}
-use Rattle.sas_reader.specs.Format.{Format}
-use Rattle.sas_reader.specs.Limit.{most_bytes}
-use Rattle.sas_reader.specs.About.{ConcernsText, IsAbout, AboutLaws}
-use Rattle.sas_reader.specs.Refusals.{ExplainsRefusal, ReadsOrExplains}
 use Rattle.sas_reader.proofs.Known.{front_read, all_read}
 
 known_about : {V I S : Type 0} (F : Format V I S) → AboutLaws F → (known new : Option (List ℕ)) (input bytes : List ℕ) (f : Fault) (a : List (List ℕ)) (t : List ℕ) → known ≡ Some input → Consumes known new bytes → Refuses F bytes (IsAtEnd new) f → f.kind ≢ kinds.Read → IsAbout F most_bytes bytes f a t → IsAbout F most_bytes input f a t

@@ -1,11 +1,5 @@
 -- What a path through the states implies for the bytes, for any format with a grammar.
-use Rattle.sas_reader.proofs.Imports.{◌≡◌, ℕ, ◌+◌, ◌≤◌, ◌≢◌, Bool, List, [], ◌∷◌, ◌++◌, length, map, refl, sym, ap, subst, ◌∙◌, append_assoc, arith, inl, inr, length-append, append-nil, eqb_tells, without_return, lines, unfinished, lines-none, unfinished-none, lines-plain, unfinished-plain, lines-end, unfinished-end}
-use Rattle.sas_reader.specs.declared.fault.Fault.{Fault}
-use Rattle.sas_reader.specs.declared.fault.Kind.{Kind}
-use Rattle.sas_reader.specs.declared.fault.Kind.TheVariants.{End, Trailing, TooLong}
-use Rattle.sas_reader.specs.Texts.{lines_of, Reads}
-use Rattle.sas_reader.specs.Format.{Format, IsBegun, Live, Next, too_long, trailing, wrong, FaultOf, EndOf}
-use Rattle.sas_reader.specs.System.{Node, ended, before, OneLine, After, LeadsToEnd, IsRejected, Rejects, Leads, Grammar}
+use Rattle.sas_reader.proofs.Imports.{◌≡◌, ℕ, ◌+◌, ◌≤◌, ◌≢◌, Bool, List, [], ◌∷◌, ◌++◌, length, map, refl, sym, ap, subst, ◌∙◌, append_assoc, arith, inl, inr, length-append, append-nil, eqb_tells, without_return, lines, unfinished, lines-none, unfinished-none, lines-plain, unfinished-plain, lines-end, unfinished-end, Fault, Kind, End, Trailing, TooLong, lines_of, Reads, Format, IsBegun, Live, Next, too_long, trailing, wrong, FaultOf, EndOf, Node, ended, before, OneLine, After, LeadsToEnd, IsRejected, Rejects, Leads, Grammar}
 use Rattle.sas_reader.proofs.Paths.{Path, cut_at, map-append, ended_stops, after_append, after_ends, ends_split, ends_after, same_path}
 
 -- one more byte

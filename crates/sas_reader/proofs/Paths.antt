@@ -1,7 +1,5 @@
 -- The same lines lead to one state.
-use Rattle.sas_reader.proofs.Imports.{◌≡◌, ℕ, Bool, List, [], ◌∷◌, ◌++◌, map, refl, sym, ap, subst, ◌∙◌, lines, unfinished}
-use Rattle.sas_reader.specs.Format.{Format}
-use Rattle.sas_reader.specs.System.{Node, ended, before, IsAllowed, OneLine, After, LeadsToEnd, Leads, Grammar}
+use Rattle.sas_reader.proofs.Imports.{◌≡◌, ℕ, Bool, List, [], ◌∷◌, ◌++◌, map, refl, sym, ap, subst, ◌∙◌, lines, unfinished, Format, Node, ended, before, IsAllowed, OneLine, After, LeadsToEnd, Leads, Grammar}
 
 -- ---- the lines of a list, cut after a prefix
 

@@ -1,13 +1,7 @@
 -- One line of a piece, or a part of one.
 use Rattle.std.proofs.lemmas.Grind.{common_steps}
-use Rattle.sas_reader.proofs.Imports.{◌≡◌, ℕ, ◌+◌, ◌<◌, ◌≤◌, Bool, true, false, List, [], ◌∷◌, ◌++◌, length, take, drop, refl, sym, ap, subst, ◌∙◌, append_assoc, arith, length-append, length-drop, append-nil, length-take, take-append-drop, take-append-le, take-add, take-append-add, without_return, lines, unfinished, NoEnd, TakesLine, completed, lines-none, unfinished-none, lines-append}
-use Rattle.sas_reader.proofs.Imports.{unfinished-append, lines-part, lines-end, unfinished-plain_all, lines-without}
-use Rattle.sas_reader.specs.declared.fault.Fault.{Fault}
-use Rattle.sas_reader.specs.declared.fault.Kind.{Kind}
+use Rattle.sas_reader.proofs.Imports.{◌≡◌, ℕ, ◌+◌, ◌<◌, ◌≤◌, Bool, true, false, List, [], ◌∷◌, ◌++◌, length, take, drop, refl, sym, ap, subst, ◌∙◌, append_assoc, arith, length-append, length-drop, append-nil, length-take, take-append-drop, take-append-le, take-add, take-append-add, without_return, lines, unfinished, NoEnd, TakesLine, completed, lines-none, unfinished-none, lines-append, Fault, Kind, Found, IsFoundOf, Reached, LineIsDue, Stops, full, over, rejected, FaultBehind, unfinished-append, lines-part, lines-end, unfinished-plain_all, lines-without}
 use Rattle.sas_reader.specs.declared.fault.Kind.TheVariants as kinds
-use Rattle.sas_reader.specs.declared.found.Found.{Found}
-use Rattle.sas_reader.specs.Found.{IsFoundOf}
-use Rattle.sas_reader.specs.Reader.{Reached, LineIsDue, Stops, full, over, rejected, FaultBehind}
 
 -- ---- a prefix of a piece
 

@@ -1,7 +1,6 @@
 -- Bytes without LF and CR.
 use Rattle.std.proofs.lemmas.Grind.{common_steps}
-use Rattle.sas_reader.proofs.Imports.{◌≡◌, ◌≢◌, ℕ, ◌+◌, Bool, true, false, List, [], ◌∷◌, ◌++◌, take, refl, sym, ap, ◌∙◌, append_assoc, arith, IsTrue, not, ◌==◌, ◌&&◌, length, list_all, decimal, eq-eqb, ne_eqb, take_at, length_push, is_plain, IsName, Without, NoEnd, without_return, lines, unfinished, LineStandsFirst, Without-decimal, Plain, lines-one, unfinished-one}
-use Rattle.sas_reader.specs.System.{IsPlain}
+use Rattle.sas_reader.proofs.Imports.{◌≡◌, ◌≢◌, ℕ, ◌+◌, Bool, true, false, List, [], ◌∷◌, ◌++◌, take, refl, sym, ap, ◌∙◌, append_assoc, arith, IsTrue, not, ◌==◌, ◌&&◌, length, list_all, decimal, eq-eqb, ne_eqb, take_at, length_push, is_plain, IsName, Without, NoEnd, without_return, lines, unfinished, LineStandsFirst, Without-decimal, Plain, lines-one, unfinished-one, IsPlain}
 
 -- ---- the digits of a number
 

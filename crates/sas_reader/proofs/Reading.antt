@@ -1,17 +1,6 @@
 -- The promises of a reader whose machine follows a grammar, in terms of the format.
-use Rattle.sas_reader.proofs.Imports.{◌≡◌, ◌≢◌, ℕ, ◌≤◌, List, ◌++◌, length, refl, sym, ap, subst, Option, Some, None, Result, Ok, Err, arith, OnOk, IfErr, Device}
-use Rattle.sas_reader.specs.declared.fault.Fault.{Fault}
-use Rattle.sas_reader.specs.declared.fault.Kind.{Kind}
+use Rattle.sas_reader.proofs.Imports.{◌≡◌, ◌≢◌, ℕ, ◌≤◌, List, ◌++◌, length, refl, sym, ap, subst, Option, Some, None, Result, Ok, Err, arith, OnOk, IfErr, Device, Fault, Kind, Reader, ReadsAll, answer, Format, Live, FaultOf, ReadsAs, most_bytes, Refused, Reached, Stands, TakesPiece, RefusedAtEnd, FeedsMachine, View, Feeds, Node, Grammar}
 use Rattle.sas_reader.specs.declared.fault.Kind.TheVariants as kinds
-use Rattle.sas_reader.specs.declared.reader.Reader.{Reader}
-use Rattle.sas_reader.specs.Devices.{ReadsAll}
-use Rattle.sas_reader.specs.Faults.{answer}
-use Rattle.sas_reader.specs.Format.{Format, Live, FaultOf, ReadsAs}
-use Rattle.sas_reader.specs.Limit.{most_bytes}
-use Rattle.sas_reader.specs.declared.reader.Refused.{Refused}
-use Rattle.sas_reader.specs.Reader.{Reached, Stands, TakesPiece, RefusedAtEnd, FeedsMachine}
-use Rattle.sas_reader.specs.Reading.{View, Feeds}
-use Rattle.sas_reader.specs.System.{Node, Grammar}
 use Rattle.sas_reader.proofs.Conversion.{Follows, fault_of_format, live_of_format, refusal, device_refusal, more_is_due}
 use Rattle.sas_reader.proofs.Standing.{accepted_of, fault_of}
 

@@ -1,17 +1,5 @@
 -- What a refusal explains, for a machine that follows a grammar.
-use Rattle.sas_reader.proofs.Imports.{◌≡◌, ℕ, ◌≤◌, List, [], ◌∷◌, ◌++◌, length, refl, sym, ap, subst, ◌∙◌, arith, inl, inr, Option, Ok, Err, IsAtEnd, Device, without_return, lines, unfinished, lines-end}
-use Rattle.sas_reader.specs.declared.fault.Fault.{Fault}
-use Rattle.sas_reader.specs.declared.fault.Kind.{Kind}
-use Rattle.sas_reader.specs.declared.found.Found.{Found}
-use Rattle.sas_reader.specs.declared.reader.Refused.{Refused}
-use Rattle.sas_reader.specs.About.{ConcernsText, IsAbout, of_line, of_byte, of_end}
-use Rattle.sas_reader.specs.Devices.{Refuses, ReadsAll}
-use Rattle.sas_reader.specs.Format.{Format, Live, trailing, wrong, FaultOf}
-use Rattle.sas_reader.specs.Found.{IsFoundOf}
-use Rattle.sas_reader.specs.Limit.{most_bytes}
-use Rattle.sas_reader.specs.Reader.{Reached, Stops, full, over, rejected, FaultIn, EndsEarly, IsRefused, ReadFails, unread, early, faulty, FeedsMachine}
-use Rattle.sas_reader.specs.Refusals.{ExplainsRefusal, ReadsOrExplains, StandsBehind, behind_line, behind_text, at_end}
-use Rattle.sas_reader.specs.System.{Node, Grammar}
+use Rattle.sas_reader.proofs.Imports.{◌≡◌, ℕ, ◌≤◌, List, [], ◌∷◌, ◌++◌, length, refl, sym, ap, subst, ◌∙◌, arith, inl, inr, Option, Ok, Err, IsAtEnd, Device, without_return, lines, unfinished, lines-end, Fault, Kind, Found, Refused, ConcernsText, IsAbout, of_line, of_byte, of_end, Refuses, ReadsAll, Format, Live, trailing, wrong, FaultOf, IsFoundOf, most_bytes, Reached, Stops, full, over, rejected, FaultIn, EndsEarly, IsRefused, ReadFails, unread, early, faulty, FeedsMachine, ExplainsRefusal, ReadsOrExplains, StandsBehind, behind_line, behind_text, at_end, Node, Grammar}
 use Rattle.sas_reader.proofs.Conversion.{Follows, At, at, path_of, end_of_format, device_refusal}
 use Rattle.sas_reader.proofs.Live.{live, done_dead, line_dead, rejected_as, next_slot, reads_done}
 use Rattle.sas_reader.proofs.Reading.{reads_all, refuses_all}

@@ -1,9 +1,6 @@
 -- The results of a reader's tests, and of its calls that fail.
-use Rattle.sas_reader.proofs.Imports.{◌≡◌, ℕ, ◌<◌, ◌∙◌, Bool, true, false, List, [], length, eqb, sym, ap, subst, arith, Result, Ok, Err, IfOk, IsErr, IsErrAnd, eqb-true, eqb-false, false≢true, nil_from_length, append-nil, Progress}
-use Rattle.sas_reader.specs.declared.fault.Kind.{Kind}
+use Rattle.sas_reader.proofs.Imports.{◌≡◌, ℕ, ◌<◌, ◌∙◌, Bool, true, false, List, [], length, eqb, sym, ap, subst, arith, Result, Ok, Err, IfOk, IsErr, IsErrAnd, eqb-true, eqb-false, false≢true, nil_from_length, append-nil, Progress, Kind, Reader, Reached, Accepted, TookFront, TakesFrontOrStops}
 use Rattle.sas_reader.specs.declared.fault.Kind.TheVariants as kinds
-use Rattle.sas_reader.specs.declared.reader.Reader.{Reader}
-use Rattle.sas_reader.specs.Reader.{Reached, Accepted, TookFront, TakesFrontOrStops}
 use Rattle.sas_reader.proofs.Advancing.{stopped_memory}
 
 -- a list that was tested for emptiness

@@ -1,9 +1,5 @@
 -- The texts of a value are its lines, each with a line end.
-use Rattle.sas_reader.proofs.Imports.{◌≡◌, ◌≢◌, ℕ, List, [], ◌∷◌, ◌++◌, refl, sym, ap, subst, ◌∙◌, append_assoc, ◌⊎◌, inl, inr, arith, AllByRecursion, ne_eqb, without_return, lines, unfinished, text, NoEnd, EndedLines, ended_lines, lines-none, unfinished-none, lines-append, unfinished-append, lines-one, unfinished-one}
-use Rattle.sas_reader.specs.Texts.{lines_of, Reads}
-use Rattle.sas_reader.specs.Format.{Format}
-use Rattle.sas_reader.specs.System.{Node, Grammar, IsPlain}
-use Rattle.sas_reader.specs.Laws.{TextsAreEndedLines, TextIsRead}
+use Rattle.sas_reader.proofs.Imports.{◌≡◌, ◌≢◌, ℕ, List, [], ◌∷◌, ◌++◌, refl, sym, ap, subst, ◌∙◌, append_assoc, ◌⊎◌, inl, inr, arith, AllByRecursion, ne_eqb, without_return, lines, unfinished, text, NoEnd, EndedLines, ended_lines, lines-none, unfinished-none, lines-append, unfinished-append, lines-one, unfinished-one, lines_of, Reads, Format, Node, Grammar, IsPlain, TextsAreEndedLines, TextIsRead}
 
 -- ---- from lines with their ends to bytes
 

@@ -1,13 +1,6 @@
 -- The laws of any format with a grammar.
 use Rattle.std.proofs.lemmas.Grind.{common_steps}
-use Rattle.sas_reader.proofs.Imports.{◌≡◌, ◌≢◌, ℕ, ◌+◌, ◌≤◌, List, [], ◌∷◌, ◌++◌, length, map, refl, sym, ap, subst, ◌∙◌, append_assoc, arith, ◌⊎◌, inl, inr, length-append, Ok, Err, append-nil, append_cancel_left, eqb_tells, without_return, lines, unfinished, lines-plain, unfinished-plain, lines-end}
-use Rattle.sas_reader.specs.declared.fault.Fault.{Fault}
-use Rattle.sas_reader.specs.declared.fault.Kind.{Kind}
-use Rattle.sas_reader.specs.declared.fault.Kind.TheVariants.{TooLong}
-use Rattle.sas_reader.specs.Texts.{lines_of, Reads}
-use Rattle.sas_reader.specs.Format.{Format, Live, Next, KindAt, too_long, trailing, wrong, FaultOf, EndOf}
-use Rattle.sas_reader.specs.System.{Node, ended, After, LeadsToEnd, Grammar}
-use Rattle.sas_reader.specs.Laws.{OneValue, OneSlot, NoSlotAtEnd, FaultIsDead, OneFault, TextIsLive, FaultIsNoText, OneReading}
+use Rattle.sas_reader.proofs.Imports.{◌≡◌, ◌≢◌, ℕ, ◌+◌, ◌≤◌, List, [], ◌∷◌, ◌++◌, length, map, refl, sym, ap, subst, ◌∙◌, append_assoc, arith, ◌⊎◌, inl, inr, length-append, Ok, Err, append-nil, append_cancel_left, eqb_tells, lines, unfinished, lines-plain, unfinished-plain, lines-end, Fault, Kind, TooLong, lines_of, Reads, Format, Live, Next, KindAt, too_long, trailing, wrong, FaultOf, EndOf, Node, ended, After, LeadsToEnd, Grammar, OneValue, OneSlot, NoSlotAtEnd, FaultIsDead, OneFault, TextIsLive, FaultIsNoText, OneReading}
 use Rattle.sas_reader.proofs.Paths.{cut_at, ended_stops, same_path, ends_split, ends_after, slot_at, takes_at, one_ended}
 
 -- ---- how bytes can be extended: with more lines, or with a longer rest

@@ -1,8 +1,5 @@
 -- Bytes in which each CR is followed by LF have the same lines as the bytes without their CRs.
-use Rattle.std.proofs.lemmas.Grind.{common_steps}
-use Rattle.sas_reader.proofs.Imports.{◌≡◌, ◌≢◌, ℕ, ◌+◌, ◌<◌, suc, List, [], ◌∷◌, ◌++◌, length, drop, get_or, refl, sym, ap, ◌∙◌, append_assoc, inl, inr, arith, length-append, cases_eq, ne_eqb, lines, unfinished, lines-append, unfinished-append, lines-one, unfinished-one}
-use Rattle.sas_reader.specs.System.{IsPlain}
-use Rattle.sas_reader.specs.Returns.{without_returns, ReturnsEndLines}
+use Rattle.sas_reader.proofs.Imports.{◌≡◌, ◌≢◌, ℕ, ◌+◌, ◌<◌, suc, List, [], ◌∷◌, ◌++◌, length, drop, get_or, refl, sym, ap, ◌∙◌, append_assoc, inl, inr, arith, length-append, cases_eq, ne_eqb, lines, unfinished, lines-append, unfinished-append, lines-one, unfinished-one, IsPlain, without_returns, ReturnsEndLines}
 use Rattle.sas_reader.proofs.Plain.{plain, plain-append, lines-return, unfinished-return}
 
 -- each CR is followed by LF, byte by byte

@@ -1,6 +1,5 @@
 -- What is read from a device: a result for its bytes, or why there is none.
-use Rattle.std.specs.Prelude.{◌≡◌, ◌≢◌, ◌↔◌, ℕ, ◌+◌, List, ◌++◌, length}
-use Rattle.std.specs.Prelude.{Option, Result, Ok, IfOk, IfErr, IsErrAnd, IsTrue}
+use Rattle.std.specs.Prelude.{◌≡◌, ◌≢◌, ◌↔◌, ℕ, ◌+◌, List, ◌++◌, length, Option, Result, Ok, IfOk, IfErr, IsErrAnd, IsTrue}
 use Rattle.std.specs.Io.KnownBytes.{Consumes, IsAtEnd}
 use Rattle.sas_lines.specs.Device.{Device}
 use Rattle.sas_lines.specs.Lines.{lines, text}

@@ -1,7 +1,6 @@
 -- What a refusal has besides its fault: the text at the fault, the state of the machine after it,
 -- and what follows from both.
-use Rattle.std.specs.Prelude.{◌≡◌, ℕ, List}
-use Rattle.std.specs.Prelude.{Option, Result, Ok, Err, IfErr}
+use Rattle.std.specs.Prelude.{◌≡◌, ℕ, List, Option, Result, Ok, Err, IfErr}
 use Rattle.std.specs.Io.KnownBytes.{IsAtEnd}
 use Rattle.sas_lines.specs.Device.{Device}
 use Rattle.sas_reader.specs.declared.fault.Fault.{Fault}

@@ -1,11 +1,8 @@
 -- The rules that concern a fact that doesn't hold. A fact has exactly one cause.
 use Rattle.std.proofs.Common.{arith}
 use Rattle.std.proofs.lemmas.Grind.{common_steps}
-use Rattle.sas_reasons.proofs.Imports.{◌≡◌, ℕ, ◌<◌, Bool, true, false, List, [], ◌∷◌, ◌++◌, length, get_or, slice_index, Some, refl, sym, ◌∙◌, ap, subst, inl, inr, ◌==◌, ◌&&◌, is_some, find, map, false≢true, and_parts, eqb-true, not-true, eqb-false, eqb_tells, Decides-eqb, Decides-not, All-nil, All-cons, Any-from_list_any, Fact, Rule, Parts, rule_at, Holds, AllHold, IsOnLayer, default_of, CanFire}
-use Rattle.sas_reasons.proofs.Imports.{can_fire, IsLayered, new_value_of, differs, IsSettled, hold_or_not, layer_cases, new_value_is, differs_decides, differs_not, can_give, Line, Run, last_state}
+use Rattle.sas_reasons.proofs.Imports.{◌≡◌, ℕ, ◌<◌, Bool, true, false, List, [], ◌∷◌, ◌++◌, length, get_or, slice_index, Some, refl, sym, ◌∙◌, ap, subst, inl, inr, ◌==◌, ◌&&◌, find, map, false≢true, and_parts, eqb-true, not-true, eqb-false, eqb_tells, Decides-eqb, Decides-not, All-nil, All-cons, Any-from_list_any, Fact, Rule, Parts, rule_at, Holds, AllHold, IsOnLayer, default_of, CanFire, fails, is_derived, is_given, AreDerivationLines, since_line, missing_lines, IsCause, DefaultIfNotGiven, EachRuleFails, can_fire, IsLayered, new_value_of, differs, IsSettled, hold_or_not, layer_cases, new_value_is, differs_decides, differs_not, can_give, Line, Run, last_state}
 use Rattle.sas_output.specs.declared.line.Line.TheVariants as line
-use Rattle.sas_reasons.specs.Cause.{fails, is_derived, is_given, AreDerivationLines, since_line, missing_lines, IsCause}
-use Rattle.sas_reasons.specs.Laws.{DefaultIfNotGiven, EachRuleFails}
 use Rattle.sas_reasons.proofs.Derivation.{value_is}
 use Rattle.sas_reasons.proofs.Listing.{some_derivation}
 use Rattle.sas_reasons.proofs.Sorting.{one_derivation}

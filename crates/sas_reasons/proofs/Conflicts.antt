@@ -1,9 +1,7 @@
 -- Effects that fire agree, or two of them conflict. The reported pair is unique.
 use Rattle.std.proofs.Common.{rules}
 use Rattle.std.proofs.lemmas.Grind.{common_steps}
-use Rattle.sas_reasons.proofs.Imports.{◌≡◌, ℕ, ◌<◌, ◌⊎◌, List, [], length, get_or, None, slice_index, sym, ap, subst, inl, inr, arith, cases_eq, cases_lt, cases_order, get_or_default, Effect, Operator, effect_at, Fires, Agree, hold_or_not}
-use Rattle.sas_reasons.specs.WhyPlan.{ConflictsWith}
-use Rattle.sas_reasons.specs.Laws.{SomeConflict, OneConflict}
+use Rattle.sas_reasons.proofs.Imports.{◌≡◌, ℕ, ◌<◌, ◌⊎◌, List, [], length, None, slice_index, inl, inr, arith, cases_eq, cases_lt, cases_order, get_or_default, Effect, Operator, effect_at, Fires, Agree, hold_or_not, ConflictsWith, SomeConflict, OneConflict}
 use Rattle.sas_reasons.proofs.Lowest.{are_lowest_one, some_are_lowest}
 
 module _ (s : List ℕ) (o : Operator) where

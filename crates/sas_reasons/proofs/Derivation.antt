@@ -1,11 +1,7 @@
 -- What gives the derived variables their values, and in what order.
 use Rattle.std.proofs.Common.{rules}
 use Rattle.std.proofs.lemmas.Grind.{common_steps}
-use Rattle.sas_reasons.proofs.Imports.{◌≡◌, ◌≢◌, ℕ, zero, suc, ◌+◌, ◌<◌, ◌≤◌, ◌⊎◌, true, false, cond, List, length, get_or, None, refl, sym, ◌∙◌, ap, subst, inl, inr, arith, is_some, All, cases_eq, cases_lt, cases_Bool, false≢true, All-contains, Fact, Parts, rule_at, layer_of, AllHold, IsBasic, IsOnLayer, default_of, LooksDown, IsLayered, new_value_of, value_with, differs, IsSettled, layer_decides}
-use Rattle.sas_reasons.proofs.Imports.{layer_cases, given_on, given_off, one_layer, new_value_is, differs_decides, differs_true}
-use Rattle.sas_reasons.specs.Lowest.{IsLowest}
-use Rattle.sas_reasons.specs.Derivation.{fires_with, reached, IsRank, HasLayerAndRank, FiresNext, IsGivenBy, DependsOn, Itself, Below, IsLess, ComesBefore}
-use Rattle.sas_reasons.specs.Laws.{RankIfDiffers, OneRank, SomeGiver, OneGiver, GiverFires, RequiresLower, RequiresEarlier, GiverLooksDown, ItselfIsLast, NoCircle, AllDiffer}
+use Rattle.sas_reasons.proofs.Imports.{◌≡◌, ◌≢◌, ℕ, zero, suc, ◌+◌, ◌<◌, ◌≤◌, ◌⊎◌, true, cond, List, get_or, refl, sym, ◌∙◌, ap, subst, inl, inr, arith, All, cases_eq, cases_lt, cases_Bool, false≢true, All-contains, Fact, Parts, rule_at, AllHold, IsBasic, IsOnLayer, default_of, LooksDown, IsLayered, new_value_of, value_with, differs, IsSettled, layer_decides, IsLowest, reached, IsRank, HasLayerAndRank, FiresNext, IsGivenBy, DependsOn, Itself, Below, IsLess, ComesBefore, RankIfDiffers, OneRank, SomeGiver, OneGiver, GiverFires, RequiresLower, RequiresEarlier, GiverLooksDown, ItselfIsLast, NoCircle, AllDiffer, layer_cases, given_on, given_off, one_layer, new_value_is, differs_decides, differs_true}
 use Rattle.sas_reasons.proofs.Lowest.{lowest_is_one, lowest_below, lowest_from}
 use Rattle.sas_reasons.proofs.Rounds.{Fires, fires_decides, ReachedBy, reached_by, more_hold, reached_differs, differs_reached}
 

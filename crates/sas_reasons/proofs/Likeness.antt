@@ -1,9 +1,6 @@
 -- Folded names, and the operator with a similar name.
 use Rattle.std.proofs.lemmas.Grind.{common_steps}
-use Rattle.sas_reasons.proofs.Imports.{◌≡◌, ℕ, suc, ◌+◌, ◌<◌, ◌≤◌, Bool, false, cond, List, [], ◌∷◌, ◌++◌, map, length, bytes_eq, refl, sym, ◌∙◌, ap, subst, inl, inr, arith, Option, Some, None, ◌==◌, ◌&&◌, nat_lt, to_ascii_lowercase, list_all, position_or_len, true≢false, lt-ltb, ltb-true, cases_lt, cases_Bool, eqb_tells, leb_tells, Decides, fails_before_first, passes_at_first, bytes_eq-Decides}
-use Rattle.sas_reasons.proofs.Imports.{Operator, Parts, operator_at}
-use Rattle.sas_reasons.specs.MayMean.{trimmed, folded, similar_operator}
-use Rattle.sas_reasons.specs.Laws.{SpaceFolds, FoldsOnce, IsAlike, IsLowestIfAny}
+use Rattle.sas_reasons.proofs.Imports.{◌≡◌, ℕ, ◌<◌, Bool, List, [], ◌∷◌, ◌++◌, map, bytes_eq, refl, sym, ◌∙◌, ap, arith, Option, ◌==◌, ◌&&◌, to_ascii_lowercase, list_all, position_or_len, true≢false, lt-ltb, ltb-true, cases_lt, cases_Bool, Decides, fails_before_first, passes_at_first, bytes_eq-Decides, trimmed, folded, similar_operator, SpaceFolds, FoldsOnce, IsAlike, IsLowestIfAny, Operator, Parts, operator_at}
 use Rattle.sas_reasons.proofs.Lowest.{lowest_if_any_is_one}
 
 -- ---- folded names

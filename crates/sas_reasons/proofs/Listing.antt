@@ -2,10 +2,7 @@
 -- variables on which this rule rests, which come before it.
 use Rattle.std.proofs.Common.{rules}
 use Rattle.std.proofs.lemmas.Grind.{common_steps}
-use Rattle.sas_reasons.proofs.Imports.{◌≡◌, ◌≢◌, ℕ, zero, suc, ◌<◌, ◌⊎◌, List, [], ◌∷◌, ◌++◌, get_or, refl, sym, ◌∙◌, subst, inl, inr, arith, is_some, Contains, cases_eq, cases_Bool, false≢true, Contains-append_left, Contains-append_right, Contains-append_cases, Contains-get_or, Fact, Parts, rule_at, layer_of, IsDerived, default_of, IsLayered, IsSettled, contains_head, contains_tail}
-use Rattle.sas_reasons.proofs.Imports.{contains_cases, contains_none}
-use Rattle.sas_reasons.specs.Derivation.{HasLayerAndRank, IsGivenBy, DependsOn, InDerivation, Itself, Below, IsLess, ComesBefore, IsRuleOf, IsDerivation}
-use Rattle.sas_reasons.specs.Laws.{SomeDerivation}
+use Rattle.sas_reasons.proofs.Imports.{◌≡◌, ◌≢◌, ℕ, zero, suc, ◌<◌, ◌⊎◌, List, [], ◌∷◌, ◌++◌, get_or, refl, sym, subst, inl, inr, arith, Contains, cases_eq, cases_Bool, false≢true, Contains-append_left, Contains-append_right, Contains-append_cases, Contains-get_or, Fact, Parts, rule_at, IsDerived, default_of, IsLayered, IsSettled, contains_head, contains_tail, HasLayerAndRank, IsGivenBy, DependsOn, InDerivation, Itself, Below, ComesBefore, IsRuleOf, IsDerivation, SomeDerivation, contains_cases, contains_none}
 use Rattle.sas_reasons.proofs.Derivation.{stands_one, giver_at, giver_on, one_giver, rests_on_earlier, rank_if_differs}
 use Rattle.sas_reasons.proofs.Sorting.{Sorted, sorted}
 

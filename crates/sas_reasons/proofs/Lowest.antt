@@ -1,7 +1,5 @@
 -- The lowest number with a property is unique. It can be found if the property is decidable.
-use Rattle.sas_reasons.proofs.Imports.{◌≡◌, ℕ, zero, suc, ◌<◌, ◌⊎◌, Option, Some, None, refl, ap, subst, inl, inr, arith, cases_eq, cases_lt}
-use Rattle.sas_reasons.specs.Lowest.{IsLowest, AreLowest}
-use Rattle.sas_reasons.specs.Laws.{IsLowestIfAny}
+use Rattle.sas_reasons.proofs.Imports.{◌≡◌, ℕ, zero, suc, ◌<◌, ◌⊎◌, Option, Some, None, refl, ap, subst, inl, inr, arith, cases_eq, IsLowest, AreLowest, IsLowestIfAny}
 
 pub lowest_is_one : (Has : ℕ → Type 0) (a b : ℕ) → IsLowest Has a → IsLowest Has b → a ≡ b
 lowest_is_one Has a b x y = grind arith

@@ -1,7 +1,5 @@
 -- The first step that may mean another operator is unique, and so is this operator.
-use Rattle.sas_reasons.proofs.Imports.{ℕ, ◌+◌, ◌⊎◌, [], length, get_or, refl, sym, ◌∙◌, ap, inl, inr, arith, cases_lt, Parts, named_or_not, applicable_or_not, Run, state_at}
-use Rattle.sas_reasons.specs.MayMean.{IsOther}
-use Rattle.sas_reasons.specs.Laws.{SomeMayMean, OneMayMean}
+use Rattle.sas_reasons.proofs.Imports.{ℕ, ◌+◌, ◌⊎◌, [], length, get_or, refl, sym, ◌∙◌, ap, inl, inr, arith, cases_lt, Parts, named_or_not, applicable_or_not, Run, state_at, IsOther, SomeMayMean, OneMayMean}
 use Rattle.sas_reasons.proofs.Lowest.{are_lowest_one, some_are_lowest}
 
 module _ (p : Parts) (run : Run) where

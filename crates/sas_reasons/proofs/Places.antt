@@ -1,8 +1,6 @@
 -- The places of the items that pass a test, and what fails.
 use Rattle.std.proofs.lemmas.Grind.{common_steps}
-use Rattle.sas_reasons.proofs.Imports.{◌≡◌, ℕ, zero, suc, ◌+◌, not, List, [], ◌∷◌, slice_index, bytes_eq, ◌∙◌, ap, subst, inl, inr, arith, filter, Contains, eq-eqb, ne_eqb, eqb_tells, All-nil, All-cons, bytes_eq-Decides, Fact, Operator, operator_at, Holds, AllHold, preconditions, places_from, places, takes, passes_by, place_is, is_place, IsNamed, IsFirstMissed}
-use Rattle.sas_reasons.specs.Cause.{fails}
-use Rattle.sas_reasons.specs.Laws.{SomePreconditionFails, OperatorsHaveName, FirstGoalFact}
+use Rattle.sas_reasons.proofs.Imports.{◌≡◌, ℕ, zero, suc, ◌+◌, not, List, [], ◌∷◌, slice_index, bytes_eq, ◌∙◌, ap, subst, arith, filter, Contains, eq-eqb, ne_eqb, eqb_tells, All-nil, All-cons, bytes_eq-Decides, Fact, Operator, operator_at, Holds, AllHold, preconditions, places_from, places, takes, passes_by, place_is, is_place, IsNamed, IsFirstMissed, fails, SomePreconditionFails, OperatorsHaveName, FirstGoalFact}
 
 pub operators_have_name : OperatorsHaveName
 operators_have_name p name operator = (there, back)

@@ -1,9 +1,6 @@
 -- Removing repeated lines of rules: no line is lost, and no line of a rule remains twice.
 use Rattle.std.proofs.lemmas.Grind.{common_steps}
-use Rattle.sas_reasons.proofs.Imports.{◌≡◌, ◌≢◌, suc, ◌<◌, ◌⊎◌, Bool, true, false, List, [], ◌∷◌, ◌++◌, get_or, sym, ◌∙◌, ap, subst, inl, inr, arith, if◌then◌else◌, Contains, AllPairs, list_any, cases_Bool, false≢true, Contains-append_left, Contains-append_right, Contains-append_cases, Contains-get_or, Contains-push, Contains-push_cases, all_pairs_push, Any-from_list_any, list_any_at, contains_head, contains_tail}
-use Rattle.sas_reasons.proofs.Imports.{contains_cases, contains_none, Line, is_rule_line, is_same_rule_line, same_is, is_same}
-use Rattle.sas_reasons.specs.Lines.{with_line, with_lines}
-use Rattle.sas_reasons.specs.Laws.{NoneIsLost, RulesStandOnce}
+use Rattle.sas_reasons.proofs.Imports.{◌≡◌, ◌≢◌, ◌<◌, ◌⊎◌, Bool, true, false, List, [], ◌∷◌, ◌++◌, sym, ◌∙◌, ap, subst, inl, inr, arith, if◌then◌else◌, Contains, AllPairs, list_any, cases_Bool, false≢true, Contains-append_left, Contains-get_or, Contains-push, Contains-push_cases, all_pairs_push, Any-from_list_any, list_any_at, contains_head, contains_tail, with_line, with_lines, NoneIsLost, RulesStandOnce, contains_cases, contains_none, Line, is_rule_line, is_same_rule_line, same_is, is_same}
 
 -- whether the next line is left out
 abbrev pub is_among : List Line → Line → Bool

@@ -2,9 +2,7 @@
 -- contains exactly those that differ from their defaults.
 use Rattle.std.proofs.Common.{rules}
 use Rattle.std.proofs.lemmas.Grind.{common_steps}
-use Rattle.sas_reasons.proofs.Imports.{◌≡◌, ℕ, zero, suc, ◌+◌, ◌<◌, ◌≤◌, ◌⊎◌, Bool, true, false, cond, List, length, get_or, refl, sym, ◌∙◌, ap, subst, inl, inr, arith, ◌==◌, Decides, list_all, list_any, HoldsAt, cases_eq, cases_Bool, false≢true, and_from, and_parts, Decides-eqb, Decides-not, Decides-and, Decides-like, Decides-by_and, Decides-by_or, get_or_default, list_any_at, Fact, Rule, Parts}
-use Rattle.sas_reasons.proofs.Imports.{rule_at, Holds, AllHold, IsOnLayer, default_of, CanFire, can_fire, IsLayered, is_on_layer, new_value_of, value_with, IsClosed, differs, IsSettledAt, layer_decides, given_on, given_off, on_layer_within, can_give}
-use Rattle.sas_reasons.specs.Derivation.{fires_with, reached}
+use Rattle.sas_reasons.proofs.Imports.{◌≡◌, ℕ, zero, suc, ◌+◌, ◌<◌, ◌≤◌, ◌⊎◌, Bool, true, cond, List, length, get_or, refl, sym, ◌∙◌, ap, subst, inl, inr, arith, ◌==◌, Decides, list_all, list_any, HoldsAt, cases_Bool, false≢true, and_from, and_parts, Decides-eqb, Decides-not, Decides-and, Decides-like, Decides-by_and, Decides-by_or, get_or_default, list_any_at, Fact, Rule, Parts, fires_with, reached, rule_at, Holds, AllHold, IsOnLayer, default_of, CanFire, can_fire, IsLayered, is_on_layer, value_with, IsClosed, differs, IsSettledAt, layer_decides, given_on, given_off, on_layer_within, can_give}
 
 -- ---- the meaning of the tests
 

@@ -1,9 +1,7 @@
 -- In a run each variable has exactly one last change.
 use Rattle.std.proofs.Common.{rules}
 use Rattle.std.proofs.lemmas.Grind.{common_steps}
-use Rattle.sas_reasons.proofs.Imports.{◌≡◌, ◌≢◌, ℕ, zero, suc, ◌+◌, ◌-◌, ◌<◌, ◌≤◌, length, refl, sym, ◌∙◌, ap, subst, inl, inr, arith, cases_eq, cases_lt, Run}
-use Rattle.sas_reasons.specs.Cause.{value_at, IsSince}
-use Rattle.sas_reasons.specs.Laws.{SomeSince, OneSince, SameSince}
+use Rattle.sas_reasons.proofs.Imports.{◌≡◌, ◌≢◌, ℕ, zero, suc, ◌+◌, ◌-◌, ◌<◌, ◌≤◌, length, refl, sym, ◌∙◌, ap, subst, inl, inr, arith, cases_eq, Run, value_at, IsSince, SomeSince, OneSince, SameSince}
 
 module _ (run : Run) (var : ℕ) where
   -- the last change among the states up to the one with number n

@@ -3,8 +3,7 @@
 -- The rules of a layer fire in rounds. A round reaches each variable with a rule whose conditions
 -- hold with the variables reached before. So a variable is explained only by variables that are
 -- reached before it: the rules "b from c" and "c from b" don't explain each other.
-use Rattle.std.specs.Prelude.{◌≡◌, ◌≢◌, ◌⊎◌, ℕ, zero, suc, ◌+◌, ◌<◌, ◌==◌, ◌&&◌, Bool, false, IsTrue}
-use Rattle.std.specs.Prelude.{List, length, All, AllPairs, Contains}
+use Rattle.std.specs.Prelude.{◌≡◌, ◌≢◌, ◌⊎◌, ℕ, zero, suc, ◌+◌, ◌<◌, ◌==◌, ◌&&◌, Bool, false, IsTrue, List, length, All, AllPairs, Contains}
 use Rattle.std.specs.List.{list_all, list_any}
 use Rattle.sas_core.specs.declared.parts.Fact.{Fact}
 use Rattle.sas_core.specs.declared.parts.Rule.{Rule}

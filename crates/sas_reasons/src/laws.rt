@@ -1,6 +1,5 @@
 // Laws of reasons.
-ghost use Rattle.sas_reasons.specs.Laws.{SomeSince, OneSince, SameSince};
-ghost use Rattle.sas_reasons.specs.Laws.{SpaceFolds, FoldsOnce, LowestLike, SomeMayMean, OneMayMean};
+ghost use Rattle.sas_reasons.specs.Laws.{SomeSince, OneSince, SameSince, SpaceFolds, FoldsOnce, LowestLike, SomeMayMean, OneMayMean};
 ghost use Rattle.sas_reasons.specs.Laws.{RankIfDiffers, OneRank, SomeGiver, OneGiver, GiverFires, GiverLooksDown};
 ghost use Rattle.sas_reasons.specs.Laws.{ItselfIsLast, NoCircle, AllDiffer, SomeDerivation, OneDerivation, OwnRuleIsLast};
 ghost use Rattle.sas_reasons.specs.Laws.{DefaultIfNotGiven, EachRuleFails, SomePreconditionFails, OperatorsHaveName};

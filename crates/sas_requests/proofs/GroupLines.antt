@@ -1,7 +1,5 @@
 -- Each line behind that of a group is a reason; and what is left of the lines of groups when reasons are taken away.
-use Rattle.sas_requests.proofs.Imports.{map, ◌≡◌, ℕ, suc, ◌+◌, ◌<◌, List, [], ◌∷◌, ◌++◌, length, get_or, refl, ap, subst, ◌∙◌, arith, Option, Some, None, not, filter, AllByRecursion, option_map_or, Parts, WellRanged, text, lines, Plain, lines-text, all_map, Verdict, Exclusive, Derived, Initial, Broken, line_bytes, Reason, IsReasonIfAny, reason_at, Yes, group_line}
-use Rattle.sas_requests.proofs.Imports.{verdict_lines_from, verdict_lines, groups_status, reason_lines, explained_group_lines, why_lines_from, why_lines, no_reason}
-use Rattle.sas_requests.specs.Why.{is_reason, without_reasons}
+use Rattle.sas_requests.proofs.Imports.{map, ◌≡◌, ℕ, suc, ◌+◌, ◌<◌, List, [], ◌∷◌, ◌++◌, length, get_or, refl, ap, subst, ◌∙◌, arith, Option, Some, None, not, filter, AllByRecursion, option_map_or, Parts, WellRanged, text, lines, Plain, lines-text, all_map, Verdict, Exclusive, Derived, Initial, Broken, line_bytes, Reason, IsReasonIfAny, reason_at, Yes, group_line, is_reason, without_reasons, verdict_lines_from, verdict_lines, groups_status, reason_lines, explained_group_lines, why_lines_from, why_lines, no_reason}
 use Rattle.sas_requests.proofs.ReasonLines.{IsReason, AreReasons, lines_report}
 use Rattle.std.proofs.lemmas.List.Elements.{filter-append}
 use Rattle.sas_requests.proofs.PlainAnswers.{none_kept, kept_first, plain_reported, plain_reason, group_reported}

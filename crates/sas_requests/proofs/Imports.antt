@@ -1,14 +1,12 @@
--- What the proofs use of other crates.
-pub use Rattle.std.proofs.Common.{◌≡◌, ◌≢◌, ℕ, ◌<◌, Bool, true, false, IsTrue, List, [], length, take, refl, sym, ap, subst, ◌∙◌, inl, inr, ◌⊎◌}
-pub use Rattle.std.proofs.Common.{codes, Option, Some, None, Result, Ok, Err, nat_lt, IfErr, IsErrOf, IsSomeAnd, ◌↔◌, map, suc, ◌+◌, ◌∷◌, ◌++◌}
-pub use Rattle.std.proofs.Common.{get_or, arith, not, filter, if◌then◌else◌, ◌^◌, drop, append_assoc, append-nil, decimal, option_map, IfOk, zero}
-pub use Rattle.std.proofs.Common.{◌*◌, ◌≤◌, length-append, ◌==◌, ◌/◌, ◌%◌, slice_get, is_some, Bor}
+-- What the proofs use of other crates, and of the definitions of this one.
+pub use Rattle.std.proofs.KnownBytes.{Consumes-nil}
+pub use Rattle.std.proofs.Common.{◌≡◌, ◌≢◌, ℕ, ◌<◌, Bool, true, false, IsTrue, List, [], length, refl, sym, ap, subst, ◌∙◌, inl, inr, ◌⊎◌, codes, Option, Some, None, Result, Ok, Err, nat_lt, IfErr, IsErrOf, IsSomeAnd, ◌↔◌, map, suc, ◌+◌, ◌∷◌, ◌++◌, get_or, arith, not, filter, if◌then◌else◌, ◌^◌, drop, append_assoc, append-nil, decimal, option_map, IfOk, zero, ◌*◌, ◌≤◌, length-append, ◌==◌, ◌/◌, ◌%◌, slice_get, is_some, Bor}
 pub use Rattle.std.proofs.Math.Nat.{mul-le-mul_left}
 pub use Rattle.std.proofs.lemmas.Bool.{cases_lt}
 pub use Rattle.std.proofs.lemmas.Fmt.{length-decimal-le}
 pub use Rattle.std.proofs.lemmas.Grind.{flat_map-append}
 pub use Rattle.std.proofs.lemmas.List.{append_cancel_left, map-append}
-pub use Rattle.std.proofs.lemmas.List.Elements.{Contains-append_cases, All-contains, All-cons, All-nil}
+pub use Rattle.std.proofs.lemmas.List.Elements.{Contains-append_cases}
 pub use Rattle.std.proofs.lemmas.List.Sums.{count_by-le-length}
 pub use Rattle.std.proofs.lemmas.Option.{none-some}
 pub use Rattle.std.specs.Fmt.{digits_onto, digit_glyph}
@@ -20,11 +18,10 @@ pub use Rattle.sas_answers.proofs.CheckAnswers.{layered_answer, one_check_answer
 pub use Rattle.sas_answers.proofs.MutexAnswers.{groups_answered, one_mutex_answer, some_mutex_answer}
 pub use Rattle.sas_answers.proofs.VerdictAnswers.{one_verdict_answer, some_verdict_answer}
 pub use Rattle.sas_answers.proofs.WordedLines.{worded}
-pub use Rattle.sas_answers.specs.Answers.{layers_refusal, GroupsAnswer, LayeredGroupsAnswer, MutexAnswer, layers_verdict, CheckAnswer, VerdictAnswer}
-pub use Rattle.sas_answers.specs.Answers.{valid_answer, invalid_answer}
+pub use Rattle.sas_answers.specs.Answers.{layers_refusal, GroupsAnswer, LayeredGroupsAnswer, MutexAnswer, layers_verdict, CheckAnswer, VerdictAnswer, valid_answer, invalid_answer}
 pub use Rattle.sas_answers.specs.GroupWords.{group_line, verdict_lines_from, verdict_lines, groups_status, verdict_words}
 pub use Rattle.sas_answers.specs.LayerWords.{layer_words, layers_line, words_at_part}
-pub use Rattle.sas_answers.specs.PlanWords.{valid_line, fault_words, invalid_line, step_words, goal_words, sum_words}
+pub use Rattle.sas_answers.specs.PlanWords.{valid_line, fault_words, invalid_line, step_words}
 pub use Rattle.sas_core.specs.FirstFault.{first_fault}
 pub use Rattle.sas_core.specs.Names.{IsName}
 pub use Rattle.sas_core.specs.PlanParts.{PlanParts}
@@ -62,22 +59,17 @@ pub use Rattle.sas_output.specs.declared.line.Line.{Line}
 pub use Rattle.sas_outputs.proofs.Endings.{ends_counting_by}
 pub use Rattle.sas_outputs.proofs.Headlines.{sent_same, IsSolved, IsOther, headline_by, out_reported, out_solved, ReportsValid, reports_valid, headline_of}
 pub use Rattle.sas_outputs.proofs.Lengths.{text_short}
-pub use Rattle.sas_outputs.proofs.Outputs.{refused_kind, too_long_else, reading_of_refusal, Worded, plan_worded, task_worded, takes_nothing}
-pub use Rattle.sas_outputs.proofs.Outputs.{same_output}
+pub use Rattle.sas_outputs.proofs.Outputs.{refused_kind, too_long_else, reading_of_refusal, Worded, plan_worded, task_worded, same_output}
 pub use Rattle.sas_outputs.proofs.PlainLines.{file_words, file_plain, kind_plain, layer_plain, invalid_plain}
-pub use Rattle.sas_outputs.proofs.PlanOutputs.{reported_fault, output_for, not_refused, first_alone, second_alone, OneVerdictAnswer, SomeVerdictAnswer}
-pub use Rattle.sas_outputs.proofs.PlanOutputs.{IsRefusal, Refuses, plain_refuses, judged_output}
+pub use Rattle.sas_outputs.proofs.PlanOutputs.{reported_fault, output_for, not_refused, first_alone, second_alone, OneVerdictAnswer, SomeVerdictAnswer, IsRefusal, Refuses, plain_refuses, judged_output}
 pub use Rattle.sas_outputs.proofs.ReasonLines.{file_lines_are_reasons}
 pub use Rattle.sas_outputs.proofs.Summaries.{goal_text, initial_text, goal_is, initial_is, summary_is}
 pub use Rattle.sas_outputs.specs.EndsFile.{EndsFile}
 pub use Rattle.sas_outputs.specs.FileLine.{FileLine, file_line_bytes}
-pub use Rattle.sas_outputs.specs.FileReasons.{task_reasons, plan_reasons, file_text, file_lines}
+pub use Rattle.sas_outputs.specs.FileReasons.{file_text, file_lines}
 pub use Rattle.sas_outputs.specs.Headline.{HasInvariant, Invariants, Solves, Headline}
-pub use Rattle.sas_outputs.specs.Output.{refusal, IsAnswerOrRefusal, FileOut, word_of, refusal_line, HasOneOutput, IsLong, IsLayeredText, TaskOut}
-pub use Rattle.sas_outputs.specs.Output.{UnlayeredAnswer, ShowAnswer, PrintAnswer, VerdictOut, PlanOutBy, AreInputs, reads_task, Out, plain_refusal}
-pub use Rattle.sas_outputs.specs.Output.{ShortOutput, PlanOut}
-pub use Rattle.sas_outputs.specs.Summary.{fact_line, fact_lines, derived_count, number_line, number_lines, initial_lines, goal_fact_lines}
-pub use Rattle.sas_outputs.specs.Summary.{summary_lines}
+pub use Rattle.sas_outputs.specs.Output.{refusal, IsAnswerOrRefusal, FileOut, word_of, refusal_line, HasOneOutput, IsLong, IsLayeredText, TaskOut, UnlayeredAnswer, ShowAnswer, PrintAnswer, VerdictOut, PlanOutBy, AreInputs, reads_task, Out, plain_refusal, ShortOutput, PlanOut}
+pub use Rattle.sas_outputs.specs.Summary.{fact_line, fact_lines, derived_count, number_line, number_lines, initial_lines, goal_fact_lines, summary_lines}
 pub use Rattle.sas_outputs.specs.declared.Request.{Request}
 pub use Rattle.sas_outputs.specs.declared.Request.TheVariants.{Plan, Mutex, Show, Print, Steps, Check}
 pub use Rattle.sas_plan_file.proofs.PlanGrammar.{plan_grammar}
@@ -107,26 +99,20 @@ pub use Rattle.sas_reasons.proofs.WhyPlan.{one_why, some_why}
 pub use Rattle.sas_run.proofs.PlanVerdicts.{some_verdict, valid_has_no_fault, fault_is_one}
 pub use Rattle.sas_run.specs.Verdicts.{IsFaultOf}
 pub use Rattle.sas_run.specs.declared.plan_check.PlanFault.{PlanFault}
-pub use Rattle.sas_run.specs.declared.plan_check.PlanFault.TheVariants.{NoOperator, NotApplicable, Conflict, GoalMissed, CostDiffers}
 pub use Rattle.sas_task_format.proofs.MarkLaws.{one_task_reason}
 pub use Rattle.sas_task_format.proofs.SomeReason.{some_task_reason}
 pub use Rattle.sas_task_format.proofs.TaskGrammar.{task_grammar}
 pub use Rattle.sas_task_format.proofs.TaskLaws.{task_laws_hold}
 pub use Rattle.sas_task_format.proofs.TaskSections.{less, is_less, all_map}
 pub use Rattle.sas_task_format.specs.Process.{process_node}
-pub use Rattle.sas_task_format.specs.TaskFormat.{task_format, task_texts, TaskLineFits, TaskLine, word, name, number, signed, fact, task_line_bytes}
-pub use Rattle.sas_task_format.specs.TaskFormat.{line, between, counted, version_lines, metric_lines, variable_lines, group_lines, state_lines}
-pub use Rattle.sas_task_format.specs.TaskFormat.{operator_lines, rule_lines, task_layout}
+pub use Rattle.sas_task_format.specs.TaskFormat.{task_format, task_texts, TaskLineFits, TaskLine, word, name, number, signed, fact, task_line_bytes, line, between, counted, version_lines, metric_lines, variable_lines, group_lines, state_lines, operator_lines, rule_lines, task_layout}
 pub use Rattle.sas_task_format.specs.TaskProcess.{task_start}
 pub use Rattle.sas_task_format.specs.TaskReasons.{IsTaskReason}
-pub use Rattle.sas_task_format.specs.declared.marks.Mark.{Mark}
-pub use Rattle.sas_task_format.specs.declared.marks.WrongWord.{WrongWord}
 pub use Rattle.sas_task_reader.specs.Outline.{OutlineOf}
 pub use Rattle.sas_task_reader.specs.TaskRefusal.{fault_in, found_in, HasReason, ReadsTask}
 pub use Rattle.sas_task_reader.specs.declared.task_refusal.TaskRefusal.{TaskRefusal}
 pub use Rattle.sas_task_reasons.proofs.GroupAnswers.{no_reason}
-pub use Rattle.sas_task_reasons.proofs.TaskAnswers.{not_memory, one_why_check, some_why_check, one_why_mutex, some_why_mutex, check_layered}
-pub use Rattle.sas_task_reasons.proofs.TaskAnswers.{check_refused, groups_layered, groups_refused, refused_why}
+pub use Rattle.sas_task_reasons.proofs.TaskAnswers.{not_memory, one_why_check, some_why_check, one_why_mutex, some_why_mutex, check_layered, check_refused, groups_layered, groups_refused, refused_why}
 pub use Rattle.sas_task_reasons.specs.GroupReasons.{IsReasonIfAny, reason_at, AreReasons}
 pub use Rattle.sas_task_reasons.specs.WhyGroups.{reason_lines, explained_group_lines, why_lines_from, why_lines, WhyGroupsAnswer}
 pub use Rattle.sas_task_reasons.specs.WhyLayers.{layer_reasons, why_refusal, WhyAnswer, WhyMutexAnswer, with_reasons, WhyCheckAnswer}
@@ -135,3 +121,10 @@ pub use Rattle.sas_trace.proofs.Answering.{some_trace, one_trace}
 pub use Rattle.sas_trace.specs.Trace.{run_lines}
 pub use Rattle.sas_trace.specs.Traced.{IsTraced, TraceVerdict, EndsWith}
 pub use Rattle.sas_why.specs.Verdict.{WhyVerdict, Explains}
+pub use Rattle.sas_requests.specs.Answering.{FileBy, TaskBy, PlanBy, UnlayeredBy, layers_by, refusal_by, task_refusal_lines, plan_refusal_lines, reported_by, ReasonedBy, CheckBy, MutexBy, VerdictBy, OutBy}
+pub use Rattle.sas_requests.specs.EndsRequest.{EndsRequest}
+pub use Rattle.sas_requests.specs.FileReasons.{FaultReasons, reported, past_limit, FileReasons, AreTaskReasons, ArePlanReasons, RefusalReasons, ReadReasons, TaskFileReasons, PlanFileReasons}
+pub use Rattle.sas_requests.specs.TraceOut.{EndsAsPlan, TraceOut}
+pub use Rattle.sas_requests.specs.Why.{is_reason, without_reasons, OutOfRead, OutWhy, WithReasons, IsSameAnswer, SameAnswer}
+pub use Rattle.sas_requests.specs.declared.detail.Detail.{Detail}
+pub use Rattle.sas_requests.specs.declared.detail.Detail.TheVariants.{Reasons, Trace}

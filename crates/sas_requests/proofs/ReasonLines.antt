@@ -1,6 +1,5 @@
 -- Each line of reasons begins with two spaces, and holds neither LF nor CR.
-use Rattle.sas_requests.proofs.Imports.{◌≡◌, ℕ, true, List, [], ◌∷◌, map, ap, AllByRecursion, Parts, IsName, WellRanged, IsPlain, plain_bytes, Line, IsReasonLine, line_bytes, lines_are_reasons, FileLine, file_line_bytes, file_lines, file_lines_are_reasons}
-use Rattle.sas_requests.specs.Why.{is_reason}
+use Rattle.sas_requests.proofs.Imports.{◌≡◌, ℕ, true, List, [], ◌∷◌, map, ap, AllByRecursion, Parts, IsName, WellRanged, IsPlain, plain_bytes, Line, IsReasonLine, line_bytes, lines_are_reasons, FileLine, file_line_bytes, file_lines, file_lines_are_reasons, is_reason}
 
 -- the line is one of reasons
 pub record IsReason (line : List ℕ) : Type 0 where

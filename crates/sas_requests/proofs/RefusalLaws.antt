@@ -1,10 +1,8 @@
 -- Why a file is refused: one list of reasons, and always some.
 use Rattle.std.proofs.Common.{arith}
 use Rattle.std.proofs.lemmas.Grind.{common_steps}
-use Rattle.sas_requests.proofs.Imports.{◌≡◌, ◌≢◌, ℕ, List, [], ◌∷◌, length, take, refl, sym, ap, subst, ◌∙◌, inl, inr, Option, Result, Ok, Err, nat_lt, lines, unfinished, Fault, Kind, Format, FaultOf, KindAt, too_long, trailing, wrong, ReadsAs, Laws, most_bytes, IsAbout, of_line, of_byte, of_end, AboutLaws, about_laws_of, plan_format, PlanLineFits, plan_node, plan_start, plan_grammar}
-use Rattle.sas_requests.proofs.Imports.{plan_laws_hold, Mark, WrongWord, process_node, task_format, TaskLineFits, task_start, one_task_reason, some_task_reason, task_grammar, task_laws_hold, FileLine, task_reasons, Request, Show, Print, Steps, Check, Plan, Mutex, IsLayeredText, Worded, plan_worded, task_worded}
+use Rattle.sas_requests.proofs.Imports.{◌≡◌, ◌≢◌, ℕ, List, [], ◌∷◌, refl, sym, subst, ◌∙◌, inl, inr, Result, Ok, Err, lines, unfinished, Fault, Kind, Format, FaultOf, KindAt, too_long, trailing, wrong, ReadsAs, Laws, most_bytes, IsAbout, of_line, of_byte, of_end, AboutLaws, about_laws_of, plan_format, PlanLineFits, plan_node, plan_start, plan_grammar, FaultReasons, reported, past_limit, ReadReasons, FileReasons, AreTaskReasons, ArePlanReasons, TaskFileReasons, PlanFileReasons, RefusalReasons, plan_laws_hold, process_node, task_format, TaskLineFits, task_start, one_task_reason, some_task_reason, task_grammar, task_laws_hold, FileLine, Request, Steps, Plan, IsLayeredText, Worded, plan_worded, task_worded}
 use Rattle.sas_reader.specs.declared.fault.Kind.TheVariants as kinds
-use Rattle.sas_requests.specs.FileReasons.{FaultReasons, reported, past_limit, ReadReasons, FileReasons, AreTaskReasons, ArePlanReasons, TaskFileReasons, PlanFileReasons, RefusalReasons}
 
 pub task_reporting : AboutLaws task_format
 task_reporting = about_laws_of task_format TaskLineFits process_node task_start task_grammar
@@ -92,9 +90,6 @@ some_of_both b c none =
     (of_task b).some (λ r why. none r (inr (other, why)))
 
 pub reasons_of : (request : Request) (b c : List ℕ) → HasOneList (RefusalReasons request b c)
-reasons_of Show b c = of_task b
-reasons_of Print b c = of_task b
 reasons_of Steps b c = of_plan c
-reasons_of Check b c = of_task b
 reasons_of Plan b c = record { one = one_of_both b c; some = some_of_both b c }
-reasons_of Mutex b c = of_task b
+reasons_of _ b c = of_task b

@@ -1,14 +1,9 @@
 -- How the output of a request goes out.
 use Rattle.std.proofs.Common.{arith}
 use Rattle.std.proofs.lemmas.Grind.{common_steps}
-use Rattle.sas_requests.proofs.Imports.{◌≡◌, ℕ, false, true, List, [], codes, inl, inr, refl, sym, ap, subst, ◌∙◌, Option, Some, None, Result, Ok, Err, IsTrue, IfOk, IsSomeAnd, Appends, Parts, PlanParts, LayerFault, IsLayered, Device, ValueOf, ReadsAll, ReadsAs, most_bytes, known_answer, plan_format, task_format, Status, Yes, ToolFault, Output, EndsCounting, layers_verdict, LayeredGroupsAnswer}
-use Rattle.sas_requests.proofs.Imports.{layered_answer, WhyGroupsAnswer, WhyMutexAnswer, check_layered, check_refused, groups_layered, groups_refused, IsTraced, TraceVerdict, Request, Headline, Invariants, TaskOut, VerdictOut, PlanOutBy, PrintAnswer, AreInputs, reads_task, takes_nothing, first_alone, second_alone, not_refused, EndsFile}
+use Rattle.sas_requests.proofs.Imports.{◌≡◌, ℕ, false, true, List, [], codes, inl, inr, refl, sym, ap, subst, ◌∙◌, Option, Some, None, Result, Ok, Err, IsTrue, IfOk, IsSomeAnd, Appends, Parts, PlanParts, LayerFault, IsLayered, Device, ValueOf, ReadsAll, ReadsAs, most_bytes, known_answer, plan_format, task_format, Status, Yes, ToolFault, Output, EndsCounting, layers_verdict, LayeredGroupsAnswer, Consumes-nil, Detail, Reasons, Trace, CheckBy, MutexBy, VerdictBy, UnlayeredBy, layers_by, TaskBy, PlanBy, OutBy, EndsRequest, TaskFileReasons, PlanFileReasons, RefusalReasons, layered_answer, WhyGroupsAnswer, WhyMutexAnswer, check_layered, check_refused, groups_layered, groups_refused, IsTraced, TraceVerdict, Request, Headline, Invariants, TaskOut, VerdictOut, PlanOutBy, PrintAnswer, AreInputs, reads_task, first_alone, second_alone, not_refused, EndsFile}
 use Rattle.sas_outputs.specs.declared.Request.TheVariants as request
-use Rattle.sas_requests.specs.declared.detail.Detail.{Detail}
-use Rattle.sas_requests.specs.declared.detail.Detail.TheVariants.{Plain, Reasons, Trace}
-use Rattle.sas_requests.specs.Answering.{CheckBy, MutexBy, VerdictBy, UnlayeredBy, layers_by, TaskBy, PlanBy, OutBy}
-use Rattle.sas_requests.specs.EndsRequest.{EndsRequest}
-use Rattle.sas_requests.specs.FileReasons.{TaskFileReasons, PlanFileReasons, RefusalReasons}
+use Rattle.sas_requests.specs.declared.detail.Detail.TheVariants.{Plain}
 use Rattle.sas_requests.proofs.FileEnds.{ends_by}
 use Rattle.sas_requests.proofs.RefusalReasons.{more_reasoned}
 
@@ -75,7 +70,7 @@ module _ {T P : Type 0} (left_task : T → Option (List ℕ)) (left_plan : P →
     output = λ b c inputs. ends_by Sent (FileOutput b) (OutBy detail asked b c) r (to b c) (one.output b (inputs.0 reading));
     taken = λ decided.
         let (b, consumed, ends) = one.taken decided in
-        (b, [], consumed, takes_nothing _, ends_by Sent (FileOutput b) (OutBy detail asked b []) r (to b []) ends);
+        (b, [], consumed, Consumes-nil _, ends_by Sent (FileOutput b) (OutBy detail asked b []) r (to b []) ends);
     task_spared = λ spared. absurd (let apart : true ≡ false = sym reading ∙ spared in cc);
     plan_spared = λ _. refl;
     plan_waits = λ _ b known none. refl;
@@ -91,7 +86,7 @@ module _ {T P : Type 0} (left_task : T → Option (List ℕ)) (left_plan : P →
         output = λ b c inputs. ends_by Sent (Answer c) (OutBy detail request.Steps b c) r (λ o out. out) (one.output c (inputs.1 refl));
         taken = λ decided.
             let (c, consumed, ends) = one.taken decided in
-            ([], c, takes_nothing _, consumed, ends_by Sent (Answer c) (OutBy detail request.Steps [] c) r (λ o out. out) ends);
+            ([], c, Consumes-nil _, consumed, ends_by Sent (Answer c) (OutBy detail request.Steps [] c) r (λ o out. out) ends);
         task_spared = λ _. refl;
         plan_spared = λ spared. absurd cc;
         plan_waits = λ is. absurd cc;

@@ -1,9 +1,6 @@
 -- An output with the reasons of what was read is the same answer as the output without them.
 use Rattle.std.proofs.lemmas.Grind.{common_steps}
-use Rattle.sas_requests.proofs.Imports.{◌≡◌, ℕ, ◌+◌, ◌<◌, List, [], ◌++◌, length, map, get_or, arith, codes, refl, sym, ap, subst, ◌∙◌, inl, inr, Option, Some, None, Result, Ok, Err, Parts, first_fault, PlanParts, WellNamed, WellRanged, LayerFault, layer_checks, text, Verdict, Exclusive, AreJointVerdicts, Reason, IsReasonIfAny, AreReasons, reason_at, Fault, Format, ReadsAs, most_bytes}
-use Rattle.sas_requests.proofs.Imports.{plan_format, task_format, PlanFault, Yes, No, Output, layers_refusal, layers_verdict, LayeredGroupsAnswer, CheckAnswer, MutexAnswer, VerdictAnswer, verdict_lines, groups_status, layer_words, layers_line, fault_words, invalid_line, why_lines, WhyGroupsAnswer, layer_reasons, why_refusal, WhyAnswer, WhyCheckAnswer, WhyMutexAnswer, line_bytes, reasons_text}
-use Rattle.sas_requests.proofs.Imports.{WhyVerdict, Explains, Request, Show, Print, Steps, Check, Plan, Mutex, Out, IsAnswerOrRefusal, FileOut, TaskOut, UnlayeredAnswer, plain_refusal, ShowAnswer, PrintAnswer, worded}
-use Rattle.sas_requests.specs.Why.{without_reasons, IsSameAnswer, OutOfRead}
+use Rattle.sas_requests.proofs.Imports.{◌≡◌, ℕ, ◌+◌, ◌<◌, List, [], ◌++◌, length, map, get_or, arith, codes, refl, sym, ap, subst, ◌∙◌, inl, inr, Option, Some, None, Result, Ok, Err, Parts, first_fault, PlanParts, WellNamed, WellRanged, LayerFault, layer_checks, text, Verdict, Exclusive, AreJointVerdicts, Reason, IsReasonIfAny, AreReasons, reason_at, Fault, Format, ReadsAs, most_bytes, without_reasons, IsSameAnswer, OutOfRead, plan_format, task_format, PlanFault, Yes, No, Output, layers_refusal, layers_verdict, LayeredGroupsAnswer, CheckAnswer, MutexAnswer, VerdictAnswer, verdict_lines, groups_status, layer_words, layers_line, fault_words, invalid_line, why_lines, WhyGroupsAnswer, layer_reasons, why_refusal, WhyAnswer, WhyCheckAnswer, WhyMutexAnswer, line_bytes, reasons_text, WhyVerdict, Explains, Request, Show, Print, Steps, Check, Plan, Mutex, Out, IsAnswerOrRefusal, FileOut, TaskOut, UnlayeredAnswer, plain_refusal, ShowAnswer, PrintAnswer, worded}
 use Rattle.sas_requests.proofs.ReasonLines.{lines_report}
 use Rattle.sas_requests.proofs.GroupLines.{groups_kept, all_exclusive}
 use Rattle.sas_requests.proofs.PlainAnswers.{IsReportedText, stays, first_stays, AreRefusalsReported, task_refusals_reported, plan_refusals_reported, layer_reported, layers_reported, verdict_reported}

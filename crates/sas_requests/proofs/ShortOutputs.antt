@@ -1,8 +1,6 @@
 -- Each output without reasons is shorter than 2 ^ 64 bytes.
 use Rattle.std.proofs.lemmas.Grind.{common_steps}
-use Rattle.sas_requests.proofs.Imports.{◌≡◌, ℕ, suc, zero, ◌+◌, ◌*◌, ◌^◌, ◌<◌, ◌≤◌, Bool, true, false, if◌then◌else◌, List, [], ◌∷◌, ◌++◌, length, codes, length-append, arith, refl, sym, subst, inl, inr, Option, Some, None, Result, Ok, Err, decimal, option_map, ◌==◌, ◌/◌, ◌%◌, digits, digits_onto, digit_glyph, none-some, Parts, PlanParts, first_fault, text, LayerFault, layer_checks, Verdict}
-use Rattle.sas_requests.proofs.Imports.{Exclusive, Derived, Initial, Broken, PlanFault, Fault, Kind, ValueOf, Format, ReadsAs, most_bytes, plan_format, task_format, outline_of, Yes, No, Output, layers_refusal, layers_verdict, CheckAnswer, LayeredGroupsAnswer, MutexAnswer, valid_answer, VerdictAnswer, words_at_part, layer_words, layers_line, step_words, goal_words, sum_words, fault_words}
-use Rattle.sas_requests.proofs.Imports.{invalid_line, verdict_words, group_line, verdict_lines_from, Show, Print, Steps, Check, Plan, Mutex, word_of, refusal_line, refusal, IsAnswerOrRefusal, ShowAnswer, PrintAnswer, FileOut, UnlayeredAnswer, plain_refusal, ShortOutput, text_short}
+use Rattle.sas_requests.proofs.Imports.{◌≡◌, ℕ, suc, zero, ◌+◌, ◌*◌, ◌^◌, ◌<◌, ◌≤◌, Bool, true, false, if◌then◌else◌, List, [], ◌∷◌, ◌++◌, length, codes, length-append, arith, refl, sym, subst, inl, inr, Option, Some, None, Result, Ok, Err, decimal, option_map, ◌==◌, ◌/◌, ◌%◌, digits, digits_onto, digit_glyph, none-some, Parts, PlanParts, first_fault, text, LayerFault, layer_checks, Verdict, Broken, PlanFault, Fault, Kind, ValueOf, Format, ReadsAs, most_bytes, plan_format, task_format, outline_of, Yes, No, Output, layers_refusal, layers_verdict, CheckAnswer, LayeredGroupsAnswer, MutexAnswer, valid_answer, VerdictAnswer, words_at_part, layer_words, layers_line, step_words, fault_words, verdict_words, group_line, verdict_lines_from, Show, Print, Steps, Check, Plan, Mutex, word_of, refusal, IsAnswerOrRefusal, ShowAnswer, PrintAnswer, FileOut, UnlayeredAnswer, plain_refusal, ShortOutput, text_short}
 use Rattle.sas_meaning.specs.declared.layered.LayerFault.TheVariants as layer_fault
 use Rattle.sas_run.specs.declared.plan_check.PlanFault.TheVariants as plan_fault
 use Rattle.sas_reader.specs.declared.fault.Kind.TheVariants as kinds
@@ -46,15 +44,10 @@ line_short line_of longer (Some words) short o is = grind (arith, common_steps)
 -- ---- the refusal of a file
 
 kind_short : (kind : Kind) → AreShort (word_of kind)
-kind_short kinds.Keyword = some_short _ (omega arith)
-kind_short kinds.Name = some_short _ (omega arith)
-kind_short kinds.Shape = some_short _ (omega arith)
-kind_short kinds.Value = some_short _ (omega arith)
-kind_short kinds.End = some_short _ (omega arith)
-kind_short kinds.Trailing = some_short _ (omega arith)
 kind_short kinds.TooLong = none_short
 kind_short kinds.Read = none_short
 kind_short kinds.Memory = none_short
+kind_short _ = some_short _ (omega arith)
 
 refusal_short : (name : List ℕ) → length name ≤ 9 → (fault : Fault) (o : Output) → refusal name fault ≡ Some o → length o.text < 2 ^ 64
 refusal_short name named fault = grind (arith, common_steps, line_short, decimal_short, kind_short)
@@ -104,10 +97,8 @@ verdict_short p plan o (inr (fault, is_fault, is)) = grind (arith, common_steps,
 -- ---- mutex groups
 
 words_short : (verdict : Verdict) → length (verdict_words verdict) ≤ 100
-words_short Exclusive = omega arith
-words_short Derived = omega arith
-words_short Initial = omega arith
 words_short (Broken operator) = omega (arith, length-append (codes "not shown: operator ") (decimal operator), decimal_short operator)
+words_short _ = omega arith
 
 groups_short : (place : ℕ) (verdicts : List Verdict) → length (text (verdict_lines_from place verdicts)) ≤ length verdicts * 200
 groups_short place [] = omega arith

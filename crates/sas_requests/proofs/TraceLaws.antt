@@ -1,6 +1,5 @@
 -- Behind a trace stands the output of `plan`.
-use Rattle.sas_requests.proofs.Imports.{◌≡◌, ℕ, List, [], ◌++◌, codes, refl, subst, inl, inr, Some, Result, Ok, Err, Parts, PlanParts, text, Fault, Output, VerdictAnswer, IsAnswerOrRefusal, PlanOut, run_lines, EndsWith, TraceVerdict}
-use Rattle.sas_requests.specs.TraceOut.{EndsAsPlan, TraceOut}
+use Rattle.sas_requests.proofs.Imports.{◌≡◌, ℕ, List, [], ◌++◌, codes, refl, subst, inl, inr, Some, Result, Ok, Err, Parts, PlanParts, text, Fault, Output, VerdictAnswer, IsAnswerOrRefusal, PlanOut, run_lines, EndsWith, TraceVerdict, EndsAsPlan, TraceOut}
 
 -- the output is some lines, and behind them this one, with its status
 pub record EndsAs (traced plain : Output) : Type 0 where

@@ -1,8 +1,7 @@
 -- What is said of a plan with reasons: one thing, and always something; and that it is valid exactly where it is. And what is said
 -- of a task that isn't layered.
 use Rattle.std.proofs.lemmas.Grind.{common_steps}
-use Rattle.sas_requests.proofs.Imports.{◌≡◌, ℕ, ◌<◌, List, [], ◌++◌, get_or, refl, sym, ap, subst, ◌∙◌, inl, inr, Some, None, Option, arith, option_map, none-some, Parts, PlanParts, LayerFault, IsLayered, PlanFault, NoOperator, NotApplicable, Conflict, GoalMissed, CostDiffers, IsFaultOf, some_verdict, valid_has_no_fault, fault_is_one, No, Output, layers_refusal, valid_answer, invalid_answer}
-use Rattle.sas_requests.proofs.Imports.{valid_line, fault_words, invalid_line, layer_reasons, with_reasons, why_refusal, refused_why, Line, reasons_text, one_why, some_why, WhyVerdict, Explains, ReportsValid, same_output, OneVerdictAnswer, SomeVerdictAnswer, IsRefusal, Refuses, worded}
+use Rattle.sas_requests.proofs.Imports.{◌≡◌, ℕ, ◌<◌, List, [], ◌++◌, get_or, refl, sym, ap, subst, ◌∙◌, inl, inr, Some, None, Option, arith, option_map, none-some, Parts, PlanParts, LayerFault, IsLayered, PlanFault, IsFaultOf, some_verdict, valid_has_no_fault, fault_is_one, No, Output, layers_refusal, valid_answer, invalid_answer, valid_line, invalid_line, layer_reasons, with_reasons, why_refusal, refused_why, Line, reasons_text, one_why, some_why, WhyVerdict, Explains, ReportsValid, same_output, OneVerdictAnswer, SomeVerdictAnswer, IsRefusal, Refuses, worded}
 use Rattle.sas_run.specs.declared.plan_check.PlanFault.TheVariants.{Memory}
 
 -- ---- the verdict on a plan is the text's first line
@@ -48,11 +47,7 @@ one_why_verdict p layered plan o q a b = elim a [
 -- each fault is reported
 some_reported : (p : Parts) (plan : PlanParts) (fault : PlanFault) → IsFaultOf p plan fault → (o : Output) × (invalid_answer plan.cost fault ≡ Some o)
 some_reported p plan Memory f = absurd f
-some_reported p plan (NoOperator step) f = (_, refl)
-some_reported p plan (NotApplicable step) f = (_, refl)
-some_reported p plan (Conflict step operator) f = (_, refl)
-some_reported p plan (GoalMissed index) f = (_, refl)
-some_reported p plan (CostDiffers sum) f = (_, refl)
+some_reported p plan _ f = (_, refl)
 
 explained : (p : Parts) (plan : PlanParts) (fault : PlanFault) → IsLayered p → IsFaultOf p plan fault → (o : Output) × WhyVerdict p plan o
 explained p plan fault layered is =

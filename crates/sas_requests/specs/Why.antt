@@ -1,6 +1,5 @@
 -- What the program prints with `--why`: the output without it, and reasons behind a no.
-use Rattle.std.specs.Prelude.{◌≡◌, ℕ, Bool, not, List, take, filter, bytes_eq, codes}
-use Rattle.std.specs.Prelude.{Option, Some, option_map}
+use Rattle.std.specs.Prelude.{◌≡◌, ℕ, Bool, not, List, take, filter, bytes_eq, codes, Option, Some, option_map}
 use Rattle.sas_lines.specs.Lines.{text, lines}
 use Rattle.sas_output.specs.declared.ending.Status.TheVariants.{Yes, No}
 use Rattle.sas_output.specs.Ending.{Output}

@@ -1,6 +1,5 @@
 // The answer to each request: its inputs are read, and then it goes out.
-ghost use Rattle.std.specs.Prelude.{◌≡◌, ◌⊎◌, ◌↔◌, false};
-ghost use Rattle.std.specs.Prelude.{IfErr, IsErrAnd, IsSomeAnd, IsTrue};
+ghost use Rattle.std.specs.Prelude.{◌≡◌, ◌⊎◌, ◌↔◌, false, IfErr, IsErrAnd, IsSomeAnd, IsTrue};
 ghost use Rattle.std.specs.Io.KnownBytes.{Appends};
 ghost use Rattle.sas_meaning.specs.Layers.{IsLayered};
 ghost use Rattle.sas_output.specs.Ending.{EndsCounting, IsWrite};

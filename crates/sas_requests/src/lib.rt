@@ -8,8 +8,7 @@ mod plans;
 mod refusals;
 mod tasks;
 
-ghost use Rattle.std.specs.Prelude.{◌≡◌, ◌⊎◌, ◌↔◌, false, List, ℕ, Some};
-ghost use Rattle.std.specs.Prelude.{IfErr, IfOk, IsErrAnd, IsTrue};
+ghost use Rattle.std.specs.Prelude.{◌≡◌, ◌⊎◌, ◌↔◌, false, List, ℕ, Some, IfErr, IfOk, IsErrAnd, IsTrue};
 ghost use Rattle.std.specs.Io.KnownBytes.{Appends};
 ghost use Rattle.sas_outputs.specs.Output.{Out, AreInputs};
 ghost use Rattle.sas_outputs.specs.Headline.{Headline, Invariants};

@@ -1,6 +1,5 @@
 // Whether a plan solves a task. Both are read, the plan only if it is needed.
-ghost use Rattle.std.specs.Prelude.{◌≡◌, ◌⊎◌, ◌↔◌, false};
-ghost use Rattle.std.specs.Prelude.{IfErr, IsErrAnd, IsSomeAnd, IsTrue};
+ghost use Rattle.std.specs.Prelude.{◌≡◌, ◌⊎◌, ◌↔◌, false, IfErr, IsErrAnd, IsSomeAnd, IsTrue};
 ghost use Rattle.std.specs.Io.KnownBytes.{Appends};
 ghost use Rattle.sas_output.specs.Ending.{EndsCounting, IsWrite};
 ghost use Rattle.sas_outputs.specs.EndsFile.{EndsFile};

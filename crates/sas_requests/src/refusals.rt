@@ -1,6 +1,5 @@
 // Refusals of files, as they go out.
-ghost use Rattle.std.specs.Prelude.{◌≡◌, ◌⊎◌, ◌↔◌, codes, false};
-ghost use Rattle.std.specs.Prelude.{IfErr, IsErrAnd, IsErrOf, IsTrue};
+ghost use Rattle.std.specs.Prelude.{◌≡◌, ◌⊎◌, ◌↔◌, codes, false, IfErr, IsErrAnd, IsErrOf, IsTrue};
 ghost use Rattle.std.specs.Io.KnownBytes.{Appends};
 ghost use Rattle.sas_output.specs.Ending.{Ends, IsWrite};
 ghost use Rattle.sas_requests.specs.Answering.{plan_refusal_lines, refusal_by, task_refusal_lines};

@@ -1,6 +1,5 @@
 // Tasks that are read and are layered. Others are refused.
-ghost use Rattle.std.specs.Prelude.{◌≡◌, ◌⊎◌, ◌↔◌, false, Ok, Some};
-ghost use Rattle.std.specs.Prelude.{IfErr, IfOk, IsErrAnd, IsSomeAnd, IsTrue};
+ghost use Rattle.std.specs.Prelude.{◌≡◌, ◌⊎◌, ◌↔◌, false, Ok, Some, IfErr, IfOk, IsErrAnd, IsSomeAnd, IsTrue};
 ghost use Rattle.std.specs.Io.KnownBytes.{Appends};
 ghost use Rattle.sas_meaning.specs.Layers.{IsLayered};
 ghost use Rattle.sas_output.specs.Ending.{EndsCounting, IsWrite};

@@ -1,7 +1,5 @@
 -- It is decidable which operator a name means, and which fact is the first that doesn't hold.
-use Rattle.sas_run.proofs.Imports.{◌≡◌, ℕ, zero, suc, ◌<◌, ◌⊎◌, List, [], ◌∷◌, length, slice_index, slice_index_or, bytes_eq, subst, inl, inr, arith, cases_eq, cases_lt, cases_Bool, bytes_eq-Decides, All-nil, All-cons, Fact, Parts, operator_at, Holds, AllHold, preconditions, hold_or_not, IsNamed}
-use Rattle.sas_run.specs.Plans.{IsApplicable, NoneApplicable, IsChosen}
-use Rattle.sas_run.specs.Verdicts.{IsFirstMissed}
+use Rattle.sas_run.proofs.Imports.{◌≡◌, ℕ, zero, suc, ◌<◌, ◌⊎◌, List, [], ◌∷◌, length, slice_index, slice_index_or, bytes_eq, subst, inl, inr, arith, cases_eq, cases_lt, cases_Bool, bytes_eq-Decides, All-nil, All-cons, Fact, Parts, operator_at, Holds, AllHold, preconditions, hold_or_not, IsNamed, IsApplicable, NoneApplicable, IsChosen, IsFirstMissed}
 
 -- whether an operator has the name
 pub named_or_not : (p : Parts) (name : List ℕ) (operator : ℕ) → IsNamed p name operator ⊎ (IsNamed p name operator → ⊥)

@@ -1,9 +1,7 @@
 -- The facts that are deleted while given values are written into a state.
+use Rattle.sas_run.proofs.Giving.{not_both}
 use Rattle.std.proofs.lemmas.Grind.{common_steps}
-use Rattle.sas_run.proofs.Imports.{◌≡◌, ◌≢◌, ℕ, ◌+◌, ◌<◌, ◌≤◌, List, [], ◌∷◌, ◌++◌, length, get_or, set, Option, None, Some, refl, sym, ◌∙◌, ap, subst, inl, inr, arith, All, AllPairs, cases_eq, get_or-set_same, get_or-set_other, get_or_append_left, get_or_push, length-append, All-nil, All-push, All-weaker, all_pairs_push, Fact, Parts, Holds, AllHold, IsBasic, HaveGone}
-use Rattle.sas_run.specs.declared.deletions.Deleted.{Deleted}
-use Rattle.sas_run.specs.Deletions.{HasRoom, NotesOn}
-use Rattle.sas_run.specs.Given.{given_to, Replaces}
+use Rattle.sas_run.proofs.Imports.{◌≡◌, ◌≢◌, ℕ, ◌+◌, ◌<◌, ◌≤◌, List, [], ◌∷◌, ◌++◌, length, get_or, set, Option, None, Some, refl, sym, ◌∙◌, ap, subst, inl, inr, arith, All, AllPairs, cases_eq, get_or-set_same, get_or-set_other, get_or_append_left, get_or_push, length-append, All-nil, All-push, All-weaker, all_pairs_push, Fact, Parts, Holds, AllHold, IsBasic, HaveGone, Deleted, HasRoom, NotesOn, given_to, Replaces}
 
 -- facts are still noted or not, as before
 pub notes_on : (a b c : Deleted) → NotesOn a b → NotesOn b c → NotesOn a c
@@ -44,15 +42,12 @@ all_before P xs x h = λ k d lt. subst P (get_or_append_left xs (x ∷ []) d k l
 pub all_last : {X : Type 0} (P : X → Type 0) (xs : List X) (x : X) → All P (xs ++ x ∷ []) → P x
 all_last P xs x h = subst P (get_or_push xs x x (length xs) refl) (h (length xs) x (omega (arith, length-append xs (x ∷ []))))
 
-none_not_some : (value : ℕ) (given : Option ℕ) → given ≡ None → given ≡ Some value → ⊥
-none_not_some value given none some = let e : None ≡ Some value = sym none ∙ some in absurd cc
-
 module _ (p : Parts) (given : List (Option ℕ)) (s s' : List ℕ) (deleted : List Fact) (so_far : DeletedSoFar p given s s' deleted)
     (v value : ℕ) (has_place : v < length given) (in_state : v < length s') (is_given : given_to given v ≡ Some value) (is_basic : IsBasic p v) (exists : v < length p.variables) where
   -- no fact on this variable is deleted so far
   others_than : All (λ (f : Fact). f.var ≢ v) deleted
   others_than = All-weaker (λ (f : Fact). given_to given f.var ≡ None) (λ (f : Fact). f.var ≢ v)
-      (λ f none same. none_not_some value (given_to given v) (subst (λ x. given_to given x ≡ None) same none) is_given) deleted so_far.cleared
+      (λ f none same. not_both value (given_to given v) (subst (λ x. given_to given x ≡ None) same none) is_given) deleted so_far.cleared
 
   was : get_or s' v 0 ≡ get_or s v 0
   was = so_far.others v others_than

@@ -1,8 +1,6 @@
 -- Steps are executable in at most one way.
 use Rattle.std.proofs.lemmas.Grind.{common_steps}
-use Rattle.sas_run.proofs.Imports.{◌≡◌, ℕ, ◌<◌, List, [], ◌∷◌, ◌++◌, length, refl, sym, ◌∙◌, ap, subst, inl, inr, arith, cases_lt, Parts, operator_at, IsLayered, Step, IsInitial, settled_is_one, step_is_one}
-use Rattle.sas_run.specs.Plans.{IsChosen, LeadTo, LeadsTo}
-use Rattle.sas_run.specs.Verdicts.{ComesTo}
+use Rattle.sas_run.proofs.Imports.{◌≡◌, ℕ, ◌<◌, List, [], ◌∷◌, ◌++◌, length, refl, sym, ◌∙◌, ap, subst, arith, cases_lt, Parts, operator_at, IsLayered, Step, IsInitial, settled_is_one, step_is_one, IsChosen, LeadTo, LeadsTo, ComesTo}
 
 -- there is at most one chosen operator
 pub chosen_is_one : (p : Parts) (s name : List ℕ) (a b : ℕ) → IsChosen p s name a → IsChosen p s name b → a ≡ b

@@ -1,11 +1,5 @@
 -- How a plan ends: at a step that fails, or after the last step.
-use Rattle.sas_run.proofs.Imports.{◌≡◌, ℕ, ◌+◌, ◌-◌, ◌<◌, List, [], length, take, drop, get_or, Option, Some, None, sym, ◌∙◌, ap, subst, arith, take_all, Parts, PlanParts}
-use Rattle.sas_run.specs.declared.plan_check.PlanFault.{PlanFault}
-use Rattle.sas_run.specs.declared.plan_check.PlanFault.TheVariants.{Memory, NoOperator, NotApplicable, Conflict, GoalMissed, CostDiffers}
-use Rattle.sas_run.specs.Plans.{LeadsTo, IsValid}
-use Rattle.sas_run.specs.Running.{StepFails, IsFinalVerdict}
-use Rattle.sas_run.specs.Runs.{Run, steps_before, RunEndsWith, IsEnding}
-use Rattle.sas_run.specs.Verdicts.{ComesTo, IsFaultOf}
+use Rattle.sas_run.proofs.Imports.{◌≡◌, ℕ, ◌+◌, ◌-◌, ◌<◌, List, [], length, take, drop, get_or, Option, Some, None, sym, ◌∙◌, ap, subst, arith, take_all, Parts, PlanParts, PlanFault, Memory, NoOperator, NotApplicable, Conflict, GoalMissed, CostDiffers, LeadsTo, IsValid, StepFails, IsFinalVerdict, Run, steps_before, RunEndsWith, IsEnding, ComesTo, IsFaultOf}
 use Rattle.sas_run.proofs.Going.{around, length_of_take}
 use Rattle.sas_run.proofs.Runs.{some_run}
 

@@ -1,15 +1,7 @@
 -- An execution advances along its run.
 use Rattle.std.proofs.lemmas.Grind.{common_steps}
-use Rattle.sas_run.proofs.Imports.{◌≡◌, ℕ, ◌+◌, ◌<◌, ◌≤◌, List, [], length, get_or, Option, None, Result, Ok, Err, refl, sym, ◌∙◌, ap, subst, inl, inr, arith, rules, IsTrue, vec_capacity, IsOk, cases_lt, get_or-take, get_or_default, length-take, Parts, operator_at, PlanParts, IsState, IsLayered, IsInitial, Step, step_is_one, IsChain, HaveChains, IsNamed, AreFirsts, IsNextNamed}
-use Rattle.sas_run.specs.declared.plan_check.PlanFault.{PlanFault}
-use Rattle.sas_run.specs.declared.progress.Progress.{Progress}
-use Rattle.sas_run.specs.declared.stepper.Stepper.{Stepper}
-use Rattle.sas_run.specs.declared.steps.StepFault.{StepFault}
-use Rattle.sas_run.specs.Executions.{Executed, next_name, next_operator, Executes, IsFound, Advances, executed_of, IsExecuting}
-use Rattle.sas_run.specs.Running.{MakesStep, Steps}
-use Rattle.sas_run.specs.Stepping.{IsPrepared, ListsChanges}
+use Rattle.sas_run.proofs.Imports.{◌≡◌, ℕ, ◌+◌, ◌<◌, ◌≤◌, List, [], length, get_or, Option, None, Result, Ok, Err, refl, sym, ◌∙◌, ap, subst, inl, inr, arith, rules, IsTrue, vec_capacity, IsOk, cases_lt, get_or-take, get_or_default, length-take, Parts, operator_at, PlanParts, IsState, IsLayered, IsInitial, Step, step_is_one, IsChain, HaveChains, IsNamed, AreFirsts, IsNextNamed, PlanFault, Progress, Stepper, StepFault, Executed, next_name, next_operator, Executes, IsFound, Advances, executed_of, IsExecuting, MakesStep, Steps, IsPrepared, ListsChanges, Run, state_at, IsRunOf, IsEnding}
 use Rattle.sas_run.proofs.NextStates.{fault_is_conflict}
-use Rattle.sas_run.specs.Runs.{Run, state_at, IsRunOf, IsEnding}
 use Rattle.sas_run.proofs.Runs.{still, still_goes, state_fits, first_state, run_goes}
 
 -- before the first step no step is known

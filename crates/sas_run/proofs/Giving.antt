@@ -1,12 +1,7 @@
 -- The values that effects give, for one more effect, and the state after they are written.
 use Rattle.std.proofs.lemmas.Grind.{common_steps}
-use Rattle.sas_run.proofs.Imports.{◌≡◌, ◌≢◌, ℕ, ◌+◌, ◌<◌, ◌≤◌, List, length, get_or, set, Option, None, Some, refl, sym, ◌∙◌, ap, subst, inl, inr, arith, unwrap_or, cases_eq, get_or_default, get_or-set_same, get_or-set_other, length-set, Effect, Operator, Parts, effect_at, HasValue, IsState, EffectFits, AllHold, preconditions, Fires}
-use Rattle.sas_run.specs.Given.{given_to, value_after, NothingGiven, IsGiven, IsGivenTo, GivesValue, GivesOther}
-use Rattle.sas_run.specs.Running.{IsApplied, IsFirstConflict}
+use Rattle.sas_run.proofs.Imports.{◌≡◌, ◌≢◌, ℕ, ◌+◌, ◌<◌, ◌≤◌, List, length, get_or, set, Option, None, Some, refl, sym, ◌∙◌, ap, subst, inl, inr, arith, unwrap_or, cases_eq, get_or_default, get_or-set_same, get_or-set_other, length-set, Effect, Operator, Parts, effect_at, HasValue, IsState, EffectFits, AllHold, preconditions, Fires, same_Some, given_to, value_after, NothingGiven, IsGiven, IsGivenTo, GivesValue, GivesOther, IsApplied, IsFirstConflict}
 use Rattle.sas_run.proofs.Ranges.{no_effect}
-
-pub same_inside : (a b : ℕ) → Some a ≡ Some b → a ≡ b
-same_inside a b is = cc
 
 pub not_both : (a : ℕ) (given : Option ℕ) → given ≡ None → given ≡ Some a → ⊥
 not_both a given none some = let e : None ≡ Some a = sym none ∙ some in absurd cc
@@ -49,7 +44,7 @@ module _ (p : Parts) (s : List ℕ) (o : Operator) (n : ℕ) (given : List (Opti
         earlier_fires = fires';
         contradicts = record { var = on; new = λ same. differs (sym new ∙ same) };
         first = λ e f before below fires_e fires_f contradicts.
-            contradicts.new (same_inside (effect_at o e).new (effect_at o f).new (sym (is.gives e (omega arith) fires_e) ∙ ap (given_to given) contradicts.var ∙ is.gives f below fires_f));
+            contradicts.new (same_Some (effect_at o e).new (effect_at o f).new (sym (is.gives e (omega arith) fires_e) ∙ ap (given_to given) contradicts.var ∙ is.gives f below fires_f));
       }
 
   -- one more effect that fires gives its new value
@@ -82,7 +77,7 @@ module _ (p : Parts) (s : List ℕ) (o : Operator) (n : ℕ) (given : List (Opti
 
       giver : (var value : ℕ) → given_to now var ≡ Some value → (k : ℕ) × (k < n + 1) × Fires s (effect_at o k) × ((effect_at o k).var ≡ var) × ((effect_at o k).new ≡ value)
       giver var value at = elim (cases_eq var (effect_at o n).var) [
-        | inl e ↦ (n, omega arith, fires, sym e, same_inside (effect_at o n).new value (sym at_n ∙ (ap (given_to now) (sym e) ∙ at)))
+        | inl e ↦ (n, omega arith, fires, sym e, same_Some (effect_at o n).new value (sym at_n ∙ (ap (given_to now) (sym e) ∙ at)))
         | inr ne ↦ (let (k, lt, fires', on, same) = is.giver var value (sym (elsewhere var ne) ∙ at) in (k, omega arith, fires', on, same))
       ]
 
@@ -131,7 +126,7 @@ pub applied : (p : Parts) (s : List ℕ) (o : Operator) (given : List (Option �
     → IsGiven p s o (length o.effects) given → IsState p.variables s' → ((var : ℕ) → get_or s' var 0 ≡ value_after given s var) → IsApplied p s o s'
 applied p s o given s' applicable is state written = record {
   applicable = applicable;
-  agree = λ k d lt j e lt' fires fires' same. same_inside _ _ (sym (gives k d lt fires) ∙ (ap (given_to given) same ∙ gives j e lt' fires'));
+  agree = λ k d lt j e lt' fires fires' same. same_Some _ _ (sym (gives k d lt fires) ∙ (ap (given_to given) same ∙ gives j e lt' fires'));
   state = state;
   set = λ k d lt fires. written (get_or o.effects k d).var ∙ ap (λ x. unwrap_or x (get_or s (get_or o.effects k d).var 0)) (gives k d lt fires);
   kept = λ var untouched. written var ∙ nothing (given_to given var) (get_or s var 0)

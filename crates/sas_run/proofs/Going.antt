@@ -1,7 +1,5 @@
 -- One more step succeeds or fails.
-use Rattle.sas_run.proofs.Imports.{◌≡◌, ℕ, Result, Err, ◌+◌, ◌<◌, List, [], ◌∷◌, ◌++◌, length, take, drop, get_or, sym, subst, ap, refl, ◌∙◌, arith, take-append-drop, drop_more, common_steps, Parts, operator_at, Step}
-use Rattle.sas_run.specs.Plans.{IsChosen, LeadTo, LeadsTo}
-use Rattle.sas_run.specs.Running.{MakesStep}
+use Rattle.sas_run.proofs.Imports.{◌≡◌, ℕ, Result, Err, ◌+◌, ◌<◌, List, [], ◌∷◌, ◌++◌, length, take, drop, get_or, sym, ap, ◌∙◌, arith, take-append-drop, drop_more, common_steps, Parts, LeadTo, LeadsTo, MakesStep}
 
 pub goes_one_more : (p : Parts) (s : List ℕ) (names : List (List ℕ)) (operators mid : List ℕ) (name : List ℕ) (operator : ℕ) (next : List ℕ)
     → LeadTo p s names operators mid → MakesStep p mid name operator next → LeadTo p s (names ++ name ∷ []) (operators ++ operator ∷ []) next

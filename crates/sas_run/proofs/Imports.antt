@@ -1,19 +1,13 @@
--- What the proofs use of other crates.
-pub use Rattle.std.proofs.Common.{◌≡◌, ℕ, zero, suc, ◌<◌, ◌⊎◌, List, [], ◌∷◌, length, slice_index, slice_index_or, bytes_eq, subst, inl, inr, arith}
-pub use Rattle.std.proofs.Common.{◌≢◌, ◌+◌, ◌≤◌, ◌++◌, get_or, set, Option, None, Some, refl, sym, ◌∙◌, ap, ◌-◌, take, drop, Result, Ok, Err, rules}
-pub use Rattle.std.proofs.Common.{IsTrue, vec_capacity, filter_map, option_map, IfErr, ◌*◌, ◌^◌, true≢false, Bool, true, false, is_some, cond, IfNone}
-pub use Rattle.std.proofs.Common.{append_assoc}
+-- What the proofs use of other crates, and of the definitions of this one.
+pub use Rattle.std.proofs.Common.{◌≡◌, ℕ, zero, suc, ◌<◌, ◌⊎◌, List, [], ◌∷◌, length, slice_index, slice_index_or, bytes_eq, subst, inl, inr, arith, ◌≢◌, ◌+◌, ◌≤◌, ◌++◌, get_or, set, Option, None, Some, refl, sym, ◌∙◌, ap, ◌-◌, take, drop, Result, Ok, Err, rules, IsTrue, vec_capacity, filter_map, option_map, IfErr, ◌*◌, ◌^◌, true≢false, true, false, is_some, cond, IfNone, append_assoc}
 pub use Rattle.std.proofs.Math.Seq.{take-append_seam, get_or-append_seam}
-pub use Rattle.std.proofs.lemmas.Bool.{cases_eq, cases_lt, cases_Bool, ltb-false}
+pub use Rattle.std.proofs.lemmas.Bool.{cases_eq, cases_lt, cases_Bool, ltb-false, true_from_ne_false}
 pub use Rattle.std.proofs.lemmas.Grind.{common_steps}
-pub use Rattle.std.proofs.lemmas.List.{get_or-set_same, get_or-set_other, get_or_append_left, get_or_push, length-append, take_all, get_or-take}
-pub use Rattle.std.proofs.lemmas.List.{get_or_default, length-take, length-set, take-append-drop, drop_more, get_or-append-add, get_or-map}
-pub use Rattle.std.proofs.lemmas.List.{length-map, same_lists, take_more, get_or-drop, length-take-le, length-drop}
-pub use Rattle.std.proofs.lemmas.List.Elements.{All-nil, All-cons, All-push, All-weaker, All-head, All-tail, All-map, All-append, All-from_recursion}
-pub use Rattle.std.proofs.lemmas.List.Elements.{Contains-get_or, Contains-append_left, Contains-append_right, Contains-push, All-rest}
+pub use Rattle.std.proofs.lemmas.List.{get_or-set_same, get_or-set_other, get_or_append_left, get_or_push, length-append, take_all, get_or-take, get_or_default, length-take, length-set, take-append-drop, drop_more, get_or-append-add, get_or-map, length-map, same_lists, take_more, get_or-drop, length-take-le, length-drop}
+pub use Rattle.std.proofs.lemmas.List.Elements.{All-nil, All-cons, All-push, All-weaker, All-head, All-tail, All-map, All-append, All-from_recursion, Contains-get_or, Contains-append_left, Contains-append_right, Contains-push, All-rest}
 pub use Rattle.std.proofs.lemmas.List.Quantifiers.{all_pairs_push}
 pub use Rattle.std.proofs.lemmas.List.Sums.{count_by_more_no, count_by_more_yes, sum_by-cons}
-pub use Rattle.std.proofs.lemmas.Option.{slice_get-get_or}
+pub use Rattle.std.proofs.lemmas.Option.{slice_get-get_or, same_Some}
 pub use Rattle.std.proofs.lemmas.Result.{err_from_is_err_and}
 pub use Rattle.std.proofs.lemmas.Slice.Eq.{bytes_eq-Decides}
 pub use Rattle.std.specs.List.{All, AllPairs, cons_option, AllByRecursion, count_by}
@@ -49,4 +43,20 @@ pub use Rattle.sas_meaning.specs.declared.touched.Touched.{Touched}
 pub use Rattle.sas_names.proofs.Searching.{left}
 pub use Rattle.sas_names.specs.Chains.{IsChain, HaveChains}
 pub use Rattle.sas_names.specs.Named.{IsNamed}
-pub use Rattle.sas_names.specs.Names.{AreFirsts, IsNextNamed, IsLowestNamed}
+pub use Rattle.sas_names.specs.Names.{AreFirsts, IsNextNamed}
+pub use Rattle.sas_run.specs.Deletions.{HasRoom, NotesOn}
+pub use Rattle.sas_run.specs.Executions.{Executed, next_name, next_operator, Executes, IsFound, Advances, executed_of, IsExecuting}
+pub use Rattle.sas_run.specs.Given.{given_to, Replaces, value_after, NothingGiven, IsGiven, IsGivenTo, GivesValue, GivesOther}
+pub use Rattle.sas_run.specs.Laws.{LeadsToReachable, LastIsReachable, SomeVerdict, ValidHasNoFault, ValidIsOne, FaultIsOne, SomeRun, OneRun}
+pub use Rattle.sas_run.specs.PlainSteps.{AreApart, AreMade, IsPlainStep, OldHolds}
+pub use Rattle.sas_run.specs.Plans.{IsApplicable, NoneApplicable, IsChosen, LeadTo, LeadsTo, IsValid, cost_of_all}
+pub use Rattle.sas_run.specs.Running.{StepFails, IsFinalVerdict, MakesStep, Steps, IsApplied, IsFirstConflict, IsFirstMissedFact, IsFirstChosen, IsStepFault}
+pub use Rattle.sas_run.specs.Runs.{Run, steps_before, RunEndsWith, IsEnding, state_at, IsRunOf, last_state, StepsSucceed}
+pub use Rattle.sas_run.specs.Stepping.{IsPrepared, ListsChanges, Follows, HasFactOn}
+pub use Rattle.sas_run.specs.Verdicts.{IsFirstMissed, ComesTo, IsFaultOf}
+pub use Rattle.sas_run.specs.declared.deletions.Deleted.{Deleted}
+pub use Rattle.sas_run.specs.declared.plan_check.PlanFault.{PlanFault}
+pub use Rattle.sas_run.specs.declared.plan_check.PlanFault.TheVariants.{Memory, NoOperator, NotApplicable, Conflict, GoalMissed, CostDiffers}
+pub use Rattle.sas_run.specs.declared.progress.Progress.{Progress}
+pub use Rattle.sas_run.specs.declared.stepper.Stepper.{Stepper}
+pub use Rattle.sas_run.specs.declared.steps.StepFault.{StepFault}

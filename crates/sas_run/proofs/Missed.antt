@@ -1,7 +1,6 @@
 -- The index of the first fact that doesn't hold, in a list of several parts.
 use Rattle.std.proofs.lemmas.Grind.{common_steps}
-use Rattle.sas_run.proofs.Imports.{◌≡◌, ◌≢◌, ℕ, ◌+◌, ◌-◌, List, ◌∷◌, ◌++◌, length, get_or, refl, sym, ◌∙◌, ap, subst, inl, inr, arith, cases_lt, get_or_append_left, get_or-append-add, length-append, Fact, Holds, AllHold}
-use Rattle.sas_run.specs.Running.{IsFirstMissedFact}
+use Rattle.sas_run.proofs.Imports.{◌≡◌, ◌≢◌, ℕ, ◌+◌, ◌-◌, List, ◌∷◌, ◌++◌, length, get_or, sym, ◌∙◌, ap, subst, inl, inr, arith, cases_lt, get_or_append_left, get_or-append-add, length-append, Fact, Holds, AllHold, IsFirstMissedFact}
 
 -- the first such fact after facts that hold is the first in the whole list
 pub missed_behind : (value : ℕ → ℕ) (xs ys : List Fact) (fact : Fact) → AllHold value xs → IsFirstMissedFact value ys fact → IsFirstMissedFact value (xs ++ ys) fact

@@ -1,8 +1,5 @@
 -- The operators of one name, in order.
-use Rattle.std.proofs.lemmas.Grind.{common_steps}
-use Rattle.sas_run.proofs.Imports.{◌≡◌, ℕ, ◌+◌, ◌<◌, ◌≤◌, List, get_or, Option, None, Some, sym, subst, inl, inr, arith, cases_eq, cases_lt, Parts, operator_at, left, IsChain, IsNamed, IsNextNamed}
-use Rattle.sas_run.specs.Plans.{IsApplicable}
-use Rattle.sas_run.specs.Running.{IsFirstChosen}
+use Rattle.sas_run.proofs.Imports.{◌≡◌, ℕ, ◌+◌, ◌<◌, ◌≤◌, List, get_or, Option, None, Some, sym, subst, inl, inr, arith, cases_eq, cases_lt, Parts, operator_at, left, IsChain, IsNamed, IsNextNamed, IsApplicable, IsFirstChosen}
 
 -- no operator of the first one's name below this number is applicable
 abbrev pub NoneBefore : Parts → List ℕ → ℕ → ℕ → Type 0

@@ -1,12 +1,8 @@
 -- An applicable operator whose effects agree has a step. It is decidable whether an operator has a
 -- step.
 use Rattle.std.proofs.lemmas.Grind.{common_steps}
-use Rattle.sas_run.proofs.Imports.{◌≡◌, ℕ, zero, suc, ◌<◌, ◌⊎◌, List, [], ◌∷◌, length, get_or, set, slice_index, None, refl, sym, ◌∙◌, subst, inl, inr, arith, All, cases_eq, get_or-set_same, get_or-set_other, All-nil, All-cons, All-head, All-tail, Effect, Operator, Parts, operator_at, HasValue, IsState, EffectFits, OperatorFits, WellRanged, holds_at, IsBasic, IsLayered, Settles, Fires, Agree}
-use Rattle.sas_run.proofs.Imports.{Step, hold_or_not, Untouched, state_set, fact_within, settled_exists, settled_where_empty}
-use Rattle.sas_run.specs.Plans.{IsApplicable}
-use Rattle.sas_run.specs.declared.steps.StepFault.{StepFault}
+use Rattle.sas_run.proofs.Imports.{◌≡◌, ℕ, zero, suc, ◌<◌, ◌⊎◌, List, [], ◌∷◌, length, get_or, set, slice_index, None, refl, sym, ◌∙◌, subst, inl, inr, arith, All, cases_eq, get_or-set_same, get_or-set_other, All-nil, All-cons, All-head, All-tail, Effect, Operator, Parts, operator_at, HasValue, IsState, WellRanged, holds_at, IsBasic, IsLayered, Settles, Fires, Agree, IsApplicable, StepFault, IsApplied, IsStepFault, Step, hold_or_not, Untouched, state_set, fact_within, settled_exists, settled_where_empty}
 use Rattle.sas_run.specs.declared.steps.StepFault.TheVariants.{NotApplicable, Conflict}
-use Rattle.sas_run.specs.Running.{IsApplied, IsStepFault}
 use Rattle.sas_run.proofs.Choosing.{no_fact}
 
 -- if a property is decidable for each item, it is decidable for all items

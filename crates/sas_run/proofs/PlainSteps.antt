@@ -1,9 +1,5 @@
 -- Making changes on different variables one after another.
-use Rattle.sas_run.proofs.Imports.{◌≡◌, ◌≢◌, ℕ, ◌+◌, ◌<◌, ◌≤◌, List, [], ◌∷◌, ◌++◌, length, get_or, set, Option, None, Some, refl, sym, ◌∙◌, ap, subst, inl, inr, arith, filter_map, option_map, All, cons_option, cases_eq, get_or-set_same, get_or-set_other, get_or-map, length-map, All-nil, All-cons, All-head, All-tail, All-push, All-map, All-append, All-weaker, All-from_recursion, all_pairs_push}
-use Rattle.sas_run.proofs.Imports.{Change, Effect, Fact, Operator, Parts, plain_effect, plain_effects, operator_at, effect_at, HasValue, IsState, EffectFits, WellRanged, HaveGone, IsBasic, IsLayered, Holds, AllHold, preconditions, old_fact, Fires, fact_within, state_set}
-use Rattle.sas_run.specs.Given.{Replaces}
-use Rattle.sas_run.specs.PlainSteps.{AreApart, AreMade, IsPlainStep, OldHolds}
-use Rattle.sas_run.specs.Running.{IsApplied}
+use Rattle.sas_run.proofs.Imports.{◌≡◌, ◌≢◌, ℕ, ◌+◌, ◌<◌, ◌≤◌, List, [], ◌∷◌, ◌++◌, length, get_or, set, Option, None, Some, refl, sym, ◌∙◌, ap, subst, inl, inr, arith, filter_map, option_map, All, cons_option, cases_eq, get_or-set_same, get_or-set_other, get_or-map, length-map, All-nil, All-cons, All-head, All-tail, All-push, All-map, All-append, All-weaker, All-from_recursion, all_pairs_push, same_Some, Replaces, AreApart, AreMade, IsPlainStep, OldHolds, IsApplied, Change, Effect, Fact, Operator, Parts, plain_effect, plain_effects, operator_at, effect_at, HasValue, IsState, EffectFits, WellRanged, HaveGone, IsBasic, IsLayered, Holds, AllHold, preconditions, old_fact, Fires, fact_within, state_set}
 use Rattle.sas_run.proofs.Ranges.{no_effect, operator_fits}
 use Rattle.sas_run.proofs.NextStates.{effects_basic}
 use Rattle.sas_run.proofs.Deleted.{deleted_few, all_before, all_last}
@@ -153,9 +149,6 @@ applied_plainly p s o changes s' applicable plain made =
 
 -- ---- the old values that changes require
 
-same_value : (a b : ℕ) → Some a ≡ Some b → a ≡ b
-same_value a b is = cc
-
 none_is_not : (value : ℕ) → None ≡ Some value → ⊥
 none_is_not value is = absurd cc
 
@@ -168,7 +161,7 @@ one_old_held : (s : List ℕ) (var : ℕ) (old : Option ℕ) (facts : List Fact)
     → ((value : ℕ) → old ≡ Some value → get_or s var 0 ≡ value) × AllHold (λ v. get_or s v 0) facts
 one_old_held s var None facts all = ((λ value is. absurd (none_is_not value is)), all)
 one_old_held s var (Some old) facts all = (
-  (λ value is. All-head (Holds (λ v. get_or s v 0)) (record { var = var; value = old }) facts all ∙ same_value old value is),
+  (λ value is. All-head (Holds (λ v. get_or s v 0)) (record { var = var; value = old }) facts all ∙ same_Some old value is),
   All-tail (Holds (λ v. get_or s v 0)) (record { var = var; value = old }) facts all,
 )
 

@@ -1,7 +1,5 @@
 -- All states of a plan's execution are reachable, and so settled states of the task.
-use Rattle.sas_run.proofs.Imports.{ℕ, ◌<◌, List, [], ◌∷◌, length, sym, subst, All, All-nil, All-cons, Contains-get_or, Parts, operator_at, IsState, Reachable, Initial, Next, IsSettled}
-use Rattle.sas_run.specs.Plans.{LeadTo, LeadsTo}
-use Rattle.sas_run.specs.Laws.{LeadsToReachable, LastIsReachable}
+use Rattle.sas_run.proofs.Imports.{ℕ, ◌<◌, List, [], ◌∷◌, length, sym, subst, All, All-nil, All-cons, Contains-get_or, Parts, operator_at, IsState, Reachable, Initial, Next, IsSettled, LeadTo, LeadsTo, LeadsToReachable, LastIsReachable}
 
 -- from a reachable state steps lead to reachable ones
 go_on : (p : Parts) (s : List ℕ) (names : List (List ℕ)) (operators last : List ℕ) → Reachable p s → LeadTo p s names operators last

@@ -1,11 +1,5 @@
 -- A plan of a layered task is valid in one way, or has exactly one fault.
-use Rattle.std.proofs.lemmas.Grind.{common_steps}
-use Rattle.sas_run.proofs.Imports.{◌≡◌, ◌≢◌, ℕ, ◌+◌, ◌⊎◌, List, [], ◌∷◌, ◌++◌, length, slice_index, refl, sym, ◌∙◌, ap, subst, inl, inr, arith, cases_eq, cases_lt, Parts, operator_at, PlanParts, IsState, WellRanged, AllHold, IsLayered, Agree, IsInitial, initial_exists, IsNamed}
-use Rattle.sas_run.specs.declared.plan_check.PlanFault.{PlanFault}
-use Rattle.sas_run.specs.declared.plan_check.PlanFault.TheVariants.{Memory, NoOperator, NotApplicable, Conflict, GoalMissed, CostDiffers}
-use Rattle.sas_run.specs.Laws.{SomeVerdict, ValidHasNoFault, ValidIsOne, FaultIsOne}
-use Rattle.sas_run.specs.Plans.{NoneApplicable, IsChosen, LeadTo, LeadsTo, cost_of_all, IsValid}
-use Rattle.sas_run.specs.Verdicts.{ComesTo, IsFirstMissed, IsFaultOf}
+use Rattle.sas_run.proofs.Imports.{◌≡◌, ◌≢◌, ℕ, ◌+◌, ◌⊎◌, List, [], ◌∷◌, ◌++◌, length, slice_index, refl, sym, ◌∙◌, ap, subst, inl, inr, arith, cases_eq, cases_lt, Parts, operator_at, PlanParts, IsState, WellRanged, AllHold, IsLayered, Agree, IsInitial, initial_exists, IsNamed, PlanFault, Memory, NoOperator, NotApplicable, Conflict, GoalMissed, CostDiffers, SomeVerdict, ValidHasNoFault, ValidIsOne, FaultIsOne, NoneApplicable, IsChosen, LeadTo, LeadsTo, cost_of_all, IsValid, ComesTo, IsFirstMissed, IsFaultOf}
 use Rattle.sas_run.proofs.Choosing.{named_or_none, chosen_or_none, hold_or_missed, first_missed_is_one, none_missed}
 use Rattle.sas_run.proofs.Determined.{chosen_is_one, GoesOn, leads_one_way, comes_on, comes_past, comes_one_way}
 use Rattle.sas_run.proofs.NextStates.{step_or_conflict}

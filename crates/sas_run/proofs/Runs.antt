@@ -1,16 +1,9 @@
 -- Executable steps are those of exactly one run. Laws about runs.
 use Rattle.std.proofs.lemmas.Grind.{common_steps}
-use Rattle.sas_run.proofs.Imports.{◌≡◌, ℕ, zero, suc, ◌+◌, ◌-◌, ◌<◌, ◌≤◌, List, [], ◌∷◌, ◌++◌, length, take, get_or, refl, sym, ◌∙◌, ap, subst, arith, All, take-append_seam, get_or-append_seam, same_lists, take_all, take_more, get_or_default, get_or-take, Parts, PlanParts, IsState, IsLayered, IsInitial, IsSettled}
-use Rattle.sas_run.specs.Plans.{LeadTo, LeadsTo}
-use Rattle.sas_run.specs.Running.{MakesStep}
+use Rattle.sas_run.proofs.Imports.{◌≡◌, ℕ, zero, suc, ◌+◌, ◌-◌, ◌<◌, ◌≤◌, List, [], ◌∷◌, ◌++◌, length, take, get_or, refl, sym, ◌∙◌, ap, subst, arith, All, take-append_seam, get_or-append_seam, same_lists, take_all, take_more, get_or_default, get_or-take, Parts, PlanParts, IsState, IsLayered, IsInitial, IsSettled, LeadTo, LeadsTo, MakesStep, PlanFault, Memory, NoOperator, NotApplicable, Conflict, GoalMissed, CostDiffers, Run, state_at, last_state, StepsSucceed, steps_before, ComesTo, IsFaultOf, SomeRun, OneRun}
 use Rattle.sas_run.proofs.Determined.{leads_on, leads_one_way, initial_is_one}
 use Rattle.sas_run.proofs.Going.{leads_one_more, length_of_take}
 use Rattle.sas_run.proofs.PlanStates.{leads_to_rest, leads_by}
-use Rattle.sas_run.specs.declared.plan_check.PlanFault.{PlanFault}
-use Rattle.sas_run.specs.declared.plan_check.PlanFault.TheVariants.{Memory, NoOperator, NotApplicable, Conflict, GoalMissed, CostDiffers}
-use Rattle.sas_run.specs.Runs.{Run, state_at, last_state, StepsSucceed, steps_before}
-use Rattle.sas_run.specs.Verdicts.{ComesTo, IsFaultOf}
-use Rattle.sas_run.specs.Laws.{SomeRun, OneRun}
 
 -- the states to which steps from s lead
 record Came (p : Parts) (s : List ℕ) (names : List (List ℕ)) (operators last : List ℕ) : Type 0 where

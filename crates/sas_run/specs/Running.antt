@@ -1,6 +1,5 @@
 -- What the functions of a runner return.
-use Rattle.std.specs.Prelude.{◌≡◌, ◌≢◌, ℕ, ◌<◌, ◌≤◌, List, length, All}
-use Rattle.std.specs.Prelude.{slice_index, slice_index_or, Option, None, Some, Result, Ok, Err}
+use Rattle.std.specs.Prelude.{◌≡◌, ◌≢◌, ℕ, ◌<◌, ◌≤◌, List, length, All, slice_index, slice_index_or, Option, None, Some, Result, Ok, Err}
 use Rattle.sas_core.specs.declared.parts.Fact.{Fact}
 use Rattle.sas_core.specs.declared.parts.Effect.{Effect}
 use Rattle.sas_core.specs.declared.parts.Operator.{Operator}
@@ -118,9 +117,7 @@ StepFails p s name step (plan_fault.NotApplicable at) = (at ≡ step)
 StepFails p s name step (plan_fault.Conflict at operator) = (at ≡ step)
     × IsChosen p s name operator
     × (Agree s (operator_at p operator).effects → ⊥)
-StepFails p s name step (plan_fault.GoalMissed index) = ⊥
-StepFails p s name step (plan_fault.CostDiffers sum) = ⊥
-StepFails p s name step plan_fault.Memory = ⊥
+StepFails p s name step _ = ⊥
 
 -- The verdict after the last step: nothing fails if the goal holds and the operators' costs add up
 -- to `cost`. Otherwise it is the first fact of the goal that doesn't hold, or the sum of the costs.

@@ -1,10 +1,5 @@
 -- What is expected after lines that lead the process of task files to a state.
-use Rattle.sas_task_format.proofs.Imports.{◌≡◌, Bool, List, [], ◌∷◌, ◌++◌, map, refl, sym, subst, ◌∙◌, Parts, WellRanged, before, OneLine, After, LeadsToEnd, after_ends}
-use Rattle.sas_task_format.specs.Process.{process_node}
-use Rattle.sas_task_format.specs.TaskFormat.{TaskLine, TaskLineFits, TaskSlot, task_line_bytes, task_layout, task_format}
-use Rattle.sas_task_format.specs.TaskProcess.{TaskProcess, task_start}
-use Rattle.sas_task_format.specs.Marks.{slot_of_due, IsDue}
-use Rattle.sas_task_format.specs.Tracker.{tracker_start, track, mark_in}
+use Rattle.sas_task_format.proofs.Imports.{◌≡◌, Bool, List, [], ◌∷◌, ◌++◌, map, refl, sym, subst, ◌∙◌, Parts, WellRanged, before, OneLine, After, LeadsToEnd, after_ends, process_node, TaskLine, TaskLineFits, TaskSlot, task_line_bytes, task_layout, task_format, TaskProcess, task_start, slot_of_due, IsDue, tracker_start, track, mark_in}
 use Rattle.sas_task_format.proofs.TaskGrammar.{task_grammar}
 use Rattle.sas_task_format.proofs.DueBehind.{belongs_behind, is_due}
 

@@ -1,15 +1,9 @@
 -- What is expected after the first lines of a task, by a tracker over them.
-use Rattle.sas_task_format.proofs.Imports.{◌≡◌, ℕ, zero, suc, List, [], ◌∷◌, ◌++◌, length, map, refl, sym, ap, subst, ◌∙◌, slice_get, Some, None, append-nil, map-append, length-map, Parts, WellRanged, cut_at}
-use Rattle.sas_task_format.specs.declared.places.Place.{Place}
+use Rattle.sas_task_format.proofs.Imports.{◌≡◌, ℕ, zero, suc, List, [], ◌∷◌, ◌++◌, length, map, refl, sym, ap, subst, ◌∙◌, slice_get, Some, None, append-nil, map-append, length-map, Parts, WellRanged, cut_at, Place, Due, Mark, TaskLine, task_slot, task_line_bytes, task_layout, any_number, slot_of_due, task_marks, IsDue, Tracker, tracker_start, by_count, step, track, mark, mark_at, mark_in, next_number}
 use Rattle.sas_task_format.specs.declared.places.Place.TheVariants as place
-use Rattle.sas_task_format.specs.declared.marks.Due.{Due}
 use Rattle.sas_task_format.specs.declared.marks.Due.TheVariants as due
 use Rattle.sas_task_format.specs.declared.marks.FixedWord.TheVariants as fixed
 use Rattle.sas_task_format.specs.declared.marks.Location.TheVariants as at
-use Rattle.sas_task_format.specs.declared.marks.Mark.{Mark}
-use Rattle.sas_task_format.specs.TaskFormat.{TaskLine, task_slot, task_line_bytes, task_layout}
-use Rattle.sas_task_format.specs.Marks.{any_number, slot_of_due, task_marks, IsDue}
-use Rattle.sas_task_format.specs.Tracker.{Tracker, tracker_start, by_count, step, track, mark, mark_at, mark_in, next_number}
 use Rattle.sas_task_format.proofs.Tracking.{track_marks, IsBehindVariables, Known, Along}
 use Rattle.sas_task_format.proofs.TrackedTask.{ranges_in, behind_all, task_scan}
 use Rattle.sas_task_format.proofs.WrongWords.{HasBounds}
@@ -94,19 +88,10 @@ no_fact zero d e f g h = f h
 no_fact (suc n) d e f g h = g h
 
 facts_behind_variables : (p : Place) (t : Tracker) → HasFacts (mark_at p t).due → IsBehindVariables p
-facts_behind_variables place.VersionBegin t h = h
-facts_behind_variables place.VersionNumber t h = h
-facts_behind_variables place.VersionEnd t h = h
-facts_behind_variables place.MetricBegin t h = h
-facts_behind_variables place.MetricNumber t h = h
-facts_behind_variables place.MetricEnd t h = h
-facts_behind_variables place.VariableCount t h = h
 facts_behind_variables place.Variables t h = no_facts t.left (mark at.Groups any_number) (mark (at.Variable (next_number t)) (due.Word fixed.BeginVariable)) (λ x. x) (λ x. x) h
-facts_behind_variables place.VariableName t h = h
-facts_behind_variables place.VariableLayer t h = h
-facts_behind_variables place.VariableRange t h = h
 facts_behind_variables place.VariableValues t h = no_fact t.more (due.Word fixed.EndVariable) due.Name (λ x. x) (λ x. x) h
 facts_behind_variables _ t h = tt
+facts_behind_variables _ t h = h
 
 -- such lines are expected only after the variables
 pub speaks_behind_variables : (t : Tracker) → HasFacts (mark_in t).due → IsBehindVariables t.place

@@ -1,11 +1,7 @@
 -- If a fact, a head or an effect is expected, each line of its shape with allowed numbers continues
 -- a task.
-use Rattle.sas_task_format.proofs.Imports.{◌≡◌, ℕ, zero, suc, Bool, true, List, [], ◌∷◌, ◌++◌, length, map, refl, sym, ap, subst, ◌∙◌, ◌⊎◌, inl, inr, Option, Some, None, IsTrue, codes, nat_lt, ◌==◌, slice_index, flat_map, list_all, Fact, Variable, Parts, is_name, has_value, fact_exists, WellRanged, IsBegun, After, LeadsToEnd, Leads, leads_line, after_ends, ends_split, one_ended}
+use Rattle.sas_task_format.proofs.Imports.{◌≡◌, ℕ, zero, suc, Bool, true, List, [], ◌∷◌, ◌++◌, length, map, refl, sym, ap, subst, ◌∙◌, ◌⊎◌, inl, inr, Option, Some, None, IsTrue, codes, nat_lt, ◌==◌, slice_index, flat_map, list_all, Fact, Variable, Parts, is_name, has_value, fact_exists, WellRanged, IsBegun, After, LeadsToEnd, Leads, leads_line, after_ends, ends_split, one_ended, done, read, process_node, a_line, repeat, each, a_list, TaskLine, fact, effect, head, TaskSlot, word_slot, name_slot, number_slot, signed_slot, fact_slot, effect_slot, head_slot, task_slot, task_line_bytes, task_layout, task_format, TaskLineFits, TaskProcess, TaskPart, name_in, number_in, signed_in, fact_in, effect_in, head_in, any, positive, may_change, effect_may_stand, head_may_stand, a_word, a_name, a_number, a_signed, a_fact, an_effect, a_head, a_value, a_version, a_metric, a_variable, a_group, a_state, a_goal, an_operator, a_rule, task_start, Bounded, fact_bounds, change_bounds, line_bounds}
 use Rattle.sas_reader.proofs.Paths.{map-append}
-use Rattle.sas_task_format.specs.Process.{done, read, process_node, a_line, repeat, each, a_list}
-use Rattle.sas_task_format.specs.TaskFormat.{TaskLine, fact, effect, head, TaskSlot, word_slot, name_slot, number_slot, signed_slot, fact_slot, effect_slot, head_slot, task_slot, task_line_bytes, task_layout, task_format, TaskLineFits}
-use Rattle.sas_task_format.specs.TaskProcess.{TaskProcess, TaskPart, name_in, number_in, signed_in, fact_in, effect_in, head_in, any, positive, may_change, effect_may_stand, head_may_stand, a_word, a_name, a_number, a_signed, a_fact, an_effect, a_head, a_value, a_version, a_metric, a_variable, a_group, a_state, a_goal, an_operator, a_rule, task_start}
-use Rattle.sas_task_format.specs.TaskReasons.{Bounded, fact_bounds, change_bounds, line_bounds}
 use Rattle.sas_task_format.proofs.TaskSections.{and_both}
 use Rattle.sas_task_format.proofs.TaskGrammar.{task_grammar}
 use Rattle.sas_task_format.proofs.WrongWords.{AllStand, HasBounds, ranges_in, range_is}

@@ -1,8 +1,7 @@
 -- Sections: parts of a tree of reads, each with its lines and its good values. Lines that lead
 -- through a part are those of one good value, and the lines of each good value lead through. The
 -- section of a format is composed of smaller ones.
-use Rattle.sas_task_format.proofs.Imports.{◌≡◌, ℕ, zero, suc, Bool, List, [], ◌∷◌, ◌++◌, length, refl, sym, ap, subst, ◌∙◌, append_assoc, IsTrue, flat_map, AllByRecursion, append-nil, flat_map-cons, Format, IsAllowed, After, LeadsToEnd, one_ended}
-use Rattle.sas_task_format.specs.Process.{Process, done, read, process_node, Part, Paired, a_line, repeat, each, a_list}
+use Rattle.sas_task_format.proofs.Imports.{◌≡◌, ℕ, zero, suc, Bool, List, [], ◌∷◌, ◌++◌, length, refl, sym, ap, subst, ◌∙◌, append_assoc, IsTrue, flat_map, AllByRecursion, append-nil, flat_map-cons, Format, IsAllowed, After, LeadsToEnd, one_ended, Process, done, read, process_node, Part, Paired, a_line, repeat, each, a_list}
 
 -- the only value of a part without content is good
 abbrev pub Always : Unit {0} → Type 0

@@ -1,11 +1,5 @@
 -- Each fault of a task file has a reason: what is expected there, and which number is wrong, if any.
-use Rattle.sas_task_format.proofs.Imports.{◌≡◌, ℕ, ◌+◌, List, [], ◌∷◌, ◌++◌, map, refl, sym, ap, subst, ◌∙◌, Option, None, append-nil, Parts, WellRanged, lines, unfinished, Fault, Kind, lines_of, EndOf, most_bytes, of_line, of_byte, of_end, cut_at}
-use Rattle.sas_task_format.specs.declared.marks.Mark.{Mark}
-use Rattle.sas_task_format.specs.declared.marks.WrongWord.{WrongWord}
-use Rattle.sas_task_format.specs.TaskFormat.{TaskLine, TaskSlot, word_slot, name_slot, number_slot, signed_slot, fact_slot, effect_slot, head_slot, task_line_bytes, task_layout, NumbersKind, no_shape, no_value, TaskKind, task_texts, task_format}
-use Rattle.sas_task_format.specs.Marks.{IsDue, slot_of_due}
-use Rattle.sas_task_format.specs.Tracker.{tracker_start, track, mark_in}
-use Rattle.sas_task_format.specs.TaskReasons.{first_wrong, line_bounds, IsTaskReason, SomeTaskReason}
+use Rattle.sas_task_format.proofs.Imports.{◌≡◌, ℕ, List, [], ◌∷◌, ◌++◌, map, refl, sym, ap, subst, ◌∙◌, Option, None, append-nil, Parts, WellRanged, lines, unfinished, Fault, Kind, lines_of, EndOf, most_bytes, of_line, of_byte, of_end, cut_at, Mark, WrongWord, TaskLine, TaskSlot, word_slot, name_slot, number_slot, signed_slot, fact_slot, effect_slot, head_slot, task_line_bytes, task_layout, NumbersKind, no_shape, no_value, TaskKind, task_texts, task_format, IsDue, slot_of_due, tracker_start, track, mark_in, first_wrong, line_bounds, IsTaskReason, SomeTaskReason}
 use Rattle.sas_task_format.proofs.DueBehind.{end_mark, is_due}
 use Rattle.sas_task_format.proofs.WrongWords.{ranges_in}
 use Rattle.sas_task_format.proofs.MarkLaws.{some_due}

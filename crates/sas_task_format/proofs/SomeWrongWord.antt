@@ -1,14 +1,8 @@
 -- If a fact, a head or an effect is expected, a refused line of its shape has a wrong number, which
 -- the reason names.
-use Rattle.sas_task_format.proofs.Imports.{◌≡◌, ℕ, ◌≤◌, List, [], ◌∷◌, ◌++◌, length, length-append, map, refl, sym, ap, subst, ◌∙◌, inl, inr, arith, Option, Some, None, IsSome, eqb_tells, lines, unfinished, lines-plain, unfinished-end, Fault, Kind, lines_of, Format, IsBegun, KindAt, too_long, trailing, wrong, FaultOf, most_bytes, of_line, of_byte, of_end}
+use Rattle.sas_task_format.proofs.Imports.{◌≡◌, ℕ, ◌≤◌, List, [], ◌∷◌, ◌++◌, length, length-append, map, refl, sym, ap, subst, ◌∙◌, inl, inr, arith, Option, Some, None, IsSome, eqb_tells, lines, unfinished, lines-plain, unfinished-end, Fault, Kind, lines_of, Format, IsBegun, KindAt, too_long, trailing, wrong, FaultOf, most_bytes, of_line, of_byte, of_end, Due, Mark, WrongWord, TaskSlot, word_slot, name_slot, number_slot, signed_slot, fact_slot, effect_slot, head_slot, task_slot, task_line_bytes, HasShape, NumbersKind, no_shape, no_value, TaskKind, task_texts, task_format, IsDue, slot_of_due, Bounded, first_wrong, line_bounds, IsFirstWrong, IsTaskReason, SpeaksOfFacts, SomeWrongWord, WrongWordIsNamed}
 use Rattle.sas_reader.proofs.Paths.{map-append}
 use Rattle.sas_reader.specs.declared.fault.Kind.TheVariants as kinds
-use Rattle.sas_task_format.specs.declared.marks.Due.{Due}
-use Rattle.sas_task_format.specs.declared.marks.Mark.{Mark}
-use Rattle.sas_task_format.specs.declared.marks.WrongWord.{WrongWord}
-use Rattle.sas_task_format.specs.TaskFormat.{TaskSlot, word_slot, name_slot, number_slot, signed_slot, fact_slot, effect_slot, head_slot, task_slot, task_line_bytes, HasShape, NumbersKind, no_shape, no_value, TaskKind, task_texts, task_format}
-use Rattle.sas_task_format.specs.Marks.{IsDue, slot_of_due}
-use Rattle.sas_task_format.specs.TaskReasons.{Bounded, first_wrong, line_bounds, IsFirstWrong, IsTaskReason, SpeaksOfFacts, SomeWrongWord, WrongWordIsNamed}
 use Rattle.sas_task_format.proofs.DueBehind.{belongs_behind, HasFacts, standing}
 use Rattle.sas_task_format.proofs.MarkLaws.{one_due, some_due, one_wrong_word, same_ranges}
 use Rattle.sas_task_format.proofs.MayStand.{goes_on}

@@ -1,8 +1,5 @@
 -- The grammar of task files.
-use Rattle.sas_task_format.proofs.Imports.{Grammar}
-use Rattle.sas_task_format.specs.Process.{process_node}
-use Rattle.sas_task_format.specs.TaskFormat.{task_format, TaskLineFits}
-use Rattle.sas_task_format.specs.TaskProcess.{task_start}
+use Rattle.sas_task_format.proofs.Imports.{Grammar, process_node, task_format, TaskLineFits, task_start}
 use Rattle.sas_task_format.proofs.TaskSections.{task_meets}
 use Rattle.sas_task_format.proofs.TaskLines.{one_task_line, one_task_kind, some_task_kind}
 use Rattle.sas_task_format.proofs.TaskPlain.{task_plain}

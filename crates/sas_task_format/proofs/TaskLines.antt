@@ -1,15 +1,13 @@
 -- A line of a task has one meaning at a slot, its fault has one kind, and it contains no LF and no
 -- CR.
 use Rattle.std.proofs.lemmas.Grind.{common_steps}
-use Rattle.sas_task_format.proofs.Imports.{◌≡◌, ℕ, List, [], ◌∷◌, ◌++◌, length, refl, sym, ap, subst, ◌∙◌, arith, Option, flat_map, AllByRecursion, decimal, Fact, Effect, IsNumber, IsSigned, signed_decimal, NoSpace, same_words, NoSpace-number, NoSpace-signed, same_number, same_signed, Kind, Keyword, Name, Shape, Value}
-use Rattle.sas_task_format.specs.TaskFormat.{TaskLine, word, name, number, signed, fact, effect, head, TaskSlot, word_slot, name_slot, number_slot, signed_slot, fact_slot, effect_slot, head_slot, task_slot, fact_words, head_words, task_line_bytes, TaskLineFits, FactNumbers, HeadNumbers, EffectNumbers, NumbersKind, no_shape, no_value, TaskKind}
-use Rattle.sas_task_format.specs.TaskProcess.{number_in, signed_in, fact_in, effect_in, head_in}
+use Rattle.sas_task_format.proofs.Imports.{◌≡◌, ℕ, List, [], ◌∷◌, ◌++◌, length, refl, sym, ap, subst, ◌∙◌, arith, Option, flat_map, AllByRecursion, decimal, Fact, Effect, IsNumber, IsSigned, signed_decimal, NoSpace, same_words, NoSpace-number, NoSpace-signed, same_signed, Kind, Keyword, Name, Shape, Value, decimal_injective, TaskLine, word, name, number, signed, fact, effect, head, TaskSlot, word_slot, name_slot, number_slot, signed_slot, fact_slot, effect_slot, head_slot, task_slot, fact_words, head_words, task_line_bytes, TaskLineFits, FactNumbers, HeadNumbers, EffectNumbers, NumbersKind, no_shape, no_value, TaskKind, number_in, signed_in, fact_in, effect_in, head_in}
 use Rattle.sas_task_format.proofs.TaskSections.{word_is, name_is, number_is, signed_is, fact_is, effect_is, head_is}
 
 -- ---- one meaning
 
 number_same : (m n : ℕ) → IsNumber m → IsNumber n → decimal m ≡ decimal n → m ≡ n
-number_same m n h k e = same_number m n (omega arith) (omega arith) e
+number_same m n h k e = decimal_injective m n (omega arith) (omega arith) e
 
 fact_fields : (f g : Fact) → f.var ≡ g.var → f.value ≡ g.value → f ≡ g
 fact_fields f g a b = ap (λ (x : ℕ). let r : Fact = record { var = x; value = f.value } in r) a ∙ ap (λ (x : ℕ). let r : Fact = record { var = g.var; value = x } in r) b

@@ -1,9 +1,5 @@
 -- The sections of task files.
-use Rattle.sas_task_format.proofs.Imports.{◌≡◌, ℕ, zero, suc, ◌<◌, Bool, true, false, ◌&&◌, List, [], ◌∷◌, ◌++◌, length, refl, sym, ap, subst, ◌∙◌, append_assoc, arith, IsTrue, rules, Some, None, Option, codes, nat_lt, ◌==◌, slice_index, if◌then◌else◌, list_all, AllByRecursion, ltb-true, eqb-true, Fact, Variable, Effect, IsName, IsNumber, IsSigned, range_of, HasValue, has_value, MayHaveValue}
-use Rattle.sas_task_format.proofs.Imports.{FactExists, fact_exists, IsState, Listed, VariableFits, EffectFits, OperatorFits, RuleFits, WellRanged}
-use Rattle.sas_task_format.specs.Process.{done, Paired, a_list}
-use Rattle.sas_task_format.specs.TaskFormat.{TaskLine, word, name, number, signed, fact, effect, head, word_slot, name_slot, number_slot, signed_slot, fact_slot, effect_slot, head_slot, task_slot, FactNumbers, HeadNumbers, EffectNumbers, line, between, counted, version_lines, metric_lines, variable_lines, group_lines, state_lines, goal_lines, operator_lines, rule_lines, task_layout, task_format, TaskLineFits}
-use Rattle.sas_task_format.specs.TaskProcess.{TaskPart, name_in, number_in, signed_in, fact_in, effect_in, Head, head_in, any, positive, may_change, effect_may_stand, a_word, a_name, a_number, a_signed, a_fact, an_effect, a_head, a_value, a_version, a_metric, a_variable, a_group, a_state, a_goal, an_operator, a_rule, a_task}
+use Rattle.sas_task_format.proofs.Imports.{◌≡◌, ℕ, zero, suc, ◌<◌, Bool, true, false, ◌&&◌, List, [], ◌∷◌, ◌++◌, length, refl, sym, ap, subst, ◌∙◌, append_assoc, arith, IsTrue, rules, Some, None, Option, codes, nat_lt, ◌==◌, slice_index, if◌then◌else◌, list_all, AllByRecursion, ltb-true, eqb-true, Fact, Variable, Effect, IsName, IsNumber, IsSigned, range_of, HasValue, has_value, MayHaveValue, done, Paired, a_list, TaskLine, word, name, number, signed, fact, effect, head, word_slot, name_slot, number_slot, signed_slot, fact_slot, effect_slot, head_slot, task_slot, FactNumbers, HeadNumbers, EffectNumbers, line, between, counted, version_lines, metric_lines, variable_lines, group_lines, state_lines, goal_lines, operator_lines, rule_lines, task_layout, task_format, TaskLineFits, TaskPart, name_in, number_in, signed_in, fact_in, effect_in, Head, head_in, any, positive, may_change, effect_may_stand, a_word, a_name, a_number, a_signed, a_fact, an_effect, a_head, a_value, a_version, a_metric, a_variable, a_group, a_state, a_goal, an_operator, a_rule, a_task, FactExists, fact_exists, IsState, Listed, VariableFits, EffectFits, OperatorFits, RuleFits, WellRanged}
 use Rattle.sas_task_format.proofs.Sections.{Always, LineFor, Section, leaf, silent, both, ◌then◌, converted, restated, within, list, for_each, Meets, meets}
 
 -- ---- tests

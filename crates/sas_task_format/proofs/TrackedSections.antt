@@ -1,20 +1,13 @@
 -- A tracker over the sections of a task: its marks are those of each section, and its counts after
 -- each section are right.
 use Rattle.std.proofs.lemmas.Grind.{common_steps}
-use Rattle.sas_task_format.proofs.Imports.{◌≡◌, ℕ, suc, ◌+◌, ◌-◌, Bool, List, [], ◌∷◌, ◌++◌, length, map, refl, sym, ap, ◌∙◌, append_assoc, arith, codes, flat_map, map-append, Fact, Variable, Operator, Rule}
+use Rattle.sas_task_format.proofs.Imports.{◌≡◌, ℕ, suc, ◌+◌, ◌-◌, Bool, List, [], ◌∷◌, ◌++◌, length, map, refl, sym, ap, ◌∙◌, append_assoc, arith, codes, flat_map, map-append, Fact, Variable, Operator, Rule, Place, Due, Location, Mark, TaskLine, word, name, number, signed, fact, effect, head, task_slot, line, version_lines, metric_lines, variable_lines, group_lines, goal_lines, operator_lines, rule_lines, between_words, counted_dues, there, slot_of_due, any_number, variable_dues, group_dues, operator_dues, rule_dues, numbered, Tracker, tracker_start, step, mark, mark_in, this_number}
 use Rattle.std.proofs.Common.{append-nil}
-use Rattle.sas_task_format.specs.declared.places.Place.{Place}
 use Rattle.sas_task_format.specs.declared.places.Place.TheVariants as place
-use Rattle.sas_task_format.specs.declared.marks.Due.{Due}
 use Rattle.sas_task_format.specs.declared.marks.Due.TheVariants as due
 use Rattle.sas_task_format.specs.declared.marks.FixedWord.TheVariants as fixed
-use Rattle.sas_task_format.specs.declared.marks.Location.{Location}
 use Rattle.sas_task_format.specs.declared.marks.Location.TheVariants as at
-use Rattle.sas_task_format.specs.declared.marks.Mark.{Mark}
-use Rattle.sas_task_format.specs.TaskFormat.{TaskLine, word, name, number, signed, fact, effect, head, task_slot, line, version_lines, metric_lines, variable_lines, group_lines, goal_lines, operator_lines, rule_lines}
-use Rattle.sas_task_format.specs.Marks.{between_words, counted_dues, there, slot_of_due, any_number, variable_dues, group_dues, operator_dues, rule_dues, numbered}
-use Rattle.sas_task_format.specs.Tracker.{Tracker, tracker_start, step, mark, mark_in, this_number}
-use Rattle.sas_task_format.proofs.Tracking.{IsBehindVariables, Known, Scan, ◌then◌, marked, leading, spelled, one}
+use Rattle.sas_task_format.proofs.Tracking.{IsBehindVariables, Known, Scan, marked, leading, spelled, one}
 
 -- ---- marks of the lines of a section
 

@@ -1,16 +1,10 @@
 -- A tracker over all lines of a task: its marks are those of the task.
-use Rattle.sas_task_format.proofs.Imports.{◌≡◌, ℕ, ◌+◌, ◌-◌, Bool, true, false, nat_lt, List, [], ◌∷◌, ◌++◌, length, map, refl, sym, ap, ◌∙◌, append_assoc, arith, codes, length-append, slice_index_or, if◌then◌else◌, flat_map, lt-ltb, le-ltb, map-append, get_or-append-add, Variable, Parts, WellRanged}
+use Rattle.sas_task_format.proofs.Imports.{◌≡◌, ℕ, ◌+◌, ◌-◌, Bool, true, false, nat_lt, List, [], ◌∷◌, ◌++◌, length, map, refl, sym, ap, ◌∙◌, append_assoc, arith, codes, length-append, slice_index_or, if◌then◌else◌, flat_map, lt-ltb, le-ltb, map-append, get_or-append-add, Variable, Parts, WellRanged, Due, Mark, Paired, TaskLine, word, number, line, counted, version_lines, metric_lines, variable_lines, group_lines, state_lines, goal_lines, operator_lines, rule_lines, task_layout, between_words, there, slot_of_due, any_number, positive_number, numbered, variable_dues, group_dues, operator_dues, rule_dues, task_marks, Tracker, tracker_start, step, mark, mark_in}
 use Rattle.std.proofs.Common.{append-nil}
 use Rattle.sas_task_format.specs.declared.places.Place.TheVariants as place
-use Rattle.sas_task_format.specs.declared.marks.Due.{Due}
 use Rattle.sas_task_format.specs.declared.marks.Due.TheVariants as due
 use Rattle.sas_task_format.specs.declared.marks.FixedWord.TheVariants as fixed
 use Rattle.sas_task_format.specs.declared.marks.Location.TheVariants as at
-use Rattle.sas_task_format.specs.declared.marks.Mark.{Mark}
-use Rattle.sas_task_format.specs.Process.{Paired}
-use Rattle.sas_task_format.specs.TaskFormat.{TaskLine, word, number, line, counted, version_lines, metric_lines, variable_lines, group_lines, state_lines, goal_lines, operator_lines, rule_lines, task_layout}
-use Rattle.sas_task_format.specs.Marks.{between_words, there, slot_of_due, any_number, positive_number, numbered, variable_dues, group_dues, operator_dues, rule_dues, task_marks}
-use Rattle.sas_task_format.specs.Tracker.{Tracker, tracker_start, step, mark, mark_in}
 use Rattle.sas_task_format.proofs.TaskSections.{InRange, state_paired, eight}
 use Rattle.sas_task_format.proofs.Tracking.{Scan, ◌then◌, marked, spelled, one}
 use Rattle.sas_task_format.proofs.TrackedSections.{version_scan, metric_scan, variables_scan, groups_scan, goal_scan, operators_scan, rules_scan}

@@ -1,12 +1,7 @@
 -- A tracker has what is expected on each line of a task: its marks, line by line, are those of a
 -- section.
-use Rattle.sas_task_format.proofs.Imports.{◌≡◌, ℕ, List, [], ◌∷◌, ◌++◌, refl, sym, ap, subst, ◌∙◌}
-use Rattle.sas_task_format.specs.declared.places.Place.{Place}
+use Rattle.sas_task_format.proofs.Imports.{◌≡◌, ℕ, List, [], ◌∷◌, ◌++◌, refl, sym, ap, subst, ◌∙◌, Place, Mark, TaskLine, task_slot, slot_of_due, Tracker, step, track, mark_in}
 use Rattle.sas_task_format.specs.declared.places.Place.TheVariants as place
-use Rattle.sas_task_format.specs.declared.marks.Mark.{Mark}
-use Rattle.sas_task_format.specs.TaskFormat.{TaskLine, task_slot}
-use Rattle.sas_task_format.specs.Marks.{slot_of_due}
-use Rattle.sas_task_format.specs.Tracker.{Tracker, step, track, mark_in}
 
 -- the marks of lines after a tracker
 abbrev pub track_marks : Tracker → List TaskLine → List Mark
@@ -15,25 +10,8 @@ track_marks t (i ∷ items) = mark_in t ∷ track_marks (step t i) items
 
 -- places after the last variable
 abbrev pub IsBehindVariables : Place → Type 0
-IsBehindVariables place.Groups = Unit {0}
-IsBehindVariables place.GroupSize = Unit {0}
-IsBehindVariables place.GroupFacts = Unit {0}
-IsBehindVariables place.StateValues = Unit {0}
-IsBehindVariables place.GoalBegin = Unit {0}
-IsBehindVariables place.GoalSize = Unit {0}
-IsBehindVariables place.GoalFacts = Unit {0}
-IsBehindVariables place.OperatorCount = Unit {0}
-IsBehindVariables place.Operators = Unit {0}
-IsBehindVariables place.OperatorName = Unit {0}
-IsBehindVariables place.PrevailCount = Unit {0}
-IsBehindVariables place.Prevail = Unit {0}
-IsBehindVariables place.Effects = Unit {0}
-IsBehindVariables place.OperatorEnd = Unit {0}
-IsBehindVariables place.Rules = Unit {0}
-IsBehindVariables place.RuleSize = Unit {0}
-IsBehindVariables place.RuleConditions = Unit {0}
-IsBehindVariables place.RuleEnd = Unit {0}
 IsBehindVariables _ = ⊥
+IsBehindVariables _ = Unit {0}
 
 -- ---- lines after lines: their last tracker, and their marks
 

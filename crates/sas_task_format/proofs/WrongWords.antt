@@ -1,8 +1,5 @@
 -- The numbers of a line: if none is wrong, all are allowed. The ranges of the variables decide.
-use Rattle.sas_task_format.proofs.Imports.{◌≡◌, ℕ, zero, suc, ◌+◌, ◌-◌, Bool, true, false, IsTrue, List, [], ◌∷◌, refl, ap, subst, sym, Some, None, nat_lt, if◌then◌else◌, slice_index, option_map_or, AllByRecursion, none-some, Variable, range_of}
-use Rattle.sas_task_format.specs.declared.marks.WrongWord.{WrongWord}
-use Rattle.sas_task_format.specs.TaskFormat.{TaskLine, fact, effect, head, TaskSlot, fact_slot, effect_slot, head_slot, task_slot}
-use Rattle.sas_task_format.specs.TaskReasons.{Bounded, first_wrong, line_bounds}
+use Rattle.sas_task_format.proofs.Imports.{◌≡◌, ℕ, zero, suc, ◌+◌, ◌-◌, Bool, true, false, IsTrue, List, [], ◌∷◌, refl, ap, subst, sym, Some, None, nat_lt, if◌then◌else◌, slice_index, option_map_or, AllByRecursion, none-some, Variable, range_of, WrongWord, TaskLine, fact, effect, head, TaskSlot, task_slot, Bounded, first_wrong, line_bounds}
 pub use Rattle.sas_task_format.proofs.TrackedTask.{ranges_in}
 
 -- whether the number is allowed
@@ -28,10 +25,8 @@ all_stand n (b ∷ bounds) e = stands_too n b bounds (may_stand b) refl e (all_s
 
 -- the slots of lines with bounded numbers
 abbrev pub HasBounds : TaskSlot → Type 0
-HasBounds fact_slot = Unit {0}
-HasBounds effect_slot = Unit {0}
-HasBounds head_slot = Unit {0}
 HasBounds _ = ⊥
+HasBounds _ = Unit {0}
 
 pub range_is : (vs : List Variable) (var : ℕ) → slice_index (ranges_in vs) var ≡ range_of vs var
 range_is [] var = refl

@@ -1,7 +1,6 @@
 -- A tracker follows the lines of a task, one after another, and has what is expected next. Proofs
 -- use it. The definition of what is expected is in the marks of a task.
-use Rattle.std.specs.Prelude.{ℕ, zero, suc, ◌+◌, ◌-◌, nat_lt, if◌then◌else◌, List, [], ◌∷◌, ◌++◌, length}
-use Rattle.std.specs.Prelude.{slice_index_or}
+use Rattle.std.specs.Prelude.{ℕ, zero, suc, ◌+◌, ◌-◌, nat_lt, if◌then◌else◌, List, [], ◌∷◌, ◌++◌, length, slice_index_or}
 use Rattle.sas_task_format.specs.declared.places.Place.{Place}
 use Rattle.sas_task_format.specs.declared.places.Place.TheVariants as place
 use Rattle.sas_task_format.specs.declared.marks.Due.{Due}

@@ -1,7 +1,5 @@
--- What the proofs use of other crates.
-pub use Rattle.std.proofs.Common.{◌≡◌, ℕ, List, Option, Some, None, Result, refl, sym, ap, subst, ◌∙◌, IfOk, ◌≢◌, [], ◌∷◌, ◌++◌, Bool, length}
-pub use Rattle.std.proofs.Common.{append_assoc, IsTrue, codes, suc, ◌<◌, ◌-◌, arith, Ok, ◌≤◌, ◌+◌, true, false, nat_lt, if◌then◌else◌, zero, drop}
-pub use Rattle.std.proofs.Common.{Err, take, ◌&&◌, rules, inr, length-append}
+-- What the proofs use of other crates, and of the definitions of this one.
+pub use Rattle.std.proofs.Common.{◌≡◌, ℕ, List, Option, Some, None, Result, refl, sym, ap, subst, ◌∙◌, IfOk, ◌≢◌, [], ◌∷◌, ◌++◌, Bool, length, append_assoc, IsTrue, codes, suc, ◌<◌, ◌-◌, arith, Ok, ◌≤◌, ◌+◌, true, false, nat_lt, if◌then◌else◌, zero, drop, Err, take, ◌&&◌, rules, inr, length-append}
 pub use Rattle.std.proofs.lemmas.Bool.Decides.{nat_tests}
 pub use Rattle.std.proofs.lemmas.List.{append-nil}
 pub use Rattle.std.proofs.lemmas.Option.{none-some}
@@ -32,16 +30,12 @@ pub use Rattle.sas_task_format.proofs.DueBehind.{HasFacts, end_mark, ranges_behi
 pub use Rattle.sas_task_format.proofs.MarkLaws.{same_items}
 pub use Rattle.sas_task_format.proofs.TaskGrammar.{task_grammar}
 pub use Rattle.sas_task_format.proofs.TaskSections.{less, and_both, and_parts}
-pub use Rattle.sas_task_format.proofs.Tracking.{IsBehindVariables}
+pub use Rattle.sas_task_format.proofs.Tracking.{IsBehindVariables, track-append}
 pub use Rattle.sas_task_format.proofs.WrongWords.{HasBounds, same_bounds}
 pub use Rattle.sas_task_format.specs.Marks.{slot_of_due, IsDue}
 pub use Rattle.sas_task_format.specs.Process.{process_node, a_line, repeat, done, read}
-pub use Rattle.sas_task_format.specs.TaskFormat.{TaskLine, word, name, number, signed, fact, effect, head, TaskSlot, task_slot, task_line_bytes}
-pub use Rattle.sas_task_format.specs.TaskFormat.{task_layout, task_format, TaskLineFits, HasShape, name_slot, fact_slot, effect_slot, line}
-pub use Rattle.sas_task_format.specs.TaskFormat.{variable_lines, group_lines, operator_lines, rule_lines, number_slot}
-pub use Rattle.sas_task_format.specs.TaskProcess.{task_start, TaskProcess, name_in, fact_in, effect_in, effect_may_stand, a_name, a_fact, an_effect}
-pub use Rattle.sas_task_format.specs.TaskProcess.{a_variable, a_group, an_operator, a_rule, a_word, a_number, number_in, may_change, head_may_stand}
-pub use Rattle.sas_task_format.specs.TaskProcess.{head_in}
+pub use Rattle.sas_task_format.specs.TaskFormat.{TaskLine, word, name, number, signed, fact, effect, head, TaskSlot, task_slot, task_line_bytes, task_layout, task_format, TaskLineFits, HasShape, name_slot, fact_slot, effect_slot, line, variable_lines, group_lines, operator_lines, rule_lines, number_slot}
+pub use Rattle.sas_task_format.specs.TaskProcess.{task_start, TaskProcess, name_in, fact_in, effect_in, effect_may_stand, a_name, a_fact, an_effect, a_variable, a_group, an_operator, a_rule, a_word, a_number, number_in, may_change, head_may_stand, head_in}
 pub use Rattle.sas_task_format.specs.TaskReasons.{first_wrong, line_bounds, IsFirstWrong, IsTaskReason}
 pub use Rattle.sas_task_format.specs.Tracker.{mark_at, Tracker, tracker_start, track, mark_in, step, step_from, goes_to}
 pub use Rattle.sas_task_format.specs.declared.marks.Due.{Due}
@@ -59,3 +53,10 @@ pub use Rattle.sas_task_line.specs.TaskRanges.{ranges_of, fact_in_ranges, effect
 pub use Rattle.sas_task_line.specs.declared.so_far.SoFar.{SoFar}
 pub use Rattle.sas_task_line.specs.declared.task_events.Event.{Event}
 pub use Rattle.sas_task_line.specs.declared.task_events.Said.{Said}
+pub use Rattle.sas_task_judge.specs.Marks.{due_slot, DueIs, LocationIs, mark_of, WrongWordIn}
+pub use Rattle.sas_task_judge.specs.Sections.{behind_variable, behind_group, behind_operator, behind_rule}
+pub use Rattle.sas_task_judge.specs.TaskJudge.{tracker_at, state_of, tracker_of, ranges_in, HasEnded, process_at, KnownTo, SectionDue, more_in, LeadsOn, RejectsLine, StandsAsBefore, TakesMemory, JudgesLine, MovesBy, MovesAhead}
+pub use Rattle.sas_task_judge.specs.TaskMachine.{LedBy, MachineStopped}
+pub use Rattle.sas_task_judge.specs.TaskPlaces.{variable_begin, variable_values, group_begin, group_facts, state_values_of, goal_facts, operator_begin, operator_prevail, operator_effects, rule_begin, rule_conditions, state_values, goal_begin}
+pub use Rattle.sas_task_judge.specs.declared.task_judge.TaskJudge.{TaskJudge}
+pub use Rattle.sas_task_judge.specs.declared.task_machine.TaskMachine.{TaskMachine}

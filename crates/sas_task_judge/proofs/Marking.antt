@@ -1,9 +1,6 @@
 -- The location of the next line and what is expected there, by the tracker.
-use Rattle.sas_task_judge.proofs.Imports.{◌≡◌, ℕ, List, Option, Some, None, Result, refl, sym, ap, subst, ◌∙◌, none-some, IfOk, Due, Location, WrongWord, Place, slot_of_due, TaskLine, word, name, number, signed, fact, effect, head, TaskSlot, task_slot, first_wrong, line_bounds, mark_at, HasFacts, HasBounds, HasWrong, FirstWrong}
+use Rattle.sas_task_judge.proofs.Imports.{◌≡◌, ℕ, List, Option, Some, None, Result, refl, sym, ap, subst, ◌∙◌, none-some, IfOk, Due, Location, WrongWord, Place, slot_of_due, TaskLine, number, fact, effect, head, TaskSlot, task_slot, first_wrong, line_bounds, mark_at, HasFacts, HasBounds, HasWrong, FirstWrong, TaskJudge, due_slot, DueIs, LocationIs, tracker_at}
 use Rattle.sas_task_format.specs.declared.marks.Due.TheVariants as due
-use Rattle.sas_task_judge.specs.declared.task_judge.TaskJudge.{TaskJudge}
-use Rattle.sas_task_judge.specs.Marks.{due_slot, DueIs, LocationIs}
-use Rattle.sas_task_judge.specs.TaskJudge.{tracker_at}
 
 -- ---- the mark of a place
 
@@ -27,13 +24,10 @@ module _ (j : TaskJudge) (l : Location) (place : Place) (here : j.place ≡ plac
 -- ---- numbers that are wrong
 
 wrong_speaks : (ranges : List ℕ) (i : TaskLine) (w : WrongWord) → first_wrong 1 (line_bounds ranges i) ≡ Some w → HasBounds (task_slot i)
-wrong_speaks ranges (word x) w e = absurd (none-some w e)
-wrong_speaks ranges (name x) w e = absurd (none-some w e)
-wrong_speaks ranges (number x) w e = absurd (none-some w e)
-wrong_speaks ranges (signed x) w e = absurd (none-some w e)
 wrong_speaks ranges (fact f) w e = tt
 wrong_speaks ranges (effect f) w e = tt
 wrong_speaks ranges (head var old new) w e = tt
+wrong_speaks ranges _ w e = absurd (none-some w e)
 
 -- a number can be wrong only if facts are expected
 pub speaks_of_facts : (ranges : List ℕ) (d : Due) (line : List ℕ) (w : WrongWord) → HasWrong ranges (slot_of_due d) line w → HasFacts d
@@ -53,8 +47,4 @@ pub not_speaks : (d : Due) → (d ≡ due.Fact → ⊥) → (d ≡ due.Head → 
 not_speaks due.Fact f h e s = f refl
 not_speaks due.Head f h e s = h refl
 not_speaks due.Effect f h e s = e refl
-not_speaks (due.Word w) f h e s = s
-not_speaks due.Name f h e s = s
-not_speaks (due.Number least most) f h e s = s
-not_speaks due.Layer f h e s = s
-not_speaks due.Nothing f h e s = s
+not_speaks _ f h e s = s

@@ -1,13 +1,7 @@
 -- Why a line is refused: what the machine expects, and which number of the line is wrong.
-use Rattle.sas_task_judge.proofs.Imports.{◌≡◌, ◌≢◌, ℕ, List, [], ◌∷◌, ◌++◌, Option, None, refl, sym, ap, subst, ◌∙◌, Parts, WellRanged, Kind, IsBegun, LeadsToEnd, cut_at, after_ends, Mark, WrongWord, Place, IsDue, process_node, TaskLine, task_line_bytes, task_layout, task_format, TaskLineFits, HasShape, task_start, first_wrong, IsFirstWrong, IsTaskReason, Tracker, tracker_start, track, mark_in}
-use Rattle.sas_task_judge.proofs.Imports.{mark_at, end_mark, ranges_behind, is_due, HasFacts, speaks_behind_variables, same_items, task_grammar, IsBehindVariables, same_bounds, SoFar, Said, FirstWrong, ranges_of, first_back}
+use Rattle.sas_task_judge.proofs.Imports.{◌≡◌, ◌≢◌, ℕ, List, [], ◌∷◌, ◌++◌, Option, None, refl, sym, ap, subst, ◌∙◌, Parts, WellRanged, Kind, IsBegun, LeadsToEnd, cut_at, after_ends, Mark, WrongWord, Place, IsDue, process_node, TaskLine, task_line_bytes, task_layout, task_format, TaskLineFits, HasShape, task_start, first_wrong, IsFirstWrong, IsTaskReason, Tracker, tracker_start, track, mark_in, TaskJudge, TaskMachine, mark_of, due_slot, WrongWordIn, state_of, tracker_at, tracker_of, ranges_in, HasEnded, LedBy, MachineStopped, mark_at, end_mark, ranges_behind, is_due, HasFacts, speaks_behind_variables, same_items, task_grammar, IsBehindVariables, same_bounds, SoFar, Said, FirstWrong, ranges_of, first_back}
 use Rattle.sas_reader.specs.declared.fault.Kind.TheVariants as kinds
 use Rattle.sas_task_format.specs.declared.places.Place.TheVariants as at
-use Rattle.sas_task_judge.specs.declared.task_judge.TaskJudge.{TaskJudge}
-use Rattle.sas_task_judge.specs.declared.task_machine.TaskMachine.{TaskMachine}
-use Rattle.sas_task_judge.specs.Marks.{mark_of, due_slot, WrongWordIn}
-use Rattle.sas_task_judge.specs.TaskJudge.{state_of, tracker_at, tracker_of, ranges_in, HasEnded}
-use Rattle.sas_task_judge.specs.TaskMachine.{LedBy, MachineStopped}
 use Rattle.sas_task_judge.proofs.TaskEnds.{done_is, ended_if_done}
 
 -- ---- a task that begins with the lines
@@ -23,35 +17,7 @@ pub record Completed (items : List TaskLine) : Type 0 where
 -- after the variables, the judge and the tracker have the same ranges
 ranges_there : (place : Place) (ranges : List ℕ) (range : ℕ) → IsBehindVariables place → ranges_in place ranges range ≡ ranges
 ranges_there at.VariableValues ranges range h = absurd h
-ranges_there at.VersionBegin ranges range h = refl
-ranges_there at.VersionNumber ranges range h = refl
-ranges_there at.VersionEnd ranges range h = refl
-ranges_there at.MetricBegin ranges range h = refl
-ranges_there at.MetricNumber ranges range h = refl
-ranges_there at.MetricEnd ranges range h = refl
-ranges_there at.VariableCount ranges range h = refl
-ranges_there at.Variables ranges range h = refl
-ranges_there at.VariableName ranges range h = refl
-ranges_there at.VariableLayer ranges range h = refl
-ranges_there at.VariableRange ranges range h = refl
-ranges_there at.Groups ranges range h = refl
-ranges_there at.GroupSize ranges range h = refl
-ranges_there at.GroupFacts ranges range h = refl
-ranges_there at.StateValues ranges range h = refl
-ranges_there at.GoalBegin ranges range h = refl
-ranges_there at.GoalSize ranges range h = refl
-ranges_there at.GoalFacts ranges range h = refl
-ranges_there at.OperatorCount ranges range h = refl
-ranges_there at.Operators ranges range h = refl
-ranges_there at.OperatorName ranges range h = refl
-ranges_there at.PrevailCount ranges range h = refl
-ranges_there at.Prevail ranges range h = refl
-ranges_there at.Effects ranges range h = refl
-ranges_there at.OperatorEnd ranges range h = refl
-ranges_there at.Rules ranges range h = refl
-ranges_there at.RuleSize ranges range h = refl
-ranges_there at.RuleConditions ranges range h = refl
-ranges_there at.RuleEnd ranges range h = refl
+ranges_there _ ranges range h = refl
 
 module _ {K : Type 0} (keeps : List (List ℕ) → SoFar → K → Type 0) (lines : List (List ℕ)) (m : TaskMachine K) (h : LedBy keeps lines m) where
   -- the mark of the machine

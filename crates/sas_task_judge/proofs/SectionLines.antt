@@ -1,6 +1,5 @@
 -- The lines of a variable, a mutex group, an operator or a rule lead through this part of a task.
-use Rattle.sas_task_judge.proofs.Imports.{◌≡◌, ℕ, Bool, List, [], ◌∷◌, ◌++◌, length, refl, sym, ap, subst, ◌∙◌, append_assoc, IsTrue, codes, append-nil, AllByRecursion, flat_map, list_all, Fact, Effect, Operator, Rule, Variable, After, process_node, a_line, repeat, TaskLine, word, name, number, name_slot, fact, effect, head, TaskSlot, task_slot, fact_slot, effect_slot, task_format, TaskLineFits}
-use Rattle.sas_task_judge.proofs.Imports.{line, variable_lines, group_lines, operator_lines, rule_lines, TaskProcess, name_in, fact_in, effect_in, effect_may_stand, a_name, a_fact, an_effect, a_variable, a_group, an_operator, a_rule, less, and_both, and_parts, IsName, is_name, fact_exists, HasNames, OperatorInRanges, RuleInRanges, ranges_of, fact_in_ranges, effect_in_ranges}
+use Rattle.sas_task_judge.proofs.Imports.{◌≡◌, ℕ, Bool, List, [], ◌∷◌, ◌++◌, length, refl, sym, ap, subst, ◌∙◌, append_assoc, IsTrue, codes, append-nil, AllByRecursion, flat_map, list_all, Fact, Effect, Operator, Rule, Variable, After, process_node, a_line, repeat, TaskLine, word, name, number, name_slot, fact, effect, head, TaskSlot, task_slot, fact_slot, effect_slot, task_format, TaskLineFits, line, variable_lines, group_lines, operator_lines, rule_lines, TaskProcess, name_in, fact_in, effect_in, effect_may_stand, a_name, a_fact, an_effect, a_variable, a_group, an_operator, a_rule, less, and_both, and_parts, IsName, is_name, fact_exists, HasNames, OperatorInRanges, RuleInRanges, ranges_of, fact_in_ranges, effect_in_ranges}
 use Rattle.sas_task_judge.proofs.TaskRanges.{facts_are, effects_are, change_is}
 
 -- the lines lead from one state to the other

@@ -1,15 +1,8 @@
 -- The judge and the machine move past a section that is stored at once.
-use Rattle.sas_task_judge.proofs.Imports.{◌≡◌, ℕ, suc, ◌<◌, ◌-◌, List, [], ◌∷◌, ◌++◌, length, refl, sym, ap, subst, ◌∙◌, IsTrue, arith, Ok, list_all, Fact, Operator, Rule, Variable, Front, IsFront, AcceptsAhead, map-append, after_append, process_node, TaskLine, task_line_bytes, task_format, TaskLineFits, variable_lines, group_lines, operator_lines, rule_lines, TaskProcess, task_start, spelled}
-use Rattle.sas_task_judge.proofs.Imports.{HasNames, OperatorInRanges, RuleInRanges, ranges_of, fact_in_ranges, SoFar, Place, Tracker, tracker_start, track}
+use Rattle.sas_task_judge.proofs.Imports.{◌≡◌, ℕ, suc, ◌<◌, ◌-◌, List, [], ◌∷◌, ◌++◌, length, refl, sym, ap, subst, ◌∙◌, IsTrue, arith, Ok, list_all, Fact, Operator, Rule, Variable, Front, IsFront, AcceptsAhead, map-append, after_append, process_node, TaskLine, task_line_bytes, task_format, TaskLineFits, variable_lines, group_lines, operator_lines, rule_lines, TaskProcess, task_start, spelled, track-append, TaskJudge, TaskMachine, behind_variable, behind_group, behind_operator, behind_rule, process_at, state_of, tracker_of, KnownTo, SectionDue, LedBy, HasNames, OperatorInRanges, RuleInRanges, ranges_of, fact_in_ranges, SoFar, Place, Tracker, tracker_start, track}
 use Rattle.sas_task_format.specs.declared.places.Place.TheVariants as at
-use Rattle.sas_task_judge.specs.declared.task_judge.TaskJudge.{TaskJudge}
 use Rattle.sas_task_judge.specs.declared.task_judge.sections.Section.TheVariants as section
-use Rattle.sas_task_judge.specs.declared.task_machine.TaskMachine.{TaskMachine}
-use Rattle.sas_task_judge.specs.Sections.{behind_variable, behind_group, behind_operator, behind_rule}
-use Rattle.sas_task_judge.specs.TaskJudge.{process_at, state_of, tracker_of, KnownTo, SectionDue}
-use Rattle.sas_task_judge.specs.TaskMachine.{LedBy}
 use Rattle.sas_task_judge.proofs.TaskMoves.{next_of}
-use Rattle.sas_task_judge.proofs.Stepping.{track_append}
 use Rattle.sas_task_judge.proofs.SectionTracks.{behind_section, behind_values, variable_tracked, group_tracked, operator_tracked, rule_tracked}
 use Rattle.sas_task_judge.proofs.TaskRanges.{ranges_push}
 use Rattle.sas_task_judge.proofs.SectionLines.{GoesOn, AllFit, variable_on, group_on, operator_items, operator_lines_are, operator_on, rule_items, rule_lines_are, rule_on}
@@ -96,7 +89,7 @@ module _ {K : Type 0} (keeps : List (List ℕ) → SoFar → K → Type 0) (m : 
           spells = map-append task_line_bytes h.leads.items items ∙ ap (λ (l : List (List ℕ)). l ++ spelled items) h.leads.spells;
         };
         known = led.known;
-        tracked = track_append tracker_start h.leads.items items ∙ ap (λ (x : Tracker). track x items) h.tracked ∙ led.tracked;
+        tracked = track-append tracker_start h.leads.items items ∙ ap (λ (x : Tracker). track x items) h.tracked ∙ led.tracked;
         kept = keeps_on before h.so_far h.kept;
       }
 

@@ -1,8 +1,6 @@
 -- What is expected after a whole section: the tracker follows all its lines.
-use Rattle.sas_task_judge.proofs.Imports.{◌≡◌, ℕ, suc, ◌<◌, ◌-◌, List, [], ◌∷◌, ◌++◌, length, refl, sym, ap, ◌∙◌, arith, codes, flat_map, Fact, Operator, Rule, Variable, Place, TaskLine, word, name, number, signed, fact, effect, head, line, variable_lines, group_lines, Tracker, track}
+use Rattle.sas_task_judge.proofs.Imports.{◌≡◌, ℕ, suc, ◌<◌, ◌-◌, List, [], ◌∷◌, ◌++◌, length, refl, sym, ap, ◌∙◌, arith, codes, flat_map, Fact, Operator, Rule, Variable, Place, TaskLine, word, name, number, signed, fact, effect, head, line, variable_lines, group_lines, Tracker, track, TaskJudge, tracker_at, tracker_of}
 use Rattle.sas_task_format.specs.declared.places.Place.TheVariants as at
-use Rattle.sas_task_judge.specs.declared.task_judge.TaskJudge.{TaskJudge}
-use Rattle.sas_task_judge.specs.TaskJudge.{tracker_at, tracker_of}
 use Rattle.sas_task_judge.proofs.TaskMoves.{next_of}
 use Rattle.sas_task_judge.proofs.SectionLines.{operator_items, rule_items}
 use Rattle.sas_task_judge.proofs.Stepping.{CountsDown, values_count, group_counts, prevail_counts, effects_count, conditions_count}

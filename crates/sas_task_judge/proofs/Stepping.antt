@@ -1,8 +1,6 @@
 -- The tracker follows the judge.
-use Rattle.sas_task_judge.proofs.Imports.{◌≡◌, ℕ, suc, ◌<◌, ◌≤◌, ◌+◌, ◌-◌, List, [], ◌∷◌, ◌++◌, Bool, true, false, nat_lt, length, refl, sym, ap, ◌∙◌, arith, nat_tests, if◌then◌else◌, Place, TaskLine, Tracker, tracker_start, step, step_from, track, goes_to}
+use Rattle.sas_task_judge.proofs.Imports.{◌≡◌, ℕ, suc, ◌<◌, ◌≤◌, ◌+◌, ◌-◌, List, [], ◌∷◌, ◌++◌, Bool, true, false, nat_lt, length, refl, sym, ap, ◌∙◌, arith, nat_tests, if◌then◌else◌, Place, TaskLine, Tracker, tracker_start, step, step_from, goes_to, TaskJudge, more_in, tracker_at, tracker_of}
 use Rattle.sas_task_format.specs.declared.places.Place.TheVariants as at
-use Rattle.sas_task_judge.specs.declared.task_judge.TaskJudge.{TaskJudge}
-use Rattle.sas_task_judge.specs.TaskJudge.{more_in, tracker_at, tracker_of}
 use Rattle.sas_task_judge.proofs.TaskMoves.{next_of}
 
 module _ (j : TaskJudge) (i : TaskLine) (t : Tracker) (place : Place) (here : j.place ≡ place) where
@@ -88,10 +86,6 @@ starts j here total left ranges valued =
     ∙ ap (λ (n : ℕ). record tracker_start { valued = n }) valued
 
 -- ---- many lines
-
-pub track_append : (t : Tracker) (is js : List TaskLine) → track t (is ++ js) ≡ track (track t is) js
-track_append t [] js = refl
-track_append t (i ∷ is) js = track_append (step t i) is js
 
 -- ---- the last line of a section
 

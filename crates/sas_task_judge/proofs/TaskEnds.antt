@@ -1,9 +1,6 @@
 -- The judge has ended exactly if no line of a task may follow.
-use Rattle.sas_task_judge.proofs.Imports.{◌≡◌, ℕ, zero, suc, List, [], ◌∷◌, Option, refl, ap, ◌∙◌, length, drop, Fact, Variable, Effect, Parts, Place, SoFar, done, read, process_node, TaskProcess, ended}
+use Rattle.sas_task_judge.proofs.Imports.{◌≡◌, ℕ, zero, suc, List, [], ◌∷◌, Option, refl, ap, ◌∙◌, length, drop, Fact, Variable, Effect, Parts, Place, SoFar, done, read, process_node, TaskProcess, ended, TaskJudge, process_at, state_of, HasEnded, variable_begin, variable_values, group_begin, group_facts, state_values_of, goal_facts, operator_begin, operator_prevail, operator_effects, rule_begin, rule_conditions}
 use Rattle.sas_task_format.specs.declared.places.Place.TheVariants as at
-use Rattle.sas_task_judge.specs.declared.task_judge.TaskJudge.{TaskJudge}
-use Rattle.sas_task_judge.specs.TaskJudge.{process_at, state_of, HasEnded}
-use Rattle.sas_task_judge.specs.TaskPlaces.{variable_begin, variable_values, group_begin, group_facts, state_values_of, goal_facts, operator_begin, operator_prevail, operator_effects, rule_begin, rule_conditions}
 
 -- the last line has been read
 abbrev pub IsDone : TaskProcess → Type 0
@@ -64,36 +61,18 @@ rules (suc left) p h = absurd h
 -- ---- the judge
 
 ends_at : (place : Place) (left more : ℕ) (s : SoFar) → IsDone (process_at place left more s) → (place ≡ at.Rules) × (left ≡ 0)
-ends_at at.VersionBegin left more s h = absurd h
-ends_at at.VersionNumber left more s h = absurd h
-ends_at at.VersionEnd left more s h = absurd h
-ends_at at.MetricBegin left more s h = absurd h
-ends_at at.MetricNumber left more s h = absurd h
-ends_at at.MetricEnd left more s h = absurd h
-ends_at at.VariableCount left more s h = absurd h
 ends_at at.Variables left more s h = absurd (variables left s.parts h)
-ends_at at.VariableName left more s h = absurd h
-ends_at at.VariableLayer left more s h = absurd h
-ends_at at.VariableRange left more s h = absurd h
 ends_at at.VariableValues left more s h = absurd (values left s.parts s.name s.layer more s.values h)
 ends_at at.Groups left more s h = absurd (groups left s.parts h)
-ends_at at.GroupSize left more s h = absurd h
 ends_at at.GroupFacts left more s h = absurd (facts left s.parts more s.facts h)
 ends_at at.StateValues left more s h = absurd (state (drop (length s.parts.init) s.parts.variables) s.parts h)
-ends_at at.GoalBegin left more s h = absurd h
-ends_at at.GoalSize left more s h = absurd h
 ends_at at.GoalFacts left more s h = absurd (goal more s.parts h)
-ends_at at.OperatorCount left more s h = absurd h
 ends_at at.Operators left more s h = absurd (operators left s.parts h)
-ends_at at.OperatorName left more s h = absurd h
-ends_at at.PrevailCount left more s h = absurd h
 ends_at at.Prevail left more s h = absurd (prevail left s.parts s.name more s.facts h)
 ends_at at.Effects left more s h = absurd (effects left s.parts s.name s.facts more s.effects h)
-ends_at at.OperatorEnd left more s h = absurd h
 ends_at at.Rules left more s h = (refl, rules left s.parts h)
-ends_at at.RuleSize left more s h = absurd h
 ends_at at.RuleConditions left more s h = absurd (conditions left s.parts more s.facts h)
-ends_at at.RuleEnd left more s h = absurd h
+ends_at _ left more s h = absurd h
 
 pub ended_if_done : (j : TaskJudge) (s : SoFar) → IsDone (state_of j s) → HasEnded j
 ended_if_done j s h = ends_at j.place j.left j.more s h

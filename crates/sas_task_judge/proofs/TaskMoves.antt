@@ -1,11 +1,7 @@
 -- One line of a task moves the judge.
-use Rattle.sas_task_judge.proofs.Imports.{IsTrue, ◌≡◌, ◌≢◌, ℕ, zero, suc, ◌<◌, ◌≤◌, ◌-◌, Bool, nat_lt, length, List, [], ◌∷◌, ◌++◌, refl, sym, ap, subst, ◌∙◌, arith, codes, Result, Ok, Err, take, drop, Option, Some, None, result_err, none-some, Kind, IsOfBytes, IsAllowed, OneLine, IsRejected, Rejects, read, process_node, TaskLine, effect, TaskSlot, number_slot, task_line_bytes, task_format}
-use Rattle.sas_task_judge.proofs.Imports.{TaskLineFits, Parts, Variable, range_of, Event, Said, SoFar, Place, step, Effect, LineStandsFirst, Change, plain_effect, SpellsAhead, change_in_ranges, effect_in_ranges, IsOfLine, TaskProcess, a_word, a_number, number_in, effect_in}
+use Rattle.sas_task_judge.proofs.Imports.{IsTrue, ◌≡◌, ◌≢◌, ℕ, zero, suc, ◌<◌, ◌≤◌, ◌-◌, Bool, nat_lt, length, List, [], ◌∷◌, ◌++◌, refl, sym, ap, subst, ◌∙◌, arith, codes, Result, Ok, Err, take, drop, Option, Some, None, result_err, none-some, Kind, IsOfBytes, IsAllowed, OneLine, IsRejected, Rejects, read, process_node, TaskLine, effect, TaskSlot, number_slot, task_line_bytes, task_format, TaskJudge, state_values, state_values_of, goal_begin, process_at, state_of, tracker_of, KnownTo, LeadsOn, RejectsLine, StandsAsBefore, TakesMemory, JudgesLine, MovesBy, MovesAhead, TaskLineFits, Parts, Variable, range_of, Event, Said, SoFar, Place, step, Effect, LineStandsFirst, Change, plain_effect, SpellsAhead, change_in_ranges, effect_in_ranges, IsOfLine, TaskProcess, a_word, a_number, number_in, effect_in}
 use Rattle.sas_reader.specs.declared.fault.Kind.TheVariants as kinds
 use Rattle.sas_task_format.specs.declared.places.Place.TheVariants as at
-use Rattle.sas_task_judge.specs.declared.task_judge.TaskJudge.{TaskJudge}
-use Rattle.sas_task_judge.specs.TaskPlaces.{state_values, state_values_of, goal_begin}
-use Rattle.sas_task_judge.specs.TaskJudge.{process_at, state_of, tracker_of, KnownTo, LeadsOn, RejectsLine, StandsAsBefore, TakesMemory, JudgesLine, MovesBy, MovesAhead}
 use Rattle.sas_task_judge.proofs.TaskRanges.{many_same}
 use Rattle.sas_task_judge.proofs.VariablesBehind.{behind}
 

@@ -1,8 +1,5 @@
 -- The ranges of the variables and the variables themselves give the same answers.
-use Rattle.sas_task_judge.proofs.Imports.{◌≡◌, ℕ, Bool, List, [], ◌∷◌, ◌++◌, refl, sym, ap, subst, ◌∙◌, Option, Some, None, IsTrue, length, nat_lt, ◌&&◌, list_all, Effect, Fact, Variable, range_of, has_value, fact_exists, Kind, SoFar, IsAllowed, IsRejected, TaskLine, TaskSlot, task_format, TaskLineFits, may_change, effect_may_stand, head_may_stand, fact_in, effect_in, head_in, ranges_of, range_in}
-use Rattle.sas_task_judge.proofs.Imports.{value_in, fact_in_ranges, change_in_ranges, effect_in_ranges, range_is, ranges_many}
-use Rattle.sas_task_judge.specs.declared.task_judge.TaskJudge.{TaskJudge}
-use Rattle.sas_task_judge.specs.TaskJudge.{KnownTo}
+use Rattle.sas_task_judge.proofs.Imports.{◌≡◌, ℕ, Bool, List, [], ◌∷◌, ◌++◌, refl, sym, ap, subst, ◌∙◌, Option, Some, None, IsTrue, length, nat_lt, ◌&&◌, list_all, Effect, Fact, Variable, range_of, has_value, fact_exists, Kind, SoFar, IsAllowed, IsRejected, TaskLine, TaskSlot, task_format, TaskLineFits, may_change, effect_may_stand, head_may_stand, fact_in, effect_in, head_in, ranges_of, range_in, TaskJudge, KnownTo, value_in, fact_in_ranges, change_in_ranges, effect_in_ranges, range_is, ranges_many}
 
 pub ranges_push : (vs : List Variable) (v : Variable) → ranges_of (vs ++ v ∷ []) ≡ ranges_of vs ++ length v.values ∷ []
 ranges_push [] v = refl

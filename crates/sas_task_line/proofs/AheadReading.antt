@@ -1,8 +1,6 @@
 -- Reading the first line of some bytes up to its LF.
-use Rattle.sas_task_line.proofs.Imports.{◌≡◌, ℕ, zero, suc, ◌+◌, ◌*◌, ◌-◌, ◌<◌, ◌≤◌, ◌^◌, List, [], ◌∷◌, ◌++◌, length, take, drop, refl, sym, ap, subst, ◌∙◌, append_assoc, length-append, arith, Option, None, get_or, true, false, Bool, not, ◌&&◌, ◌==◌, IsTrue, decimal, list_all, decimal_digit, length-take-le, take_rest, take_at, get_or-take, take-append-drop, drop_more, Nowhere, NoneBefore, Passes}
-use Rattle.sas_task_line.proofs.Imports.{is_byte2, is_plain, IsName, is_none-search, ne_eqb, Fact, LineStandsFirst, stands_first, plain, TaskLine, word, name, number, signed, fact, effect, head, task_line_bytes, TaskLineFits, EffectNumbers, Sayable, plain-line, Change, plain_effect}
+use Rattle.sas_task_line.proofs.Imports.{◌≡◌, ℕ, zero, suc, ◌+◌, ◌*◌, ◌-◌, ◌<◌, ◌≤◌, ◌^◌, List, [], ◌∷◌, ◌++◌, length, take, drop, refl, sym, ap, subst, ◌∙◌, append_assoc, length-append, arith, Option, None, get_or, true, false, Bool, not, ◌&&◌, ◌==◌, IsTrue, decimal, list_all, decimal_digit, length-take-le, take_rest, take_at, get_or-take, take-append-drop, drop_more, Nowhere, NoneBefore, Passes, SpellsAhead, LineAhead, NumberAhead, SignedAhead, ChangeAhead, is_byte2, is_plain, IsName, is_none-search, ne_eqb, Fact, LineStandsFirst, stands_first, plain, TaskLine, word, name, number, signed, fact, effect, head, task_line_bytes, TaskLineFits, EffectNumbers, Sayable, plain-line, Change, plain_effect}
 use Rattle.sas_task_line.proofs.Digits.{digit_is, digit_more}
-use Rattle.sas_task_line.specs.Ahead.{SpellsAhead, LineAhead, NumberAhead, SignedAhead, ChangeAhead}
 
 -- ---- a line and its LF
 

@@ -1,8 +1,5 @@
 -- Why a line may not stand in a task.
-use Rattle.sas_task_line.proofs.Imports.{◌≡◌, ◌≢◌, ℕ, Bool, List, refl, sym, ap, subst, ◌∙◌, IsTrue, Option, decimal, Fact, Effect, IsNumber, IsSigned, signed_decimal, Kind, Shape, Value, Memory, IsOfBytes, TaskLine, number, signed, fact, effect, head, TaskSlot, number_slot, signed_slot, fact_slot, effect_slot, head_slot, task_slot, task_line_bytes, TaskLineFits, HasShape, NumbersKind, no_shape}
-use Rattle.sas_task_line.proofs.Imports.{no_value, TaskKind, task_format, number_in, signed_in, fact_in, effect_in, head_in, IsRejected, number_is, signed_is, fact_is, effect_is, head_is, one_task_line}
-use Rattle.sas_task_line.specs.TaskLine.{IsOfLine}
-use Rattle.sas_task_line.specs.TaskWords.{Spells}
+use Rattle.sas_task_line.proofs.Imports.{◌≡◌, ◌≢◌, ℕ, Bool, List, refl, sym, ap, subst, ◌∙◌, IsTrue, Option, decimal, Fact, Effect, IsNumber, IsSigned, signed_decimal, Kind, Shape, Value, Memory, IsOfBytes, TaskLine, number, signed, fact, effect, head, TaskSlot, number_slot, signed_slot, fact_slot, effect_slot, head_slot, task_slot, task_line_bytes, TaskLineFits, HasShape, NumbersKind, no_shape, IsOfLine, Spells, no_value, TaskKind, task_format, number_in, signed_in, fact_in, effect_in, head_in, IsRejected, number_is, signed_is, fact_is, effect_is, head_is, one_task_line}
 
 abbrev pub Refused : TaskSlot → (TaskLine → Bool) → List ℕ → Kind → Type 0
 Refused slot ok line kind = IsOfLine kind × IsRejected task_format TaskLineFits slot ok line kind

@@ -1,7 +1,6 @@
 -- A line of several numbers spells exactly the content that is parsed from its words, if no word is
 -- left.
-use Rattle.sas_task_line.proofs.Imports.{◌≡◌, ℕ, ◌+◌, ◌<◌, ◌≤◌, List, [], ◌∷◌, ◌++◌, length, refl, sym, ap, ◌∙◌, arith, Option, flat_map, AllByRecursion, decimal, Fact, Effect, IsNumber, parts, signed_decimal, joined, NoSpace, NoSpace-number, NoSpace-signed, words-joined, joined-words, same_number, fact, effect, head, fact_words, head_words, FactNumbers, EffectNumbers}
-use Rattle.sas_task_line.specs.TaskWords.{Spells, TakesNumber, TakesFact, TakesFacts, TakesHead}
+use Rattle.sas_task_line.proofs.Imports.{◌≡◌, ℕ, ◌+◌, ◌<◌, ◌≤◌, List, [], ◌∷◌, ◌++◌, length, refl, sym, ap, ◌∙◌, arith, Option, flat_map, AllByRecursion, decimal, Fact, Effect, IsNumber, parts, signed_decimal, joined, NoSpace, NoSpace-number, NoSpace-signed, words-joined, joined-words, fact, effect, head, fact_words, head_words, FactNumbers, EffectNumbers, decimal_injective, NoSpace-facts, Spells, TakesNumber, TakesFact, TakesFacts, TakesHead}
 
 module _ (line : List ℕ) (words : List (List ℕ)) (parted : words ≡ parts 32 line) where
   -- a line is its words, joined
@@ -92,10 +91,6 @@ same_rest words now rest count fs gs t u =
 
 -- ---- an effect
 
-NoSpace-facts : (fs : List Fact) (words : List (List ℕ)) → AllByRecursion FactNumbers fs → AllByRecursion NoSpace words → AllByRecursion NoSpace (flat_map fact_words fs ++ words)
-NoSpace-facts [] words h g = g
-NoSpace-facts (f ∷ fs) words h g = (NoSpace-number f.var h.0.0, (NoSpace-number f.value h.0.1, NoSpace-facts fs words h.1 g))
-
 -- the words of an effect's head, and the words after the count of its conditions
 abbrev last_words : Effect → List (List ℕ)
 last_words e = head_words e.var e.old e.new
@@ -118,7 +113,7 @@ module _ (line : List ℕ) (words : List (List ℕ)) (parted : words ≡ parts 3
     effect_takes e s =
         let q : decimal count ∷ later ≡ decimal (length e.conditions) ∷ later_words e = sym counts.1 ∙ effect_parts e s in
         let d : decimal (length e.conditions) ≡ decimal count = cc in
-        record { many = same_number (length e.conditions) count (omega (arith, s.0.count)) (omega (arith, counts.0)) d; numbers = s.0.conditions; before = cc }
+        record { many = decimal_injective (length e.conditions) count (omega (arith, s.0.count)) (omega (arith, counts.0)) d; numbers = s.0.conditions; before = cc }
 
     pub no_facts : ((fs : List Fact) (rest : List (List ℕ)) → TakesFacts later count fs rest → ⊥) → (e : Effect) → Spells (effect e) line → ⊥
     no_facts none e s = none e.conditions (last_words e) (effect_takes e s)

@@ -1,9 +1,5 @@
 -- The first wrong number in a list of numbers.
-use Rattle.sas_task_line.proofs.Imports.{◌≡◌, ℕ, zero, suc, ◌+◌, ◌*◌, Bool, true, false, List, [], ◌∷◌, ◌++◌, length, Option, Some, None, refl, sym, ap, ◌∙◌, arith, none-some, flat_map, if◌then◌else◌, drop, slice_get, nat_tests, Fact, Variable, Effect, range_of, WrongWord, TaskLine, effect, TaskSlot, task_slot, Bounded, below, first_wrong, fact_bounds, change_bounds, line_bounds, may_stand}
-use Rattle.sas_task_line.proofs.Imports.{wrong_at, task_grammar}
-use Rattle.sas_task_line.specs.FirstWrong.{HasWrong, FirstWrong}
-use Rattle.sas_task_line.specs.TaskRanges.{ranges_of, range_in}
-use Rattle.sas_task_line.specs.TaskWords.{Spells}
+use Rattle.sas_task_line.proofs.Imports.{◌≡◌, ℕ, zero, suc, ◌+◌, ◌*◌, Bool, true, false, List, [], ◌∷◌, ◌++◌, length, Option, Some, None, refl, sym, ap, ◌∙◌, arith, none-some, flat_map, if◌then◌else◌, drop, slice_get, nat_tests, Fact, Variable, Effect, range_of, WrongWord, TaskLine, effect, TaskSlot, task_slot, Bounded, below, first_wrong, fact_bounds, change_bounds, line_bounds, may_stand, HasWrong, FirstWrong, ranges_of, range_in, Spells, wrong_at, task_grammar}
 
 -- ---- which number is first
 

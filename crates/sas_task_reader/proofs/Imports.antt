@@ -1,4 +1,4 @@
--- What the proofs use of other crates.
+-- What the proofs use of other crates, and of the definitions of this one.
 pub use Rattle.std.proofs.Common.{◌≡◌, ◌-◌, ◌^◌, ℕ, List, [], ◌∷◌, length, refl, ap, ◌∙◌, arith, min, ◌≢◌, Option, None, sym, subst, ◌≤◌, Ok, Err, ◌++◌}
 pub use Rattle.std.proofs.Math.Logic.{∥∥₁_elim, ∥∥₁_map}
 pub use Rattle.std.proofs.Props.{props}
@@ -26,9 +26,7 @@ pub use Rattle.sas_task_format.proofs.SomeWrongWord.{shape_of_value}
 pub use Rattle.sas_task_format.proofs.TaskGrammar.{task_grammar}
 pub use Rattle.sas_task_format.specs.Marks.{slot_of_due}
 pub use Rattle.sas_task_format.specs.Process.{process_node}
-pub use Rattle.sas_task_format.specs.TaskFormat.{TaskLine, TaskSlot, word_slot, name_slot, number_slot, signed_slot, fact_slot, effect_slot}
-pub use Rattle.sas_task_format.specs.TaskFormat.{head_slot, HasShape, NumbersKind, no_shape, no_value, TaskKind, task_format, TaskLineFits}
-pub use Rattle.sas_task_format.specs.TaskFormat.{task_texts}
+pub use Rattle.sas_task_format.specs.TaskFormat.{TaskLine, TaskSlot, word_slot, name_slot, number_slot, signed_slot, fact_slot, effect_slot, head_slot, HasShape, NumbersKind, no_shape, no_value, TaskKind, task_format, TaskLineFits, task_texts}
 pub use Rattle.sas_task_format.specs.TaskProcess.{TaskProcess, task_start}
 pub use Rattle.sas_task_format.specs.TaskReasons.{IsTaskReason}
 pub use Rattle.sas_task_format.specs.Tracker.{Tracker, tracker_start, track, mark_in}
@@ -46,3 +44,8 @@ pub use Rattle.sas_task_line.specs.TaskEvents.{after}
 pub use Rattle.sas_task_line.specs.declared.so_far.SoFar.{SoFar}
 pub use Rattle.sas_task_line.specs.declared.task_events.Event.{Event}
 pub use Rattle.sas_task_line.specs.declared.task_events.Said.{Said}
+pub use Rattle.sas_task_reader.specs.TaskOutline.{outline_in, kept_of}
+pub use Rattle.sas_task_reader.specs.TaskReader.{task_view}
+pub use Rattle.sas_task_reader.specs.TaskRefusal.{StandsRefused, fault_in, found_in, HasReason}
+pub use Rattle.sas_task_reader.specs.contracts.flat_so_far.FlatSoFar.{the_view}
+pub use Rattle.sas_task_reader.specs.declared.task_outline.Seen.{Seen}

@@ -1,8 +1,6 @@
 -- A task file is refused for the reason that its machine knows.
-use Rattle.sas_task_reader.proofs.Imports.{◌≡◌, ◌≢◌, ℕ, List, Option, None, refl, sym, subst, ◌∙◌, Parts, Kind, Node, ended, before, After, Rejects, behind_line, behind_text, at_end, Mark, WrongWord, process_node, TaskLine, TaskSlot, word_slot, name_slot, number_slot, signed_slot, fact_slot, effect_slot, head_slot, HasShape, NumbersKind, no_shape, no_value, TaskKind, task_format, TaskLineFits}
-use Rattle.sas_task_reader.proofs.Imports.{TaskProcess, task_start, slot_of_due, IsTaskReason, Tracker, tracker_start, track, mark_in, due_after, shape_of_value, SoFar, FirstWrong, TaskMachine, mark_of, due_slot, WrongWordIn, state_of, task_reason, trailing_reason, led_still, ended_still, shape_still, wrong_still}
+use Rattle.sas_task_reader.proofs.Imports.{◌≡◌, ◌≢◌, ℕ, List, Option, None, refl, sym, subst, ◌∙◌, Parts, Kind, Node, ended, before, After, Rejects, behind_line, behind_text, at_end, Mark, WrongWord, process_node, TaskLine, TaskSlot, word_slot, name_slot, number_slot, signed_slot, fact_slot, effect_slot, head_slot, HasShape, NumbersKind, no_shape, no_value, TaskKind, task_format, TaskLineFits, StandsRefused, TaskProcess, task_start, slot_of_due, IsTaskReason, Tracker, tracker_start, track, mark_in, due_after, shape_of_value, SoFar, FirstWrong, TaskMachine, mark_of, due_slot, WrongWordIn, state_of, task_reason, trailing_reason, led_still, ended_still, shape_still, wrong_still}
 use Rattle.sas_reader.specs.declared.fault.Kind.TheVariants as kinds
-use Rattle.sas_task_reader.specs.TaskRefusal.{StandsRefused}
 
 -- ---- a refused line isn't after the last line
 

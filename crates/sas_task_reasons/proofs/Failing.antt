@@ -1,11 +1,7 @@
 -- An operator doesn't preserve a group if and only if it has a failure. Then it has exactly one
 -- first failure.
 use Rattle.std.proofs.lemmas.Grind.{common_steps}
-use Rattle.sas_task_reasons.proofs.Imports.{◌≡◌, ℕ, ◌<◌, ◌≤◌, ◌⊎◌, List, [], ◌∷◌, length, Some, refl, sym, ◌∙◌, ap, subst, inl, inr, arith, cases_eq, cases_lt, cases_order, slice_get-get_or, Contains, slice_get, Fact, Operator, effect_at, Keeps, sets, NotBoth, IsGone, known, clash_more, EffectKeeps, keeps_from_effects, effect_of_keeps}
-use Rattle.sas_task_reasons.specs.declared.reason.Failure.{Failure}
-use Rattle.sas_task_reasons.specs.declared.reason.Failure.TheVariants.{SetsTwo, MayStay}
-use Rattle.sas_task_reasons.specs.Failures.{IsFailure, IsEarlier, IsFirstFailure}
-use Rattle.sas_task_reasons.specs.Lowest.{effect_of_failure, IsFirstOfEffect}
+use Rattle.sas_task_reasons.proofs.Imports.{◌≡◌, ℕ, ◌<◌, ◌≤◌, ◌⊎◌, List, [], ◌∷◌, length, Some, refl, ◌∙◌, ap, subst, inl, inr, arith, cases_eq, cases_lt, cases_order, slice_get-get_or, Contains, slice_get, Fact, Operator, effect_at, Keeps, sets, NotBoth, IsGone, known, clash_more, EffectKeeps, keeps_from_effects, effect_of_keeps, Failure, SetsTwo, MayStay, IsFailure, IsEarlier, IsFirstFailure, effect_of_failure, IsFirstOfEffect}
 use Rattle.sas_task_reasons.proofs.Least.{all_below, IsLeast, none_at_all, has_or_not, item_at}
 
 -- a failure that comes before another is of no later effect

@@ -1,10 +1,6 @@
 -- The first failure of one effect, from the lowest effect that may set another fact and the first
 -- fact that may remain.
-use Rattle.sas_task_reasons.proofs.Imports.{◌≡◌, ℕ, ◌<◌, ◌≤◌, Bool, List, length, get_or, Option, None, Some, refl, sym, ap, subst, inl, inr, arith, slice_get-get_or, get_or_from_slice_get, slice_get_within, Contains, slice_get, IfSome, IfNone, Fact, effect_at, group_at, sets, IsKept, EffectPlace, operator_of, NotBothAt, IsGoneAt, EffectKeepsGroup}
-use Rattle.sas_task_reasons.specs.declared.reason.Failure.{Failure}
-use Rattle.sas_task_reasons.specs.declared.reason.Failure.TheVariants.{SetsTwo, MayStay}
-use Rattle.sas_task_reasons.specs.Failures.{IsFailure, IsEarlier}
-use Rattle.sas_task_reasons.specs.Lowest.{effect_of_failure, IsLowestPartner, IsAny, IsFirstStaying, IsFirstOfEffect}
+use Rattle.sas_task_reasons.proofs.Imports.{◌≡◌, ℕ, ◌<◌, ◌≤◌, Bool, List, length, get_or, Option, None, Some, refl, sym, ap, subst, inl, inr, arith, slice_get-get_or, get_or_from_slice_get, slice_get_within, Contains, slice_get, IfSome, IfNone, Fact, effect_at, group_at, sets, IsKept, EffectPlace, operator_of, NotBothAt, IsGoneAt, EffectKeepsGroup, Failure, SetsTwo, MayStay, IsFailure, IsEarlier, effect_of_failure, IsLowestPartner, IsAny, IsFirstStaying, IsFirstOfEffect}
 use Rattle.sas_task_reasons.proofs.Least.{item_at, stands_at}
 use Rattle.sas_task_reasons.proofs.Failing.{two_fails, stay_fails}
 

@@ -1,19 +1,13 @@
 -- A layered task has an answer about its groups with reasons, and only one.
-use Rattle.sas_task_reasons.proofs.Imports.{◌≡◌, ℕ, zero, suc, ◌<◌, ◌≤◌, List, [], ◌∷◌, ◌++◌, length, refl, sym, ap, ◌∙◌, subst, inl, inr, arith, Option, Some, None, cases_eq, ext_get_or, length_push, get_or_push, get_or_append_left, Parts, Verdict, Exclusive, Derived, Initial, Broken, IsJointVerdict, verdict_at, AreJointVerdicts, one_list, some_list, OneAnswer, SomeAnswer, text, groups_status}
-use Rattle.sas_task_reasons.proofs.Imports.{Output}
-use Rattle.sas_task_reasons.specs.declared.reason.Reason.{Reason}
-use Rattle.sas_task_reasons.specs.declared.reason.Reason.TheVariants.{OnDerived, HoldsTwo, Breaks}
-use Rattle.sas_task_reasons.specs.GroupReasons.{verdict_of, IsReasonIfAny, reason_at, AreReasons}
+use Rattle.sas_task_reasons.proofs.Imports.{◌≡◌, ℕ, zero, suc, ◌<◌, ◌≤◌, List, [], ◌∷◌, ◌++◌, length, refl, sym, ap, ◌∙◌, subst, inl, inr, arith, Option, Some, None, cases_eq, ext_get_or, length_push, get_or_push, get_or_append_left, Parts, Verdict, Exclusive, Derived, Initial, Broken, IsJointVerdict, verdict_at, AreJointVerdicts, one_list, some_list, OneAnswer, SomeAnswer, text, groups_status, Reason, OnDerived, verdict_of, IsReasonIfAny, reason_at, AreReasons, why_lines, WhyGroupsAnswer, Output}
 use Rattle.sas_task_reasons.proofs.GroupReasons.{one_reason, some_reason}
-use Rattle.sas_task_reasons.specs.WhyGroups.{why_lines, WhyGroupsAnswer}
 
 -- ---- one reason
 
 -- an exclusive group has none
 pub no_reason : (reason : Reason) → Exclusive ≡ verdict_of reason → ⊥
 no_reason (OnDerived fact) is = absurd cc
-no_reason (HoldsTwo first second) is = absurd cc
-no_reason (Breaks operator failure) is = absurd cc
+no_reason _ is = absurd cc
 
 same_if_any : (p : Parts) (place : ℕ) (verdict : Verdict) (a b : Option Reason) → IsReasonIfAny p place verdict a → IsReasonIfAny p place verdict b → a ≡ b
 same_if_any p place verdict None None is_a is_b = refl

@@ -1,9 +1,6 @@
 -- The text of groups with reasons, group by group.
 use Rattle.std.proofs.lemmas.Grind.{common_steps}
-use Rattle.sas_task_reasons.proofs.Imports.{◌≡◌, ℕ, ◌+◌, ◌<◌, ◌≤◌, List, [], ◌∷◌, ◌++◌, length, take, get_or, append_assoc, append-nil, sym, ap, ◌∙◌, arith, Option, take_more, take_all, length-take, Parts, text, Verdict, text_of_both}
-use Rattle.sas_task_reasons.specs.declared.reason.Reason.{Reason}
-use Rattle.sas_task_reasons.specs.GroupReasons.{reason_at}
-use Rattle.sas_task_reasons.specs.WhyGroups.{explained_group_lines, why_lines_from, why_lines}
+use Rattle.sas_task_reasons.proofs.Imports.{◌≡◌, ℕ, ◌+◌, ◌<◌, ◌≤◌, List, [], ◌∷◌, ◌++◌, length, take, get_or, append_assoc, append-nil, ap, ◌∙◌, arith, Option, take_more, take_all, length-take, Parts, text, Verdict, text_of_both, Reason, reason_at, explained_group_lines, why_lines_from, why_lines}
 
 -- ---- group after group
 

@@ -1,11 +1,7 @@
--- What the proofs use of other crates.
-pub use Rattle.std.proofs.Common.{◌≡◌, ℕ, ◌<◌, ◌≤◌, ◌⊎◌, List, [], ◌∷◌, length, Some, refl, sym, ◌∙◌, ap, subst, inl, inr, arith, slice_get, suc, ◌+◌}
-pub use Rattle.std.proofs.Common.{Bool, true, false, ◌++◌, get_or, flat_map, Option, None, if◌then◌else◌, IfSome, IfNone, ◌↔◌, IsTrue, zero, ◌==◌}
-pub use Rattle.std.proofs.Common.{eqb-true, eq-eqb, find, ◌&&◌, not, is_some, slice_index, take, append_assoc, append-nil, min, ◌≢◌, cond, position}
-pub use Rattle.std.proofs.Common.{nat_lt, set, option_map, IsSome, below_more, codes, decimal, rules, IsSomeAnd, drop}
+-- What the proofs use of other crates, and of the definitions of this one.
+pub use Rattle.std.proofs.Common.{◌≡◌, ℕ, ◌<◌, ◌≤◌, ◌⊎◌, List, [], ◌∷◌, length, Some, refl, sym, ◌∙◌, ap, subst, inl, inr, arith, slice_get, suc, ◌+◌, Bool, true, false, ◌++◌, get_or, flat_map, Option, None, if◌then◌else◌, IfSome, IfNone, ◌↔◌, IsTrue, zero, ◌==◌, eqb-true, eq-eqb, find, ◌&&◌, not, is_some, slice_index, take, append_assoc, append-nil, min, ◌≢◌, cond, position, nat_lt, set, option_map, IsSome, below_more, codes, decimal, rules, IsSomeAnd, drop}
 pub use Rattle.std.proofs.lemmas.Bool.{cases_eq, cases_lt, cases_order, true≢false, lt-ltb, cases_Bool, ltb-true, both_ways}
-pub use Rattle.std.proofs.lemmas.List.{ext_get_or, length_push, get_or_push, get_or_append_left, take_more, take_all, length-take, length-set}
-pub use Rattle.std.proofs.lemmas.List.{get_or-set_same, get_or-set_other, get_or-take, get_or_default}
+pub use Rattle.std.proofs.lemmas.List.{ext_get_or, length_push, get_or_push, get_or_append_left, take_more, take_all, length-take, length-set, get_or-set_same, get_or-set_other, get_or-take, get_or_default}
 pub use Rattle.std.proofs.lemmas.List.Elements.{All-contains, Contains-get_or, All-from_get_or, Contains-push_cases}
 pub use Rattle.std.proofs.lemmas.List.Folds.{find_at}
 pub use Rattle.std.proofs.lemmas.List.Sums.{fails_before_first, passes_at_first, position_or_len_is}
@@ -49,8 +45,7 @@ pub use Rattle.sas_lines.specs.Lines.{text}
 pub use Rattle.sas_meaning.proofs.Forced.{fact_within}
 pub use Rattle.sas_meaning.proofs.LayerChecksAreRules.{checks_are_rules}
 pub use Rattle.sas_meaning.proofs.RuleTests.{fires, agrees_with_earlier}
-pub use Rattle.sas_meaning.specs.LayerChecks.{numbered_checks, agrees_with, layer_checks, effect_layer_checks, operator_layer_checks, looks_down}
-pub use Rattle.sas_meaning.specs.LayerChecks.{firing_checks, rule_layer_checks}
+pub use Rattle.sas_meaning.specs.LayerChecks.{numbered_checks, agrees_with, layer_checks, effect_layer_checks, operator_layer_checks, looks_down, firing_checks, rule_layer_checks}
 pub use Rattle.sas_meaning.specs.Layers.{CanFire, can_fire, IsLayered, default_of}
 pub use Rattle.sas_meaning.specs.States.{Holds}
 pub use Rattle.sas_meaning.specs.declared.layered.LayerFault.{LayerFault}
@@ -58,10 +53,8 @@ pub use Rattle.sas_meaning.specs.declared.layered.LayerFault.TheVariants.{Memory
 pub use Rattle.sas_mutex.proofs.FromNotes.{noted_fewer}
 pub use Rattle.sas_mutex.proofs.Keeping.{keeps_from_effects, effect_of_keeps}
 pub use Rattle.sas_mutex.proofs.TaskFacts.{group_facts}
-pub use Rattle.sas_mutex.proofs.VerdictsSoFar.{clash_never_fires, keeps_itself, put_back, several_never_fire, noted_with, with_place, or_itself}
-pub use Rattle.sas_mutex.proofs.VerdictsSoFar.{is_more}
-pub use Rattle.sas_mutex.specs.ByNotes.{NotBothAt, IsGoneAt, EffectKeepsGroup, IsNotedAt, NeverFires, IsNotedFor, EffectKeepsGroupWithItself}
-pub use Rattle.sas_mutex.specs.ByNotes.{known_at}
+pub use Rattle.sas_mutex.proofs.VerdictsSoFar.{clash_never_fires, keeps_itself, put_back, several_never_fire, noted_with, with_place, or_itself, is_more}
+pub use Rattle.sas_mutex.specs.ByNotes.{NotBothAt, IsGoneAt, EffectKeepsGroup, IsNotedAt, NeverFires, IsNotedFor, EffectKeepsGroupWithItself, known_at}
 pub use Rattle.sas_mutex.specs.Effects.{EffectKeeps, IsKept, KeepsWithItself}
 pub use Rattle.sas_mutex.specs.Firing.{EffectPlace, operator_of}
 pub use Rattle.sas_mutex.specs.Marks.{IsClean}
@@ -73,3 +66,16 @@ pub use Rattle.sas_output.specs.Line.{reasons_text}
 pub use Rattle.sas_output.specs.Sink.{Pushes}
 pub use Rattle.sas_output.specs.declared.ending.Status.{Status}
 pub use Rattle.sas_output.specs.declared.line.Line.{Line}
+pub use Rattle.sas_task_reasons.specs.Failures.{IsFailure, IsEarlier, IsFirstFailure}
+pub use Rattle.sas_task_reasons.specs.GroupLaws.{NotKeptIfFails, FailsIfNotKept, SomeFirstFailure, OneFirstFailure, SomeReason, OneReason}
+pub use Rattle.sas_task_reasons.specs.GroupReasons.{verdict_of, IsReasonIfAny, reason_at, AreReasons, holds, TrueOfGroup, IsReason}
+pub use Rattle.sas_task_reasons.specs.LayerLaws.{IsOtherGiver, IsReportedOther, IsReportedOld, IsWhole, LayerReasonsAreWhole}
+pub use Rattle.sas_task_reasons.specs.Lowest.{effect_of_failure, IsFirstOfEffect, IsLowestPartner, IsAny, IsFirstStaying, SetsVariable, FollowsOnVariable}
+pub use Rattle.sas_task_reasons.specs.Reporting.{KeptBelow, IsPending, IsReasonSoFar, AreReasonsSoFar, LacksReason, IsBroken}
+pub use Rattle.sas_task_reasons.specs.WhyGroups.{why_lines, WhyGroupsAnswer, explained_group_lines, why_lines_from}
+pub use Rattle.sas_task_reasons.specs.WhyLayers.{layer_reasons, with_reasons, why_refusal, WhyAnswer, WhyCheckAnswer, WhyMutexAnswer}
+pub use Rattle.sas_task_reasons.specs.declared.broken.Greatest.{Greatest}
+pub use Rattle.sas_task_reasons.specs.declared.reason.Failure.{Failure}
+pub use Rattle.sas_task_reasons.specs.declared.reason.Failure.TheVariants.{SetsTwo, MayStay}
+pub use Rattle.sas_task_reasons.specs.declared.reason.Reason.{Reason}
+pub use Rattle.sas_task_reasons.specs.declared.reason.Reason.TheVariants.{OnDerived, HoldsTwo, Breaks}

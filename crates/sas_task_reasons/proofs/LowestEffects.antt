@@ -1,7 +1,6 @@
 -- The lowest effect that may set another fact of a group, as more effects are checked.
 use Rattle.std.proofs.lemmas.Grind.{common_steps}
-use Rattle.sas_task_reasons.proofs.Imports.{take, take_all, take_more, length-take, get_or-take, get_or_default, Contains-get_or, Contains-push_cases, ◌≡◌, ℕ, ◌+◌, ◌<◌, ◌≤◌, ◌⊎◌, min, Bool, List, length, get_or, Some, refl, sym, ◌∙◌, ap, subst, inl, inr, arith, cases_eq, slice_get-get_or, get_or_from_slice_get, Contains, slice_get, Fact, effect_at, group_at, sets, EffectPlace, operator_of, NotBothAt}
-use Rattle.sas_task_reasons.specs.Lowest.{IsLowestPartner, IsAny, SetsVariable, FollowsOnVariable}
+use Rattle.sas_task_reasons.proofs.Imports.{take, take_all, take_more, length-take, get_or-take, get_or_default, Contains-get_or, Contains-push_cases, ◌≡◌, ℕ, ◌+◌, ◌<◌, ◌≤◌, ◌⊎◌, min, Bool, List, length, get_or, Some, refl, sym, ◌∙◌, ap, subst, inl, inr, arith, cases_eq, slice_get-get_or, Contains, Fact, effect_at, group_at, sets, EffectPlace, operator_of, NotBothAt, IsLowestPartner, IsAny, SetsVariable, FollowsOnVariable}
 
 -- the effects of the operator that set the variable of one of these facts
 abbrev pub SetsOneOf : EffectPlace → List Fact → ℕ → Type 0

@@ -1,13 +1,6 @@
 -- The reasons after each effect and each operator.
 use Rattle.std.proofs.lemmas.Grind.{common_steps}
-use Rattle.sas_task_reasons.proofs.Imports.{◌≡◌, ℕ, ◌+◌, ◌<◌, Bool, List, [], ◌∷◌, ◌++◌, length, set, Option, None, Some, refl, sym, ◌∙◌, ap, subst, inl, inr, arith, cases_eq, length_push, get_or_push, get_or_append_left, length-set, get_or-set_same, get_or-set_other, Contains, IsTrue, Parts, operator_at, effect_at, group_at, Verdict, Exclusive, Derived, Initial, Broken, sets, IsGroupOfOr}
-use Rattle.sas_task_reasons.proofs.Imports.{IsGreatest, IsJointVerdict, HasFact, family_of, KeepsWithItself, verdict_at, AreJointVerdicts, keeps_from_effects}
-use Rattle.sas_task_reasons.specs.declared.reason.Failure.{Failure}
-use Rattle.sas_task_reasons.specs.declared.reason.Reason.{Reason}
-use Rattle.sas_task_reasons.specs.declared.reason.Reason.TheVariants.{Breaks}
-use Rattle.sas_task_reasons.specs.Lowest.{effect_of_failure, IsFirstOfEffect}
-use Rattle.sas_task_reasons.specs.GroupReasons.{IsReason, IsReasonIfAny, reason_at, AreReasons}
-use Rattle.sas_task_reasons.specs.Reporting.{KeptBelow, IsPending, IsReasonSoFar, AreReasonsSoFar, LacksReason, IsBroken}
+use Rattle.sas_task_reasons.proofs.Imports.{◌≡◌, ℕ, ◌+◌, ◌<◌, Bool, List, [], ◌∷◌, ◌++◌, length, set, Option, None, Some, refl, sym, ◌∙◌, ap, subst, inl, inr, arith, cases_eq, length_push, get_or_push, get_or_append_left, length-set, get_or-set_same, get_or-set_other, Contains, IsTrue, Parts, operator_at, effect_at, group_at, Verdict, Exclusive, Derived, Initial, Broken, sets, IsGroupOfOr, Failure, Reason, Breaks, effect_of_failure, IsFirstOfEffect, IsReason, IsReasonIfAny, reason_at, AreReasons, KeptBelow, IsPending, IsReasonSoFar, AreReasonsSoFar, LacksReason, IsBroken, IsGreatest, IsJointVerdict, HasFact, family_of, KeepsWithItself, verdict_at, AreJointVerdicts, keeps_from_effects}
 use Rattle.sas_task_reasons.proofs.Least.{has_or_not}
 use Rattle.sas_task_reasons.proofs.Failing.{sets_one, kept_never_fails, first_of_all}
 use Rattle.sas_task_reasons.proofs.GreatestOfVerdicts.{breaks_under}

@@ -1,7 +1,5 @@
 -- A task has an answer with reasons, and only one; and how the answer comes about.
-use Rattle.sas_task_reasons.proofs.Imports.{◌≡◌, [], refl, sym, ap, subst, Option, Some, None, option_map, none-some, Parts, first_fault, LayerFault, Memory, layer_checks, IsLayered, checks_are_rules, Output, layers_refusal, layers_verdict, OneAnswer, SomeAnswer, some_check_answer, reasons_text}
-use Rattle.sas_task_reasons.specs.WhyGroups.{WhyGroupsAnswer}
-use Rattle.sas_task_reasons.specs.WhyLayers.{layer_reasons, with_reasons, why_refusal, WhyAnswer, WhyCheckAnswer, WhyMutexAnswer}
+use Rattle.sas_task_reasons.proofs.Imports.{◌≡◌, [], refl, sym, ap, subst, Option, Some, None, option_map, none-some, Parts, first_fault, LayerFault, Memory, layer_checks, IsLayered, checks_are_rules, Output, layers_refusal, layers_verdict, OneAnswer, SomeAnswer, some_check_answer, reasons_text, WhyGroupsAnswer, layer_reasons, with_reasons, why_refusal, WhyAnswer, WhyCheckAnswer, WhyMutexAnswer}
 use Rattle.sas_task_reasons.proofs.GroupAnswers.{one_groups_answer, some_groups_answer}
 
 -- the same refusal, with reasons behind

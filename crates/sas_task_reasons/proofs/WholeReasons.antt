@@ -1,9 +1,7 @@
 -- All that the lines of reasons name exists, where the fault is the first of a task's layers.
 use Rattle.std.proofs.Common.{arith}
 use Rattle.std.proofs.lemmas.Grind.{common_steps}
-use Rattle.sas_task_reasons.proofs.Imports.{◌≡◌, ℕ, ◌<◌, ◌==◌, Bool, true, false, List, [], ◌++◌, length, take, get_or, refl, subst, inl, inr, eq-eqb, Option, Some, None, if◌then◌else◌, not, is_some, IsSome, option_map_or, Fact, Effect, Operator, Rule, Parts, Check, check, operator_at, effect_at, rule_at, layer_of, LayerFault, EffectOnDerived, RuleOnBasic, OldValue, TwoValues, LayerOrder}
-use Rattle.sas_task_reasons.proofs.Imports.{default_of, can_fire, numbered_checks, effect_layer_checks, operator_layer_checks, agrees_with, looks_down, firing_checks, rule_layer_checks, layer_checks}
-use Rattle.sas_task_reasons.specs.LayerLaws.{IsReportedOld, IsWhole, LayerReasonsAreWhole}
+use Rattle.sas_task_reasons.proofs.Imports.{◌≡◌, ℕ, ◌<◌, ◌==◌, Bool, true, false, List, [], length, take, get_or, refl, subst, inl, inr, eq-eqb, Option, Some, None, if◌then◌else◌, not, is_some, IsSome, option_map_or, Fact, Effect, Operator, Rule, Parts, Check, check, operator_at, effect_at, rule_at, layer_of, LayerFault, EffectOnDerived, RuleOnBasic, OldValue, TwoValues, LayerOrder, IsReportedOld, IsWhole, LayerReasonsAreWhole, default_of, can_fire, numbered_checks, effect_layer_checks, operator_layer_checks, agrees_with, looks_down, firing_checks, rule_layer_checks, layer_checks}
 use Rattle.sas_task_reasons.proofs.FailingChecks.{IsFirst, check_fails, guarded_fails, either_fails, numbered_fails}
 use Rattle.sas_task_reasons.proofs.OtherGivers.{other_reported}
 

@@ -6,9 +6,7 @@ use Rattle.sas_core.specs.FirstFault.{first_fault}
 use Rattle.sas_core.specs.Grounded.{operator_at, effect_at, rule_at}
 use Rattle.sas_core.specs.Variables.{IsDerived}
 use Rattle.sas_meaning.specs.declared.layered.LayerFault.{LayerFault}
-use Rattle.sas_meaning.specs.declared.layered.LayerFault.TheVariants.{EffectOnDerived, RuleOnBasic}
-use Rattle.sas_meaning.specs.declared.layered.LayerFault.TheVariants.{OldValue, TwoValues}
-use Rattle.sas_meaning.specs.declared.layered.LayerFault.TheVariants.{LayerOrder, Memory}
+use Rattle.sas_meaning.specs.declared.layered.LayerFault.TheVariants.{EffectOnDerived, RuleOnBasic, OldValue, TwoValues, LayerOrder, Memory}
 use Rattle.sas_meaning.specs.LayerChecks.{layer_checks}
 use Rattle.sas_meaning.specs.Layers.{CanFire, IsBasic, default_of}
 use Rattle.sas_task_reasons.specs.WhyLayers.{other_giver}

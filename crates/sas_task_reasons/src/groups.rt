@@ -1,6 +1,5 @@
 // The answer about the mutex groups of a layered task, with the reasons why groups aren't exclusive, as it goes out.
-ghost use Rattle.std.specs.Prelude.{◌≡◌, ◌⊎◌, ◌↔◌, [], ◌∷◌, ◌++◌, false};
-ghost use Rattle.std.specs.Prelude.{IfErr, IsErr, IsErrAnd, IsSomeAnd, IsTrue, OnOk, codes, map};
+ghost use Rattle.std.specs.Prelude.{◌≡◌, ◌⊎◌, ◌↔◌, [], ◌∷◌, ◌++◌, false, IfErr, IsErr, IsErrAnd, IsSomeAnd, IsTrue, OnOk, codes, map};
 ghost use Rattle.std.specs.Io.KnownBytes.{Appends};
 ghost use Rattle.sas_lines.specs.Lines.{text};
 ghost use Rattle.sas_answers.specs.GroupWords.{group_line};

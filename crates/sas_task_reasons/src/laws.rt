@@ -1,7 +1,6 @@
 // Laws of the reasons.
 ghost use Rattle.sas_task_reasons.specs.LayerLaws.{LayerReasonsAreWhole};
-ghost use Rattle.sas_task_reasons.specs.GroupLaws.{NotKeptIfFails, FailsIfNotKept, SomeFirstFailure, OneFirstFailure};
-ghost use Rattle.sas_task_reasons.specs.GroupLaws.{SomeReason, OneReason};
+ghost use Rattle.sas_task_reasons.specs.GroupLaws.{NotKeptIfFails, FailsIfNotKept, SomeFirstFailure, OneFirstFailure, SomeReason, OneReason};
 
 /// States that the reasons leave out nothing where the fault is the first of the task's layers: each part and each layer that a line
 /// names exists. For `two values` the other rule is the lowest that derives another value, and it comes before the rule at fault.

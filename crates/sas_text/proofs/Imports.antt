@@ -1,6 +1,6 @@
--- What the proofs use of other crates.
-pub use Rattle.std.proofs.Common.{◌≡◌, ℕ, List, [], ◌∷◌, ◌++◌, length, map, refl, sym, ap, ◌∙◌, append_assoc, Result, Ok, Err, codes, take, arith}
-pub use Rattle.std.proofs.lemmas.Grind.{flat_map-append, common_steps}
+-- What the proofs use of other crates, and of the definitions of this one.
+pub use Rattle.std.proofs.Common.{◌≡◌, ℕ, List, [], ◌∷◌, ◌++◌, length, map, refl, sym, ap, ◌∙◌, append_assoc, Result, Ok, Err, codes, take}
+pub use Rattle.std.proofs.lemmas.Grind.{flat_map-append}
 pub use Rattle.std.proofs.lemmas.List.{map-append}
 pub use Rattle.std.specs.Fmt.{decimal}
 pub use Rattle.std.specs.List.{flat_map}
@@ -8,6 +8,5 @@ pub use Rattle.std.specs.Result.{OnOk}
 pub use Rattle.sas_core.specs.declared.parts.Effect.{Effect}
 pub use Rattle.sas_core.specs.declared.parts.Parts.{Parts}
 pub use Rattle.sas_lines.specs.Spelling.{signed_decimal, joined}
-pub use Rattle.sas_task_format.specs.TaskFormat.{TaskLine, word, effect, head, fact_words, task_line_bytes, line, between, fact, counted, name}
-pub use Rattle.sas_task_format.specs.TaskFormat.{number, signed, task_layout, version_lines, metric_lines, variable_lines, group_lines, state_lines}
-pub use Rattle.sas_task_format.specs.TaskFormat.{goal_lines, operator_lines, rule_lines}
+pub use Rattle.sas_task_format.specs.TaskFormat.{TaskLine, word, effect, head, fact_words, task_line_bytes, line, between, fact, counted, name, number, task_layout, version_lines, metric_lines, variable_lines, group_lines, state_lines, goal_lines, operator_lines, rule_lines}
+pub use Rattle.sas_text.specs.TaskText.{text_of, spaced}

@@ -1,6 +1,5 @@
 -- The text of lines of a task file, part by part.
-use Rattle.sas_text.proofs.Imports.{◌≡◌, ℕ, List, [], ◌∷◌, ◌++◌, length, map, refl, sym, ap, ◌∙◌, append_assoc, Result, Ok, Err, flat_map, OnOk, flat_map-append, map-append, decimal, Effect, signed_decimal, joined, TaskLine, word, effect, head, fact_words, task_line_bytes, line, between}
-use Rattle.sas_text.specs.TaskText.{text_of, spaced}
+use Rattle.sas_text.proofs.Imports.{◌≡◌, ℕ, List, [], ◌∷◌, ◌++◌, length, map, refl, sym, ap, ◌∙◌, append_assoc, Result, Ok, Err, flat_map, OnOk, flat_map-append, map-append, decimal, Effect, signed_decimal, joined, TaskLine, word, effect, head, fact_words, task_line_bytes, line, between, text_of, spaced}
 
 -- lines one after another
 pub text_of_append : (a b : List TaskLine) → text_of (a ++ b) ≡ text_of a ++ text_of b

@@ -1,6 +1,5 @@
 -- The labels of plans: the words that name their files.
-use Rattle.std.specs.Prelude.{◌≡◌, ◌≢◌, ℕ, ◌+◌, Bool, if◌then◌else◌, List, map, count_by, codes}
-use Rattle.std.specs.Prelude.{bytes_eq, Option, Some, None, String}
+use Rattle.std.specs.Prelude.{◌≡◌, ◌≢◌, ℕ, ◌+◌, Bool, if◌then◌else◌, List, map, count_by, codes, bytes_eq, Option, Some, None, String}
 use Rattle.std.specs.String.{string_bytes}
 use Rattle.sas_lines.specs.declared.inputs.Opened.{Opened}
 use Rattle.sas_lines.specs.declared.inputs.Opened.TheVariants.{File, Standard, Nothing}

@@ -1,9 +1,5 @@
 -- The answer about a plan with its trace: there is one, it ends with the answer about the plan, and the costs add up.
-use Rattle.sas_trace.proofs.Imports.{◌≡◌, ℕ, List, ◌++◌, Option, Some, None, refl, sym, ◌∙◌, ap, subst, inl, inr, option_map, same_Some, Parts, PlanParts, text, IsLayered, PlanFault, Memory, NoOperator, NotApplicable, Conflict, GoalMissed, CostDiffers, IsValid, IsFaultOf, some_verdict, valid_has_no_fault, fault_is_one, Status, Yes, No, Output, valid_answer, invalid_answer, fault_words}
-use Rattle.sas_trace.proofs.Imports.{invalid_line, Run, StepsSucceed, steps_before, worded, some_run, one_run, to_fault}
-use Rattle.sas_trace.specs.Trace.{run_lines}
-use Rattle.sas_trace.specs.Traced.{EndsWith, TraceVerdict}
-use Rattle.sas_trace.specs.Laws.{EndsWithVerdict, CostsAddUp, SomeTrace, OneTrace}
+use Rattle.sas_trace.proofs.Imports.{◌≡◌, ℕ, List, ◌++◌, Some, refl, sym, ◌∙◌, ap, subst, inl, inr, same_Some, Parts, PlanParts, text, IsLayered, PlanFault, Memory, NoOperator, NotApplicable, Conflict, GoalMissed, CostDiffers, IsValid, IsFaultOf, some_verdict, valid_has_no_fault, fault_is_one, Status, Yes, No, Output, valid_answer, invalid_answer, fault_words, run_lines, EndsWith, TraceVerdict, EndsWithVerdict, CostsAddUp, SomeTrace, OneTrace, invalid_line, Run, StepsSucceed, steps_before, worded, some_run, one_run, to_fault}
 
 pub ends_with_verdict : EndsWithVerdict
 ends_with_verdict p plan output trace = elim trace.ends [

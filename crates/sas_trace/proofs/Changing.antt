@@ -1,8 +1,5 @@
 -- The changes that were printed so far, in the order of the variables.
-use Rattle.sas_trace.proofs.Imports.{◌≡◌, ℕ, ◌+◌, ◌-◌, ◌<◌, ◌≤◌, Bool, true, false, not, ◌==◌, List, [], ◌∷◌, ◌++◌, length, map, filter, flat_map, get_or, append-nil, codes, decimal, refl, sym, ◌∙◌, ap, subst, inl, inr, arith, get_or-set_other, get_or-set_same, length-set, if◌then◌else◌, slice_index, slice_set, cond, Contains, IsNonDecreasing, unwrap_or, cases_eq, cases_lt, cases_Bool, eq-eqb}
-use Rattle.sas_trace.proofs.Imports.{eqb-true, same_number_lists, Parts, value_name, get_or_default, text, line}
-use Rattle.sas_trace.specs.Trace.{variables_of, is_changed, change_line, change_lines}
-use Rattle.sas_trace.specs.Changes.{change_text, ListCoversChanges}
+use Rattle.sas_trace.proofs.Imports.{◌≡◌, ℕ, ◌+◌, ◌-◌, ◌<◌, ◌≤◌, Bool, true, false, not, ◌==◌, List, [], ◌∷◌, ◌++◌, length, map, filter, flat_map, get_or, append-nil, codes, decimal, refl, sym, ◌∙◌, ap, subst, inl, inr, arith, get_or-set_other, get_or-set_same, length-set, if◌then◌else◌, slice_index, slice_set, cond, Contains, IsNonDecreasing, unwrap_or, cases_eq, cases_lt, cases_Bool, eq-eqb, variables_of, is_changed, change_line, change_lines, change_text, ListCoversChanges, eqb-true, same_number_lists, Parts, value_name, get_or_default, text, line}
 use Rattle.sas_trace.proofs.Numbers.{said, said_more, said_quiet}
 
 -- ---- the same value, or another one

@@ -1,8 +1,5 @@
--- What the proofs use of other crates.
-pub use Rattle.std.proofs.Common.{◌≡◌, ℕ, List, ◌++◌, Option, Some, None, refl, sym, ◌∙◌, ap, subst, inl, inr, option_map, ◌+◌, ◌-◌, ◌<◌, ◌≤◌, Bool}
-pub use Rattle.std.proofs.Common.{true, false, not, ◌==◌, [], ◌∷◌, length, map, filter, flat_map, get_or, append-nil, codes, decimal, arith}
-pub use Rattle.std.proofs.Common.{get_or-set_other, get_or-set_same, length-set, if◌then◌else◌, slice_index, slice_set, cond, IsFalse, zero, suc}
-pub use Rattle.std.proofs.Common.{append_assoc, fold, rules}
+-- What the proofs use of other crates, and of the definitions of this one.
+pub use Rattle.std.proofs.Common.{◌≡◌, ℕ, List, ◌++◌, Some, refl, sym, ◌∙◌, ap, subst, inl, inr, ◌+◌, ◌-◌, ◌<◌, ◌≤◌, Bool, true, false, not, ◌==◌, [], ◌∷◌, length, map, filter, flat_map, get_or, append-nil, codes, decimal, arith, get_or-set_other, get_or-set_same, length-set, if◌then◌else◌, slice_index, slice_set, cond, IsFalse, zero, suc, append_assoc, fold, rules}
 pub use Rattle.std.proofs.Math.Numerals.{add-one}
 pub use Rattle.std.proofs.lemmas.Bool.{cases_eq, cases_lt, cases_Bool, eq-eqb, eqb-true, false≢true}
 pub use Rattle.std.proofs.lemmas.Grind.{same_number_lists, flat_map-append}
@@ -45,3 +42,8 @@ pub use Rattle.sas_run.specs.Stepping.{ListsChanges}
 pub use Rattle.sas_run.specs.Verdicts.{IsFaultOf}
 pub use Rattle.sas_run.specs.declared.plan_check.PlanFault.{PlanFault}
 pub use Rattle.sas_run.specs.declared.plan_check.PlanFault.TheVariants.{Memory, NoOperator, NotApplicable, Conflict, GoalMissed, CostDiffers}
+pub use Rattle.sas_trace.specs.Changes.{change_text, ListCoversChanges, IsListedIfChanged, Grows}
+pub use Rattle.sas_trace.specs.Laws.{EndsWithVerdict, CostsAddUp, SomeTrace, OneTrace, facts_printed, Replays}
+pub use Rattle.sas_trace.specs.Trace.{run_lines, variables_of, is_changed, change_line, change_lines, initial_line, initial_lines, step_lines, step_line}
+pub use Rattle.sas_trace.specs.Traced.{EndsWith, TraceVerdict, IsTraced}
+pub use Rattle.sas_trace.specs.Tracing.{HasTraced, HasVerdict}

@@ -1,6 +1,5 @@
 -- A list of variables that grows.
-use Rattle.sas_trace.proofs.Imports.{◌≡◌, ℕ, ◌+◌, ◌<◌, List, [], length, get_or, sym, ◌∙◌, ap, subst, inl, inr, arith, IsFalse, All, IsPermutation, cases_eq, false≢true, All-nil, All-contains, All-permutation, Contains-permutation, get_or_default, Fact, Parts, Touched, derived_within, ListsChanges}
-use Rattle.sas_trace.specs.Changes.{IsListedIfChanged, Grows, ListCoversChanges}
+use Rattle.sas_trace.proofs.Imports.{◌≡◌, ℕ, ◌+◌, ◌<◌, List, [], length, get_or, sym, ◌∙◌, ap, subst, inl, inr, arith, IsFalse, All, IsPermutation, cases_eq, false≢true, All-nil, All-contains, All-permutation, Contains-permutation, get_or_default, Fact, Parts, Touched, derived_within, ListsChanges, IsListedIfChanged, Grows, ListCoversChanges}
 
 module _ (n : ℕ) (xs ys zs : List ℕ) (first : Grows n xs ys) (second : Grows n ys zs) where
   pub grows_then : Grows n xs zs

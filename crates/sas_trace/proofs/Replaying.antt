@@ -1,7 +1,5 @@
 -- The changes, written over the values before, give the values behind the step.
-use Rattle.sas_trace.proofs.Imports.{◌≡◌, ℕ, zero, suc, ◌+◌, ◌<◌, ◌≤◌, Bool, true, false, List, ◌∷◌, length, map, filter, get_or, refl, sym, ◌∙◌, ap, subst, inl, inr, arith, get_or-set_other, get_or-set_same, length-set, fold, slice_set, slice_index, cond, range_with_len, cases_eq, same_number_lists, length-map-range_with_len, get_or-map-range_with_len, add-one, Fact, state_at, state_fits}
-use Rattle.sas_trace.specs.Trace.{is_changed}
-use Rattle.sas_trace.specs.Laws.{facts_printed, Replays}
+use Rattle.sas_trace.proofs.Imports.{◌≡◌, ℕ, zero, suc, ◌+◌, ◌<◌, ◌≤◌, Bool, true, false, List, ◌∷◌, length, map, filter, get_or, refl, sym, ◌∙◌, ap, subst, inl, inr, arith, get_or-set_other, get_or-set_same, length-set, fold, slice_set, slice_index, cond, range_with_len, cases_eq, same_number_lists, length-map-range_with_len, get_or-map-range_with_len, add-one, Fact, state_at, state_fits, is_changed, facts_printed, Replays}
 use Rattle.sas_trace.proofs.Changing.{is_same, is_other}
 
 -- a fact comes into a state

@@ -1,6 +1,5 @@
 -- The text of a run: of its initial state, and of its steps.
-use Rattle.sas_trace.proofs.Imports.{◌≡◌, ℕ, List, [], ◌∷◌, ◌++◌, flat_map, length, sym, ◌∙◌, ap, range_with_len, flat_map-map, Parts, text, text_of_both, text_of_each, Run, state_at}
-use Rattle.sas_trace.specs.Trace.{variables_of, initial_line, initial_lines, step_lines, run_lines}
+use Rattle.sas_trace.proofs.Imports.{◌≡◌, ℕ, List, [], ◌∷◌, ◌++◌, flat_map, length, sym, ◌∙◌, ap, range_with_len, flat_map-map, Parts, text, text_of_both, text_of_each, Run, state_at, variables_of, initial_line, initial_lines, step_lines, run_lines}
 use Rattle.sas_trace.proofs.Numbers.{said}
 
 module _ (p : Parts) (s : List ℕ) where

@@ -1,8 +1,5 @@
 -- A trace stands at a step of a run, and what is written of the next one is what the run has there.
-use Rattle.sas_trace.proofs.Imports.{◌≡◌, ℕ, ◌+◌, List, ◌∷◌, ◌++◌, length, get_or, refl, sym, ◌∙◌, ap, subst, Parts, PlanParts, text, Answer, Output, output_of, Executed, Executes, Advances, next_operator, Run, state_at, StepsSucceed, executed_fits}
-use Rattle.sas_trace.specs.Trace.{step_line, change_lines, step_lines, run_lines}
-use Rattle.sas_trace.specs.Traced.{TraceVerdict}
-use Rattle.sas_trace.specs.Tracing.{HasTraced, HasVerdict}
+use Rattle.sas_trace.proofs.Imports.{◌≡◌, ℕ, ◌+◌, List, ◌∷◌, ◌++◌, length, get_or, refl, sym, ◌∙◌, ap, subst, Parts, PlanParts, text, Answer, Output, output_of, Executed, Executes, Advances, next_operator, Run, state_at, StepsSucceed, executed_fits, step_line, change_lines, step_lines, run_lines, TraceVerdict, HasTraced, HasVerdict}
 
 module _ (p : Parts) (run : Run) (e : Executed) (printed : List ℕ) (at : HasTraced p run e printed) where
   -- its state has a value for each variable

@@ -1,7 +1,6 @@
 -- Traces: what the steps of a plan do. There is a line for each variable of the initial state, then
 -- for each step that succeeds its line, and one for each variable whose value it changed.
-use Rattle.std.specs.Prelude.{ℕ, ◌+◌, ◌==◌, Bool, not, List, [], ◌∷◌, ◌++◌, length, map, filter, flat_map}
-use Rattle.std.specs.Prelude.{slice_index, codes, decimal}
+use Rattle.std.specs.Prelude.{ℕ, ◌+◌, ◌==◌, Bool, not, List, [], ◌∷◌, ◌++◌, length, map, filter, flat_map, slice_index, codes, decimal}
 use Rattle.std.specs.List.{range_with_len}
 use Rattle.std.specs.Option.{unwrap_or}
 use Rattle.sas_core.specs.declared.parts.Parts.{Parts}

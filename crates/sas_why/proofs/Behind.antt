@@ -1,12 +1,7 @@
 -- What is known of a run that was retraced up to a fault.
 use Rattle.std.proofs.lemmas.Grind.{common_steps}
-use Rattle.sas_why.proofs.Imports.{◌≡◌, ℕ, ◌-◌, List, [], ◌∷◌, ◌++◌, length, take, Option, None, Some, refl, sym, ◌∙◌, ap, subst, inl, inr, arith, append-nil, take-append_seam, Parts, PlanParts, operator_at, IsState, IsLayered, IsSettled, Agree, PlanFault, Conflict, LeadsTo, ComesTo, IsFaultOf, leads_one_way, Line, Run, last_state, StepsSucceed, steps_before, RunEndsWith, leads_to_last}
-use Rattle.sas_why.proofs.Imports.{last_rests, AreCouldBeLines, AreFaultLines, IsWhy}
+use Rattle.sas_why.proofs.Imports.{◌≡◌, ℕ, ◌-◌, List, [], ◌∷◌, ◌++◌, length, take, Option, None, Some, refl, sym, ◌∙◌, ap, subst, inl, inr, arith, append-nil, take-append_seam, Parts, PlanParts, operator_at, IsState, IsLayered, IsSettled, Agree, PlanFault, Conflict, LeadsTo, ComesTo, IsFaultOf, leads_one_way, Line, Run, last_state, StepsSucceed, steps_before, RunEndsWith, leads_to_last, Other, Retraced, IsOtherIfAny, Retraces, IsBehind, ReportsOnce, last_rests, AreCouldBeLines, AreFaultLines, IsWhy}
 use Rattle.sas_output.specs.declared.line.Line.TheVariants as line
-use Rattle.sas_why.specs.declared.retraced.Other.{Other}
-use Rattle.sas_why.specs.declared.retraced.Retraced.{Retraced}
-use Rattle.sas_why.specs.Retracing.{IsOtherIfAny, Retraces}
-use Rattle.sas_why.specs.Report.{IsBehind, ReportsOnce}
 
 module _ (p : Parts) (plan : PlanParts) (noted : Retraced) (run : Run) (fault : PlanFault) (r : Retraces p plan noted run) (is : noted.fault ≡ Some fault) where
   pub ends : IsFaultOf p plan fault × (run.steps ≡ steps_before plan fault)

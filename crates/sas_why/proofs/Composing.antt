@@ -1,14 +1,8 @@
 -- What functions report, one behind the other.
 use Rattle.std.proofs.Common.{arith}
 use Rattle.std.proofs.lemmas.Grind.{common_steps}
-use Rattle.sas_why.proofs.Imports.{◌≡◌, ℕ, zero, suc, ◌+◌, ◌<◌, Bool, true, false, not, List, [], ◌∷◌, ◌++◌, length, get_or, set, map, take, refl, sym, ◌∙◌, ap, subst, append_assoc, Vec, Global, ◌&&◌, ◌==◌, if◌then◌else◌, flat_map, slice_index, AllByRecursion, append-nil, map-append, take_more, flat_map-cons, flat_map-append, Fact, Parts, default_of, places, can_give, Line, with_lines, LineThen}
-use Rattle.sas_why.proofs.Imports.{LinesOfEach, Run, last_state, IsDerivation, is_derived, is_given, since_line, AreDerivationLines, can_be_given, keeping_lines, missing_lines, IsCause}
+use Rattle.sas_why.proofs.Imports.{◌≡◌, ℕ, zero, suc, ◌+◌, ◌<◌, Bool, true, false, not, List, [], ◌∷◌, ◌++◌, length, get_or, set, map, take, refl, sym, ◌∙◌, ap, subst, append_assoc, Vec, Global, ◌&&◌, ◌==◌, if◌then◌else◌, flat_map, slice_index, AllByRecursion, append-nil, map-append, take_more, flat_map-cons, flat_map-append, Fact, Parts, default_of, places, can_give, Line, with_lines, LineThen, Origins, Retraced, Report, AreOrigins, ReportsDerivation, IsBehind, lines_of_keepers, is_kept, IsReportOf, Adds, LinesOfEach, Run, last_state, IsDerivation, is_derived, is_given, since_line, AreDerivationLines, can_be_given, keeping_lines, missing_lines, IsCause}
 use Rattle.sas_output.specs.declared.line.Line.TheVariants as line
-use Rattle.sas_why.specs.declared.origins.Origins.{Origins}
-use Rattle.sas_why.specs.declared.retraced.Retraced.{Retraced}
-use Rattle.sas_why.specs.declared.report.Report.{Report}
-use Rattle.sas_why.specs.Origins.{AreOrigins, ReportsDerivation}
-use Rattle.sas_why.specs.Report.{IsBehind, lines_of_keepers, is_kept, IsReportOf, Adds}
 use Rattle.sas_why.proofs.Once.{IsPlain, lines_append, plain_lines}
 use Rattle.sas_why.proofs.Adding.{plain_added, derivation_once, derivation_added, keepers_again, keepers_once, keepers_added}
 

@@ -1,11 +1,8 @@
 -- What is reported of each fault.
 use Rattle.std.proofs.Common.{arith}
 use Rattle.std.proofs.lemmas.Grind.{common_steps}
-use Rattle.sas_why.proofs.Imports.{◌≡◌, ℕ, ◌+◌, ◌<◌, Bool, true, false, not, List, [], ◌∷◌, ◌++◌, length, get_or, Option, None, Some, refl, ◌∙◌, ap, subst, if◌then◌else◌, filter, slice_index, option_map_or, ne_eqb, eq-eqb, append-nil, filter-append, Fact, Parts, places_to, places_one_more, Line, with_lines, LinesOfEach, Run, last_state, fails, similar_operator, similar_name_lines}
+use Rattle.sas_why.proofs.Imports.{◌≡◌, ℕ, ◌+◌, ◌<◌, Bool, true, false, not, List, [], ◌∷◌, ◌++◌, length, get_or, Option, ◌∙◌, ap, if◌then◌else◌, filter, slice_index, option_map_or, ne_eqb, eq-eqb, append-nil, filter-append, Fact, Parts, places_to, places_one_more, Line, LinesOfEach, Run, last_state, fails, similar_operator, similar_name_lines, Retraced, Report, IsBehind, IsReport, Adds, ReportsOnce}
 use Rattle.sas_output.specs.declared.line.Line.TheVariants as line
-use Rattle.sas_why.specs.declared.retraced.Retraced.{Retraced}
-use Rattle.sas_why.specs.declared.report.Report.{Report}
-use Rattle.sas_why.specs.Report.{IsBehind, IsReport, Adds, ReportsOnce}
 
 -- ---- no operator of the name
 

@@ -1,8 +1,7 @@
 -- The first effects that fire on the variables, one effect more.
 use Rattle.std.proofs.lemmas.Grind.{common_steps}
-use Rattle.sas_why.proofs.Imports.{◌≡◌, ◌≢◌, ℕ, ◌+◌, ◌<◌, ◌≤◌, List, length, set, Option, None, Some, refl, sym, ◌∙◌, ap, subst, inl, inr, arith, cases_eq, get_or-set_same, get_or-set_other, length-set, Operator, Parts, effect_at, Agree, same_inside, not_both, IsLowest, AreLowest, ConflictsWith, some_conflict}
+use Rattle.sas_why.proofs.Imports.{◌≡◌, ◌≢◌, ℕ, ◌+◌, ◌<◌, ◌≤◌, List, length, set, Option, None, Some, refl, sym, ◌∙◌, ap, subst, inl, inr, arith, cases_eq, get_or-set_same, get_or-set_other, length-set, Operator, Parts, effect_at, Agree, not_both, IsLowest, AreLowest, ConflictsWith, some_conflict, same_Some, first_on, AgreesWithFirst, AreFirstEffects}
 use Rattle.sas_meaning.specs.Steps.{Fires}
-use Rattle.sas_why.specs.Conflicts.{first_on, AgreesWithFirst, AreFirstEffects}
 
 module _ (p : Parts) (s : List ℕ) (o : Operator) where
   pub no_firsts : (firsts : List (Option ℕ)) → length firsts ≡ length p.variables → ((var : ℕ) → first_on firsts var ≡ None) → AreFirstEffects p s o 0 firsts
@@ -68,7 +67,7 @@ module _ (p : Parts) (s : List ℕ) (o : Operator) where
 
         only : (var first : ℕ) → first_on now var ≡ Some first → (first < n + 1) × Fires s (effect_at o first) × ((effect_at o first).var ≡ var)
         only var first is = elim (cases_eq var (effect_at o n).var) [
-          | inl e ↦ (let same : n ≡ first = same_inside n first (sym at_n ∙ (ap (first_on now) (sym e) ∙ is)) in
+          | inl e ↦ (let same : n ≡ first = same_Some n first (sym at_n ∙ (ap (first_on now) (sym e) ∙ is)) in
               (omega arith, subst (λ k. Fires s (effect_at o k)) same fires, ap (λ k. (effect_at o k).var) (sym same) ∙ sym e))
           | inr ne ↦ (let w = are.only var first (sym (elsewhere var ne) ∙ is) in (omega (arith, w.0), w.1, w.2))
         ]
@@ -81,13 +80,13 @@ module _ (p : Parts) (s : List ℕ) (o : Operator) where
         record {
           has = record { before = w.0; exists = exists; fires = w.1; fires' = fires; var = w.2; other = other };
           first = λ lower lt c. (let v = are.each lower (let b = c.before in b) c.fires in
-              let same : v.0 ≡ first = same_inside v.0 first (sym v.1.is ∙ (ap (first_on firsts) c.var ∙ is)) in
+              let same : v.0 ≡ first = same_Some v.0 first (sym v.1.is ∙ (ap (first_on firsts) c.var ∙ is)) in
               omega (arith, v.1.no_later));
         }
 
     -- none before it is
     pub none_before : (e : ℕ) → e < n → (d : ℕ) × ConflictsWith s o e d → ⊥
-    none_before e lt (d, c) = grind (arith, common_steps, same_inside)
+    none_before e lt (d, c) = grind (arith, common_steps, same_Some)
 
     pub is_conflict : (d : ℕ) → IsLowest (ConflictsWith s o n) d → AreLowest (ConflictsWith s o) n d
     is_conflict d lowest = record { first = record { has = (d, lowest.has); first = none_before }; lowest = lowest }

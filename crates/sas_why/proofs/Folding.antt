@@ -1,6 +1,6 @@
 -- Trimming a name from its end.
 use Rattle.std.proofs.lemmas.Grind.{common_steps}
-use Rattle.sas_why.proofs.Imports.{◌≡◌, ◌≢◌, ℕ, suc, ◌+◌, ◌≤◌, false, cond, List, [], ◌∷◌, ◌++◌, length, get_or, take, refl, sym, ◌∙◌, ap, arith, ◌==◌, ◌&&◌, ne_eqb, take-suc, trimmed, is_blank, space_is_trimmed}
+use Rattle.sas_why.proofs.Imports.{◌≡◌, ◌≢◌, ℕ, ◌+◌, ◌≤◌, false, cond, List, [], ◌∷◌, ◌++◌, length, get_or, take, sym, ◌∙◌, ap, arith, ◌&&◌, ne_eqb, take-suc, trimmed, is_blank, space_is_trimmed}
 
 -- bytes that end in no space are not blank
 not_blank : (bytes : List ℕ) (b : ℕ) → b ≢ 32 → is_blank (bytes ++ b ∷ []) ≡ false

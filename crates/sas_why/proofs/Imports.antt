@@ -1,8 +1,6 @@
--- What the proofs use of other crates.
-pub use Rattle.std.proofs.Common.{◌≡◌, ◌≢◌, ℕ, suc, ◌<◌, ◌⊎◌, Bool, true, false, not, List, [], ◌∷◌, ◌++◌, length, get_or, set, map, Option, None}
-pub use Rattle.std.proofs.Common.{Some, Vec, Global, refl, sym, ◌∙◌, ap, subst, inl, inr, arith, flat_map, find, ◌↔◌, IsTrue, ◌-◌, take, zero, ◌+◌}
-pub use Rattle.std.proofs.Common.{append_assoc, ◌&&◌, ◌==◌, if◌then◌else◌, slice_index, filter, ◌≤◌, cond, IsFalse, ◌||◌, bytes_eq, replicate}
-pub use Rattle.std.proofs.Common.{is_some, slice_get, rules, ◌*◌, ◌^◌, drop, vec_len, min}
+-- What the proofs use of other crates, and of the definitions of this one.
+pub use Rattle.std.proofs.lemmas.Option.{same_Some}
+pub use Rattle.std.proofs.Common.{◌≡◌, ◌≢◌, ℕ, suc, ◌<◌, ◌⊎◌, Bool, true, false, not, List, [], ◌∷◌, ◌++◌, length, get_or, set, map, Option, None, Some, Vec, Global, refl, sym, ◌∙◌, ap, subst, inl, inr, arith, flat_map, find, ◌↔◌, IsTrue, ◌-◌, take, zero, ◌+◌, append_assoc, ◌&&◌, ◌==◌, if◌then◌else◌, slice_index, filter, ◌≤◌, cond, IsFalse, ◌||◌, bytes_eq, replicate, is_some, slice_get, rules, ◌*◌, ◌^◌, drop, vec_len, min}
 pub use Rattle.std.proofs.Math.ListN.{get_or-append}
 pub use Rattle.std.proofs.Math.Seq.{take-append_seam, take-suc, get_or-append_seam}
 pub use Rattle.std.proofs.lemmas.Bool.{cases_eq, cases_Bool, false≢true, ne_eqb, eq-eqb, cases_lt, and_from, and_parts, eqb-true}
@@ -10,13 +8,9 @@ pub use Rattle.std.proofs.lemmas.Bool.Decides.{same_from_decides, eqb_tells, leb
 pub use Rattle.std.proofs.lemmas.Cmp.{nat_cmp_total, on_total, then_total}
 pub use Rattle.std.proofs.lemmas.Fn.{always_returns_same}
 pub use Rattle.std.proofs.lemmas.Grind.{flat_map-append, common_steps}
-pub use Rattle.std.proofs.lemmas.List.{get_or-set_same, get_or-set_other, length-set, append-nil, map-append, take_more, take_all, take-take}
-pub use Rattle.std.proofs.lemmas.List.{length-take-le, get_or-take, length-append, same_lists, get_or_default, length-replicate, get_or_append_left}
-pub use Rattle.std.proofs.lemmas.List.{get_or-map, length-map, get_or-append-add, get_or-replicate, get_or_past, take_at, drop_at, drop_all, length-drop}
+pub use Rattle.std.proofs.lemmas.List.{get_or-set_same, get_or-set_other, length-set, append-nil, map-append, take_more, take_all, take-take, length-take-le, get_or-take, length-append, same_lists, get_or_default, length-replicate, get_or_append_left, get_or-map, length-map, get_or-append-add, get_or-replicate, get_or_past, take_at, drop_at, drop_all, length-drop}
 pub use Rattle.std.proofs.lemmas.List.Concat.{flat_map-cons}
-pub use Rattle.std.proofs.lemmas.List.Elements.{Contains-append_left, Contains-append_right, Contains-append_cases, filter-append, All-contains}
-pub use Rattle.std.proofs.lemmas.List.Elements.{All-weaker, All-nil, All-cons, All-append, Contains-get_or, All-push, Contains-push}
-pub use Rattle.std.proofs.lemmas.List.Elements.{Contains-push_cases, All-from_recursion, All-head, All-rest}
+pub use Rattle.std.proofs.lemmas.List.Elements.{Contains-append_left, Contains-append_right, Contains-append_cases, filter-append, All-contains, All-weaker, All-nil, All-cons, All-append, Contains-get_or, All-push, Contains-push, Contains-push_cases, All-from_recursion, All-head, All-rest}
 pub use Rattle.std.proofs.lemmas.List.Folds.{Any-from_list_any, list_any_at}
 pub use Rattle.std.proofs.lemmas.List.Kept.{AllPairs-filter, AllPairs-cons}
 pub use Rattle.std.proofs.lemmas.List.Sorted.{All-permutation, Contains-permutation, IsPermutation-sym, length_permutation, sorted_far, ranks_by}
@@ -28,7 +22,7 @@ pub use Rattle.std.specs.Cmp.{IsTotalOrder}
 pub use Rattle.std.specs.List.{AllByRecursion, AllPairs, Contains, All, list_any}
 pub use Rattle.std.specs.List.Sorted.{IsPermutation}
 pub use Rattle.std.specs.Option.{option_map_or, option_eq}
-pub use Rattle.std.specs.Ordering.{nat_cmp, ordering_then, is_lt}
+pub use Rattle.std.specs.Ordering.{nat_cmp, is_lt}
 pub use Rattle.std.specs.declared.cmp.Ordering.TheVariants.{Equal}
 pub use Rattle.sas_answers.proofs.WordedLines.{worded}
 pub use Rattle.sas_answers.specs.PlanWords.{fault_words, invalid_line}
@@ -38,7 +32,7 @@ pub use Rattle.sas_core.specs.Changes.{rule_change}
 pub use Rattle.sas_core.specs.Grounded.{rule_at, operator_at, effect_at}
 pub use Rattle.sas_core.specs.PlanParts.{PlanParts}
 pub use Rattle.sas_core.specs.Variables.{IsState, IsDerived, FactExists, layer_of}
-pub use Rattle.sas_core.specs.WellRanged.{WellRanged, RuleFits}
+pub use Rattle.sas_core.specs.WellRanged.{WellRanged}
 pub use Rattle.sas_core.specs.declared.grounded.Change.{Change}
 pub use Rattle.sas_core.specs.declared.parts.Fact.{Fact}
 pub use Rattle.sas_core.specs.declared.parts.Operator.{Operator}
@@ -67,29 +61,24 @@ pub use Rattle.sas_output.proofs.Sent.{ends_counting_as}
 pub use Rattle.sas_output.specs.Ending.{output_of, Output}
 pub use Rattle.sas_output.specs.Line.{rule_numbers, is_rule_line, is_same_rule_line, reasons_text}
 pub use Rattle.sas_output.specs.declared.line.Line.{Line}
-pub use Rattle.sas_output.specs.declared.line.Line.TheVariants.{RuleDerives, RuleRequires, Requires, Actual, SinceStep, Step, ConflictingEffect}
-pub use Rattle.sas_output.specs.declared.line.Line.TheVariants.{CouldBe, GoalFact, SimilarOperator}
+pub use Rattle.sas_output.specs.declared.line.Line.TheVariants.{RuleDerives, RuleRequires, Requires, Actual, SinceStep, Step, ConflictingEffect, CouldBe, GoalFact, SimilarOperator}
 pub use Rattle.sas_reasons.proofs.Conflicts.{some_conflict}
-pub use Rattle.sas_reasons.proofs.Derivation.{no_circle, giver_on, stands_one, var_differs, comes_before_that, never_before, one_giver}
+pub use Rattle.sas_reasons.proofs.Derivation.{no_circle, giver_on, stands_one, var_differs, one_giver}
 pub use Rattle.sas_reasons.proofs.Likeness.{is_blank, space_is_trimmed, like_is}
 pub use Rattle.sas_reasons.proofs.Listing.{some_derivation}
 pub use Rattle.sas_reasons.proofs.Repeats.{is_among, among_is, is_among_when, line_then, line_else}
 pub use Rattle.sas_reasons.proofs.Rounds.{Fires, reached_more, reached_differs, ReachedBy, reached_by, fires_decides, reach}
 pub use Rattle.sas_reasons.proofs.Sorting.{Less, Gives, ordered, same_ordered, less_circle}
-pub use Rattle.sas_reasons.specs.Cause.{fails, failing_lines, is_derived, is_given, since_line, AreDerivationLines, can_be_given, keeping_lines}
-pub use Rattle.sas_reasons.specs.Cause.{missing_lines, IsCause, value_at, IsSince}
-pub use Rattle.sas_reasons.specs.Derivation.{ComesBefore, IsDerivation, HasLayerAndRank, IsLess, reached, IsRuleOf, IsGivenBy, DependsOn}
-pub use Rattle.sas_reasons.specs.Derivation.{InDerivation, Itself, Below, FiresNext}
+pub use Rattle.sas_reasons.specs.Cause.{fails, failing_lines, is_derived, is_given, since_line, AreDerivationLines, can_be_given, keeping_lines, missing_lines, IsCause, value_at, IsSince}
+pub use Rattle.sas_reasons.specs.Derivation.{ComesBefore, IsDerivation, HasLayerAndRank, IsLess, reached, IsRuleOf, IsGivenBy, DependsOn, InDerivation, Itself, Below, FiresNext}
 pub use Rattle.sas_reasons.specs.Laws.{IsAlike}
 pub use Rattle.sas_reasons.specs.Lines.{with_lines, LineThen, LinesOfEach, with_line}
 pub use Rattle.sas_reasons.specs.Lowest.{IsLowest, AreLowest}
 pub use Rattle.sas_reasons.specs.MayMean.{similar_operator, trimmed, IsOther, MayMean, folded}
-pub use Rattle.sas_reasons.specs.WhyPlan.{AreCouldBeLines, AreFaultLines, IsWhy, similar_name_lines, ConflictsWith, AreOperatorLines}
-pub use Rattle.sas_reasons.specs.WhyPlan.{AreConflictLines, cost_lines, AreGoalLines, AreFailedPreconditionLines, goal_fact_at, AreGoalFactLines}
-pub use Rattle.sas_reasons.specs.WhyPlan.{cost_lines_sum}
+pub use Rattle.sas_reasons.specs.WhyPlan.{AreCouldBeLines, AreFaultLines, IsWhy, similar_name_lines, ConflictsWith, AreOperatorLines, AreConflictLines, cost_lines, AreGoalLines, AreFailedPreconditionLines, goal_fact_at, AreGoalFactLines, cost_lines_sum}
 pub use Rattle.sas_run.proofs.Determined.{leads_one_way}
 pub use Rattle.sas_run.proofs.Executing.{as_many, executed_fits, name_is}
-pub use Rattle.sas_run.proofs.Giving.{same_inside, not_both}
+pub use Rattle.sas_run.proofs.Giving.{not_both}
 pub use Rattle.sas_run.proofs.Ranges.{preconditions_within, effect_within}
 pub use Rattle.sas_run.proofs.Runs.{leads_to_last, last_rests, operators_exist}
 pub use Rattle.sas_run.specs.Executions.{Executed, next_name, next_operator, Executes}
@@ -100,3 +89,21 @@ pub use Rattle.sas_run.specs.Stepping.{ListsChanges}
 pub use Rattle.sas_run.specs.Verdicts.{ComesTo, IsFaultOf}
 pub use Rattle.sas_run.specs.declared.plan_check.PlanFault.{PlanFault}
 pub use Rattle.sas_run.specs.declared.plan_check.PlanFault.TheVariants.{Conflict}
+pub use Rattle.sas_why.specs.Conflicts.{first_on, AgreesWithFirst, AreFirstEffects}
+pub use Rattle.sas_why.specs.Explained.{IsExplained}
+pub use Rattle.sas_why.specs.Noting.{HavePlaces, NotedAt, LeftAt, NotesSome, NotesChanges, looked_at, CoverChanges, AreFirstChanges, AddsOther, NotesStep}
+pub use Rattle.sas_why.specs.Origins.{is_reported, AreOrigins, ReportsDerivation, nowhere, place_cmp, place_at, ArePlaces, AreInOrder, AddsDerivation, OriginsMatchState, HasRule, HasRuleBelow, IsReportedOf, AreReportedBelow, SameOrigins, unreported, AddsRules}
+pub use Rattle.sas_why.specs.Report.{lines_of_keepers, is_kept, IsReport, IsBehind, ReportsOnce, IsReportOf, Adds}
+pub use Rattle.sas_why.specs.Requiring.{entry_of, HasConditionOn, IsEntryOfTask, AddsRequiring, requiring_at, IsRequiringIndex}
+pub use Rattle.sas_why.specs.Retracing.{IsOtherIfAny, Retraces, first_steps, HaveSince, AreNotes}
+pub use Rattle.sas_why.specs.Rounds.{origin_at, origin_now, origin_with_rule, unreached, HaveOrigins, IsReached, OriginsUpToRound, value_in_round, HasOrigin, IsOrigin, HavePassed, ReachesNow, InRound, ContinuesRound, AreAllRules, AreBefore, IsFirstOpen, HasLower, AreAwaited, added, Reaches, HoldFrom}
+pub use Rattle.sas_why.specs.Verdict.{WhyVerdict}
+pub use Rattle.sas_why.specs.declared.changes.Changes.{Changes}
+pub use Rattle.sas_why.specs.declared.origins.Origins.{Origins}
+pub use Rattle.sas_why.specs.declared.origins.Place.{Place}
+pub use Rattle.sas_why.specs.declared.report.Report.{Report}
+pub use Rattle.sas_why.specs.declared.retraced.Other.{Other}
+pub use Rattle.sas_why.specs.declared.retraced.Retraced.{Retraced}
+pub use Rattle.sas_why.specs.declared.rounds.Origin.{Origin}
+pub use Rattle.sas_why.specs.declared.rounds.Rounds.{Rounds}
+pub use Rattle.sas_why.specs.declared.second_pass.Notes.{Notes}

@@ -1,8 +1,6 @@
 -- It is enough to look at the variables that a step may have changed.
 use Rattle.std.proofs.lemmas.Grind.{common_steps}
-use Rattle.sas_why.proofs.Imports.{◌≡◌, ◌≢◌, ◌⊎◌, ℕ, ◌<◌, true, false, IsFalse, List, length, get_or, sym, ◌∙◌, subst, inl, inr, arith, All, Contains, cases_eq, cases_Bool, All-contains, Fact, Parts, IsDerived, IsState, Touched, MayHaveChanged, AreDerived, derived_within, ListsChanges}
-use Rattle.sas_why.specs.declared.changes.Changes.{Changes}
-use Rattle.sas_why.specs.Noting.{HavePlaces, NotedAt, LeftAt, NotesSome, NotesChanges, looked_at, CoverChanges}
+use Rattle.sas_why.proofs.Imports.{◌≡◌, ◌≢◌, ◌⊎◌, ℕ, ◌<◌, true, false, IsFalse, List, length, get_or, sym, ◌∙◌, subst, inl, inr, arith, All, Contains, cases_eq, cases_Bool, All-contains, Fact, Parts, IsDerived, IsState, Touched, MayHaveChanged, AreDerived, derived_within, ListsChanges, Changes, HavePlaces, NotedAt, LeftAt, NotesSome, NotesChanges, looked_at, CoverChanges}
 
 -- ---- noting twice
 

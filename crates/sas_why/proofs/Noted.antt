@@ -1,12 +1,6 @@
 -- What is noted of a run, step by step.
 use Rattle.std.proofs.lemmas.Grind.{common_steps}
-use Rattle.sas_why.proofs.Imports.{◌≡◌, ℕ, ◌+◌, ◌<◌, ◌≤◌, List, length, get_or, Option, Some, None, sym, ◌∙◌, ap, subst, inl, inr, arith, cases_eq, same_lists, get_or_default, Parts, operator_at, PlanParts, Executed, next_name, next_operator, Executes, IsLaterIfAny, Run, state_at, last_state, StepsSucceed, RunEndsWith, as_many, executed_fits, name_is, IsSince, MayMean}
-use Rattle.sas_why.specs.declared.changes.Changes.{Changes}
-use Rattle.sas_why.specs.declared.retraced.Other.{Other}
-use Rattle.sas_why.specs.declared.retraced.Retraced.{Retraced}
-use Rattle.sas_why.specs.declared.second_pass.Notes.{Notes}
-use Rattle.sas_why.specs.Noting.{HavePlaces, AreFirstChanges, NotesChanges, AddsOther, NotesStep}
-use Rattle.sas_why.specs.Retracing.{IsOtherIfAny, HaveSince, Retraces, first_steps, AreNotes}
+use Rattle.sas_why.proofs.Imports.{◌≡◌, ℕ, ◌+◌, ◌<◌, List, length, get_or, Option, Some, None, sym, ◌∙◌, ap, subst, inl, inr, arith, cases_eq, same_lists, get_or_default, Parts, operator_at, PlanParts, Executed, next_name, next_operator, Executes, IsLaterIfAny, Run, state_at, last_state, StepsSucceed, RunEndsWith, as_many, executed_fits, name_is, IsSince, MayMean, Changes, Other, Retraced, Notes, HavePlaces, AreFirstChanges, NotesChanges, AddsOther, NotesStep, IsOtherIfAny, HaveSince, Retraces, first_steps, AreNotes}
 use Rattle.sas_why.proofs.LongerRuns.{first_many, first_goes, first_last, first_more, first_all, none_since, one_more, since_changed, since_unchanged, may_mean_longer, still_none, may_mean_now}
 
 -- before the first step

@@ -1,7 +1,6 @@
 -- Lines that are added to others, each line of a rule once.
 use Rattle.std.proofs.Common.{rules}
-use Rattle.sas_why.proofs.Imports.{common_steps, get_or-map, length-map, ◌≡◌, ◌≢◌, ℕ, suc, Bool, true, false, not, List, [], ◌∷◌, ◌++◌, map, get_or, refl, sym, ◌∙◌, ap, subst, inl, inr, arith, append_assoc, append-nil, ◌||◌, ◌&&◌, if◌then◌else◌, bytes_eq, filter, Contains, AllByRecursion, AllPairs, list_any, cases_Bool, same_from_decides, All-contains, contains_head, contains_tail, contains_cases, contains_none, Line, RuleDerives}
-use Rattle.sas_why.proofs.Imports.{rule_numbers, is_rule_line, is_same_rule_line, same_is, with_line, with_lines, is_among, among_is, is_among_when, line_then, line_else}
+use Rattle.sas_why.proofs.Imports.{common_steps, get_or-map, length-map, ◌≡◌, ◌≢◌, ℕ, suc, Bool, true, false, not, List, [], ◌∷◌, ◌++◌, map, get_or, refl, sym, ◌∙◌, ap, inl, inr, arith, append_assoc, append-nil, ◌||◌, ◌&&◌, if◌then◌else◌, bytes_eq, filter, Contains, AllByRecursion, AllPairs, list_any, cases_Bool, same_from_decides, All-contains, contains_head, contains_tail, contains_cases, contains_none, Line, RuleDerives, rule_numbers, is_rule_line, is_same_rule_line, same_is, with_line, with_lines, is_among, among_is, is_among_when, line_then, line_else}
 
 -- one list behind another
 pub lines_append : (lines a b : List Line) → with_lines lines (a ++ b) ≡ with_lines (with_lines lines a) b

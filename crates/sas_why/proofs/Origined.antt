@@ -1,8 +1,6 @@
 -- How the origins change when a rule fires.
 use Rattle.std.proofs.lemmas.Grind.{common_steps}
-use Rattle.sas_why.proofs.Imports.{◌≡◌, ℕ, zero, suc, ◌+◌, ◌<◌, ◌≤◌, ◌⊎◌, List, [], ◌∷◌, length, set, Option, None, Some, refl, subst, inl, inr, arith, eqb_tells, leb_tells}
-use Rattle.sas_why.specs.declared.rounds.Origin.{Origin}
-use Rattle.sas_why.specs.Rounds.{origin_at, origin_now, origin_with_rule, unreached}
+use Rattle.sas_why.proofs.Imports.{◌≡◌, ℕ, zero, suc, ◌+◌, ◌<◌, ◌≤◌, ◌⊎◌, List, [], ◌∷◌, length, set, Option, None, Some, refl, inl, arith, eqb_tells, leb_tells, Origin, origin_at, origin_now, origin_with_rule, unreached}
 
 -- no origin of an earlier round, nor of this round by this rule or a lower one
 pub record NotEarlier (over rule : ℕ) (old : Option Origin) : Type 0 where

@@ -1,7 +1,6 @@
 -- The entries of the rules under the derived variables on which they have conditions.
 use Rattle.std.proofs.lemmas.Grind.{common_steps}
-use Rattle.sas_why.proofs.Imports.{◌≡◌, ℕ, ◌+◌, ◌<◌, ◌≤◌, List, [], ◌∷◌, ◌++◌, length, get_or, sym, ◌∙◌, ap, subst, inl, inr, arith, All, Contains, cases_eq, get_or_default, All-nil, All-push, All-weaker, Contains-push, Contains-append_left, Fact, Parts, rule_at, IsDerived, WellRanged, Entry, items_of, by_key, length-table, under_key, all_items, holds, condition_within}
-use Rattle.sas_why.specs.Requiring.{entry_of, HasConditionOn, IsEntryOfTask, AddsRequiring, requiring_at, IsRequiringIndex}
+use Rattle.sas_why.proofs.Imports.{◌≡◌, ℕ, ◌+◌, ◌<◌, ◌≤◌, List, [], ◌∷◌, ◌++◌, length, get_or, sym, ◌∙◌, ap, subst, inl, inr, arith, All, Contains, cases_eq, get_or_default, All-push, All-weaker, Contains-push, Contains-append_left, Fact, Parts, rule_at, IsDerived, WellRanged, Entry, items_of, by_key, length-table, under_key, all_items, holds, condition_within, entry_of, HasConditionOn, IsEntryOfTask, AddsRequiring, requiring_at, IsRequiringIndex}
 
 -- ---- the conditions of one rule
 

@@ -1,11 +1,6 @@
 -- How a round ends, how the first one begins, and what is known when no rule is left to look at.
 use Rattle.std.proofs.lemmas.Grind.{common_steps}
-use Rattle.sas_why.proofs.Imports.{All, IsFalse, ◌≡◌, ℕ, suc, ◌+◌, ◌<◌, ◌≤◌, true, false, List, [], ◌∷◌, length, get_or, replicate, Option, None, Some, refl, sym, ◌∙◌, ap, subst, inl, inr, arith, is_some, Contains, cases_lt, cases_Bool, false≢true, and_parts, get_or-replicate, length-replicate, get_or_default, get_or_past, All-nil, All-contains, Parts, rule_at, IsOnLayer, IsLayered, IsSettled, IsClosed}
-use Rattle.sas_why.proofs.Imports.{differs, layer_cases, contains_none, reached, HasLayerAndRank, FiresNext, is_derived, is_given, Fires, ReachedBy, reached_by}
-use Rattle.sas_why.specs.declared.rounds.Origin.{Origin}
-use Rattle.sas_why.specs.declared.rounds.Rounds.{Rounds}
-use Rattle.sas_why.specs.Requiring.{requiring_at}
-use Rattle.sas_why.specs.Rounds.{origin_at, IsOrigin, HasOrigin, HaveOrigins, IsReached, OriginsUpToRound, HavePassed, ReachesNow, InRound, unreached, ContinuesRound, AreAllRules, AreBefore}
+use Rattle.sas_why.proofs.Imports.{All, IsFalse, ◌≡◌, ℕ, suc, ◌+◌, ◌<◌, ◌≤◌, true, false, List, [], ◌∷◌, length, get_or, None, Some, refl, sym, ◌∙◌, ap, subst, inl, inr, arith, is_some, Contains, cases_lt, cases_Bool, false≢true, and_parts, get_or-replicate, length-replicate, get_or_default, get_or_past, All-nil, All-contains, Parts, rule_at, IsOnLayer, IsLayered, IsSettled, IsClosed, Origin, Rounds, requiring_at, origin_at, IsOrigin, HasOrigin, HaveOrigins, IsReached, OriginsUpToRound, HavePassed, ReachesNow, InRound, unreached, ContinuesRound, AreAllRules, AreBefore, differs, layer_cases, contains_none, reached, HasLayerAndRank, FiresNext, is_given, Fires, ReachedBy, reached_by}
 use Rattle.sas_why.proofs.Reaching.{reached_up, reached_in, holds_on, Begins, all_or_begins}
 use Rattle.sas_why.proofs.Origined.{unreached_none}
 use Rattle.sas_why.proofs.RoundSteps.{fires_now, fires_next, reached_next, same_at}

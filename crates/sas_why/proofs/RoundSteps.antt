@@ -1,11 +1,6 @@
 -- How a round goes on when a rule is looked at, and how it ends.
 use Rattle.std.proofs.lemmas.Grind.{common_steps}
-use Rattle.sas_why.proofs.Imports.{◌≡◌, ◌≢◌, ℕ, suc, ◌<◌, ◌≤◌, ◌⊎◌, true, false, List, [], ◌∷◌, ◌++◌, length, get_or, set, Option, None, Some, refl, sym, ◌∙◌, ap, subst, inl, inr, arith, All, Contains, cases_eq, cases_lt, cases_Bool, get_or-set_same, get_or-set_other, length-set, append-nil, All-nil, All-append, All-weaker, Contains-push_cases, Contains-append_left, Contains-append_right}
-use Rattle.sas_why.proofs.Imports.{Contains-get_or, Change, Fact, Parts, rule_change, rule_at, IsOnLayer, default_of, CanFire, one_layer, reached, FiresNext, Fires, fires_decides, reach}
-use Rattle.sas_why.specs.declared.rounds.Origin.{Origin}
-use Rattle.sas_why.specs.declared.rounds.Rounds.{Rounds}
-use Rattle.sas_why.specs.Requiring.{requiring_at}
-use Rattle.sas_why.specs.Rounds.{origin_at, IsOrigin, IsReached, OriginsUpToRound, IsFirstOpen, HavePassed, ReachesNow, HasLower, AreAwaited, InRound, unreached, ContinuesRound, origin_now, origin_with_rule, added, Reaches, value_in_round}
+use Rattle.sas_why.proofs.Imports.{◌≡◌, ◌≢◌, ℕ, suc, ◌<◌, ◌≤◌, ◌⊎◌, true, false, List, [], ◌∷◌, ◌++◌, length, get_or, set, Option, None, Some, refl, sym, ◌∙◌, ap, subst, inl, inr, arith, All, Contains, cases_eq, cases_lt, cases_Bool, get_or-set_same, get_or-set_other, length-set, append-nil, All-nil, All-append, All-weaker, Contains-push_cases, Contains-append_left, Contains-append_right, Origin, Rounds, requiring_at, origin_at, OriginsUpToRound, IsFirstOpen, HavePassed, ReachesNow, HasLower, AreAwaited, InRound, unreached, ContinuesRound, origin_now, origin_with_rule, added, Reaches, value_in_round, Contains-get_or, Change, Fact, Parts, rule_change, rule_at, IsOnLayer, default_of, CanFire, one_layer, reached, FiresNext, Fires, fires_decides, reach}
 use Rattle.sas_why.proofs.Origined.{some_same, NotEarlier, with_rule_cases, unreached_fewer, unreached_same}
 
 -- what follows where a rule fires in a round

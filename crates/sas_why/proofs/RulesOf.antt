@@ -1,7 +1,6 @@
 -- The rules of a variable that can fire, and what values they give it.
 use Rattle.std.proofs.lemmas.Grind.{common_steps}
-use Rattle.sas_why.proofs.Imports.{◌≡◌, ℕ, ◌+◌, ◌<◌, true, false, List, [], ◌∷◌, length, get_or, refl, sym, ◌∙◌, subst, inl, inr, arith, ◌==◌, ◌&&◌, slice_get, Some, None, Contains, cases_Bool, eqb-true, and_parts, and_from, eqb_tells, get_or_default, Any-from_list_any, list_any_at, Fact, Rule, Parts, rule_at, CanFire, IsLayered, places, can_give, contains_none, is_place, of_variable, can_of}
-use Rattle.sas_why.proofs.Imports.{can_be_given}
+use Rattle.sas_why.proofs.Imports.{◌≡◌, ℕ, ◌+◌, true, false, List, [], ◌∷◌, refl, sym, subst, inl, inr, arith, ◌==◌, ◌&&◌, slice_get, Some, None, Contains, cases_Bool, eqb-true, and_parts, and_from, eqb_tells, get_or_default, Any-from_list_any, list_any_at, Fact, Rule, Parts, rule_at, IsLayered, places, can_give, contains_none, is_place, of_variable, can_of, can_be_given}
 
 module _ (p : Parts) where
   -- if the variable has no rule that can fire, it can't be given a value

@@ -1,7 +1,7 @@
 -- The variables of conditions, preconditions and goal facts have values in a state.
 use Rattle.std.proofs.Common.{arith}
 use Rattle.std.proofs.lemmas.Grind.{common_steps}
-use Rattle.sas_why.proofs.Imports.{ℕ, ◌<◌, length, sym, subst, List, [], None, All, All-weaker, All-from_recursion, Fact, Rule, Parts, FactExists, IsState, operator_at, rule_at, WellRanged, RuleFits, holds_at, preconditions, fact_within, preconditions_within}
+use Rattle.sas_why.proofs.Imports.{ℕ, ◌<◌, length, sym, subst, List, [], None, All, All-weaker, All-from_recursion, Fact, Rule, Parts, FactExists, IsState, operator_at, rule_at, WellRanged, holds_at, preconditions, fact_within, preconditions_within}
 
 module _ (p : Parts) (ranged : WellRanged p) (s : List ℕ) (state : IsState p.variables s) where
   -- facts that exist have variables with values

@@ -1,8 +1,7 @@
 // Since when the variables have their values.
 ghost use Rattle.std.specs.Prelude.{◌≢◌, ℕ, ◌<◌, length, All, IfOk};
 ghost use Rattle.sas_core.specs.declared.parts.Fact.{Fact};
-ghost use Rattle.sas_why.specs.Noting.{HavePlaces, NotedAt, LeftAt, NotesSome, NotesChanges};
-ghost use Rattle.sas_why.specs.Noting.{AreFirstChanges, CoverChanges};
+ghost use Rattle.sas_why.specs.Noting.{HavePlaces, NotedAt, LeftAt, NotesSome, NotesChanges, AreFirstChanges, CoverChanges};
 
 use sas_core::Fact;
 use sas_meaning::State;

@@ -1,5 +1,4 @@
-use Rattle.sas_requests.proofs.Imports.{Out, exact_ends}
-use Rattle.sas_requests.specs.Why.{OutWhy}
+use Rattle.sas_requests.proofs.Imports.{Out, exact_ends, OutWhy}
 use Rattle.sas_requests.proofs.FileEnds.{ends_by}
 use Rattle.sas_requests.proofs.RequestEnds.{headline_reported, invariants_reported}
 use Rattle.sas_requests.proofs.ReasonedOutputs.{headline_why, invariants_why}

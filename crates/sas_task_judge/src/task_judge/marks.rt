@@ -1,6 +1,5 @@
 // The location of the next line, and what is expected there. It is needed only if a line is refused.
-ghost use Rattle.std.specs.Prelude.{◌≡◌, ◌-◌, IfOk};
-ghost use Rattle.std.specs.Prelude.{slice_index_or};
+ghost use Rattle.std.specs.Prelude.{◌≡◌, ◌-◌, IfOk, slice_index_or};
 ghost use Rattle.sas_task_line.specs.FirstWrong.{FirstWrong};
 ghost use Rattle.sas_task_judge.specs.TaskJudge.{IsBehindGroups, StandsAsBefore};
 ghost use Rattle.sas_task_judge.specs.Marks.{mark_of, due_slot, LocationIs, DueIs};

@@ -1,6 +1,5 @@
 -- Grouped by variable, the conditions form an index.
-use Rattle.sas_axioms.proofs.Imports.{◌≡◌, sym, ap, subst, ◌∙◌, IfOk-weaker, by_key}
-use Rattle.sas_axioms.specs.Conditions.{IsFullIndex}
+use Rattle.sas_axioms.proofs.Imports.{◌≡◌, sym, ap, subst, ◌∙◌, IfOk-weaker, by_key, IsFullIndex}
 use Rattle.sas_axioms.proofs.AllConditions.{conditions_exist, conditions_index}
 use Rattle.sas_axioms.proofs.conditions.index_of_all.Goals as goal
 

@@ -1,8 +1,6 @@
 -- The entry of one more condition is appended.
-use Rattle.sas_axioms.proofs.Imports.{◌≡◌, ℕ, ◌+◌, ◌<◌, ◌≤◌, List, [], ◌∷◌, ◌++◌, length, get_or, drop, sym, ap, ◌∙◌, arith, append_snoc, drop_all, drop_more, Fact, rule_at, Entry}
+use Rattle.sas_axioms.proofs.Imports.{◌≡◌, ℕ, ◌+◌, ◌<◌, ◌≤◌, List, [], ◌∷◌, ◌++◌, length, get_or, drop, sym, ap, ◌∙◌, arith, append_snoc, drop_all, drop_more, Fact, rule_at, Entry, Waiting, entries, waiting_entry}
 use Rattle.std.proofs.Common.{append-nil}
-use Rattle.sas_axioms.specs.declared.conditions.Waiting.{Waiting}
-use Rattle.sas_axioms.specs.Conditions.{entries, waiting_entry}
 use Rattle.sas_axioms.proofs.conditions.push_conditions.Goals as goal
 
 -- the entry of the next condition stands before the others that are left

@@ -1,6 +1,5 @@
 -- The list contains the entries of the conditions so far.
-use Rattle.sas_axioms.proofs.Imports.{◌≡◌, ◌++◌, drop, rule_at}
-use Rattle.sas_axioms.specs.Conditions.{entries}
+use Rattle.sas_axioms.proofs.Imports.{◌≡◌, ◌++◌, drop, rule_at, entries}
 use Rattle.sas_axioms.proofs.conditions.push_conditions.Given as goal
 
 abbrev pub invariant-loop-condition : goal.invariant-loop-condition

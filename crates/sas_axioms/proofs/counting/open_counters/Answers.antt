@@ -1,7 +1,6 @@
 -- The conditions of one more rule are counted.
-use Rattle.sas_axioms.proofs.Imports.{◌≡◌, ℕ, ◌+◌, ◌<◌, List, [], ◌∷◌, ◌++◌, length, get_or, sym, ap, ◌∙◌, inl, inr, arith, slice_index, cases_eq, get_or_append_left, get_or_push, Fact, rule_at}
+use Rattle.sas_axioms.proofs.Imports.{◌≡◌, ℕ, ◌+◌, ◌<◌, List, [], ◌∷◌, ◌++◌, length, get_or, sym, ap, ◌∙◌, inl, inr, arith, slice_index, cases_eq, get_or_append_left, get_or_push, Fact, rule_at, open_conditions}
 use Rattle.std.proofs.lemmas.List.{length-append}
-use Rattle.sas_axioms.specs.Conditions.{open_conditions}
 use Rattle.sas_axioms.proofs.RuleChanges.{conditions_within, conditions_few}
 use Rattle.sas_axioms.proofs.counting.open_counters.Goals as goal
 

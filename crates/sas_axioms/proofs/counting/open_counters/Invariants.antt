@@ -1,6 +1,5 @@
 -- The counters so far.
-use Rattle.sas_axioms.proofs.Imports.{◌≡◌, ℕ, ◌<◌, length, get_or, slice_index, rule_at}
-use Rattle.sas_axioms.specs.Conditions.{open_conditions}
+use Rattle.sas_axioms.proofs.Imports.{◌≡◌, ℕ, ◌<◌, length, get_or, slice_index, rule_at, open_conditions}
 use Rattle.sas_axioms.proofs.counting.open_counters.Given as goal
 
 abbrev pub invariant-loop-rule : goal.invariant-loop-rule

@@ -1,7 +1,5 @@
 -- The remaining work is on the stack.
-use Rattle.sas_axioms.proofs.Imports.{◌≡◌, SameOff}
-use Rattle.sas_axioms.specs.Worklist.{IsAtWork, left_to_do}
-use Rattle.sas_axioms.specs.Sources.{SameSourcesOff}
+use Rattle.sas_axioms.proofs.Imports.{◌≡◌, SameOff, IsAtWork, left_to_do, SameSourcesOff}
 use Rattle.sas_axioms.proofs.firing.empty_stack.Given as goal
 
 abbrev pub invariant-loop-var : goal.invariant-loop-var

@@ -1,8 +1,5 @@
 -- The rules so far that have no open conditions have fired.
-use Rattle.sas_axioms.proofs.Imports.{◌≡◌, ℕ, ◌<◌, get_or, rule_at}
-use Rattle.sas_axioms.specs.declared.layer_rules.LayerRule.{LayerRule}
-use Rattle.sas_axioms.specs.Worklist.{value_seen, IsRunning, AreCountedBy, HasRoom, WorkGoesOn}
-use Rattle.sas_axioms.specs.Sources.{AreGiven}
+use Rattle.sas_axioms.proofs.Imports.{◌≡◌, ℕ, ◌<◌, get_or, rule_at, LayerRule, value_seen, IsRunning, AreCountedBy, HasRoom, WorkGoesOn, AreGiven}
 use Rattle.sas_axioms.proofs.firing.fire_ready.Given as goal
 
 abbrev pub invariant-loop-entry : goal.invariant-loop-entry

@@ -1,6 +1,5 @@
 -- The open conditions so far.
-use Rattle.sas_axioms.proofs.Imports.{◌≡◌, ◌+◌, ◌≤◌, drop, slice_index}
-use Rattle.sas_axioms.specs.Conditions.{open_conditions}
+use Rattle.sas_axioms.proofs.Imports.{◌≡◌, ◌+◌, ◌≤◌, drop, slice_index, open_conditions}
 use Rattle.sas_axioms.proofs.firing.open_of.Given as goal
 
 abbrev pub invariant-loop-condition : goal.invariant-loop-condition

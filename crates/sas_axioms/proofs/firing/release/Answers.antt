@@ -1,5 +1,5 @@
 -- One more entry is counted.
-use Rattle.sas_axioms.proofs.Imports.{◌≡◌, ◌≢◌, ℕ, ◌+◌, ◌-◌, ◌<◌, List, length, get_or, set, default_of, refl, sym, ap, ◌∙◌, arith, get_or-set_same}
+use Rattle.sas_axioms.proofs.Imports.{ℕ, ◌+◌, ◌<◌, List, length, get_or, set, default_of, refl, sym, ap, ◌∙◌, arith, get_or-set_same}
 use Rattle.sas_axioms.proofs.Counters.{goes_on_still, ready_so_far, released_on, released_fired, at_work_again}
 use Rattle.sas_axioms.proofs.CountingEntries.{CountersSoFar, no_entry, counters_before, counters_passed, value_waits, former_fits, one_more, one_less}
 use Rattle.sas_axioms.proofs.firing.release.Goals as goal

@@ -1,6 +1,5 @@
 -- The facts so far are processed.
-use Rattle.sas_axioms.proofs.Imports.{ℕ, List, drop, HaveGone}
-use Rattle.sas_axioms.specs.Following.{SameWork, IsFollowed, CountedSoFar}
+use Rattle.sas_axioms.proofs.Imports.{ℕ, List, drop, HaveGone, SameWork, IsFollowed, CountedSoFar}
 use Rattle.sas_axioms.proofs.following.count_gone.Given as goal
 
 abbrev pub invariant-loop-fact : goal.invariant-loop-fact

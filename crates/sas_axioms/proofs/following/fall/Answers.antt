@@ -1,17 +1,11 @@
 -- The rules are removed one by one: each resets its variable or becomes ready.
-use Rattle.sas_axioms.proofs.Imports.{◌≡◌, ◌⊎◌, ℕ, ◌<◌, true, List, ◌∷◌, [], length, get_or, set, is_some, refl, sym, ap, subst, ◌∙◌, inl, inr, arith, All, Contains, heap_items, length-append, Change, rule_at, IsState, IsOnLayer, default_of, differs, on_layer_within, state_set, differs_not}
-use Rattle.sas_axioms.specs.declared.agenda.Agenda.{Agenda}
-use Rattle.sas_axioms.specs.declared.firing.Work.{Work}
-use Rattle.sas_axioms.specs.Agenda.{IsOnAgenda, work_left}
-use Rattle.sas_axioms.specs.Following.{IsFalling}
-use Rattle.sas_axioms.specs.LayerRules.{IsRuleOn}
-use Rattle.sas_axioms.specs.Sources.{IsHolding}
+use Rattle.sas_axioms.proofs.Imports.{◌≡◌, ◌⊎◌, ℕ, ◌<◌, true, List, ◌∷◌, [], length, get_or, set, is_some, refl, sym, ap, subst, ◌∙◌, inl, inr, arith, All, Contains, heap_items, length-append, Change, rule_at, IsState, IsOnLayer, default_of, differs, on_layer_within, state_set, differs_not, Agenda, Work, IsOnAgenda, work_left, IsFalling, IsRuleOn, IsHolding}
 use Rattle.sas_axioms.proofs.RulesOf.{rules_on, rule_under}
 use Rattle.sas_axioms.proofs.FallingSteps.{FallingBut, falling_taken, falling_passed, falling_fell, risen_from_fallen, fallen_is, fallen_state, less_in_the_end}
 use Rattle.sas_axioms.proofs.Tracking.{holding_when_zero, off_step, covered_step, same_more, same_but}
 use Rattle.sas_axioms.proofs.following.fall.Goals as goal
 use Rattle.sas_axioms.proofs.following.fall.Given.{Over}
-use Rattle.sas_axioms.proofs.following.fall.Goals.{In-Some, After-rule_change-var}
+use Rattle.sas_axioms.proofs.following.fall.Goals.{In-Some}
 
 pub take-requires-clause-ordered : goal.take-requires-clause-ordered
 take-requires-clause-ordered g c = (c.loop-rule.invariant.falling c.requires.falling.0 c.requires.falling.1).track.ordered

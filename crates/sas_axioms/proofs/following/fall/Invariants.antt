@@ -1,7 +1,5 @@
 -- The variables so far are reset.
-use Rattle.sas_axioms.proofs.Imports.{◌≡◌, ◌⊎◌, ℕ, ◌<◌, List, IsState, SameOff, StillCovers}
-use Rattle.sas_axioms.specs.Agenda.{work_left}
-use Rattle.sas_axioms.specs.Following.{SameWork, IsFalling}
+use Rattle.sas_axioms.proofs.Imports.{◌≡◌, ◌⊎◌, ℕ, ◌<◌, List, IsState, SameOff, StillCovers, work_left, SameWork, IsFalling}
 use Rattle.sas_axioms.proofs.following.fall.Given as goal
 
 abbrev pub invariant-loop-rule : goal.invariant-loop-rule

@@ -1,6 +1,5 @@
 -- The rules so far are ready.
-use Rattle.sas_axioms.proofs.Imports.{◌≡◌, ◌+◌, ◌*◌, ◌≤◌, ◌++◌, length, take}
-use Rattle.sas_axioms.specs.Agenda.{work_left}
+use Rattle.sas_axioms.proofs.Imports.{◌≡◌, ◌+◌, ◌*◌, ◌≤◌, ◌++◌, length, take, work_left}
 use Rattle.sas_axioms.proofs.following.make_ready.Given as goal
 
 abbrev pub invariant-loop-rule : goal.invariant-loop-rule

@@ -1,6 +1,5 @@
 -- The rule is noted with its layer.
-use Rattle.sas_axioms.proofs.Imports.{subst, on_ok_weaker}
-use Rattle.sas_axioms.specs.Agenda.{IsOnAgenda, AddsToAgenda}
+use Rattle.sas_axioms.proofs.Imports.{subst, on_ok_weaker, IsOnAgenda, AddsToAgenda}
 use Rattle.sas_axioms.proofs.AgendaOrder.{noted_there, notes_more, notes_left}
 use Rattle.sas_axioms.proofs.OneLayer.{one_layer}
 use Rattle.sas_axioms.proofs.following.note.Goals as goal

@@ -1,8 +1,5 @@
 -- The rules are removed one by one: each sets its variable, or needs not.
-use Rattle.sas_axioms.proofs.Imports.{◌≡◌, ℕ, ◌<◌, true, List, length, get_or, set, is_some, refl, sym, ap, subst, ◌∙◌, arith, Change, rule_at, IsOnLayer, on_layer_within, length-set, get_or-set_other, differs, differs_true}
-use Rattle.sas_axioms.specs.declared.firing.Work.{Work}
-use Rattle.sas_axioms.specs.Following.{IsRising}
-use Rattle.sas_axioms.specs.Sources.{IsHolding}
+use Rattle.sas_axioms.proofs.Imports.{◌≡◌, ℕ, ◌<◌, true, List, length, get_or, set, is_some, refl, sym, ap, subst, ◌∙◌, arith, Change, rule_at, IsOnLayer, on_layer_within, length-set, get_or-set_other, differs, differs_true, Work, IsRising, IsHolding}
 use Rattle.sas_axioms.proofs.RisingSteps.{RisingBut, rising_taken, rising_passed, rising_set, fires, risen_in_the_end}
 use Rattle.sas_axioms.proofs.Tracking.{holding_when_zero, zero_when_holding, off_step, covered_step, room_same, room_but, room_more}
 use Rattle.sas_axioms.proofs.following.rise.Goals as goal

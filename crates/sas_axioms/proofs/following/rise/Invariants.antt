@@ -1,8 +1,5 @@
 -- The rules so far have set their variables.
-use Rattle.sas_axioms.proofs.Imports.{ℕ, ◌≤◌, List, IsState, SameOff, StillCovers}
-use Rattle.sas_axioms.specs.Agenda.{work_left}
-use Rattle.sas_axioms.specs.Following.{KeepsRoom, IsRising}
-use Rattle.sas_axioms.specs.Sources.{SameSourcesOff}
+use Rattle.sas_axioms.proofs.Imports.{ℕ, ◌≤◌, List, IsState, SameOff, StillCovers, work_left, KeepsRoom, IsRising, SameSourcesOff}
 use Rattle.sas_axioms.proofs.following.rise.Given as goal
 
 abbrev pub invariant-loop-rule : goal.invariant-loop-rule

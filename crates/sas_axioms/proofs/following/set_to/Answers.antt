@@ -1,7 +1,5 @@
 -- The variable is derived, so it exists.
-use Rattle.sas_axioms.proofs.Imports.{◌≡◌, List, ℕ, set, slice_index, sym, on_ok_weaker}
-use Rattle.sas_axioms.specs.Conditions.{AreCounted}
-use Rattle.sas_axioms.specs.Following.{CountsChange}
+use Rattle.sas_axioms.proofs.Imports.{◌≡◌, List, ℕ, set, slice_index, sym, on_ok_weaker, AreCounted, CountsChange}
 use Rattle.sas_axioms.proofs.following.set_to.Goals as goal
 
 pub returns-clause-moves : goal.returns-clause-moves

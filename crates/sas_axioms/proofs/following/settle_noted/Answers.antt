@@ -1,8 +1,5 @@
 -- The layers are settled one by one.
-use Rattle.sas_axioms.proofs.Imports.{ℕ, ◌+◌, ◌≤◌, List, length, get_or, refl, sym, ap, subst, ◌∙◌, heap_items, Reverse, All-contains, IsOnLayer, SameOff, basic_off}
-use Rattle.sas_axioms.specs.declared.layer_rules.LayerRule.{LayerRule}
-use Rattle.sas_axioms.specs.Agenda.{entry_for}
-use Rattle.sas_axioms.specs.Following.{IsBetween, IsFalling}
+use Rattle.sas_axioms.proofs.Imports.{ℕ, ◌+◌, ◌≤◌, List, length, get_or, refl, sym, ap, subst, ◌∙◌, heap_items, Reverse, All-contains, IsOnLayer, SameOff, basic_off, LayerRule, entry_for, IsBetween, IsFalling}
 use Rattle.sas_axioms.proofs.RisingSteps.{falling_begins, between_again, followed_when_none}
 use Rattle.sas_axioms.proofs.following.settle_noted.Goals as goal
 use Rattle.sas_axioms.proofs.following.settle_noted.Given.{Over}

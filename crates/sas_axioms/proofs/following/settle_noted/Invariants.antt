@@ -1,7 +1,5 @@
 -- The layers so far are settled.
-use Rattle.sas_axioms.proofs.Imports.{◌≡◌, ℕ, List, length, IsState, SameBasic, StillCovers}
-use Rattle.sas_axioms.specs.Agenda.{work_left}
-use Rattle.sas_axioms.specs.Following.{IsBetween}
+use Rattle.sas_axioms.proofs.Imports.{◌≡◌, ℕ, List, length, IsState, SameBasic, StillCovers, work_left, IsBetween}
 use Rattle.sas_axioms.proofs.following.settle_noted.Given as goal
 
 abbrev pub invariant-loop-layer : goal.invariant-loop-layer

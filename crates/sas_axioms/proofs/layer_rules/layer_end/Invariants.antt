@@ -1,6 +1,5 @@
 -- The rules so far are on the layer.
-use Rattle.sas_axioms.proofs.Imports.{◌≡◌, ℕ, ◌-◌, ◌<◌, ◌≤◌, length, get_or}
-use Rattle.sas_axioms.specs.declared.layer_rules.LayerRule.{LayerRule}
+use Rattle.sas_axioms.proofs.Imports.{◌≡◌, ℕ, ◌-◌, ◌<◌, ◌≤◌, length, get_or, LayerRule}
 use Rattle.sas_axioms.proofs.layer_rules.layer_end.Given as goal
 
 abbrev pub invariant-loop-end : goal.invariant-loop-end

@@ -1,7 +1,5 @@
 -- Sorting preserves the rules and puts them in order.
-use Rattle.sas_axioms.proofs.Imports.{rules, inl, inr, IsNonDecreasingBy-from_sort_by_key, All-permutation, Contains-permutation}
-use Rattle.sas_axioms.specs.declared.layer_rules.LayerRule.{LayerRule}
-use Rattle.sas_axioms.specs.LayerRules.{IsRuleOn, AreFirstRules}
+use Rattle.sas_axioms.proofs.Imports.{rules, inl, inr, IsNonDecreasingBy-from_sort_by_key, All-permutation, Contains-permutation, LayerRule, IsRuleOn, AreFirstRules}
 use Rattle.sas_axioms.proofs.layer_rules.ranked_rules.Goals as goal
 
 pub returns : goal.returns

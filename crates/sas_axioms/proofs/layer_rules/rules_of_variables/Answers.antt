@@ -1,6 +1,5 @@
 -- Each turn adds the entry of a rule that can fire, or passes one that can't.
-use Rattle.sas_axioms.proofs.Imports.{◌≡◌, ◌<◌, length, sym, ap, subst, ◌∙◌, arith, IfOk-weaker, Change, rule_at, by_key, default_of, fact_within, rule_new}
-use Rattle.sas_axioms.specs.LayerRules.{AreRulesOf}
+use Rattle.sas_axioms.proofs.Imports.{◌≡◌, ◌<◌, length, sym, ap, subst, ◌∙◌, arith, IfOk-weaker, Change, rule_at, by_key, default_of, fact_within, rule_new, AreRulesOf}
 use Rattle.sas_axioms.proofs.RulesOf.{RulesTo, rules_none, rules_skip, rules_more, rules_index}
 use Rattle.sas_axioms.proofs.layer_rules.rules_of_variables.Goals as goal
 use Rattle.sas_axioms.proofs.layer_rules.rules_of_variables.Goals.{then-change-initial_value+in_ok-push, else-change-initial_value}

@@ -1,6 +1,5 @@
 -- The next layer.
-use Rattle.sas_axioms.proofs.Imports.{◌≡◌, ◌<◌, ◌-◌, length, ◌++◌, ◌∷◌, [], subst, arith}
-use Rattle.sas_axioms.specs.LayerRules.{AreSpans}
+use Rattle.sas_axioms.proofs.Imports.{◌≡◌, ◌<◌, ◌-◌, length, ◌++◌, ◌∷◌, [], subst, arith, AreSpans}
 use Rattle.sas_axioms.proofs.Spans.{span_moves, spans_more}
 use Rattle.sas_axioms.proofs.layer_rules.spans_of.Goals as goal
 

@@ -1,6 +1,5 @@
 -- The layers so far.
-use Rattle.sas_axioms.proofs.Imports.{◌-◌, ◌≤◌, length}
-use Rattle.sas_axioms.specs.LayerRules.{AreSpans}
+use Rattle.sas_axioms.proofs.Imports.{◌-◌, ◌≤◌, length, AreSpans}
 use Rattle.sas_axioms.proofs.layer_rules.spans_of.Given as goal
 
 abbrev pub invariant-loop-span : goal.invariant-loop-span

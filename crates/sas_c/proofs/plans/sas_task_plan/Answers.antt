@@ -1,6 +1,4 @@
-use Rattle.sas_c.proofs.Imports.{sym, ap, subst, ◌∙◌, Some, VerdictAnswer, plain_refusal, reports_valid, plain_refuses}
-use Rattle.sas_c.specs.declared.prepared.Prepared.{Prepared}
-use Rattle.sas_c.specs.Holding.{HoldsTask}
+use Rattle.sas_c.proofs.Imports.{sym, ap, subst, ◌∙◌, Some, VerdictAnswer, plain_refusal, reports_valid, plain_refuses, Prepared, HoldsTask}
 use Rattle.sas_c.proofs.Returned.{plan_reported, headline_reported}
 use Rattle.sas_c.proofs.plans.sas_task_plan.Goals as goal
 

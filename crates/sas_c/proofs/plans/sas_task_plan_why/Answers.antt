@@ -1,6 +1,4 @@
-use Rattle.sas_c.proofs.Imports.{sym, ap, subst, ◌∙◌, Some}
-use Rattle.sas_c.specs.declared.prepared.Prepared.{Prepared}
-use Rattle.sas_c.specs.Holding.{HoldsTask}
+use Rattle.sas_c.proofs.Imports.{sym, ap, subst, ◌∙◌, Some, Prepared, HoldsTask}
 use Rattle.sas_c.proofs.Returned.{why_reported, headline_why_reported}
 use Rattle.sas_c.proofs.plans.sas_task_plan_why.Goals as goal
 

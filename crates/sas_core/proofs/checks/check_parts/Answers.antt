@@ -1,9 +1,7 @@
 -- The first section that fails determines the fault.
 use Rattle.std.proofs.Common.{arith}
 use Rattle.std.proofs.lemmas.Grind.{common_steps}
-use Rattle.sas_core.proofs.Imports.{rules, ◌≡◌, ◌∙◌, Some, result_err}
-use Rattle.sas_core.specs.Checks.{checks}
-use Rattle.sas_core.specs.FirstFault.{first_fault}
+use Rattle.sas_core.proofs.Imports.{rules, ◌≡◌, ◌∙◌, Some, result_err, checks, first_fault}
 use Rattle.sas_core.proofs.FirstFaults.{fails_before, decides_after}
 use Rattle.sas_core.proofs.checks.check_parts.Goals as goal
 

@@ -1,6 +1,5 @@
 -- Each step so far is a name.
-use Rattle.sas_core.proofs.Imports.{take, AllByRecursion}
-use Rattle.sas_core.specs.Names.{IsName}
+use Rattle.sas_core.proofs.Imports.{take, AllByRecursion, IsName}
 use Rattle.sas_core.proofs.plan.first_bad_name.Given as goal
 
 abbrev pub invariant-loop-i : goal.invariant-loop-i

@@ -1,5 +1,4 @@
-use Rattle.sas_lines.proofs.Imports.{◌+◌, take, drop, ap, ◌∙◌, rules, take_rest}
-use Rattle.sas_lines.specs.Parts.{StandsFirst, parts}
+use Rattle.sas_lines.proofs.Imports.{◌+◌, take, drop, ap, ◌∙◌, rules, take_rest, StandsFirst, parts}
 use Rattle.sas_lines.proofs.Separated.{parts-first, parts-only}
 use Rattle.sas_lines.proofs.Found.{Without-index, Without-take, in_two_at}
 use Rattle.sas_lines.proofs.numbers.cut.Goals as goal

@@ -1,8 +1,5 @@
 -- The first condition that fails determines the fault.
-use Rattle.sas_meaning.proofs.Imports.{rules, ◌≡◌, ◌∙◌, ℕ, Bool, List, length, get_or, Option, Some, None, ap, arith, result_err, Fact, Parts, Check, first_fault, check, rule_at}
-use Rattle.sas_meaning.specs.declared.layered.LayerFault.{LayerFault}
-use Rattle.sas_meaning.specs.declared.layered.LayerFault.TheVariants.{LayerOrder}
-use Rattle.sas_meaning.specs.LayerChecks.{looks_down}
+use Rattle.sas_meaning.proofs.Imports.{rules, ◌≡◌, ◌∙◌, ℕ, Bool, List, length, get_or, Option, Some, None, ap, arith, result_err, Fact, Parts, Check, first_fault, check, rule_at, LayerFault, LayerOrder, looks_down}
 use Rattle.sas_meaning.proofs.NumberedChecks.{same_check, pass_before_next, fails_at, pass_all}
 use Rattle.sas_meaning.proofs.layer_checks.check_conditions.Goals as goal
 

@@ -1,7 +1,5 @@
 -- All conditions so far pass.
-use Rattle.sas_meaning.proofs.Imports.{check, rule_at}
-use Rattle.sas_meaning.specs.declared.layered.LayerFault.TheVariants.{LayerOrder}
-use Rattle.sas_meaning.specs.LayerChecks.{looks_down}
+use Rattle.sas_meaning.proofs.Imports.{check, rule_at, LayerOrder, looks_down}
 use Rattle.sas_meaning.proofs.NumberedChecks.{PassBefore}
 use Rattle.sas_meaning.proofs.layer_checks.check_conditions.Given as goal
 

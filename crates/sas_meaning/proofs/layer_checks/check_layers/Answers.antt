@@ -1,6 +1,5 @@
 -- The checks of the operators come first, then those of the rules.
-use Rattle.sas_meaning.proofs.Imports.{rules, ◌≡◌, ◌∙◌, Some, result_err, fails_before, decides_after}
-use Rattle.sas_meaning.specs.LayerChecks.{numbered_checks, operator_layer_checks, rule_layer_checks}
+use Rattle.sas_meaning.proofs.Imports.{rules, ◌≡◌, ◌∙◌, Some, result_err, fails_before, decides_after, numbered_checks, operator_layer_checks, rule_layer_checks}
 use Rattle.sas_meaning.proofs.layer_checks.check_layers.Goals as goal
 
 pub returns-in_err-check_operators-clause-first : goal.returns-in_err-check_operators-clause-first

@@ -1,8 +1,5 @@
 -- The first effect that fails determines the fault.
-use Rattle.sas_meaning.proofs.Imports.{rules, ◌≡◌, ◌∙◌, ℕ, Bool, true, false, not, Option, Some, None, refl, ap, arith, is_some, result_err, Change, Parts, first_fault, check, operator_at, effect_at, effect_change, layer_of}
-use Rattle.sas_meaning.specs.declared.layered.LayerFault.{LayerFault}
-use Rattle.sas_meaning.specs.declared.layered.LayerFault.TheVariants.{EffectOnDerived}
-use Rattle.sas_meaning.specs.LayerChecks.{effect_layer_checks}
+use Rattle.sas_meaning.proofs.Imports.{rules, ◌≡◌, ◌∙◌, ℕ, Bool, true, false, not, Option, Some, None, refl, ap, arith, is_some, result_err, Change, Parts, first_fault, check, operator_at, effect_at, effect_change, layer_of, LayerFault, EffectOnDerived, effect_layer_checks}
 use Rattle.sas_meaning.proofs.NumberedChecks.{same_check, pass_before_next, fails_at, pass_all}
 use Rattle.sas_meaning.proofs.layer_checks.check_operator.Goals as goal
 

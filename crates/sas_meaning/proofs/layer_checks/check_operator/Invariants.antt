@@ -1,6 +1,5 @@
 -- All effects so far pass.
-use Rattle.sas_meaning.proofs.Imports.{operator_at}
-use Rattle.sas_meaning.specs.LayerChecks.{effect_layer_checks}
+use Rattle.sas_meaning.proofs.Imports.{operator_at, effect_layer_checks}
 use Rattle.sas_meaning.proofs.NumberedChecks.{PassBefore}
 use Rattle.sas_meaning.proofs.layer_checks.check_operator.Given as goal
 

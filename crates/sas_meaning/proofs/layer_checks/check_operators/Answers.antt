@@ -1,6 +1,5 @@
 -- The first operator that fails determines the fault.
-use Rattle.sas_meaning.proofs.Imports.{rules, ◌≡◌, ◌∙◌, Some, arith, refl, result_err}
-use Rattle.sas_meaning.specs.LayerChecks.{operator_layer_checks}
+use Rattle.sas_meaning.proofs.Imports.{rules, ◌≡◌, ◌∙◌, Some, arith, refl, result_err, operator_layer_checks}
 use Rattle.sas_meaning.proofs.NumberedChecks.{pass_before_next, fails_at, pass_all}
 use Rattle.sas_meaning.proofs.layer_checks.check_operators.Goals as goal
 

@@ -1,5 +1,5 @@
 -- All operators so far pass.
-use Rattle.sas_meaning.specs.LayerChecks.{operator_layer_checks}
+use Rattle.sas_meaning.proofs.Imports.{operator_layer_checks}
 use Rattle.sas_meaning.proofs.NumberedChecks.{PassBefore}
 use Rattle.sas_meaning.proofs.layer_checks.check_operators.Given as goal
 

@@ -1,6 +1,5 @@
 -- All rules so far pass, and their new values are stored.
-use Rattle.sas_meaning.specs.LayerChecks.{rule_layer_checks}
-use Rattle.sas_meaning.specs.NewValues.{NewValues}
+use Rattle.sas_meaning.proofs.Imports.{rule_layer_checks, NewValues}
 use Rattle.sas_meaning.proofs.NumberedChecks.{PassBefore}
 use Rattle.sas_meaning.proofs.layer_checks.check_rules.Given as goal
 

@@ -1,7 +1,5 @@
 -- The operators of all steps so far are confirmed, and the others are likely.
-use Rattle.sas_names.proofs.Imports.{◌≡◌, ℕ, ◌<◌, [], length, get_or}
-use Rattle.sas_names.specs.Likely.{AreLikely}
-use Rattle.sas_names.specs.Names.{IsLowestNamed}
+use Rattle.sas_names.proofs.Imports.{◌≡◌, ℕ, ◌<◌, [], length, get_or, AreLikely, IsLowestNamed}
 use Rattle.sas_names.proofs.looking_up.confirm_all.Given as goal
 
 abbrev pub invariant-loop-step : goal.invariant-loop-step

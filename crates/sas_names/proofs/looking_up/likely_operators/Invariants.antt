@@ -1,6 +1,5 @@
 -- The names of all steps so far have a likely operator.
-use Rattle.sas_names.proofs.Imports.{◌≡◌, ℕ, ◌<◌, ◌≤◌, [], length, get_or, vec_capacity}
-use Rattle.sas_names.specs.Likely.{IsLikely}
+use Rattle.sas_names.proofs.Imports.{◌≡◌, ℕ, ◌<◌, ◌≤◌, [], length, get_or, vec_capacity, IsLikely}
 use Rattle.sas_names.proofs.looking_up.likely_operators.Given as goal
 
 abbrev pub invariant-loop-step : goal.invariant-loop-step

@@ -1,6 +1,5 @@
 -- The name has the value in the ordered map.
-use Rattle.sas_names.proofs.Imports.{◌≡◌, ℕ, List, ap, subst, ◌∙◌, ◌++◌}
-use Rattle.sas_names.specs.NameTable.{PutsOther, other_of}
+use Rattle.sas_names.proofs.Imports.{◌≡◌, ℕ, List, ap, subst, ◌∙◌, ◌++◌, PutsOther, other_of}
 use Rattle.sas_names.proofs.TablePuts.{PutsOther-write}
 use Rattle.sas_names.proofs.name_table.put_other.Goals as goal
 

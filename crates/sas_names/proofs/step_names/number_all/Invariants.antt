@@ -1,6 +1,5 @@
 -- The names of the steps so far are numbered.
-use Rattle.sas_names.proofs.Imports.{◌≡◌, ◌≤◌, length, vec_capacity}
-use Rattle.sas_names.specs.StepNames.{AreStepsOf, HaveNumbers}
+use Rattle.sas_names.proofs.Imports.{◌≡◌, ◌≤◌, length, vec_capacity, AreStepsOf, HaveNumbers}
 use Rattle.sas_names.proofs.step_names.number_all.Given as goal
 
 abbrev pub invariant-loop-step : goal.invariant-loop-step

@@ -1,7 +1,5 @@
 -- A new name has the number of its step.
-use Rattle.sas_names.proofs.Imports.{◌≡◌, None, rules}
-use Rattle.sas_names.specs.NameTable.{value_of}
-use Rattle.sas_names.specs.StepNames.{step_names}
+use Rattle.sas_names.proofs.Imports.{◌≡◌, None, rules, value_of, step_names}
 use Rattle.sas_names.proofs.StepNumbers.{Numbers-new}
 use Rattle.sas_names.proofs.step_names.number_of.Goals as goal
 

@@ -1,5 +1,4 @@
-use Rattle.sas_output.proofs.Imports.{List, ℕ, [], ◌∷◌, ◌++◌, ap}
-use Rattle.sas_output.specs.Words.{spaces_of}
+use Rattle.sas_output.proofs.Imports.{List, ℕ, [], ◌∷◌, ◌++◌, ap, spaces_of}
 use Rattle.sas_output.proofs.Placed.{places_as, places_then, places_then_either, leaves_then}
 use Rattle.sas_output.proofs.WordLines.{line_is}
 use Rattle.sas_output.proofs.placing.place_line.Goals as goal

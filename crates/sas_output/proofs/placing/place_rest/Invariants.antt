@@ -1,6 +1,4 @@
-use Rattle.sas_output.proofs.Imports.{◌≡◌, take, length, flat_map}
-use Rattle.sas_output.specs.Placing.{Places}
-use Rattle.sas_output.specs.Words.{behind_space}
+use Rattle.sas_output.proofs.Imports.{◌≡◌, take, length, flat_map, Places, behind_space}
 use Rattle.sas_output.proofs.placing.place_rest.Given as goal
 
 -- the words so far were placed

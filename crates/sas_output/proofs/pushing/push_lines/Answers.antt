@@ -1,9 +1,5 @@
-use Rattle.sas_output.proofs.Imports.{arith, subst}
-use Rattle.sas_output.specs.Sink.{Pushes}
+use Rattle.sas_output.proofs.Imports.{arith, subst, Pushes, Line, Step, steps_of}
 use Rattle.sas_output.proofs.Pushed.{pushes_item}
-use Rattle.sas_output.specs.declared.line.Line.{Line}
-use Rattle.sas_output.specs.declared.line.Line.TheVariants.{Step}
-use Rattle.sas_output.specs.Wording.{steps_of}
 use Rattle.sas_output.proofs.LineTexts.{ended, all_lines}
 use Rattle.sas_output.proofs.pushing.push_lines.Goals as goal
 

@@ -1,6 +1,4 @@
-use Rattle.sas_output.proofs.Imports.{take, flat_map}
-use Rattle.sas_output.specs.Sink.{Pushes}
-use Rattle.sas_output.specs.Wording.{steps_of}
+use Rattle.sas_output.proofs.Imports.{take, flat_map, Pushes, steps_of}
 use Rattle.sas_output.proofs.LineTexts.{ended}
 use Rattle.sas_output.proofs.pushing.push_lines.Given as goal
 

@@ -1,7 +1,6 @@
 use Rattle.std.proofs.lemmas.Result.{on_ok_weaker}
-use Rattle.sas_outputs.proofs.Imports.{[], ◌∷◌}
+use Rattle.sas_outputs.proofs.Imports.{[], ◌∷◌, ExpectedInPlan, Found}
 use Rattle.sas_reader.specs.Found.{kept_bytes}
-use Rattle.sas_outputs.specs.FileLine.{ExpectedInPlan, Found}
 use Rattle.sas_outputs.proofs.FileTexts.{text_then, text_of_one}
 use Rattle.sas_outputs.proofs.file_reasons.push_plan_reasons.Goals as goal
 

@@ -1,7 +1,6 @@
 use Rattle.std.proofs.lemmas.Result.{on_ok_weaker}
-use Rattle.sas_outputs.proofs.Imports.{[], ◌∷◌}
+use Rattle.sas_outputs.proofs.Imports.{[], ◌∷◌, At, Expected, NumberMustBe, Found}
 use Rattle.sas_reader.specs.Found.{kept_bytes}
-use Rattle.sas_outputs.specs.FileLine.{At, Expected, NumberMustBe, Found}
 use Rattle.sas_outputs.proofs.FileTexts.{text_then, text_of_one}
 use Rattle.sas_outputs.proofs.file_reasons.push_task_reasons.Goals as goal
 use Rattle.sas_outputs.proofs.file_reasons.push_task_reasons.Goals.{in-Some+in_ok-push_wrong_word, in_default}

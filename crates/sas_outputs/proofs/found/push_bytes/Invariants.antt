@@ -1,5 +1,4 @@
-use Rattle.sas_outputs.proofs.Imports.{◌≡◌, ◌++◌, take, flat_map}
-use Rattle.sas_outputs.specs.FileLine.{shown_byte}
+use Rattle.sas_outputs.proofs.Imports.{◌≡◌, ◌++◌, take, flat_map, shown_byte}
 use Rattle.sas_outputs.proofs.found.push_bytes.Given as goal
 
 -- the bytes so far were appended as they are shown

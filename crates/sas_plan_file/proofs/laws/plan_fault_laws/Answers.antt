@@ -1,6 +1,4 @@
-use Rattle.sas_plan_file.proofs.Imports.{about_laws_of}
-use Rattle.sas_plan_file.specs.PlanFormat.{plan_format, PlanLineFits}
-use Rattle.sas_plan_file.specs.PlanMachine.{plan_node, plan_start}
+use Rattle.sas_plan_file.proofs.Imports.{about_laws_of, plan_format, PlanLineFits, plan_node, plan_start}
 use Rattle.sas_plan_file.proofs.PlanGrammar.{plan_grammar}
 use Rattle.sas_plan_file.proofs.laws.plan_fault_laws.Goals as goal
 

@@ -1,9 +1,5 @@
 -- All bytes were fed to the reader.
-use Rattle.sas_plan_file.proofs.Imports.{[], Ok, Err, sym, ap, subst, ◌∙◌, Fault, ConcernsText, ReadsAs, most_bytes, IsRefused, end_fault, reported_by, explains}
-use Rattle.sas_plan_file.specs.PlanFormat.{plan_format, PlanLineFits}
-use Rattle.sas_plan_file.specs.PlanMachine.{plan_node, plan_start, HasCostLine, plan_stays}
-use Rattle.sas_plan_file.specs.PlanReader.{plan_led, plan_rejects}
-use Rattle.sas_plan_file.specs.PlanRefusal.{fault_of, found_of, nothing_else}
+use Rattle.sas_plan_file.proofs.Imports.{[], Ok, Err, sym, ap, subst, ◌∙◌, Fault, ConcernsText, ReadsAs, most_bytes, IsRefused, end_fault, reported_by, explains, plan_format, PlanLineFits, plan_node, plan_start, HasCostLine, plan_stays, plan_led, plan_rejects, fault_of, found_of, nothing_else}
 use Rattle.sas_plan_file.proofs.PlanGrammar.{plan_grammar}
 use Rattle.sas_plan_file.proofs.PlanStanding.{plan_follows, read_plan_parts}
 use Rattle.sas_plan_file.proofs.plan.flat_plan_of.Goals as goal

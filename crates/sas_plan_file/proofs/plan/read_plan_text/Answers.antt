@@ -1,8 +1,4 @@
-use Rattle.sas_plan_file.proofs.Imports.{◌∙◌, some_read, reads_explained, refuses_explained}
-use Rattle.sas_plan_file.specs.PlanFormat.{plan_format, PlanLineFits}
-use Rattle.sas_plan_file.specs.PlanMachine.{plan_node, plan_start}
-use Rattle.sas_plan_file.specs.PlanRefusal.{fault_of, found_of, nothing_else}
-use Rattle.sas_plan_file.specs.PlanText.{KeepsLines, text_stays}
+use Rattle.sas_plan_file.proofs.Imports.{◌∙◌, some_read, reads_explained, refuses_explained, plan_format, PlanLineFits, plan_node, plan_start, fault_of, found_of, nothing_else, KeepsLines, text_stays}
 use Rattle.sas_plan_file.proofs.PlanGrammar.{plan_grammar}
 use Rattle.sas_plan_file.proofs.PlanKeeping.{text_ended, text_rejects, text_follows, text_is}
 use Rattle.sas_plan_file.proofs.plan.read_plan_text.Goals as goal

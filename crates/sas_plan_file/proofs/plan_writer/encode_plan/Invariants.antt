@@ -1,5 +1,4 @@
-use Rattle.sas_plan_file.proofs.Imports.{◌≡◌, map, take, text}
-use Rattle.sas_plan_file.specs.PlanFormat.{plan_line_bytes, step}
+use Rattle.sas_plan_file.proofs.Imports.{◌≡◌, map, take, text, plan_line_bytes, step}
 use Rattle.sas_plan_file.proofs.plan_writer.encode_plan.Given as goal
 
 -- the lines of the steps so far

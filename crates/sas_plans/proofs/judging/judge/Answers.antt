@@ -1,6 +1,4 @@
-use Rattle.sas_plans.proofs.Imports.{Appends, output_of, ends_as, ends_well}
-use Rattle.sas_plans.specs.Inputs.{tool_fault, tool_result}
-use Rattle.sas_plans.specs.Judged.{JudgeOut}
+use Rattle.sas_plans.proofs.Imports.{Appends, output_of, ends_as, ends_well, tool_fault, tool_result, JudgeOut}
 use Rattle.sas_plans.proofs.JudgeEndings.{ends_at, status_if_ok}
 use Rattle.sas_plans.proofs.PlansHeadlines.{plans_headline_of}
 use Rattle.sas_plans.proofs.Turns.{in_turn_written, long_written}

@@ -1,6 +1,4 @@
-use Rattle.sas_plans.proofs.Imports.{◌≡◌, ℕ, ◌≤◌, length}
-use Rattle.sas_plans.specs.InTurn.{OpensFirst}
-use Rattle.sas_plans.specs.Judging.{AreReported}
+use Rattle.sas_plans.proofs.Imports.{◌≡◌, ℕ, ◌≤◌, length, OpensFirst, AreReported}
 use Rattle.sas_plans.proofs.reporting.report_each.Given as goal
 
 abbrev pub invariant-loop-number : goal.invariant-loop-number

@@ -1,5 +1,4 @@
-use Rattle.sas_plans.proofs.Imports.{ℕ, List, length, ap, sym, ◌∙◌, ◌++◌}
-use Rattle.sas_plans.specs.Judging.{summary_of}
+use Rattle.sas_plans.proofs.Imports.{ℕ, List, length, ap, sym, ◌∙◌, ◌++◌, summary_of}
 use Rattle.sas_plans.proofs.SaidPlans.{reported_yes, reported_no, unreported}
 use Rattle.sas_plans.proofs.reporting.report_plans.Goals as goal
 

@@ -1,6 +1,4 @@
-use Rattle.sas_plans.proofs.Imports.{rules, All-map}
-use Rattle.sas_plans.specs.Inputs.{IsLabel}
-use Rattle.sas_plans.specs.declared.slices.PlanBytes.{PlanBytes}
+use Rattle.sas_plans.proofs.Imports.{rules, All-map, IsLabel, PlanBytes}
 use Rattle.sas_plans.proofs.InMemory.{all_labels}
 use Rattle.sas_plans.proofs.slices.are_labels.Goals as goal
 

@@ -1,8 +1,4 @@
-use Rattle.sas_plans.proofs.Imports.{List, ℕ, [], Bor, ap, Some, Appends}
-use Rattle.sas_plans.specs.Inputs.{tool_fault}
-use Rattle.sas_plans.specs.Judged.{JudgeOut}
-use Rattle.sas_plans.specs.PlansHeadline.{PlansHeadline}
-use Rattle.sas_plans.specs.Slices.{bytes_of, labels_of}
+use Rattle.sas_plans.proofs.Imports.{List, ℕ, [], Bor, ap, Some, Appends, tool_fault, JudgeOut, PlansHeadline, bytes_of, labels_of}
 use Rattle.sas_plans.proofs.InMemory.{have_bytes, sent_text, reported_none, reported_output}
 use Rattle.sas_plans.proofs.slices.judge_slices.Goals as goal
 

@@ -1,5 +1,4 @@
-use Rattle.sas_reader.proofs.Imports.{◌≡◌, ◌-◌, ◌<◌, ℕ, List, length, None, false, Consumes}
-use Rattle.sas_reader.specs.Reader.{Stands}
+use Rattle.sas_reader.proofs.Imports.{◌≡◌, ◌-◌, ◌<◌, ℕ, List, length, None, false, Consumes, Stands}
 use Rattle.sas_reader.proofs.devices.feed_all.Given as goal
 
 -- the reader represents the bytes that were read

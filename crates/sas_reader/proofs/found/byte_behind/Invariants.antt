@@ -1,5 +1,4 @@
-use Rattle.sas_reader.proofs.Imports.{◌≡◌, drop}
-use Rattle.sas_reader.specs.Found.{behind_ends}
+use Rattle.sas_reader.proofs.Imports.{◌≡◌, drop, behind_ends}
 use Rattle.sas_reader.proofs.found.byte_behind.Given as goal
 
 -- what follows the remaining line ends

@@ -1,6 +1,5 @@
-use Rattle.sas_reader.proofs.Imports.{◌≡◌, ℕ, ◌+◌, ◌-◌, ◌<◌, ◌≤◌, length, take, drop, get_or, refl, sym, ap, subst, ◌∙◌, arith}
+use Rattle.sas_reader.proofs.Imports.{◌≡◌, ℕ, ◌+◌, ◌-◌, ◌<◌, ◌≤◌, length, take, drop, get_or, refl, sym, ap, subst, ◌∙◌, arith, returns_in, CopiesSoFar}
 use lib.Count.{count_trailing_zeros}
-use Rattle.sas_reader.specs.Returns.{returns_in, CopiesSoFar}
 use Rattle.sas_reader.proofs.Copying.{run_counted, run_short, all_run, next_known, run_more, return_behind, return_more, put_more, put_behind}
 use Rattle.sas_reader.proofs.returns.copy_block.Goals as goal
 

@@ -1,5 +1,4 @@
-use Rattle.sas_reader.proofs.Imports.{◌≡◌, ◌+◌, ◌-◌, ◌≤◌, ◌++◌, take, drop}
-use Rattle.sas_reader.specs.Returns.{returns_in, CopiesSoFar}
+use Rattle.sas_reader.proofs.Imports.{◌≡◌, ◌+◌, ◌-◌, ◌≤◌, ◌++◌, take, drop, returns_in, CopiesSoFar}
 use Rattle.sas_reader.proofs.returns.copy_block.Given as goal
 
 -- thirty-two bytes from here on were written after the kept ones, and the CRs among the bytes that

@@ -1,5 +1,4 @@
-use Rattle.sas_reader.proofs.Imports.{◌-◌, length}
-use Rattle.sas_reader.specs.Returns.{CopiesSoFar}
+use Rattle.sas_reader.proofs.Imports.{◌-◌, length, CopiesSoFar}
 use Rattle.sas_reader.proofs.returns.copy_many.Given as goal
 
 abbrev pub invariant-loop-copied : goal.invariant-loop-copied

@@ -1,4 +1,4 @@
-use Rattle.sas_reader.specs.Returns.{CopiesSoFar}
+use Rattle.sas_reader.proofs.Imports.{CopiesSoFar}
 use Rattle.sas_reader.proofs.returns.copy_rest.Given as goal
 
 abbrev pub invariant-loop-i : goal.invariant-loop-i

@@ -1,6 +1,5 @@
 -- Each law is proved as a lemma.
-use Rattle.sas_reasons.proofs.Derivation.{rank_if_differs, one_rank, some_giver, one_giver, giver_fires, giver_looks_down}
-use Rattle.sas_reasons.proofs.Derivation.{itself_is_last, no_circle, all_differ}
+use Rattle.sas_reasons.proofs.Derivation.{rank_if_differs, one_rank, some_giver, one_giver, giver_fires, giver_looks_down, itself_is_last, no_circle, all_differ}
 use Rattle.sas_reasons.proofs.Listing.{some_derivation}
 use Rattle.sas_reasons.proofs.Sorting.{one_derivation, own_rule_is_last}
 use Rattle.sas_reasons.proofs.laws.derivation_laws.Goals as goal

@@ -1,5 +1,4 @@
-use Rattle.sas_requests.proofs.Imports.{refl, Show, Print, Check, Mutex, task_format, ShowAnswer, PrintAnswer}
-use Rattle.sas_requests.specs.Answering.{TaskBy, CheckBy, MutexBy}
+use Rattle.sas_requests.proofs.Imports.{refl, Show, Print, Check, Mutex, task_format, ShowAnswer, PrintAnswer, TaskBy, CheckBy, MutexBy}
 use Rattle.sas_requests.proofs.RequestEnds.{of_task, of_steps}
 use Rattle.sas_requests.proofs.answers.answer.Goals as goal
 

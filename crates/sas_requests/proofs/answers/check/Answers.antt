@@ -1,7 +1,5 @@
 use Rattle.std.proofs.lemmas.Result.{err_from_is_err_and}
-use Rattle.sas_requests.proofs.Imports.{codes, ValueOf, task_format}
-use Rattle.sas_requests.specs.Answering.{CheckBy, UnlayeredBy}
-use Rattle.sas_requests.specs.FileReasons.{AreTaskReasons}
+use Rattle.sas_requests.proofs.Imports.{codes, ValueOf, task_format, CheckBy, UnlayeredBy, AreTaskReasons}
 use Rattle.sas_requests.proofs.FileEnds.{ends_exactly, ends_more, written_unread}
 use Rattle.sas_requests.proofs.RequestEnds.{check_yes, check_no}
 use Rattle.sas_requests.proofs.answers.check.Goals as goal

@@ -1,6 +1,4 @@
-use Rattle.sas_requests.proofs.Imports.{codes, ValueOf, task_format}
-use Rattle.sas_requests.specs.Answering.{MutexBy, UnlayeredBy}
-use Rattle.sas_requests.specs.FileReasons.{AreTaskReasons}
+use Rattle.sas_requests.proofs.Imports.{codes, ValueOf, task_format, MutexBy, UnlayeredBy, AreTaskReasons}
 use Rattle.sas_requests.proofs.FileEnds.{ends_value, ends_more, unread}
 use Rattle.sas_requests.proofs.RequestEnds.{mutex_no}
 use Rattle.sas_requests.proofs.answers.mutex.Goals as goal

@@ -1,5 +1,4 @@
-use Rattle.sas_requests.proofs.Imports.{codes, refl, TextOf, task_format, Yes, Output, PrintAnswer}
-use Rattle.sas_requests.specs.FileReasons.{AreTaskReasons}
+use Rattle.sas_requests.proofs.Imports.{codes, refl, TextOf, task_format, Yes, Output, PrintAnswer, AreTaskReasons}
 use Rattle.sas_requests.proofs.FileEnds.{ends_exactly, task_refused, written_unread}
 use Rattle.sas_requests.proofs.answers.print.Goals as goal
 

@@ -1,5 +1,4 @@
-use Rattle.sas_requests.proofs.Imports.{ap, ◌∙◌, codes, text, Outline, task_format, OutlineOf, Yes, Output, summary_lines, ShowAnswer}
-use Rattle.sas_requests.specs.FileReasons.{AreTaskReasons}
+use Rattle.sas_requests.proofs.Imports.{ap, ◌∙◌, codes, text, Outline, task_format, OutlineOf, Yes, Output, summary_lines, ShowAnswer, AreTaskReasons}
 use Rattle.sas_requests.proofs.FileEnds.{ends_text, task_refused, unread}
 use Rattle.sas_requests.proofs.answers.show.Goals as goal
 

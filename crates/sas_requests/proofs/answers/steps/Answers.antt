@@ -1,5 +1,4 @@
-use Rattle.sas_requests.proofs.Imports.{codes, refl, TextOf, plan_format, Yes, Output, PrintAnswer}
-use Rattle.sas_requests.specs.FileReasons.{ArePlanReasons}
+use Rattle.sas_requests.proofs.Imports.{codes, refl, TextOf, plan_format, Yes, Output, PrintAnswer, ArePlanReasons}
 use Rattle.sas_requests.proofs.FileEnds.{ends_exactly, plan_refused, written_unread}
 use Rattle.sas_requests.proofs.answers.steps.Goals as goal
 

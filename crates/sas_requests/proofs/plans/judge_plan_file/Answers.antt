@@ -1,6 +1,4 @@
-use Rattle.sas_requests.proofs.Imports.{codes, ValueOf, plan_format}
-use Rattle.sas_requests.specs.Answering.{VerdictBy}
-use Rattle.sas_requests.specs.FileReasons.{ArePlanReasons}
+use Rattle.sas_requests.proofs.Imports.{codes, ValueOf, plan_format, VerdictBy, ArePlanReasons}
 use Rattle.sas_requests.proofs.FileEnds.{ends_value, plan_refused, unread}
 use Rattle.sas_requests.proofs.plans.judge_plan_file.Goals as goal
 

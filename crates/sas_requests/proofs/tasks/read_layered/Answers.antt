@@ -1,5 +1,4 @@
-use Rattle.sas_requests.proofs.Imports.{ValueOf, task_format}
-use Rattle.sas_requests.specs.Answering.{UnlayeredBy}
+use Rattle.sas_requests.proofs.Imports.{ValueOf, task_format, UnlayeredBy}
 use Rattle.sas_requests.proofs.FileEnds.{task_refused, task_unlayered}
 use Rattle.sas_requests.proofs.tasks.read_layered.Goals as goal
 

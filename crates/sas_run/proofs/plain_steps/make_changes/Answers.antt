@@ -1,6 +1,5 @@
 -- One more change is made.
-use Rattle.sas_run.proofs.Imports.{IsTrue, ◌+◌, ◌<◌, length, get_or, set, sym, ap, ◌∙◌, subst, arith, get_or_default, Fact}
-use Rattle.sas_run.specs.Given.{Replaces}
+use Rattle.sas_run.proofs.Imports.{IsTrue, ◌+◌, ◌<◌, length, get_or, set, sym, ap, ◌∙◌, subst, arith, get_or_default, Fact, Replaces}
 use Rattle.sas_run.proofs.Deleted.{notes_on}
 use Rattle.sas_run.proofs.PlainSteps.{MadeSoFar, LostSoFar, no_change, one_more_made, one_more_lost, changes_fit, changes_within, changes_basic}
 use Rattle.sas_run.proofs.plain_steps.make_changes.Goals as goal

@@ -1,6 +1,5 @@
 -- The changes so far are made.
-use Rattle.sas_run.proofs.Imports.{IsTrue}
-use Rattle.sas_run.specs.Deletions.{NotesOn}
+use Rattle.sas_run.proofs.Imports.{IsTrue, NotesOn}
 use Rattle.sas_run.proofs.PlainSteps.{MadeSoFar, LostSoFar}
 use Rattle.sas_run.proofs.plain_steps.make_changes.Given as goal
 

@@ -1,6 +1,5 @@
 -- The old values that the changes so far require hold.
-use Rattle.sas_run.proofs.Imports.{ℕ, ◌<◌, get_or, Change}
-use Rattle.sas_run.specs.PlainSteps.{OldHolds}
+use Rattle.sas_run.proofs.Imports.{ℕ, ◌<◌, get_or, Change, OldHolds}
 use Rattle.sas_run.proofs.plain_steps.old_values_hold.Given as goal
 
 abbrev pub invariant-loop-change : goal.invariant-loop-change

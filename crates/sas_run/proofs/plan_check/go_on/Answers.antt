@@ -1,7 +1,6 @@
 -- A chosen operator whose step is refused has effects that conflict.
 use Rattle.std.proofs.Common.{arith}
 use Rattle.std.proofs.lemmas.Grind.{common_steps}
-use Rattle.sas_run.proofs.Imports.{refl, operator_at}
 use Rattle.sas_run.proofs.NextStates.{fault_is_conflict}
 use Rattle.sas_run.proofs.plan_check.go_on.Goals as goal
 

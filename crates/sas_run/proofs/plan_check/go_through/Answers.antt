@@ -1,11 +1,7 @@
 -- One more step succeeds or fails.
 use Rattle.std.proofs.lemmas.Grind.{common_steps}
-use Rattle.sas_run.proofs.Imports.{Err, ◌≡◌, ℕ, ◌+◌, ◌<◌, ◌≤◌, List, [], ◌∷◌, ◌++◌, length, take, get_or, refl, sym, subst, ap, ◌∙◌, arith, IfErr, err_from_is_err_and, take_all, take_more, operator_at, IsLowestNamed}
+use Rattle.sas_run.proofs.Imports.{Err, ◌≡◌, ℕ, ◌+◌, ◌<◌, List, [], ◌∷◌, ◌++◌, length, take, get_or, refl, sym, subst, ◌∙◌, arith, IfErr, err_from_is_err_and, take_all, take_more, operator_at, NoOperator, LeadsTo, MakesStep, StepFails, IsEnding}
 use Rattle.std.proofs.Math.ListN.{length-append}
-use Rattle.sas_run.specs.declared.plan_check.PlanFault.TheVariants.{NoOperator}
-use Rattle.sas_run.specs.Plans.{LeadsTo}
-use Rattle.sas_run.specs.Running.{MakesStep, StepFails}
-use Rattle.sas_run.specs.Runs.{IsEnding}
 use Rattle.sas_run.proofs.Endings.{stops_there}
 use Rattle.sas_run.proofs.Going.{leads_one_more, passed_on}
 use Rattle.sas_run.proofs.PlanStates.{leads_to_rest}

@@ -1,7 +1,5 @@
 -- The steps so far lead from the initial state to the current state.
-use Rattle.sas_run.proofs.Imports.{◌≡◌, ◌≤◌, length, take, vec_capacity}
-use Rattle.sas_run.specs.Plans.{LeadsTo}
-use Rattle.sas_run.specs.Stepping.{Follows, IsPrepared}
+use Rattle.sas_run.proofs.Imports.{◌≡◌, ◌≤◌, length, take, vec_capacity, LeadsTo, Follows, IsPrepared}
 use Rattle.sas_run.proofs.plan_check.go_through.Given as goal
 
 abbrev pub invariant-loop-before : goal.invariant-loop-before

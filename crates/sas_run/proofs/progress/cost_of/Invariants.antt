@@ -1,6 +1,5 @@
 -- The sum so far.
-use Rattle.sas_run.proofs.Imports.{◌≡◌, ◌+◌, ◌*◌, ◌^◌, ◌≤◌, drop}
-use Rattle.sas_run.specs.Plans.{cost_of_all}
+use Rattle.sas_run.proofs.Imports.{◌≡◌, ◌+◌, ◌*◌, ◌^◌, ◌≤◌, drop, cost_of_all}
 use Rattle.sas_run.proofs.progress.cost_of.Given as goal
 
 abbrev pub invariant-loop-operator : goal.invariant-loop-operator

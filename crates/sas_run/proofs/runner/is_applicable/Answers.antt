@@ -1,12 +1,8 @@
 -- The prevail conditions, and the old values that effects without conditions require, are all preconditions.
-use Rattle.sas_run.proofs.Imports.{◌≡◌, Bool, true, false, ◌<◌, length, sym, subst, refl, All, slice_index, Change, Fact, operator_at, AllHold}
+use Rattle.sas_run.proofs.Imports.{true, false, ◌<◌, length, sym, subst, All, slice_index, Change, Fact, operator_at, AllHold, true_from_ne_false}
 use Rattle.sas_run.proofs.Ranges.{preconditions_within}
 use Rattle.sas_run.proofs.PlainSteps.{changes_within, met, prevail_met, olds_met, prevail_within}
 use Rattle.sas_run.proofs.runner.is_applicable.Goals as goal
-
-must_be : (b : Bool) → (b ≡ false → ⊥) → b ≡ true
-must_be true not = refl
-must_be false not = absurd (not refl)
 
 pub holds_all-requires : goal.holds_all-requires
 holds_all-requires g c =
@@ -30,7 +26,7 @@ returns-then-holds_all g c =
     let s = c.args.state.now in
     let hold : AllHold (slice_index s) o.prevail = subst (AllHold (slice_index s)) c.prevail.ensures (c.holds_all.ensures.0 c.if-holds_all.true) in (
       (λ yes. met s o c.in-Some.changes.now c.in-Some.ensures hold (c.old_values_hold.ensures.yes yes)),
-      (λ can. must_be c.old_values_hold.result
+      (λ can. true_from_ne_false c.old_values_hold.result
           (λ no. c.old_values_hold.ensures.no no (olds_met s o c.in-Some.changes.now c.in-Some.ensures can))),
     )
 

@@ -1,9 +1,7 @@
 -- The effects are applied, and the result is settled from the state before.
 use Rattle.std.proofs.Common.{arith}
 use Rattle.std.proofs.lemmas.Grind.{common_steps}
-use Rattle.sas_run.proofs.Imports.{Err, ◌≡◌, ◌≢◌, ◌⊎◌, ℕ, ◌∷◌, List, [], is_some, sym, ◌∙◌, ap, subst, inl, inr, All, cases_eq, err_from_is_err_and, All-nil, All-cons, Contains-append_left, Contains-append_right, Contains-push, Fact, Parts, operator_at, Touched, HaveGone, SameBasic, CoversChanges, layer_cases}
-use Rattle.sas_run.specs.Stepping.{HasFactOn, ListsChanges}
-use Rattle.sas_run.specs.Running.{Steps}
+use Rattle.sas_run.proofs.Imports.{◌≢◌, ◌⊎◌, ℕ, ◌∷◌, List, [], is_some, sym, ◌∙◌, ap, subst, inl, inr, All, cases_eq, err_from_is_err_and, All-nil, All-cons, Contains-append_left, Contains-append_right, Contains-push, Fact, Parts, Touched, HaveGone, SameBasic, CoversChanges, layer_cases, HasFactOn, ListsChanges}
 use Rattle.sas_run.proofs.Going.{passed_on}
 use Rattle.sas_run.proofs.Deleted.{room_on}
 use Rattle.sas_run.proofs.NextStates.{effects_basic, settled_if_basic, step_from_applied}

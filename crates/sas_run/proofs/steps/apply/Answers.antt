@@ -1,6 +1,6 @@
 -- Making the changes one after another is applying the effects.
 use Rattle.std.proofs.lemmas.Grind.{common_steps}
-use Rattle.sas_run.proofs.Imports.{length, ap, arith, length-map, plain_effect, operator_at}
+use Rattle.sas_run.proofs.Imports.{arith, length-map, operator_at}
 use Rattle.sas_run.proofs.PlainSteps.{applied_plainly}
 use Rattle.sas_run.proofs.steps.apply.Goals as goal
 

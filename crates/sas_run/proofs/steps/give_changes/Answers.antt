@@ -1,6 +1,5 @@
 -- One more change has given its value.
-use Rattle.sas_run.proofs.Imports.{◌≡◌, ◌<◌, [], length, get_or, sym, subst, arith, Effect, plain_effect, operator_at, effect_at, Fires}
-use Rattle.sas_run.specs.Given.{IsGiven, IsGivenTo, GivesValue, GivesOther}
+use Rattle.sas_run.proofs.Imports.{◌≡◌, ◌<◌, [], length, get_or, sym, subst, arith, Effect, plain_effect, operator_at, effect_at, Fires, IsGiven, IsGivenTo, GivesValue, GivesOther}
 use Rattle.sas_run.proofs.PlainSteps.{no_change, effect_is, effect_number, fires}
 use Rattle.sas_run.proofs.Ranges.{effect_fits, effect_within}
 use Rattle.sas_run.proofs.Giving.{given_on_effects, gives_one_more, conflicts_first}

@@ -1,6 +1,5 @@
 -- The given values are exactly those of the changes so far, in each state.
-use Rattle.sas_run.proofs.Imports.{ℕ, List, operator_at}
-use Rattle.sas_run.specs.Given.{IsGiven}
+use Rattle.sas_run.proofs.Imports.{ℕ, List, operator_at, IsGiven}
 use Rattle.sas_run.proofs.steps.give_changes.Given as goal
 
 abbrev pub invariant-loop-effect : goal.invariant-loop-effect

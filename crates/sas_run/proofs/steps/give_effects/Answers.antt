@@ -1,6 +1,5 @@
 -- One more effect has given its value, if it fires.
-use Rattle.sas_run.proofs.Imports.{◌≡◌, ◌+◌, ◌<◌, ℕ, List, Option, None, Some, length, sym, subst, arith, rules, All, Fact, IfNone, slice_index, Change, operator_at, effect_at, AllHold}
-use Rattle.sas_run.specs.Given.{IsGiven, IsGivenTo, GivesValue}
+use Rattle.sas_run.proofs.Imports.{◌≡◌, ◌+◌, ◌<◌, ℕ, List, Option, None, Some, length, sym, subst, arith, rules, All, Fact, IfNone, slice_index, Change, operator_at, effect_at, AllHold, IsGiven, IsGivenTo, GivesValue}
 use Rattle.sas_run.proofs.Ranges.{effect_fits, effect_within, conditions_within, change_within}
 use Rattle.sas_run.proofs.Giving.{given_on_effects, gives_nothing, gives_one_more}
 use Rattle.sas_run.proofs.steps.give_effects.Goals as goal

@@ -1,6 +1,5 @@
 -- The given values are exactly those of the effects so far.
-use Rattle.sas_run.proofs.Imports.{operator_at}
-use Rattle.sas_run.specs.Given.{IsGiven}
+use Rattle.sas_run.proofs.Imports.{operator_at, IsGiven}
 use Rattle.sas_run.proofs.steps.give_effects.Given as goal
 
 abbrev pub invariant-loop-effect : goal.invariant-loop-effect

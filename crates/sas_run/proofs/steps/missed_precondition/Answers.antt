@@ -1,6 +1,4 @@
 -- One precondition after another is tested.
-use Rattle.std.proofs.Common.{arith}
-use Rattle.std.proofs.lemmas.Grind.{common_steps}
 use Rattle.sas_run.proofs.Imports.{◌≡◌, ◌∙◌, ◌<◌, List, [], ◌∷◌, ◌++◌, length, ap, sym, subst, append_assoc, slice_index, All, All-nil, All-append, All-head, All-push, All-rest, Fact, operator_at, Holds, preconditions}
 use Rattle.sas_run.proofs.Ranges.{preconditions_within}
 use Rattle.sas_run.proofs.Missed.{missed_next}

@@ -1,6 +1,5 @@
 -- The given values of the variables of the effects so far are removed.
-use Rattle.sas_run.proofs.Imports.{◌≡◌, ℕ, ◌<◌, None, operator_at, effect_at}
-use Rattle.sas_run.specs.Given.{given_to, IsGivenTo}
+use Rattle.sas_run.proofs.Imports.{◌≡◌, ℕ, ◌<◌, None, operator_at, effect_at, given_to, IsGivenTo}
 use Rattle.sas_run.proofs.steps.take_back.Given as goal
 
 abbrev pub invariant-loop-effect : goal.invariant-loop-effect

@@ -1,12 +1,9 @@
 -- The given value of one more variable is written and removed.
 use Rattle.std.proofs.lemmas.Grind.{common_steps}
-use Rattle.sas_run.proofs.Imports.{◌≡◌, ◌<◌, length, set, None, Some, refl, sym, ap, subst, ◌∙◌, inl, inr, arith, IsTrue, cases_eq, Change, operator_at, effect_at, IsBasic, state_set}
-use Rattle.sas_run.specs.declared.deletions.Deleted.{Deleted}
-use Rattle.sas_run.specs.Deletions.{NotesOn}
-use Rattle.sas_run.specs.Given.{given_to}
+use Rattle.sas_run.proofs.Imports.{◌≡◌, ◌<◌, length, set, None, Some, sym, ap, subst, ◌∙◌, inl, inr, arith, IsTrue, cases_eq, Change, operator_at, effect_at, IsBasic, state_set, Deleted, NotesOn, given_to}
 use Rattle.sas_run.proofs.Ranges.{no_effect, change_within}
 use Rattle.sas_run.proofs.Giving.{fewer_on_effects, one_more_taken, written_same, all_taken}
-use Rattle.sas_run.proofs.Deleted.{DeletedSoFar, notes_on, notes_still, nothing_deleted, deleted_more, deleted_few, deleted_in_the_end}
+use Rattle.sas_run.proofs.Deleted.{notes_on, notes_still, nothing_deleted, deleted_more, deleted_few, deleted_in_the_end}
 use Rattle.sas_run.proofs.NextStates.{effects_basic}
 use Rattle.sas_run.proofs.steps.write_given.Goals as goal
 use Rattle.sas_run.proofs.steps.write_given.Goals.{in-Some, in_default}

@@ -1,7 +1,5 @@
 -- The given values of the variables of the effects so far are written and removed.
-use Rattle.sas_run.proofs.Imports.{◌≡◌, ℕ, ◌<◌, ◌≤◌, length, None, IsTrue, operator_at, effect_at, IsState}
-use Rattle.sas_run.specs.Deletions.{NotesOn}
-use Rattle.sas_run.specs.Given.{given_to, value_after, IsGivenTo}
+use Rattle.sas_run.proofs.Imports.{◌≡◌, ℕ, ◌<◌, ◌≤◌, length, None, IsTrue, operator_at, effect_at, IsState, NotesOn, given_to, value_after, IsGivenTo}
 use Rattle.sas_run.proofs.Deleted.{DeletedSoFar}
 use Rattle.sas_run.proofs.steps.write_given.Given as goal
 

@@ -1,7 +1,4 @@
-use Rattle.sas_task_format.proofs.Imports.{about_laws_of}
-use Rattle.sas_task_format.specs.Process.{process_node}
-use Rattle.sas_task_format.specs.TaskFormat.{TaskLineFits, task_format}
-use Rattle.sas_task_format.specs.TaskProcess.{task_start}
+use Rattle.sas_task_format.proofs.Imports.{about_laws_of, process_node, TaskLineFits, task_format, task_start}
 use Rattle.sas_task_format.proofs.MarkLaws.{one_due, some_due, one_wrong_word, one_task_reason}
 use Rattle.sas_task_format.proofs.SomeReason.{some_task_reason}
 use Rattle.sas_task_format.proofs.SomeWrongWord.{some_wrong_word, wrong_word_is_named}

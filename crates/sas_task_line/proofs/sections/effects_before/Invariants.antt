@@ -1,5 +1,5 @@
 -- The bytes so far are the number and the effects so far, and the rest is left.
-use Rattle.sas_task_line.specs.LinesBefore.{EffectsBefore}
+use Rattle.sas_task_line.proofs.Imports.{EffectsBefore}
 use Rattle.sas_task_line.proofs.sections.effects_before.Given as goal
 
 abbrev pub invariant-loop-i : goal.invariant-loop-i

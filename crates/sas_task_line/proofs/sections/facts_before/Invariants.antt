@@ -1,5 +1,5 @@
 -- The bytes so far are the number and the facts so far, and the rest is left.
-use Rattle.sas_task_line.specs.LinesBefore.{FactsBefore}
+use Rattle.sas_task_line.proofs.Imports.{FactsBefore}
 use Rattle.sas_task_line.proofs.sections.facts_before.Given as goal
 
 abbrev pub invariant-loop-i : goal.invariant-loop-i

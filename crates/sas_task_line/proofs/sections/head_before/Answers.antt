@@ -1,5 +1,4 @@
-use Rattle.sas_task_line.proofs.Imports.{IsTrue}
-use Rattle.sas_task_line.specs.TaskRanges.{change_in_ranges}
+use Rattle.sas_task_line.proofs.Imports.{IsTrue, change_in_ranges}
 use Rattle.sas_task_line.proofs.AheadReading.{head_is_ahead}
 use Rattle.sas_task_line.proofs.LinesReading.{two_lines}
 use Rattle.sas_task_line.proofs.sections.head_before.Goals as goal

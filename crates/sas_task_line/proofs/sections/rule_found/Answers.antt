@@ -1,5 +1,4 @@
-use Rattle.sas_task_line.proofs.Imports.{refl, arith}
-use Rattle.sas_task_line.specs.declared.sections.Gathered.{Gathered}
+use Rattle.sas_task_line.proofs.Imports.{refl, arith, Gathered}
 use Rattle.sas_task_line.proofs.LinesReading.{rule_is_ahead, appended_alone}
 use Rattle.sas_task_line.proofs.sections.rule_found.Goals as goal
 

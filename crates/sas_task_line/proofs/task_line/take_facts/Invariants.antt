@@ -1,5 +1,5 @@
 -- The words so far are the facts so far, and the rest is left.
-use Rattle.sas_task_line.specs.TaskWords.{TakesFacts}
+use Rattle.sas_task_line.proofs.Imports.{TakesFacts}
 use Rattle.sas_task_line.proofs.task_line.take_facts.Given as goal
 
 abbrev pub invariant-loop-i : goal.invariant-loop-i

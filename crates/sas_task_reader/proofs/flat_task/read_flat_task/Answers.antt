@@ -1,6 +1,5 @@
-use Rattle.sas_task_reader.proofs.Imports.{sym, ap, subst, ◌∙◌, Parts, WellRanged, ValueOf, SoFar, LedTo, EndedAt, RejectsAt, MachineStopped, reads_explained, refuses_explained, process_node, task_format, TaskLineFits, task_start, task_grammar}
+use Rattle.sas_task_reader.proofs.Imports.{sym, ap, subst, ◌∙◌, Parts, WellRanged, ValueOf, SoFar, LedTo, EndedAt, RejectsAt, MachineStopped, reads_explained, refuses_explained, process_node, task_format, TaskLineFits, task_start, task_grammar, fault_in, found_in, HasReason}
 use Rattle.sas_task_reader.proofs.TaskStanding.{reader_follows, read_task_parts, well_ranged}
-use Rattle.sas_task_reader.specs.TaskRefusal.{fault_in, found_in, HasReason}
 use Rattle.sas_task_reader.proofs.flat_task.read_flat_task.Goals as goal
 
 pub into_task-requires : goal.into_task-requires

@@ -1,9 +1,6 @@
-use Rattle.sas_task_reader.proofs.Imports.{◌≡◌, List, ℕ, ap, ◌∙◌, Kind, SoFar, TaskMachine, HasEnded, RejectsLine, LedBy, MachineStopped, process_node, task_format, TaskLineFits, task_start, task_grammar, reads_explained, refuses_explained}
-use Rattle.sas_task_reader.specs.declared.task_outline.Seen.{Seen}
-use Rattle.sas_task_reader.specs.TaskOutline.{outline_in, kept_of}
+use Rattle.sas_task_reader.proofs.Imports.{◌≡◌, List, ℕ, ap, ◌∙◌, Kind, SoFar, TaskMachine, HasEnded, RejectsLine, LedBy, MachineStopped, process_node, task_format, TaskLineFits, task_start, task_grammar, reads_explained, refuses_explained, Seen, outline_in, kept_of, fault_in, found_in, HasReason}
 use Rattle.sas_task_reader.proofs.Outlines.{outline_is}
 use Rattle.sas_task_reader.proofs.TaskStanding.{machine_follows, reads_so_far}
-use Rattle.sas_task_reader.specs.TaskRefusal.{fault_in, found_in, HasReason}
 use Rattle.sas_task_reader.proofs.outline.read_outline.Goals as goal
 
 -- what the machine stores

@@ -1,6 +1,5 @@
-use Rattle.sas_task_reader.proofs.Imports.{◌≡◌, List, ℕ, ap, ◌∙◌, text, Kind, SoFar, TaskMachine, HasEnded, RejectsLine, LedBy, MachineStopped, process_node, task_format, TaskLineFits, task_start, task_grammar, reads_explained, refuses_explained}
+use Rattle.sas_task_reader.proofs.Imports.{◌≡◌, List, ℕ, ap, ◌∙◌, text, Kind, SoFar, TaskMachine, HasEnded, RejectsLine, LedBy, MachineStopped, process_node, task_format, TaskLineFits, task_start, task_grammar, reads_explained, refuses_explained, fault_in, found_in, HasReason}
 use Rattle.sas_task_reader.proofs.TaskStanding.{machine_follows, reads_so_far}
-use Rattle.sas_task_reader.specs.TaskRefusal.{fault_in, found_in, HasReason}
 use Rattle.sas_task_reader.proofs.task.read_task_text.Goals as goal
 
 -- what the machine stores

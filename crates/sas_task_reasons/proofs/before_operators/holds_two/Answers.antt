@@ -1,6 +1,5 @@
 -- Where no fact holds, or none on another variable than the first, no two different ones hold.
-use Rattle.sas_task_reasons.proofs.Imports.{◌≡◌, ◌<◌, ◌==◌, None, List, length, sym, subst, ◌∙◌, All, ◌&&◌, find, not, Fact, fact_within, group_facts}
-use Rattle.sas_task_reasons.specs.GroupReasons.{holds}
+use Rattle.sas_task_reasons.proofs.Imports.{◌≡◌, ◌<◌, ◌==◌, None, List, length, sym, subst, ◌∙◌, All, ◌&&◌, find, not, Fact, fact_within, group_facts, holds}
 use Rattle.sas_task_reasons.proofs.GroupReasons.{exclusive_without, exclusive_beside}
 use Rattle.sas_task_reasons.proofs.before_operators.holds_two.Goals as goal
 

@@ -1,6 +1,5 @@
 -- The reasons consider one more operator; in the end all of them.
-use Rattle.sas_task_reasons.proofs.Imports.{◌≡◌, ◌<◌, ◌+◌, Bool, List, length, sym, ◌∙◌, subst, arith, both_ways, Parts, family_of}
-use Rattle.sas_task_reasons.specs.Reporting.{AreReasonsSoFar}
+use Rattle.sas_task_reasons.proofs.Imports.{◌≡◌, ◌<◌, ◌+◌, Bool, List, length, sym, ◌∙◌, subst, arith, both_ways, Parts, family_of, AreReasonsSoFar}
 use Rattle.sas_task_reasons.proofs.ReasonsSoFar.{skip_operator, reasons_in_the_end}
 use Rattle.sas_task_reasons.proofs.broken.report_failures.Goals as goal
 use Rattle.sas_task_reasons.proofs.broken.report_failures.Goals.{then-breaks, else-breaks}

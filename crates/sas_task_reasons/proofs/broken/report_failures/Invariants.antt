@@ -1,6 +1,5 @@
 -- The reasons consider the operators so far.
-use Rattle.sas_task_reasons.proofs.Imports.{◌≡◌, IsClean}
-use Rattle.sas_task_reasons.specs.Reporting.{AreReasonsSoFar}
+use Rattle.sas_task_reasons.proofs.Imports.{◌≡◌, IsClean, AreReasonsSoFar}
 use Rattle.sas_task_reasons.proofs.broken.report_failures.Given as goal
 
 abbrev pub invariant-loop-operator : goal.invariant-loop-operator

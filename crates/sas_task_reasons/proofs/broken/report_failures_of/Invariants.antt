@@ -1,6 +1,5 @@
 -- The reasons consider the effects so far.
-use Rattle.sas_task_reasons.proofs.Imports.{◌≡◌, IsClean}
-use Rattle.sas_task_reasons.specs.Reporting.{AreReasonsSoFar}
+use Rattle.sas_task_reasons.proofs.Imports.{◌≡◌, IsClean, AreReasonsSoFar}
 use Rattle.sas_task_reasons.proofs.broken.report_failures_of.Given as goal
 
 abbrev pub invariant-loop-effect : goal.invariant-loop-effect

@@ -1,9 +1,5 @@
 -- The first failure is the reason, or the effect preserves the group.
-use Rattle.sas_task_reasons.proofs.Imports.{ℕ, ◌+◌, List, Option, None, Some, get_or, sym, ap, ◌∙◌, subst, arith, get_or-set_same, EffectPlace, verdict_at}
-use Rattle.sas_task_reasons.specs.declared.reason.Reason.{Reason}
-use Rattle.sas_task_reasons.specs.declared.reason.Reason.TheVariants.{Breaks}
-use Rattle.sas_task_reasons.specs.GroupReasons.{IsReason, reason_at}
-use Rattle.sas_task_reasons.specs.Reporting.{IsReasonSoFar, AreReasonsSoFar, LacksReason}
+use Rattle.sas_task_reasons.proofs.Imports.{ℕ, ◌+◌, List, Option, None, Some, get_or, sym, ap, ◌∙◌, subst, arith, get_or-set_same, EffectPlace, verdict_at, Reason, Breaks, IsReason, reason_at, IsReasonSoFar, AreReasonsSoFar, LacksReason}
 use Rattle.sas_task_reasons.proofs.ReasonsSoFar.{pending_more, one_reported, lacking_pending, failure_is_reason}
 use Rattle.sas_task_reasons.proofs.broken.report_group.Goals as goal
 use Rattle.sas_task_reasons.proofs.broken.report_group.Given.{Over}

@@ -1,7 +1,5 @@
 -- The reason of one more group considers the effect.
-use Rattle.sas_task_reasons.proofs.Imports.{ℕ, ◌+◌, Bool, List, get_or, sym, ◌∙◌, subst, below_more, inl, inr, arith, cases_eq, All-from_get_or, verdict_at, IsNotedAt}
-use Rattle.sas_task_reasons.specs.GroupReasons.{reason_at}
-use Rattle.sas_task_reasons.specs.Reporting.{IsReasonSoFar, AreReasonsSoFar}
+use Rattle.sas_task_reasons.proofs.Imports.{ℕ, ◌+◌, Bool, List, get_or, sym, ◌∙◌, subst, below_more, inl, inr, arith, cases_eq, All-from_get_or, verdict_at, IsNotedAt, reason_at, IsReasonSoFar, AreReasonsSoFar}
 use Rattle.sas_task_reasons.proofs.broken.report_groups.Goals as goal
 
 pub loop-group-preserved : goal.loop-group-preserved

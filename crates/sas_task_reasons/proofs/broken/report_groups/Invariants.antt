@@ -1,7 +1,5 @@
 -- The reasons of the groups so far consider the effect; the family is unchanged.
-use Rattle.sas_task_reasons.proofs.Imports.{◌≡◌, ◌+◌, ℕ, ◌<◌, get_or, verdict_at, IsNotedAt}
-use Rattle.sas_task_reasons.specs.GroupReasons.{reason_at}
-use Rattle.sas_task_reasons.specs.Reporting.{IsReasonSoFar, AreReasonsSoFar}
+use Rattle.sas_task_reasons.proofs.Imports.{◌≡◌, ◌+◌, ℕ, ◌<◌, get_or, verdict_at, IsNotedAt, reason_at, IsReasonSoFar, AreReasonsSoFar}
 use Rattle.sas_task_reasons.proofs.broken.report_groups.Given as goal
 
 abbrev pub invariant-loop-group : goal.invariant-loop-group

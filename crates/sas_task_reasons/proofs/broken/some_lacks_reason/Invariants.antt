@@ -1,6 +1,5 @@
 -- None of the groups so far lacks its reason.
-use Rattle.sas_task_reasons.proofs.Imports.{ℕ, ◌<◌, get_or}
-use Rattle.sas_task_reasons.specs.Reporting.{LacksReason}
+use Rattle.sas_task_reasons.proofs.Imports.{ℕ, ◌<◌, get_or, LacksReason}
 use Rattle.sas_task_reasons.proofs.broken.some_lacks_reason.Given as goal
 
 abbrev pub invariant-loop-group : goal.invariant-loop-group

@@ -1,5 +1,4 @@
-use Rattle.sas_task_reasons.proofs.Imports.{take, text, Pushes}
-use Rattle.sas_task_reasons.specs.WhyGroups.{why_lines}
+use Rattle.sas_task_reasons.proofs.Imports.{take, text, Pushes, why_lines}
 use Rattle.sas_task_reasons.proofs.groups.push_groups.Given as goal
 
 -- the lines of the groups so far were pushed

@@ -1,6 +1,4 @@
-use Rattle.sas_task_reasons.proofs.Imports.{ℕ, rules, List, sym, subst, ap, ◌∙◌, Option, IsSomeAnd, Parts, text, AreJointVerdicts, Status, Output, ends_counting_as}
-use Rattle.sas_task_reasons.specs.declared.reason.Reason.{Reason}
-use Rattle.sas_task_reasons.specs.WhyGroups.{WhyGroupsAnswer, why_lines}
+use Rattle.sas_task_reasons.proofs.Imports.{ℕ, rules, List, sym, subst, ap, ◌∙◌, Option, IsSomeAnd, Parts, text, AreJointVerdicts, Status, Output, ends_counting_as, Reason, WhyGroupsAnswer, why_lines}
 use Rattle.sas_task_reasons.proofs.groups.write_groups.Goals as goal
 
 pub returns-clause-ends : goal.returns-clause-ends

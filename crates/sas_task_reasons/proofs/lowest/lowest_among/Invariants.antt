@@ -1,6 +1,5 @@
 -- The lowest of the effects so far that may set another fact of the group.
-use Rattle.sas_task_reasons.proofs.Imports.{IsNotedAt, Contains, take}
-use Rattle.sas_task_reasons.specs.Lowest.{IsLowestPartner}
+use Rattle.sas_task_reasons.proofs.Imports.{IsNotedAt, Contains, take, IsLowestPartner}
 use Rattle.sas_task_reasons.proofs.lowest.lowest_among.Given as goal
 
 abbrev pub invariant-loop-other : goal.invariant-loop-other

@@ -1,7 +1,6 @@
 -- The lowest effect, of those on variables of the facts so far, that may set another fact of the
 -- group.
-use Rattle.sas_task_reasons.proofs.Imports.{IsNotedAt, take}
-use Rattle.sas_task_reasons.specs.Lowest.{IsLowestPartner}
+use Rattle.sas_task_reasons.proofs.Imports.{IsNotedAt, take, IsLowestPartner}
 use Rattle.sas_task_reasons.proofs.LowestEffects.{SetsOneOf}
 use Rattle.sas_task_reasons.proofs.lowest.lowest_by_facts.Given as goal
 

@@ -1,7 +1,5 @@
 -- If no operator breaks a group, the first reasons are complete.
-use Rattle.sas_task_reasons.proofs.Imports.{◌<◌, [], List, sym, subst, Option, Exclusive}
-use Rattle.sas_task_reasons.specs.declared.reason.Reason.{Reason}
-use Rattle.sas_task_reasons.specs.GroupReasons.{AreReasons}
+use Rattle.sas_task_reasons.proofs.Imports.{◌<◌, [], List, sym, subst, Option, Exclusive, Reason, AreReasons}
 use Rattle.sas_task_reasons.proofs.ReasonsSoFar.{none_broken}
 use Rattle.sas_task_reasons.proofs.reasons.group_reasons.Goals as goal
 

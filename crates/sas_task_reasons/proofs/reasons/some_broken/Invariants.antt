@@ -1,6 +1,5 @@
 -- None of the verdicts so far is `Broken`.
-use Rattle.sas_task_reasons.proofs.Imports.{ℕ, ◌<◌, get_or, Verdict}
-use Rattle.sas_task_reasons.specs.Reporting.{IsBroken}
+use Rattle.sas_task_reasons.proofs.Imports.{ℕ, ◌<◌, get_or, Verdict, IsBroken}
 use Rattle.sas_task_reasons.proofs.reasons.some_broken.Given as goal
 
 abbrev pub invariant-loop-verdict : goal.invariant-loop-verdict

@@ -1,5 +1,4 @@
-use Rattle.sas_task_reasons.proofs.Imports.{◌≡◌, List, [], sym, subst, ◌∙◌, Option, Some, IsSomeAnd, Output, output_of, Line, reasons_text, ends_counting_as}
-use Rattle.sas_task_reasons.specs.WhyLayers.{with_reasons, why_refusal}
+use Rattle.sas_task_reasons.proofs.Imports.{◌≡◌, List, [], sym, subst, ◌∙◌, Option, Some, IsSomeAnd, Output, output_of, Line, reasons_text, ends_counting_as, with_reasons, why_refusal}
 use Rattle.sas_task_reasons.proofs.TaskAnswers.{refused_why}
 use Rattle.sas_task_reasons.proofs.unlayered.write_unlayered.Goals as goal
 

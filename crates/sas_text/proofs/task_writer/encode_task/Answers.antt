@@ -1,5 +1,4 @@
-use Rattle.sas_text.proofs.Imports.{List, ℕ, ap, ◌++◌, ◌∙◌, Parts, task_layout, version_lines, metric_lines, counted, variable_lines, group_lines, state_lines, goal_lines, operator_lines, rule_lines}
-use Rattle.sas_text.specs.TaskText.{text_of}
+use Rattle.sas_text.proofs.Imports.{List, ℕ, ap, ◌++◌, ◌∙◌, Parts, task_layout, version_lines, metric_lines, counted, variable_lines, group_lines, state_lines, goal_lines, operator_lines, rule_lines, text_of}
 use Rattle.sas_text.proofs.TaskTexts.{lines_after}
 use Rattle.sas_text.proofs.task_writer.encode_task.Goals as goal
 

@@ -1,5 +1,4 @@
-use Rattle.sas_text.proofs.Imports.{◌≡◌, ◌++◌, take, flat_map, fact_words}
-use Rattle.sas_text.specs.TaskText.{spaced}
+use Rattle.sas_text.proofs.Imports.{◌≡◌, ◌++◌, take, flat_map, fact_words, spaced}
 use Rattle.sas_text.proofs.task_writer.push_conditions.Given as goal
 
 -- the words of the facts so far

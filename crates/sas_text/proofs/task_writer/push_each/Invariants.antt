@@ -1,5 +1,4 @@
-use Rattle.sas_text.proofs.Imports.{◌≡◌, ◌++◌, take, flat_map}
-use Rattle.sas_text.specs.TaskText.{text_of}
+use Rattle.sas_text.proofs.Imports.{◌≡◌, ◌++◌, take, flat_map, text_of}
 use Rattle.sas_text.proofs.task_writer.push_each.Given as goal
 
 -- the lines of the items so far

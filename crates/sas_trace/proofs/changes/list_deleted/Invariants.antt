@@ -1,6 +1,5 @@
 -- The facts so far are noted.
-use Rattle.sas_trace.proofs.Imports.{ℕ, ◌<◌, length, get_or, Fact}
-use Rattle.sas_trace.specs.Changes.{IsListedIfChanged, Grows}
+use Rattle.sas_trace.proofs.Imports.{ℕ, ◌<◌, length, get_or, Fact, IsListedIfChanged, Grows}
 use Rattle.sas_trace.proofs.changes.list_deleted.Given as goal
 
 abbrev pub invariant-loop-fact : goal.invariant-loop-fact

@@ -1,6 +1,5 @@
 -- The variables so far are noted.
-use Rattle.sas_trace.proofs.Imports.{ℕ, ◌<◌, length, get_or}
-use Rattle.sas_trace.specs.Changes.{IsListedIfChanged, Grows}
+use Rattle.sas_trace.proofs.Imports.{ℕ, ◌<◌, length, get_or, IsListedIfChanged, Grows}
 use Rattle.sas_trace.proofs.changes.list_touched.Given as goal
 
 abbrev pub invariant-loop-var : goal.invariant-loop-var

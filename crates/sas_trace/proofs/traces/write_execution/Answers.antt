@@ -1,7 +1,5 @@
 -- What is pushed in the second pass is the trace.
-use Rattle.sas_trace.proofs.Imports.{rules, sym, subst, ◌∙◌, Parts, ends_counting_as}
-use Rattle.sas_trace.specs.Traced.{IsTraced}
-use Rattle.sas_trace.specs.Tracing.{HasVerdict}
+use Rattle.sas_trace.proofs.Imports.{rules, sym, subst, ◌∙◌, Parts, ends_counting_as, IsTraced, HasVerdict}
 use Rattle.sas_trace.proofs.Standing.{stands_first, written, is_traced}
 use Rattle.sas_trace.proofs.traces.write_execution.Goals as goal
 

@@ -1,6 +1,5 @@
 -- The rules of the derivation, and their lines.
-use Rattle.sas_why.proofs.Imports.{◌≡◌, ℕ, List, ◌++◌, map, sym, ◌∙◌, subst, on_ok_weaker, RuleDerives}
-use Rattle.sas_why.specs.Origins.{ReportsDerivation}
+use Rattle.sas_why.proofs.Imports.{◌≡◌, ℕ, List, ◌++◌, map, sym, ◌∙◌, subst, on_ok_weaker, RuleDerives, ReportsDerivation}
 use Rattle.sas_why.proofs.Composing.{some_givers}
 use Rattle.sas_why.proofs.causes.report_givers.Goals as goal
 

@@ -1,6 +1,5 @@
 -- No rule derives the value, or all of the variable's rules were reported before, or they are reported now.
-use Rattle.sas_why.proofs.Imports.{◌≡◌, ◌<◌, ℕ, Bool, List, ◌++◌, length, get_or, false, sym, ◌∙◌, ap, subst, flat_map, All, on_ok_weaker, Contains-get_or, of_variable, places, can_give, failing_lines, keeping_lines, last_state}
-use Rattle.sas_why.specs.Report.{Adds}
+use Rattle.sas_why.proofs.Imports.{◌≡◌, ◌<◌, ℕ, Bool, List, ◌++◌, length, get_or, false, sym, ◌∙◌, ap, subst, flat_map, All, on_ok_weaker, Contains-get_or, of_variable, places, can_give, failing_lines, keeping_lines, last_state, Adds}
 use Rattle.sas_why.proofs.Composing.{no_rule, reported_before, reported_now, rules_of_report}
 use Rattle.sas_why.proofs.causes.report_keepers.Goals as goal
 

@@ -1,5 +1,5 @@
 -- If no effect is contradicted, all agree.
-use Rattle.sas_why.proofs.Imports.{common_steps, rules, ◌≡◌, ◌∙◌, ℕ, zero, suc, Option, None, List, length, get_or, replicate, refl, ap, arith, length-replicate, operator_at}
+use Rattle.sas_why.proofs.Imports.{common_steps, rules, ◌≡◌, ◌∙◌, ℕ, Option, None, List, length, get_or, replicate, ap, arith, length-replicate, operator_at}
 use Rattle.sas_why.proofs.Firsts.{no_firsts, agree, is_conflict}
 use Rattle.sas_why.proofs.conflicts.conflict.Goals as goal
 

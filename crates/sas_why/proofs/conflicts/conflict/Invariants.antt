@@ -1,6 +1,5 @@
 -- The effects so far agree.
-use Rattle.sas_why.proofs.Imports.{operator_at}
-use Rattle.sas_why.specs.Conflicts.{AreFirstEffects}
+use Rattle.sas_why.proofs.Imports.{operator_at, AreFirstEffects}
 use Rattle.sas_why.proofs.conflicts.conflict.Given as goal
 
 abbrev pub invariant-loop-later : goal.invariant-loop-later

@@ -1,6 +1,5 @@
 -- What each fault gives is known of the run.
-use Rattle.sas_why.proofs.Imports.{◌≡◌, ◌<◌, ℕ, ◌∷◌, List, length, Some, refl, sym, ◌∙◌, ap, subst, All, IfOk-weaker, operator_at, Agree, PlanFault, Conflict, Step, LineThen, similar_name_lines, AreOperatorLines, AreConflictLines, AreFaultLines, cost_lines, operators_exist}
-use Rattle.sas_why.specs.Report.{ReportsOnce}
+use Rattle.sas_why.proofs.Imports.{◌≡◌, ℕ, ◌∷◌, List, Some, refl, ◌∙◌, ap, subst, IfOk-weaker, operator_at, Agree, PlanFault, Conflict, Step, LineThen, similar_name_lines, AreOperatorLines, AreConflictLines, cost_lines, operators_exist, ReportsOnce}
 use Rattle.sas_why.proofs.Behind.{ends, behind, conflict_clashes, last_is, operators_are, operators_as_many}
 use Rattle.sas_why.proofs.faults.lines_of_fault.Goals as goal
 

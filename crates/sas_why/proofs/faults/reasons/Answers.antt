@@ -1,6 +1,5 @@
 -- The lines of the fault, and that of another operator if a step may mean one.
-use Rattle.sas_why.proofs.Imports.{List, ◌++◌, ◌∷◌, [], sym, ◌∙◌, ap, subst, IsWhy, Line, CouldBe}
-use Rattle.sas_why.specs.declared.retraced.Other.{Other}
+use Rattle.sas_why.proofs.Imports.{List, ◌++◌, ◌∷◌, [], sym, ◌∙◌, ap, subst, IsWhy, Line, CouldBe, Other}
 use Rattle.sas_why.proofs.Behind.{is_why, same_other, some_not_none}
 use Rattle.sas_why.proofs.faults.reasons.Goals as goal
 use Rattle.sas_why.proofs.faults.reasons.Goals.{in-Some+in_ok-push, in_default}

@@ -1,7 +1,5 @@
 -- The step, and then each operator of its name.
-use Rattle.sas_why.proofs.Imports.{◌≡◌, ◌<◌, ℕ, ◌+◌, List, [], ◌∷◌, ◌++◌, length, bytes_eq, refl, sym, ◌∙◌, ap, subst, arith, operator_at, places, places_to, places_all, LinesOfEach, AreFailedPreconditionLines, AreOperatorLines, Step}
-use Rattle.sas_why.specs.declared.report.Report.{Report}
-use Rattle.sas_why.specs.Report.{Adds}
+use Rattle.sas_why.proofs.Imports.{◌≡◌, ◌<◌, ℕ, List, [], ◌∷◌, length, bytes_eq, refl, sym, ◌∙◌, ap, arith, operator_at, places_to, places_all, LinesOfEach, AreFailedPreconditionLines, AreOperatorLines, Step}
 use Rattle.sas_why.proofs.Composing.{more_is_report, plain_is_report, line_and_more, one_more}
 use Rattle.sas_why.proofs.Faulty.{place_more, place_not}
 use Rattle.sas_why.proofs.faults.report_blocked.Goals as goal

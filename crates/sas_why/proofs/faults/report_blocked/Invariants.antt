@@ -1,6 +1,5 @@
 -- Why the operators so far aren't applicable is reported.
-use Rattle.sas_why.proofs.Imports.{bytes_eq, Operator, places_to, LinesOfEach, AreFailedPreconditionLines}
-use Rattle.sas_why.specs.Report.{Adds}
+use Rattle.sas_why.proofs.Imports.{bytes_eq, Operator, places_to, LinesOfEach, AreFailedPreconditionLines, Adds}
 use Rattle.sas_why.proofs.faults.report_blocked.Given as goal
 
 abbrev pub invariant-loop-operator : goal.invariant-loop-operator

@@ -1,6 +1,5 @@
 -- The causes of the preconditions so far are reported, and the variables of those that are left have values.
-use Rattle.sas_why.proofs.Imports.{◌≡◌, ◌<◌, length, ◌++◌, filter, All, Fact, operator_at, preconditions, LinesOfEach, fails, IsCause}
-use Rattle.sas_why.specs.Report.{Adds}
+use Rattle.sas_why.proofs.Imports.{◌≡◌, ◌<◌, length, ◌++◌, filter, All, Fact, operator_at, preconditions, LinesOfEach, fails, IsCause, Adds}
 use Rattle.sas_why.proofs.faults.report_inapplicable.Given as goal
 
 abbrev pub invariant-loop-fact : goal.invariant-loop-fact

@@ -1,7 +1,5 @@
 -- Each goal fact in turn.
-use Rattle.sas_why.proofs.Imports.{◌≡◌, ◌<◌, ◌≤◌, ◌+◌, List, [], ◌∷◌, ◌++◌, length, get_or, refl, sym, ◌∙◌, subst, slice_index, All, Fact, places, places_to, places_all, LinesOfEach, fails, IsCause, goal_fact_at, AreGoalFactLines, GoalFact}
-use Rattle.sas_why.specs.declared.report.Report.{Report}
-use Rattle.sas_why.specs.Report.{Adds}
+use Rattle.sas_why.proofs.Imports.{◌≡◌, ◌<◌, ◌≤◌, List, [], ◌∷◌, length, get_or, refl, sym, ◌∙◌, subst, slice_index, All, Fact, places, places_to, places_all, LinesOfEach, fails, IsCause, goal_fact_at, AreGoalFactLines, GoalFact}
 use Rattle.sas_why.proofs.Within.{goal_within}
 use Rattle.sas_why.proofs.Composing.{more_is_report, plain_is_report, line_and_more, one_more}
 use Rattle.sas_why.proofs.Faulty.{at_last, place_fails, place_holds}

@@ -1,6 +1,5 @@
 -- The causes of the goal facts so far are reported.
-use Rattle.sas_why.proofs.Imports.{LinesOfEach, fails, AreGoalFactLines, places_to}
-use Rattle.sas_why.specs.Report.{Adds}
+use Rattle.sas_why.proofs.Imports.{LinesOfEach, fails, AreGoalFactLines, places_to, Adds}
 use Rattle.sas_why.proofs.faults.report_missed.Given as goal
 
 abbrev pub invariant-loop-index : goal.invariant-loop-index

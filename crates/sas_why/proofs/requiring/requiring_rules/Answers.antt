@@ -1,6 +1,5 @@
 -- Each turn adds the entries of a rule.
-use Rattle.sas_why.proofs.Imports.{◌≡◌, sym, ap, subst, ◌∙◌, arith, IfOk-weaker, by_key}
-use Rattle.sas_why.specs.Requiring.{IsRequiringIndex}
+use Rattle.sas_why.proofs.Imports.{◌≡◌, sym, ap, subst, ◌∙◌, arith, IfOk-weaker, by_key, IsRequiringIndex}
 use Rattle.sas_why.proofs.RequiringEntries.{requiring_more, requiring_index}
 use Rattle.sas_why.proofs.requiring.requiring_rules.Goals as goal
 

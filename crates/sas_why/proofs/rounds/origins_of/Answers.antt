@@ -1,6 +1,5 @@
 -- Each round leads to the next one, and none is left when no rule is.
-use Rattle.sas_why.proofs.Imports.{◌≡◌, ℕ, ◌<◌, ◌==◌, Bool, true, false, Vec, Global, vec_len, [], length, refl, sym, ap, subst, ◌∙◌, inl, inr, arith, cases_lt, false≢true, eqb_tells}
-use Rattle.sas_why.specs.Rounds.{InRound}
+use Rattle.sas_why.proofs.Imports.{◌≡◌, ℕ, ◌<◌, ◌==◌, Bool, true, false, Vec, Global, vec_len, [], length, refl, sym, ap, subst, ◌∙◌, inl, inr, arith, cases_lt, false≢true, eqb_tells, InRound}
 use Rattle.sas_why.proofs.RoundEnds.{AreDue, first_round, first_due, first_unreached, found_all, begins_next, due_then, few_then, more_then, nil_of}
 use Rattle.sas_why.proofs.rounds.origins_of.Goals as goal
 

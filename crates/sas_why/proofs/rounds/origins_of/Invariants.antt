@@ -1,6 +1,5 @@
 -- The rounds so far. Each that isn't the last one reaches a variable.
-use Rattle.sas_why.proofs.Imports.{◌≡◌, ◌+◌, ◌≤◌, ◌<◌, min, [], length}
-use Rattle.sas_why.specs.Rounds.{InRound, unreached}
+use Rattle.sas_why.proofs.Imports.{◌≡◌, ◌+◌, ◌≤◌, ◌<◌, min, [], length, InRound, unreached}
 use Rattle.sas_why.proofs.RoundEnds.{AreDue}
 use Rattle.sas_why.proofs.rounds.origins_of.Given as goal
 

@@ -1,6 +1,5 @@
 -- What the step may have changed is looked at, and noted.
-use Rattle.sas_why.proofs.Imports.{◌∙◌, length, sym, ap, subst, Parts, IsState}
-use Rattle.sas_why.specs.Noting.{HavePlaces}
+use Rattle.sas_why.proofs.Imports.{◌∙◌, length, sym, ap, subst, Parts, IsState, HavePlaces}
 use Rattle.sas_why.proofs.Looking.{covers}
 use Rattle.sas_why.proofs.second_pass.note_step.Goals as goal
 

@@ -1,6 +1,5 @@
 -- The steps so far were made, and noted.
-use Rattle.sas_why.proofs.Imports.{◌≡◌, Run}
-use Rattle.sas_why.specs.Retracing.{AreNotes}
+use Rattle.sas_why.proofs.Imports.{◌≡◌, Run, AreNotes}
 use Rattle.sas_why.proofs.second_pass.note_steps.Given as goal
 
 abbrev pub invariant-loop-before : goal.invariant-loop-before

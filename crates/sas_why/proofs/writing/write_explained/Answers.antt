@@ -1,6 +1,4 @@
-use Rattle.sas_why.proofs.Imports.{List, ℕ, ◌++◌, subst, ap, sym, ◌∙◌, Parts, reasons_text, ends_counting_as}
-use Rattle.sas_why.specs.Explained.{IsExplained}
-use Rattle.sas_why.specs.Verdict.{WhyVerdict}
+use Rattle.sas_why.proofs.Imports.{List, ℕ, ◌++◌, subst, ap, sym, ◌∙◌, Parts, reasons_text, ends_counting_as, IsExplained, WhyVerdict}
 use Rattle.sas_why.proofs.writing.write_explained.Goals as goal
 
 pub returns-clause-ends : goal.returns-clause-ends

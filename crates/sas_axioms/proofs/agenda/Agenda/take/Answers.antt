@@ -1,7 +1,5 @@
 -- The first noted rule is on this layer.
-use Rattle.sas_axioms.proofs.Imports.{rules, ◌≡◌, ◌≤◌, ◌∷◌, sym, ap, subst, inl, inr, arith, Contains, IsPermutation, heap_items, Reverse, All-contains, Contains-get_or, length_permutation}
-use Rattle.sas_axioms.specs.declared.layer_rules.LayerRule.{LayerRule}
-use Rattle.sas_axioms.specs.Agenda.{entry_for, Lowest}
+use Rattle.sas_axioms.proofs.Imports.{rules, ◌≡◌, ◌≤◌, ◌∷◌, sym, ap, subst, inl, inr, arith, Contains, IsPermutation, heap_items, Reverse, All-contains, Contains-get_or, length_permutation, LayerRule, entry_for, Lowest}
 use Rattle.sas_axioms.proofs.AgendaOrder.{lowest_first, taken_cases, rest_still, head_there}
 use Rattle.sas_axioms.proofs.agenda.Agenda.take.Goals as goal
 

@@ -1,6 +1,5 @@
 -- The variables so far have the values of the state.
-use Rattle.sas_axioms.proofs.Imports.{◌≡◌, ℕ, ◌<◌, ◌≤◌, length, get_or, Parts}
-use Rattle.sas_axioms.specs.Conditions.{IsCounted}
+use Rattle.sas_axioms.proofs.Imports.{◌≡◌, ℕ, ◌<◌, ◌≤◌, length, get_or, Parts, IsCounted}
 use Rattle.sas_axioms.proofs.counting.Counted.follow_part.Given as goal
 
 abbrev pub invariant-loop-var : goal.invariant-loop-var

@@ -1,6 +1,5 @@
 -- The counters are copied.
-use Rattle.sas_axioms.proofs.Imports.{◌≡◌, List, ℕ, sym, subst, ◌∙◌}
-use Rattle.sas_axioms.specs.Conditions.{AreCounted}
+use Rattle.sas_axioms.proofs.Imports.{◌≡◌, List, ℕ, sym, subst, ◌∙◌, AreCounted}
 use Rattle.sas_axioms.proofs.firing.Firing.begin.Goals as goal
 
 pub returns-clause-counts : goal.returns-clause-counts

@@ -1,5 +1,4 @@
-use Rattle.sas_axioms.proofs.Imports.{◌≤◌, ℕ, arith, rules}
-use Rattle.sas_axioms.specs.ByLayers.{IsIdle}
+use Rattle.sas_axioms.proofs.Imports.{◌≤◌, ℕ, arith, rules, IsIdle}
 use Rattle.sas_axioms.proofs.Layering.{idle_where_empty}
 use Rattle.sas_axioms.proofs.rounds.RoundsByLayers.settle_next.Goals as goal
 

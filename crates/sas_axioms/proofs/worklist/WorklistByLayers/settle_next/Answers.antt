@@ -1,8 +1,5 @@
 -- The next layer on which a rule can fire.
-use Rattle.sas_axioms.proofs.Imports.{rules, ◌≡◌, ◌+◌, ◌≤◌, ◌<◌, length, get_or, drop, sym, subst, ap, ◌∙◌, arith, basic_off}
-use Rattle.sas_axioms.specs.declared.layer_rules.LayerSpan.{LayerSpan}
-use Rattle.sas_axioms.specs.ByLayers.{SettlesLayer}
-use Rattle.sas_axioms.specs.LayerRules.{IsLayerSpan, AreSpans}
+use Rattle.sas_axioms.proofs.Imports.{rules, ◌≡◌, ◌+◌, ◌≤◌, ◌<◌, length, get_or, drop, subst, arith, LayerSpan, SettlesLayer, IsLayerSpan, AreSpans}
 use Rattle.sas_axioms.proofs.AllCounted.{given_to_next, followed_in_the_end}
 use Rattle.sas_axioms.proofs.Spans.{next_span, no_span_left}
 use Rattle.sas_axioms.proofs.Standing.{idle_in_the_end, from_on, idle_between, rules_of_span, stands_behind}

@@ -1,7 +1,5 @@
 -- A state that was updated is settled.
-use Rattle.sas_axioms.proofs.Imports.{rules, ℕ, covers_gone, covers_any}
-use Rattle.sas_axioms.specs.Following.{IsFollowed}
-use Rattle.sas_axioms.specs.LayerRules.{IsRuleOn}
+use Rattle.sas_axioms.proofs.Imports.{rules, ℕ, covers_gone, covers_any, IsFollowed, IsRuleOn}
 use Rattle.sas_axioms.proofs.GoneSteps.{idle_followed, idle_settles}
 use Rattle.sas_axioms.proofs.worklist.WorklistSettle.settle_on.Goals as goal
 use Rattle.sas_axioms.proofs.worklist.WorklistSettle.settle_on.Given.{Over}

@@ -1,5 +1,5 @@
 -- `into_box` makes the box again.
-use Rattle.sas_c.proofs.Imports.{◌≡◌, List, [], ◌∷◌, ◌++◌, refl, sym, ap, subst, Goes-blank, after, fm, Good, box_out, box_in, proved_at, leaves, met}
+use Rattle.sas_c.proofs.Imports.{◌≡◌, List, [], ◌∷◌, ◌++◌, refl, sym, ap, subst, Goes-blank, after, fm, Good, box_out, box_in, proved_at, leaves, met, ended, clauses}
 use mir.Syntax.{a_type, dcons, dnil}
 use mir.Val.{Val, vptr}
 use mir.MapTy.{inst_fn}
@@ -27,7 +27,6 @@ use denote.Triple.Walked.{Stays, stay_dropped, walk_of}
 use Rattle.std_alloc.proofs.BoxSteps.Form as box
 use Rattle.sas_c.proofs.PointerValues.{both, BoxPointer, pointer_good, pointer_out}
 use Rattle.std_alloc.specs.contracts.boxed.Box.from_raw as callee
-use Rattle.sas_c.specs.contracts.box_pointer.BoxPointer.into_box.{ended, clauses}
 use Rattle.sas_c.specs.contracts.box_pointer.BoxPointer.into_box.Key.{name as #self}
 use Rattle.sas_c.proofs.box_pointer.BoxPointer.into_box.Statement.{statement}
 use Rattle.sas_c.proofs.box_pointer.BoxPointer.into_box.Code as code

@@ -1,5 +1,5 @@
 -- `into_box_pointer`.
-use Rattle.sas_c.proofs.Imports.{◌≡◌, List, [], ◌∷◌, ◌++◌, refl, sym, ap, subst, ◌∙◌, true≢false, Goes-blank, one, proved_at, leaves, Option, Some, IsSome, ghosts, box_owns}
+use Rattle.sas_c.proofs.Imports.{◌≡◌, List, [], ◌∷◌, ◌++◌, refl, sym, ap, subst, ◌∙◌, true≢false, Goes-blank, one, proved_at, leaves, Option, Some, IsSome, ghosts, box_owns, owns_task}
 use mir.Syntax.{Fn}
 use mir.Val.{Val, vptr}
 use base.Logic.{SProp, emp, never, fst∗}
@@ -23,7 +23,6 @@ use mir.Raw.{raw as bare}
 use Rattle.std.specs.contracts.alloc.Global as heap
 use Rattle.std.proofs.alloc.Global.TheLaws as heap_laws
 use Rattle.sas_c.specs.contracts.prepared.Prepared as prepared
-use Rattle.sas_c.specs.TaskPointers.{owns_task}
 use Rattle.sas_c.proofs.PointerValues.{both, BoxPointer, pointer_good, pointer_in, one_val, one_reported, slot_at, by_option}
 use Rattle.sas_c.specs.contracts.task_pointer.TaskPointer.into_box_pointer.{ended, clauses}
 use Rattle.sas_c.specs.contracts.task_pointer.TaskPointer.into_box_pointer.Key.{name as #self}

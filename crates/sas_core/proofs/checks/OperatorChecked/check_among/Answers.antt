@@ -1,7 +1,5 @@
 -- The first part that fails determines the fault.
-use Rattle.sas_core.proofs.Imports.{rules, ◌≡◌, ◌∙◌, Some, result_err}
-use Rattle.sas_core.specs.Checks.{operator_checks}
-use Rattle.sas_core.specs.FirstFault.{first_fault}
+use Rattle.sas_core.proofs.Imports.{rules, ◌≡◌, ◌∙◌, Some, result_err, operator_checks, first_fault}
 use Rattle.sas_core.proofs.FirstFaults.{fails_before, decides_after}
 use Rattle.sas_core.proofs.checks.OperatorChecked.check_among.Goals as goal
 

@@ -1,7 +1,7 @@
 -- All checks pass if and only if the parts are well ranged.
 use Rattle.std.proofs.Common.{arith}
 use Rattle.std.proofs.lemmas.Grind.{common_steps}
-use Rattle.sas_core.proofs.Imports.{◌≡◌, Some, None, refl, sym, ◌∙◌, false≢true}
+use Rattle.sas_core.proofs.Imports.{refl, sym, false≢true}
 use Rattle.sas_core.proofs.ChecksAreRules.{checks_are_the_rules}
 use Rattle.sas_core.proofs.task.Task.new.Goals as goal
 

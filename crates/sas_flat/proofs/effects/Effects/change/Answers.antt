@@ -1,5 +1,4 @@
-use Rattle.sas_flat.proofs.Imports.{◌<◌, length, sym, ap, ◌∙◌, arith, effect_change}
-use Rattle.sas_flat.specs.Effects.{change_in_list}
+use Rattle.sas_flat.proofs.Imports.{◌<◌, length, sym, ap, ◌∙◌, arith, effect_change, change_in_list}
 use Rattle.sas_flat.proofs.EffectRows.{effect_count, effect_at_place}
 use Rattle.sas_flat.proofs.effects.Effects.change.Goals as goal
 

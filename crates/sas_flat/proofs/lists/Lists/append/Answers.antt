@@ -1,5 +1,4 @@
-use Rattle.sas_flat.proofs.Imports.{◌++◌, ap, ◌∙◌}
-use Rattle.sas_flat.specs.Lists.{lists_of}
+use Rattle.sas_flat.proofs.Imports.{◌++◌, ap, ◌∙◌, lists_of}
 use Rattle.sas_flat.proofs.Blocks.{lists_append, ends_append}
 use Rattle.sas_flat.proofs.Kept.{cut_back, same_lists}
 use Rattle.sas_flat.proofs.lists.Lists.append.Goals as goal

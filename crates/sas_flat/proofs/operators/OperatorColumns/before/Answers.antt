@@ -1,5 +1,4 @@
-use Rattle.sas_flat.proofs.Imports.{arith}
-use Rattle.sas_flat.specs.declared.operators.Head.{Head}
+use Rattle.sas_flat.proofs.Imports.{arith, Head}
 use Rattle.sas_flat.proofs.FoundOperators.{start_is}
 use Rattle.sas_flat.proofs.operators.OperatorColumns.before.Goals as goal
 

@@ -1,5 +1,4 @@
-use Rattle.sas_flat.proofs.Imports.{◌+◌, sym, ap, ◌∙◌, arith, effect_change}
-use Rattle.sas_flat.specs.Effects.{effect_in_list}
+use Rattle.sas_flat.proofs.Imports.{◌+◌, sym, ap, ◌∙◌, arith, effect_change, effect_in_list}
 use Rattle.sas_flat.proofs.FoundOperators.{as_many, effect_within, effect_found}
 use Rattle.sas_flat.proofs.operators.Operators.change.Goals as goal
 

@@ -1,5 +1,4 @@
-use Rattle.sas_flat.proofs.Imports.{◌+◌, sym, ap, ◌∙◌, arith, Effect}
-use Rattle.sas_flat.specs.Effects.{effect_in_list}
+use Rattle.sas_flat.proofs.Imports.{◌+◌, sym, ap, ◌∙◌, arith, Effect, effect_in_list}
 use Rattle.sas_flat.proofs.FoundOperators.{as_many, effect_within, effect_found}
 use Rattle.sas_flat.proofs.operators.Operators.conditions.Goals as goal
 

@@ -1,5 +1,4 @@
-use Rattle.sas_flat.proofs.Imports.{arith}
-use Rattle.sas_flat.specs.declared.operators.Head.{Head}
+use Rattle.sas_flat.proofs.Imports.{arith, Head}
 use Rattle.sas_flat.proofs.FoundOperators.{as_many, end_is, ordered, effect_number}
 use Rattle.sas_flat.proofs.operators.Operators.effects.Goals as goal
 

@@ -1,5 +1,4 @@
-use Rattle.sas_flat.proofs.Imports.{sym, ap, arith, Operator}
-use Rattle.sas_flat.specs.declared.operators.Head.{Head}
+use Rattle.sas_flat.proofs.Imports.{sym, ap, arith, Operator, Head}
 use Rattle.sas_flat.proofs.FoundOperators.{as_many, found, end_is, ordered, within}
 use Rattle.sas_flat.proofs.operators.Operators.name.Goals as goal
 

@@ -1,6 +1,4 @@
-use Rattle.sas_flat.proofs.Imports.{◌≡◌, List, sym, ap, subst, ◌∙◌, arith, slice_index, slice_range, IfSome, plain_effects, Operator, Effect}
-use Rattle.sas_flat.specs.Operators.{effect_ends}
-use Rattle.sas_flat.specs.declared.operators.Head.{Head}
+use Rattle.sas_flat.proofs.Imports.{◌≡◌, List, sym, ap, subst, ◌∙◌, arith, slice_index, slice_range, IfSome, plain_effects, Operator, Effect, effect_ends, Head}
 use Rattle.sas_flat.proofs.FoundOperators.{as_many, found, end_is, ordered, within}
 use Rattle.sas_flat.proofs.operators.Operators.plain_changes.Goals as goal
 

@@ -1,4 +1,4 @@
-use Rattle.sas_flat.proofs.Imports.{◌+◌, ◌++◌, ◌∷◌, [], length, ap, ◌∙◌, arith, length-append}
+use Rattle.sas_flat.proofs.Imports.{◌++◌, ◌∷◌, [], length, ap, ◌∙◌, arith, length-append}
 use Rattle.sas_flat.proofs.variables.VariableColumns.append.Goals as goal
 
 pub push-requires : goal.push-requires

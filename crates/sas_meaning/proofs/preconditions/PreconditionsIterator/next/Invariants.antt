@@ -1,6 +1,5 @@
 -- All prevail conditions were returned, and the remaining facts are unchanged.
-use Rattle.sas_meaning.proofs.Imports.{◌≡◌, [], ◌-◌, operator_at}
-use Rattle.sas_meaning.specs.Preconditions.{preconditions_left, IsAtOperator}
+use Rattle.sas_meaning.proofs.Imports.{◌≡◌, [], ◌-◌, operator_at, preconditions_left, IsAtOperator}
 use Rattle.sas_meaning.proofs.preconditions.PreconditionsIterator.next.Given as goal
 
 abbrev pub invariant-loop-self : goal.invariant-loop-self

@@ -1,7 +1,5 @@
 -- An operator that has one of the names is stored.
-use Rattle.sas_names.proofs.Imports.{◌≡◌, ℕ, ◌+◌, ◌-◌, ◌<◌, List, length, get_or, slice_set, None, Some, sym, ap, subst, ◌∙◌, arith, length-set, get_or_read, operator_at}
-use Rattle.sas_names.specs.NameTable.{value_of}
-use Rattle.sas_names.specs.StepNames.{step_names}
+use Rattle.sas_names.proofs.Imports.{◌≡◌, ℕ, ◌+◌, ◌-◌, ◌<◌, List, length, get_or, slice_set, None, Some, sym, ap, subst, ◌∙◌, arith, length-set, get_or_read, operator_at, value_of, step_names}
 use Rattle.sas_names.proofs.ChainsFrom.{AreChainsFrom, AreChainsFrom-pass, AreChainsFrom-step}
 use Rattle.sas_names.proofs.chains.Chains.new.Goals as goal
 

@@ -1,7 +1,5 @@
 -- All operators from this one on are stored.
-use Rattle.sas_names.proofs.Imports.{◌≡◌, ◌≤◌, length}
-use Rattle.sas_names.specs.NameTable.{value_of}
-use Rattle.sas_names.specs.StepNames.{step_names}
+use Rattle.sas_names.proofs.Imports.{◌≡◌, ◌≤◌, length, value_of, step_names}
 use Rattle.sas_names.proofs.ChainsFrom.{AreChainsFrom}
 use Rattle.sas_names.proofs.chains.Chains.new.Given as goal
 

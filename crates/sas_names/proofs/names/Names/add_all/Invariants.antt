@@ -1,6 +1,5 @@
 -- The table and the list are right for all operators from this one on.
-use Rattle.sas_names.proofs.Imports.{◌≤◌, length}
-use Rattle.sas_names.specs.NameTable.{AreNamesFrom}
+use Rattle.sas_names.proofs.Imports.{◌≤◌, length, AreNamesFrom}
 use Rattle.sas_names.proofs.names.Names.add_all.Given as goal
 
 abbrev pub invariant-loop-operator : goal.invariant-loop-operator

@@ -1,6 +1,5 @@
 -- The chains are those of the first operators that were found.
-use Rattle.sas_names.proofs.Imports.{ℕ, Option, sym, subst, Vec}
-use Rattle.sas_names.specs.Chains.{HaveChains}
+use Rattle.sas_names.proofs.Imports.{ℕ, Option, sym, subst, Vec, HaveChains}
 use Rattle.sas_names.proofs.FoundSteps.{have_chains}
 use Rattle.sas_names.proofs.step_operators.StepOperators.by_step_names.Goals as goal
 

@@ -1,5 +1,4 @@
-use Rattle.sas_output.proofs.Imports.{◌≡◌, take, false, flat_map}
-use Rattle.sas_output.specs.Pieces.{Puts}
+use Rattle.sas_output.proofs.Imports.{◌≡◌, take, false, flat_map, Puts}
 use Rattle.sas_output.proofs.pieces.Pieces.push_all.Given as goal
 
 -- the parts so far were put, and no write has failed

@@ -1,7 +1,4 @@
-use Rattle.sas_output.proofs.Imports.{[], err_from_is_err_and}
-use Rattle.sas_output.specs.declared.words.Word.{Word}
-use Rattle.sas_output.specs.declared.words.Word.TheVariants.{Text}
-use Rattle.sas_output.specs.Words.{behind_space}
+use Rattle.sas_output.proofs.Imports.{[], err_from_is_err_and, Word, Text, behind_space}
 use Rattle.sas_output.proofs.Putting.{item_puts, item_breaks, no_failure}
 use Rattle.sas_output.proofs.pieces.Pieces.push_rest.Goals as goal
 

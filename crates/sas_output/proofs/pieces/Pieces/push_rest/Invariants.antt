@@ -1,6 +1,4 @@
-use Rattle.sas_output.proofs.Imports.{◌≡◌, take, false, flat_map}
-use Rattle.sas_output.specs.Pieces.{Puts}
-use Rattle.sas_output.specs.Words.{behind_space}
+use Rattle.sas_output.proofs.Imports.{◌≡◌, take, false, flat_map, Puts, behind_space}
 use Rattle.sas_output.proofs.pieces.Pieces.push_rest.Given as goal
 
 -- the words so far were put, and no write has failed

@@ -1,6 +1,4 @@
-use Rattle.sas_output.proofs.Imports.{◌≡◌, List, ℕ, [], ◌∷◌, ◌++◌, ap, flat_map, replicate, err_from_is_err_and}
-use Rattle.sas_output.specs.declared.words.Words.{Words}
-use Rattle.sas_output.specs.Words.{behind_space, spaces_of, words_line}
+use Rattle.sas_output.proofs.Imports.{◌≡◌, List, ℕ, [], ◌∷◌, ◌++◌, ap, flat_map, replicate, err_from_is_err_and, Words, behind_space, spaces_of, words_line}
 use Rattle.sas_output.proofs.Putting.{breaks_with_more, puts_then, puts_then_breaks, puts_then_either}
 use Rattle.sas_output.proofs.WordLines.{line_is, breaks_as, puts_as}
 use Rattle.sas_output.proofs.pieces.Pieces.push_words.Goals as goal

@@ -1,6 +1,4 @@
-use Rattle.sas_output.proofs.Imports.{◌≡◌, sym, ◌∙◌, refl, subst, Option, Some, Appends}
-use Rattle.sas_output.specs.Ending.{Output, EndsCounting}
-use Rattle.sas_output.specs.Sink.{PushedBy}
+use Rattle.sas_output.proofs.Imports.{◌≡◌, sym, ◌∙◌, refl, subst, Option, Some, Appends, Output, EndsCounting, PushedBy}
 use Rattle.sas_output.proofs.Sent.{all_sent, first_counted}
 use Rattle.sas_output.proofs.Pushed.{puts_so_far, finish_puts, finish_breaks}
 use Rattle.sas_output.proofs.sink.Sink.finish.Goals as goal

@@ -1,5 +1,4 @@
-use Rattle.sas_outputs.proofs.Imports.{◌≡◌, ℕ, List, rules, ap, subst, ◌∙◌, Option, Some, Appends, text, Outline, Yes, Output, EndsCounting, pushes_then}
-use Rattle.sas_outputs.specs.Summary.{summary_lines}
+use Rattle.sas_outputs.proofs.Imports.{◌≡◌, ℕ, List, rules, ap, subst, ◌∙◌, Option, Some, Appends, text, Outline, Yes, Output, EndsCounting, pushes_then, summary_lines}
 use Rattle.sas_outputs.proofs.Summaries.{summary_is}
 use Rattle.sas_outputs.proofs.summary.Summary.write.Goals as goal
 

@@ -1,7 +1,6 @@
-use Rattle.sas_plan_file.specs.PlanReader.{plan_led}
 use Rattle.sas_plan_file.proofs.PlanAhead.{accepts_step, step_ahead_taken}
 use Rattle.sas_plan_file.proofs.PlanSteps.{step_led}
-use Rattle.sas_plan_file.proofs.Imports.{refl}
+use Rattle.sas_plan_file.proofs.Imports.{refl, plan_led}
 use Rattle.sas_plan_file.proofs.plan_machine.PlanMachineMachine.accept_ahead.Goals as goal
 
 pub returns : goal.returns

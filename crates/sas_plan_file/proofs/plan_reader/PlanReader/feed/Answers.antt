@@ -1,9 +1,6 @@
-use Rattle.sas_plan_file.specs.PlanFormat.{plan_format, PlanLineFits}
-use Rattle.sas_plan_file.specs.PlanMachine.{plan_node, plan_start, HasCostLine, plan_stays}
-use Rattle.sas_plan_file.specs.PlanReader.{plan_led, plan_rejects}
 use Rattle.sas_plan_file.proofs.PlanGrammar.{plan_grammar}
 use Rattle.sas_plan_file.proofs.PlanStanding.{plan_follows}
-use Rattle.sas_plan_file.proofs.Imports.{feeds}
+use Rattle.sas_plan_file.proofs.Imports.{feeds, plan_format, PlanLineFits, plan_node, plan_start, HasCostLine, plan_stays, plan_led, plan_rejects}
 use Rattle.sas_plan_file.proofs.plan_reader.PlanReader.feed.Goals as goal
 
 pub returns : goal.returns

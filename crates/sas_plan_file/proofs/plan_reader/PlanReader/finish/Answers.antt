@@ -1,7 +1,4 @@
-use Rattle.sas_plan_file.proofs.Imports.{sym, ap, subst, Err, Fault, Finishes, end_fault}
-use Rattle.sas_plan_file.specs.PlanFormat.{plan_format, PlanLineFits}
-use Rattle.sas_plan_file.specs.PlanMachine.{plan_node, plan_start, HasCostLine, plan_stays}
-use Rattle.sas_plan_file.specs.PlanReader.{plan_led, plan_rejects, plan_view}
+use Rattle.sas_plan_file.proofs.Imports.{sym, ap, subst, Err, Fault, Finishes, end_fault, plan_format, PlanLineFits, plan_node, plan_start, HasCostLine, plan_stays, plan_led, plan_rejects, plan_view}
 use Rattle.sas_plan_file.proofs.PlanGrammar.{plan_grammar}
 use Rattle.sas_plan_file.proofs.PlanStanding.{plan_follows, read_plan_parts}
 use Rattle.sas_plan_file.proofs.plan_reader.PlanReader.finish.Goals as goal

@@ -1,5 +1,4 @@
-use Rattle.sas_plan_file.proofs.Imports.{[], refl}
-use Rattle.sas_plan_file.specs.PlanMachine.{plan_start}
+use Rattle.sas_plan_file.proofs.Imports.{[], refl, plan_start}
 use Rattle.sas_plan_file.proofs.plan_text.PlanText.new.Goals as goal
 
 pub returns : goal.returns

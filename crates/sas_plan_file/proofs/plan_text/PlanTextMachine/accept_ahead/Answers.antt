@@ -1,5 +1,4 @@
-use Rattle.sas_plan_file.proofs.Imports.{◌∙◌, ap, ◌∷◌, [], ◌++◌, refl}
-use Rattle.sas_plan_file.specs.PlanText.{KeepsLines}
+use Rattle.sas_plan_file.proofs.Imports.{◌∙◌, ap, ◌∷◌, [], ◌++◌, refl, KeepsLines}
 use Rattle.sas_plan_file.proofs.PlanAhead.{accepts_step, step_ahead_taken, bytes_of_line}
 use Rattle.sas_plan_file.proofs.PlanKeeping.{keeps_step}
 use Rattle.sas_plan_file.proofs.plan_text.PlanTextMachine.accept_ahead.Goals as goal

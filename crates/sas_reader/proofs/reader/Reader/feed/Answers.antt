@@ -1,8 +1,4 @@
-use Rattle.std.proofs.lemmas.Grind.{common_steps}
-use Rattle.sas_reader.proofs.Imports.{ℕ, ◌+◌, ◌≡◌, List, ◌++◌, refl, sym, ap, subst, ◌∙◌, arith, take_all, Some, None}
-use Rattle.sas_reader.specs.declared.fault.Fault.{Fault}
-use Rattle.sas_reader.specs.Faults.{answer}
-use Rattle.sas_reader.specs.Reader.{Accepted, FaultIn}
+use Rattle.sas_reader.proofs.Imports.{ℕ, ◌+◌, ◌≡◌, List, ◌++◌, refl, sym, ap, subst, ◌∙◌, arith, take_all, Some, None, Fault, answer, Accepted, FaultIn}
 use Rattle.sas_reader.proofs.Standing.{accepted_of, stands_accepted, stands_fault, stands_more, fault_in_piece}
 use Rattle.sas_reader.proofs.reader.Reader.feed.Goals as goal
 

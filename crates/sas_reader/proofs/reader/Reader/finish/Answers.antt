@@ -1,5 +1,4 @@
-use Rattle.sas_reader.proofs.Imports.{arith, sym, ◌≡◌, ◌∙◌, Some, None}
-use Rattle.sas_reader.specs.declared.fault.Fault.{Fault}
+use Rattle.sas_reader.proofs.Imports.{arith, sym, ◌≡◌, ◌∙◌, Some, None, Fault}
 use Rattle.sas_reader.proofs.Standing.{accepted_of}
 use Rattle.sas_reader.proofs.Ending.{refused_at_end}
 use Rattle.sas_reader.proofs.reader.Reader.finish.Goals as goal

@@ -1,7 +1,6 @@
 use Rattle.std.proofs.lemmas.Grind.{common_steps}
-use Rattle.sas_reader.proofs.Imports.{◌≡◌, ◌+◌, ℕ, ap, rules, length, sym, subst, Err, Ok, ◌∙◌, refl, arith, length-drop, Progress}
-use Rattle.sas_reader.specs.Reader.{TookFront}
-use Rattle.sas_reader.proofs.Advancing.{advances_no_more, took_none, took_behind, stopped_behind, advances_wider, within_fits, rest_is}
+use Rattle.sas_reader.proofs.Imports.{◌≡◌, ap, rules, Err, Ok, ◌∙◌, arith, Progress}
+use Rattle.sas_reader.proofs.Advancing.{advances_no_more, took_behind, stopped_behind, advances_wider, within_fits, rest_is}
 use Rattle.sas_reader.proofs.Tested.{nil_when}
 use Rattle.sas_reader.proofs.reader.Reader.go_ahead.Goals as goal
 

@@ -1,9 +1,7 @@
 use Rattle.std.proofs.lemmas.Grind.{common_steps}
-use Rattle.sas_reader.proofs.Imports.{◌∙◌, sym, subst, ℕ, List, refl, arith}
-use Rattle.sas_reader.specs.Found.{IsFoundOf}
+use Rattle.sas_reader.proofs.Imports.{◌∙◌, sym, subst, ℕ, List, refl, arith, IsFoundOf}
 use Rattle.sas_reader.proofs.Advancing.{accepted_part, accepted_line, stopped_at, takes_some}
 use Rattle.sas_reader.proofs.Pieces.{takes_bound}
-use Rattle.sas_reader.proofs.Tested.{advances_refused}
 use Rattle.sas_reader.proofs.reader.Reader.go_on.Goals as goal
 
 pub returns-then-not-fed-clause-advances : goal.returns-then-not-fed-clause-advances

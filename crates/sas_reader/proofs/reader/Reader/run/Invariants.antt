@@ -1,5 +1,4 @@
-use Rattle.sas_reader.proofs.Imports.{length, ◌-◌, ◌≡◌}
-use Rattle.sas_reader.specs.Reader.{TookFront}
+use Rattle.sas_reader.proofs.Imports.{length, ◌-◌, ◌≡◌, TookFront}
 use Rattle.sas_reader.proofs.reader.Reader.run.Given as goal
 
 -- `at` bytes were taken

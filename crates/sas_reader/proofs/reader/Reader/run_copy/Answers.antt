@@ -1,8 +1,6 @@
 use Rattle.std.proofs.lemmas.Grind.{common_steps}
-use Rattle.sas_reader.proofs.Imports.{◌≡◌, ◌+◌, ◌-◌, ◌≤◌, ℕ, List, length, take, refl, ap, subst, sym, ◌∙◌, Ok, Err, arith, length-take, length-take-le}
-use Rattle.sas_reader.specs.Reader.{TookFront, Stopped}
-use Rattle.sas_reader.specs.Returns.{without_returns}
-use Rattle.sas_reader.proofs.Advancing.{took_none, advances_wider, within_fits}
+use Rattle.sas_reader.proofs.Imports.{◌≡◌, ◌+◌, ◌-◌, ◌≤◌, length, take, refl, ap, subst, sym, ◌∙◌, Ok, Err, arith, length-take, length-take-le, TookFront, Stopped, without_returns}
+use Rattle.sas_reader.proofs.Advancing.{advances_wider, within_fits}
 use Rattle.sas_reader.proofs.FeedingPlain.{fewer, stopped_plain, took_plain}
 use Rattle.sas_reader.proofs.WithLfAlone.{each_ends}
 use Rattle.sas_reader.proofs.Tested.{nil_when}

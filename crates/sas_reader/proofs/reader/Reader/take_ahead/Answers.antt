@@ -1,7 +1,7 @@
 use Rattle.std.proofs.lemmas.Grind.{common_steps}
 use Rattle.sas_reader.proofs.Imports.{◌+◌, refl, ap, sym, arith, false≢true}
 use Rattle.sas_reader.proofs.Advancing.{took_none, took_lines, front_few}
-use Rattle.sas_reader.proofs.Tested.{memory_is, advances_refused, took_nothing}
+use Rattle.sas_reader.proofs.Tested.{memory_is}
 use Rattle.sas_reader.proofs.reader.Reader.take_ahead.Goals as goal
 
 pub overflow_add-self : goal.overflow_add-self

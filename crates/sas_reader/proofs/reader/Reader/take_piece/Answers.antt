@@ -1,5 +1,5 @@
 use Rattle.std.proofs.lemmas.Grind.{common_steps}
-use Rattle.sas_reader.proofs.Imports.{◌+◌, ◌∙◌, length, ap, arith, length-drop}
+use Rattle.sas_reader.proofs.Imports.{◌+◌, ◌∙◌, arith}
 use Rattle.sas_reader.proofs.Advancing.{advances_no_more, took_behind, stopped_behind, rest_is}
 use Rattle.sas_reader.proofs.Tested.{err_is}
 use Rattle.sas_reader.proofs.reader.Reader.take_piece.Goals as goal

@@ -1,6 +1,5 @@
 -- The next step is made by its operator, which has a step.
-use Rattle.sas_run.proofs.Imports.{◌+◌, ◌∙◌, subst}
-use Rattle.sas_run.specs.Executions.{Executed, executed_of, Advances}
+use Rattle.sas_run.proofs.Imports.{◌+◌, ◌∙◌, subst, Executed, executed_of, Advances}
 use Rattle.sas_run.proofs.Executing.{executed_fits, makes_step, step_goes, step_advances, step_along, goes_ahead}
 use Rattle.sas_run.proofs.execution.Execution.advance.Goals as goal
 

@@ -1,8 +1,5 @@
 -- The plan ends, and the execution returns to its start.
-use Rattle.sas_run.proofs.Imports.{subst, ap, ◌∙◌, arith}
-use Rattle.sas_run.specs.declared.deletions.Deleted.{Deleted}
-use Rattle.sas_run.specs.declared.progress.Progress.{Progress}
-use Rattle.sas_run.specs.Executions.{Executed, executed_of, IsFound}
+use Rattle.sas_run.proofs.Imports.{subst, ap, ◌∙◌, arith, Deleted, Progress, Executed, executed_of, IsFound}
 use Rattle.sas_run.proofs.Executing.{goes_back, goes_anew}
 use Rattle.sas_run.proofs.execution.Execution.find_fault.Goals as goal
 

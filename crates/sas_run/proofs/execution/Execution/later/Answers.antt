@@ -1,5 +1,5 @@
 -- The operators of the next step's name are known.
-use Rattle.sas_run.specs.Executions.{executed_of}
+use Rattle.sas_run.proofs.Imports.{executed_of}
 use Rattle.sas_run.proofs.Executing.{step_goes, step_chain, executed_fits}
 use Rattle.sas_run.proofs.execution.Execution.later.Goals as goal
 

@@ -1,7 +1,5 @@
 -- No step is known to succeed yet.
-use Rattle.sas_run.proofs.Imports.{refl, ap, ◌∙◌}
-use Rattle.sas_run.specs.declared.deletions.Deleted.{Deleted}
-use Rattle.sas_run.specs.Executions.{executed_of}
+use Rattle.sas_run.proofs.Imports.{refl, ap, ◌∙◌, Deleted, executed_of}
 use Rattle.sas_run.proofs.Executing.{executes_none}
 use Rattle.sas_run.proofs.Runs.{still}
 use Rattle.sas_run.proofs.execution.Execution.new.Goals as goal

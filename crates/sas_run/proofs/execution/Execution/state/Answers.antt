@@ -1,6 +1,5 @@
 -- The state is one of the run.
-use Rattle.sas_run.proofs.Imports.{subst, IsState}
-use Rattle.sas_run.specs.Executions.{Executed, executed_of}
+use Rattle.sas_run.proofs.Imports.{subst, IsState, Executed, executed_of}
 use Rattle.sas_run.proofs.Executing.{executed_fits}
 use Rattle.sas_run.proofs.execution.Execution.state.Goals as goal
 

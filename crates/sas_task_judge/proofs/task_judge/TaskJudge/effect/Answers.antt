@@ -1,8 +1,6 @@
-use Rattle.sas_task_judge.proofs.Imports.{rules, inr, ◌≡◌, refl, ap, ◌∙◌, Some, result_err}
-use Rattle.sas_task_judge.specs.TaskJudge.{process_at}
+use Rattle.sas_task_judge.proofs.Imports.{rules, inr, ◌≡◌, refl, ap, ◌∙◌, Some, result_err, process_at, operator_effects}
 use Rattle.sas_task_judge.proofs.TaskMoves.{off, next_of, refused}
 use Rattle.sas_task_judge.proofs.TaskRanges.{judged_as, effect_same}
-use Rattle.sas_task_judge.specs.TaskPlaces.{operator_effects}
 use Rattle.sas_task_judge.proofs.task_judge.TaskJudge.effect.Goals as goal
 
 pub returns-in_err-effect_at : goal.returns-in_err-effect_at

@@ -1,6 +1,4 @@
-use Rattle.sas_task_judge.proofs.Imports.{refl, ap, ◌∙◌}
-use Rattle.sas_task_judge.specs.TaskJudge.{process_at}
-use Rattle.sas_task_judge.specs.TaskPlaces.{goal_facts}
+use Rattle.sas_task_judge.proofs.Imports.{refl, ap, ◌∙◌, process_at, goal_facts}
 use Rattle.sas_task_judge.proofs.TaskMoves.{on}
 use Rattle.sas_task_judge.proofs.Stepping.{steps_with_more}
 use Rattle.sas_task_judge.proofs.task_judge.TaskJudge.goal_end.Goals as goal

@@ -1,8 +1,6 @@
-use Rattle.sas_task_judge.proofs.Imports.{rules, ◌≡◌, sym, ap, ◌∙◌, ◌∷◌, [], ◌++◌, ◌-◌, refl, Some, result_err}
-use Rattle.sas_task_judge.specs.TaskJudge.{process_at}
+use Rattle.sas_task_judge.proofs.Imports.{rules, ◌≡◌, sym, ap, ◌∙◌, ◌∷◌, [], ◌++◌, ◌-◌, refl, Some, result_err, process_at, goal_facts}
 use Rattle.sas_task_judge.proofs.TaskMoves.{on, off, next_of, refused_line}
 use Rattle.sas_task_judge.proofs.TaskRanges.{takes_as, judged_as, fact_same}
-use Rattle.sas_task_judge.specs.TaskPlaces.{goal_facts}
 use Rattle.sas_task_judge.proofs.Stepping.{goal_counts, list_steps}
 use Rattle.sas_task_judge.proofs.task_judge.TaskJudge.goal_fact.Goals as goal
 

@@ -1,6 +1,4 @@
-use Rattle.sas_task_judge.proofs.Imports.{refl, ap, ◌∙◌}
-use Rattle.sas_task_judge.specs.TaskJudge.{process_at}
-use Rattle.sas_task_judge.specs.TaskPlaces.{group_facts}
+use Rattle.sas_task_judge.proofs.Imports.{refl, ap, ◌∙◌, process_at, group_facts}
 use Rattle.sas_task_judge.proofs.TaskMoves.{on}
 use Rattle.sas_task_judge.proofs.Stepping.{group_end_steps}
 use Rattle.sas_task_judge.proofs.task_judge.TaskJudge.group_end.Goals as goal

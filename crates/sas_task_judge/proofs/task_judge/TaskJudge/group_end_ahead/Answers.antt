@@ -1,7 +1,5 @@
-use Rattle.sas_task_judge.proofs.Imports.{refl, true, ap, ◌∙◌, codes, word}
+use Rattle.sas_task_judge.proofs.Imports.{refl, true, ap, ◌∙◌, codes, word, process_at, group_facts}
 use Rattle.sas_task_judge.proofs.TaskMoves.{on, moves_ahead}
-use Rattle.sas_task_judge.specs.TaskJudge.{process_at}
-use Rattle.sas_task_judge.specs.TaskPlaces.{group_facts}
 use Rattle.sas_task_judge.proofs.Stepping.{group_end_steps}
 use Rattle.sas_task_judge.proofs.task_judge.TaskJudge.group_end_ahead.Goals as goal
 

@@ -1,6 +1,4 @@
-use Rattle.sas_task_judge.proofs.Imports.{rules, ◌≡◌, refl, ap, ◌∙◌, Some, result_err}
-use Rattle.sas_task_judge.specs.TaskJudge.{process_at}
-use Rattle.sas_task_judge.specs.TaskPlaces.{rule_conditions}
+use Rattle.sas_task_judge.proofs.Imports.{rules, ◌≡◌, refl, ap, ◌∙◌, Some, result_err, process_at, rule_conditions}
 use Rattle.sas_task_judge.proofs.TaskMoves.{off, refused_line}
 use Rattle.sas_task_judge.proofs.TaskRanges.{judged_as, head_same}
 use Rattle.sas_task_judge.proofs.task_judge.TaskJudge.rule_head.Goals as goal

@@ -1,6 +1,4 @@
-use Rattle.sas_task_judge.proofs.Imports.{refl, ap, ◌∙◌}
-use Rattle.sas_task_judge.specs.TaskJudge.{process_at}
-use Rattle.sas_task_judge.specs.TaskPlaces.{operator_effects}
+use Rattle.sas_task_judge.proofs.Imports.{refl, ap, ◌∙◌, process_at, operator_effects}
 use Rattle.sas_task_judge.proofs.TaskMoves.{on}
 use Rattle.sas_task_judge.proofs.Stepping.{cost_steps}
 use Rattle.sas_task_judge.proofs.task_judge.TaskJudge.took_cost.Goals as goal

@@ -1,8 +1,6 @@
-use Rattle.sas_task_judge.proofs.Imports.{refl, sym, ap, ◌∙◌, ◌∷◌, [], ◌++◌, ◌-◌}
-use Rattle.sas_task_judge.specs.TaskJudge.{process_at}
+use Rattle.sas_task_judge.proofs.Imports.{refl, sym, ap, ◌∙◌, ◌∷◌, [], ◌++◌, ◌-◌, process_at, operator_effects}
 use Rattle.sas_task_judge.proofs.TaskMoves.{on, next_of}
 use Rattle.sas_task_judge.proofs.TaskRanges.{takes_as, effect_same}
-use Rattle.sas_task_judge.specs.TaskPlaces.{operator_effects}
 use Rattle.sas_task_judge.proofs.Stepping.{effects_count, list_steps}
 use Rattle.sas_task_judge.proofs.task_judge.TaskJudge.took_effect.Goals as goal
 

@@ -1,6 +1,4 @@
-use Rattle.sas_task_judge.proofs.Imports.{refl, ap, ◌∙◌}
-use Rattle.sas_task_judge.specs.TaskJudge.{process_at}
-use Rattle.sas_task_judge.specs.TaskPlaces.{rule_conditions}
+use Rattle.sas_task_judge.proofs.Imports.{refl, ap, ◌∙◌, process_at, rule_conditions}
 use Rattle.sas_task_judge.proofs.TaskMoves.{on}
 use Rattle.sas_task_judge.proofs.TaskRanges.{takes_as, head_same}
 use Rattle.sas_task_judge.proofs.Stepping.{head_steps}

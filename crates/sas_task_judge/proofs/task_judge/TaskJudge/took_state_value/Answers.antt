@@ -1,5 +1,4 @@
-use Rattle.sas_task_judge.proofs.Imports.{sym, ap, ◌∙◌, ◌∷◌, [], ◌++◌, nat_lt, arith, length-append, number_in}
-use Rattle.sas_task_judge.specs.TaskJudge.{process_at}
+use Rattle.sas_task_judge.proofs.Imports.{sym, ap, ◌∙◌, ◌∷◌, [], ◌++◌, nat_lt, arith, length-append, number_in, process_at}
 use Rattle.sas_task_judge.proofs.TaskMoves.{on, state_goes_on}
 use Rattle.sas_task_judge.proofs.TaskRanges.{takes_as, range_same}
 use Rattle.sas_task_judge.proofs.Stepping.{value_steps}

@@ -1,6 +1,4 @@
-use Rattle.sas_task_judge.proofs.Imports.{refl, sym, ap, ◌∙◌, ◌∷◌, [], ◌++◌, arith, ranges_of}
-use Rattle.sas_task_judge.specs.TaskJudge.{process_at}
-use Rattle.sas_task_judge.specs.TaskPlaces.{variable_values}
+use Rattle.sas_task_judge.proofs.Imports.{refl, sym, ap, ◌∙◌, ◌∷◌, [], ◌++◌, arith, ranges_of, process_at, variable_values}
 use Rattle.sas_task_judge.proofs.TaskMoves.{on}
 use Rattle.sas_task_judge.proofs.TaskRanges.{ranges_push}
 use Rattle.sas_task_judge.proofs.Stepping.{variable_end_steps}

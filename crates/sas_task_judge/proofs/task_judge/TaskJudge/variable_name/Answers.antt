@@ -1,5 +1,4 @@
-use Rattle.sas_task_judge.proofs.Imports.{refl, ap}
-use Rattle.sas_task_judge.specs.TaskJudge.{process_at}
+use Rattle.sas_task_judge.proofs.Imports.{refl, ap, process_at}
 use Rattle.sas_task_judge.proofs.TaskMoves.{on}
 use Rattle.sas_task_judge.proofs.Stepping.{steps_here}
 use Rattle.sas_task_judge.proofs.task_judge.TaskJudge.variable_name.Goals as goal

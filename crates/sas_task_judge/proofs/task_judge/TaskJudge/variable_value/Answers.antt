@@ -1,6 +1,4 @@
-use Rattle.sas_task_judge.proofs.Imports.{rules, ◌≡◌, sym, ap, ◌∙◌, ◌∷◌, [], ◌++◌, ◌-◌, arith, length-append, refl, Some, result_err}
-use Rattle.sas_task_judge.specs.TaskJudge.{process_at}
-use Rattle.sas_task_judge.specs.TaskPlaces.{variable_values}
+use Rattle.sas_task_judge.proofs.Imports.{rules, ◌≡◌, sym, ap, ◌∙◌, ◌∷◌, [], ◌++◌, ◌-◌, arith, length-append, refl, Some, result_err, process_at, variable_values}
 use Rattle.sas_task_judge.proofs.TaskMoves.{on, off, next_of, refused_line}
 use Rattle.sas_task_judge.proofs.Stepping.{list_steps, values_count}
 use Rattle.sas_task_judge.proofs.task_judge.TaskJudge.variable_value.Goals as goal

@@ -1,6 +1,4 @@
-use Rattle.sas_task_judge.proofs.Imports.{refl, sym, ap, ◌∙◌, ◌∷◌, [], ◌++◌, ◌-◌, arith, length-append, name}
-use Rattle.sas_task_judge.specs.TaskJudge.{process_at}
-use Rattle.sas_task_judge.specs.TaskPlaces.{variable_values}
+use Rattle.sas_task_judge.proofs.Imports.{refl, sym, ap, ◌∙◌, ◌∷◌, [], ◌++◌, ◌-◌, arith, length-append, name, process_at, variable_values}
 use Rattle.sas_task_judge.proofs.TaskMoves.{on, next_of}
 use Rattle.sas_task_judge.proofs.Stepping.{list_steps, values_count}
 use Rattle.sas_task_judge.proofs.task_judge.TaskJudge.variable_value_ahead.Goals as goal

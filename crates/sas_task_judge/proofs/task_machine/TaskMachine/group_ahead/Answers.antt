@@ -1,5 +1,4 @@
-use Rattle.sas_task_judge.proofs.Imports.{ℕ, List, subst, IsTrue, list_all, group_lines, fact_in_ranges}
-use Rattle.sas_task_judge.specs.Sections.{behind_group}
+use Rattle.sas_task_judge.proofs.Imports.{ℕ, List, subst, IsTrue, list_all, group_lines, fact_in_ranges, behind_group}
 use Rattle.sas_task_judge.proofs.SectionSteps.{group_leads, accepts}
 use Rattle.sas_task_judge.proofs.task_machine.TaskMachine.group_ahead.Goals as goal
 

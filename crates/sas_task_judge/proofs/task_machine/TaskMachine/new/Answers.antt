@@ -1,5 +1,4 @@
-use Rattle.sas_task_judge.proofs.Imports.{refl, sym, ap, ◌∙◌, [], nothing_yet}
-use Rattle.sas_task_judge.specs.TaskJudge.{process_at}
+use Rattle.sas_task_judge.proofs.Imports.{refl, sym, ap, ◌∙◌, [], nothing_yet, process_at}
 use Rattle.sas_task_judge.proofs.Stepping.{starts}
 use Rattle.sas_task_judge.proofs.task_machine.TaskMachine.new.Goals as goal
 

@@ -1,5 +1,4 @@
-use Rattle.sas_task_judge.proofs.Imports.{ℕ, List, subst, operator_lines, OperatorInRanges}
-use Rattle.sas_task_judge.specs.Sections.{behind_operator}
+use Rattle.sas_task_judge.proofs.Imports.{ℕ, List, subst, operator_lines, OperatorInRanges, behind_operator}
 use Rattle.sas_task_judge.proofs.SectionSteps.{operator_leads, accepts}
 use Rattle.sas_task_judge.proofs.task_machine.TaskMachine.operator_ahead.Goals as goal
 

@@ -1,5 +1,4 @@
-use Rattle.sas_task_judge.proofs.Imports.{ℕ, List, subst, rule_lines, RuleInRanges}
-use Rattle.sas_task_judge.specs.Sections.{behind_rule}
+use Rattle.sas_task_judge.proofs.Imports.{ℕ, List, subst, rule_lines, RuleInRanges, behind_rule}
 use Rattle.sas_task_judge.proofs.SectionSteps.{rule_leads, accepts}
 use Rattle.sas_task_judge.proofs.task_machine.TaskMachine.rule_ahead.Goals as goal
 

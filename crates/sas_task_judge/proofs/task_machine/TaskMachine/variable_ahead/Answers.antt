@@ -1,5 +1,4 @@
-use Rattle.sas_task_judge.proofs.Imports.{◌<◌, arith, variable_lines}
-use Rattle.sas_task_judge.specs.Sections.{behind_variable}
+use Rattle.sas_task_judge.proofs.Imports.{◌<◌, arith, variable_lines, behind_variable}
 use Rattle.sas_task_judge.proofs.SectionSteps.{variable_leads, accepts}
 use Rattle.sas_task_judge.proofs.task_machine.TaskMachine.variable_ahead.Goals as goal
 

@@ -1,11 +1,10 @@
-use Rattle.sas_task_reader.proofs.Imports.{[], ap, ◌∙◌}
+use Rattle.sas_task_reader.proofs.Imports.{[], ap, ◌∙◌, the_view}
 use Rattle.sas_flat.proofs.FoundOperators.{still_aligned, one_more}
 use Rattle.sas_flat.proofs.Grown.{cut_fits, aligned_again}
 use Rattle.sas_flat.specs.Operators.{operator}
 use Rattle.sas_task_line.specs.TaskEvents.{after}
 use Rattle.sas_task_line.specs.declared.so_far.SoFar.{SoFar}
 use Rattle.sas_task_line.specs.declared.task_events.Event.TheVariants as event
-use Rattle.sas_task_reader.specs.contracts.flat_so_far.FlatSoFar.{the_view}
 use Rattle.sas_task_reader.proofs.StoredParts.{one_operator_more}
 use Rattle.sas_task_reader.proofs.flat_so_far.FlatSoFar.operator.Goals as goal
 

@@ -1,9 +1,8 @@
-use Rattle.sas_task_reader.proofs.Imports.{ap, ◌∙◌}
+use Rattle.sas_task_reader.proofs.Imports.{ap, ◌∙◌, the_view}
 use Rattle.sas_flat.proofs.FoundOperators.{still_aligned, one_more}
 use Rattle.sas_flat.proofs.Grown.{cut_fits, aligned_again, operators_again}
 use Rattle.sas_task_judge.specs.Sections.{behind_operator}
 use Rattle.sas_task_line.specs.declared.so_far.SoFar.{SoFar}
-use Rattle.sas_task_reader.specs.contracts.flat_so_far.FlatSoFar.{the_view}
 use Rattle.sas_task_reader.proofs.StoredParts.{same_operators, one_operator_more}
 use Rattle.sas_task_reader.proofs.flat_so_far.FlatSoFar.operator_ahead.Goals as goal
 

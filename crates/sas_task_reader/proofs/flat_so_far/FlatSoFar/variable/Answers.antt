@@ -1,11 +1,10 @@
-use Rattle.sas_task_reader.proofs.Imports.{[], ap, ◌∙◌, refl}
+use Rattle.sas_task_reader.proofs.Imports.{[], ap, ◌∙◌, refl, the_view}
 use Rattle.sas_flat.proofs.FoundVariables.{one_more}
 use Rattle.sas_flat.proofs.Grown.{names_fit, values_fit, more_aligned, all_aligned_again}
 use Rattle.sas_flat.specs.Variables.{variable}
 use Rattle.sas_task_line.specs.TaskEvents.{after}
 use Rattle.sas_task_line.specs.declared.so_far.SoFar.{SoFar}
 use Rattle.sas_task_line.specs.declared.task_events.Event.TheVariants as event
-use Rattle.sas_task_reader.specs.contracts.flat_so_far.FlatSoFar.{the_view}
 use Rattle.sas_task_reader.proofs.StoredParts.{one_variable_more}
 use Rattle.sas_task_reader.proofs.flat_so_far.FlatSoFar.variable.Goals as goal
 

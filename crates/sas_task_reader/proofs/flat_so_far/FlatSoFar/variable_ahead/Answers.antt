@@ -1,9 +1,8 @@
-use Rattle.sas_task_reader.proofs.Imports.{sym, ap, ◌∙◌}
+use Rattle.sas_task_reader.proofs.Imports.{sym, ap, ◌∙◌, the_view}
 use Rattle.sas_flat.proofs.FoundVariables.{one_more}
 use Rattle.sas_flat.proofs.Grown.{names_fit, values_fit, more_aligned, all_aligned_again, variables_again}
 use Rattle.sas_task_judge.specs.Sections.{behind_variable}
 use Rattle.sas_task_line.specs.declared.so_far.SoFar.{SoFar}
-use Rattle.sas_task_reader.specs.contracts.flat_so_far.FlatSoFar.{the_view}
 use Rattle.sas_task_reader.proofs.StoredParts.{same_variables, one_variable_more}
 use Rattle.sas_task_reader.proofs.flat_so_far.FlatSoFar.variable_ahead.Goals as goal
 

@@ -1,6 +1,4 @@
-use Rattle.sas_task_reader.proofs.Imports.{ap, ◌∙◌, on_ok_weaker}
-use Rattle.sas_task_reader.specs.declared.task_outline.Seen.{Seen}
-use Rattle.sas_task_reader.specs.TaskOutline.{kept_of}
+use Rattle.sas_task_reader.proofs.Imports.{ap, ◌∙◌, on_ok_weaker, Seen, kept_of}
 use Rattle.sas_task_reader.proofs.Outlines.{IsOfRest, seen_after}
 use Rattle.sas_task_reader.proofs.task_outline.TaskOutlineKeeper.keep.Goals as goal
 

@@ -1,6 +1,4 @@
-use Rattle.sas_task_reader.proofs.Imports.{ap, ◌∙◌, IfOk-weaker, SoFar}
-use Rattle.sas_task_reader.specs.declared.task_outline.Seen.{Seen}
-use Rattle.sas_task_reader.specs.TaskOutline.{kept_of}
+use Rattle.sas_task_reader.proofs.Imports.{ap, ◌∙◌, IfOk-weaker, SoFar, Seen, kept_of}
 use Rattle.sas_task_reader.proofs.Outlines.{seen_variable}
 use Rattle.sas_task_reader.proofs.task_outline.TaskOutlineKeeper.keep_variable.Goals as goal
 

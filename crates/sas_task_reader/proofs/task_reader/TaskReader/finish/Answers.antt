@@ -1,5 +1,4 @@
-use Rattle.sas_task_reader.proofs.Imports.{sym, ap, subst, ◌∙◌, Ok, Err, ∥∥₁_map, Parts, WellRanged, Fault, ReadsAs, process_node, task_format, TaskLineFits, task_start, task_grammar, SoFar, LedTo, EndedAt, RejectsAt, MachineStopped, Finishes, end_fault}
-use Rattle.sas_task_reader.specs.TaskReader.{task_view}
+use Rattle.sas_task_reader.proofs.Imports.{sym, ap, subst, ◌∙◌, Ok, Err, ∥∥₁_map, Parts, WellRanged, Fault, ReadsAs, process_node, task_format, TaskLineFits, task_start, task_grammar, SoFar, LedTo, EndedAt, RejectsAt, MachineStopped, Finishes, end_fault, task_view}
 use Rattle.sas_task_reader.proofs.TaskStanding.{reader_follows, read_task_parts, ranged}
 use Rattle.sas_task_reader.proofs.task_reader.TaskReader.finish.Goals as goal
 

@@ -1,6 +1,5 @@
 -- The variables that were listed, in order.
-use Rattle.sas_trace.proofs.Imports.{ℕ, List, refl, subst, IsNonDecreasingBy-from_sort}
-use Rattle.sas_trace.specs.Changes.{ListCoversChanges}
+use Rattle.sas_trace.proofs.Imports.{ℕ, List, refl, subst, IsNonDecreasingBy-from_sort, ListCoversChanges}
 use Rattle.sas_trace.proofs.Listing.{covers_permuted}
 use Rattle.sas_trace.proofs.tracing.Tracer.push_changes.Goals as goal
 

@@ -1,6 +1,5 @@
 -- The line of the step, and behind it those of its changes.
-use Rattle.sas_trace.proofs.Imports.{ℕ, List, subst, text, Pushes, pushes_then}
-use Rattle.sas_trace.specs.Trace.{change_lines}
+use Rattle.sas_trace.proofs.Imports.{ℕ, List, subst, text, Pushes, pushes_then, change_lines}
 use Rattle.sas_trace.proofs.tracing.Tracer.push_step.Goals as goal
 
 pub returns-clause-pushes : goal.returns-clause-pushes

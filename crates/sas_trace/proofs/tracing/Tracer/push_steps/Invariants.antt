@@ -1,6 +1,5 @@
 -- The steps so far were made, and their lines pushed.
-use Rattle.sas_trace.proofs.Imports.{◌≡◌, Pushes, Run}
-use Rattle.sas_trace.specs.Tracing.{HasTraced}
+use Rattle.sas_trace.proofs.Imports.{◌≡◌, Pushes, Run, HasTraced}
 use Rattle.sas_trace.proofs.Numbers.{said}
 use Rattle.sas_trace.proofs.RunTexts.{step_text}
 use Rattle.sas_trace.proofs.tracing.Tracer.push_steps.Given as goal

@@ -1,6 +1,5 @@
 -- One variable more is looked at.
-use Rattle.sas_why.proofs.Imports.{get_or, sym, ◌∙◌, ap, subst, inl, inr, arith, cases_eq, get_or_default, Fact}
-use Rattle.sas_why.specs.Noting.{NotedAt}
+use Rattle.sas_why.proofs.Imports.{get_or, sym, ◌∙◌, ap, subst, inl, inr, arith, cases_eq, get_or_default, Fact, NotedAt}
 use Rattle.sas_why.proofs.Looking.{one_more_noted, still_noted, now_noted}
 use Rattle.sas_why.proofs.changes.Changes.note_deleted.Goals as goal
 

@@ -1,6 +1,5 @@
 -- The step is noted for the facts so far.
-use Rattle.sas_why.proofs.Imports.{ℕ, ◌<◌, get_or, Fact}
-use Rattle.sas_why.specs.Noting.{NotedAt, NotesSome}
+use Rattle.sas_why.proofs.Imports.{ℕ, ◌<◌, get_or, Fact, NotedAt, NotesSome}
 use Rattle.sas_why.proofs.changes.Changes.note_deleted.Given as goal
 
 abbrev pub invariant-loop-fact : goal.invariant-loop-fact

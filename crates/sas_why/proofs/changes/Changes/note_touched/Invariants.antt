@@ -1,6 +1,5 @@
 -- The step is noted for the variables so far.
-use Rattle.sas_why.proofs.Imports.{ℕ, ◌<◌, get_or}
-use Rattle.sas_why.specs.Noting.{NotedAt, NotesSome}
+use Rattle.sas_why.proofs.Imports.{ℕ, ◌<◌, get_or, NotedAt, NotesSome}
 use Rattle.sas_why.proofs.changes.Changes.note_touched.Given as goal
 
 abbrev pub invariant-loop-var : goal.invariant-loop-var

@@ -1,5 +1,5 @@
 -- Nothing is reported.
-use Rattle.sas_why.proofs.Imports.{common_steps, arith, rules, ◌≡◌, ℕ, zero, suc, ◌∙◌, Bool, false, List, length, get_or, replicate, refl, sym, ap, subst, Contains, false≢true, length-replicate, contains_none, Line}
+use Rattle.sas_why.proofs.Imports.{common_steps, arith, rules, ◌≡◌, ℕ, ◌∙◌, Bool, false, List, length, get_or, replicate, sym, ap, subst, Contains, false≢true, length-replicate, contains_none, Line}
 use Rattle.sas_why.proofs.report.Report.new.Goals as goal
 
 none_kept : (n var : ℕ) → get_or (replicate n false) var false ≡ false

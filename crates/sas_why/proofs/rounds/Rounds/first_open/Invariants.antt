@@ -1,6 +1,5 @@
 -- The conditions so far hold.
-use Rattle.sas_why.proofs.Imports.{◌≤◌, ◌-◌, length, get_or, rule_at}
-use Rattle.sas_why.specs.Rounds.{HoldFrom}
+use Rattle.sas_why.proofs.Imports.{◌≤◌, ◌-◌, length, get_or, rule_at, HoldFrom}
 use Rattle.sas_why.proofs.rounds.Rounds.first_open.Given as goal
 
 abbrev pub invariant-loop-place : goal.invariant-loop-place

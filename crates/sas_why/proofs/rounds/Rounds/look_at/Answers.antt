@@ -1,7 +1,5 @@
 -- A rule that doesn't fire reaches nothing, and one that fires reaches its variable.
-use Rattle.sas_why.proofs.Imports.{ℕ, ◌<◌, List, ◌∷◌, [], ◌++◌, length, refl, sym, ap, subst, ◌∙◌, arith, on_ok_weaker, Change, Parts, rule_at, layer_of, IsOnLayer, on_layer_within, FiresNext}
-use Rattle.sas_why.specs.declared.rounds.Rounds.{Rounds}
-use Rattle.sas_why.specs.Rounds.{InRound}
+use Rattle.sas_why.proofs.Imports.{ℕ, ◌<◌, List, ◌∷◌, [], ◌++◌, length, refl, sym, ap, subst, ◌∙◌, arith, on_ok_weaker, Change, Parts, rule_at, layer_of, IsOnLayer, on_layer_within, FiresNext, Rounds, InRound}
 use Rattle.sas_why.proofs.RoundSteps.{fires_now, looked_none, passed_set, passed_round, reach_round, reach_goes_on, goes_as, sets_default, fails_now, all_hold_now, sets_new}
 use Rattle.sas_why.proofs.rounds.Rounds.look_at.Goals as goal
 use Rattle.sas_why.proofs.rounds.Rounds.look_at.Given.{Over}

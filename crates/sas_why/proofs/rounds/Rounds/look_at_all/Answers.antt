@@ -1,6 +1,5 @@
 -- One more rule was looked at.
-use Rattle.sas_why.proofs.Imports.{ℕ, List, take, sym, subst, take_more}
-use Rattle.sas_why.specs.Rounds.{InRound}
+use Rattle.sas_why.proofs.Imports.{ℕ, List, take, sym, subst, take_more, InRound}
 use Rattle.sas_why.proofs.RoundSteps.{goes_on_more}
 use Rattle.sas_why.proofs.rounds.Rounds.look_at_all.Goals as goal
 

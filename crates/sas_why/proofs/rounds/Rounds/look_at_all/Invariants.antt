@@ -1,6 +1,5 @@
 -- The rules so far were looked at.
-use Rattle.sas_why.proofs.Imports.{take}
-use Rattle.sas_why.specs.Rounds.{InRound, ContinuesRound}
+use Rattle.sas_why.proofs.Imports.{take, InRound, ContinuesRound}
 use Rattle.sas_why.proofs.rounds.Rounds.look_at_all.Given as goal
 
 abbrev pub invariant-loop-rule : goal.invariant-loop-rule
