@@ -1,7 +1,7 @@
 -- A task has so few facts that their numbers don't overflow.
-use Rattle.sas_groups.proofs.Imports.{◌≡◌, ℕ, ◌+◌, ◌^◌, ◌<◌, ◌≤◌, List, [], ◌∷◌, length, get_or, refl, sym, ap, ◌∙◌, subst, inl, inr, arith, cases_eq, get_or_default, get_or_append_left, get_or_push, length_push}
+use Rattle.sas_groups.proofs.Imports.{below_more, ◌≡◌, ℕ, ◌+◌, ◌^◌, ◌<◌, ◌≤◌, List, [], ◌∷◌, length, get_or, refl, sym, ap, ◌∙◌, subst, arith, get_or_default, get_or_append_left, get_or_push, length_push}
 use Rattle.sas_groups.specs.Index.{facts_below}
-use Rattle.sas_groups.proofs.Numbering.{below_more, below_low}
+use Rattle.sas_groups.proofs.Numbering.{facts_below_more, below_low}
 use Rattle.sas_groups.proofs.index.number_facts.Goals as goal
 use Rattle.sas_groups.proofs.index.number_facts.Given.{Over}
 
@@ -10,7 +10,7 @@ overflow_add-facts g c =
     let p = c.args.task.now in
     let var = c.loop-var.var in
     let count = c.variables-var-end.ensures.count in
-    let more = below_more p var in
+    let more = facts_below_more p var in
     let low = below_low p (var + 1) c.variables-var-end.ensures.well_ranged (omega (arith, count)) in
     let facts = c.loop-var.invariant.facts in
     let its = c.range.ensures in
@@ -44,12 +44,8 @@ loop-var-preserved g c =
     ap (λ (xs : List ℕ). get_or xs var 0) more ∙ (get_or_push firsts facts 0 var inv.so_far ∙ inv.facts) in
     record {
       so_far = ap length more ∙ (length_push firsts facts ∙ ap (λ n. n + 1) inv.so_far);
-      are = λ v lt. elim (cases_eq v var) [
-        | inl same ↦ subst (λ i. get_or c.push.new.self.items i 0 ≡ facts_below p i) (sym same) here
-        | inr other ↦ ap (λ (xs : List ℕ). get_or xs v 0) more
-            ∙ (get_or_append_left firsts (facts ∷ []) 0 v (omega (arith, lt, other, inv.so_far)) ∙ inv.are v (omega (arith, lt, other)))
-      ];
-      facts = omega (arith, below_more p var, inv.facts, c.range.ensures);
+      are = below_more _ _ (λ v lt. ap (λ (xs : List ℕ). get_or xs v 0) more ∙ (get_or_append_left firsts (facts ∷ []) 0 v (omega (arith, lt, inv.so_far)) ∙ inv.are v lt)) here;
+      facts = omega (arith, facts_below_more p var, inv.facts, c.range.ensures);
     }
 
 -- the variables so far are all

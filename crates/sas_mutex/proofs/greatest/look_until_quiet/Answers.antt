@@ -7,7 +7,7 @@ use Rattle.sas_mutex.proofs.LookedAt.{rests_on}
 use Rattle.sas_mutex.proofs.Supporting.{none_are, same_falls, same_room}
 use Rattle.sas_mutex.proofs.greatest.look_until_quiet.Goals as goal
 use Rattle.sas_mutex.proofs.greatest.look_until_quiet.Given.{Over}
-use Rattle.sas_mutex.proofs.greatest.look_until_quiet.Goals.{After-clear_basis, After-look_at-alone}
+use Rattle.sas_mutex.proofs.greatest.look_until_quiet.Goals.{After-look_at-alone}
 
 pub clear_basis-requires : goal.clear_basis-requires
 clear_basis-requires g c =
@@ -26,28 +26,28 @@ look_at-alone-requires-clause-room g c =
 
 -- what fell in this turn, and before
 falls : (g : Over) (c : After-look_at-alone g) → Falls c.args.indexed.now c.loop-operator.family c.look_at-alone.new.family
-falls g c = falls_then c.args.indexed.now c.loop-operator.family c.clear_basis.new.self c.look_at-alone.new.family
+falls g c = falls_then
     (same_falls c.args.indexed.now c.loop-operator.family c.clear_basis.new.self c.clear_basis.ensures.kept c.clear_basis.ensures.fallen) c.look_at-alone.ensures.looked.falls
 
 pub returns-then-len-before-clause-falls : goal.returns-then-len-before-clause-falls
 returns-then-len-before-clause-falls g c =
-    falls_then c.args.indexed.now c.args.family.now c.loop-operator.family c.look_at-alone.new.family c.loop-operator.invariant.falls
+    falls_then c.loop-operator.invariant.falls
     (falls g (goal.at.returns-then-len-before-clause-falls g c).After-look_at-alone)
 
 pub returns-then-len-before-clause-rest : goal.returns-then-len-before-clause-rest
 returns-then-len-before-clause-rest g c effect lt place =
     c.look_at-alone.ensures.looked.keeps
-    (none_newly c.args.indexed.now c.clear_basis.new.self c.look_at-alone.new.family c.look_at-alone.ensures.looked.falls
+    (none_newly c.look_at-alone.ensures.looked.falls
     (let after = c.len.ensures in let before = c.len-before.ensures in let same = c.if-len-before.true in
     subst (λ (fallen : Vec ℕ). length c.look_at-alone.new.family.fallen.items ≡ length fallen.items) (sym c.clear_basis.ensures.fallen) (omega arith))) effect place lt
 
 pub returns-then-len-before-clause-alone : goal.returns-then-len-before-clause-alone
 returns-then-len-before-clause-alone g c t =
-    rests_on c.args.indexed.now c.args.operator c.clear_basis.new.self c.look_at-alone.new.family c.look_at-alone.result c.look_at-alone.ensures.looked t
+    rests_on c.look_at-alone.ensures.looked t
 
 pub loop-operator-preserved : goal.loop-operator-preserved
 loop-operator-preserved g c = record {
-  falls = falls_then c.args.indexed.now c.args.family.now c.loop-operator.family c.look_at-alone.new.family c.loop-operator.invariant.falls
+  falls = falls_then c.loop-operator.invariant.falls
       (falls g (goal.at.loop-operator-preserved g c).After-look_at-alone);
   room = c.look_at-alone.ensures.looked.room;
   clean = c.look_at-alone.ensures.clean;

@@ -1,5 +1,5 @@
 -- The effect breaks the group, or the verdict is unchanged.
-use Rattle.sas_mutex.proofs.Imports.{ℕ, ◌+◌, ◌<◌, length, Bool, List, get_or, sym, ap, ◌∙◌, subst, arith, both_ways, get_or-set_same, Verdict, Exclusive, Broken, IsJointVerdict, family_of, verdict_at}
+use Rattle.sas_mutex.proofs.Imports.{ℕ, ◌+◌, ◌<◌, length, List, get_or, sym, ap, ◌∙◌, subst, arith, both_ways, get_or-set_same, Verdict, Exclusive, Broken, IsJointVerdict, family_of, verdict_at}
 use Rattle.sas_mutex.specs.Firing.{EffectPlace, operator_of}
 use Rattle.sas_mutex.specs.Judging.{IsUndecided, IsVerdictSoFar, AreVerdictsSoFar}
 use Rattle.sas_mutex.proofs.VerdictsSoFar.{broken_here, one_judged, so_far_by, one_effect_more, decided_already}
@@ -12,8 +12,7 @@ broken g c =
     let p = c.args.firing.now.task in
     let kept = c.args.kept.now in
     let place = c.args.group in
-    let undecided : IsUndecided kept c.args.verdicts.now place = subst (λ (xs : List Bool). IsUndecided xs c.args.verdicts.now place) c.as_slice.ensures
-    (subst (λ (xs : List Verdict). IsUndecided c.as_slice.result.now xs place) c.as_slice-2.ensures (c.is_undecided.ensures.yes c.if-is_undecided.true)) in
+    let undecided : IsUndecided kept c.args.verdicts.now place = rw (c.as_slice.ensures, c.as_slice-2.ensures) at (c.is_undecided.ensures.yes c.if-is_undecided.true) in
     let operator = (subst (λ (s : EffectPlace). s.operator < length s.task.operators) c.firing.view_is c.firing.invariant.2) in
     let effect = (subst (λ (s : EffectPlace). s.effect < length (operator_of s).effects) c.firing.view_is c.firing.invariant.3) in
     let same = ap (λ (s : EffectPlace). s.operator) c.firing.view_is in
@@ -54,6 +53,5 @@ returns-else-is_undecided-clause-judged g c =
           so_far_by p kept operator effect operator (effect + 1) place (verdict_at c.args.verdicts.now place)
           (λ out. one_effect_more p kept operator effect place (λ has. w.keeps_with_itself.ensures.yes w.if-not-keeps_with_itself.false)) was
       | else-is_undecided-via-else-is_undecided w ↦ decided_already p kept operator effect place c.args.verdicts.now c.requires.has.exists
-          (λ undecided. c.is_undecided.ensures.no w.if-is_undecided.false (subst (λ (xs : List Bool). IsUndecided xs c.as_slice-2.result.now place) (sym c.as_slice.ensures)
-          (subst (λ (xs : List Verdict). IsUndecided kept xs place) (sym c.as_slice-2.ensures) undecided))) was
+          (rw (c.as_slice.ensures, c.as_slice-2.ensures) at (c.is_undecided.ensures.no w.if-is_undecided.false)) was
     ]

@@ -1,7 +1,7 @@
 -- One more effect was checked. Those without conditions were checked before.
 use Rattle.sas_mutex.proofs.Imports.{◌≡◌, ◌<◌, length, sym, subst, inl, inr, arith, and_parts, cases_eq, Parts, operator_at}
 use Rattle.sas_mutex.specs.Falling.{FamilyHasRoom}
-use Rattle.sas_mutex.specs.Looking.{Looked, IsOfEffect, IsOfOperator, IsOfUnconditional}
+use Rattle.sas_mutex.specs.Looking.{Looked, IsOfEffect, IsOfUnconditional}
 use Rattle.sas_mutex.specs.Marks.{IsClean}
 use Rattle.sas_mutex.proofs.LookedAt.{looked_then, looked_by}
 use Rattle.sas_mutex.proofs.looking.look_at.Goals as goal
@@ -32,8 +32,7 @@ look_at_setting-alone-requires-clause-clean g c = subst (λ (p : Parts). IsClean
 
 pub loop-effect-init : goal.loop-effect-init
 loop-effect-init g c = record {
-  looked = looked_by c.args.indexed.now c.args.operator (IsOfUnconditional c.args.indexed.now c.args.operator) _ c.args.family.now c.look_at_plain-alone.new.family
-      c.look_at_plain-alone.result c.look_at_plain-alone.result c.look_at_plain-alone.ensures.looked
+  looked = looked_by c.look_at_plain-alone.ensures.looked
       (λ effect place pair. elim pair [
         | inl lt ↦ absurd (omega arith)
         | inr plain ↦ plain
@@ -53,7 +52,7 @@ loop-effect-preserved g c =
       | then-not-is_plain w ↦
           (let turn = w.look_at_setting-alone in
           rw (w.family-is, w.marks-is, w.alone-is) record {
-            looked = looked_then p operator _ (IsOfEffect at) _ c.args.family.now before turn.new.family c.loop-effect.alone turn.result _ inv.looked
+            looked = looked_then inv.looked
                 (subst (λ (q : Parts). Looked q operator (IsOfEffect at) before turn.new.family turn.result) is turn.ensures.looked)
                 (λ effect place pair. elim pair [
                   | inl lt ↦ elim (cases_eq effect at) [
@@ -66,7 +65,7 @@ loop-effect-preserved g c =
             clean = subst (λ (q : Parts). IsClean q turn.new.marks) is turn.ensures.clean;
           })
       | else-not-is_plain w ↦ rw (w.family-is, w.marks-is, w.alone-is) record {
-        looked = looked_by p operator _ _ c.args.family.now before c.loop-effect.alone c.loop-effect.alone inv.looked
+        looked = looked_by inv.looked
             (λ effect place pair. elim pair [
               | inl lt ↦ elim (cases_eq effect at) [
                 | inl same ↦ inr (subst (λ n. IsOfUnconditional p operator n place) (sym same)
@@ -82,7 +81,6 @@ loop-effect-preserved g c =
 
 pub returns-clause-looked : goal.returns-clause-looked
 returns-clause-looked g c =
-    let p = c.args.indexed.now in
     let count = subst (λ (q : Parts). c.effects-effect-end.result ≡ length (operator_at q c.args.operator).effects) c.indexed.view_is c.effects-effect-end.ensures in
-    looked_by p c.args.operator _ (IsOfOperator p c.args.operator) c.args.family.now c.loop-effect.family c.loop-effect.alone c.loop-effect.alone c.loop-effect.invariant.looked
+    looked_by c.loop-effect.invariant.looked
     (λ effect place lt. inl (omega (arith, lt, count, c.loop-effect-test.false))) (λ t. inl t)

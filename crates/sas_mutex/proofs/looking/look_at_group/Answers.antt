@@ -20,9 +20,8 @@ bounds-as_slice-group g c = omega (arith, c.requires.group, c.requires.room.one_
 
 pub returns-then-not-as_slice-group-clause-looked : goal.returns-then-not-as_slice-group-clause-looked
 returns-then-not-as_slice-group-clause-looked g c =
-    let f = c.args.firing.now in
     let family = c.args.family.now in
-    looked_none f.task f.operator (IsPair f.effect c.args.group) family true c.requires.room
+    looked_none c.requires.room
     (λ effect place pair w _. both_ways (family_of family.kept place)
     (rw pair.1 (subst (λ (kept : List Bool). family_of kept c.args.group ≡ false) c.as_slice.ensures c.if-not-as_slice-group.true)) w.chosen)
 
@@ -34,7 +33,7 @@ returns-then-keeps_by_basis-clause-looked g c =
     let start = c.args.family.now in
     let basis = c.keeps_by_basis.ensures.basis c.if-keeps_by_basis.true in
     subst (λ (family : Family). Looked f.task f.operator (IsPair f.effect c.args.group) start family true) (sym c.keeps_by_basis.ensures.same)
-    (looked_pair f.task f.operator f.effect c.args.group start start true (same_grown start) c.requires.room (c.keeps_by_basis.ensures.kept c.if-keeps_by_basis.true) (λ _. basis))
+    (looked_pair f.effect c.args.group (same_grown start) c.requires.room (c.keeps_by_basis.ensures.kept c.if-keeps_by_basis.true) (λ _. basis))
 
 pub returns-then-keeps_by_basis-clause-notes : goal.returns-then-keeps_by_basis-clause-notes
 returns-then-keeps_by_basis-clause-notes g c =
@@ -74,7 +73,7 @@ returns-then-keeps_by_notes-clause-looked g c =
     let f = c.args.firing.now in
     let after = c.keeps_by_more.new.family in
     subst (λ (family : Family). Looked f.task f.operator (IsPair f.effect c.args.group) family after c.keeps_by_more.result) c.keeps_by_basis.ensures.same
-    (looked_pair f.task f.operator f.effect c.args.group c.keeps_by_basis.new.family after c.keeps_by_more.result c.keeps_by_more.ensures.grown
+    (looked_pair f.effect c.args.group c.keeps_by_more.ensures.grown
     (room g (goal.at.returns-then-keeps_by_notes-clause-looked g c).After-as_slice-2)
     (λ _. subst (λ (kept : List Bool). EffectKeepsGroup f kept c.args.group) c.as_slice-2.ensures (c.keeps_by_notes.ensures.yes c.if-keeps_by_notes.true))
     c.keeps_by_more.ensures.basis)

@@ -1,6 +1,6 @@
 -- A condition of the other effect clashes with the known facts, or its conditions clash with each
 -- other.
-use Rattle.sas_mutex.proofs.Imports.{◌<◌, List, length, sym, subst, inl, inr, All, Contains, Fact, operator_at, effect_at, FactExists, Clash, AreBlank}
+use Rattle.sas_mutex.proofs.Imports.{◌<◌, List, length, sym, subst, inl, inr, Contains, Fact, operator_at, effect_at, Clash, AreBlank}
 use Rattle.sas_mutex.specs.Firing.{EffectPlace, operator_of}
 use Rattle.sas_mutex.specs.Effects.{IsKept}
 use Rattle.sas_mutex.proofs.TaskFacts.{conditions_exist}
@@ -41,22 +41,15 @@ pub effect_conditions-second-requires-clause-effect : goal.effect_conditions-sec
 effect_conditions-second-requires-clause-effect g c = subst (λ (f : EffectPlace). c.args.other < length (operator_of f).effects) (sym c.self.view_is) c.requires.other
 
 pub some_clashes-requires-clause-exist : goal.some_clashes-requires-clause-exist
-some_clashes-requires-clause-exist g c =
-    let p = c.self.inside.task.now in
-    let within = subst (λ (f : EffectPlace). c.args.other < length (operator_of f).effects) (sym c.self.view_is) c.requires.other in
-    subst (λ (f : EffectPlace). All (FactExists f.task.variables) c.effect_conditions-second.result.now) c.self.view_is
-    (subst (All (FactExists p.variables)) (sym c.effect_conditions-second.ensures)
-    (conditions_exist p c.self.invariant.0 c.self.inside.operator c.self.invariant.2 c.args.other within))
+some_clashes-requires-clause-exist g c = rw (← c.self.view_is, c.effect_conditions-second.ensures)
+    (conditions_exist c.self.inside.task.now c.self.invariant.0 c.self.inside.operator c.self.invariant.2 c.args.other (rw (← c.self.view_is) at c.requires.other))
 
 pub invariant_of-indexed : goal.invariant_of-indexed
 invariant_of-indexed g c = (c.self.invariant.0, c.self.invariant.1)
 
 pub facts_clash-requires-clause-exist : goal.facts_clash-requires-clause-exist
-facts_clash-requires-clause-exist g c =
-    let p = c.self.inside.task.now in
-    let within = subst (λ (f : EffectPlace). c.args.other < length (operator_of f).effects) (sym c.self.view_is) c.requires.other in
-    subst (All (FactExists p.variables)) (sym c.effect_conditions-second.ensures)
-    (conditions_exist p c.self.invariant.0 c.self.inside.operator c.self.invariant.2 c.args.other within)
+facts_clash-requires-clause-exist g c = rw c.effect_conditions-second.ensures
+    (conditions_exist c.self.inside.task.now c.self.invariant.0 c.self.inside.operator c.self.invariant.2 c.args.other (rw (← c.self.view_is) at c.requires.other))
 
 pub facts_clash-requires-clause-blank : goal.facts_clash-requires-clause-blank
 facts_clash-requires-clause-blank g c = subst (λ (f : EffectPlace). AreBlank f.task c.args.marks.now.others) (sym c.self.view_is) c.requires.notes.noted.from.others

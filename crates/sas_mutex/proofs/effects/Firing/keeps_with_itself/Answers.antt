@@ -1,6 +1,6 @@
 -- The family with the group consists of the groups of the family and this one.
-use Rattle.sas_mutex.proofs.Imports.{◌≢◌, Bool, true, false, List, length, get_or, set, sym, ap, ◌∙◌, subst, true≢false, both_ways, length-set, operator_at, effect_at, group_at, Several, IsGroupNote}
-use Rattle.sas_mutex.specs.Effects.{IsKept, EffectKeeps}
+use Rattle.sas_mutex.proofs.Imports.{◌≢◌, Bool, true, false, List, length, get_or, set, sym, ap, ◌∙◌, subst, true≢false, both_ways, length-set, operator_at, effect_at, group_at, Several, IsGroupNote, EffectKeeps}
+use Rattle.sas_mutex.specs.Effects.{IsKept}
 use Rattle.sas_mutex.specs.ByNotes.{IsNotedFor, known_at}
 use Rattle.sas_mutex.proofs.VerdictsSoFar.{keeps_then, keeps_itself, put_back, several_never_fire, noted_with, is_more}
 use Rattle.sas_mutex.proofs.FromNotes.{noted_fewer}

@@ -2,19 +2,19 @@
 use Rattle.sas_mutex.proofs.Imports.{List, [], length, ap, subst, sym, ◌∙◌, All, Fact, operator_at, FactExists, Clash, known}
 use Rattle.sas_mutex.specs.Effects.{IsKept}
 use Rattle.sas_mutex.specs.Firing.{EffectPlace}
-use Rattle.sas_mutex.specs.Marks.{IsClean, IsNoted, IsNotedFrom}
-use Rattle.sas_mutex.specs.ByNotes.{NeverFires, known_at}
-use Rattle.sas_mutex.proofs.TaskFacts.{conditions_exist}
+use Rattle.sas_mutex.specs.Marks.{IsClean, IsNotedFrom}
+use Rattle.sas_mutex.specs.ByNotes.{NeverFires, known_at, AreKnown}
+use Rattle.sas_mutex.proofs.TaskFacts.{known_here_exist}
 use Rattle.sas_mutex.proofs.effects.Firing.note.Goals as goal
 
 pub note_known-requires-clause-one_each : goal.note_known-requires-clause-one_each
 note_known-requires-clause-one_each g c = c.requires.one_each ∙ ap (λ (f : EffectPlace). length f.task.groups) (sym c.self.view_is)
 
-pub note_known-requires-clause-first : goal.note_known-requires-clause-first
-note_known-requires-clause-first g c =
+pub note_known-requires-clause-exist : goal.note_known-requires-clause-exist
+note_known-requires-clause-exist g c =
     let p = c.self.inside.task.now in
-    subst (All (FactExists p.variables)) (sym c.effect_conditions.ensures)
-    (conditions_exist p c.self.invariant.0 c.self.inside.operator c.self.invariant.2 c.self.inside.effect c.self.invariant.3)
+    subst (λ (conditions : List Fact). All (FactExists p.variables) (known (operator_at p c.self.inside.operator) conditions [])) (sym c.effect_conditions.ensures)
+    (known_here_exist p c.self.invariant.0 c.self.inside.operator c.self.invariant.2 c.self.inside.effect c.self.invariant.3)
 
 pub note_known-requires-clause-clean : goal.note_known-requires-clause-clean
 note_known-requires-clause-clean g c = subst (λ (f : EffectPlace). IsClean f.task c.args.marks.now) (sym c.self.view_is) c.requires.clean
@@ -37,10 +37,7 @@ returns-clause-notes g c t =
     rw (← c.self.view_is) (record {
       one_each = one_each;
       noted = record {
-        are = record {
-          noted = subst (λ (conditions : List Fact). IsNoted p (known o conditions []) marks) same (c.note_known.ensures.noted t);
-          apart = λ clash. c.note_known.ensures.no t (subst (λ (conditions : List Fact). Clash (IsKept p kept) (known o conditions [])) (sym same) clash);
-        };
+        are = subst (λ (conditions : List Fact). AreKnown p kept (known o conditions []) marks.known) same (c.note_known.ensures.known t);
         from = subst (λ (conditions : List Fact). IsNotedFrom p (known o conditions []) marks) same c.note_known.ensures.from;
       };
     })
