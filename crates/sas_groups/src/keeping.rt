@@ -24,12 +24,7 @@ pub fn keeps<T: Grounded>(task: &Layered<T>, operator: u32, group: &[Fact]) -> b
 }
 
 /// Returns whether the effect sets no fact of the group, or preserves the group.
-fn keeps_if_sets<T: Grounded>(
-    task: &Layered<T>,
-    operator: u32,
-    group: &[Fact],
-    effect: u32,
-) -> bool
+fn keeps_if_sets<T: Grounded>(task: &Layered<T>, operator: u32, group: &[Fact], effect: u32) -> bool
     requires operator { operator < length task.now.operators }
     requires effect { effect < length (operator_at task.now operator).effects }
     ensures { let o = operator_at task.now operator in

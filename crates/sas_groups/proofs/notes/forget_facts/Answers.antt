@@ -1,5 +1,5 @@
 -- One more fact is removed; in the end all are.
-use Rattle.sas_groups.proofs.Imports.{length, get_or, refl, subst, arith, Fact, Parts, each_more}
+use Rattle.sas_groups.proofs.Imports.{length, get_or, subst, arith, Fact, Parts, each_more, common_steps}
 use Rattle.sas_groups.specs.Index.{IsIndexOf}
 use Rattle.sas_groups.specs.Noting.{IsForgotten}
 use Rattle.sas_groups.proofs.Existing.{groups_below}
@@ -31,7 +31,4 @@ loop-fact-preserved g c =
     }
 
 pub returns : goal.returns
-returns g c =
-    let inv = c.loop-fact.invariant in
-    blank_in_the_end c.args.indexed.now c.args.facts.now c.loop-fact.notes _ inv.from
-    (λ k d below. inv.came k d (let all = c.loop-fact-test.false in omega arith)) refl refl refl
+returns g c = grind (arith, common_steps, blank_in_the_end)
