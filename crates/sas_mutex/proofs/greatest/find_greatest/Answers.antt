@@ -1,7 +1,6 @@
 -- If no loose operator removed a group, all operators are at rest.
-use Rattle.sas_mutex.proofs.Imports.{◌≡◌, ℕ, ◌<◌, List, length, get_or, sym, ap, subst, ◌∙◌, arith, get_or_append_left}
-use Rattle.sas_mutex.specs.Falling.{newly}
-use Rattle.sas_mutex.specs.Watching.{IsUnwatched, FallenAreUnwatched, AreLooseAtRest}
+use Rattle.sas_mutex.proofs.Imports.{◌≡◌, ℕ, List, length, sym, subst, arith, get_or_append_left, common_steps}
+use Rattle.sas_mutex.specs.Watching.{FallenAreUnwatched, AreLooseAtRest}
 use Rattle.sas_mutex.proofs.FallingGroups.{none_fell, fallen_grow, falls_then, greatest_in_the_end, none_newly, as_before}
 use Rattle.sas_mutex.proofs.Watched.{none_watched, rest_in_the_end}
 use Rattle.sas_mutex.proofs.greatest.find_greatest.Goals as goal
@@ -28,43 +27,14 @@ loop-before-preserved g c = record {
 }
 
 pub loop-before-init : goal.loop-before-init
-loop-before-init g c =
-    let p = c.args.indexed.now in
-    let family = c.args.family.now in
-    record {
-      falls = none_fell family;
-      ready = record {
-        watched = none_watched p family c.args.watches.now c.requires.unwatched c.requires.none;
-        room = c.requires.room;
-        clean = c.requires.clean;
-      };
-      unwatched = λ place lt. absurd (omega (arith, lt, ap length c.requires.none));
-    }
+loop-before-init g c = grind (arith, common_steps, none_fell, none_watched)
 
 pub recheck_watching-requires-clause-from : goal.recheck_watching-requires-clause-from
 recheck_watching-requires-clause-from g c =
     omega (arith, c.len-before.ensures, fallen_grow c.look_at_loose.ensures.falls)
 
 pub recheck_watching-requires-clause-unwatched : goal.recheck_watching-requires-clause-unwatched
-recheck_watching-requires-clause-unwatched g c =
-    let before = c.loop-before.family in
-    let now = c.look_at_loose.new.family in
-    let w = c.look_at_loose.new.watches in
-    λ place lt.
-    (let early : place < length before.fallen.items = omega (arith, lt, c.len-before.ensures) in
-    subst (λ n. IsUnwatched w n)
-    (sym (ap (λ (xs : List ℕ). get_or xs place 0) c.look_at_loose.ensures.falls.behind ∙ get_or_append_left before.fallen.items (newly before now) 0 place early))
-    (c.look_at_loose.ensures.unwatched place early))
+recheck_watching-requires-clause-unwatched g c = grind (arith, common_steps, get_or_append_left)
 
 pub loop-before-smaller : goal.loop-before-smaller
-loop-before-smaller g c =
-    let now = c.look_at_loose.new.family in
-    omega (
-      arith,
-      fallen_grow c.look_at_loose.ensures.falls,
-      fallen_grow c.recheck_watching.ensures.falls,
-      c.look_at_loose.ensures.ready.room.few,
-      c.len.ensures,
-      c.len-before.ensures,
-      c.if-len-before.false,
-    )
+loop-before-smaller g c = grind (arith, common_steps, fallen_grow)

@@ -1,6 +1,5 @@
 -- The operator depends on the groups that it now watches, or is loose.
-use Rattle.sas_mutex.proofs.Imports.{◌≡◌, ℕ, ◌<◌, ◌^◌, Bool, true, Option, Some, None, List, [], length, set, refl, sym, ap, subst, ◌∙◌, append-nil, All, All-nil, family_of}
-use Rattle.sas_mutex.specs.declared.watches.Watch.{Watch}
+use Rattle.sas_mutex.proofs.Imports.{◌≡◌, ℕ, ◌<◌, ◌^◌, Bool, true, Option, Some, None, List, length, set, sym, ap, subst, ◌∙◌, append-nil, All, All-nil, arith, common_steps}
 use Rattle.sas_mutex.specs.declared.watches.Watches.{Watches}
 use Rattle.sas_mutex.specs.Watching.{AreChained, HasWatchFrom, RestsBy, WatchesMore}
 use Rattle.sas_mutex.proofs.Watched.{rests_by, watched_anew}
@@ -12,18 +11,7 @@ same_inside x y e = cc
 
 -- no watch is made
 no_more : (operator : ℕ) (kept : List Bool) (w : Watches) → AreChained w.made w.last → length w.made < 2 ^ 32 → WatchesMore operator kept w w
-no_more operator kept w chained few = record {
-  made = record {
-    more = [];
-    behind = sym (append-nil w.made);
-    its = All-nil (λ (watch : Watch). watch.operator ≡ operator);
-    in_family = All-nil (λ (watch : Watch). family_of kept watch.group ≡ true);
-  };
-  chained = chained;
-  one_each = refl;
-  few = few;
-  since = refl;
-}
+no_more operator kept w chained few = grind (arith, common_steps, append-nil, All-nil)
 
 pub watch_all-requires-clause-one_each : goal.watch_all-requires-clause-one_each
 watch_all-requires-clause-one_each g c = c.requires.ready.watched.each_group ∙ sym c.look_until_quiet.ensures.room.one_each

@@ -1,6 +1,5 @@
 -- If no more groups were removed, the operator is at rest.
-use Rattle.sas_mutex.proofs.Imports.{ℕ, ◌≡◌, length, sym, subst, arith, Vec}
-use Rattle.sas_mutex.specs.Basis.{IsBasis, IsOfNone}
+use Rattle.sas_mutex.proofs.Imports.{ℕ, ◌≡◌, length, sym, subst, arith, Vec, common_steps}
 use Rattle.sas_mutex.specs.Falling.{Falls}
 use Rattle.sas_mutex.proofs.FallingGroups.{falls_then, none_newly}
 use Rattle.sas_mutex.proofs.LookedAt.{rests_on}
@@ -9,20 +8,8 @@ use Rattle.sas_mutex.proofs.greatest.look_until_quiet.Goals as goal
 use Rattle.sas_mutex.proofs.greatest.look_until_quiet.Given.{Over}
 use Rattle.sas_mutex.proofs.greatest.look_until_quiet.Goals.{After-look_at-alone}
 
-pub clear_basis-requires : goal.clear_basis-requires
-clear_basis-requires g c =
-    let family = c.loop-operator.family in
-    let basis = c.loop-operator.invariant.room.basis in
-    record { basis = subst (λ (count : ℕ). IsBasis count family) (sym basis.one_each) basis }
-
 pub look_at-alone-requires-clause-room : goal.look_at-alone-requires-clause-room
-look_at-alone-requires-clause-room g c =
-    let p = c.args.indexed.now in
-    let before = c.loop-operator.family in
-    let after = c.clear_basis.new.self in
-    let room = c.loop-operator.invariant.room in
-    same_room p before after c.clear_basis.ensures.kept c.clear_basis.ensures.fallen
-    (none_are (length p.groups) after (subst (λ (count : ℕ). IsOfNone count after.basis) room.basis.one_each c.clear_basis.ensures.basis) c.clear_basis.ensures.none) room
+look_at-alone-requires-clause-room g c = grind (arith, common_steps, same_room, none_are)
 
 -- what fell in this turn, and before
 falls : (g : Over) (c : After-look_at-alone g) → Falls c.args.indexed.now c.loop-operator.family c.look_at-alone.new.family

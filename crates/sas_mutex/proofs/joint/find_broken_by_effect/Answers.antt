@@ -56,18 +56,3 @@ returns-clause-so_far g c =
 
 pub note-requires-clause-one_each : goal.note-requires-clause-one_each
 note-requires-clause-one_each g c = ap length c.as_slice-3.ensures ∙ c.requires.one_each
-
-pub forget-requires : goal.forget-requires
-forget-requires g c =
-    let f = c.args.firing.now in
-    elim c.if-not-note.branch [
-      | then-not-note w ↦ rw w.marks-is record { from = w.judge_groups.ensures.notes.noted.from }
-      | else-not-note w ↦ rw w.marks-is record { from = c.note.ensures.from }
-    ]
-
-pub returns-clause-kept : goal.returns-clause-kept
-returns-clause-kept g c =
-    elim c.if-not-note.branch [
-      | then-not-note w ↦ w.kept-is ∙ w.judge_groups.ensures.kept
-      | else-not-note w ↦ w.kept-is
-    ]

@@ -1,5 +1,5 @@
 -- One more effect was checked. Those without conditions were checked before.
-use Rattle.sas_mutex.proofs.Imports.{◌≡◌, ◌<◌, length, sym, subst, inl, inr, arith, and_parts, cases_eq, Parts, operator_at}
+use Rattle.sas_mutex.proofs.Imports.{◌<◌, length, sym, subst, inl, inr, arith, and_parts, cases_eq, Parts, common_steps}
 use Rattle.sas_mutex.specs.Falling.{FamilyHasRoom}
 use Rattle.sas_mutex.specs.Looking.{Looked, IsOfEffect, IsOfUnconditional}
 use Rattle.sas_mutex.specs.Marks.{IsClean}
@@ -16,14 +16,6 @@ is_plain-requires-clause-operator g c = subst (λ (p : Parts). c.args.operator <
 pub is_plain-requires-clause-effect : goal.is_plain-requires-clause-effect
 is_plain-requires-clause-effect g c = subst (λ n. c.loop-effect.effect < n) c.effects-effect-end.ensures c.loop-effect-test.true
 
-pub invariant_of-firing : goal.invariant_of-firing
-invariant_of-firing g c = (
-  c.indexed.invariant.0,
-  c.indexed.invariant.1,
-  subst (λ (p : Parts). c.args.operator < length p.operators) (sym c.indexed.view_is) c.requires.operator,
-  subst (λ n. c.loop-effect.effect < n) c.effects-effect-end.ensures c.loop-effect-test.true,
-)
-
 pub look_at_setting-alone-requires-clause-room : goal.look_at_setting-alone-requires-clause-room
 look_at_setting-alone-requires-clause-room g c = subst (λ (p : Parts). FamilyHasRoom p c.loop-effect.family) (sym c.indexed.view_is) c.loop-effect.invariant.looked.room
 
@@ -31,14 +23,7 @@ pub look_at_setting-alone-requires-clause-clean : goal.look_at_setting-alone-req
 look_at_setting-alone-requires-clause-clean g c = subst (λ (p : Parts). IsClean p c.loop-effect.marks) (sym c.indexed.view_is) c.loop-effect.invariant.clean
 
 pub loop-effect-init : goal.loop-effect-init
-loop-effect-init g c = record {
-  looked = looked_by c.look_at_plain-alone.ensures.looked
-      (λ effect place pair. elim pair [
-        | inl lt ↦ absurd (omega arith)
-        | inr plain ↦ plain
-      ]) (λ t. inl t);
-  clean = c.look_at_plain-alone.ensures.clean;
-}
+loop-effect-init g c = grind (arith, common_steps, looked_by)
 
 pub loop-effect-preserved : goal.loop-effect-preserved
 loop-effect-preserved g c =
@@ -80,7 +65,4 @@ loop-effect-preserved g c =
     ]
 
 pub returns-clause-looked : goal.returns-clause-looked
-returns-clause-looked g c =
-    let count = subst (λ (q : Parts). c.effects-effect-end.result ≡ length (operator_at q c.args.operator).effects) c.indexed.view_is c.effects-effect-end.ensures in
-    looked_by c.loop-effect.invariant.looked
-    (λ effect place lt. inl (omega (arith, lt, count, c.loop-effect-test.false))) (λ t. inl t)
+returns-clause-looked g c = grind (arith, common_steps, looked_by)

@@ -1,5 +1,5 @@
 -- The effect was checked for one more group, and in the end for all groups that contain the fact.
-use Rattle.sas_mutex.proofs.Imports.{ℕ, get_or, true, inl, inr, arith, sym, ◌∙◌, ap, and_parts, cases_eq, Contains-get_or}
+use Rattle.sas_mutex.proofs.Imports.{ℕ, get_or, true, inl, inr, arith, sym, ◌∙◌, ap, and_parts, cases_eq, Contains-get_or, common_steps}
 use Rattle.sas_mutex.proofs.LookedAt.{looked_none, looked_then, looked_all}
 use Rattle.sas_mutex.proofs.looking.look_at_groups.Goals as goal
 
@@ -10,10 +10,7 @@ pub look_at_group-alone-requires-clause-has : goal.look_at_group-alone-requires-
 look_at_group-alone-requires-clause-has g c = ((c.groups-groups.ensures _).0 (Contains-get_or c.groups-groups.result.now c.loop-group.group-index 0 c.loop-group-test.true)).among
 
 pub loop-group-init : goal.loop-group-init
-loop-group-init g c = record {
-  looked = looked_none c.requires.room (λ effect place pair. absurd (omega (arith, pair.2)));
-  notes = c.requires.notes;
-}
+loop-group-init g c = grind (arith, common_steps, looked_none)
 
 pub loop-group-preserved : goal.loop-group-preserved
 loop-group-preserved g c =

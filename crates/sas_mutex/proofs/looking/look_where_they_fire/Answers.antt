@@ -14,12 +14,6 @@ pub look_at_noted-alone-requires-clause-notes : goal.look_at_noted-alone-require
 look_at_noted-alone-requires-clause-notes g c =
     subst (λ (kept : List Bool). IsNotedAt c.args.firing.now kept c.note.new.marks) c.as_slice.ensures (c.note.ensures.notes c.if-not-note.true)
 
-pub forget-requires : goal.forget-requires
-forget-requires g c = elim c.if-not-note.branch [
-  | then-not-note w ↦ rw w.marks-is record { from = w.look_at_noted-alone.ensures.notes.noted.from }
-  | else-not-note w ↦ rw w.marks-is record { from = c.note.ensures.from }
-]
-
 pub returns-clause-looked : goal.returns-clause-looked
 returns-clause-looked g c =
     let f = c.args.firing.now in

@@ -1,12 +1,9 @@
 -- One more fact is removed from the notes.
-use Rattle.sas_mutex.proofs.Imports.{arith, length, refl, ap, ◌∙◌, All-contains, All-weaker, FactExists, known_on, known_left, Turns, turns_begin, turn_has, turn_more, turns_end, IsForgotten, variable_below, groups_below, noted_less, forgotten_now, forgotten_still, blank_in_the_end}
+use Rattle.sas_mutex.proofs.Imports.{arith, length, refl, All-contains, All-weaker, FactExists, known_on, known_left, Turns, turns_begin, turn_has, turn_more, turns_end, IsForgotten, variable_below, groups_below, noted_less, forgotten_now, forgotten_still, blank_in_the_end, common_steps}
 use Rattle.sas_mutex.proofs.marks.forget_known.Goals as goal
 
 pub loop-fact-init : goal.loop-fact-init
-loop-fact-init g c = record {
-  came = turns_begin (IsForgotten c.args.task.now c.args.marks.now.known) (ap known_left c.into_iter-fact-iterator.ensures.into_iter_gives ∙ c.new-fact-items.ensures);
-  from = c.requires.from;
-}
+loop-fact-init g c = grind (arith, common_steps, turns_begin)
 
 pub forget-requires-clause-value : goal.forget-requires-clause-value
 forget-requires-clause-value g c =

@@ -1,5 +1,5 @@
 -- One more fact is recorded.
-use Rattle.sas_mutex.proofs.Imports.{◌≡◌, ◌<◌, ℕ, List, [], ◌++◌, length, refl, ap, ◌∙◌, append-nil, arith, IfSome, Option, Some, None, All, Contains, All-contains, Fact, Parts, FactExists, known_on, known_left, turns_begin, turn_has, turn_more, variable_below, groups_below, blank_same}
+use Rattle.sas_mutex.proofs.Imports.{◌≡◌, ◌<◌, ℕ, List, [], ◌++◌, length, ap, ◌∙◌, append-nil, arith, IfSome, Option, Some, None, All, Contains, All-contains, Fact, Parts, FactExists, known_on, known_left, turns_begin, turn_has, turn_more, variable_below, groups_below, blank_same, common_steps}
 use Rattle.sas_mutex.proofs.KnownFacts.{none_so_far, one_so_far, refused_so_far, from_still, all_known}
 use Rattle.sas_mutex.proofs.marks.note_known.Goals as goal
 
@@ -16,14 +16,7 @@ set_apart-requires g c = chosen_below c.args.task.now (known_on c.args.task.now 
     c.requires.exist c.requires.clean.known.wide.variables c.widest_known-widest.ensures
 
 pub loop-fact-init : goal.loop-fact-init
-loop-fact-init g c =
-    let p = c.args.task.now in
-    record {
-      turns = turns_begin (FactExists p.variables) (ap known_left c.into_iter-fact-iterator.ensures.into_iter_gives ∙ c.new-fact-items.ensures);
-      so_far = none_so_far c.requires.exist c.widest_known-widest.result c.widest_known-widest.ensures
-          (blank_same p c.args.marks.now.known _ refl refl refl c.requires.clean.known) c.set_apart.ensures;
-      others = c.requires.clean.others;
-    }
+loop-fact-init g c = grind (arith, common_steps, turns_begin, none_so_far, blank_same)
 
 pub note-requires-clause-value : goal.note-requires-clause-value
 note-requires-clause-value g c =

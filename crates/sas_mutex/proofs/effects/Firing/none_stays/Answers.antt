@@ -1,5 +1,5 @@
 -- One more run can't remain, or a fact of the group is known.
-use Rattle.sas_mutex.proofs.Imports.{◌≡◌, ◌<◌, ℕ, List, [], length, get_or, drop, sym, ap, subst, ◌∙◌, arith, refl, get_or_default, drop_all, Fact, operator_at, effect_at, group_at, FactExists, IsGone, known, WellRanged, facts_at, AreDistinct, AreRuns, group_fact_exists, one_note_shows, tells_yes, tells_no, tells_other}
+use Rattle.sas_mutex.proofs.Imports.{◌≡◌, [], drop, subst, arith, refl, get_or_default, drop_all, operator_at, effect_at, FactExists, known, WellRanged, group_fact_exists, one_note_shows, tells_yes, tells_no, tells_other, common_steps}
 use Rattle.sas_mutex.specs.Firing.{EffectPlace}
 use Rattle.sas_mutex.specs.Effects.{IsKept}
 use Rattle.sas_mutex.specs.ByNotes.{IsUnknown, IsGoneAt}
@@ -9,14 +9,7 @@ use Rattle.sas_mutex.proofs.FromNotes.{known_one_is_all}
 use Rattle.sas_mutex.proofs.effects.Firing.none_stays.Goals as goal
 
 pub is_gone-requires-clause-fact : goal.is_gone-requires-clause-fact
-is_gone-requires-clause-fact g c =
-    let p = c.args.self.now.task in
-    let o = operator_at p c.args.self.now.operator in
-    let e = effect_at o c.args.self.now.effect in
-    let place = c.args.group in
-    let of = (one_note_shows p (known o e.conditions []) place c.in-Some.fact c.noted.result
-    (c.noted.ensures c.args.kept.now c.requires.notes) (c.only.ensures.some c.in-Some.fact c.in-Some.is)).0 in
-    group_fact_exists p place c.in-Some.fact (subst (λ (s : EffectPlace). WellRanged s.task) c.self.view_is c.self.invariant.0) c.requires.group.exists of.has.among
+is_gone-requires-clause-fact g c = grind (arith, common_steps, one_note_shows, group_fact_exists)
 
 pub returns-in-Some : goal.returns-in-Some
 returns-in-Some g c =
@@ -29,24 +22,7 @@ returns-in-Some g c =
     tells_other c.is_gone.ensures (known_one_is_all p c.args.kept.now o place e c.in-Some.fact c.requires.group of.among of.has.among) (λ all. all c.in-Some.fact of.has.among)
 
 pub loop-length-init : goal.loop-length-init
-loop-length-init g c =
-    let group = rw (← c.self.view_is) at c.requires.group in
-    let p = c.self.inside.task.now in
-    let o = operator_at p c.self.inside.operator in
-    let runs : List (List ℕ) = c.self.inside.index.now.runs in
-    let all = c.self.invariant.1.runs in
-    let below : c.args.group < length runs = let lt = group.exists in let each = all.one_each in omega arith in
-    let here = c.index-as_slice-group.result in
-    let same : get_or runs c.args.group [] ≡ c.as_slice-length-items.result.now =
-    get_or_default runs c.args.group [] here below ∙ (ap (λ (lists : List (List ℕ)). get_or lists c.args.group here) (sym c.as_slice.ensures)
-    ∙ (sym c.index-as_slice-group.is ∙ sym c.as_slice-length-items.ensures)) in
-    let own = c.self.inside.index.now.own_facts in
-    let facts = c.self.invariant.1.facts c.args.group group.exists in
-    let fall : AreRuns (facts_at p own c.args.group) c.as_slice-length-items.result.now = subst (AreRuns (facts_at p own c.args.group)) same (all.are c.args.group group.exists) in
-    let left : facts_at p own c.args.group ≡ c.facts_of-left.result.now = sym c.facts_of-left.ensures in
-    rw (← c.self.view_is) (such_none (IsGone (IsKept p c.args.kept.now) o (effect_at o c.self.inside.effect)) (group_at p c.args.group) c.facts_of-left.result.now c.as_slice-length-items.result.now
-    (subst (λ (fs : List Fact). AreDistinct fs (group_at p c.args.group)) left facts)
-    (subst (λ (fs : List Fact). AreRuns fs c.as_slice-length-items.result.now) left fall))
+loop-length-init g c = grind (arith, common_steps, get_or_default, such_none)
 
 pub split_at-requires : goal.split_at-requires
 split_at-requires g c = next_within c.as_slice-length-items.result.now c.loop-length.length-index c.loop-length-test.true c.loop-length.invariant

@@ -1,5 +1,5 @@
 -- The first fact decides for the whole run, or one more fact can't remain.
-use Rattle.sas_mutex.proofs.Imports.{◌<◌, get_or, sym, subst, arith, operator_at, effect_at, IsGone, each_more, variable_below, tells_yes, tells_no}
+use Rattle.sas_mutex.proofs.Imports.{subst, arith, operator_at, effect_at, IsGone, each_more, variable_below, tells_yes, tells_no, common_steps}
 use Rattle.sas_mutex.specs.Firing.{EffectPlace}
 use Rattle.sas_mutex.specs.Effects.{IsKept}
 use Rattle.sas_mutex.proofs.FromNotes.{IsFiring}
@@ -19,11 +19,7 @@ loop-fact-preserved g c =
     (c.goes.ensures.yes c.if-not-goes.false)
 
 pub is_settled-requires : goal.is_settled-requires
-is_settled-requires g c = record {
-  var = c.requires.var;
-  values = λ k d lt. subst (λ n. (get_or c.args.run.now k d).var < n) (sym c.requires.notes.noted.from.known.wide.variables)
-      (variable_below c.args.self.now.task (get_or c.args.run.now k d) (c.requires.exist k d lt));
-}
+is_settled-requires g c = grind (arith, common_steps, variable_below)
 
 pub loop-fact-init : goal.loop-fact-init
 loop-fact-init g c = λ k d lt. absurd (omega arith)
