@@ -1,17 +1,14 @@
 -- The entries of the effects of large operators.
-use Rattle.sas_groups.proofs.Imports.{◌≡◌, ℕ, ◌+◌, ◌<◌, List, [], ◌∷◌, ◌++◌, length, get_or, sym, subst, inl, inr, arith, All, Contains, cases_eq, Contains-append_left, Contains-push, Parts, operator_at, Entry, by_key, under_holds}
+use Rattle.sas_groups.proofs.Imports.{below_more, ◌≡◌, ℕ, ◌+◌, ◌<◌, List, [], ◌∷◌, ◌++◌, length, get_or, sym, subst, All, Contains, Contains-append_left, Contains-push, Parts, operator_at, Entry, by_key, under_holds}
 use Rattle.sas_groups.specs.ByVariable.{IsLarge, effect_entry, AreEntered, AreByVariable, place_of}
 
 -- one effect more
 pub effect_entered : (p : Parts) (places operator effect : ℕ) (before now after : List (Entry ℕ)) (entry : Entry ℕ) → AreEntered p places operator effect before now
     → entry ≡ effect_entry p places operator effect → after ≡ now ++ entry ∷ [] → AreEntered p places operator (effect + 1) before after
-effect_entered p places operator effect before now after entry entered is more = record {
-  each = λ other lt. subst (λ (es : List (Entry ℕ)). Contains es (effect_entry p places operator other)) (sym more) (elim (cases_eq other effect) [
-    | inl e ↦ subst (λ (n : ℕ). Contains (now ++ entry ∷ []) (effect_entry p places operator n)) (sym e)
-        (subst (λ (x : Entry ℕ). Contains (now ++ entry ∷ []) x) is (Contains-push now entry))
-    | inr ne ↦ Contains-append_left now (entry ∷ []) (effect_entry p places operator other) (entered.each other (omega arith))
-  ]);
-  still = λ x there. subst (λ (es : List (Entry ℕ)). Contains es x) (sym more) (Contains-append_left now (entry ∷ []) x (entered.still x there));
+effect_entered p places operator effect before now after entry entered is more = rw more record {
+  each = below_more _ _ (λ other lt. Contains-append_left now (entry ∷ []) (effect_entry p places operator other) (entered.each other lt))
+      (subst (λ (x : Entry ℕ). Contains (now ++ entry ∷ []) x) is (Contains-push now entry));
+  still = λ x there. Contains-append_left now (entry ∷ []) x (entered.still x there);
 }
 
 -- the effects of the first operators, where these are large
@@ -22,18 +19,12 @@ AreLargeEntered p places operators entries = (operator : ℕ) → operator < ope
 -- one operator more, which is large or isn't
 pub large_entered : (p : Parts) (places operator : ℕ) (before after : List (Entry ℕ)) → AreLargeEntered p places operator before
     → AreEntered p places operator (length (operator_at p operator).effects) before after → AreLargeEntered p places (operator + 1) after
-large_entered p places operator before after were entered other lt large effect within = elim (cases_eq other operator) [
-  | inl e ↦ subst (λ (o : ℕ). Contains after (effect_entry p places o effect)) (sym e)
-      (entered.each effect (subst (λ (o : ℕ). effect < length (operator_at p o).effects) e within))
-  | inr ne ↦ entered.still (effect_entry p places other effect) (were other (omega arith) large effect within)
-]
+large_entered p places operator before after were entered = below_more _ _
+    (λ other lt large effect within. entered.still (effect_entry p places other effect) (were other lt large effect within)) (λ large. entered.each)
 
 pub small_passed : (p : Parts) (places operator : ℕ) (entries : List (Entry ℕ)) → AreLargeEntered p places operator entries → (IsLarge p operator → ⊥)
     → AreLargeEntered p places (operator + 1) entries
-small_passed p places operator entries were small other lt large effect within = elim (cases_eq other operator) [
-  | inl e ↦ absurd (small (subst (IsLarge p) e large))
-  | inr ne ↦ were other (omega arith) large effect within
-]
+small_passed p places operator entries were small = below_more _ _ were (λ large. absurd (small large))
 
 -- by key, they are by variable
 pub large_by_variable : (p : Parts) (places : ℕ) (entries : List (Entry ℕ)) → 0 < places → length (by_key entries places) ≡ places

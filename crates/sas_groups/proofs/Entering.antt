@@ -1,5 +1,5 @@
 -- The entries of groups by the numbers of their facts.
-use Rattle.sas_groups.proofs.Imports.{◌≡◌, ℕ, ◌+◌, ◌-◌, ◌<◌, ◌≤◌, ◌↔◌, List, [], ◌++◌, length, get_or, refl, sym, ap, subst, ◌∙◌, inl, inr, arith, All, Contains, IsNonDecreasingBy, cases_eq, cases_lt, get_or_append_left, get_or-append_right, length-append, Contains-get_or, Contains-append_left, Contains-append_right, Contains-append_cases, Fact, Parts, group_at, FactExists, WellRanged, Listed}
+use Rattle.sas_groups.proofs.Imports.{◌≡◌, ℕ, ◌+◌, ◌-◌, ◌<◌, ◌≤◌, ◌↔◌, List, ◌++◌, length, get_or, refl, sym, ap, subst, ◌∙◌, inl, inr, arith, All, Contains, IsNonDecreasingBy, cases_eq, cases_lt, get_or_append_left, get_or-append_right, length-append, Contains-get_or, Contains-append_left, Contains-append_right, Contains-append_cases, Fact, Parts, group_at, FactExists, WellRanged, common_steps}
 use Rattle.sas_groups.proofs.Imports.{holds_at, Entry, by_key, under_holds, under_ascends, fact_within}
 use Rattle.sas_groups.specs.Distinct.{facts_at, AreOwnLists}
 use Rattle.sas_groups.specs.Index.{facts_below, number, entries_of, AreFirstNumbers, AreByFact, HasFact, under}
@@ -8,9 +8,7 @@ use Rattle.sas_groups.proofs.Numbering.{number_low, one_number}
 
 -- the facts of groups exist
 pub group_fact_exists : (p : Parts) (group : ℕ) (fact : Fact) → WellRanged p → group < length p.groups → Contains (group_at p group) fact → FactExists p.variables fact
-group_fact_exists p group fact ranged lt there =
-    let listed : Listed (FactExists p.variables) (group_at p group) = holds_at (Listed (FactExists p.variables)) [] p.groups ranged.groups.each group lt in
-    subst (FactExists p.variables) there.2 (holds_at (FactExists p.variables) fact (group_at p group) listed.each there.0 there.1)
+group_fact_exists p group fact ranged lt there = grind (arith, common_steps, holds_at)
 
 -- the facts of a group, each once
 module _ (p : Parts) (own : List (List Fact)) (ranged : WellRanged p) (distinct : AreOwnLists p own) where

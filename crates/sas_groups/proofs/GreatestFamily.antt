@@ -1,6 +1,6 @@
 -- The union of families that are preserved jointly is preserved jointly. The greatest family is
 -- unique, contains each group that is exclusive alone, and no group can be added to it.
-use Rattle.sas_groups.proofs.Imports.{◌≡◌, ℕ, ◌<◌, ◌⊎◌, Bool, true, false, List, [], ◌∷◌, ◌++◌, length, refl, sym, ap, subst, inl, inr, ◌||◌, ◌==◌, IsTrue, eq-eqb, eqb-true, Fact, Operator, Parts, group_at, preconditions}
+use Rattle.sas_groups.proofs.Imports.{◌≡◌, ℕ, ◌<◌, ◌⊎◌, Bool, true, false, List, [], ◌∷◌, ◌++◌, length, refl, sym, ap, subst, inl, inr, ◌||◌, ◌==◌, IsTrue, eq-eqb, eqb-true, Fact, Operator, Parts, group_at, preconditions, arith, rules, common_steps}
 use Rattle.sas_groups.specs.Clashes.{Clash, Keeps}
 use Rattle.sas_groups.specs.Families.{MayBeExclusive}
 use Rattle.sas_groups.specs.Families.{IsIn, IsGroupOf, IsGroupOfOr, AllKeep, IsKeptJointly}
@@ -10,16 +10,7 @@ use Rattle.sas_groups.specs.Laws.{FamiliesUnite, GreatestIsOne, GreatestHasAlone
 
 pub clash_more : (Counts More : List Fact → Type 0) (facts : List Fact) → ((g : List Fact) → Counts g → More g)
     → Clash Counts facts → Clash More facts
-clash_more Counts More facts more (f, g, in_f, in_g, why) = (
-  f,
-  g,
-  in_f,
-  in_g,
-  elim why [
-    | inl w ↦ inl w
-    | inr w ↦ inr (record { differ = w.differ; group = w.group; counts = more w.group w.counts; first = w.first; second = w.second })
-  ],
-)
+clash_more Counts More facts more (f, g, in_f, in_g, why) = search (rules, arith)
 
 pub keeps_more : (Counts More : List Fact → Type 0) (o : Operator) (group : List Fact) → ((g : List Fact) → Counts g → More g)
     → Keeps Counts o group → Keeps More o group
@@ -54,10 +45,7 @@ or_right true y h = refl
 or_right false y h = h
 
 pub in_either : (p : Parts) (a b : ℕ → Bool) (place : ℕ) → IsIn p (λ n. a n || b n) place → IsIn p a place ⊎ IsIn p b place
-in_either p a b place w = elim (or_cases (a place) (b place) w.chosen) [
-  | inl h ↦ inl (record { exists = w.exists; chosen = h })
-  | inr h ↦ inr (record { exists = w.exists; chosen = h })
-]
+in_either p a b place w = grind (arith, common_steps, or_cases)
 
 pub in_first : (p : Parts) (a b : ℕ → Bool) (place : ℕ) → IsIn p a place → IsIn p (λ n. a n || b n) place
 in_first p a b place w = record { exists = w.exists; chosen = or_left (a place) (b place) w.chosen }
@@ -119,10 +107,7 @@ with_place_is_kept p family place exists jointly may kept = record {
     larger = group_of_larger p family (λ x. family x || (x == place)) (in_first p family (λ x. x == place))
 
     or_itself : (group : List Fact) → IsGroupOfOr p family (group_at p place) group → IsGroupOf p (λ x. family x || (x == place)) group
-    or_itself group w = elim w [
-      | inl h ↦ larger group h
-      | inr is ↦ (place, in_second p family (λ x. x == place) place (in_single p place exists), is)
-    ]
+    or_itself group w = grind (arith, common_steps, larger, in_second, in_single)
 
 pub outside_is_broken : OutsideIsBroken
 outside_is_broken p family place exists greatest outside may kept = outside (greatest.greatest (λ n. family n || (n == place))

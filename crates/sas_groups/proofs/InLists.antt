@@ -1,5 +1,5 @@
 -- The contents of lists that are built from other lists.
-use Rattle.sas_groups.proofs.Imports.{◌≡◌, ◌⊎◌, ℕ, ◌<◌, List, [], ◌∷◌, ◌++◌, length, get_or, map, Option, None, Some, refl, sym, ◌∙◌, ap, subst, inl, inr, arith, Contains, cons_option, filter_map, flat_map, option_to_list, get_or-map, length-map, All-nil, All-cons, All-contains, Contains-get_or, Contains-append_left, Contains-append_right, Contains-append_cases, cases_eq}
+use Rattle.sas_groups.proofs.Imports.{◌≡◌, ◌⊎◌, ℕ, ◌<◌, List, [], ◌∷◌, ◌++◌, length, get_or, map, Option, None, Some, refl, sym, ◌∙◌, ap, subst, inl, inr, arith, Contains, cons_option, filter_map, flat_map, option_to_list, get_or-map, length-map, All-nil, All-cons, All-contains, Contains-get_or, Contains-append_left, Contains-append_right, Contains-append_cases, cases_eq, common_steps}
 
 -- nothing stands in the empty list
 pub in_none : {X : Type 0} (x : X) → Contains [] x → ⊥
@@ -7,8 +7,7 @@ in_none x there = let lt = there.1 in omega arith
 
 -- what is made of each item stands in the list of what is made
 pub in_map : {X Y : Type 0} (f : X → Y) (xs : List X) (x : X) → Contains xs x → Contains (map f xs) (f x)
-in_map f xs x there =
-    (there.0, (let len = length-map xs f in let lt = there.1 in omega arith), get_or-map f xs there.0 x (f x) there.1 ∙ ap f there.2)
+in_map f xs x there = grind (arith, common_steps, length-map, get_or-map)
 
 pub from_map : {X Y : Type 0} (f : X → Y) (xs : List X) (y : Y) (d : X) → Contains (map f xs) y → (x : X) × Contains xs x × (f x ≡ y)
 from_map f xs y d there =

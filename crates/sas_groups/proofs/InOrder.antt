@@ -1,5 +1,5 @@
 -- A sorted list without duplicates contains the same facts as the original list.
-use Rattle.sas_groups.proofs.Imports.{replicate, ◌-◌, Ordering, Less, Equal, Greater, ◌≡◌, ◌≢◌, ℕ, zero, suc, get_or, ap, ◌+◌, ◌<◌, ◌≤◌, Bool, true, List, [], ◌∷◌, ◌++◌, length, refl, sym, ◌∙◌, subst, inl, inr, arith, IsEquivalence, IsTotalOrder, eq_by_cmp, nat_cmp, ordering_reverse, ordering_then, Contains, IsFiltered, DiffersFromLast, IsPermutation, IsSorted, IsStrictlySortedBy, cases_eq}
+use Rattle.sas_groups.proofs.Imports.{replicate, ◌-◌, Ordering, Less, Equal, Greater, ◌≡◌, ◌≢◌, ℕ, zero, suc, get_or, ap, ◌+◌, ◌<◌, ◌≤◌, Bool, true, List, [], ◌∷◌, ◌++◌, length, refl, sym, ◌∙◌, subst, inl, inr, arith, IsEquivalence, IsTotalOrder, eq_by_cmp, nat_cmp, ordering_reverse, ordering_then, Contains, IsFiltered, DiffersFromLast, IsPermutation, IsSorted, IsStrictlySortedBy, cases_eq, common_steps}
 use Rattle.sas_groups.proofs.Imports.{cases_lt, get_or_append_left, get_or-append_right, get_or_push, get_or-replicate, length-append, length-replicate, length_push, get_or-eq_default, dedup_is, Contains-dedup, Contains-from_dedup, IsStrictlySortedBy-dedup, Less-from_sorted, Contains-get_or, Contains-permutation, IsPermutation-sym, length_permutation, Fact, Parts, group_at}
 use Rattle.sas_groups.specs.Distinct.{own_or, facts_at, AreDistinct, IsBelow}
 
@@ -18,11 +18,7 @@ abbrev pub AreAscending : List Fact → ℕ → Type 0
 AreAscending facts count = (k : ℕ) (d : Fact) → k + 1 < count → IsBelow (get_or facts k d) (get_or facts (k + 1) d)
 
 pub ascending_once : (facts : List Fact) → AreAscending facts (length facts) → AreDistinct facts facts
-ascending_once facts up = record {
-  short = omega arith;
-  same = λ fact. ((λ there. there), (λ there. there));
-  once = λ i j d lt within. not_below (get_or facts i d) (get_or facts j d) (later i j d lt within);
-}
+ascending_once facts up = grind (arith, common_steps, not_below, later)
   where
     later : (i j : ℕ) (d : Fact) → i < j → j < length facts → IsBelow (get_or facts i d) (get_or facts j d)
     later i zero d lt within = absurd (omega arith)
@@ -56,12 +52,7 @@ module _ (p : Parts) (group : ℕ) (own : List (List Fact)) (short : length own 
   filled_length = omega (arith, length-append own (replicate (group - length own) []), length-replicate {A = List Fact} (group - length own) [])
 
   filled_same : (place : ℕ) → place < group → get_or filled place [] ≡ get_or own place []
-  filled_same place lt = elim (cases_lt place (length own)) [
-    | inl within ↦ get_or_append_left own (replicate (group - length own) []) [] place within
-    | inr behind ↦ get_or-append_right own (replicate (group - length own) []) (length own) place [] refl behind
-        ∙ get_or-replicate (group - length own) (place - length own) [] [] (omega arith)
-        ∙ sym (get_or-eq_default own [] behind)
-  ]
+  filled_same place lt = grind (arith, common_steps, cases_lt, get_or_append_left, get_or-append_right, get_or-replicate, get_or-eq_default)
 
   -- one group more has its list
   pub own_more : (its : List Fact) (lists : List (List Fact)) → lists ≡ filled ++ its ∷ [] → AreDistinct (own_or its (group_at p group)) (group_at p group)

@@ -1,6 +1,6 @@
 -- Groups that every operator preserves stay exclusive, by induction over the reachable states, for
 -- any set of assumed groups.
-use Rattle.sas_groups.proofs.Imports.{◌≡◌, ◌≢◌, ℕ, Bool, List, [], ◌∷◌, ◌++◌, get_or, refl, sym, ◌∙◌, ap, subst, inl, inr, cases_eq, All-nil, All-cons, All-append, All-contains, All, Contains, Fact, Effect, Operator, Parts, group_at, Holds, AllHold, IsBasic, preconditions, Fires, Step, IsInitial, Reachable, Initial, Next, SetBy, Untouched, set_or_kept}
+use Rattle.sas_groups.proofs.Imports.{◌≡◌, ◌≢◌, ℕ, Bool, List, [], ◌∷◌, ◌++◌, get_or, refl, sym, ◌∙◌, ap, subst, inl, inr, cases_eq, All-nil, All-cons, All-append, All-contains, All, Contains, Fact, Effect, Operator, Parts, Holds, AllHold, IsBasic, preconditions, Fires, Step, IsInitial, Reachable, Initial, Next, SetBy, Untouched, set_or_kept, arith, rules, common_steps}
 use Rattle.sas_groups.specs.Clashes.{Clash, sets, Keeps}
 use Rattle.sas_groups.specs.Groups.{IsExclusiveIn}
 use Rattle.sas_groups.specs.Families.{MayBeExclusive}
@@ -25,10 +25,7 @@ module _ (p : Parts) (Counts : List Fact → Type 0) (are_kept : AreKept p Count
 
   -- facts that all hold don't clash
   no_clash : (s : List ℕ) (facts : List Fact) → Exclusive s → AllHold (λ v. get_or s v 0) facts → Clash Counts facts → ⊥
-  no_clash s facts exclusive hold (f, g, in_f, in_g, why) = elim why [
-    | inl w ↦ w.1 (sym (holds f in_f) ∙ (ap (λ v. get_or s v 0) w.0 ∙ holds g in_g))
-    | inr w ↦ w.differ (exclusive w.group w.counts f g w.first w.second (holds f in_f) (holds g in_g))
-  ]
+  no_clash s facts exclusive hold (f, g, in_f, in_g, why) = grind (arith, common_steps, holds)
     where
       holds : (f : Fact) → Contains facts f → get_or s f.var 0 ≡ f.value
       holds f among = All-contains (λ (x : Fact). get_or s x.var 0 ≡ x.value) facts f hold among
@@ -37,8 +34,7 @@ module _ (p : Parts) (Counts : List Fact → Type 0) (are_kept : AreKept p Count
   basic_of group f counts here = All-contains (λ (x : Fact). IsBasic p x.var) group f (are_kept.may group counts).basic here
 
   initially : (s : List ℕ) → IsInitial p s → Exclusive s
-  initially s start group counts f g in_f in_g hf hg = (are_kept.may group counts).initial f g in_f in_g
-      (start.basic f.var (basic_of group f counts in_f) ∙ hf) (start.basic g.var (basic_of group g counts in_g) ∙ hg)
+  initially s start group counts f g in_f in_g hf hg = grind (arith, common_steps, basic_of)
 
   module _ (s s' : List ℕ) (o : Operator) (is : Contains p.operators o) (step : Step p s o s') (before : Exclusive s) (group : List Fact) (counts : Counts group) where
     keeps : Keeps Counts o group
@@ -56,9 +52,7 @@ module _ (p : Parts) (Counts : List Fact → Type 0) (are_kept : AreKept p Count
     ]
       where
         all : AllHold (λ v. get_or s v 0) (preconditions o ++ w.effect.conditions ++ f ∷ [])
-        all = All-append (Holds (λ v. get_or s v 0)) (preconditions o ++ w.effect.conditions) (f ∷ [])
-            (All-append (Holds (λ v. get_or s v 0)) (preconditions o) w.effect.conditions step.applicable w.fires)
-            (All-cons (Holds (λ v. get_or s v 0)) f [] was (All-nil (Holds (λ v. get_or s v 0))))
+        all = search (rules, arith, All-append, All-cons, All-nil)
 
         fires : (d : Effect) → All (Contains (preconditions o ++ w.effect.conditions ++ f ∷ [])) d.conditions → Fires s d
         fires d within j e lt = All-contains (Holds (λ v. get_or s v 0)) (preconditions o ++ w.effect.conditions ++ f ∷ []) (get_or d.conditions j e) all (within j e lt)
@@ -106,13 +100,11 @@ group_is_kept p group may kept = record {
 }
 
 pub jointly_kept_is_invariant : JointlyKeptIsInvariant
-jointly_kept_is_invariant p family place jointly among s reach =
-    always p (IsGroupOf p family) (family_is_kept p family jointly) reach (group_at p place) (place, among, refl)
+jointly_kept_is_invariant p family place jointly among s reach = search (rules, arith, always, family_is_kept)
 
 pub exclusive_alone_is_invariant : ExclusiveAloneIsInvariant
 exclusive_alone_is_invariant p group verdict s reach =
     always p (λ g. g ≡ group) (group_is_kept p group (record { basic = verdict.0; initial = verdict.1 }) verdict.2) reach group refl
 
 pub exclusive_jointly_is_invariant : ExclusiveJointlyIsInvariant
-exclusive_jointly_is_invariant p place verdict =
-    jointly_kept_is_invariant p verdict.0 place verdict.1.jointly verdict.2
+exclusive_jointly_is_invariant p place verdict = search (rules, arith, jointly_kept_is_invariant)

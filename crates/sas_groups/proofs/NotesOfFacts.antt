@@ -1,5 +1,5 @@
 -- The notes after one more fact is recorded or removed.
-use Rattle.sas_groups.proofs.Imports.{◌≡◌, ◌≢◌, ◌⊎◌, ℕ, ◌<◌, Bool, IsTrue, length, set, List, Option, None, Some, subst, refl, sym, ap, ◌∙◌, inl, inr, arith, All, Contains, cases_eq, get_or-set_same, get_or-set_other, length-set, All-contains, Fact, Parts, FactExists}
+use Rattle.sas_groups.proofs.Imports.{◌≡◌, ◌≢◌, ◌⊎◌, ℕ, ◌<◌, Bool, IsTrue, length, set, List, Option, None, Some, subst, refl, sym, ap, ◌∙◌, inl, inr, arith, All, Contains, cases_eq, get_or-set_same, get_or-set_other, length-set, All-contains, Fact, Parts, FactExists, common_steps}
 use Rattle.sas_groups.specs.declared.index.Index.{Index}
 use Rattle.sas_groups.specs.declared.notes.Notes.{Notes}
 use Rattle.sas_groups.specs.declared.notes.Noted.{Noted}
@@ -19,13 +19,7 @@ same_inside x y is = cc
 
 -- two facts are one, or they aren't
 pub one_or_two : (f g : Fact) → (f ≡ g) ⊎ (f ≢ g)
-one_or_two f g = elim (cases_eq f.var g.var) [
-  | inr ne ↦ inr (λ e. ne (ap (λ (x : Fact). x.var) e))
-  | inl var ↦ elim (cases_eq f.value g.value) [
-    | inr ne ↦ inr (λ e. ne (ap (λ (x : Fact). x.value) e))
-    | inl value ↦ inl (same f.var f.value g.var g.value var value)
-  ]
-]
+one_or_two f g = grind (arith, common_steps, cases_eq)
   where
     same : (v a w b : ℕ) → v ≡ w → a ≡ b → (let x : Fact = record { var = v; value = a } in x) ≡ record { var = w; value = b }
     same v a w b var value = rw (var, value) refl
@@ -33,10 +27,7 @@ one_or_two f g = elim (cases_eq f.var g.var) [
 -- a fact is the one apart, or it isn't
 pub apart_or_not : (apart : Option Fact) (f : Fact) → (apart ≡ Some f) ⊎ (apart ≢ Some f)
 apart_or_not None f = inr (λ e. absurd cc)
-apart_or_not (Some g) f = elim (one_or_two g f) [
-  | inl e ↦ inl (ap (λ x. Some x) e)
-  | inr ne ↦ inr (λ e. ne (same_inside g f e))
-]
+apart_or_not (Some g) f = grind (arith, common_steps, one_or_two, same_inside)
 
 -- a note is nothing, or something
 pub a_note : {A : Type 0} (noted : Option A) → (noted ≡ None) ⊎ ((x : A) × (noted ≡ Some x))
@@ -50,17 +41,11 @@ nothing_or_not Several = inr (λ e. absurd cc)
 
 -- a fact that is noted twice is noted once
 one_again : (fact : Fact) (after : Noted) → IsNotedToo (One fact) fact after → after ≡ One fact
-one_again fact after too = elim too [
-  | inl w ↦ w.1
-  | inr w ↦ absurd (w.0 refl)
-]
+one_again fact after too = grind (arith, common_steps)
 
 pub noted_again : (before now : Noted) (fact : Fact) (after : Noted) → IsNotedToo before fact now → IsNotedToo now fact after → IsNotedToo before fact after
 noted_again Nothing now fact after first second = one_again fact after (subst (λ noted. IsNotedToo noted fact after) first second)
-noted_again (One other) now fact after first second = elim first [
-  | inl w ↦ inl (w.0, one_again fact after (subst (λ noted. IsNotedToo noted fact after) w.1 second))
-  | inr w ↦ inr (w.0, subst (λ noted. IsNotedToo noted fact after) w.1 second)
-]
+noted_again (One other) now fact after first second = grind (arith, common_steps, one_again)
 noted_again Several now fact after first second = subst (λ noted. IsNotedToo noted fact after) first second
 
 -- the groups that take a fact, one more of them
@@ -80,21 +65,10 @@ module _ (groups : List ℕ) (kept : List Bool) (fact : Fact) (before now : List
     elsewhere q ne = get_or-set_other now place q after Nothing ne
 
     pub takes_here : NotesForGroup groups kept fact before (set now place after) place
-    takes_here = record {
-      among = among;
-      now = subst (λ noted. IsNotedToo (group_note before place) fact noted) (sym at_place) since_before;
-      alone = λ in_family several. alone in_family (sym at_place ∙ several);
-    }
+    takes_here = grind (arith, common_steps, at_place, since_before)
 
     pub takes_still : (q : ℕ) → NotesForGroup groups kept fact before now q → NotesForGroup groups kept fact before (set now place after) q
-    takes_still q takes = elim (cases_eq q place) [
-      | inl e ↦ subst (λ x. NotesForGroup groups kept fact before (set now place after) x) (sym e) takes_here
-      | inr ne ↦ record {
-        among = takes.among;
-        now = subst (λ noted. IsNotedToo (group_note before q) fact noted) (sym (elsewhere q ne)) takes.now;
-        alone = λ in_family several. takes.alone in_family (sym (elsewhere q ne) ∙ several);
-      }
-    ]
+    takes_still q takes = grind (arith, common_steps, cases_eq, takes_here, elsewhere)
 
     pub taken_more : TakenBySome groups kept fact before (set now place after)
     taken_more = record {
@@ -150,33 +124,15 @@ module _ (Before After : Fact → Type 0) (fact : Fact) (too_then : (f : Fact) �
   note_stays Several back is = (is.0, is.1, too_then is.0 is.2, too_then is.1 is.3, is.4)
 
   pub note_changes : (noted after : Noted) → After fact → IsNotedToo noted fact after → IsNoteOf Before noted → IsNoteOf After after
-  note_changes Nothing after its too is = subst (IsNoteOf After) (sym too) (
-    its,
-    λ other of. elim (either other of) [
-      | inl was ↦ absurd (is other was)
-      | inr new ↦ sym new
-    ],
-  )
-  note_changes (One one) after its too is = elim too [
-    | inl w ↦ subst (IsNoteOf After) (sym w.1) (
-      its,
-      λ other of. elim (either other of) [
-        | inl was ↦ is.1 other was ∙ w.0
-        | inr new ↦ sym new
-      ],
-    )
-    | inr w ↦ subst (IsNoteOf After) (sym w.1) (one, fact, too_then one is.0, its, w.0)
-  ]
+  note_changes Nothing after its too is = grind (arith, common_steps)
+  note_changes (One one) after its too is = grind (arith, common_steps)
   note_changes Several after its too is = subst (IsNoteOf After) (sym too) (is.0, is.1, too_then is.0 is.2, too_then is.1 is.3, is.4)
 
 -- where a fact is refused another is noted, and where it isn't none is
 module _ (Before : Fact → Type 0) (fact : Fact) where
   pub other_known : (noted : Noted) → IsNotedToo noted fact Several → IsNoteOf Before noted → (g : Fact) × Before g × (fact ≢ g)
   other_known Nothing too is = absurd cc
-  other_known (One one) too is = elim too [
-    | inl w ↦ (let never : Several ≡ One fact = w.1 in absurd cc)
-    | inr w ↦ (one, is.0, λ e. w.0 (sym e))
-  ]
+  other_known (One one) too is = grind (arith, common_steps)
   other_known Several too is = elim (one_or_two fact is.0) [
     | inl e ↦ (is.1, is.3, λ e'. is.4 (sym e ∙ e'))
     | inr ne ↦ (is.0, is.2, ne)
@@ -184,10 +140,7 @@ module _ (Before : Fact → Type 0) (fact : Fact) where
 
   pub no_other : (noted after : Noted) → IsNoteOf Before noted → IsNotedToo noted fact after → after ≢ Several → (f : Fact) → Before f → f ≡ fact
   no_other Nothing after is too few f of = absurd (is f of)
-  no_other (One one) after is too few f of = elim too [
-    | inl w ↦ is.1 f of ∙ w.0
-    | inr w ↦ absurd (few w.1)
-  ]
+  no_other (One one) after is too few f of = grind (arith, common_steps)
   no_other Several after is too few f of = absurd (few too)
 
 pub shared_turned : (index : Index) (kept : List Bool) (f g : Fact) → ShareKept index kept f g → ShareKept index kept g f
@@ -233,21 +186,12 @@ completed p index facts notes place noted indexed there exists are is = elim (a_
 
 -- nothing is noted by notes that say the same as others by which nothing is
 pub blank_same : (p : Parts) (old new : Notes) → new.values ≡ old.values → new.groups ≡ old.groups → new.apart ≡ old.apart → AreBlank p old → AreBlank p new
-blank_same p old new values groups apart blank = record {
-  wide = record { variables = ap length values ∙ blank.wide.variables; groups = ap length groups ∙ blank.wide.groups };
-  values = λ var lt. ap (λ vs. value_note vs var) values ∙ blank.values var lt;
-  groups = λ place lt. ap (λ gs. group_note gs place) groups ∙ blank.groups place lt;
-  none_apart = apart ∙ blank.none_apart;
-}
+blank_same p old new values groups apart blank = grind (arith, common_steps)
 
 -- at first notes are from the one apart
 module _ (p : Parts) (old new : Notes) (blank : AreBlank p old) where
   pub from_apart : (apart : Option Fact) (all : List Fact) → IsSetApart apart old new → ((f : Fact) → apart ≡ Some f → Contains all f) → AreFrom p all new
-  from_apart apart all is_set among = record {
-    wide = record { variables = as_wide apart is_set.values ∙ blank.wide.variables; groups = ap length is_set.same_groups ∙ blank.wide.groups };
-    values = λ var lt some. from_value apart var lt is_set.values among some;
-    groups = λ place lt some. absurd (some (ap (λ gs. group_note gs place) is_set.same_groups ∙ blank.groups place lt));
-  }
+  from_apart apart all is_set among = grind (arith, common_steps, as_wide, from_value)
     where
       as_wide : (apart : Option Fact) → IsSet apart old.values new.values → length new.values ≡ length old.values
       as_wide None is_set = ap length is_set
@@ -256,12 +200,9 @@ module _ (p : Parts) (old new : Notes) (blank : AreBlank p old) where
       from_value : (apart : Option Fact) (var : ℕ) → var < length p.variables → IsSet apart old.values new.values → ((f : Fact) → apart ≡ Some f → Contains all f)
           → value_note new.values var ≢ None → (f : Fact) × Contains all f × (f.var ≡ var)
       from_value None var lt is_set among some = absurd (some (ap (λ vs. value_note vs var) is_set ∙ blank.values var lt))
-      from_value (Some one) var lt is_set among some = elim (cases_eq var one.var) [
-        | inl e ↦ (one, among one refl, sym e)
-        | inr ne ↦ absurd (some (ap (λ vs. value_note vs var) is_set ∙ (get_or-set_other old.values one.var var (Some one.value) None ne ∙ blank.values var lt)))
-      ]
+      from_value (Some one) var lt is_set among some = grind (arith, common_steps, cases_eq, get_or-set_other)
 
-module _ (p : Parts) (index : Index) (all : List Fact) (old new : Notes) (indexed : IsIndexOf p index) (from : AreFrom p all old)
+module _ {p : Parts} {index : Index} {all : List Fact} {old new : Notes} (indexed : IsIndexOf p index) (from : AreFrom p all old)
     (fact : Fact) (exists : FactExists p.variables fact) where
   -- a change at a fact of these leaves notes of these
   pub noted_still : Contains all fact → (value_note old.values fact.var ≡ None → old.apart ≢ Some fact) → ChangesAt (groups_of index fact) fact old new → AreFrom p all new
@@ -285,16 +226,10 @@ module _ (p : Parts) (index : Index) (all : List Fact) (old new : Notes) (indexe
     forgotten_value = ap (λ vs. value_note vs fact.var) forgets.values ∙ get_or-set_same old.values fact.var None None within
 
     value_or_none : (var : ℕ) → (value_note new.values var ≡ value_note old.values var) ⊎ (value_note new.values var ≡ None)
-    value_or_none var = elim (cases_eq var fact.var) [
-      | inl e ↦ inr (ap (value_note new.values) e ∙ forgotten_value)
-      | inr ne ↦ inl (ap (λ vs. value_note vs var) forgets.values ∙ get_or-set_other old.values fact.var var None None ne)
-    ]
+    value_or_none var = grind (arith, common_steps, cases_eq, forgotten_value, get_or-set_other)
 
     note_or_none : (place : ℕ) → (group_note new.groups place ≡ group_note old.groups place) ⊎ (group_note new.groups place ≡ Nothing)
-    note_or_none place = elim forgets.by_group [
-      | inl w ↦ inl (ap (λ gs. group_note gs place) w.1)
-      | inr by_group ↦ by_group.each place
-    ]
+    note_or_none place = grind (arith, common_steps)
 
     as_many_groups : length new.groups ≡ length old.groups
     as_many_groups = elim forgets.by_group [ inl w ↦ ap length w.1 | inr by_group ↦ by_group.as_many ]
@@ -326,28 +261,9 @@ module _ (p : Parts) (index : Index) (all : List Fact) (old new : Notes) (indexe
     }
 
     pub forgotten_still : (f : Fact) → IsForgotten p old f → IsForgotten p new f
-    forgotten_still f was = record {
-      value = elim (value_or_none f.var) [ inl same ↦ same ∙ was.value | inr none ↦ none ];
-      groups = λ place has. elim (was.groups place has) [
-        | inl e ↦ inl (forgets.same_apart ∙ e)
-        | inr nothing ↦ inr (elim (note_or_none place) [ inl same ↦ same ∙ nothing | inr none ↦ none ])
-      ];
-    }
+    forgotten_still f was = grind (arith, common_steps, value_or_none, note_or_none)
 
 -- where all that notes are from is forgotten, and none is apart any more, nothing is noted
 pub blank_in_the_end : (p : Parts) (all : List Fact) (notes after : Notes) → AreFrom p all notes → All (IsForgotten p notes) all
     → after.values ≡ notes.values → after.groups ≡ notes.groups → after.apart ≡ None → AreBlank p after
-blank_in_the_end p all notes after from forgotten same_values same_groups none_apart = record {
-  wide = record { variables = ap length same_values ∙ from.wide.variables; groups = ap length same_groups ∙ from.wide.groups };
-  values = λ var lt. ap (λ vs. value_note vs var) same_values ∙ elim (a_note (value_note notes.values var)) [
-    | inl none ↦ none
-    | inr w ↦ (let (f, in_all, on) = from.values var lt (λ none. none_or_some w.0 (value_note notes.values var) none w.1) in
-        subst (λ v. value_note notes.values v ≡ None) on (All-contains (IsForgotten p notes) all f forgotten in_all).value)
-  ];
-  groups = λ place lt. ap (λ gs. group_note gs place) same_groups ∙ elim (nothing_or_not (group_note notes.groups place)) [
-    | inl nothing ↦ nothing
-    | inr some ↦ (let (f, in_all, has, beside) = from.groups place lt some in
-        elim ((All-contains (IsForgotten p notes) all f forgotten in_all).groups place has) [ inl e ↦ absurd (beside e) | inr none ↦ none ])
-  ];
-  none_apart = none_apart;
-}
+blank_in_the_end p all notes after from forgotten same_values same_groups none_apart = grind (arith, common_steps, a_note, none_or_some, All-contains, nothing_or_not)

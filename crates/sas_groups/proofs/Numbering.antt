@@ -1,5 +1,5 @@
 -- Different facts have different numbers.
-use Rattle.sas_groups.proofs.Imports.{◌≡◌, ℕ, zero, suc, ◌+◌, ◌*◌, ◌^◌, ◌<◌, ◌≤◌, List, [], ◌∷◌, length, ◌∙◌, ap, subst, inl, inr, arith, AllByRecursion, cases_lt, Fact, Parts, Variable, FactExists, range_of, WellRanged, VariableFits, fact_within}
+use Rattle.sas_groups.proofs.Imports.{◌≡◌, ℕ, zero, suc, ◌+◌, ◌*◌, ◌^◌, ◌<◌, ◌≤◌, List, [], ◌∷◌, length, ap, subst, inl, inr, arith, AllByRecursion, cases_lt, Fact, Parts, Variable, FactExists, range_of, WellRanged, VariableFits, fact_within, common_steps}
 use Rattle.sas_groups.specs.Index.{facts_below, number, AreFirstNumbers}
 
 -- a variable has fewer than 2^31 values
@@ -9,8 +9,8 @@ range_low (v ∷ vs) zero fits = fits.0.values.count
 range_low (v ∷ vs) (suc var) fits = range_low vs var fits.1
 
 -- a variable's facts come before those of the next one
-pub below_more : (p : Parts) (var : ℕ) → facts_below p (var + 1) ≡ facts_below p var + range_of p.variables var
-below_more p var = let one : var + 1 ≡ suc var = omega arith in ap (facts_below p) one
+pub facts_below_more : (p : Parts) (var : ℕ) → facts_below p (var + 1) ≡ facts_below p var + range_of p.variables var
+facts_below_more p var = let one : var + 1 ≡ suc var = omega arith in ap (facts_below p) one
 
 -- the first facts' numbers are low
 low_by : (p : Parts) (var : ℕ) → WellRanged p → facts_below p var ≤ var * 2 ^ 31
@@ -21,10 +21,7 @@ low_by p (suc var) ranged =
     omega arith
 
 pub below_low : (p : Parts) (var : ℕ) → WellRanged p → var ≤ length p.variables → facts_below p var ≤ 2 ^ 62
-below_low p var ranged le =
-    let h = low_by p var ranged in
-    let few = ranged.variables.count in
-    omega arith
+below_low p var ranged le = grind (arith, common_steps, low_by)
 
 -- later variables' facts have higher numbers
 below_up : (p : Parts) (low var : ℕ) → low < var → facts_below p low + range_of p.variables low ≤ facts_below p var
@@ -48,9 +45,7 @@ number_low p firsts fact are exists =
     omega arith
 
 same_fact : (f g : Fact) → f.var ≡ g.var → f.value ≡ g.value → f ≡ g
-same_fact f g on is =
-    let moved : f ≡ record { var = g.var; value = f.value } = ap (λ v. let h : Fact = record { var = v; value = f.value } in h) on in
-    moved ∙ ap (λ x. let h : Fact = record { var = g.var; value = x } in h) is
+same_fact f g on is = grind (arith, common_steps)
 
 -- facts of the task with one number are one
 pub one_number : (p : Parts) (firsts : List ℕ) (f g : Fact) → AreFirstNumbers p firsts → FactExists p.variables f → FactExists p.variables g

@@ -1,5 +1,5 @@
 -- Splitting facts into runs, one by one.
-use Rattle.sas_groups.proofs.Imports.{◌≡◌, ℕ, ◌+◌, ◌<◌, ◌≤◌, length, get_or, take, drop, List, [], ◌∷◌, ◌++◌, sym, ap, subst, ◌∙◌, append_assoc, arith, All, take_more, take_all, take-append-drop, drop_all, length-append, take-append-le, drop-append-le, All-nil, All-cons, All-append, Fact}
+use Rattle.sas_groups.proofs.Imports.{◌≡◌, ℕ, ◌+◌, ◌<◌, ◌≤◌, length, get_or, take, drop, List, [], ◌∷◌, ◌++◌, sym, ap, subst, ◌∙◌, append_assoc, arith, All, take_more, take_all, take-append-drop, drop_all, length-append, take-append-le, drop-append-le, All-nil, All-cons, All-append, Fact, common_steps}
 use Rattle.sas_groups.specs.Runs.{AreOnOne, AreRuns}
 
 -- one fact more is on the variable
@@ -22,11 +22,7 @@ drop_front n xs ys h = drop-append-le n xs ys h
 
 -- one run more, behind the others
 pub runs_more : (before run : List Fact) (runs : List ℕ) → AreRuns before runs → AreOnOne run → AreRuns (before ++ run) (runs ++ length run ∷ [])
-runs_more before run [] is one = subst (λ (fs : List Fact). AreRuns (fs ++ run) (length run ∷ [])) (sym is) (
-  omega arith,
-  subst AreOnOne (sym (take_whole run)) one,
-  drop_all (length run) run (omega arith),
-)
+runs_more before run [] is one = grind (arith, common_steps, take_whole, drop_all)
 runs_more before run (n ∷ runs) (within, here, later) one = (
   omega (arith, length-append before run),
   subst AreOnOne (sym (take_front n before run within)) here,

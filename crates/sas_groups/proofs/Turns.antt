@@ -1,20 +1,26 @@
 -- Properties of all items of a loop, from those processed and those that remain.
-use Rattle.sas_groups.proofs.Imports.{◌≡◌, List, [], ◌∷◌, ◌++◌, refl, sym, ◌∙◌, ap, subst, append_assoc, arith, All, Contains, All-nil, All-cons, All-append, Contains-append_right}
+use Rattle.sas_groups.proofs.Imports.{◌≡◌, List, [], ◌∷◌, ◌++◌, refl, sym, ◌∙◌, ap, append_assoc, append-nil, arith, All, Contains, All-nil, All-push, Contains-append_right}
 
-module _ {A : Type 0} (all before left : List A) (is : all ≡ before ++ left) where
+-- these items came, those are left, and each that came has the property
+pub record Turns {A : Type 0} (P : A → Type 0) (all came left : List A) : Type 0 where
+  pub parts : all ≡ came ++ left
+  pub have : All P came
+
+pub turns_begin : {A : Type 0} (P : A → Type 0) {all left : List A} → left ≡ all → Turns P all [] left
+turns_begin P is = record { parts = sym is; have = All-nil P }
+
+module _ {A : Type 0} {P : A → Type 0} {all came left : List A} (turns : Turns P all came left) where
   -- the item that comes is one of them
-  pub turn_has : (x : A) (after : List A) → left ≡ x ∷ after → Contains all x
-  turn_has x after steps = subst (λ (xs : List A). Contains xs x) (sym (is ∙ ap (λ (xs : List A). before ++ xs) steps))
-      (Contains-append_right before (x ∷ after) x (0, omega arith, refl))
+  pub turn_has : {x : A} {after : List A} → left ≡ x ∷ after → Contains all x
+  turn_has {x} {after} steps = rw (turns.parts, steps) (Contains-append_right came (x ∷ after) x (0, omega arith, refl))
 
   -- it has come then
-  pub turn_left : (x : A) (after : List A) → left ≡ x ∷ after → all ≡ (before ++ x ∷ []) ++ after
-  turn_left x after steps = is ∙ (ap (λ (xs : List A). before ++ xs) steps ∙ sym (append_assoc before (x ∷ []) after))
+  pub turn_more : {x : A} {after : List A} → left ≡ x ∷ after → P x → Turns P all (came ++ x ∷ []) after
+  turn_more {x} {after} steps its = record {
+    parts = turns.parts ∙ (ap (λ (xs : List A). came ++ xs) steps ∙ sym (append_assoc came (x ∷ []) after));
+    have = All-push P came x turns.have its;
+  }
 
   -- what each that came has, each has in the end
-  pub turns_end : (P : A → Type 0) → left ≡ [] → All P before → All P all
-  turns_end P steps came = subst (All P) (sym (is ∙ ap (λ (xs : List A). before ++ xs) steps)) (All-append P before [] came (All-nil P))
-
--- one more came
-pub turn_more : {A : Type 0} (P : A → Type 0) (before : List A) (x : A) → All P before → P x → All P (before ++ x ∷ [])
-turn_more P before x came its = All-append P before (x ∷ []) came (All-cons P x [] its (All-nil P))
+  pub turns_end : left ≡ [] → All P all
+  turns_end none = rw (turns.parts, none, append-nil) turns.have

@@ -1,6 +1,6 @@
 -- What the parts of the check of a group decide. The predicate `Counts` selects the groups that are
 -- assumed to be exclusive before a step.
-use Rattle.std.specs.Prelude.{◌≡◌, ◌≢◌, ◌⊎◌, ℕ, ◌<◌, length, List, [], ◌∷◌, All, Contains, slice_index}
+use Rattle.std.specs.Prelude.{◌≡◌, ◌≢◌, ◌⊎◌, ℕ, ◌<◌, Bool, IsTrue, IsFalse, length, List, [], ◌∷◌, All, Contains, slice_index}
 use Rattle.sas_core.specs.declared.parts.Fact.{Fact}
 use Rattle.sas_core.specs.declared.parts.Effect.{Effect}
 use Rattle.sas_core.specs.declared.parts.Operator.{Operator}
@@ -13,6 +13,11 @@ use Rattle.sas_groups.specs.Clashes.{Clash, IsRemoved, sets}
 use Rattle.sas_groups.specs.Groups.{IsExclusiveIn}
 use Rattle.sas_groups.specs.Families.{IsOnBasic, MayBeExclusive}
 use Rattle.sas_groups.specs.Lists.{known}
+
+-- the answer is true exactly if the fact holds
+pub record Tells (answer : Bool) (Claim : Type 0) : Type 0 where
+  pub yes : IsTrue answer → Claim
+  pub no : IsFalse answer → Claim → ⊥
 
 -- only this group is assumed
 abbrev pub Alone : List Fact → List Fact → Type 0
@@ -39,17 +44,25 @@ abbrev pub IsGone : (List Fact → Type 0) → Operator → Effect → Fact → 
 IsGone Counts o e f = e.var ≢ f.var
     → Clash Counts (known o e.conditions (f ∷ [])) ⊎ IsRemoved o (known o e.conditions (f ∷ [])) f
 
--- all effects of the operator have the property
-abbrev pub OfEffects : Operator → (Effect → Type 0) → Type 0
-OfEffects o P = (effect : ℕ) → effect < length o.effects → P (effect_at o effect)
+-- no effect that may fire together with this one sets another fact of the group on another variable
+abbrev pub HasNoPartner : (List Fact → Type 0) → Operator → List Fact → Effect → Type 0
+HasNoPartner Counts o group e = (other : ℕ) → other < length o.effects
+    → NotBoth Counts o group e (effect_at o other)
 
--- if the effect sets a fact of the group, no other effect sets another one in the same step
-abbrev pub IsSingle : (List Fact → Type 0) → Operator → List Fact → Effect → Type 0
-IsSingle Counts o group e = Contains group (sets e) → OfEffects o (NotBoth Counts o group e)
+-- no other fact of the group remains when the effect fires
+abbrev pub AreGone : (List Fact → Type 0) → Operator → List Fact → Effect → Type 0
+AreGone Counts o group e = (f : Fact) → Contains group f → IsGone Counts o e f
 
--- if the effect sets a fact of the group, no other fact of the group remains
-abbrev pub RemovesAll : (List Fact → Type 0) → Operator → List Fact → Effect → Type 0
-RemovesAll Counts o group e = Contains group (sets e) → All (IsGone Counts o e) group
+-- an effect that sets a fact of the group preserves the group: no other effect sets another one in
+-- the same step, and no other fact of the group remains, unless the facts that hold then clash
+pub record EffectKeeps (Counts : List Fact → Type 0) (o : Operator) (group : List Fact) (e : Effect)
+    : Type 0 where
+  pub single : HasNoPartner Counts o group e
+  pub others : AreGone Counts o group e
+
+-- the effect preserves the group, or sets no fact of it
+abbrev pub KeepsIfSets : (List Fact → Type 0) → Operator → List Fact → Effect → Type 0
+KeepsIfSets Counts o group e = Contains group (sets e) → EffectKeeps Counts o group e
 
 -- if the second fact holds in the state section, it is the first fact
 abbrev pub IsOnlyOne : List ℕ → Fact → Fact → Type 0

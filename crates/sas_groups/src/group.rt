@@ -1,5 +1,5 @@
 // Checks a single group.
-ghost use Rattle.std.specs.Prelude.{◌≡◌, ◌<◌, ◌↔◌, length, All, Contains, IsTrue, IsFalse, IfSome, IfNone, slice_index};
+ghost use Rattle.std.specs.Prelude.{◌≡◌, ◌<◌, ◌↔◌, length, All, Contains, IsTrue, IfSome, IfNone, slice_index};
 ghost use Rattle.sas_core.specs.Variables.{FactExists};
 ghost use Rattle.sas_meaning.specs.States.{Holds};
 ghost use Rattle.sas_groups.specs.Groups.{IsExclusiveIn, IsInvariant};
@@ -7,7 +7,7 @@ ghost use Rattle.sas_groups.specs.Families.{IsOnBasic};
 ghost use Rattle.sas_groups.specs.Families.{AllKeep};
 ghost use Rattle.sas_groups.specs.Verdicts.{IsVerdictAlone, IsFirstBreaking};
 ghost use Rattle.sas_groups.specs.Checks.{IsFirstVerdict};
-ghost use Rattle.sas_groups.specs.Checks.{Alone, IsOnlyOne};
+ghost use Rattle.sas_groups.specs.Checks.{Tells, Alone, IsOnlyOne};
 
 use crate::keeping::keeps;
 use crate::verdict::Verdict;
@@ -50,11 +50,10 @@ pub fn before_operators<T: Grounded>(task: &Layered<T>, group: &[Fact]) -> Verdi
 /// Returns whether all facts are on basic variables.
 fn is_on_basic<T: Grounded>(task: &Layered<T>, group: &[Fact]) -> bool
     requires { All (λ f. f.var < length task.now.variables) group.now }
-    ensures yes { IsTrue result → IsOnBasic task.now group.now }
-    ensures no { IsFalse result → IsOnBasic task.now group.now → ⊥ }
+    ensures { Tells result (IsOnBasic task.now group.now) }
 {
     for fact in group {
-        if task.layer(fact.var).is_some() {
+        if let Some(_) = task.layer(fact.var) {
             return false;
         }
     }
@@ -64,8 +63,7 @@ fn is_on_basic<T: Grounded>(task: &Layered<T>, group: &[Fact]) -> bool
 /// Returns whether the state section contains no two different facts of the group.
 fn is_exclusive_in_section<T: Grounded>(task: &Layered<T>, group: &[Fact]) -> bool
     requires { All (λ f. f.var < length task.now.variables) group.now }
-    ensures yes { IsTrue result → IsExclusiveIn task.now.init group.now }
-    ensures no { IsFalse result → IsExclusiveIn task.now.init group.now → ⊥ }
+    ensures { Tells result (IsExclusiveIn task.now.init group.now) }
 {
     match first_holding(task, group) {
         Some(fact) => is_only_one(task, group, fact),
@@ -92,8 +90,7 @@ fn first_holding<T: Grounded>(task: &Layered<T>, group: &[Fact]) -> Option<Fact>
 /// Returns whether no fact of the group other than `fact` holds in the state section.
 fn is_only_one<T: Grounded>(task: &Layered<T>, group: &[Fact], fact: Fact) -> bool
     requires { All (λ f. f.var < length task.now.variables) group.now }
-    ensures yes { IsTrue result → All (IsOnlyOne task.now.init fact) group.now }
-    ensures no { IsFalse result → All (IsOnlyOne task.now.init fact) group.now → ⊥ }
+    ensures { Tells result (All (IsOnlyOne task.now.init fact) group.now) }
 {
     for other in group {
         if *other != fact && holds(task, *other) {

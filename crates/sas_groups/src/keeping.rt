@@ -1,8 +1,8 @@
 // Which operators preserve a group.
-ghost use Rattle.std.specs.Prelude.{◌≡◌, ◌<◌, length, IsTrue, IsFalse};
+ghost use Rattle.std.specs.Prelude.{◌<◌, length, All};
 ghost use Rattle.sas_core.specs.Grounded.{operator_at, effect_at};
 ghost use Rattle.sas_groups.specs.Clashes.{Keeps};
-ghost use Rattle.sas_groups.specs.Checks.{Alone, NotBoth, IsGone, OfEffects, IsSingle, RemovesAll};
+ghost use Rattle.sas_groups.specs.Checks.{Tells, Alone, NotBoth, HasNoPartner, IsGone, KeepsIfSets};
 
 use crate::clashes::{clash, contains};
 use crate::known::Premises;
@@ -13,44 +13,36 @@ use sas_meaning::Layered;
 /// Returns whether the operator preserves the group.
 pub fn keeps<T: Grounded>(task: &Layered<T>, operator: u32, group: &[Fact]) -> bool
     requires { operator < length task.now.operators }
-    ensures yes { IsTrue result
-        → Keeps (Alone group.now) (operator_at task.now operator) group.now }
-    ensures no { IsFalse result
-        → Keeps (Alone group.now) (operator_at task.now operator) group.now → ⊥ }
-{
-    never_sets_two(task, operator, group) && removes_others(task, operator, group)
-}
-
-/// Returns whether no two effects that may fire together set facts of the group on different variables.
-fn never_sets_two<T: Grounded>(task: &Layered<T>, operator: u32, group: &[Fact]) -> bool
-    requires { operator < length task.now.operators }
-    ensures yes { IsTrue result → OfEffects (operator_at task.now operator)
-        (IsSingle (Alone group.now) (operator_at task.now operator) group.now) }
-    ensures no { IsFalse result → OfEffects (operator_at task.now operator)
-        (IsSingle (Alone group.now) (operator_at task.now operator) group.now) → ⊥ }
+    ensures { Tells result (Keeps (Alone group.now) (operator_at task.now operator) group.now) }
 {
     for effect in 0..task.effects(operator) {
-        if !is_single(task, operator, group, effect) {
+        if !keeps_if_sets(task, operator, group, effect) {
             return false;
         }
     }
     true
 }
 
-/// Returns whether no effect that may fire together with this one sets another fact of the group on another variable.
-fn is_single<T: Grounded>(task: &Layered<T>, operator: u32, group: &[Fact], effect: u32) -> bool
+/// Returns whether the effect sets no fact of the group, or preserves the group.
+fn keeps_if_sets<T: Grounded>(task: &Layered<T>, operator: u32, group: &[Fact], effect: u32) -> bool
     requires operator { operator < length task.now.operators }
     requires effect { effect < length (operator_at task.now operator).effects }
-    ensures yes { IsTrue result
-        → IsSingle (Alone group.now) (operator_at task.now operator) group.now
-        (effect_at (operator_at task.now operator) effect) }
-    ensures no { IsFalse result
-        → IsSingle (Alone group.now) (operator_at task.now operator) group.now
-        (effect_at (operator_at task.now operator) effect) → ⊥ }
+    ensures { let o = operator_at task.now operator in
+        Tells result (KeepsIfSets (Alone group.now) o group.now (effect_at o effect)) }
 {
     if !contains(group, task.effect_change(operator, effect).fact()) {
         return true;
     }
+    is_single(task, operator, group, effect) && removes_all(task, operator, group, effect)
+}
+
+/// Returns whether no effect that may fire together with this one sets another fact of the group on another variable.
+fn is_single<T: Grounded>(task: &Layered<T>, operator: u32, group: &[Fact], effect: u32) -> bool
+    requires operator { operator < length task.now.operators }
+    requires effect { effect < length (operator_at task.now operator).effects }
+    ensures { let o = operator_at task.now operator in
+        Tells result (HasNoPartner (Alone group.now) o group.now (effect_at o effect)) }
+{
     for other in 0..task.effects(operator) {
         if !not_both(task, operator, group, effect, other) {
             return false;
@@ -70,15 +62,8 @@ fn not_both<T: Grounded>(
     requires operator { operator < length task.now.operators }
     requires effect { effect < length (operator_at task.now operator).effects }
     requires other { other < length (operator_at task.now operator).effects }
-    ensures yes { IsTrue result
-        → NotBoth (Alone group.now) (operator_at task.now operator) group.now
-        (effect_at (operator_at task.now operator) effect)
-        (effect_at (operator_at task.now operator) other) }
-    ensures no { IsFalse result
-        → NotBoth (Alone group.now) (operator_at task.now operator) group.now
-        (effect_at (operator_at task.now operator) effect)
-        (effect_at (operator_at task.now operator) other)
-        → ⊥ }
+    ensures { let o = operator_at task.now operator in Tells result
+        (NotBoth (Alone group.now) o group.now (effect_at o effect) (effect_at o other)) }
 {
     let change = task.effect_change(operator, effect);
     let second = task.effect_change(operator, other);
@@ -93,36 +78,13 @@ fn not_both<T: Grounded>(
     clash(task, &both, group)
 }
 
-/// Returns whether no effect sets a fact of the group while another fact of the group remains.
-fn removes_others<T: Grounded>(task: &Layered<T>, operator: u32, group: &[Fact]) -> bool
-    requires { operator < length task.now.operators }
-    ensures yes { IsTrue result → OfEffects (operator_at task.now operator)
-        (RemovesAll (Alone group.now) (operator_at task.now operator) group.now) }
-    ensures no { IsFalse result → OfEffects (operator_at task.now operator)
-        (RemovesAll (Alone group.now) (operator_at task.now operator) group.now) → ⊥ }
-{
-    for effect in 0..task.effects(operator) {
-        if !removes_all(task, operator, group, effect) {
-            return false;
-        }
-    }
-    true
-}
-
-/// Returns whether no other fact of the group remains when this effect sets one.
+/// Returns whether no fact of the group on another variable remains when the effect fires.
 fn removes_all<T: Grounded>(task: &Layered<T>, operator: u32, group: &[Fact], effect: u32) -> bool
     requires operator { operator < length task.now.operators }
     requires effect { effect < length (operator_at task.now operator).effects }
-    ensures yes { IsTrue result
-        → RemovesAll (Alone group.now) (operator_at task.now operator) group.now
-        (effect_at (operator_at task.now operator) effect) }
-    ensures no { IsFalse result
-        → RemovesAll (Alone group.now) (operator_at task.now operator) group.now
-        (effect_at (operator_at task.now operator) effect) → ⊥ }
+    ensures { let o = operator_at task.now operator in
+        Tells result (All (IsGone (Alone group.now) o (effect_at o effect)) group.now) }
 {
-    if !contains(group, task.effect_change(operator, effect).fact()) {
-        return true;
-    }
     for fact in group {
         if !is_gone(task, operator, group, effect, *fact) {
             return false;
@@ -141,10 +103,8 @@ fn is_gone<T: Grounded>(
 ) -> bool
     requires operator { operator < length task.now.operators }
     requires effect { effect < length (operator_at task.now operator).effects }
-    ensures yes { IsTrue result → IsGone (Alone group.now) (operator_at task.now operator)
-        (effect_at (operator_at task.now operator) effect) fact }
-    ensures no { IsFalse result → IsGone (Alone group.now) (operator_at task.now operator)
-        (effect_at (operator_at task.now operator) effect) fact → ⊥ }
+    ensures { let o = operator_at task.now operator in
+        Tells result (IsGone (Alone group.now) o (effect_at o effect) fact) }
 {
     let change = task.effect_change(operator, effect);
     if change.var == fact.var {

@@ -9,6 +9,7 @@ ghost use Rattle.sas_groups.specs.Noting.{AreBelow, IsReadable, ShareKept, Share
 ghost use Rattle.sas_groups.specs.Noting.{IsNotedToo, IsExcluded, TakenBySome, TakenByAll};
 ghost use Rattle.sas_groups.specs.Noting.{ChangesAt, IsThere, NotesFirstFact, ForgetsGroups, Forgets, IsSetApart, IsCompleted};
 ghost use Rattle.sas_groups.specs.Noting.{HasNotedGroup};
+ghost use Rattle.sas_groups.specs.Checks.{Tells};
 
 use crate::deciding::Deciding;
 use crate::index::Index;
@@ -144,18 +145,6 @@ impl Notes {
             None => false,
         }
     }
-
-    /// Returns `spread` after this fact is recorded, too.
-    fn spread_with(&self, index: &Index, fact: Fact) -> usize
-        requires { IsReadable index.now }
-    {
-        let groups = if self.is_apart(fact) {
-            0
-        } else {
-            index.groups_of(fact).len()
-        };
-        self.spread.saturating_add(groups).saturating_add(1)
-    }
 }
 
 /// Returns whether some fact has many groups.
@@ -215,7 +204,7 @@ pub fn note(
 {
     match notes.values.as_slice()[fact.var as usize] {
         Some(value) => {
-            notes.spread = notes.spread_with(index, fact);
+            notes.spread = notes.spread.saturating_add(1);
             value == fact.value
         }
         None => {
@@ -240,8 +229,7 @@ pub fn shares_apart(
     deciding: &Deciding,
 ) -> bool
     requires { IsReadable index.now }
-    ensures yes { IsTrue result → SharesApart index.now kept.now fact apart }
-    ensures no { IsFalse result → SharesApart index.now kept.now fact apart → ⊥ }
+    ensures { Tells result (SharesApart index.now kept.now fact apart) }
 {
     match apart {
         Some(other) => share_kept(index, kept, fact, other, deciding),
@@ -252,8 +240,7 @@ pub fn shares_apart(
 /// Returns whether a group of the family contains both facts. Searches the groups of the fact that has fewer.
 fn share_kept(index: &Index, kept: &[bool], fact: Fact, other: Fact, deciding: &Deciding) -> bool
     requires { IsReadable index.now }
-    ensures yes { IsTrue result → ShareKept index.now kept.now fact other }
-    ensures no { IsFalse result → ShareKept index.now kept.now fact other → ⊥ }
+    ensures { Tells result (ShareKept index.now kept.now fact other) }
 {
     if index.groups_of(fact).len() <= index.groups_of(other).len() {
         some_has(index, kept, fact, other, deciding)
@@ -265,8 +252,7 @@ fn share_kept(index: &Index, kept: &[bool], fact: Fact, other: Fact, deciding: &
 /// Returns whether a group of the family contains both facts. Searches the groups of `fact`.
 pub fn some_has(index: &Index, kept: &[bool], fact: Fact, other: Fact, deciding: &Deciding) -> bool
     requires { IsReadable index.now }
-    ensures yes { IsTrue result → ShareKept index.now kept.now fact other }
-    ensures no { IsFalse result → ShareKept index.now kept.now fact other → ⊥ }
+    ensures { Tells result (ShareKept index.now kept.now fact other) }
 {
     for group in index.groups_of(fact) {
         if is_kept(kept, *group) && index.has(*group, other) {
@@ -316,8 +302,7 @@ fn note_in_groups(
 /// Returns whether a fact is recorded for one of these groups that is in the family.
 pub fn has_noted(groups: &[u32], kept: &[bool], noted: &[Noted], deciding: &Deciding) -> bool
     requires { AreBelow (length noted.now) groups.now }
-    ensures yes { IsTrue result → HasNotedGroup groups.now kept.now noted.now }
-    ensures no { IsFalse result → HasNotedGroup groups.now kept.now noted.now → ⊥ }
+    ensures { Tells result (HasNotedGroup groups.now kept.now noted.now) }
 {
     for group in groups {
         if is_kept(kept, *group) && !noted[*group as usize].is_nothing() {

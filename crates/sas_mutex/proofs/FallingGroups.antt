@@ -1,13 +1,13 @@
 -- Groups are removed from a family one by one, until the greatest family is left.
-use Rattle.sas_mutex.proofs.Imports.{◌≡◌, ℕ, ◌<◌, ◌≤◌, Bool, true, false, List, [], ◌∷◌, ◌++◌, length, get_or, set, drop, refl, sym, ◌∙◌, ap, subst, inl, inr, arith, cases_eq, cases_Bool, both_ways, append_assoc, drop_all, drop_at, length-append, length-set, get_or-set_same, get_or-set_other, All-nil, All-cons, All-append, All-from_get_or, Contains-append_left, Contains-append_right}
+use Rattle.sas_mutex.proofs.Imports.{◌≡◌, ℕ, ◌<◌, ◌≤◌, Bool, true, false, List, [], ◌∷◌, ◌++◌, length, get_or, set, drop, refl, sym, ◌∙◌, ap, subst, inl, inr, arith, cases_eq, cases_Bool, both_ways, append_assoc, drop_all, drop_at, length-append, length-set, get_or-set_same, get_or-set_other, All-nil, All-cons, All-append, All-from_get_or, Contains-append_left, Contains-append_right, EffectKeeps, keeps_from_effects, effect_of_keeps}
 use Rattle.sas_mutex.proofs.Imports.{Contains-push, Contains-push_cases, Contains-append_cases, All, Contains, Operator, Parts, operator_at, effect_at, group_at, Keeps, Clash, sets, known, IsIn, IsGroupOf, IsGroupOfOr, IsKeptJointly, IsGreatest, group_of_larger, keeps_more, family_of}
 use Rattle.std.proofs.lemmas.List.{append-nil}
 use Rattle.sas_mutex.specs.declared.family.Family.{Family}
-use Rattle.sas_mutex.specs.Effects.{IsKept, EffectKeeps, KeepsAt, KeepsWithItself}
+use Rattle.sas_mutex.specs.Effects.{IsKept, KeepsAt, KeepsWithItself}
 use Rattle.sas_mutex.specs.Basis.{Grows}
 use Rattle.sas_mutex.specs.Falling.{IsAtRest, AreCandidates, newly, Falls}
 use Rattle.sas_mutex.proofs.FromNotes.{clash_keeps}
-use Rattle.sas_mutex.proofs.Keeping.{keeps_from_effects, effect_of_keeps, effect_keeps_more}
+use Rattle.sas_mutex.proofs.Keeping.{effect_keeps_more}
 
 -- where nothing is in two lists together, nothing is in either
 pub none_left : (xs ys : List ℕ) → xs ++ ys ≡ [] → xs ≡ []
@@ -18,7 +18,11 @@ pub none_right : (xs ys : List ℕ) → xs ++ ys ≡ [] → ys ≡ []
 none_right [] ys none = none
 none_right (x ∷ xs) ys none = cc
 
-module _ (p : Parts) where
+none_of_length : (xs : List ℕ) → length xs ≡ 0 → xs ≡ []
+none_of_length [] none = refl
+none_of_length (x ∷ xs) none = absurd (omega arith)
+
+module _ {p : Parts} where
   -- ---- groups that fell in one turn after another
 
   pub none_fell : (family : Family) → Falls p family family
@@ -35,14 +39,14 @@ module _ (p : Parts) where
       nothing : drop (length family.fallen.items) family.fallen.items ≡ []
       nothing = drop_all (length family.fallen.items) family.fallen.items (omega arith)
 
-  pub newly_then : (a b c : Family) → Falls p a b → Falls p b c → newly a c ≡ newly a b ++ newly b c
-  newly_then a b c first second =
+  pub newly_then : {a b c : Family} → Falls p a b → Falls p b c → newly a c ≡ newly a b ++ newly b c
+  newly_then {a} {b} {c} first second =
       ap (λ (xs : List ℕ). drop (length a.fallen.items) xs)
       (second.behind ∙ (ap (λ (xs : List ℕ). xs ++ newly b c) first.behind ∙ append_assoc a.fallen.items (newly a b) (newly b c)))
       ∙ drop_at a.fallen.items (newly a b ++ newly b c) (length a.fallen.items) refl
 
-  pub falls_then : (a b c : Family) → Falls p a b → Falls p b c → Falls p a c
-  falls_then a b c first second = record {
+  pub falls_then : {a b c : Family} → Falls p a b → Falls p b c → Falls p a c
+  falls_then {a} {b} {c} first second = record {
     one_each = second.one_each ∙ first.one_each;
     behind = second.behind ∙ (ap (λ (xs : List ℕ). xs ++ newly b c) first.behind ∙ (append_assoc a.fallen.items (newly a b) (newly b c)
         ∙ ap (λ (xs : List ℕ). a.fallen.items ++ xs) (sym both)));
@@ -60,10 +64,10 @@ module _ (p : Parts) where
   }
     where
       both : newly a c ≡ newly a b ++ newly b c
-      both = newly_then a b c first second
+      both = newly_then first second
 
-  pub fallen_grow : (before after : Family) → Falls p before after → length before.fallen.items ≤ length after.fallen.items
-  fallen_grow before after falls =
+  pub fallen_grow : {before after : Family} → Falls p before after → length before.fallen.items ≤ length after.fallen.items
+  fallen_grow {before} {after} falls =
       let longer = ap length falls.behind ∙ length-append before.fallen.items (newly before after) in omega (arith, longer)
 
   -- one group falls, which no family that is kept jointly within the present one has
@@ -117,19 +121,19 @@ module _ (p : Parts) where
     | inr gone ↦ absurd (let fell = subst (λ (xs : List ℕ). Contains xs place) none (falls.noted place w (λ v. both_ways (family_of c.kept place) gone v.chosen)) in omega (arith, fell.1))
   ]
 
-  pub keeps_still : (b c : Family) (operator effect place : ℕ) → Falls p b c → newly b c ≡ [] → KeepsAt p b.kept operator effect place → KeepsAt p c.kept operator effect place
-  keeps_still b c operator effect place falls none = effect_keeps_more (IsKept p b.kept) (IsKept p c.kept)
+  pub keeps_still : {b c : Family} (operator effect place : ℕ) → Falls p b c → newly b c ≡ [] → KeepsAt p b.kept operator effect place → KeepsAt p c.kept operator effect place
+  keeps_still {b} {c} operator effect place falls none = effect_keeps_more (IsKept p b.kept) (IsKept p c.kept)
       (operator_at p operator) (group_at p place) (effect_at (operator_at p operator) effect)
       (group_of_larger p (family_of b.kept) (family_of c.kept) (same_groups b c falls none))
 
-  pub none_first : (a b c : Family) → Falls p a b → Falls p b c → newly a c ≡ [] → newly a b ≡ []
-  none_first a b c first second none = none_left (newly a b) (newly b c) (sym (newly_then a b c first second) ∙ none)
+  pub none_first : {a b c : Family} → Falls p a b → Falls p b c → newly a c ≡ [] → newly a b ≡ []
+  none_first {a} {b} {c} first second none = none_left (newly a b) (newly b c) (sym (newly_then first second) ∙ none)
 
-  pub none_then : (a b c : Family) → Falls p a b → Falls p b c → newly a c ≡ [] → newly b c ≡ []
-  none_then a b c first second none = none_right (newly a b) (newly b c) (sym (newly_then a b c first second) ∙ none)
+  pub none_then : {a b c : Family} → Falls p a b → Falls p b c → newly a c ≡ [] → newly b c ≡ []
+  none_then {a} {b} {c} first second none = none_right (newly a b) (newly b c) (sym (newly_then first second) ∙ none)
 
-  pub rest_still : (b c : Family) (operator : ℕ) → Falls p b c → newly b c ≡ [] → IsAtRest p b.kept operator → IsAtRest p c.kept operator
-  rest_still b c operator falls none rest effect below place w has = keeps_still b c operator effect place falls none (rest effect below place (falls.less place w) has)
+  pub rest_still : {b c : Family} (operator : ℕ) → Falls p b c → newly b c ≡ [] → IsAtRest p b.kept operator → IsAtRest p c.kept operator
+  rest_still {b} {c} operator falls none rest effect below place w has = keeps_still operator effect place falls none (rest effect below place (falls.less place w) has)
 
   -- ---- what is kept where only the groups of a basis count, and the group itself
 
@@ -143,27 +147,11 @@ module _ (p : Parts) where
         | inr is ↦ (place, w, is)
       ])
 
-  -- where what is known clashes by the basis, each group is kept so
-  pub clash_by_basis : (basis : List Bool) (operator effect place : ℕ)
-      → Clash (IsKept p basis) (known (operator_at p operator) (effect_at (operator_at p operator) effect).conditions []) → KeepsWithItself p basis operator effect place
-  clash_by_basis basis operator effect place clash = effect_keeps_more (IsKept p basis) (IsGroupOfOr p (family_of basis) (group_at p place))
-      (operator_at p operator) (group_at p place) (effect_at (operator_at p operator) effect) (λ group counts. inl counts)
-      (clash_keeps (IsKept p basis) (operator_at p operator) (group_at p place) (effect_at (operator_at p operator) effect) clash)
-
-  -- and stays so while the basis grows
-  pub basis_grows : (b c : List Bool) (operator effect place : ℕ) → Grows b c → KeepsWithItself p b operator effect place → KeepsWithItself p c operator effect place
-  basis_grows b c operator effect place grows = effect_keeps_more (IsGroupOfOr p (family_of b) (group_at p place)) (IsGroupOfOr p (family_of c) (group_at p place))
-      (operator_at p operator) (group_at p place) (effect_at (operator_at p operator) effect)
-      (λ group either. elim either [
-        | inl in_b ↦ inl (in_b.0, record { exists = in_b.1.exists; chosen = grows in_b.0 in_b.1.chosen }, in_b.2)
-        | inr is ↦ inr is
-      ])
-
   -- ---- where nothing waits, the family is the greatest
 
-  pub greatest_in_the_end : (before after : Family) → AreCandidates p before.kept → Falls p before after
+  pub greatest_in_the_end : {before after : Family} → AreCandidates p before.kept → Falls p before after
       → ((operator : ℕ) → operator < length p.operators → IsAtRest p after.kept operator) → IsGreatest p (family_of after.kept)
-  greatest_in_the_end before after candidates falls rest = record {
+  greatest_in_the_end {before} {after} candidates falls rest = record {
     jointly = record {
       may = λ place w. (let before_in = falls.less place w in (candidates place before_in.exists).0 before_in.chosen);
       kept = λ place w. All-from_get_or (λ (o : Operator). Keeps (IsKept p after.kept) o (group_at p place)) p.operators _
@@ -185,21 +173,34 @@ module _ (p : Parts) where
       (jointly.kept place w operator _ exists)) effect within has)
 
   -- all that fell exist
-  pub fallen_exist : (before after : Family) → Falls p before after → All (λ (place : ℕ). place < length p.groups) before.fallen.items
+  pub fallen_exist : {before after : Family} → Falls p before after → All (λ (place : ℕ). place < length p.groups) before.fallen.items
       → All (λ (place : ℕ). place < length p.groups) after.fallen.items
-  fallen_exist before after falls exist = subst (All (λ (place : ℕ). place < length p.groups)) (sym falls.behind)
+  fallen_exist {before} {after} falls exist = subst (All (λ (place : ℕ). place < length p.groups)) (sym falls.behind)
       (All-append (λ (place : ℕ). place < length p.groups) before.fallen.items (newly before after) exist falls.exist)
 
   -- ---- how many fell
 
-  none_of_length : (xs : List ℕ) → length xs ≡ 0 → xs ≡ []
-  none_of_length [] none = refl
-  none_of_length (x ∷ xs) none = absurd (omega arith)
-
   -- where no more fell than before, none did
-  pub none_newly : (b c : Family) → Falls p b c → length c.fallen.items ≡ length b.fallen.items → newly b c ≡ []
-  none_newly b c falls same = none_of_length (newly b c)
+  pub none_newly : {b c : Family} → Falls p b c → length c.fallen.items ≡ length b.fallen.items → newly b c ≡ []
+  none_newly {b} {c} falls same = none_of_length (newly b c)
       (let len = ap length falls.behind ∙ length-append b.fallen.items (newly b c) in omega arith)
 
-  pub as_before : (b c : Family) → Falls p b c → length c.fallen.items ≡ length b.fallen.items → c.fallen.items ≡ b.fallen.items
-  as_before b c falls same = falls.behind ∙ (ap (λ (xs : List ℕ). b.fallen.items ++ xs) (none_newly b c falls same) ∙ append-nil b.fallen.items)
+  pub as_before : {b c : Family} → Falls p b c → length c.fallen.items ≡ length b.fallen.items → c.fallen.items ≡ b.fallen.items
+  as_before {b} {c} falls same = falls.behind ∙ (ap (λ (xs : List ℕ). b.fallen.items ++ xs) (none_newly falls same) ∙ append-nil b.fallen.items)
+
+module _ (p : Parts) where
+  -- where what is known clashes by the basis, each group is kept so
+  pub clash_by_basis : (basis : List Bool) (operator effect place : ℕ)
+      → Clash (IsKept p basis) (known (operator_at p operator) (effect_at (operator_at p operator) effect).conditions []) → KeepsWithItself p basis operator effect place
+  clash_by_basis basis operator effect place clash = effect_keeps_more (IsKept p basis) (IsGroupOfOr p (family_of basis) (group_at p place))
+      (operator_at p operator) (group_at p place) (effect_at (operator_at p operator) effect) (λ group counts. inl counts)
+      (clash_keeps (IsKept p basis) (operator_at p operator) (group_at p place) (effect_at (operator_at p operator) effect) clash)
+
+  -- and stays so while the basis grows
+  pub basis_grows : (b c : List Bool) (operator effect place : ℕ) → Grows b c → KeepsWithItself p b operator effect place → KeepsWithItself p c operator effect place
+  basis_grows b c operator effect place grows = effect_keeps_more (IsGroupOfOr p (family_of b) (group_at p place)) (IsGroupOfOr p (family_of c) (group_at p place))
+      (operator_at p operator) (group_at p place) (effect_at (operator_at p operator) effect)
+      (λ group either. elim either [
+        | inl in_b ↦ inl (in_b.0, record { exists = in_b.1.exists; chosen = grows in_b.0 in_b.1.chosen }, in_b.2)
+        | inr is ↦ inr is
+      ])

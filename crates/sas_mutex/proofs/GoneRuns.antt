@@ -54,7 +54,7 @@ such_all Such group left so_far f there = All-contains Such so_far.before f so_f
     (subst (λ (fs : List Fact). Contains fs f) (ap (λ (xs : List Fact). so_far.before ++ xs) so_far.fall ∙ append-nil so_far.before) (so_far.all f there))
 
 -- the next run, and one run more that is such
-module _ (Such : Fact → Type 0) (group left : List Fact) (runs : List ℕ) (place : ℕ) (below : place < length runs)
+module _ {Such : Fact → Type 0} {group left : List Fact} (runs : List ℕ) (place : ℕ) (below : place < length runs)
     (so_far : SuchBefore Such group left (drop place runs)) where
   abbrev next : List Fact
   next = take (get_or runs place 0) left

@@ -25,7 +25,7 @@ pub use Rattle.sas_core.specs.declared.parts.Effect.{Effect}
 pub use Rattle.sas_core.specs.declared.parts.Fact.{Fact}
 pub use Rattle.sas_core.specs.declared.parts.Operator.{Operator}
 pub use Rattle.sas_core.specs.declared.parts.Parts.{Parts}
-pub use Rattle.sas_groups.proofs.Effects.{place_of, set_is}
+pub use Rattle.sas_groups.proofs.Effects.{set_is, keeps_from_effects, effect_of_keeps}
 pub use Rattle.sas_groups.proofs.Entering.{group_fact_exists}
 pub use Rattle.sas_groups.proofs.Existing.{variable_below, groups_below}
 pub use Rattle.sas_groups.proofs.GreatestFamily.{group_of_larger, keeps_more, clash_more, outside_is_broken}
@@ -35,8 +35,9 @@ pub use Rattle.sas_groups.proofs.NotesOfFacts.{a_note, apart_or_not, one_or_two,
 pub use Rattle.sas_groups.proofs.NotesOfFacts.{some_note_shows, shared_turned, none_or_some, same_inside, value_note_of, note_stays, note_changes}
 pub use Rattle.sas_groups.proofs.NotesOfFacts.{other_known, no_other, from_apart, noted_still, at_most_one, one_note_shows, completed, noted_less}
 pub use Rattle.sas_groups.proofs.NotesOfFacts.{forgotten_now, forgotten_still, blank_in_the_end, blank_same}
-pub use Rattle.sas_groups.proofs.Turns.{turn_has, turn_left, turn_more, turns_end}
-pub use Rattle.sas_groups.specs.Checks.{IsGone, IsFirstVerdict, NotBoth}
+pub use Rattle.sas_groups.proofs.Telling.{tells_yes, tells_no, tells_other}
+pub use Rattle.sas_groups.proofs.Turns.{Turns, turns_begin, turn_has, turn_more, turns_end}
+pub use Rattle.sas_groups.specs.Checks.{Tells, IsGone, IsFirstVerdict, NotBoth, AreGone, EffectKeeps}
 pub use Rattle.sas_groups.specs.Clashes.{Keeps, Clash, sets, Contradict, IsRemoved}
 pub use Rattle.sas_groups.specs.Distinct.{AreDistinct, facts_at}
 pub use Rattle.sas_groups.specs.Families.{IsIn, IsGroupOf, IsGroupOfOr, IsKeptJointly, IsGreatest, MayBeExclusive}

@@ -354,16 +354,16 @@ pub record AreSoFar (p : Parts) (kept : List Bool) (all came : List Fact) (notes
   pub known : AreKnown p kept seen notes
   pub from : AreFrom p all notes
 
-module _ (p : Parts) (kept : List Bool) (all : List Fact) (exist : All (FactExists p.variables) all) where
-  exists_of : (f : Fact) → Contains all f → FactExists p.variables f
-  exists_of f among = All-contains (FactExists p.variables) all f exist among
+exists_of : (p : Parts) (all : List Fact) → All (FactExists p.variables) all → (f : Fact) → Contains all f → FactExists p.variables f
+exists_of p all exist f among = All-contains (FactExists p.variables) all f exist among
 
-  pub none_so_far : (apart : Option Fact) (old new : Notes) → IfSome apart (Contains all) → AreBlank p old → IsSetApart apart old new → AreSoFar p kept all [] new
-  none_so_far apart old new chosen blank is_set = record {
+module _ {p : Parts} {kept : List Bool} {all : List Fact} (exist : All (FactExists p.variables) all) where
+  pub none_so_far : (apart : Option Fact) {old new : Notes} → IfSome apart (Contains all) → AreBlank p old → IsSetApart apart old new → AreSoFar p kept all [] new
+  none_so_far apart {old} {new} chosen blank is_set = record {
     seen = option_to_list apart;
     within = λ f within. among f (one_of apart f within);
     covers = λ f within. absurd (in_none f within);
-    known = known_apart p kept old new blank apart is_set (λ f e. exists_of f (among f e));
+    known = known_apart p kept old new blank apart is_set (λ f e. exists_of p all exist f (among f e));
     from = from_apart p old new blank apart all is_set among;
   }
     where
@@ -381,25 +381,25 @@ module _ (p : Parts) (kept : List Bool) (all : List Fact) (exist : All (FactExis
         | inr e ↦ ap (λ x. Some x) e
       ]
 
-  module _ (index : Index) (came : List Fact) (old : Notes) (indexed : IsIndexOf p index) (so_far : AreSoFar p kept all came old)
+  module _ {index : Index} {came : List Fact} {old : Notes} (indexed : IsIndexOf p index) (so_far : AreSoFar p kept all came old)
       (fact : Fact) (within : Contains all fact) where
     seen_exists : (f : Fact) → Contains so_far.seen f → FactExists p.variables f
-    seen_exists f seen = exists_of f (so_far.within f seen)
+    seen_exists f seen = exists_of p all exist f (so_far.within f seen)
 
     -- one that contradicts those so far clashes with them
     pub refused_so_far : IsContradicted index kept fact old → Clash (IsKept p kept) all
     refused_so_far is =
-        let (other, seen, contradict) = refused p index kept so_far.seen old indexed so_far.from.wide seen_exists so_far.known fact (exists_of fact within) is in
+        let (other, seen, contradict) = refused p index kept so_far.seen old indexed so_far.from.wide seen_exists so_far.known fact (exists_of p all exist fact within) is in
         (fact, other, within, so_far.within other seen, contradict)
 
-    pub from_still : (new : Notes) → ChangesAt (groups_of index fact) fact old new → AreFrom p all new
-    from_still new changes = noted_still p index all old new indexed so_far.from fact (exists_of fact within) within
+    pub from_still : {new : Notes} → ChangesAt (groups_of index fact) fact old new → AreFrom p all new
+    from_still {new} changes = noted_still indexed so_far.from fact (exists_of p all exist fact within) within
         (λ none e. no_value_note_shows so_far.seen fact.var (value_note old.values fact.var)
-        (so_far.known.noted.values fact.var (variable_below p fact (exists_of fact within))) none fact (so_far.known.noted.one_apart fact e) refl) changes
+        (so_far.known.noted.values fact.var (variable_below p fact (exists_of p all exist fact within))) none fact (so_far.known.noted.one_apart fact e) refl) changes
 
-    pub one_so_far : (new : Notes) → IsThere fact old new ⊎ NotesFirstFact index kept fact old new → ChangesAt (groups_of index fact) fact old new
+    pub one_so_far : {new : Notes} → IsThere fact old new ⊎ NotesFirstFact index kept fact old new → ChangesAt (groups_of index fact) fact old new
         → AreSoFar p kept all (came ++ fact ∷ []) new
-    one_so_far new how changes = record {
+    one_so_far {new} how changes = record {
       seen = so_far.seen ++ fact ∷ [];
       within = λ f seen. elim (Contains-push_cases so_far.seen fact f seen) [
         | inl was ↦ so_far.within f was
@@ -409,13 +409,13 @@ module _ (p : Parts) (kept : List Bool) (all : List Fact) (exist : All (FactExis
         | inl was ↦ Contains-append_left so_far.seen (fact ∷ []) f (so_far.covers f was)
         | inr e ↦ subst (λ (x : Fact). Contains (so_far.seen ++ fact ∷ []) x) e (Contains-push so_far.seen fact)
       ];
-      known = known_one_more p index kept so_far.seen old indexed so_far.from.wide seen_exists so_far.known fact (exists_of fact within) new how;
-      from = from_still new changes;
+      known = known_one_more p index kept so_far.seen old indexed so_far.from.wide seen_exists so_far.known fact (exists_of p all exist fact within) new how;
+      from = from_still changes;
     }
 
   -- in the end
-  pub all_known : (came : List Fact) (notes : Notes) → all ≡ came → AreSoFar p kept all came notes → AreKnown p kept all notes
-  all_known came notes is so_far = known_alike p kept so_far.seen all notes so_far.within
+  pub all_known : {came : List Fact} {notes : Notes} → all ≡ came → AreSoFar p kept all came notes → AreKnown p kept all notes
+  all_known {came} {notes} is so_far = known_alike p kept so_far.seen all notes so_far.within
       (λ f among. so_far.covers f (subst (λ (facts : List Fact). Contains facts f) is among)) so_far.known
 
 -- a fact alone doesn't clash

@@ -33,12 +33,12 @@ alike_never_fires f kept effect place (inr (plain, of)) never =
 
 -- ---- checks
 
-module _ (p : Parts) (operator : ℕ) where
+module _ {p : Parts} {operator : ℕ} where
   -- no group is removed, and the effects preserve the groups
-  pub looked_grown : (Pairs : ℕ → ℕ → Type 0) (before after : Family) (alone : Bool) → HasGrown before after → FamilyHasRoom p before
+  pub looked_grown : {Pairs : ℕ → ℕ → Type 0} {before after : Family} {alone : Bool} → HasGrown before after → FamilyHasRoom p before
       → ForPairs p operator before.kept Pairs (KeepsAt p before.kept operator)
       → (alone ≡ true → ForPairs p operator before.kept Pairs (KeepsWithItself p after.basis operator)) → Looked p operator Pairs before after alone
-  looked_grown Pairs before after alone grown room keeps by_basis = record {
+  looked_grown {Pairs} {before} {after} {alone} grown room keeps by_basis = record {
     falls = grown_falls p before after grown;
     room = grown_room p before after grown room;
     grows = grown.grows;
@@ -46,68 +46,31 @@ module _ (p : Parts) (operator : ℕ) where
     by_basis = λ t. subst (λ (kept : List Bool). ForPairs p operator kept Pairs (KeepsWithItself p after.basis operator)) (sym grown.kept) (by_basis t);
   }
 
-  pub looked_pair : (of at : ℕ) (before after : Family) (alone : Bool) → HasGrown before after → FamilyHasRoom p before
+  pub looked_pair : (of at : ℕ) {before after : Family} {alone : Bool} → HasGrown before after → FamilyHasRoom p before
       → (IsIn p (family_of before.kept) at → KeepsAt p before.kept operator of at) → (alone ≡ true → KeepsWithItself p after.basis operator of at)
       → Looked p operator (IsPair of at) before after alone
-  looked_pair of at before after alone grown room keeps by_basis = looked_grown (IsPair of at) before after alone grown room
+  looked_pair of at {before} {after} {alone} grown room keeps by_basis = looked_grown grown room
       (λ effect place (is, there) w _. rw (is, there) (keeps (subst (IsIn p (family_of before.kept)) there w)))
       (λ t effect place (is, there) _ _. rw (is, there) (by_basis t))
 
-  -- the effect doesn't preserve the group, which is removed
-  module _ (of at : ℕ) (before after : Family) (kept : after.kept ≡ set before.kept at false) (fallen : after.fallen.items ≡ before.fallen.items ++ at ∷ [])
-      (basis : after.basis ≡ before.basis) (supports : after.supports ≡ before.supports) (capacity : vec_capacity before.fallen ≤ vec_capacity after.fallen)
-      (room : FamilyHasRoom p before) (here : IsIn p (family_of before.kept) at) where
-    removed_room : FamilyHasRoom p after
-    removed_room =
-        let fell = ap count kept in
-        let less = count_fell before.kept at here.chosen in
-        let more = ap length fallen ∙ length_push before.fallen.items at in
-        record {
-          one_each = ap length kept ∙ (length-set before.kept at false ∙ room.one_each);
-          room = omega (arith, room.room, capacity);
-          few = omega (arith, room.few);
-          basis = record {
-            one_each = ap length basis ∙ room.basis.one_each;
-            only = λ place is. subst (λ (xs : List ℕ). Contains xs place) (sym supports) (room.basis.only place (subst (λ (xs : List Bool). family_of xs place ≡ true) basis is));
-            low = subst (All (λ (support : ℕ). support < length p.groups)) (sym supports) room.basis.low;
-          };
-        }
-
-    removed : (place : ℕ) → place ≡ at → IsIn p (family_of after.kept) place → ⊥
-    removed place is w = both_ways (family_of after.kept place)
-        (ap (λ (xs : List Bool). family_of xs place) kept ∙ (ap (λ (n : ℕ). family_of (set before.kept at false) n) is
-        ∙ get_or-set_same before.kept at false false (let exists = here.exists in let one_each = room.one_each in omega arith)))
-        w.chosen
-
-    pub looked_removed : operator < length p.operators → of < length (operator_at p operator).effects
-        → Contains (group_at p at) (sets (effect_at (operator_at p operator) of)) → (KeepsAt p before.kept operator of at → ⊥)
-        → Looked p operator (IsPair of at) before after true
-    looked_removed exists within has broken = record {
-      falls = one_fell p before after at kept fallen here.exists (never_jointly p before.kept operator of at exists within has broken) room.one_each;
-      room = removed_room;
-      grows = λ place is. subst (λ (xs : List Bool). family_of xs place ≡ true) (sym basis) is;
-      keeps = λ _ effect place pair w _. absurd (removed place pair.1 w);
-      by_basis = λ _ effect place pair w _. absurd (removed place pair.1 w);
-    }
-
   -- none of the pairs counts
-  pub looked_none : (Pairs : ℕ → ℕ → Type 0) (family : Family) (alone : Bool) → FamilyHasRoom p family
+  pub looked_none : {Pairs : ℕ → ℕ → Type 0} {family : Family} {alone : Bool} → FamilyHasRoom p family
       → ForPairs p operator family.kept Pairs (λ effect place. ⊥) → Looked p operator Pairs family family alone
-  looked_none Pairs family alone room none = looked_grown Pairs family family alone (same_grown family) room
+  looked_none {Pairs} {family} {alone} room none = looked_grown (same_grown family) room
       (λ effect place pair w has. absurd (none effect place pair w has)) (λ _ effect place pair w has. absurd (none effect place pair w has))
 
   -- each pair is one of those checked first, or one of those checked then
-  pub looked_then : (First Second Both : ℕ → ℕ → Type 0) (a b c : Family) (x y z : Bool) → Looked p operator First a b x → Looked p operator Second b c y
+  pub looked_then : {First Second Both : ℕ → ℕ → Type 0} {a b c : Family} {x y z : Bool} → Looked p operator First a b x → Looked p operator Second b c y
       → ((effect place : ℕ) → Both effect place → First effect place ⊎ Second effect place)
       → (z ≡ true → (x ≡ true) × (y ≡ true)) → Looked p operator Both a c z
-  looked_then First Second Both a b c x y z first second either both = record {
-    falls = falls_then p a b c first.falls second.falls;
+  looked_then {First} {Second} {Both} {a} {b} {c} {x} {y} {z} first second either both = record {
+    falls = falls_then first.falls second.falls;
     room = second.room;
     grows = λ place is. second.grows place (first.grows place is);
     keeps = λ none effect place pair w has. elim (either effect place pair) [
-      | inl early ↦ keeps_still p b c operator effect place second.falls (none_then p a b c first.falls second.falls none)
-          (first.keeps (none_first p a b c first.falls second.falls none) effect place early (second.falls.less place w) has)
-      | inr late ↦ second.keeps (none_then p a b c first.falls second.falls none) effect place late w has
+      | inl early ↦ keeps_still operator effect place second.falls (none_then first.falls second.falls none)
+          (first.keeps (none_first first.falls second.falls none) effect place early (second.falls.less place w) has)
+      | inr late ↦ second.keeps (none_then first.falls second.falls none) effect place late w has
     ];
     by_basis = λ t effect place pair w has. elim (either effect place pair) [
       | inl early ↦ basis_grows p b.basis c.basis operator effect place second.grows (first.by_basis (both t).0 effect place early (second.falls.less place w) has)
@@ -116,11 +79,11 @@ module _ (p : Parts) (operator : ℕ) where
   }
 
   -- other pairs that are among those checked, and what else is known of the basis
-  pub looked_by : (Pairs Others : ℕ → ℕ → Type 0) (before after : Family) (x y : Bool) → Looked p operator Pairs before after x
+  pub looked_by : {Pairs Others : ℕ → ℕ → Type 0} {before after : Family} {x y : Bool} → Looked p operator Pairs before after x
       → ((effect place : ℕ) → Others effect place → Pairs effect place)
       → (y ≡ true → (x ≡ true) ⊎ ((effect place : ℕ) → Others effect place → KeepsWithItself p after.basis operator effect place))
       → Looked p operator Others before after y
-  looked_by Pairs Others before after x y looked among more = record {
+  looked_by {Pairs} {Others} {before} {after} {x} {y} looked among more = record {
     falls = looked.falls;
     room = looked.room;
     grows = looked.grows;
@@ -132,11 +95,11 @@ module _ (p : Parts) (operator : ℕ) where
   }
 
   -- all groups that contain the fact that the effect sets
-  pub looked_all : (of : ℕ) (groups : List ℕ) (count : ℕ) (before after : Family) (alone : Bool)
+  pub looked_all : (of : ℕ) (groups : List ℕ) (count : ℕ) {before after : Family} {alone : Bool}
       → ((place : ℕ) → HasFact p place (sets (effect_at (operator_at p operator) of)) → Contains groups place) → length groups ≤ count
       → Looked p operator (λ effect place. IsOfEffect of effect place × (k : ℕ) × (k < count) × (get_or groups k 0 ≡ place)) before after alone
       → Looked p operator (IsOfEffect of) before after alone
-  looked_all of groups count before after alone all within looked = record {
+  looked_all of groups count {before} {after} {alone} all within looked = record {
     falls = looked.falls;
     room = looked.room;
     grows = looked.grows;
@@ -152,9 +115,46 @@ module _ (p : Parts) (operator : ℕ) where
 
   -- an operator that was checked with a basis is at rest as long as the groups of the basis are in
   -- the family
-  pub rests_on : (before after : Family) (alone : Bool) → Looked p operator (IsOfOperator p operator) before after alone → alone ≡ true
+  pub rests_on : {before after : Family} {alone : Bool} → Looked p operator (IsOfOperator p operator) before after alone → alone ≡ true
       → RestsOn p after.kept after.supports operator
-  rests_on before after alone looked t smaller inside all effect below place w has =
-      basis_keeps p after.basis smaller operator effect place
+  rests_on {before} {after} {alone} looked t smaller inside all effect below place w has =
+      basis_keeps after.basis smaller operator effect place
       (λ n in_basis. All-contains (IsIn p (family_of smaller)) after.supports n all (looked.room.basis.only n in_basis.chosen)) w
       (looked.by_basis t effect place below (inside place w) has)
+
+-- the effect doesn't preserve the group, which is removed
+module _ (p : Parts) (operator of at : ℕ) (before after : Family) (kept : after.kept ≡ set before.kept at false) (fallen : after.fallen.items ≡ before.fallen.items ++ at ∷ [])
+    (basis : after.basis ≡ before.basis) (supports : after.supports ≡ before.supports) (capacity : vec_capacity before.fallen ≤ vec_capacity after.fallen)
+    (room : FamilyHasRoom p before) (here : IsIn p (family_of before.kept) at) where
+  removed_room : FamilyHasRoom p after
+  removed_room =
+      let fell = ap count kept in
+      let less = count_fell before.kept at here.chosen in
+      let more = ap length fallen ∙ length_push before.fallen.items at in
+      record {
+        one_each = ap length kept ∙ (length-set before.kept at false ∙ room.one_each);
+        room = omega (arith, room.room, capacity);
+        few = omega (arith, room.few);
+        basis = record {
+          one_each = ap length basis ∙ room.basis.one_each;
+          only = λ place is. subst (λ (xs : List ℕ). Contains xs place) (sym supports) (room.basis.only place (subst (λ (xs : List Bool). family_of xs place ≡ true) basis is));
+          low = subst (All (λ (support : ℕ). support < length p.groups)) (sym supports) room.basis.low;
+        };
+      }
+
+  removed : (place : ℕ) → place ≡ at → IsIn p (family_of after.kept) place → ⊥
+  removed place is w = both_ways (family_of after.kept place)
+      (ap (λ (xs : List Bool). family_of xs place) kept ∙ (ap (λ (n : ℕ). family_of (set before.kept at false) n) is
+      ∙ get_or-set_same before.kept at false false (let exists = here.exists in let one_each = room.one_each in omega arith)))
+      w.chosen
+
+  pub looked_removed : operator < length p.operators → of < length (operator_at p operator).effects
+      → Contains (group_at p at) (sets (effect_at (operator_at p operator) of)) → (KeepsAt p before.kept operator of at → ⊥)
+      → Looked p operator (IsPair of at) before after true
+  looked_removed exists within has broken = record {
+    falls = one_fell before after at kept fallen here.exists (never_jointly before.kept operator of at exists within has broken) room.one_each;
+    room = removed_room;
+    grows = λ place is. subst (λ (xs : List Bool). family_of xs place ≡ true) (sym basis) is;
+    keeps = λ _ effect place pair w _. absurd (removed place pair.1 w);
+    by_basis = λ _ effect place pair w _. absurd (removed place pair.1 w);
+  }

@@ -1,10 +1,9 @@
 -- If an effect requires an old value that is a fact of a group, no other fact of the group can have
 -- held before.
-use Rattle.sas_mutex.proofs.Imports.{◌≡◌, ℕ, ◌<◌, length, List, [], ◌++◌, Bool, Option, Some, subst, refl, sym, ap, ◌∙◌, arith, Contains, filter_map, option_to_list, Contains-append_left, Contains-append_right, Contains-get_or, All-contains, Change, Fact, Effect, Operator, Parts, operator_at, effect_at, group_at, effect_change, FactExists, WellRanged, old_fact, preconditions, IsIn, known, Index}
+use Rattle.sas_mutex.proofs.Imports.{◌≡◌, ℕ, ◌<◌, length, List, [], ◌++◌, Bool, Option, Some, subst, refl, sym, ap, ◌∙◌, arith, Contains, filter_map, option_to_list, Contains-append_left, Contains-append_right, Contains-get_or, All-contains, Change, Fact, Effect, Operator, Parts, operator_at, effect_at, group_at, effect_change, FactExists, WellRanged, old_fact, preconditions, IsIn, known, Index, AreGone}
 use Rattle.sas_mutex.proofs.Imports.{family_of, IsIndexOf, groups_of, in_flat, given_is}
 use Rattle.sas_mutex.specs.Effects.{IsKept}
-use Rattle.sas_mutex.specs.ByNotes.{AreGone}
-use Rattle.sas_mutex.proofs.TaskFacts.{conditions_exist, known_exist}
+use Rattle.sas_mutex.proofs.TaskFacts.{known_at_exist}
 use Rattle.sas_mutex.proofs.FromNotes.{known_one_is_all}
 
 -- the old value that an effect asks for is a precondition
@@ -30,8 +29,6 @@ old_one_is_all p index operator effect place value change ranged indexed below_o
     let asked = asked_is e value (sym (ap (λ (c : Change). c.old) changes) ∙ asks) in
     let first = old_is_known o effect h below_e asked in
     let known_h = Contains-append_left (preconditions o ++ e.conditions) [] h (Contains-append_left (preconditions o) e.conditions h first) in
-    let conditions = conditions_exist p ranged operator below_o effect below_e in
-    let exists = All-contains (FactExists p.variables) (known o e.conditions e.conditions) h (known_exist p ranged operator below_o e.conditions e.conditions conditions conditions)
-    (Contains-append_left (preconditions o ++ e.conditions) e.conditions h (Contains-append_left (preconditions o) e.conditions h first)) in
+    let exists = known_at_exist p ranged operator below_o effect below_e h known_h in
     let there = subst (λ (var : ℕ). Contains (groups_of index (record { var = var; value = value })) place) (ap (λ (c : Change). c.var) changes) has in
     known_one_is_all p kept o place e h in_family known_h ((indexed.groups h exists place).0 there).among (λ on_other. absurd (on_other refl))

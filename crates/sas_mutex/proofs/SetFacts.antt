@@ -20,13 +20,6 @@ module _ (p : Parts) (ranged : WellRanged p) where
       (sym (groups_is ∙ ap (λ (c : Change). groups_of index (record { var = c.var; value = c.new })) change_is))
       (is.groups (sets e) (set_exists operator effect exists lt) place)
 
-  -- the variables of a group's facts exist
-  pub group_within : (place : ℕ) → place < length p.groups → All (λ (f : Fact). f.var < length p.variables) (group_at p place)
-  group_within place lt =
-      let listed = holds_at (Listed (FactExists p.variables)) [] p.groups ranged.groups.each place lt in
-      All-weaker (FactExists p.variables) (λ (f : Fact). f.var < length p.variables) (λ f h. fact_within p f.var f.value h) (group_at p place)
-      (All-from_recursion (FactExists p.variables) (group_at p place) listed.each)
-
 -- what each of a list's items has, one that the list contains has
 pub at_item : (P : ℕ → Type 0) (xs : List ℕ) (n : ℕ) → ((k : ℕ) → k < length xs → P (get_or xs k 0)) → Contains xs n → P n
 at_item P xs n each within = subst P (get_or_default xs within.0 0 n within.1 ∙ within.2) (each within.0 within.1)

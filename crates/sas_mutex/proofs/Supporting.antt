@@ -47,7 +47,7 @@ same_falls p before after kept fallen = record {
     plain f = record { kept = f.kept; fallen = f.fallen; basis = before.basis; supports = before.supports; is_short = before.is_short }
 
     moved : Falls p before (plain after)
-    moved = rw (kept, fallen) (none_fell p before)
+    moved = rw (kept, fallen) (none_fell before)
 
 -- the same where the basis has grown
 pub grown_room : (p : Parts) (before after : Family) → HasGrown before after → FamilyHasRoom p before → FamilyHasRoom p after

@@ -30,22 +30,21 @@ module _ (p : Parts) (ranged : WellRanged p) where
     olds_exist (e ∷ effects) fit = old_exists e.var e.old e.conditions e.new (filter_map old_fact effects) (All-head (EffectFits p.variables) e effects fit).old
         (olds_exist effects (All-tail (EffectFits p.variables) e effects fit))
 
-    -- what is known exists
-    pub known_exist : (first second : List Fact) → All (FactExists p.variables) first → All (FactExists p.variables) second
-        → All (FactExists p.variables) (known (operator_at p operator) first second)
-    known_exist first second its theirs =
+    -- what is known where an effect fires exists
+    pub known_here_exist : (effect : ℕ) → effect < length (operator_at p operator).effects
+        → All (FactExists p.variables) (known (operator_at p operator) (effect_at (operator_at p operator) effect).conditions [])
+    known_here_exist effect below =
         let o = operator_at p operator in
         let E = FactExists p.variables in
-        All-append E (preconditions o ++ first) second
-        (All-append E (preconditions o) first
+        All-append E (preconditions o ++ (effect_at o effect).conditions) []
+        (All-append E (preconditions o) (effect_at o effect).conditions
         (All-append E o.prevail (filter_map old_fact o.effects)
         (All-from_recursion E o.prevail fits.prevail.each)
         (olds_exist o.effects (All-from_recursion (EffectFits p.variables) o.effects fits.effects.each)))
-        its)
-        theirs
+        (conditions_exist effect below))
+        (All-nil E)
 
-    -- what is known where an effect fires exists
     pub known_at_exist : (effect : ℕ) → effect < length (operator_at p operator).effects
         → (f : Fact) → Contains (known (operator_at p operator) (effect_at (operator_at p operator) effect).conditions []) f → FactExists p.variables f
     known_at_exist effect below f among = All-contains (FactExists p.variables) (known (operator_at p operator) (effect_at (operator_at p operator) effect).conditions []) f
-        (known_exist (effect_at (operator_at p operator) effect).conditions [] (conditions_exist effect below) (All-nil (FactExists p.variables))) among
+        (known_here_exist effect below) among

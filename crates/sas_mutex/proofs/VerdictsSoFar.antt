@@ -1,12 +1,12 @@
 -- The verdicts after each effect and each operator.
-use Rattle.sas_mutex.proofs.Imports.{◌≡◌, ◌≢◌, ℕ, ◌+◌, ◌<◌, Bool, true, false, List, [], ◌∷◌, ◌++◌, length, set, refl, sym, ◌∙◌, ap, subst, inl, inr, arith, cases_eq, cases_Bool, both_ways, length_push, get_or_push, get_or_append_left, length-set, get_or-set_same, get_or-set_other, set-set, set-get_or, All-from_get_or, Contains, ◌↔◌, IsTrue, Fact, Operator, Parts, operator_at, effect_at, group_at}
+use Rattle.sas_mutex.proofs.Imports.{below_more, ◌≡◌, ◌≢◌, ℕ, ◌+◌, ◌<◌, Bool, true, false, List, [], ◌∷◌, ◌++◌, length, set, refl, sym, ◌∙◌, ap, subst, inl, inr, arith, cases_eq, cases_Bool, both_ways, length_push, get_or_push, get_or_append_left, length-set, get_or-set_same, get_or-set_other, set-set, set-get_or, All-from_get_or, Contains, ◌↔◌, IsTrue, Fact, Operator, Parts, operator_at, effect_at, group_at, EffectKeeps, keeps_from_effects, effect_of_keeps}
 use Rattle.sas_mutex.proofs.Imports.{Verdict, Exclusive, Derived, Initial, Broken, Clash, Keeps, sets, MayBeExclusive, IsIn, IsGroupOfOr, IsGreatest, IsJointVerdict, IsFirstVerdict, outside_is_broken, clash_more, Noted, Several, family_of, HasFact, verdict_at, AreJointVerdicts, IsGroupNote, at_most_one}
 use Rattle.sas_mutex.specs.declared.marks.Marks.{Marks}
-use Rattle.sas_mutex.specs.Effects.{IsKept, EffectKeeps, KeepsWithItself}
+use Rattle.sas_mutex.specs.Effects.{IsKept, KeepsWithItself}
 use Rattle.sas_mutex.specs.Falling.{AreCandidates}
 use Rattle.sas_mutex.specs.Judging.{AreFirstVerdicts, IsUndecided, KeptSoFar, IsVerdictSoFar, AreVerdictsSoFar}
 use Rattle.sas_mutex.specs.ByNotes.{IsNotedFor, known_at}
-use Rattle.sas_mutex.proofs.Keeping.{effect_keeps_more, keeps_from_effects, effect_of_keeps}
+use Rattle.sas_mutex.proofs.Keeping.{effect_keeps_more}
 use Rattle.sas_mutex.proofs.KnownFacts.{several_clash}
 use Rattle.sas_mutex.proofs.FromNotes.{clash_keeps}
 
@@ -25,12 +25,9 @@ module _ (p : Parts) where
       → FirstUpTo p (n + 1) (verdicts ++ verdict ∷ [])
   first_more n verdicts verdict first is = record {
     one_each = length_push verdicts verdict ∙ ap (λ i. i + 1) first.one_each;
-    are = λ place lt. elim (cases_eq place n) [
-      | inl e ↦ subst (λ i. IsFirstVerdict p (group_at p i) (verdict_at (verdicts ++ verdict ∷ []) i)) (sym e)
-          (subst (IsFirstVerdict p (group_at p n)) (sym (get_or_push verdicts verdict Exclusive n first.one_each)) is)
-      | inr ne ↦ subst (IsFirstVerdict p (group_at p place))
-          (sym (get_or_append_left verdicts (verdict ∷ []) Exclusive place (let len = first.one_each in omega arith))) (first.are place (omega arith))
-    ];
+    are = below_more _ _ (λ place lt. subst (IsFirstVerdict p (group_at p place))
+        (sym (get_or_append_left verdicts (verdict ∷ []) Exclusive place (let len = first.one_each in omega arith))) (first.are place lt))
+        (subst (IsFirstVerdict p (group_at p n)) (sym (get_or_push verdicts verdict Exclusive n first.one_each)) is);
   }
 
   pub first_all : (n : ℕ) (verdicts : List Verdict) → n ≡ length p.groups → FirstUpTo p n verdicts → AreFirstVerdicts p verdicts
@@ -159,34 +156,21 @@ module _ (p : Parts) (kept : List Bool) where
   so_far_first place Initial is = is
   so_far_first place (Broken operator) is = absurd is
 
-  pub start_judging : (verdicts : List Verdict) → AreFirstVerdicts p verdicts → AreVerdictsSoFar p kept 0 0 verdicts
-  start_judging verdicts first = record {
-    one_each = first.one_each;
-    are = λ place lt. so_far_first place (verdict_at verdicts place) (first.are place lt);
-  }
-
   -- an effect that keeps the group, or sets no fact of it
   pub one_effect_more : (operator effect place : ℕ)
       → (Contains (group_at p place) (sets (effect_at (operator_at p operator) effect)) → KeepsWithItself p kept operator effect place)
       → KeptSoFar p kept operator effect place → KeptSoFar p kept operator (effect + 1) place
   one_effect_more operator effect place keeps so_far = record {
     operators = so_far.operators;
-    effects = λ lower lt has. elim (cases_eq lower effect) [
-      | inl e ↦ subst (λ i. KeepsWithItself p kept operator i place) (sym e) (keeps (subst (λ i. Contains (group_at p place) (sets (effect_at (operator_at p operator) i))) e has))
-      | inr ne ↦ so_far.effects lower (omega arith) has
-    ];
+    effects = below_more _ _ so_far.effects keeps;
   }
 
   -- all effects of the operator
   one_operator_more : (operator effects place : ℕ) → effects ≡ length (operator_at p operator).effects
       → KeptSoFar p kept operator effects place → KeptSoFar p kept (operator + 1) 0 place
   one_operator_more operator effects place all so_far = record {
-    operators = λ lower lt. elim (cases_eq lower operator) [
-      | inl e ↦ subst (λ i. Keeps (IsGroupOfOr p (family_of kept) (group_at p place)) (operator_at p i) (group_at p place)) (sym e)
-          (keeps_from_effects (IsGroupOfOr p (family_of kept) (group_at p place)) (operator_at p operator) (group_at p place)
-          (λ effect within has. so_far.effects effect (omega arith) has))
-      | inr ne ↦ so_far.operators lower (omega arith)
-    ];
+    operators = below_more _ _ so_far.operators (keeps_from_effects (IsGroupOfOr p (family_of kept) (group_at p place)) (operator_at p operator) (group_at p place)
+        (λ effect within. so_far.effects effect (omega arith)));
     effects = λ lower lt. absurd (omega arith);
   }
 
@@ -284,16 +268,3 @@ module _ (p : Parts) (kept : List Bool) where
     are = λ place lt. all_judged greatest place lt (verdict_at verdicts place)
         (subst (λ n. IsVerdictSoFar p kept n 0 place (verdict_at verdicts place)) all (so_far.are place lt));
   }
-
-  -- where no group that fell is without a verdict, all is judged at first
-  pub joint_at_first : (verdicts : List Verdict) → AreFirstVerdicts p verdicts → IsGreatest p (family_of kept)
-      → ((place : ℕ) → place < length p.groups → IsUndecided kept verdicts place → ⊥) → AreJointVerdicts p verdicts
-  joint_at_first verdicts first greatest none = joint_in_the_end (length p.operators) verdicts refl greatest (record {
-    one_each = first.one_each;
-    are = λ place lt. elim (cases_Bool (family_of kept place)) [
-      | inl here ↦ so_far_by 0 0 (length p.operators) 0 place (verdict_at verdicts place)
-          (λ out. absurd (out (record { exists = lt; chosen = here }))) (so_far_first place (verdict_at verdicts place) (first.are place lt))
-      | inr gone ↦ decided_for_good 0 0 (length p.operators) 0 place (verdict_at verdicts place)
-          (λ nothing. none place lt (record { fell = gone; nothing = nothing })) (so_far_first place (verdict_at verdicts place) (first.are place lt))
-    ];
-  })

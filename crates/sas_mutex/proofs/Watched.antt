@@ -46,7 +46,7 @@ module _ (p : Parts) where
 
   pub fallen_still : (b c : Family) → Falls p b c → AreFallen p b → AreFallen p c
   fallen_still b c falls fell = record {
-    exist = fallen_exist p b c falls fell.exist;
+    exist = fallen_exist falls fell.exist;
     out = λ group within is. elim (Contains-append_cases b.fallen.items (newly b c) group (subst (λ (xs : List ℕ). Contains xs group) falls.behind within)) [
       | inl early ↦ fell.out group early (falls.less group (record { exists = exists group within; chosen = is })).chosen
       | inr late ↦ falls.gone group late (record { exists = exists group within; chosen = is })
@@ -54,7 +54,7 @@ module _ (p : Parts) where
   }
     where
       exists : (group : ℕ) → Contains c.fallen.items group → group < length p.groups
-      exists group within = All-contains (λ (n : ℕ). n < length p.groups) c.fallen.items group (fallen_exist p b c falls fell.exist) within
+      exists group within = All-contains (λ (n : ℕ). n < length p.groups) c.fallen.items group (fallen_exist falls fell.exist) within
 
   watched_still : (b c : Family) (group : ℕ) → Falls p b c → IsIn p (family_of b.kept) group ⊎ Contains b.fallen.items group
       → IsIn p (family_of c.kept) group ⊎ Contains c.fallen.items group
@@ -106,13 +106,6 @@ module _ (p : Parts) where
         | inr ne ↦ subst (λ (xs : List Watch). RestsBy p c.kept xs other start) (sym more.behind)
             (rests_more b.kept c.kept w.made more.more other start falls.less (were.rest other start (sym (since_there other ne) ∙ is)))
       ];
-    }
-
-    pub is_anew : ((start : ℕ) → now ≡ Some start → length w.made ≤ start) → IsWatchedAnew operator c.kept w after
-    is_anew later = record {
-      made = more;
-      now = λ start is. later start (sym since_here ∙ is);
-      others = since_there;
     }
 
   -- ---- who was unwatched
@@ -208,10 +201,6 @@ module _ (p : Parts) where
           | inr from ↦ unwatched_from place from below is
         ],
       )
-
-  pub unwatched_at_first : (w : Watches) (group : ℕ) (last : Option ℕ) → IsLastBelow w.made (length w.made) group last → IsUnwatchedBehind w group last
-  unwatched_at_first w group None none = λ place lt is. absurd (none place lt is)
-  unwatched_at_first w group (Some at) (lt, its, none) = (lt, its, λ place behind below is. absurd (none place behind below is))
 
   -- those who watch groups that aren't in the family stay unwatched
   pub unwatched_more : (xs : List ℕ) (count : ℕ) (kept : List Bool) (w after : Watches) → ((place : ℕ) → place < count → family_of kept (get_or xs place 0) ≡ true → ⊥)

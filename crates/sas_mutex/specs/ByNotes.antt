@@ -11,7 +11,7 @@ use Rattle.sas_groups.specs.Clashes.{Clash}
 use Rattle.sas_groups.specs.Lists.{known}
 use Rattle.sas_mutex.specs.declared.marks.Marks.{Marks}
 use Rattle.sas_groups.specs.declared.notes.Notes.{Notes}
-use Rattle.sas_groups.specs.Checks.{NotBoth, IsGone}
+use Rattle.sas_groups.specs.Checks.{NotBoth, IsGone, HasNoPartner, AreGone}
 use Rattle.sas_mutex.specs.Effects.{IsKept, KeepsAt, KeepsWithItself}
 use Rattle.sas_groups.specs.declared.index.Index.{Index}
 use Rattle.sas_groups.specs.ByVariable.{variable_of}
@@ -76,15 +76,6 @@ pub record IsNotedFor (p : Parts) (kept : List Bool) (operator effect : ℕ) (ma
     : Type 0 where
   pub are : AreKnown p kept (known_at p operator effect) marks.known
   pub from : IsNotedFrom p (known_at p operator effect) marks
-
--- no effect that may fire together with this one sets another fact of the group on another variable
-abbrev pub HasNoPartner : (List Fact → Type 0) → Operator → List Fact → Effect → Type 0
-HasNoPartner Counts o group e = (other : ℕ) → other < length o.effects
-    → NotBoth Counts o group e (effect_at o other)
-
--- no other fact of the group remains when the effect fires
-abbrev pub AreGone : (List Fact → Type 0) → Operator → List Fact → Effect → Type 0
-AreGone Counts o group e = (f : Fact) → Contains group f → IsGone Counts o e f
 
 -- the fact isn't a known fact of the effect
 abbrev pub IsUnknown : Operator → Effect → Fact → Type 0

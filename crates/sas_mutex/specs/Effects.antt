@@ -1,24 +1,15 @@
 -- What the check of one effect decides.
-use Rattle.std.specs.Prelude.{◌≡◌, ℕ, ◌<◌, Bool, List, [], length, Contains}
+use Rattle.std.specs.Prelude.{◌≡◌, ℕ, Bool, List, []}
 use Rattle.sas_core.specs.declared.parts.Fact.{Fact}
-use Rattle.sas_core.specs.declared.parts.Effect.{Effect}
-use Rattle.sas_core.specs.declared.parts.Operator.{Operator}
 use Rattle.sas_core.specs.declared.parts.Parts.{Parts}
 use Rattle.sas_core.specs.Grounded.{operator_at, effect_at, group_at}
 use Rattle.sas_groups.specs.Families.{IsGroupOf, IsGroupOfOr}
-use Rattle.sas_groups.specs.Checks.{NotBoth, IsGone}
+use Rattle.sas_groups.specs.Checks.{EffectKeeps}
 use Rattle.sas_groups.specs.Kept.{family_of}
 
 -- the groups of the family
 abbrev pub IsKept : Parts → List Bool → List Fact → Type 0
 IsKept p kept = IsGroupOf p (family_of kept)
-
--- if the effect sets a fact of the group, no other effect sets one on another variable in the same
--- step, and no fact on another variable remains, unless the facts that hold then clash
-pub record EffectKeeps (Counts : List Fact → Type 0) (o : Operator) (group : List Fact) (e : Effect)
-    : Type 0 where
-  pub single : (other : ℕ) → other < length o.effects → NotBoth Counts o group e (effect_at o other)
-  pub others : (f : Fact) → Contains group f → IsGone Counts o e f
 
 -- the effect preserves the group, assuming the groups of the family; all are given by their indexes
 abbrev pub KeepsAt : Parts → List Bool → ℕ → ℕ → ℕ → Type 0

@@ -3,7 +3,7 @@ use Rattle.std.specs.Prelude.{List}
 use Rattle.sas_core.specs.declared.parts.Fact.{Fact}
 use Rattle.sas_core.specs.declared.parts.Parts.{Parts}
 use Rattle.sas_mutex.specs.declared.marks.Marks.{Marks}
-use Rattle.sas_groups.specs.Notes.{AreBlank, AreFrom, AreNotesOf}
+use Rattle.sas_groups.specs.Notes.{AreBlank, AreFrom}
 
 -- nothing is recorded
 pub record IsClean (p : Parts) (marks : Marks) : Type 0 where
@@ -14,7 +14,3 @@ pub record IsClean (p : Parts) (marks : Marks) : Type 0 where
 pub record IsNotedFrom (p : Parts) (facts : List Fact) (marks : Marks) : Type 0 where
   pub known : AreFrom p facts marks.known
   pub others : AreBlank p marks.others
-
--- these facts are recorded
-abbrev pub IsNoted : Parts → List Fact → Marks → Type 0
-IsNoted p facts marks = AreNotesOf p facts marks.known

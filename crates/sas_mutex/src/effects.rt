@@ -3,6 +3,7 @@ ghost use Rattle.std.specs.Prelude.{◌≡◌, ◌<◌, ◌≤◌, ◌^◌, ◌�
 ghost use Rattle.sas_core.specs.Grounded.{operator_at, effect_at};
 ghost use Rattle.sas_core.specs.Changes.{plain_effects};
 ghost use Rattle.sas_core.specs.Variables.{FactExists};
+ghost use Rattle.sas_groups.specs.Checks.{Tells};
 ghost use Rattle.sas_groups.specs.Clashes.{sets};
 ghost use Rattle.sas_groups.specs.Families.{IsIn};
 ghost use Rattle.sas_groups.specs.Index.{HasFact, groups_of};
@@ -188,8 +189,7 @@ impl<'a, 'b, T: Grounded> Firing<'a, 'b, T> {
         requires notes { IsNotedAt self.now kept.now marks.now }
         requires group { IsIn self.now.task (family_of kept.now) group }
         requires plain { (operator_of self.now).effects ≡ plain_effects changes.now }
-        ensures yes { IsTrue result → HasNoPartnerAt self.now kept.now group }
-        ensures no { IsFalse result → HasNoPartnerAt self.now kept.now group → ⊥ }
+        ensures { Tells result (HasNoPartnerAt self.now kept.now group) }
     {
         let var = self.task.effect_change(self.operator, self.effect).var;
         for change in changes {
@@ -343,8 +343,7 @@ impl<'a, 'b, T: Grounded> Firing<'a, 'b, T> {
     fn some_clashes(&self, kept: &[bool], facts: &[Fact], marks: &Marks) -> bool
         requires notes { IsNotedAt self.now kept.now marks.now }
         requires exist { All (FactExists self.now.task.variables) facts.now }
-        ensures yes { IsTrue result → SomeClashesAt self.now kept.now facts.now }
-        ensures no { IsFalse result → SomeClashesAt self.now kept.now facts.now → ⊥ }
+        ensures { Tells result (SomeClashesAt self.now kept.now facts.now) }
     {
         // For the proof: accessing a field makes the invariant of the effect available.
         let _ = &self.task;
@@ -361,8 +360,7 @@ impl<'a, 'b, T: Grounded> Firing<'a, 'b, T> {
     fn clashes(&self, kept: &[bool], fact: Fact, marks: &Marks) -> bool
         requires notes { IsNotedAt self.now kept.now marks.now }
         requires fact { FactExists self.now.task.variables fact }
-        ensures yes { IsTrue result → ClashesAt self.now kept.now fact }
-        ensures no { IsFalse result → ClashesAt self.now kept.now fact → ⊥ }
+        ensures { Tells result (ClashesAt self.now kept.now fact) }
     {
         // For the proof: accessing a field makes the invariant of the effect available.
         let _ = &self.task;
@@ -377,8 +375,7 @@ impl<'a, 'b, T: Grounded> Firing<'a, 'b, T> {
         requires notes { IsNotedAt self.now kept.now marks.now }
         requires fact { FactExists self.now.task.variables fact }
         requires none { value_note marks.now.known.values fact.var ≡ None }
-        ensures yes { IsTrue result → ClashesAt self.now kept.now fact }
-        ensures no { IsFalse result → ClashesAt self.now kept.now fact → ⊥ }
+        ensures { Tells result (ClashesAt self.now kept.now fact) }
     {
         // For the proof: accessing a field makes the invariant of the effect available.
         let _ = &self.task;
@@ -393,9 +390,7 @@ impl<'a, 'b, T: Grounded> Firing<'a, 'b, T> {
     fn shares_beside(&self, kept: &[bool], fact: Fact, marks: &Marks) -> bool
         requires notes { IsNotedAt self.now kept.now marks.now }
         requires fact { FactExists self.now.task.variables fact }
-        ensures yes { IsTrue result → SharesBesideAt self.now kept.now fact marks.now.known.apart }
-        ensures no { IsFalse result
-            → SharesBesideAt self.now kept.now fact marks.now.known.apart → ⊥ }
+        ensures { Tells result (SharesBesideAt self.now kept.now fact marks.now.known.apart) }
     {
         let groups = self.index.groups_of(fact);
         if groups.len() <= marks.known.spread {
@@ -408,9 +403,7 @@ impl<'a, 'b, T: Grounded> Firing<'a, 'b, T> {
     /// `shares_beside`, searching the groups of the known facts.
     fn known_share(&self, kept: &[bool], fact: Fact, marks: &Marks) -> bool
         requires fact { FactExists self.now.task.variables fact }
-        ensures yes { IsTrue result → SharesBesideAt self.now kept.now fact marks.now.known.apart }
-        ensures no { IsFalse result
-            → SharesBesideAt self.now kept.now fact marks.now.known.apart → ⊥ }
+        ensures { Tells result (SharesBesideAt self.now kept.now fact marks.now.known.apart) }
     {
         let premises = Premises {
             operator: self.operator,
@@ -432,8 +425,7 @@ impl<'a, 'b, T: Grounded> Firing<'a, 'b, T> {
     pub fn removes_others(&self, kept: &[bool], group: u32, marks: &Marks) -> bool
         requires notes { IsNotedAt self.now kept.now marks.now }
         requires group { IsIn self.now.task (family_of kept.now) group }
-        ensures yes { IsTrue result → AreGoneAt self.now kept.now group }
-        ensures no { IsFalse result → AreGoneAt self.now kept.now group → ⊥ }
+        ensures { Tells result (AreGoneAt self.now kept.now group) }
     {
         self.asks_one_of(group) || self.none_stays(kept, group, marks)
     }
@@ -463,8 +455,7 @@ impl<'a, 'b, T: Grounded> Firing<'a, 'b, T> {
     fn none_stays(&self, kept: &[bool], group: u32, marks: &Marks) -> bool
         requires notes { IsNotedAt self.now kept.now marks.now }
         requires group { IsIn self.now.task (family_of kept.now) group }
-        ensures yes { IsTrue result → AreGoneAt self.now kept.now group }
-        ensures no { IsFalse result → AreGoneAt self.now kept.now group → ⊥ }
+        ensures { Tells result (AreGoneAt self.now kept.now group) }
     {
         // For the proof: accessing a field makes the invariant of the effect available.
         let _ = &self.task;
@@ -492,8 +483,7 @@ impl<'a, 'b, T: Grounded> Firing<'a, 'b, T> {
         requires exist { All (FactExists self.now.task.variables) run.now }
         requires one { AreOnOne run.now }
         requires unknown { All (IsUnknownAt self.now) run.now }
-        ensures yes { IsTrue result → All (IsGoneAt self.now kept.now) run.now }
-        ensures no { IsFalse result → All (IsGoneAt self.now kept.now) run.now → ⊥ }
+        ensures { Tells result (All (IsGoneAt self.now kept.now) run.now) }
     {
         // For the proof: accessing a field makes the invariant of the effect available.
         let _ = &self.index;
@@ -528,8 +518,7 @@ impl<'a, 'b, T: Grounded> Firing<'a, 'b, T> {
     pub fn is_gone(&self, kept: &[bool], fact: Fact, marks: &Marks) -> bool
         requires notes { IsNotedAt self.now kept.now marks.now }
         requires fact { FactExists self.now.task.variables fact }
-        ensures yes { IsTrue result → IsGoneAt self.now kept.now fact }
-        ensures no { IsFalse result → IsGoneAt self.now kept.now fact → ⊥ }
+        ensures { Tells result (IsGoneAt self.now kept.now fact) }
     {
         let var = self.task.effect_change(self.operator, self.effect).var;
         self.goes(kept, var, fact, marks)
@@ -541,8 +530,7 @@ impl<'a, 'b, T: Grounded> Firing<'a, 'b, T> {
         requires notes { IsNotedAt self.now kept.now marks.now }
         requires var { var ≡ (effect_of self.now).var }
         requires fact { FactExists self.now.task.variables fact }
-        ensures yes { IsTrue result → IsGoneAt self.now kept.now fact }
-        ensures no { IsFalse result → IsGoneAt self.now kept.now fact → ⊥ }
+        ensures { Tells result (IsGoneAt self.now kept.now fact) }
     {
         // For the proof: accessing a field makes the invariant of the effect available.
         let _ = &self.task;
@@ -557,8 +545,7 @@ impl<'a, 'b, T: Grounded> Firing<'a, 'b, T> {
     #[inline(always)]
     fn is_removed(&self, fact: Fact, notes: &Notes) -> bool
         requires wide { IsWide self.now.task notes.now }
-        ensures yes { IsTrue result → SomeRemoves (operator_of self.now) notes.now fact }
-        ensures no { IsFalse result → SomeRemoves (operator_of self.now) notes.now fact → ⊥ }
+        ensures { Tells result (SomeRemoves (operator_of self.now) notes.now fact) }
     {
         match self.index.effects_on(self.task, self.operator, fact.var) {
             Some(effects) => one_removes(self.task, self.operator, effects, fact, notes),
@@ -579,8 +566,7 @@ fn begins_run(facts: &[Fact], place: usize) -> bool
 #[inline(always)]
 fn sets_beside(index: &Index, change: Change, var: u32, group: u32) -> bool
     requires { IsReadable index.now }
-    ensures yes { IsTrue result → SetsBeside index.now change var group }
-    ensures no { IsFalse result → SetsBeside index.now change var group → ⊥ }
+    ensures { Tells result (SetsBeside index.now change var group) }
 {
     change.var != var && index.has(group, change.fact())
 }
@@ -624,8 +610,7 @@ fn some_of_all_removes<T: Grounded>(
 ) -> bool
     requires wide { IsWide task.now notes.now }
     requires operator { operator < length task.now.operators }
-    ensures yes { IsTrue result → SomeRemoves (operator_at task.now operator) notes.now fact }
-    ensures no { IsFalse result → SomeRemoves (operator_at task.now operator) notes.now fact → ⊥ }
+    ensures { Tells result (SomeRemoves (operator_at task.now operator) notes.now fact) }
 {
     for effect in 0..task.effects(operator) {
         if removes(task, operator, effect, fact, notes) {
@@ -646,8 +631,7 @@ fn one_removes<T: Grounded>(
     requires wide { IsWide task.now notes.now }
     requires operator { operator < length task.now.operators }
     requires all { AreOn task.now operator fact.var effects.now }
-    ensures yes { IsTrue result → SomeRemoves (operator_at task.now operator) notes.now fact }
-    ensures no { IsFalse result → SomeRemoves (operator_at task.now operator) notes.now fact → ⊥ }
+    ensures { Tells result (SomeRemoves (operator_at task.now operator) notes.now fact) }
 {
     for effect in effects {
         if *effect < task.effects(operator) && removes(task, operator, *effect, fact, notes) {
@@ -670,10 +654,8 @@ fn removes<T: Grounded>(
     requires wide { IsWide task.now notes.now }
     requires operator { operator < length task.now.operators }
     requires effect { effect < length (operator_at task.now operator).effects }
-    ensures yes { IsTrue result
-        → RemovesByNotes notes.now fact (effect_at (operator_at task.now operator) effect) }
-    ensures no { IsFalse result
-        → RemovesByNotes notes.now fact (effect_at (operator_at task.now operator) effect) → ⊥ }
+    ensures { Tells result
+        (RemovesByNotes notes.now fact (effect_at (operator_at task.now operator) effect)) }
 {
     // The contract of `task` ensures that the task is well ranged.
     let _ = task.task();
@@ -688,8 +670,7 @@ fn removes<T: Grounded>(
 #[inline(always)]
 fn all_met(conditions: &[Fact], fact: Fact, notes: &Notes) -> bool
     requires { All (λ (c : Fact). c.var < length notes.now.values) conditions.now }
-    ensures yes { IsTrue result → All (IsMet notes.now fact) conditions.now }
-    ensures no { IsFalse result → All (IsMet notes.now fact) conditions.now → ⊥ }
+    ensures { Tells result (All (IsMet notes.now fact) conditions.now) }
 {
     for condition in conditions {
         if !is_met(*condition, fact, notes) {
@@ -703,8 +684,7 @@ fn all_met(conditions: &[Fact], fact: Fact, notes: &Notes) -> bool
 #[inline(always)]
 fn is_met(condition: Fact, fact: Fact, notes: &Notes) -> bool
     requires { condition.var < length notes.now.values }
-    ensures yes { IsTrue result → IsMet notes.now fact condition }
-    ensures no { IsFalse result → IsMet notes.now fact condition → ⊥ }
+    ensures { Tells result (IsMet notes.now fact condition) }
 {
     condition == fact || notes.values.as_slice()[condition.var as usize] == Some(condition.value)
 }

@@ -4,7 +4,7 @@ ghost use Rattle.sas_groups.specs.Families.{IsIn, IsGreatest};
 ghost use Rattle.sas_groups.specs.Kept.{family_of};
 ghost use Rattle.sas_mutex.specs.Marks.{IsClean};
 ghost use Rattle.sas_mutex.specs.Falling.{FamilyHasRoom, AreCandidates, newly, Falls, IsAtRest, RestsOn};
-ghost use Rattle.sas_mutex.specs.Watching.{AreUnwatched, FallenAreUnwatched, IsReady, IsUnwatched, StayUnwatched, IsWatchedAnew, AreLooseAtRest, RestsBy, WatchesMore};
+ghost use Rattle.sas_mutex.specs.Watching.{AreUnwatched, FallenAreUnwatched, IsReady, IsUnwatched, StayUnwatched, IsWatchedAnew, AreLooseAtRest};
 
 use crate::family::Family;
 use crate::looking::look_at;
@@ -131,34 +131,13 @@ fn look_once<T: Grounded>(
     ensures anew { IsWatchedAnew operator family.new.kept watches.old watches.new }
 {
     let start = watches.made.len() as u32;
-    if comes_to_rest(indexed, operator, watches, family, marks) {
+    if look_until_quiet(indexed, operator, family, marks)
+        && watches.watch_all(operator, family.supports.as_slice(), family)
+    {
         watches.since.set(operator as usize, Some(start));
         return;
     }
     watches.since.set(operator as usize, None);
-}
-
-/// Checks the operator and makes it watch the groups on which it depends. Returns true only if it preserves each remaining group as long as
-/// all watched groups are in the family.
-fn comes_to_rest<T: Grounded>(
-    indexed: &IndexedTask<'_, '_, T>,
-    operator: u32,
-    watches: &mut Watches,
-    family: &mut Family,
-    marks: &mut Marks,
-) -> bool
-    requires operator { operator < length indexed.now.operators }
-    requires ready { IsReady indexed.now family.old watches.old marks.old }
-    ensures falls { Falls indexed.now family.old family.new }
-    ensures rest { IsAtRest indexed.now family.new.kept operator }
-    ensures watches { WatchesMore operator family.new.kept watches.old watches.new }
-    ensures rests { IsTrue result → RestsBy indexed.now family.new.kept
-        watches.new.made operator (length watches.old.made) }
-    ensures room { FamilyHasRoom indexed.now family.new }
-    ensures clean { IsClean indexed.now marks.new }
-{
-    look_until_quiet(indexed, operator, family, marks)
-        && watches.watch_all(operator, family.supports.as_slice(), family)
 }
 
 /// Removes every group that the operator may break, until none is left. Returns true only if it preserves each remaining group as long as

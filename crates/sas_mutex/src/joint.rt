@@ -1,5 +1,6 @@
 // The joint verdicts on groups.
 ghost use Rattle.std.specs.Prelude.{◌≡◌, ◌≢◌, ℕ, ◌+◌, ◌<◌, ◌≤◌, ◌↔◌, [], length, All, IfOk, None, IsTrue, IsFalse, vec_capacity};
+ghost use Rattle.sas_groups.specs.Checks.{Tells};
 ghost use Rattle.sas_groups.specs.Clashes.{sets};
 ghost use Rattle.sas_groups.specs.Families.{IsGreatest};
 ghost use Rattle.sas_groups.specs.declared.verdict.Verdict.{Verdict};
@@ -281,8 +282,7 @@ fn some_undecided(groups: &[u32], kept: &[bool], verdicts: &[Verdict]) -> bool
 fn is_undecided(group: u32, kept: &[bool], verdicts: &[Verdict]) -> bool
     requires kept { group < length kept.now }
     requires verdicts { group < length verdicts.now }
-    ensures yes { IsTrue result → IsUndecided kept.now verdicts.now group }
-    ensures no { IsFalse result → IsUndecided kept.now verdicts.now group → ⊥ }
+    ensures { Tells result (IsUndecided kept.now verdicts.now group) }
 {
     is_exclusive(verdicts[group as usize]) && !kept[group as usize]
 }

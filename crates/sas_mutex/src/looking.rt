@@ -7,7 +7,7 @@ ghost use Rattle.sas_groups.specs.Kept.{family_of};
 ghost use Rattle.sas_mutex.specs.Effects.{IsUnconditional};
 ghost use Rattle.sas_mutex.specs.Firing.{effect_of};
 ghost use Rattle.sas_mutex.specs.Marks.{IsClean};
-ghost use Rattle.sas_mutex.specs.ByNotes.{IsNotedAt, NeverFires, EffectKeepsGroup, EffectKeepsGroupWithItself};
+ghost use Rattle.sas_mutex.specs.ByNotes.{IsNotedAt, EffectKeepsGroup, EffectKeepsGroupWithItself};
 ghost use Rattle.sas_mutex.specs.Falling.{FamilyHasRoom};
 ghost use Rattle.sas_mutex.specs.Basis.{HasGrown, SetsNone};
 ghost use Rattle.sas_mutex.specs.Looking.{Looked, IsPair, IsOfEffect, IsOfOperator, IsOfUnconditional, IsOfAlike};
@@ -147,8 +147,12 @@ fn look_at_alike<T: Grounded>(
         Looked f.task f.operator (IsOfAlike f) family.old family.new result }
     ensures clean { IsClean firing.now.task marks.new }
 {
-    let basis_decides = look_where_they_fire(firing, family, marks);
-    basis_decides || never_fires(firing, family.basis.as_slice(), marks)
+    if look_where_they_fire(firing, family, marks) {
+        return true;
+    }
+    let clash = firing.note(family.basis.as_slice(), marks);
+    firing.forget(marks);
+    clash
 }
 
 /// `look_at_alike` without the case that an effect never fires, assuming the basis. The known facts are the same for all these effects, and
@@ -174,18 +178,6 @@ fn look_where_they_fire<T: Grounded>(
     }
     firing.forget(marks);
     alone
-}
-
-/// Returns whether the known facts clash, assuming the groups of the basis. Then the effect never fires.
-fn never_fires<T: Grounded>(firing: &Firing<'_, '_, T>, basis: &[bool], marks: &mut Marks) -> bool
-    requires one_each { length basis.now ≡ length firing.now.task.groups }
-    requires clean { IsClean firing.now.task marks.old }
-    ensures yes { IsTrue result → NeverFires firing.now basis.now }
-    ensures clean { IsClean firing.now.task marks.new }
-{
-    let clash = firing.note(basis, marks);
-    firing.forget(marks);
-    clash
 }
 
 /// `look_where_they_fire` after the known facts were recorded. They must not clash.

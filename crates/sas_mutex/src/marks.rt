@@ -6,7 +6,8 @@ ghost use Rattle.sas_groups.specs.Lists.{known_on};
 ghost use Rattle.sas_mutex.specs.Effects.{IsKept};
 ghost use Rattle.sas_groups.specs.Index.{IsIndexOf};
 ghost use Rattle.sas_groups.specs.Notes.{AreBlank, AreFrom};
-ghost use Rattle.sas_mutex.specs.Marks.{IsClean, IsNotedFrom, IsNoted};
+ghost use Rattle.sas_mutex.specs.ByNotes.{AreKnown};
+ghost use Rattle.sas_mutex.specs.Marks.{IsClean, IsNotedFrom};
 ghost use Rattle.sas_groups.specs.Noting.{IsReadable};
 
 use sas_core::{Fact, Grounded};
@@ -70,19 +71,14 @@ pub fn note_known<T: Grounded>(
     requires index { IsIndexOf task.now index.now }
     requires one_each { length kept.now ≡ length task.now.groups }
     requires operator { premises.now.operator < length task.now.operators }
-    requires first { All (FactExists task.now.variables) premises.now.first.now }
-    requires second { All (FactExists task.now.variables) premises.now.second.now }
+    requires exist { All (FactExists task.now.variables) (known_on task.now premises.now) }
     requires clean { IsClean task.now marks.old }
     ensures yes { IsTrue result
         → Clash (IsKept task.now kept.now) (known_on task.now premises.now) }
-    ensures no { IsFalse result
-        → Clash (IsKept task.now kept.now) (known_on task.now premises.now) → ⊥ }
-    ensures noted { IsFalse result
-        → IsNoted task.now (known_on task.now premises.now) marks.new }
+    ensures known { IsFalse result
+        → AreKnown task.now kept.now (known_on task.now premises.now) marks.new.known }
     ensures from { IsNotedFrom task.now (known_on task.now premises.now) marks.new }
 {
-    // The contract of `task` ensures that the task is well ranged.
-    let _ = task.task();
     let widest = widest_known(task, index, premises, marks.known.some_wide);
     // All effects are visited to find the preconditions.
     marks.known.spread = task.effects(premises.operator) as usize;
@@ -125,13 +121,10 @@ pub fn forget_known<T: Grounded>(
 )
     requires index { IsIndexOf task.now index.now }
     requires operator { premises.now.operator < length task.now.operators }
-    requires first { All (FactExists task.now.variables) premises.now.first.now }
-    requires second { All (FactExists task.now.variables) premises.now.second.now }
+    requires exist { All (FactExists task.now.variables) (known_on task.now premises.now) }
     requires from { IsNotedFrom task.now (known_on task.now premises.now) marks.old }
     ensures { IsClean task.now marks.new }
 {
-    // The contract of `task` ensures that the task is well ranged.
-    let _ = task.task();
     for fact in Known::new(task, premises) {
         forget(index, fact, &mut marks.known);
     }

@@ -23,11 +23,12 @@ pub use Rattle.sas_core.specs.declared.parts.Fact.{Fact}
 pub use Rattle.sas_core.specs.declared.parts.Operator.{Operator}
 pub use Rattle.sas_core.specs.declared.parts.Parts.{Parts}
 pub use Rattle.sas_core.specs.declared.parts.Rule.{Rule}
+pub use Rattle.sas_groups.proofs.Effects.{keeps_from_effects, effect_of_keeps}
 pub use Rattle.sas_groups.proofs.GreatestFamily.{clash_more, keeps_more, all_keep_more, group_of_larger}
 pub use Rattle.sas_groups.proofs.Invariance.{fact_same}
 pub use Rattle.sas_groups.proofs.JointLists.{one_list, some_list}
 pub use Rattle.sas_groups.proofs.JointVerdicts.{same_or_itself}
-pub use Rattle.sas_groups.specs.Checks.{NotBoth, IsGone}
+pub use Rattle.sas_groups.specs.Checks.{NotBoth, IsGone, EffectKeeps}
 pub use Rattle.sas_groups.specs.Clashes.{Keeps, sets}
 pub use Rattle.sas_groups.specs.Distinct.{AreDistinct}
 pub use Rattle.sas_groups.specs.Families.{IsIn, IsGroupOf, IsGroupOfOr, IsKeptJointly, IsGreatest, IsOnBasic}
@@ -51,11 +52,10 @@ pub use Rattle.sas_meaning.specs.States.{Holds}
 pub use Rattle.sas_meaning.specs.declared.layered.LayerFault.{LayerFault}
 pub use Rattle.sas_meaning.specs.declared.layered.LayerFault.TheVariants.{Memory, EffectOnDerived, RuleOnBasic, OldValue, TwoValues, LayerOrder}
 pub use Rattle.sas_mutex.proofs.FromNotes.{noted_fewer}
-pub use Rattle.sas_mutex.proofs.Keeping.{keeps_from_effects, effect_of_keeps}
 pub use Rattle.sas_mutex.proofs.TaskFacts.{group_facts}
 pub use Rattle.sas_mutex.proofs.VerdictsSoFar.{clash_never_fires, keeps_itself, put_back, several_never_fire, noted_with, with_place, or_itself, is_more}
 pub use Rattle.sas_mutex.specs.ByNotes.{NotBothAt, IsGoneAt, EffectKeepsGroup, IsNotedAt, NeverFires, IsNotedFor, EffectKeepsGroupWithItself, known_at}
-pub use Rattle.sas_mutex.specs.Effects.{EffectKeeps, IsKept, KeepsWithItself}
+pub use Rattle.sas_mutex.specs.Effects.{IsKept, KeepsWithItself}
 pub use Rattle.sas_mutex.specs.Firing.{EffectPlace, operator_of}
 pub use Rattle.sas_mutex.specs.Marks.{IsClean}
 pub use Rattle.sas_output.proofs.Pushed.{pushes_then}

@@ -1,18 +1,13 @@
 -- Each iteration adds a group. The numbers of facts, which are the keys, are below the number of
 -- facts.
-use Rattle.sas_groups.proofs.Imports.{◌≡◌, ◌<◌, ◌++◌, List, length, sym, ap, subst, ◌∙◌, arith, All, IfOk-weaker, Fact, by_key}
+use Rattle.sas_groups.proofs.Imports.{◌≡◌, ◌++◌, List, length, sym, ap, subst, ◌∙◌, arith, IfOk-weaker, Fact, by_key, common_steps}
 use Rattle.sas_groups.specs.Distinct.{facts_at}
 use Rattle.sas_groups.specs.Index.{facts_below, entries_of, AreByFact}
 use Rattle.sas_groups.proofs.Entering.{EnteredUpTo, group_numbered, group_facts_exist, group_has, entered_more, entered_low, entered_by_fact}
 use Rattle.sas_groups.proofs.by_fact.groups_by_fact.Goals as goal
 
 pub enter_facts-requires-clause-known : goal.enter_facts-requires-clause-known
-enter_facts-requires-clause-known g c =
-    let p = c.args.task.now in
-    let own = c.args.own.now in
-    let count = c.groups-group-end.ensures in
-    subst (All (λ (f : Fact). f.var < length c.args.firsts.now)) (sym c.facts_of.ensures)
-    (group_numbered p own c.task.ensures.well_ranged c.requires.own c.args.firsts.now c.loop-group.group c.requires.firsts.one_each (omega (arith, count)))
+enter_facts-requires-clause-known g c = grind (arith, common_steps, group_numbered)
 
 pub loop-group-preserved : goal.loop-group-preserved
 loop-group-preserved g c =

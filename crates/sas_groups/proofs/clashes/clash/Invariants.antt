@@ -1,13 +1,10 @@
 -- The facts so far contradict no known fact.
-use Rattle.sas_groups.proofs.Imports.{◌≡◌, ◌++◌, All}
 use Rattle.sas_groups.specs.Clashes.{Contradict}
-use Rattle.sas_groups.specs.Checks.{Alone}
+use Rattle.sas_groups.specs.Checks.{Alone, Has}
 use Rattle.sas_groups.specs.Lists.{known_on, known_left}
+use Rattle.sas_groups.proofs.Turns.{Turns}
 use Rattle.sas_groups.proofs.clashes.clash.Given as goal
 
 abbrev pub invariant-loop-f : goal.invariant-loop-f
-invariant-loop-f g l = record {
-  left : known_on l.task l.premises ≡ l.yielded ++ known_left l.f-iterator;
-  none : All (λ x. All (λ y. Contradict (Alone l.group) x y → ⊥)
-      (known_on l.task l.premises)) l.yielded;
-}
+invariant-loop-f g l = Turns (λ x. Has (Contradict (Alone l.group) x) (known_on l.task l.premises) → ⊥)
+    (known_on l.task l.premises) l.yielded (known_left l.f-iterator)

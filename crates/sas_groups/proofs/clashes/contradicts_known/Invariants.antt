@@ -1,12 +1,9 @@
 -- The fact contradicts none of the facts so far.
-use Rattle.sas_groups.proofs.Imports.{◌≡◌, ◌++◌, All}
 use Rattle.sas_groups.specs.Clashes.{Contradict}
 use Rattle.sas_groups.specs.Checks.{Alone}
 use Rattle.sas_groups.specs.Lists.{known_on, known_left}
+use Rattle.sas_groups.proofs.Turns.{Turns}
 use Rattle.sas_groups.proofs.clashes.contradicts_known.Given as goal
 
 abbrev pub invariant-loop-g : goal.invariant-loop-g
-invariant-loop-g g l = record {
-  left : known_on l.task l.fn.premises ≡ l.yielded ++ known_left l.g-iterator;
-  none : All (λ x. Contradict (Alone l.group) l.f x → ⊥) l.yielded;
-}
+invariant-loop-g g l = Turns (λ x. Contradict (Alone l.group) l.f x → ⊥) (known_on l.task l.premises) l.yielded (known_left l.g-iterator)

@@ -1,5 +1,5 @@
 -- One more fact is removed; in the end all are.
-use Rattle.sas_groups.proofs.Imports.{length, get_or, refl, subst, arith, Fact, Parts, each_more}
+use Rattle.sas_groups.proofs.Imports.{length, get_or, subst, arith, Fact, Parts, each_more, common_steps}
 use Rattle.sas_groups.specs.Index.{IsIndexOf}
 use Rattle.sas_groups.specs.Noting.{IsForgotten}
 use Rattle.sas_groups.proofs.Existing.{groups_below}
@@ -18,7 +18,6 @@ loop-fact-preserved g c =
     let index = c.indexed.inside.index.now in
     let facts = c.args.facts.now in
     let n = c.loop-fact.fact-index in
-    let old = c.loop-fact.notes in
     let new = c.forget.new.notes in
     let inv = c.loop-fact.invariant in
     let indexed = subst (λ (q : Parts). IsIndexOf q index) c.indexed.view_is c.indexed.invariant.1 in
@@ -26,13 +25,10 @@ loop-fact-preserved g c =
     let exists = c.requires.exist n (record { var = 0; value = 0 }) c.loop-fact-test.true in
     record {
       came = each_more (IsForgotten p new) facts n _ c.loop-fact-test.true
-          (λ k d below. forgotten_still p index facts old new indexed inv.from fact exists c.forget.ensures (get_or facts k d) (inv.came k d below))
-          (forgotten_now p index facts old new indexed inv.from fact exists c.forget.ensures);
-      from = noted_less p index facts old new indexed inv.from fact exists c.forget.ensures;
+          (λ k d below. forgotten_still indexed inv.from fact exists c.forget.ensures (get_or facts k d) (inv.came k d below))
+          (forgotten_now indexed inv.from fact exists c.forget.ensures);
+      from = noted_less indexed inv.from fact exists c.forget.ensures;
     }
 
 pub returns : goal.returns
-returns g c =
-    let inv = c.loop-fact.invariant in
-    blank_in_the_end c.args.indexed.now c.args.facts.now c.loop-fact.notes _ inv.from
-    (λ k d below. inv.came k d (let all = c.loop-fact-test.false in omega arith)) refl refl refl
+returns g c = grind (arith, common_steps, blank_in_the_end)

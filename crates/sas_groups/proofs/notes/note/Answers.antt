@@ -1,54 +1,11 @@
 -- Only the records of the fact's variable and groups change.
-use Rattle.sas_groups.proofs.Imports.{ℕ, ◌≡◌, List, Option, None, Some, length, refl, ap, subst, ◌∙◌, inl, inr, Contains, cases_eq, eqb-false, length-set, get_or-set_other}
+use Rattle.sas_groups.proofs.Imports.{ℕ, ◌≡◌, List, Option, None, Some, length, refl, ap, subst, ◌∙◌, inl, inr, Contains, cases_eq, eqb-false, length-set, get_or-set_other, arith, common_steps}
 use Rattle.sas_groups.specs.Notes.{value_note}
-use Rattle.sas_groups.specs.Noting.{IsExcluded, TakenBySome, TakenByAll}
+use Rattle.sas_groups.specs.Noting.{IsExcluded}
 use Rattle.sas_groups.proofs.notes.note.Goals as goal
 
-pub returns-then-shares_apart-clause-no : goal.returns-then-shares_apart-clause-no
-returns-then-shares_apart-clause-no c = λ f. inr (inr (
-  subst (λ (values : List (Option ℕ)). value_note values c.args.fact.var ≡ None) c.as_slice.ensures c.in-None.is,
-  c.shares_apart.ensures.yes c.if-shares_apart.true,
-))
-
-pub returns-then-shares_apart-clause-changes : goal.returns-then-shares_apart-clause-changes
-returns-then-shares_apart-clause-changes c = record {
-  as_many_values = refl;
-  as_many_groups = refl;
-  values = λ var. inl refl;
-  by_group = λ place. inl refl;
-  same_apart = refl;
-}
-
 pub returns-in-Some-clause-no : goal.returns-in-Some-clause-no
-returns-in-Some-clause-no c = λ f. inl (
-  c.in-Some.value,
-  subst (λ (values : List (Option ℕ)). value_note values c.args.fact.var ≡ Some c.in-Some.value) c.as_slice.ensures c.in-Some.is,
-  eqb-false c.in-Some.value c.args.fact.value f,
-)
-
-pub returns-in-Some-clause-changes : goal.returns-in-Some-clause-changes
-returns-in-Some-clause-changes c = record {
-  as_many_values = refl;
-  as_many_groups = refl;
-  values = λ var. inl refl;
-  by_group = λ place. inl refl;
-  same_apart = refl;
-}
-
-pub returns-else-shares_apart-clause-yes : goal.returns-else-shares_apart-clause-yes
-returns-else-shares_apart-clause-yes c =
-    let fact = c.args.fact in
-    let kept = c.args.kept.now in
-    let before = c.args.notes.now.groups in
-    let after = c.note_in_groups.new.noted in
-    λ t. inr (record {
-      none = subst (λ (values : List (Option ℕ)). value_note values fact.var ≡ None) c.as_slice.ensures c.in-None.is;
-      values = c.set.ensures;
-      some = subst (λ (groups : List ℕ). TakenBySome groups kept fact before after) c.groups_of-groups.ensures c.note_in_groups.ensures.some;
-      all = subst (λ (groups : List ℕ). TakenByAll groups kept fact before after) c.groups_of-groups.ensures (c.note_in_groups.ensures.yes t);
-      same_apart = refl;
-      alone = c.shares_apart.ensures.no c.if-shares_apart.false;
-    })
+returns-in-Some-clause-no c = grind (arith, common_steps, eqb-false)
 
 pub returns-else-shares_apart-clause-no : goal.returns-else-shares_apart-clause-no
 returns-else-shares_apart-clause-no c =

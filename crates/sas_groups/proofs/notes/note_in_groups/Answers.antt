@@ -1,5 +1,5 @@
 -- The fact is recorded for one more group.
-use Rattle.sas_groups.proofs.Imports.{◌≢◌, ◌<◌, List, length, get_or, IsTrue, subst, sym, ◌∙◌, arith, both_ways, Contains-get_or, each_more}
+use Rattle.sas_groups.proofs.Imports.{◌≢◌, ◌<◌, List, length, get_or, IsTrue, subst, sym, ◌∙◌, arith, both_ways, Contains-get_or, each_more, common_steps}
 use Rattle.sas_groups.specs.declared.notes.Noted.{Noted}
 use Rattle.sas_groups.specs.declared.notes.Noted.TheVariants.{Several}
 use Rattle.sas_groups.specs.Kept.{family_of}
@@ -10,23 +10,7 @@ use Rattle.sas_groups.proofs.notes.note_in_groups.Goals as goal
 use Rattle.sas_groups.proofs.notes.note_in_groups.Goals.{else-is_several-via-then-is_several+else-is_kept, else-is_several-via-else-is_several}
 
 pub returns-then-is_kept-clause-no : goal.returns-then-is_kept-clause-no
-returns-then-is_kept-clause-no c =
-    let groups = c.args.groups.now in
-    let kept = c.args.kept.now in
-    let fact = c.args.fact in
-    let n = c.loop-group.group-index in
-    let place = get_or groups n 0 in
-    let now = c.loop-group.noted in
-    let too : IsNotedToo (group_note now place) fact c.with-now.result =
-    subst (λ (xs : List Noted). IsNotedToo (group_note xs place) fact c.with-now.result) c.as_slice.ensures c.with-now.ensures in
-    let several = c.is_several.ensures.0 c.if-is_several.true in
-    λ _. record {
-      place = place;
-      among = Contains-get_or groups n 0 c.loop-group-test.true;
-      kept_there = sym c.is_kept.ensures ∙ c.if-is_kept.true;
-      other = since_before groups kept fact c.args.noted.now now c.loop-group.invariant.some place Several
-          (subst (λ (after : Noted). IsNotedToo (group_note now place) fact after) several too);
-    }
+returns-then-is_kept-clause-no c = grind (arith, common_steps, Contains-get_or, since_before)
 
 pub loop-group-preserved : goal.loop-group-preserved
 loop-group-preserved c =

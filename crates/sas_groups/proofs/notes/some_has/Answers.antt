@@ -2,19 +2,20 @@
 use Rattle.sas_groups.proofs.Imports.{ℕ, List, length, get_or, sym, ap, subst, ◌∙◌, below_more, arith, IsTrue, Contains, true≢false, get_or_default, Contains-get_or}
 use Rattle.sas_groups.specs.Index.{groups_of}
 use Rattle.sas_groups.specs.Kept.{family_of}
+use Rattle.sas_groups.proofs.Telling.{tells_yes, tells_no}
 use Rattle.sas_groups.proofs.notes.some_has.Goals as goal
 use Rattle.sas_groups.proofs.notes.some_has.Goals.{else-is_kept-via-then-is_kept+else-has, else-is_kept-via-else-is_kept}
 
-pub returns-then-has-clause-yes : goal.returns-then-has-clause-yes
-returns-then-has-clause-yes c =
+pub returns-then-has : goal.returns-then-has
+returns-then-has c =
     let groups = c.groups_of-group-items.result.now in
     let group = get_or groups c.loop-group.group-index 0 in
-    λ t. record {
+    tells_yes (record {
       place = group;
       first = subst (λ (xs : List ℕ). Contains xs group) c.groups_of-group-items.ensures (Contains-get_or groups c.loop-group.group-index 0 c.loop-group-test.true);
       second = c.has.ensures.0 c.if-has.true;
       kept_there = sym c.is_kept.ensures ∙ c.if-is_kept.true;
-    }
+    })
 
 pub loop-group-preserved : goal.loop-group-preserved
 loop-group-preserved c =
@@ -32,8 +33,8 @@ loop-group-preserved c =
     (ap (λ (xs : List ℕ). get_or xs i 0) c.groups_of-group-items.ensures ∙ get_or_default groups i 0 d (omega (arith, c.loop-group-test.true, ap length c.groups_of-group-items.ensures)))
     here) k lt
 
-pub returns-clause-no : goal.returns-clause-no
-returns-clause-no c =
-    λ t shared. c.loop-group.invariant shared.first.0 shared.place (omega (arith, shared.first.1, ap length c.groups_of-group-items.ensures, c.loop-group-test.false))
+pub returns : goal.returns
+returns c =
+    tells_no (λ shared. c.loop-group.invariant shared.first.0 shared.place (omega (arith, shared.first.1, ap length c.groups_of-group-items.ensures, c.loop-group-test.false))
     (subst (λ n. IsTrue (family_of c.args.kept.now n)) (sym shared.first.2) shared.kept_there)
-    (subst (λ n. Contains (groups_of c.args.index.now c.args.other) n) (sym shared.first.2) shared.second)
+    (subst (λ n. Contains (groups_of c.args.index.now c.args.other) n) (sym shared.first.2) shared.second))

@@ -2,10 +2,9 @@
 use Rattle.sas_groups.proofs.Imports.{arith, operator_at}
 use Rattle.sas_groups.specs.Lists.{known_on}
 use Rattle.sas_groups.proofs.Effects.{never_removed}
+use Rattle.sas_groups.proofs.Telling.{tells_no}
 use Rattle.sas_groups.proofs.removal.is_removed.Goals as goal
 
-pub returns-clause-no : goal.returns-clause-no
-returns-clause-no g c =
-    let o = operator_at c.args.task.now c.args.premises.now.operator in
-    let all = known_on c.args.task.now c.args.premises.now in
-    λ t. never_removed o all c.args.fact (λ k lt. c.loop-effect.invariant k (omega arith))
+pub returns : goal.returns
+returns g c = tells_no (never_removed (operator_at c.args.task.now c.args.premises.now.operator) (known_on c.args.task.now c.args.premises.now) c.args.fact
+    (λ k lt. c.loop-effect.invariant k (omega arith)))

@@ -1,19 +1,15 @@
 -- The change is that of the effect.
 use Rattle.sas_groups.proofs.Imports.{sym, ◌∙◌, ap, subst, All, Contains, Change}
 use Rattle.sas_groups.specs.Lists.{known_on}
+use Rattle.sas_groups.proofs.Telling.{tells_other}
 use Rattle.sas_groups.proofs.removal.removes.Goals as goal
 
-pub returns-clause-yes : goal.returns-clause-yes
-returns-clause-yes g c =
+pub returns : goal.returns
+returns g c =
     let all = known_on c.args.task.now c.args.premises.now in
     let is = c.effect_change-change.ensures in
-    λ t. record {
-      fires = subst (All (Contains all)) c.effect_conditions.ensures (c.all_known.ensures.yes t);
+    tells_other c.all_known.ensures (λ fires. record {
+      fires = subst (All (Contains all)) c.effect_conditions.ensures fires;
       var = ap (λ (change : Change). change.var) (sym is) ∙ c.if-change-fact.false;
       other = λ e. c.if-change-fact-2.false (ap (λ (change : Change). change.new) is ∙ e);
-    }
-
-pub returns-clause-no : goal.returns-clause-no
-returns-clause-no g c =
-    let all = known_on c.args.task.now c.args.premises.now in
-    λ t w. c.all_known.ensures.no t (subst (All (Contains all)) (sym c.effect_conditions.ensures) w.fires)
+    }) (λ w. subst (All (Contains all)) (sym c.effect_conditions.ensures) w.fires)

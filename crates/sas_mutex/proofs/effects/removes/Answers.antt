@@ -1,5 +1,6 @@
-use Rattle.sas_mutex.proofs.Imports.{rules}
+-- The change is that of the effect.
+use Rattle.sas_mutex.proofs.Imports.{tells_other, arith, common_steps}
 use Rattle.sas_mutex.proofs.effects.removes.Goals as goal
 
-pub returns-clause-yes : goal.returns-clause-yes
-returns-clause-yes g c = search rules
+pub returns : goal.returns
+returns g c = grind (arith, common_steps, tells_other)

@@ -1,5 +1,5 @@
 -- One more operator is at rest, if it is loose.
-use Rattle.sas_mutex.proofs.Imports.{length, sym, ◌∙◌, ap, subst, inl, inr, arith, cases_eq}
+use Rattle.sas_mutex.proofs.Imports.{length, sym, ◌∙◌, ap, subst, inl, inr, arith, cases_eq, Parts, ◌≡◌}
 use Rattle.sas_mutex.specs.Falling.{IsAtRest}
 use Rattle.sas_mutex.specs.Watching.{since_of}
 use Rattle.sas_mutex.proofs.FallingGroups.{falls_then, rest_still, none_first, none_then}
@@ -21,11 +21,11 @@ loop-operator-preserved g c =
           let now = t.look_once.new.watches in
           let turn = t.look_once.ensures in
           rw (t.family-is, t.watches-is, t.marks-is) record {
-            falls = falls_then p start before after inv.falls turn.falls;
+            falls = falls_then inv.falls turn.falls;
             rest = λ none operator lt loose. elim (cases_eq operator k) [
               | inl e ↦ subst (IsAtRest p after.kept) (sym e) turn.rest
-              | inr ne ↦ rest_still p before after operator turn.falls (none_then p start before after inv.falls turn.falls none)
-                  (inv.rest (none_first p start before after inv.falls turn.falls none) operator (omega arith) (sym (turn.anew.others operator ne) ∙ loose))
+              | inr ne ↦ rest_still operator turn.falls (none_then inv.falls turn.falls none)
+                  (inv.rest (none_first inv.falls turn.falls none) operator (omega arith) (sym (turn.anew.others operator ne) ∙ loose))
             ];
             ready = turn.ready;
             unwatched = unwatched_more p start.fallen.items (length start.fallen.items) before.kept w now (fell_first p start before inv.falls inv.ready.watched.fell)
@@ -41,3 +41,8 @@ loop-operator-preserved g c =
         unwatched = inv.unwatched;
       }
     ]
+
+pub returns-clause-rest : goal.returns-clause-rest
+returns-clause-rest g c none operator lt loose =
+    let count = subst (λ (p : Parts). c.operators-operator-end.result ≡ length p.operators) c.indexed.view_is c.operators-operator-end.ensures in
+    c.loop-operator.invariant.rest none operator (omega (arith, lt, count, c.loop-operator-test.false)) loose

@@ -1,39 +1,55 @@
 -- The operator depends on the groups that it now watches, or is loose.
-use Rattle.sas_mutex.proofs.Imports.{◌≡◌, ℕ, Option, Some, None, List, set, sym, ap, subst, ◌∙◌}
-use Rattle.sas_mutex.specs.Watching.{RestsBy}
-use Rattle.sas_mutex.proofs.Watched.{watched_anew}
+use Rattle.sas_mutex.proofs.Imports.{◌≡◌, ℕ, ◌<◌, ◌^◌, Bool, true, Option, Some, None, List, length, set, sym, ap, subst, ◌∙◌, append-nil, All, All-nil, arith, common_steps}
+use Rattle.sas_mutex.specs.declared.watches.Watches.{Watches}
+use Rattle.sas_mutex.specs.Watching.{AreChained, HasWatchFrom, RestsBy, WatchesMore}
+use Rattle.sas_mutex.proofs.Watched.{rests_by, watched_anew}
 use Rattle.sas_mutex.proofs.greatest.look_once.Goals as goal
+use Rattle.sas_mutex.proofs.greatest.look_once.Goals.{else-look_until_quiet-via-then-look_until_quiet+else-watch_all, else-look_until_quiet-via-else-look_until_quiet}
 
 same_inside : (x y : ℕ) → Some x ≡ Some y → x ≡ y
 same_inside x y e = cc
 
-pub returns-then-comes_to_rest-clause-ready : goal.returns-then-comes_to_rest-clause-ready
-returns-then-comes_to_rest-clause-ready g c =
+-- no watch is made
+no_more : (operator : ℕ) (kept : List Bool) (w : Watches) → AreChained w.made w.last → length w.made < 2 ^ 32 → WatchesMore operator kept w w
+no_more operator kept w chained few = grind (arith, common_steps, append-nil, All-nil)
+
+pub watch_all-requires-clause-one_each : goal.watch_all-requires-clause-one_each
+watch_all-requires-clause-one_each g c = c.requires.ready.watched.each_group ∙ sym c.look_until_quiet.ensures.room.one_each
+
+pub returns-then-watch_all-clause-ready : goal.returns-then-watch_all-clause-ready
+returns-then-watch_all-clause-ready g c =
     let p = c.args.indexed.now in
     let w = c.args.watches.now in
-    let now = c.comes_to_rest.new.watches in
-    let after = c.comes_to_rest.new.family in
-    let turn = c.comes_to_rest.ensures in
+    let family = c.look_until_quiet.new.family in
+    let now = c.watch_all.new.self in
+    let turn = c.look_until_quiet.ensures in
+    let more = c.watch_all.ensures.more in
     let start = c.len-start.result in
     record {
-      watched = watched_anew p c.args.family.now after w now.made now.last c.set.new.self now.room c.args.operator (Some start)
-          turn.falls turn.room.one_each c.requires.operator c.requires.ready.watched turn.watches.made turn.watches.chained turn.watches.one_each turn.watches.few
-          (c.set.ensures ∙ ap (λ (xs : List (Option ℕ)). set xs c.args.operator (Some start)) turn.watches.since)
-          (λ from is. subst (RestsBy p after.kept now.made c.args.operator) (sym c.len-start.ensures ∙ same_inside start from is) (turn.rests c.if-comes_to_rest.true));
+      watched = watched_anew p c.args.family.now family w now.made now.last c.set.new.self now.room c.args.operator (Some start)
+          turn.falls turn.room.one_each c.requires.operator c.requires.ready.watched more.made more.chained more.one_each more.few
+          (c.set.ensures ∙ ap (λ (xs : List (Option ℕ)). set xs c.args.operator (Some start)) more.since)
+          (λ from is. subst (RestsBy p family.kept now.made c.args.operator) (sym c.len-start.ensures ∙ same_inside start from is)
+          (rests_by p family.kept now.made c.args.operator (length w.made) family.supports (turn.alone c.if-look_until_quiet.true)
+          (subst (All (HasWatchFrom now.made c.args.operator (length w.made))) c.as_slice.ensures (c.watch_all.ensures.all c.if-watch_all.true))));
       room = turn.room;
       clean = turn.clean;
     }
 
 pub returns-clause-ready : goal.returns-clause-ready
 returns-clause-ready g c =
-    let p = c.args.indexed.now in
     let w = c.args.watches.now in
-    let now = c.comes_to_rest.new.watches in
-    let turn = c.comes_to_rest.ensures in
+    let family = c.look_until_quiet.new.family in
+    let now = c.else-look_until_quiet.watches in
+    let turn = c.look_until_quiet.ensures in
+    let more : WatchesMore c.args.operator family.kept w now = elim c.else-look_until_quiet.branch [
+      | else-look_until_quiet-via-then-look_until_quiet+else-watch_all v ↦ rw v.watches-is v.watch_all.ensures.more
+      | else-look_until_quiet-via-else-look_until_quiet v ↦ rw v.watches-is (no_more c.args.operator family.kept w c.requires.ready.watched.chained c.requires.ready.watched.few)
+    ] in
     record {
-      watched = watched_anew p c.args.family.now c.comes_to_rest.new.family w now.made now.last c.set-2.new.self now.room c.args.operator None
-          turn.falls turn.room.one_each c.requires.operator c.requires.ready.watched turn.watches.made turn.watches.chained turn.watches.one_each turn.watches.few
-          (c.set-2.ensures ∙ ap (λ (xs : List (Option ℕ)). set xs c.args.operator None) turn.watches.since)
+      watched = watched_anew c.args.indexed.now c.args.family.now family w now.made now.last c.set-2.new.self now.room c.args.operator None
+          turn.falls turn.room.one_each c.requires.operator c.requires.ready.watched more.made more.chained more.one_each more.few
+          (c.set-2.ensures ∙ ap (λ (xs : List (Option ℕ)). set xs c.args.operator None) more.since)
           (λ from is. absurd (let none : None ≡ Some from = is in cc));
       room = turn.room;
       clean = turn.clean;

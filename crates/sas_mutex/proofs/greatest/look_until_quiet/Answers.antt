@@ -1,53 +1,40 @@
 -- If no more groups were removed, the operator is at rest.
-use Rattle.sas_mutex.proofs.Imports.{ℕ, ◌≡◌, length, sym, subst, arith, Vec}
-use Rattle.sas_mutex.specs.Basis.{IsBasis, IsOfNone}
+use Rattle.sas_mutex.proofs.Imports.{ℕ, ◌≡◌, length, sym, subst, arith, Vec, common_steps}
 use Rattle.sas_mutex.specs.Falling.{Falls}
 use Rattle.sas_mutex.proofs.FallingGroups.{falls_then, none_newly}
 use Rattle.sas_mutex.proofs.LookedAt.{rests_on}
 use Rattle.sas_mutex.proofs.Supporting.{none_are, same_falls, same_room}
 use Rattle.sas_mutex.proofs.greatest.look_until_quiet.Goals as goal
 use Rattle.sas_mutex.proofs.greatest.look_until_quiet.Given.{Over}
-use Rattle.sas_mutex.proofs.greatest.look_until_quiet.Goals.{After-clear_basis, After-look_at-alone}
-
-pub clear_basis-requires : goal.clear_basis-requires
-clear_basis-requires g c =
-    let family = c.loop-operator.family in
-    let basis = c.loop-operator.invariant.room.basis in
-    record { basis = subst (λ (count : ℕ). IsBasis count family) (sym basis.one_each) basis }
+use Rattle.sas_mutex.proofs.greatest.look_until_quiet.Goals.{After-look_at-alone}
 
 pub look_at-alone-requires-clause-room : goal.look_at-alone-requires-clause-room
-look_at-alone-requires-clause-room g c =
-    let p = c.args.indexed.now in
-    let before = c.loop-operator.family in
-    let after = c.clear_basis.new.self in
-    let room = c.loop-operator.invariant.room in
-    same_room p before after c.clear_basis.ensures.kept c.clear_basis.ensures.fallen
-    (none_are (length p.groups) after (subst (λ (count : ℕ). IsOfNone count after.basis) room.basis.one_each c.clear_basis.ensures.basis) c.clear_basis.ensures.none) room
+look_at-alone-requires-clause-room g c = grind (arith, common_steps, same_room, none_are)
 
 -- what fell in this turn, and before
 falls : (g : Over) (c : After-look_at-alone g) → Falls c.args.indexed.now c.loop-operator.family c.look_at-alone.new.family
-falls g c = falls_then c.args.indexed.now c.loop-operator.family c.clear_basis.new.self c.look_at-alone.new.family
+falls g c = falls_then
     (same_falls c.args.indexed.now c.loop-operator.family c.clear_basis.new.self c.clear_basis.ensures.kept c.clear_basis.ensures.fallen) c.look_at-alone.ensures.looked.falls
 
 pub returns-then-len-before-clause-falls : goal.returns-then-len-before-clause-falls
 returns-then-len-before-clause-falls g c =
-    falls_then c.args.indexed.now c.args.family.now c.loop-operator.family c.look_at-alone.new.family c.loop-operator.invariant.falls
+    falls_then c.loop-operator.invariant.falls
     (falls g (goal.at.returns-then-len-before-clause-falls g c).After-look_at-alone)
 
 pub returns-then-len-before-clause-rest : goal.returns-then-len-before-clause-rest
 returns-then-len-before-clause-rest g c effect lt place =
     c.look_at-alone.ensures.looked.keeps
-    (none_newly c.args.indexed.now c.clear_basis.new.self c.look_at-alone.new.family c.look_at-alone.ensures.looked.falls
+    (none_newly c.look_at-alone.ensures.looked.falls
     (let after = c.len.ensures in let before = c.len-before.ensures in let same = c.if-len-before.true in
     subst (λ (fallen : Vec ℕ). length c.look_at-alone.new.family.fallen.items ≡ length fallen.items) (sym c.clear_basis.ensures.fallen) (omega arith))) effect place lt
 
 pub returns-then-len-before-clause-alone : goal.returns-then-len-before-clause-alone
 returns-then-len-before-clause-alone g c t =
-    rests_on c.args.indexed.now c.args.operator c.clear_basis.new.self c.look_at-alone.new.family c.look_at-alone.result c.look_at-alone.ensures.looked t
+    rests_on c.look_at-alone.ensures.looked t
 
 pub loop-operator-preserved : goal.loop-operator-preserved
 loop-operator-preserved g c = record {
-  falls = falls_then c.args.indexed.now c.args.family.now c.loop-operator.family c.look_at-alone.new.family c.loop-operator.invariant.falls
+  falls = falls_then c.loop-operator.invariant.falls
       (falls g (goal.at.loop-operator-preserved g c).After-look_at-alone);
   room = c.look_at-alone.ensures.looked.room;
   clean = c.look_at-alone.ensures.clean;

@@ -24,7 +24,7 @@ loop-next-preserved-then-counts g c =
     let unwatched = subst (IsUnwatchedBehind w group) c.in-Some.is inv.unwatched in
     let one_each = turn.ready.room.one_each in
     record {
-      falls = falls_then p start before after inv.falls turn.falls;
+      falls = falls_then inv.falls turn.falls;
       ready = turn.ready;
       unwatched = unwatched_behind p before after w now operator turn.falls one_each turn.anew group at (watch_at made at).before
           (λ is. c.requires.fell (inv.falls.less group (record { exists = c.requires.group; chosen = is })).chosen) unwatched.0 unwatched.1 unwatched.2

@@ -1,5 +1,5 @@
 -- All operators that watched one more removed group were checked again.
-use Rattle.sas_mutex.proofs.Imports.{ℕ, ◌+◌, ◌<◌, length, get_or, sym, ◌∙◌, subst, inl, inr, arith, cases_eq, get_or_default, Contains-get_or}
+use Rattle.sas_mutex.proofs.Imports.{◌+◌, ◌<◌, length, get_or, sym, ◌∙◌, subst, arith, get_or_default, Contains-get_or, below_more}
 use Rattle.sas_mutex.specs.Falling.{newly}
 use Rattle.sas_mutex.specs.Watching.{IsUnwatched, FallenAreUnwatched}
 use Rattle.sas_mutex.proofs.FallingGroups.{falls_then, fallen_grow}
@@ -9,7 +9,6 @@ use Rattle.sas_mutex.proofs.greatest.recheck_watching.Goals as goal
 pub loop-next-preserved : goal.loop-next-preserved
 loop-next-preserved g c =
     let p = c.args.indexed.now in
-    let start = c.args.family.now in
     let before = c.loop-next.family in
     let after = c.recheck_watchers.new.family in
     let w = c.loop-next.watches in
@@ -19,18 +18,14 @@ loop-next-preserved g c =
     let inv = c.loop-next.invariant in
     let turn = c.recheck_watchers.ensures in
     let lt : next < length fallen = let len = c.len.ensures in let test = c.loop-next-test.true in omega (arith, before.fallen.ok.0) in
-    let grown = fallen_grow p before after turn.falls in
     let first : FallenAreUnwatched fallen next now = unwatched_more p fallen next before.kept w now
     (λ place below. inv.ready.watched.fell.out (get_or fallen place 0) (Contains-get_or fallen place 0 (omega arith))) turn.still inv.unwatched in
     let here : IsUnwatched now (get_or fallen next 0) = subst (IsUnwatched now)
     (c.index-group.ensures ∙ sym (get_or_default fallen next 0 c.index-group.result.now lt)) turn.unwatched in
     record {
-      within = omega arith;
-      falls = falls_then p start before after inv.falls turn.falls;
+      within = omega (arith, fallen_grow turn.falls);
+      falls = falls_then inv.falls turn.falls;
       ready = turn.ready;
       unwatched = unwatched_in p fallen after.fallen.items (newly before after) (next + 1) now turn.falls.behind (omega arith)
-          (λ place below. elim (cases_eq place next) [
-            | inl e ↦ subst (λ (n : ℕ). IsUnwatched now (get_or fallen n 0)) (sym e) here
-            | inr ne ↦ first place (omega arith)
-          ]);
+          (below_more _ _ first here);
     }

@@ -1,6 +1,6 @@
 -- The verdict on each group that contains the fact set by the effect considers the effect: the
 -- notes decide, the effect never fires, or the verdict was known before.
-use Rattle.sas_mutex.proofs.Imports.{ℕ, ◌+◌, Bool, List, length, ap, subst, sym, ◌∙◌, arith, Contains-get_or, All-contains, Verdict, verdict_at}
+use Rattle.sas_mutex.proofs.Imports.{ℕ, ◌+◌, Bool, List, length, ap, subst, ◌∙◌, arith, Contains-get_or, All-contains, verdict_at}
 use Rattle.sas_mutex.specs.ByNotes.{IsNotedAt, NeverFires}
 use Rattle.sas_mutex.specs.Judging.{IsUndecided, IsVerdictSoFar}
 use Rattle.sas_mutex.proofs.VerdictsSoFar.{next_effect, one_effect_more, so_far_by, decided_already, clash_never_fires}
@@ -24,10 +24,8 @@ returns-then-not-some_undecided-clause-so_far g c =
     let verdicts = c.args.verdicts.now in
     next_effect f.task kept f.operator f.effect verdicts
     (λ place has. decided_already f.task kept f.operator f.effect place verdicts has.exists
-    (λ undecided. All-contains (λ (n : ℕ). IsUndecided c.as_slice.result.now c.as_slice-2.result.now n → ⊥) c.groups-groups.result.now place
-    (c.some_undecided.ensures c.if-not-some_undecided.true) ((c.groups-groups.ensures place).1 has)
-    (subst (λ (xs : List Bool). IsUndecided xs c.as_slice-2.result.now place) (sym c.as_slice.ensures)
-    (subst (λ (xs : List Verdict). IsUndecided kept xs place) (sym c.as_slice-2.ensures) undecided)))
+    (rw (c.as_slice.ensures, c.as_slice-2.ensures) at (All-contains (λ (n : ℕ). IsUndecided c.as_slice.result.now c.as_slice-2.result.now n → ⊥) c.groups-groups.result.now place
+    (c.some_undecided.ensures c.if-not-some_undecided.true) ((c.groups-groups.ensures place).1 has)))
     (c.requires.so_far.are place has.exists)) c.requires.so_far
 
 pub judge_groups-requires-clause-have : goal.judge_groups-requires-clause-have
@@ -58,18 +56,3 @@ returns-clause-so_far g c =
 
 pub note-requires-clause-one_each : goal.note-requires-clause-one_each
 note-requires-clause-one_each g c = ap length c.as_slice-3.ensures ∙ c.requires.one_each
-
-pub forget-requires : goal.forget-requires
-forget-requires g c =
-    let f = c.args.firing.now in
-    elim c.if-not-note.branch [
-      | then-not-note w ↦ rw w.marks-is record { from = w.judge_groups.ensures.notes.noted.from }
-      | else-not-note w ↦ rw w.marks-is record { from = c.note.ensures.from }
-    ]
-
-pub returns-clause-kept : goal.returns-clause-kept
-returns-clause-kept g c =
-    elim c.if-not-note.branch [
-      | then-not-note w ↦ w.kept-is ∙ w.judge_groups.ensures.kept
-      | else-not-note w ↦ w.kept-is
-    ]

@@ -13,13 +13,9 @@ pub keeps_by_basis-requires-clause-notes : goal.keeps_by_basis-requires-clause-n
 keeps_by_basis-requires-clause-notes g c =
     subst (λ (kept : List Bool). IsNotedAt c.args.firing.now kept c.args.marks.now) (sym c.grow_basis.ensures.kept) c.requires.notes
 
-pub returns-clause-basis : goal.returns-clause-basis
-returns-clause-basis g c t =
-    subst (λ (family : Family). EffectKeepsGroupWithItself c.args.firing.now family.basis c.args.group) (sym c.keeps_by_basis.ensures.same) (c.keeps_by_basis.ensures.basis t)
-
-pub returns-clause-grown : goal.returns-clause-grown
-returns-clause-grown g c = subst (HasGrown c.args.family.now) (sym c.keeps_by_basis.ensures.same) c.grow_basis.ensures
-
-pub returns-clause-notes : goal.returns-clause-notes
-returns-clause-notes g c =
-    subst (λ (kept : List Bool). IsNotedAt c.args.firing.now kept c.keeps_by_basis.new.marks) c.grow_basis.ensures.kept c.keeps_by_basis.ensures.notes
+pub returns : goal.returns
+returns g c = record {
+  basis = λ t. subst (λ (family : Family). EffectKeepsGroupWithItself c.args.firing.now family.basis c.args.group) (sym c.keeps_by_basis.ensures.same) (c.keeps_by_basis.ensures.basis t);
+  grown = subst (HasGrown c.args.family.now) (sym c.keeps_by_basis.ensures.same) c.grow_basis.ensures;
+  notes = subst (λ (kept : List Bool). IsNotedAt c.args.firing.now kept c.keeps_by_basis.new.marks) c.grow_basis.ensures.kept c.keeps_by_basis.ensures.notes;
+}

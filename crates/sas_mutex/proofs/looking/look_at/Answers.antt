@@ -1,7 +1,7 @@
 -- One more effect was checked. Those without conditions were checked before.
-use Rattle.sas_mutex.proofs.Imports.{◌≡◌, ◌<◌, length, sym, subst, inl, inr, arith, and_parts, cases_eq, Parts, operator_at}
+use Rattle.sas_mutex.proofs.Imports.{◌<◌, length, sym, subst, inl, inr, arith, and_parts, cases_eq, Parts, common_steps}
 use Rattle.sas_mutex.specs.Falling.{FamilyHasRoom}
-use Rattle.sas_mutex.specs.Looking.{Looked, IsOfEffect, IsOfOperator, IsOfUnconditional}
+use Rattle.sas_mutex.specs.Looking.{Looked, IsOfEffect, IsOfUnconditional}
 use Rattle.sas_mutex.specs.Marks.{IsClean}
 use Rattle.sas_mutex.proofs.LookedAt.{looked_then, looked_by}
 use Rattle.sas_mutex.proofs.looking.look_at.Goals as goal
@@ -16,14 +16,6 @@ is_plain-requires-clause-operator g c = subst (λ (p : Parts). c.args.operator <
 pub is_plain-requires-clause-effect : goal.is_plain-requires-clause-effect
 is_plain-requires-clause-effect g c = subst (λ n. c.loop-effect.effect < n) c.effects-effect-end.ensures c.loop-effect-test.true
 
-pub invariant_of-firing : goal.invariant_of-firing
-invariant_of-firing g c = (
-  c.indexed.invariant.0,
-  c.indexed.invariant.1,
-  subst (λ (p : Parts). c.args.operator < length p.operators) (sym c.indexed.view_is) c.requires.operator,
-  subst (λ n. c.loop-effect.effect < n) c.effects-effect-end.ensures c.loop-effect-test.true,
-)
-
 pub look_at_setting-alone-requires-clause-room : goal.look_at_setting-alone-requires-clause-room
 look_at_setting-alone-requires-clause-room g c = subst (λ (p : Parts). FamilyHasRoom p c.loop-effect.family) (sym c.indexed.view_is) c.loop-effect.invariant.looked.room
 
@@ -31,15 +23,7 @@ pub look_at_setting-alone-requires-clause-clean : goal.look_at_setting-alone-req
 look_at_setting-alone-requires-clause-clean g c = subst (λ (p : Parts). IsClean p c.loop-effect.marks) (sym c.indexed.view_is) c.loop-effect.invariant.clean
 
 pub loop-effect-init : goal.loop-effect-init
-loop-effect-init g c = record {
-  looked = looked_by c.args.indexed.now c.args.operator (IsOfUnconditional c.args.indexed.now c.args.operator) _ c.args.family.now c.look_at_plain-alone.new.family
-      c.look_at_plain-alone.result c.look_at_plain-alone.result c.look_at_plain-alone.ensures.looked
-      (λ effect place pair. elim pair [
-        | inl lt ↦ absurd (omega arith)
-        | inr plain ↦ plain
-      ]) (λ t. inl t);
-  clean = c.look_at_plain-alone.ensures.clean;
-}
+loop-effect-init g c = grind (arith, common_steps, looked_by)
 
 pub loop-effect-preserved : goal.loop-effect-preserved
 loop-effect-preserved g c =
@@ -53,7 +37,7 @@ loop-effect-preserved g c =
       | then-not-is_plain w ↦
           (let turn = w.look_at_setting-alone in
           rw (w.family-is, w.marks-is, w.alone-is) record {
-            looked = looked_then p operator _ (IsOfEffect at) _ c.args.family.now before turn.new.family c.loop-effect.alone turn.result _ inv.looked
+            looked = looked_then inv.looked
                 (subst (λ (q : Parts). Looked q operator (IsOfEffect at) before turn.new.family turn.result) is turn.ensures.looked)
                 (λ effect place pair. elim pair [
                   | inl lt ↦ elim (cases_eq effect at) [
@@ -66,7 +50,7 @@ loop-effect-preserved g c =
             clean = subst (λ (q : Parts). IsClean q turn.new.marks) is turn.ensures.clean;
           })
       | else-not-is_plain w ↦ rw (w.family-is, w.marks-is, w.alone-is) record {
-        looked = looked_by p operator _ _ c.args.family.now before c.loop-effect.alone c.loop-effect.alone inv.looked
+        looked = looked_by inv.looked
             (λ effect place pair. elim pair [
               | inl lt ↦ elim (cases_eq effect at) [
                 | inl same ↦ inr (subst (λ n. IsOfUnconditional p operator n place) (sym same)
@@ -81,8 +65,4 @@ loop-effect-preserved g c =
     ]
 
 pub returns-clause-looked : goal.returns-clause-looked
-returns-clause-looked g c =
-    let p = c.args.indexed.now in
-    let count = subst (λ (q : Parts). c.effects-effect-end.result ≡ length (operator_at q c.args.operator).effects) c.indexed.view_is c.effects-effect-end.ensures in
-    looked_by p c.args.operator _ (IsOfOperator p c.args.operator) c.args.family.now c.loop-effect.family c.loop-effect.alone c.loop-effect.alone c.loop-effect.invariant.looked
-    (λ effect place lt. inl (omega (arith, lt, count, c.loop-effect-test.false))) (λ t. inl t)
+returns-clause-looked g c = grind (arith, common_steps, looked_by)

@@ -1,6 +1,6 @@
 -- A group that the effect doesn't preserve is removed. One that it preserves assuming the basis
 -- isn't.
-use Rattle.sas_mutex.proofs.Imports.{◌≡◌, ◌<◌, Bool, true, false, List, length, sym, ap, subst, arith, both_ways, IsIn, family_of}
+use Rattle.sas_mutex.proofs.Imports.{◌<◌, Bool, true, false, List, length, sym, ap, subst, arith, both_ways, IsIn, family_of, common_steps}
 use Rattle.sas_mutex.specs.declared.family.Family.{Family}
 use Rattle.sas_mutex.specs.Firing.{EffectPlace, operator_of}
 use Rattle.sas_mutex.specs.Looking.{IsPair, Looked}
@@ -19,22 +19,12 @@ bounds-as_slice-group g c = omega (arith, c.requires.group, c.requires.room.one_
 -- ---- a group that was removed before
 
 pub returns-then-not-as_slice-group-clause-looked : goal.returns-then-not-as_slice-group-clause-looked
-returns-then-not-as_slice-group-clause-looked g c =
-    let f = c.args.firing.now in
-    let family = c.args.family.now in
-    looked_none f.task f.operator (IsPair f.effect c.args.group) family true c.requires.room
-    (λ effect place pair w _. both_ways (family_of family.kept place)
-    (rw pair.1 (subst (λ (kept : List Bool). family_of kept c.args.group ≡ false) c.as_slice.ensures c.if-not-as_slice-group.true)) w.chosen)
+returns-then-not-as_slice-group-clause-looked g c = grind (arith, common_steps, looked_none, both_ways)
 
 -- ---- one that the effect preserves, assuming the basis
 
 pub returns-then-keeps_by_basis-clause-looked : goal.returns-then-keeps_by_basis-clause-looked
-returns-then-keeps_by_basis-clause-looked g c =
-    let f = c.args.firing.now in
-    let start = c.args.family.now in
-    let basis = c.keeps_by_basis.ensures.basis c.if-keeps_by_basis.true in
-    subst (λ (family : Family). Looked f.task f.operator (IsPair f.effect c.args.group) start family true) (sym c.keeps_by_basis.ensures.same)
-    (looked_pair f.task f.operator f.effect c.args.group start start true (same_grown start) c.requires.room (c.keeps_by_basis.ensures.kept c.if-keeps_by_basis.true) (λ _. basis))
+returns-then-keeps_by_basis-clause-looked g c = grind (arith, common_steps, looked_pair, same_grown)
 
 pub returns-then-keeps_by_basis-clause-notes : goal.returns-then-keeps_by_basis-clause-notes
 returns-then-keeps_by_basis-clause-notes g c =
@@ -46,21 +36,10 @@ room : (g : Over) (c : After-as_slice-2 g) → FamilyHasRoom c.args.firing.now.t
 room g c = subst (FamilyHasRoom c.args.firing.now.task) (sym c.keeps_by_basis.ensures.same) c.requires.room
 
 here : (g : Over) (c : After-as_slice-2 g) → IsIn c.args.firing.now.task (family_of c.keeps_by_basis.new.family.kept) c.args.group
-here g c = record {
-  exists = c.requires.group;
-  chosen = subst (λ (family : Family). family_of family.kept c.args.group ≡ true) (sym c.keeps_by_basis.ensures.same)
-      (subst (λ (kept : List Bool). family_of kept c.args.group ≡ true) c.as_slice.ensures c.if-not-as_slice-group.false);
-}
-
-pub keeps_by_notes-requires-clause-notes : goal.keeps_by_notes-requires-clause-notes
-keeps_by_notes-requires-clause-notes g c =
-    subst (λ (kept : List Bool). IsNotedAt c.args.firing.now kept c.keeps_by_basis.new.marks) (sym c.as_slice-2.ensures)
-    (subst (λ (family : Family). IsNotedAt c.args.firing.now family.kept c.keeps_by_basis.new.marks) (sym c.keeps_by_basis.ensures.same) c.keeps_by_basis.ensures.notes)
+here g c = grind (arith, common_steps)
 
 pub keeps_by_notes-requires-clause-group : goal.keeps_by_notes-requires-clause-group
-keeps_by_notes-requires-clause-group g c =
-    subst (λ (kept : List Bool). IsIn c.args.firing.now.task (family_of kept) c.args.group) (sym c.as_slice-2.ensures)
-    (here g (goal.at.keeps_by_notes-requires-clause-group g c).After-as_slice-2)
+keeps_by_notes-requires-clause-group g c = grind (arith, common_steps, here)
 
 pub keeps_by_more-requires-clause-room : goal.keeps_by_more-requires-clause-room
 keeps_by_more-requires-clause-room g c = room g (goal.at.keeps_by_more-requires-clause-room g c).After-as_slice-2
@@ -74,7 +53,7 @@ returns-then-keeps_by_notes-clause-looked g c =
     let f = c.args.firing.now in
     let after = c.keeps_by_more.new.family in
     subst (λ (family : Family). Looked f.task f.operator (IsPair f.effect c.args.group) family after c.keeps_by_more.result) c.keeps_by_basis.ensures.same
-    (looked_pair f.task f.operator f.effect c.args.group c.keeps_by_basis.new.family after c.keeps_by_more.result c.keeps_by_more.ensures.grown
+    (looked_pair f.effect c.args.group c.keeps_by_more.ensures.grown
     (room g (goal.at.returns-then-keeps_by_notes-clause-looked g c).After-as_slice-2)
     (λ _. subst (λ (kept : List Bool). EffectKeepsGroup f kept c.args.group) c.as_slice-2.ensures (c.keeps_by_notes.ensures.yes c.if-keeps_by_notes.true))
     c.keeps_by_more.ensures.basis)

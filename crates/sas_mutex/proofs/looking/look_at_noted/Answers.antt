@@ -1,7 +1,7 @@
 -- One more effect without conditions was checked. Its known facts are the recorded ones.
-use Rattle.sas_mutex.proofs.Imports.{◌≡◌, length, sym, subst, inl, inr, arith, and_parts, cases_eq}
+use Rattle.sas_mutex.proofs.Imports.{◌≡◌, length, sym, subst, inl, inr, arith, and_parts, cases_eq, ◌<◌}
 use Rattle.sas_mutex.specs.Effects.{IsUnconditional}
-use Rattle.sas_mutex.specs.Firing.{EffectPlace}
+use Rattle.sas_mutex.specs.Firing.{EffectPlace, operator_of}
 use Rattle.sas_mutex.specs.ByNotes.{IsNotedFor}
 use Rattle.sas_mutex.specs.Looking.{Looked, IsOfEffect}
 use Rattle.sas_mutex.proofs.LookedAt.{looked_then, looked_by, alike_notes}
@@ -21,7 +21,7 @@ loop-effect-preserved g c =
           (let turn = w.look_at_groups-alone in
           let q = c.firing.inside.task.now in
           rw (w.family-is, w.marks-is, w.alone-is) record {
-            looked = looked_then f.task f.operator _ (IsOfEffect at) _ c.args.family.now before turn.new.family c.loop-effect.alone turn.result _ inv.looked
+            looked = looked_then inv.looked
                 (subst (λ (s : EffectPlace). Looked s.task s.operator (IsOfEffect at) before turn.new.family turn.result) is turn.ensures.looked)
                 (λ effect place (lt, plain). elim (cases_eq effect at) [
                   | inl same ↦ inr same
@@ -36,7 +36,7 @@ loop-effect-preserved g c =
             };
           })
       | else-is_plain w ↦ rw (w.family-is, w.marks-is, w.alone-is) record {
-        looked = looked_by f.task f.operator _ _ c.args.family.now before c.loop-effect.alone c.loop-effect.alone inv.looked
+        looked = looked_by inv.looked
             (λ effect place (lt, plain). elim (cases_eq effect at) [
               | inl same ↦ absurd (c.is_plain-in-loop-effect.ensures.no w.if-is_plain.false
                   (subst (λ (s : EffectPlace). IsUnconditional s.task s.operator at) (sym is) (subst (IsUnconditional f.task f.operator) same plain)))
@@ -45,3 +45,19 @@ loop-effect-preserved g c =
         notes = inv.notes;
       }
     ]
+
+pub returns-then-not-is_plain-clause-looked : goal.returns-then-not-is_plain-clause-looked
+returns-then-not-is_plain-clause-looked g c = looked_by c.look_at_groups.ensures.looked (λ effect place pair. elim pair [
+  | inl is ↦ is
+  | inr w ↦ absurd (c.is_plain.ensures.no c.if-not-is_plain.true (subst (λ (s : EffectPlace). IsUnconditional s.task s.operator s.effect) (sym c.firing.view_is) w.0))
+]) (λ t. inl t)
+
+pub returns-clause-looked : goal.returns-clause-looked
+returns-clause-looked g c =
+    let below = subst (λ (s : EffectPlace). s.effect < length (operator_of s).effects) c.firing.view_is c.firing.invariant.3 in
+    let plain = subst (λ (s : EffectPlace). IsUnconditional s.task s.operator s.effect) c.firing.view_is (c.is_plain.ensures.yes c.if-not-is_plain.false) in
+    let count = subst (λ (s : EffectPlace). c.effects-effect-end.result ≡ length (operator_of s).effects) c.firing.view_is c.effects-effect-end.ensures in
+    looked_by c.loop-effect.invariant.looked (λ effect place pair. elim pair [
+      | inl is ↦ rw is (omega (arith, below, count, c.loop-effect-test.false), plain)
+      | inr w ↦ (omega (arith, w.1.0, count, c.loop-effect-test.false), w.1.1)
+    ]) (λ t. inl t)

@@ -2,7 +2,6 @@
 use Rattle.sas_mutex.proofs.Imports.{List, Bool, length, false, ap, sym, subst, ◌∙◌, true≢false, operator_at, effect_at, group_at}
 use Rattle.sas_mutex.specs.Effects.{IsKept}
 use Rattle.sas_mutex.specs.ByNotes.{IsNotedAt, NeverFires}
-use Rattle.sas_mutex.specs.Looking.{IsOfAlike}
 use Rattle.sas_mutex.proofs.FromNotes.{clash_keeps}
 use Rattle.sas_mutex.proofs.LookedAt.{looked_grown, alike_never_fires}
 use Rattle.sas_mutex.proofs.looking.look_where_they_fire.Goals as goal
@@ -15,19 +14,13 @@ pub look_at_noted-alone-requires-clause-notes : goal.look_at_noted-alone-require
 look_at_noted-alone-requires-clause-notes g c =
     subst (λ (kept : List Bool). IsNotedAt c.args.firing.now kept c.note.new.marks) c.as_slice.ensures (c.note.ensures.notes c.if-not-note.true)
 
-pub forget-requires : goal.forget-requires
-forget-requires g c = elim c.if-not-note.branch [
-  | then-not-note w ↦ rw w.marks-is record { from = w.look_at_noted-alone.ensures.notes.noted.from }
-  | else-not-note w ↦ rw w.marks-is record { from = c.note.ensures.from }
-]
-
 pub returns-clause-looked : goal.returns-clause-looked
 returns-clause-looked g c =
     let f = c.args.firing.now in
     let start = c.args.family.now in
     elim c.if-not-note.branch [
       | then-not-note w ↦ rw (w.family-is, w.alone-is) w.look_at_noted-alone.ensures.looked
-      | else-not-note w ↦ rw (w.family-is, w.alone-is) (looked_grown f.task f.operator (IsOfAlike f) start w.grow_basis.new.self false w.grow_basis.ensures c.requires.room
+      | else-not-note w ↦ rw (w.family-is, w.alone-is) (looked_grown w.grow_basis.ensures c.requires.room
           (λ effect place alike _ _. clash_keeps (IsKept f.task start.kept) (operator_at f.task f.operator) (group_at f.task place) (effect_at (operator_at f.task f.operator) effect)
           (alike_never_fires f start.kept effect place alike (subst (NeverFires f) c.as_slice.ensures (c.note.ensures.yes w.if-not-note.false))))
           (λ t. absurd (true≢false (sym t))))

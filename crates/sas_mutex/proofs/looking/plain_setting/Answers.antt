@@ -1,8 +1,7 @@
 -- One more effect sets no fact of a group in the family, or has conditions.
-use Rattle.sas_mutex.proofs.Imports.{◌≡◌, ◌<◌, length, sym, subst, below_more, arith, Parts, operator_at}
+use Rattle.sas_mutex.proofs.Imports.{◌≡◌, ◌<◌, length, sym, subst, below_more, arith, Parts}
 use Rattle.sas_mutex.specs.Basis.{SetsNone}
 use Rattle.sas_mutex.specs.Effects.{IsUnconditional}
-use Rattle.sas_mutex.specs.Looking.{IsOfUnconditional}
 use Rattle.sas_mutex.proofs.looking.plain_setting.Goals as goal
 use Rattle.sas_mutex.proofs.looking.plain_setting.Goals.{then-is_plain+else-sets_one_of, else-is_plain}
 
@@ -14,14 +13,6 @@ is_plain-requires-clause-operator g c = subst (λ (p : Parts). c.args.operator <
 
 pub is_plain-requires-clause-effect : goal.is_plain-requires-clause-effect
 is_plain-requires-clause-effect g c = subst (λ n. c.loop-effect.effect < n) c.effects-effect-end.ensures c.loop-effect-test.true
-
-pub invariant_of-firing : goal.invariant_of-firing
-invariant_of-firing g c = (
-  c.indexed.invariant.0,
-  c.indexed.invariant.1,
-  subst (λ (p : Parts). c.args.operator < length p.operators) (sym c.indexed.view_is) c.requires.operator,
-  subst (λ n. c.loop-effect.effect < n) c.effects-effect-end.ensures c.loop-effect-test.true,
-)
 
 pub sets_one_of-requires : goal.sets_one_of-requires
 sets_one_of-requires g c = subst (λ (p : Parts). length c.args.kept.now ≡ length p.groups) (sym c.indexed.view_is) c.requires.one_each
@@ -40,16 +31,5 @@ loop-effect-preserved g c =
     ] in
     record { none = below_more _ _ c.loop-effect.invariant.none here }
 
-pub returns-then-sets_one_of-clause-plain : goal.returns-then-sets_one_of-clause-plain
-returns-then-sets_one_of-clause-plain g c =
-    subst (λ (q : Parts). IsOfUnconditional q c.args.operator c.loop-effect.effect 0) c.indexed.view_is
-    (subst (λ n. c.loop-effect.effect < n) c.effects-effect-end.ensures c.loop-effect-test.true, c.is_plain.ensures.yes c.if-is_plain.true)
-
 pub returns-then-sets_one_of-clause-none : goal.returns-then-sets_one_of-clause-none
 returns-then-sets_one_of-clause-none g c none = absurd cc
-
-pub returns-clause-none : goal.returns-clause-none
-returns-clause-none g c _ effect of =
-    let count = subst (λ (q : Parts). c.effects-effect-end.result ≡ length (operator_at q c.args.operator).effects) c.indexed.view_is c.effects-effect-end.ensures in
-    let lt = of.0 in
-    c.loop-effect.invariant.none effect (omega (arith, lt, count, c.loop-effect-test.false)) of.1

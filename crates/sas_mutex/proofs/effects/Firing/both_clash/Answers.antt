@@ -1,6 +1,6 @@
 -- A condition of the other effect clashes with the known facts, or its conditions clash with each
 -- other.
-use Rattle.sas_mutex.proofs.Imports.{◌<◌, List, length, sym, subst, inl, inr, All, Contains, Fact, operator_at, effect_at, FactExists, Clash, AreBlank}
+use Rattle.sas_mutex.proofs.Imports.{◌<◌, List, length, sym, subst, inl, inr, Contains, Fact, operator_at, effect_at, Clash, AreBlank}
 use Rattle.sas_mutex.specs.Firing.{EffectPlace, operator_of}
 use Rattle.sas_mutex.specs.Effects.{IsKept}
 use Rattle.sas_mutex.proofs.TaskFacts.{conditions_exist}
@@ -16,61 +16,46 @@ returns-then-some_clashes-clause-yes g c =
     rw (← c.self.view_is) (λ t. one_clashes (IsKept p c.args.kept.now) o (effect_at o c.self.inside.effect).conditions (effect_at o c.args.other).conditions w.0
     (subst (λ (facts : List Fact). Contains facts w.0) c.effect_conditions-second.ensures w.1) w.2)
 
-pub returns-clause-yes : goal.returns-clause-yes
-returns-clause-yes g c =
-    let p = c.self.inside.task.now in
-    let o = operator_at p c.self.inside.operator in
-    let Counts = IsKept p c.args.kept.now in
-    rw (← c.self.view_is) (λ t. themselves_clash Counts o (effect_at o c.self.inside.effect).conditions (effect_at o c.args.other).conditions
-    (subst (λ (facts : List Fact). Clash Counts facts) c.effect_conditions-second.ensures (c.facts_clash.ensures.yes t)))
-
-pub returns-clause-no : goal.returns-clause-no
-returns-clause-no g c =
+pub returns : goal.returns
+returns g c =
     let notes = rw (← c.self.view_is) at c.requires.notes in
     let none = rw (← c.self.view_is) at c.some_clashes.ensures.no in
     let p = c.self.inside.task.now in
     let o = operator_at p c.self.inside.operator in
     let Counts = IsKept p c.args.kept.now in
     let same = c.effect_conditions-second.ensures in
-    rw (← c.self.view_is) (λ t clash. elim (one_or_themselves Counts o (effect_at o c.self.inside.effect).conditions (effect_at o c.args.other).conditions notes.noted.are.apart clash) [
-      | inl w ↦ none c.if-some_clashes.false (w.0, subst (λ (facts : List Fact). Contains facts w.0) (sym same) w.1, w.2)
-      | inr w ↦ c.facts_clash.ensures.no t (subst (λ (facts : List Fact). Clash Counts facts) (sym same) w)
-    ])
+    record {
+      yes = rw (← c.self.view_is) (λ t. themselves_clash Counts o (effect_at o c.self.inside.effect).conditions (effect_at o c.args.other).conditions
+          (subst (λ (facts : List Fact). Clash Counts facts) same (c.facts_clash.ensures.yes t)));
+      no = rw (← c.self.view_is) (λ t clash. elim (one_or_themselves Counts o (effect_at o c.self.inside.effect).conditions (effect_at o c.args.other).conditions notes.noted.are.apart clash) [
+        | inl w ↦ none c.if-some_clashes.false (w.0, subst (λ (facts : List Fact). Contains facts w.0) (sym same) w.1, w.2)
+        | inr w ↦ c.facts_clash.ensures.no t (subst (λ (facts : List Fact). Clash Counts facts) (sym same) w)
+      ]);
+      notes = record {
+        one_each = c.requires.notes.one_each;
+        noted = record {
+          are = c.requires.notes.noted.are;
+          from = record {
+            known = c.requires.notes.noted.from.known;
+            others = subst (λ (f : EffectPlace). AreBlank f.task c.facts_clash.new.notes) c.self.view_is c.facts_clash.ensures.blank;
+          };
+        };
+      };
+    }
 
 pub effect_conditions-second-requires-clause-effect : goal.effect_conditions-second-requires-clause-effect
 effect_conditions-second-requires-clause-effect g c = subst (λ (f : EffectPlace). c.args.other < length (operator_of f).effects) (sym c.self.view_is) c.requires.other
 
 pub some_clashes-requires-clause-exist : goal.some_clashes-requires-clause-exist
-some_clashes-requires-clause-exist g c =
-    let p = c.self.inside.task.now in
-    let within = subst (λ (f : EffectPlace). c.args.other < length (operator_of f).effects) (sym c.self.view_is) c.requires.other in
-    subst (λ (f : EffectPlace). All (FactExists f.task.variables) c.effect_conditions-second.result.now) c.self.view_is
-    (subst (All (FactExists p.variables)) (sym c.effect_conditions-second.ensures)
-    (conditions_exist p c.self.invariant.0 c.self.inside.operator c.self.invariant.2 c.args.other within))
+some_clashes-requires-clause-exist g c = rw (← c.self.view_is, c.effect_conditions-second.ensures)
+    (conditions_exist c.self.inside.task.now c.self.invariant.0 c.self.inside.operator c.self.invariant.2 c.args.other (rw (← c.self.view_is) at c.requires.other))
 
 pub invariant_of-indexed : goal.invariant_of-indexed
 invariant_of-indexed g c = (c.self.invariant.0, c.self.invariant.1)
 
 pub facts_clash-requires-clause-exist : goal.facts_clash-requires-clause-exist
-facts_clash-requires-clause-exist g c =
-    let p = c.self.inside.task.now in
-    let within = subst (λ (f : EffectPlace). c.args.other < length (operator_of f).effects) (sym c.self.view_is) c.requires.other in
-    subst (All (FactExists p.variables)) (sym c.effect_conditions-second.ensures)
-    (conditions_exist p c.self.invariant.0 c.self.inside.operator c.self.invariant.2 c.args.other within)
+facts_clash-requires-clause-exist g c = rw c.effect_conditions-second.ensures
+    (conditions_exist c.self.inside.task.now c.self.invariant.0 c.self.inside.operator c.self.invariant.2 c.args.other (rw (← c.self.view_is) at c.requires.other))
 
 pub facts_clash-requires-clause-blank : goal.facts_clash-requires-clause-blank
 facts_clash-requires-clause-blank g c = subst (λ (f : EffectPlace). AreBlank f.task c.args.marks.now.others) (sym c.self.view_is) c.requires.notes.noted.from.others
-
-pub returns-clause-notes : goal.returns-clause-notes
-returns-clause-notes g c =
-    let notes = c.requires.notes in
-    record {
-      one_each = notes.one_each;
-      noted = record {
-        are = notes.noted.are;
-        from = record {
-          known = notes.noted.from.known;
-          others = subst (λ (f : EffectPlace). AreBlank f.task c.facts_clash.new.notes) c.self.view_is c.facts_clash.ensures.blank;
-        };
-      };
-    }

@@ -1,5 +1,5 @@
 -- One more effect sets no other fact of the group, or doesn't exist.
-use Rattle.sas_mutex.proofs.Imports.{◌≡◌, ◌<◌, length, get_or, below_more, subst, arith, get_or_default}
+use Rattle.sas_mutex.proofs.Imports.{◌≡◌, length, below_more, subst, arith, get_or_default}
 use Rattle.sas_mutex.specs.Firing.{EffectPlace, operator_of}
 use Rattle.sas_mutex.specs.ByNotes.{IsApartAt}
 use Rattle.sas_mutex.proofs.effects.Firing.is_single_among.Goals as goal
@@ -28,14 +28,3 @@ returns-clause-yes g c t =
 
 pub loop-other-init : goal.loop-other-init
 loop-other-init g c = record { notes = c.requires.notes; apart = λ k lt. absurd (omega arith) }
-
-pub not_both-requires-clause-other : goal.not_both-requires-clause-other
-not_both-requires-clause-other g c =
-    let other = get_or c.args.effects.now c.loop-other.other-index 0 in
-    subst (λ (f : EffectPlace). other < length (operator_of f).effects) c.self.view_is (subst (λ n. other < n) c.effects.ensures c.if-other-effects.true)
-
-pub returns-then-not-not_both-clause-no : goal.returns-then-not-not_both-clause-no
-returns-then-not-not_both-clause-no g c = λ t single.
-    (let other = get_or c.args.effects.now c.loop-other.other-index 0 in
-    c.not_both.ensures.no c.if-not-not_both.true (single other
-    (subst (λ (f : EffectPlace). other < length (operator_of f).effects) c.self.view_is (subst (λ n. other < n) c.effects.ensures c.if-other-effects.true))))

@@ -1,6 +1,6 @@
 -- One more fact, which may be the first on its variable. An effect that sets a fact of the group is
 -- on the variable of one of them.
-use Rattle.sas_mutex.proofs.Imports.{List, sym, subst, ap, inl, inr, get_or, ℕ, arith, cases_eq, get_or_default, Fact, effect_at, group_at, sets, AreDistinct}
+use Rattle.sas_mutex.proofs.Imports.{List, sym, subst, ap, arith, Fact, effect_at, group_at, sets, AreDistinct, each_more}
 use Rattle.sas_mutex.specs.Firing.{EffectPlace, operator_of}
 use Rattle.sas_mutex.specs.ByNotes.{IsSingleOn}
 use Rattle.sas_mutex.proofs.effects.Firing.is_single_by_facts.Goals as goal
@@ -13,22 +13,17 @@ loop-place-preserved g c =
     let facts = c.facts_of-facts.result.now in
     let n = c.loop-place.place in
     let inv = c.loop-place.invariant in
-    let Single : ℕ → Fact → Type 0 = λ k d. IsSingleOn f kept c.args.group (get_or facts k d).var in
+    let no_fact : Fact = record { var = 0; value = 0 } in
+    let Single : Fact → Type 0 = λ fact. IsSingleOn f kept c.args.group fact.var in
     elim c.else-begins_run.branch [
       | else-begins_run-via-then-begins_run+else-not-is_single_on w ↦ rw w.marks-is (record {
         notes = w.is_single_on.ensures.notes;
-        single = λ k d lt. elim (cases_eq k n) [
-          | inl e ↦ subst (λ (i : ℕ). Single i d) (sym e) (subst (λ (x : Fact). IsSingleOn f kept c.args.group x.var) (get_or_default facts n _ d c.loop-place-test.true)
-              (w.is_single_on.ensures.yes w.if-not-is_single_on.false))
-          | inr ne ↦ inv.single k d (omega arith)
-        ];
+        single = each_more Single facts n _ c.loop-place-test.true inv.single (w.is_single_on.ensures.yes w.if-not-is_single_on.false);
       })
       | else-begins_run-via-else-begins_run w ↦ rw w.marks-is (record {
         notes = inv.notes;
-        single = λ k d lt. (let on = c.begins_run.ensures w.if-begins_run.false in elim (cases_eq k n) [
-          | inl e ↦ subst (λ (i : ℕ). Single i d) (sym e) (subst (IsSingleOn f kept c.args.group) (on.same d) (inv.single on.before d on.early))
-          | inr ne ↦ inv.single k d (omega arith)
-        ]);
+        single = (let on = c.begins_run.ensures w.if-begins_run.false in
+            each_more Single facts n no_fact c.loop-place-test.true inv.single (subst (IsSingleOn f kept c.args.group) (on.same no_fact) (inv.single on.before no_fact on.early)));
       })
     ]
 

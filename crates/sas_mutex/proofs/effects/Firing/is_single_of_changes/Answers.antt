@@ -1,18 +1,18 @@
 -- One more change sets no other fact of the group, or one does.
-use Rattle.sas_mutex.proofs.Imports.{below_more, ap, Change}
+use Rattle.sas_mutex.proofs.Imports.{below_more, ap, Change, tells_no}
 use Rattle.sas_mutex.specs.Firing.{EffectPlace}
 use Rattle.sas_mutex.proofs.PlainEffects.{change_apart, change_beside}
 use Rattle.sas_mutex.proofs.effects.Firing.is_single_of_changes.Goals as goal
 
-pub returns-then-sets_beside-clause-no : goal.returns-then-sets_beside-clause-no
-returns-then-sets_beside-clause-no g c =
+pub returns-then-sets_beside : goal.returns-then-sets_beside
+returns-then-sets_beside g c =
     let notes = rw (← c.self.view_is) at c.requires.notes in
     let group = rw (← c.self.view_is) at c.requires.group in
     let plain = rw (← c.self.view_is) at c.requires.plain in
     let f : EffectPlace = record { task = c.self.inside.task.now; operator = c.self.inside.operator; effect = c.self.inside.effect } in
-    rw (← c.self.view_is) (λ t. change_beside f c.args.kept.now c.args.group c.self.inside.index.now c.args.changes.now c.self.invariant.0 c.self.invariant.1 c.self.invariant.2
+    tells_no (rw (← c.self.view_is) (change_beside f c.args.kept.now c.args.group c.self.inside.index.now c.args.changes.now c.self.invariant.0 c.self.invariant.1 c.self.invariant.2
     group.exists plain c.loop-change.change-index _ c.loop-change-test.true c.args.marks.now c.effect_change-var.result.var notes
-    (ap (λ (x : Change). x.var) c.effect_change-var.ensures) (c.sets_beside.ensures.yes c.if-sets_beside.true))
+    (ap (λ (x : Change). x.var) c.effect_change-var.ensures) (c.sets_beside.ensures.yes c.if-sets_beside.true)))
 
 pub loop-change-preserved : goal.loop-change-preserved
 loop-change-preserved g c =

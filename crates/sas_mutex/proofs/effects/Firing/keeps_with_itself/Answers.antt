@@ -1,7 +1,6 @@
 -- The family with the group consists of the groups of the family and this one.
-use Rattle.sas_mutex.proofs.Imports.{◌≢◌, Bool, true, false, List, length, get_or, set, sym, ap, ◌∙◌, subst, true≢false, both_ways, length-set, operator_at, effect_at, group_at, Several, IsGroupNote}
-use Rattle.sas_mutex.specs.Effects.{IsKept, EffectKeeps}
-use Rattle.sas_mutex.specs.ByNotes.{IsNotedFor, known_at}
+use Rattle.sas_mutex.proofs.Imports.{◌≢◌, Bool, true, false, List, get_or, set, sym, ap, ◌∙◌, subst, true≢false, both_ways, length-set, IsGroupNote, arith, common_steps}
+use Rattle.sas_mutex.specs.ByNotes.{known_at}
 use Rattle.sas_mutex.proofs.VerdictsSoFar.{keeps_then, keeps_itself, put_back, several_never_fire, noted_with, is_more}
 use Rattle.sas_mutex.proofs.FromNotes.{noted_fewer}
 use Rattle.sas_mutex.proofs.effects.Firing.keeps_with_itself.Goals as goal
@@ -17,47 +16,24 @@ pub returns-then-is_several-clause-no : goal.returns-then-is_several-clause-no
 returns-then-is_several-clause-no g c f = absurd (true≢false f)
 
 pub keeps_by_notes-keeps-requires-clause-notes : goal.keeps_by_notes-keeps-requires-clause-notes
-keeps_by_notes-keeps-requires-clause-notes g c =
-    let p = c.args.self.now.task in
-    let few : c.noted.result ≢ Several = λ several. both_ways c.is_several.result c.if-is_several.false (c.is_several.ensures.1 several) in
-    record {
-      one_each = ap length (c.as_slice-2.ensures ∙ c.set.ensures) ∙ (length-set c.args.kept.now c.args.group true ∙ c.requires.notes.one_each);
-      noted = subst (λ (xs : List Bool). IsNotedFor p xs c.args.self.now.operator c.args.self.now.effect c.args.marks.now) (sym (c.as_slice-2.ensures ∙ c.set.ensures))
-          (noted_with p c.args.kept.now c.args.group c.requires.group c.requires.notes.one_each c.args.self.now.operator c.args.self.now.effect c.args.marks.now c.requires.notes.noted c.noted.result (c.noted.ensures c.args.kept.now c.requires.notes) few);
-    }
+keeps_by_notes-keeps-requires-clause-notes g c = grind (arith, common_steps, both_ways, length-set, noted_with)
 
-pub returns-clause-yes : goal.returns-clause-yes
-returns-clause-yes g c =
-    let p = c.args.self.now.task in
-    let o = operator_at p c.args.self.now.operator in
-    λ t. keeps_itself p c.args.kept.now c.args.group c.requires.group c.requires.notes.one_each c.args.self.now.operator c.args.self.now.effect
-    (subst (λ (kept : List Bool). EffectKeeps (IsKept p kept) o (group_at p c.args.group) (effect_at o c.args.self.now.effect))
-    (c.as_slice-2.ensures ∙ c.set.ensures) (c.keeps_by_notes-keeps.ensures.yes t))
-
-pub returns-clause-no : goal.returns-clause-no
-returns-clause-no g c =
-    let p = c.args.self.now.task in
-    let o = operator_at p c.args.self.now.operator in
-    λ t keeps. c.keeps_by_notes-keeps.ensures.no t
-    (subst (λ (kept : List Bool). EffectKeeps (IsKept p kept) o (group_at p c.args.group) (effect_at o c.args.self.now.effect))
-    (sym (c.as_slice-2.ensures ∙ c.set.ensures))
-    (keeps_then p c.args.kept.now c.args.group c.requires.group c.requires.notes.one_each c.args.self.now.operator c.args.self.now.effect keeps))
-
-pub returns-clause-kept : goal.returns-clause-kept
-returns-clause-kept g c =
+pub returns : goal.returns
+returns g c =
+    let f = c.args.self.now in
     let kept = c.args.kept.now in
-    let was = get_or c.as_slice.result.now c.args.group false in
-    c.set-2.ensures ∙ (ap (λ (xs : List Bool). set xs c.args.group was) c.set.ensures
-    ∙ put_back kept c.args.group was (ap (λ (xs : List Bool). get_or xs c.args.group false) (sym c.as_slice.ensures)))
-
-pub returns-clause-notes : goal.returns-clause-notes
-returns-clause-notes g c =
-    let p = c.args.self.now.task in
-    let kept = c.args.kept.now in
-    let marks = c.keeps_by_notes-keeps.new.marks in
+    let place = c.args.group in
+    let each = c.requires.notes.one_each in
+    let was = get_or c.as_slice.result.now place false in
+    let now = c.as_slice-2.ensures ∙ c.set.ensures in
+    let turn = c.keeps_by_notes-keeps.ensures in
     record {
-      one_each = c.requires.notes.one_each;
-      noted = noted_fewer p (set kept c.args.group true) kept c.args.self.now.operator c.args.self.now.effect marks
-          (is_more p kept c.args.group c.requires.group c.requires.notes.one_each)
-          (subst (λ (xs : List Bool). IsNotedFor p xs c.args.self.now.operator c.args.self.now.effect marks) (c.as_slice-2.ensures ∙ c.set.ensures) c.keeps_by_notes-keeps.ensures.notes.noted);
+      yes = λ t. keeps_itself f.task kept place c.requires.group each f.operator f.effect (rw now at (turn.yes t));
+      no = λ t keeps. turn.no t (rw now (keeps_then f.task kept place c.requires.group each f.operator f.effect keeps));
+      kept = c.set-2.ensures ∙ (ap (λ (xs : List Bool). set xs place was) c.set.ensures
+          ∙ put_back kept place was (ap (λ (xs : List Bool). get_or xs place false) (sym c.as_slice.ensures)));
+      notes = record {
+        one_each = each;
+        noted = noted_fewer f.task (set kept place true) kept f.operator f.effect c.keeps_by_notes-keeps.new.marks (is_more f.task kept place c.requires.group each) (rw now at turn.notes.noted);
+      };
     }

@@ -1,74 +1,40 @@
 -- One more run can't remain, or a fact of the group is known.
-use Rattle.sas_mutex.proofs.Imports.{◌≡◌, ◌<◌, ℕ, List, [], length, get_or, drop, sym, ap, subst, ◌∙◌, arith, refl, get_or_default, drop_all, Fact, operator_at, effect_at, group_at, FactExists, IsGone, known, WellRanged, One, facts_at, AreDistinct, AreRuns, group_fact_exists, one_note_shows}
+use Rattle.sas_mutex.proofs.Imports.{◌≡◌, [], drop, subst, arith, refl, get_or_default, drop_all, operator_at, effect_at, FactExists, known, WellRanged, group_fact_exists, one_note_shows, tells_yes, tells_no, tells_other, common_steps}
 use Rattle.sas_mutex.specs.Firing.{EffectPlace}
 use Rattle.sas_mutex.specs.Effects.{IsKept}
-use Rattle.sas_mutex.specs.ByNotes.{IsUnknown}
-use Rattle.sas_mutex.proofs.GoneRuns.{SuchBefore, such_none, such_all, next_within, next_on_one, next_too, such_more}
+use Rattle.sas_mutex.specs.ByNotes.{IsUnknown, IsGoneAt}
+use Rattle.sas_mutex.proofs.GoneRuns.{such_none, such_all, next_within, next_on_one, next_too, such_more}
 use Rattle.sas_mutex.proofs.KnownFacts.{none_if_not_one}
 use Rattle.sas_mutex.proofs.FromNotes.{known_one_is_all}
 use Rattle.sas_mutex.proofs.effects.Firing.none_stays.Goals as goal
 
 pub is_gone-requires-clause-fact : goal.is_gone-requires-clause-fact
-is_gone-requires-clause-fact g c =
-    let p = c.args.self.now.task in
-    let o = operator_at p c.args.self.now.operator in
-    let e = effect_at o c.args.self.now.effect in
-    let place = c.args.group in
-    let of = (one_note_shows p (known o e.conditions []) place c.in-Some.fact c.noted.result
-    (c.noted.ensures c.args.kept.now c.requires.notes) (c.only.ensures.some c.in-Some.fact c.in-Some.is)).0 in
-    group_fact_exists p place c.in-Some.fact (subst (λ (s : EffectPlace). WellRanged s.task) c.self.view_is c.self.invariant.0) c.requires.group.exists of.has.among
+is_gone-requires-clause-fact g c = grind (arith, common_steps, one_note_shows, group_fact_exists)
 
-pub returns-in-Some-clause-yes : goal.returns-in-Some-clause-yes
-returns-in-Some-clause-yes g c =
+pub returns-in-Some : goal.returns-in-Some
+returns-in-Some g c =
     let p = c.args.self.now.task in
     let o = operator_at p c.args.self.now.operator in
     let e = effect_at o c.args.self.now.effect in
     let place = c.args.group in
     let of = (one_note_shows p (known o e.conditions []) place c.in-Some.fact c.noted.result
     (c.noted.ensures c.args.kept.now c.requires.notes) (c.only.ensures.some c.in-Some.fact c.in-Some.is)).0 in
-    λ t. known_one_is_all p c.args.kept.now o place e c.in-Some.fact c.requires.group of.among of.has.among (c.is_gone.ensures.yes t)
+    tells_other c.is_gone.ensures (known_one_is_all p c.args.kept.now o place e c.in-Some.fact c.requires.group of.among of.has.among) (λ all. all c.in-Some.fact of.has.among)
 
 pub loop-length-init : goal.loop-length-init
-loop-length-init g c =
-    let group = rw (← c.self.view_is) at c.requires.group in
-    let p = c.self.inside.task.now in
-    let o = operator_at p c.self.inside.operator in
-    let runs : List (List ℕ) = c.self.inside.index.now.runs in
-    let all = c.self.invariant.1.runs in
-    let below : c.args.group < length runs = let lt = group.exists in let each = all.one_each in omega arith in
-    let here = c.index-as_slice-group.result in
-    let same : get_or runs c.args.group [] ≡ c.as_slice-length-items.result.now =
-    get_or_default runs c.args.group [] here below ∙ (ap (λ (lists : List (List ℕ)). get_or lists c.args.group here) (sym c.as_slice.ensures)
-    ∙ (sym c.index-as_slice-group.is ∙ sym c.as_slice-length-items.ensures)) in
-    let own = c.self.inside.index.now.own_facts in
-    let facts = c.self.invariant.1.facts c.args.group group.exists in
-    let fall : AreRuns (facts_at p own c.args.group) c.as_slice-length-items.result.now = subst (AreRuns (facts_at p own c.args.group)) same (all.are c.args.group group.exists) in
-    let left : facts_at p own c.args.group ≡ c.facts_of-left.result.now = sym c.facts_of-left.ensures in
-    rw (← c.self.view_is) (such_none (IsGone (IsKept p c.args.kept.now) o (effect_at o c.self.inside.effect)) (group_at p c.args.group) c.facts_of-left.result.now c.as_slice-length-items.result.now
-    (subst (λ (fs : List Fact). AreDistinct fs (group_at p c.args.group)) left facts)
-    (subst (λ (fs : List Fact). AreRuns fs c.as_slice-length-items.result.now) left fall))
+loop-length-init g c = grind (arith, common_steps, get_or_default, such_none)
 
 pub split_at-requires : goal.split_at-requires
-split_at-requires g c =
-    let p = c.args.self.now.task in
-    let o = operator_at p c.args.self.now.operator in
-    next_within (IsGone (IsKept p c.args.kept.now) o (effect_at o c.args.self.now.effect)) (group_at p c.args.group) c.loop-length.left.now c.as_slice-length-items.result.now
-    c.loop-length.length-index c.loop-length-test.true c.loop-length.invariant
+split_at-requires g c = next_within c.as_slice-length-items.result.now c.loop-length.length-index c.loop-length-test.true c.loop-length.invariant
 
 pub run_is_gone-requires-clause-exist : goal.run_is_gone-requires-clause-exist
 run_is_gone-requires-clause-exist g c =
     let p = c.args.self.now.task in
-    let o = operator_at p c.args.self.now.operator in
-    next_too (IsGone (IsKept p c.args.kept.now) o (effect_at o c.args.self.now.effect)) (group_at p c.args.group) c.loop-length.left.now c.as_slice-length-items.result.now
-    c.loop-length.length-index c.loop-length-test.true c.loop-length.invariant (FactExists p.variables) c.split_at.result.0.now c.split_at.ensures.front
+    next_too c.as_slice-length-items.result.now c.loop-length.length-index c.loop-length-test.true c.loop-length.invariant (FactExists p.variables) c.split_at.result.0.now c.split_at.ensures.front
     (λ f among. group_fact_exists p c.args.group f (subst (λ (s : EffectPlace). WellRanged s.task) c.self.view_is c.self.invariant.0) c.requires.group.exists among)
 
 pub run_is_gone-requires-clause-one : goal.run_is_gone-requires-clause-one
-run_is_gone-requires-clause-one g c =
-    let p = c.args.self.now.task in
-    let o = operator_at p c.args.self.now.operator in
-    next_on_one (IsGone (IsKept p c.args.kept.now) o (effect_at o c.args.self.now.effect)) (group_at p c.args.group) c.loop-length.left.now c.as_slice-length-items.result.now
-    c.loop-length.length-index c.loop-length-test.true c.loop-length.invariant c.split_at.result.0.now c.split_at.ensures.front
+run_is_gone-requires-clause-one g c = next_on_one c.as_slice-length-items.result.now c.loop-length.length-index c.loop-length-test.true c.loop-length.invariant c.split_at.result.0.now c.split_at.ensures.front
 
 pub run_is_gone-requires-clause-unknown : goal.run_is_gone-requires-clause-unknown
 run_is_gone-requires-clause-unknown g c =
@@ -76,36 +42,21 @@ run_is_gone-requires-clause-unknown g c =
     let o = operator_at p c.args.self.now.operator in
     let e = effect_at o c.args.self.now.effect in
     let place = c.args.group in
-    let not_one = λ (f : Fact) (one : c.noted.result ≡ One f). c.only.ensures.none c.in_default.is f one in
-    next_too (IsGone (IsKept p c.args.kept.now) o e) (group_at p place) c.loop-length.left.now c.as_slice-length-items.result.now
-    c.loop-length.length-index c.loop-length-test.true c.loop-length.invariant (IsUnknown o e) c.split_at.result.0.now c.split_at.ensures.front
+    next_too c.as_slice-length-items.result.now c.loop-length.length-index c.loop-length-test.true c.loop-length.invariant (IsUnknown o e) c.split_at.result.0.now c.split_at.ensures.front
     (λ f among in_known. none_if_not_one p (known o e.conditions []) place (IsKept p c.args.kept.now) (place, c.requires.group, refl)
-    c.requires.notes.noted.are.apart c.noted.result (c.noted.ensures c.args.kept.now c.requires.notes) not_one
+    c.requires.notes.noted.are.apart c.noted.result (c.noted.ensures c.args.kept.now c.requires.notes) (c.only.ensures.none c.in_default.is)
     f (record { among = in_known; has = record { exists = c.requires.group.exists; among = among } }))
 
-pub returns-then-not-run_is_gone-clause-no : goal.returns-then-not-run_is_gone-clause-no
-returns-then-not-run_is_gone-clause-no g c =
-    let p = c.args.self.now.task in
-    let o = operator_at p c.args.self.now.operator in
-    let Gone : Fact → Type 0 = IsGone (IsKept p c.args.kept.now) o (effect_at o c.args.self.now.effect) in
-    λ t gone. c.run_is_gone.ensures.no c.if-not-run_is_gone.true
-    (next_too Gone (group_at p c.args.group) c.loop-length.left.now c.as_slice-length-items.result.now
-    c.loop-length.length-index c.loop-length-test.true c.loop-length.invariant Gone c.split_at.result.0.now c.split_at.ensures.front gone)
+pub returns-then-not-run_is_gone : goal.returns-then-not-run_is_gone
+returns-then-not-run_is_gone g c = tells_no (λ gone. c.run_is_gone.ensures.no c.if-not-run_is_gone.true
+    (next_too c.as_slice-length-items.result.now c.loop-length.length-index c.loop-length-test.true c.loop-length.invariant (IsGoneAt c.args.self.now c.args.kept.now) c.split_at.result.0.now c.split_at.ensures.front gone))
 
 pub loop-length-preserved : goal.loop-length-preserved
-loop-length-preserved g c =
-    let p = c.args.self.now.task in
-    let o = operator_at p c.args.self.now.operator in
-    such_more (IsGone (IsKept p c.args.kept.now) o (effect_at o c.args.self.now.effect)) (group_at p c.args.group) c.loop-length.left.now c.as_slice-length-items.result.now
-    c.loop-length.length-index c.loop-length-test.true c.loop-length.invariant c.split_at.result.0.now c.split_at.result.1.now
+loop-length-preserved g c = such_more c.as_slice-length-items.result.now c.loop-length.length-index c.loop-length-test.true c.loop-length.invariant c.split_at.result.0.now c.split_at.result.1.now
     c.split_at.ensures.front c.split_at.ensures.back (c.run_is_gone.ensures.yes c.if-not-run_is_gone.false)
 
-pub returns-clause-yes : goal.returns-clause-yes
-returns-clause-yes g c =
-    let p = c.args.self.now.task in
-    let o = operator_at p c.args.self.now.operator in
-    let Gone : Fact → Type 0 = IsGone (IsKept p c.args.kept.now) o (effect_at o c.args.self.now.effect) in
-    let group = group_at p c.args.group in
+pub returns : goal.returns
+returns g c =
     let items = c.as_slice-length-items.result.now in
     let end : drop c.loop-length.length-index items ≡ [] = drop_all c.loop-length.length-index items c.loop-length-test.false in
-    λ t f in_group. such_all Gone group c.loop-length.left.now (subst (SuchBefore Gone group c.loop-length.left.now) end c.loop-length.invariant) f in_group
+    tells_yes (such_all _ _ c.loop-length.left.now (rw end at c.loop-length.invariant))

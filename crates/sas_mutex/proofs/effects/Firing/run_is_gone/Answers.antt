@@ -1,15 +1,15 @@
 -- The first fact decides for the whole run, or one more fact can't remain.
-use Rattle.sas_mutex.proofs.Imports.{◌<◌, get_or, sym, subst, arith, operator_at, effect_at, IsGone, each_more, variable_below}
+use Rattle.sas_mutex.proofs.Imports.{subst, arith, operator_at, effect_at, IsGone, each_more, variable_below, tells_yes, tells_no, common_steps}
 use Rattle.sas_mutex.specs.Firing.{EffectPlace}
 use Rattle.sas_mutex.specs.Effects.{IsKept}
 use Rattle.sas_mutex.proofs.FromNotes.{IsFiring}
 use Rattle.sas_mutex.proofs.GoneRuns.{settled_are_gone}
 use Rattle.sas_mutex.proofs.effects.Firing.run_is_gone.Goals as goal
 
-pub returns-then-is_settled-clause-yes : goal.returns-then-is_settled-clause-yes
-returns-then-is_settled-clause-yes g c t = settled_are_gone c.args.self.now c.self.inside.index.now
+pub returns-then-is_settled : goal.returns-then-is_settled
+returns-then-is_settled g c = tells_yes (settled_are_gone c.args.self.now c.self.inside.index.now
     (subst (λ (f : EffectPlace). IsFiring f c.self.inside.index.now) c.self.view_is c.self.invariant) c.args.kept.now c.args.marks.now c.requires.notes c.args.run.now
-    c.requires.exist c.requires.one c.requires.unknown (c.is_settled.ensures c.if-is_settled.true)
+    c.requires.exist c.requires.one c.requires.unknown (c.is_settled.ensures c.if-is_settled.true))
 
 pub loop-fact-preserved : goal.loop-fact-preserved
 loop-fact-preserved g c =
@@ -19,11 +19,7 @@ loop-fact-preserved g c =
     (c.goes.ensures.yes c.if-not-goes.false)
 
 pub is_settled-requires : goal.is_settled-requires
-is_settled-requires g c = record {
-  var = c.requires.var;
-  values = λ k d lt. subst (λ n. (get_or c.args.run.now k d).var < n) (sym c.requires.notes.noted.from.known.wide.variables)
-      (variable_below c.args.self.now.task (get_or c.args.run.now k d) (c.requires.exist k d lt));
-}
+is_settled-requires g c = grind (arith, common_steps, variable_below)
 
 pub loop-fact-init : goal.loop-fact-init
 loop-fact-init g c = λ k d lt. absurd (omega arith)
@@ -31,8 +27,8 @@ loop-fact-init g c = λ k d lt. absurd (omega arith)
 pub goes-requires-clause-fact : goal.goes-requires-clause-fact
 goes-requires-clause-fact g c = c.requires.exist c.loop-fact.fact-index (record { var = 0; value = 0 }) c.loop-fact-test.true
 
-pub returns-then-not-goes-clause-no : goal.returns-then-not-goes-clause-no
-returns-then-not-goes-clause-no g c = λ t all. c.goes.ensures.no c.if-not-goes.true (all c.loop-fact.fact-index _ c.loop-fact-test.true)
+pub returns-then-not-goes : goal.returns-then-not-goes
+returns-then-not-goes g c = tells_no (λ all. c.goes.ensures.no c.if-not-goes.true (all c.loop-fact.fact-index _ c.loop-fact-test.true))
 
-pub returns-clause-yes : goal.returns-clause-yes
-returns-clause-yes g c = λ t k d lt. c.loop-fact.invariant k d (omega (arith, lt, c.loop-fact-test.false))
+pub returns : goal.returns
+returns g c = tells_yes (λ k d lt. c.loop-fact.invariant k d (omega (arith, lt, c.loop-fact-test.false)))

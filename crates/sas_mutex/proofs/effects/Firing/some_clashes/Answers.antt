@@ -1,5 +1,5 @@
 -- One more fact doesn't clash.
-use Rattle.sas_mutex.proofs.Imports.{sym, subst, arith, Fact, each_more}
+use Rattle.sas_mutex.proofs.Imports.{sym, subst, arith, Fact, each_more, tells_no}
 use Rattle.sas_mutex.specs.ByNotes.{ClashesAt}
 use Rattle.sas_mutex.proofs.effects.Firing.some_clashes.Goals as goal
 
@@ -7,6 +7,6 @@ pub loop-fact-preserved : goal.loop-fact-preserved
 loop-fact-preserved g c = each_more (λ (fact : Fact). ClashesAt c.args.self.now c.args.kept.now fact → ⊥) c.args.facts.now c.loop-fact.fact-index _ c.loop-fact-test.true c.loop-fact.invariant
     (c.clashes.ensures.no c.if-clashes.false)
 
-pub returns-clause-no : goal.returns-clause-no
-returns-clause-no g c = λ f (fact, (n, below, is), clashes). c.loop-fact.invariant n fact (let all = c.loop-fact-test.false in omega arith)
-    (subst (ClashesAt c.args.self.now c.args.kept.now) (sym is) clashes)
+pub returns : goal.returns
+returns g c = tells_no (λ (fact, (n, below, is), clashes). c.loop-fact.invariant n fact (let all = c.loop-fact-test.false in omega arith)
+    (subst (ClashesAt c.args.self.now c.args.kept.now) (sym is) clashes))

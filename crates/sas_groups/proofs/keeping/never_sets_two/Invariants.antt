@@ -1,8 +1,0 @@
--- The effects so far are single.
-use Rattle.sas_groups.proofs.Imports.{ℕ, ◌<◌, operator_at, effect_at}
-use Rattle.sas_groups.specs.Checks.{Alone, IsSingle}
-use Rattle.sas_groups.proofs.keeping.never_sets_two.Given as goal
-
-abbrev pub invariant-loop-effect : goal.invariant-loop-effect
-invariant-loop-effect g l = (k : ℕ) → k < l.effect
-    → IsSingle (Alone l.group) (operator_at l.task l.operator) l.group (effect_at (operator_at l.task l.operator) k)

@@ -1,8 +1,0 @@
--- The effects so far remove the other facts.
-use Rattle.sas_groups.proofs.Imports.{ℕ, ◌<◌, operator_at, effect_at}
-use Rattle.sas_groups.specs.Checks.{Alone, RemovesAll}
-use Rattle.sas_groups.proofs.keeping.removes_others.Given as goal
-
-abbrev pub invariant-loop-effect : goal.invariant-loop-effect
-invariant-loop-effect g l = (k : ℕ) → k < l.effect
-    → RemovesAll (Alone l.group) (operator_at l.task l.operator) l.group (effect_at (operator_at l.task l.operator) k)
