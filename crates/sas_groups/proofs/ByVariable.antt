@@ -1,6 +1,5 @@
 -- The entries of the effects of large operators.
-use Rattle.sas_groups.proofs.Imports.{below_more, ◌≡◌, ℕ, ◌+◌, ◌<◌, List, [], ◌∷◌, ◌++◌, length, get_or, sym, subst, All, Contains, Contains-append_left, Contains-push, Parts, operator_at, Entry, by_key, under_holds}
-use Rattle.sas_groups.specs.ByVariable.{IsLarge, effect_entry, AreEntered, AreByVariable, place_of}
+use Rattle.sas_groups.proofs.Imports.{below_more, ◌≡◌, ℕ, ◌+◌, ◌<◌, List, [], ◌∷◌, ◌++◌, length, get_or, sym, subst, All, Contains, Contains-append_left, Contains-push, Parts, operator_at, Entry, by_key, under_holds, IsLarge, effect_entry, AreEntered, AreByVariable, place_of}
 
 -- one effect more
 pub effect_entered : (p : Parts) (places operator effect : ℕ) (before now after : List (Entry ℕ)) (entry : Entry ℕ) → AreEntered p places operator effect before now

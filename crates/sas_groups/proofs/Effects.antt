@@ -1,9 +1,6 @@
 -- Properties of all effects as properties of the effect at each index, and when an operator
 -- preserves a group.
-use Rattle.sas_groups.proofs.Imports.{◌≡◌, ℕ, ◌<◌, [], length, None, ◌∙◌, ap, subst, get_or_default, Contains-get_or, Contains, List, Change, Fact, Effect, Operator, effect_at, effect_change}
-use Rattle.sas_groups.specs.Clashes.{Keeps, IsRemoved, sets}
-use Rattle.sas_groups.specs.Checks.{Removes, NotBoth, KeepsIfSets}
-use Rattle.sas_groups.specs.Lists.{known}
+use Rattle.sas_groups.proofs.Imports.{◌≡◌, ℕ, ◌<◌, [], length, None, ◌∙◌, ap, subst, get_or_default, Contains-get_or, Contains, List, Change, Fact, Effect, Operator, effect_at, effect_change, Keeps, IsRemoved, sets, Removes, NotBoth, KeepsIfSets, known}
 
 -- what stands behind the last effect
 abbrev no_effect : Effect

@@ -1,8 +1,5 @@
 -- The entries of groups by the numbers of their facts.
-use Rattle.sas_groups.proofs.Imports.{◌≡◌, ℕ, ◌+◌, ◌-◌, ◌<◌, ◌≤◌, ◌↔◌, List, ◌++◌, length, get_or, refl, sym, ap, subst, ◌∙◌, inl, inr, arith, All, Contains, IsNonDecreasingBy, cases_eq, cases_lt, get_or_append_left, get_or-append_right, length-append, Contains-get_or, Contains-append_left, Contains-append_right, Contains-append_cases, Fact, Parts, group_at, FactExists, WellRanged, common_steps}
-use Rattle.sas_groups.proofs.Imports.{holds_at, Entry, by_key, under_holds, under_ascends, fact_within}
-use Rattle.sas_groups.specs.Distinct.{facts_at, AreOwnLists}
-use Rattle.sas_groups.specs.Index.{facts_below, number, entries_of, AreFirstNumbers, AreByFact, HasFact, under}
+use Rattle.sas_groups.proofs.Imports.{◌≡◌, ℕ, ◌+◌, ◌-◌, ◌<◌, ◌≤◌, ◌↔◌, List, ◌++◌, length, get_or, refl, sym, ap, subst, ◌∙◌, inl, inr, arith, All, Contains, IsNonDecreasingBy, cases_eq, cases_lt, get_or_append_left, get_or-append_right, length-append, Contains-get_or, Contains-append_left, Contains-append_right, Contains-append_cases, Fact, Parts, group_at, FactExists, WellRanged, common_steps, facts_at, AreOwnLists, facts_below, number, entries_of, AreFirstNumbers, AreByFact, HasFact, under, holds_at, Entry, by_key, under_holds, under_ascends, fact_within}
 use Rattle.sas_groups.proofs.InLists.{in_map, from_map}
 use Rattle.sas_groups.proofs.Numbering.{number_low, one_number}
 

@@ -1,8 +1,5 @@
 -- If a fact exists, so do its variable and the groups that contain it.
-use Rattle.sas_groups.proofs.Imports.{◌≡◌, ℕ, ◌<◌, length, get_or, subst, sym, Contains-get_or, Fact, Parts, FactExists, fact_within}
-use Rattle.sas_groups.specs.declared.index.Index.{Index}
-use Rattle.sas_groups.specs.Index.{IsIndexOf, groups_of}
-use Rattle.sas_groups.specs.Noting.{AreBelow}
+use Rattle.sas_groups.proofs.Imports.{◌≡◌, ℕ, ◌<◌, length, get_or, subst, sym, Contains-get_or, Fact, Parts, FactExists, fact_within, Index, IsIndexOf, groups_of, AreBelow}
 
 pub variable_below : (p : Parts) (fact : Fact) → FactExists p.variables fact → fact.var < length p.variables
 variable_below p fact exists = fact_within p fact.var fact.value exists

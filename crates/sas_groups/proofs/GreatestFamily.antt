@@ -1,10 +1,6 @@
 -- The union of families that are preserved jointly is preserved jointly. The greatest family is
 -- unique, contains each group that is exclusive alone, and no group can be added to it.
-use Rattle.sas_groups.proofs.Imports.{◌≡◌, ℕ, ◌<◌, ◌⊎◌, Bool, true, false, List, [], ◌∷◌, ◌++◌, length, refl, sym, ap, subst, inl, inr, ◌||◌, ◌==◌, IsTrue, eq-eqb, eqb-true, Fact, Operator, Parts, group_at, preconditions, arith, rules, common_steps}
-use Rattle.sas_groups.specs.Clashes.{Clash, Keeps}
-use Rattle.sas_groups.specs.Families.{MayBeExclusive}
-use Rattle.sas_groups.specs.Families.{IsIn, IsGroupOf, IsGroupOfOr, AllKeep, IsKeptJointly}
-use Rattle.sas_groups.specs.Laws.{FamiliesUnite, GreatestIsOne, GreatestHasAlone, OutsideIsBroken}
+use Rattle.sas_groups.proofs.Imports.{◌≡◌, ℕ, ◌<◌, ◌⊎◌, Bool, true, false, List, [], ◌∷◌, ◌++◌, length, refl, sym, ap, subst, inl, inr, ◌||◌, ◌==◌, IsTrue, eq-eqb, eqb-true, Fact, Operator, Parts, group_at, preconditions, arith, rules, common_steps, Clash, Keeps, MayBeExclusive, IsIn, IsGroupOf, IsGroupOfOr, AllKeep, IsKeptJointly, FamiliesUnite, GreatestIsOne, GreatestHasAlone, OutsideIsBroken}
 
 -- ---- the more groups count, the more is kept
 

@@ -1,15 +1,11 @@
--- What the proofs use of other crates.
-pub use Rattle.std.proofs.Common.{◌≡◌, ℕ, ◌+◌, ◌<◌, List, [], ◌∷◌, ◌++◌, length, get_or, sym, subst, inl, inr, arith, None, ◌∙◌, ap, ◌-◌, ◌≤◌, ◌↔◌}
-pub use Rattle.std.proofs.Common.{refl, ◌⊎◌, Bool, true, false, ◌||◌, ◌==◌, IsTrue, map, Option, Some, replicate, Ordering, Less, Equal, Greater, ◌≢◌}
-pub use Rattle.std.proofs.Common.{zero, suc, set, ◌*◌, ◌^◌, take, drop, append_assoc, rules, slice_index, Result, Ok, Err, below_more, IfSome}
+-- What the proofs use of other crates, and of the definitions of this one.
+pub use Rattle.std.proofs.lemmas.Option.{same_Some}
+pub use Rattle.std.proofs.Common.{◌≡◌, ℕ, ◌+◌, ◌<◌, List, [], ◌∷◌, ◌++◌, length, get_or, sym, subst, inl, inr, arith, None, ◌∙◌, ap, ◌-◌, ◌≤◌, ◌↔◌, refl, ◌⊎◌, Bool, true, false, ◌||◌, ◌==◌, IsTrue, map, Option, Some, replicate, Ordering, Less, Equal, Greater, ◌≢◌, zero, suc, set, ◌*◌, ◌^◌, take, drop, append_assoc, rules, slice_index, Result, Ok, Err, below_more, IfSome}
 pub use Rattle.std.proofs.Math.ListN.{get_or-eq_default}
 pub use Rattle.std.proofs.lemmas.Bool.{cases_eq, cases_lt, eq-eqb, eqb-true, cases_order, false≢true, eqb-false, both_ways, true≢false}
 pub use Rattle.std.proofs.lemmas.Grind.{common_steps}
-pub use Rattle.std.proofs.lemmas.List.{get_or_default, get_or_append_left, get_or-append_right, length-append, get_or-map, length-map, get_or_push}
-pub use Rattle.std.proofs.lemmas.List.{get_or-replicate, length-replicate, length_push, ext_get_or, get_or-set_same, get_or-set_other, length-set}
-pub use Rattle.std.proofs.lemmas.List.{take_more, take_all, take-append-drop, drop_all, take-append-le, drop-append-le, append-nil}
-pub use Rattle.std.proofs.lemmas.List.Elements.{Contains-append_left, Contains-push, All-contains, Contains-get_or, Contains-append_right}
-pub use Rattle.std.proofs.lemmas.List.Elements.{Contains-append_cases, All-nil, All-cons, All-append, All-from_get_or, All-push}
+pub use Rattle.std.proofs.lemmas.List.{get_or_default, get_or_append_left, get_or-append_right, length-append, get_or-map, length-map, get_or_push, get_or-replicate, length-replicate, length_push, ext_get_or, get_or-set_same, get_or-set_other, length-set, take_more, take_all, take-append-drop, drop_all, take-append-le, drop-append-le, append-nil}
+pub use Rattle.std.proofs.lemmas.List.Elements.{Contains-append_left, Contains-push, All-contains, Contains-get_or, Contains-append_right, Contains-append_cases, All-nil, All-cons, All-append, All-from_get_or, All-push}
 pub use Rattle.std.proofs.lemmas.List.Filters.{dedup_is}
 pub use Rattle.std.proofs.lemmas.List.Kept.{Contains-dedup, Contains-from_dedup, IsStrictlySortedBy-dedup}
 pub use Rattle.std.proofs.lemmas.List.Sorted.{Contains-permutation, IsPermutation-sym, length_permutation, searched}
@@ -22,11 +18,12 @@ pub use Rattle.std.specs.List.Sorted.{IsNonDecreasingBy, IsPermutation, IsSorted
 pub use Rattle.std.specs.Option.{option_to_list}
 pub use Rattle.std.specs.Ordering.{eq_by_cmp, nat_cmp, ordering_reverse, ordering_then}
 pub use Rattle.std.specs.Result.{MatchResult, is_ok}
+pub use Rattle.sas_meaning.proofs.Members.{contains_none}
 pub use Rattle.sas_core.proofs.Places.{holds_at, each_more}
 pub use Rattle.sas_core.specs.Changes.{effect_change}
 pub use Rattle.sas_core.specs.Grounded.{operator_at, effect_at, group_at}
 pub use Rattle.sas_core.specs.Variables.{FactExists, range_of}
-pub use Rattle.sas_core.specs.WellRanged.{WellRanged, Listed, VariableFits}
+pub use Rattle.sas_core.specs.WellRanged.{WellRanged, VariableFits}
 pub use Rattle.sas_core.specs.declared.grounded.Change.{Change}
 pub use Rattle.sas_core.specs.declared.parts.Effect.{Effect}
 pub use Rattle.sas_core.specs.declared.parts.Fact.{Fact}
@@ -43,3 +40,25 @@ pub use Rattle.sas_meaning.specs.Layers.{IsBasic}
 pub use Rattle.sas_meaning.specs.Reachable.{IsInitial, Reachable, Initial, Next}
 pub use Rattle.sas_meaning.specs.States.{Holds, AllHold}
 pub use Rattle.sas_meaning.specs.Steps.{preconditions, Fires, Step}
+pub use Rattle.sas_groups.specs.ByVariable.{IsLarge, effect_entry, AreEntered, AreByVariable, place_of}
+pub use Rattle.sas_groups.specs.Checks.{Removes, NotBoth, KeepsIfSets, Tells, Alone, Has, IsFirstVerdict, IsOnlyOne, IsGone}
+pub use Rattle.sas_groups.specs.Clashes.{Keeps, IsRemoved, sets, Clash, Contradict}
+pub use Rattle.sas_groups.specs.Distinct.{facts_at, AreOwnLists, AreDistinct, IsBelow}
+pub use Rattle.sas_groups.specs.Families.{MayBeExclusive, IsIn, IsGroupOf, IsGroupOfOr, AllKeep, IsKeptJointly, IsGreatest, IsOnBasic}
+pub use Rattle.sas_groups.specs.Groups.{IsExclusiveIn}
+pub use Rattle.sas_groups.specs.Index.{facts_below, number, entries_of, AreFirstNumbers, AreByFact, HasFact, under, IsIndexOf, groups_of}
+pub use Rattle.sas_groups.specs.Joint.{verdict_at, AreJointVerdicts, AreInvariants}
+pub use Rattle.sas_groups.specs.Kept.{family_of}
+pub use Rattle.sas_groups.specs.Laws.{FamiliesUnite, GreatestIsOne, GreatestHasAlone, OutsideIsBroken, JointlyKeptIsInvariant, ExclusiveAloneIsInvariant, ExclusiveJointlyIsInvariant, GreatestExists, JointVerdictIsOne, SomeJointVerdict}
+pub use Rattle.sas_groups.specs.Lists.{known, known_on, known_left, facts_left}
+pub use Rattle.sas_groups.specs.Notes.{value_note, group_note, AreBlank, AreFrom, IsValueNote, IsOfGroup, IsOfGroupBeside, IsNoteOf, IsGroupNote, AreNotesOf}
+pub use Rattle.sas_groups.specs.Noting.{AreBelow, IsNotedToo, NotesForGroup, TakenBySome, ShareKept, ChangesAt, IsSetApart, IsSet, IsCompleted, Forgets, IsForgotten, IsExcluded}
+pub use Rattle.sas_groups.specs.Runs.{AreOnOne, AreRuns, runs_at}
+pub use Rattle.sas_groups.specs.Verdicts.{IsJointVerdict, IsFirstBreaking, IsVerdictAlone}
+pub use Rattle.sas_groups.specs.declared.index.Index.{Index}
+pub use Rattle.sas_groups.specs.declared.notes.Noted.{Noted}
+pub use Rattle.sas_groups.specs.declared.notes.Noted.TheVariants.{Nothing, One, Several}
+pub use Rattle.sas_groups.specs.declared.notes.Notes.{Notes}
+pub use Rattle.sas_groups.specs.declared.verdict.Verdict.{Verdict}
+pub use Rattle.sas_groups.specs.declared.verdict.Verdict.TheVariants.{Exclusive, Derived, Broken}
+unfoldable pub use Rattle.sas_groups.specs.Distinct.{own_or}

@@ -1,9 +1,5 @@
 -- The contents of lists that are built from other lists.
-use Rattle.sas_groups.proofs.Imports.{◌≡◌, ◌⊎◌, ℕ, ◌<◌, List, [], ◌∷◌, ◌++◌, length, get_or, map, Option, None, Some, refl, sym, ◌∙◌, ap, subst, inl, inr, arith, Contains, cons_option, filter_map, flat_map, option_to_list, get_or-map, length-map, All-nil, All-cons, All-contains, Contains-get_or, Contains-append_left, Contains-append_right, Contains-append_cases, cases_eq, common_steps}
-
--- nothing stands in the empty list
-pub in_none : {X : Type 0} (x : X) → Contains [] x → ⊥
-in_none x there = let lt = there.1 in omega arith
+use Rattle.sas_groups.proofs.Imports.{◌≡◌, ◌⊎◌, ℕ, ◌<◌, List, [], ◌∷◌, ◌++◌, length, get_or, map, Option, None, Some, refl, sym, ◌∙◌, ap, subst, inl, inr, arith, Contains, cons_option, filter_map, flat_map, option_to_list, get_or-map, length-map, All-nil, All-cons, All-contains, Contains-get_or, Contains-append_left, Contains-append_right, Contains-append_cases, cases_eq, common_steps, contains_none}
 
 -- what is made of each item stands in the list of what is made
 pub in_map : {X Y : Type 0} (f : X → Y) (xs : List X) (x : X) → Contains xs x → Contains (map f xs) (f x)
@@ -16,7 +12,7 @@ from_map f xs y d there =
 
 -- what stands in a list made of an item stands in the joined lists
 pub in_flat : {X Y : Type 0} (f : X → List Y) (xs : List X) (x : X) (y : Y) → Contains xs x → Contains (f x) y → Contains (flat_map f xs) y
-in_flat f [] x y there its = absurd (in_none x there)
+in_flat f [] x y there its = absurd (contains_none x there)
 in_flat f (z ∷ zs) x y there its = elim (Contains-append_cases (z ∷ []) zs x there) [
   | inl here ↦ Contains-append_left (f z) (flat_map f zs) y (subst (λ w. Contains (f w) y) (sym (only_one z x here)) its)
   | inr later ↦ Contains-append_right (f z) (flat_map f zs) y (in_flat f zs x y later its)

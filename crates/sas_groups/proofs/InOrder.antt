@@ -1,7 +1,5 @@
 -- A sorted list without duplicates contains the same facts as the original list.
-use Rattle.sas_groups.proofs.Imports.{replicate, ◌-◌, Ordering, Less, Equal, Greater, ◌≡◌, ◌≢◌, ℕ, zero, suc, get_or, ap, ◌+◌, ◌<◌, ◌≤◌, Bool, true, List, [], ◌∷◌, ◌++◌, length, refl, sym, ◌∙◌, subst, inl, inr, arith, IsEquivalence, IsTotalOrder, eq_by_cmp, nat_cmp, ordering_reverse, ordering_then, Contains, IsFiltered, DiffersFromLast, IsPermutation, IsSorted, IsStrictlySortedBy, cases_eq, common_steps}
-use Rattle.sas_groups.proofs.Imports.{cases_lt, get_or_append_left, get_or-append_right, get_or_push, get_or-replicate, length-append, length-replicate, length_push, get_or-eq_default, dedup_is, Contains-dedup, Contains-from_dedup, IsStrictlySortedBy-dedup, Less-from_sorted, Contains-get_or, Contains-permutation, IsPermutation-sym, length_permutation, Fact, Parts, group_at}
-use Rattle.sas_groups.specs.Distinct.{own_or, facts_at, AreDistinct, IsBelow}
+use Rattle.sas_groups.proofs.Imports.{replicate, ◌-◌, Ordering, Less, Equal, Greater, ◌≡◌, ◌≢◌, ℕ, zero, suc, get_or, ap, ◌+◌, ◌<◌, ◌≤◌, Bool, true, List, [], ◌∷◌, ◌++◌, length, refl, sym, ◌∙◌, subst, inl, inr, arith, IsEquivalence, IsTotalOrder, eq_by_cmp, nat_cmp, ordering_reverse, ordering_then, Contains, IsFiltered, DiffersFromLast, IsPermutation, IsSorted, IsStrictlySortedBy, cases_eq, common_steps, own_or, facts_at, AreDistinct, IsBelow, cases_lt, get_or_append_left, get_or-append_right, get_or_push, get_or-replicate, length-append, length-replicate, length_push, get_or-eq_default, dedup_is, Contains-dedup, Contains-from_dedup, IsStrictlySortedBy-dedup, Less-from_sorted, Contains-get_or, Contains-permutation, IsPermutation-sym, length_permutation, Fact, Parts, group_at}
 
 -- facts of which each is below the next one
 below_trans : (f g h : Fact) → IsBelow f g → IsBelow g h → IsBelow f h

@@ -1,10 +1,6 @@
 -- A task has exactly one list of joint verdicts on its groups; that it exists is stated as a double
 -- negation. The groups that are exclusive by it are invariants.
-use Rattle.sas_groups.proofs.Imports.{◌≡◌, ℕ, zero, suc, ◌<◌, ◌≤◌, List, [], ◌∷◌, ◌++◌, length, refl, sym, ◌∙◌, subst, inl, inr, arith, cases_eq, ext_get_or, length_push, get_or_push, get_or_append_left, Parts, rules}
-use Rattle.sas_groups.specs.declared.verdict.Verdict.{Verdict}
-use Rattle.sas_groups.specs.declared.verdict.Verdict.TheVariants.{Exclusive}
-use Rattle.sas_groups.specs.Verdicts.{IsJointVerdict}
-use Rattle.sas_groups.specs.Joint.{verdict_at, AreJointVerdicts, AreInvariants}
+use Rattle.sas_groups.proofs.Imports.{◌≡◌, ℕ, zero, suc, ◌<◌, ◌≤◌, List, [], ◌∷◌, ◌++◌, length, refl, sym, ◌∙◌, subst, inl, inr, arith, cases_eq, ext_get_or, length_push, get_or_push, get_or_append_left, Parts, Verdict, Exclusive, IsJointVerdict, verdict_at, AreJointVerdicts, AreInvariants}
 use Rattle.sas_groups.proofs.Invariance.{exclusive_jointly_is_invariant}
 use Rattle.sas_groups.proofs.JointVerdicts.{joint_verdict_is_one, some_joint_verdict}
 

@@ -1,13 +1,7 @@
 -- Each group has exactly one joint verdict; that it exists is stated as a double negation, like
 -- each step of the proof.
-use Rattle.sas_groups.proofs.Imports.{◌≡◌, ℕ, zero, suc, ◌<◌, ◌≤◌, Bool, false, List, length, refl, sym, subst, inl, inr, arith, ◌||◌, cases_eq, cases_order, false≢true, get_or_default, Fact, Parts, operator_at, group_at, rules, common_steps}
-use Rattle.sas_groups.specs.declared.verdict.Verdict.TheVariants.{Exclusive, Derived, Initial, Broken}
-use Rattle.sas_groups.specs.Clashes.{Keeps}
-use Rattle.sas_groups.specs.Families.{IsIn, AllKeep, IsKeptJointly, IsGreatest, IsGroupOfOr}
-use Rattle.sas_groups.specs.Groups.{IsExclusiveIn}
-use Rattle.sas_groups.specs.Families.{IsOnBasic, MayBeExclusive}
-use Rattle.sas_groups.specs.Verdicts.{IsFirstBreaking}
-use Rattle.sas_groups.specs.Laws.{GreatestExists, JointVerdictIsOne, SomeJointVerdict}
+use Rattle.sas_groups.proofs.Imports.{◌≡◌, ℕ, zero, suc, ◌<◌, ◌≤◌, Bool, false, List, length, refl, sym, subst, inl, inr, arith, ◌||◌, cases_eq, cases_order, false≢true, get_or_default, Fact, Parts, operator_at, group_at, rules, common_steps, Exclusive, Derived, Broken, Keeps, IsIn, AllKeep, IsKeptJointly, IsGreatest, IsGroupOfOr, IsExclusiveIn, IsOnBasic, MayBeExclusive, IsFirstBreaking, GreatestExists, JointVerdictIsOne, SomeJointVerdict}
+use Rattle.sas_groups.specs.declared.verdict.Verdict.TheVariants.{Initial}
 use Rattle.sas_groups.proofs.GreatestFamily.{keeps_more, in_first, in_second, families_unite, greatest_is_one, outside_is_broken}
 
 -- ---- there is a greatest family

@@ -1,21 +1,10 @@
 -- The notes after one more fact is recorded or removed.
-use Rattle.sas_groups.proofs.Imports.{◌≡◌, ◌≢◌, ◌⊎◌, ℕ, ◌<◌, Bool, IsTrue, length, set, List, Option, None, Some, subst, refl, sym, ap, ◌∙◌, inl, inr, arith, All, Contains, cases_eq, get_or-set_same, get_or-set_other, length-set, All-contains, Fact, Parts, FactExists, common_steps}
-use Rattle.sas_groups.specs.declared.index.Index.{Index}
-use Rattle.sas_groups.specs.declared.notes.Notes.{Notes}
-use Rattle.sas_groups.specs.declared.notes.Noted.{Noted}
-use Rattle.sas_groups.specs.declared.notes.Noted.TheVariants.{Nothing, One, Several}
-use Rattle.sas_groups.specs.Kept.{family_of}
-use Rattle.sas_groups.specs.Index.{IsIndexOf, groups_of}
-use Rattle.sas_groups.specs.Notes.{value_note, group_note, AreBlank, AreFrom, IsValueNote, IsOfGroup, IsOfGroupBeside, IsNoteOf, IsGroupNote, AreNotesOf}
-use Rattle.sas_groups.specs.Noting.{IsNotedToo, NotesForGroup, TakenBySome, ShareKept, ChangesAt, IsSetApart, IsSet, IsCompleted, Forgets, IsForgotten}
+use Rattle.sas_groups.proofs.Imports.{◌≡◌, ◌≢◌, ◌⊎◌, ℕ, ◌<◌, Bool, IsTrue, length, set, List, Option, None, Some, subst, refl, sym, ap, ◌∙◌, inl, inr, arith, All, Contains, cases_eq, get_or-set_same, get_or-set_other, length-set, All-contains, Fact, Parts, FactExists, common_steps, same_Some, Index, Notes, Noted, Nothing, One, Several, family_of, IsIndexOf, groups_of, value_note, group_note, AreBlank, AreFrom, IsValueNote, IsOfGroup, IsOfGroupBeside, IsNoteOf, IsGroupNote, AreNotesOf, IsNotedToo, NotesForGroup, TakenBySome, ShareKept, ChangesAt, IsSetApart, IsSet, IsCompleted, Forgets, IsForgotten}
 use Rattle.sas_groups.proofs.InLists.{is_among}
 use Rattle.sas_groups.proofs.Existing.{variable_below}
 
 pub none_or_some : {A : Type 0} (x : A) (noted : Option A) → noted ≡ None → noted ≡ Some x → ⊥
 none_or_some x noted none some = let e : None ≡ Some x = sym none ∙ some in absurd cc
-
-pub same_inside : {A : Type 0} (x y : A) → Some x ≡ Some y → x ≡ y
-same_inside x y is = cc
 
 -- two facts are one, or they aren't
 pub one_or_two : (f g : Fact) → (f ≡ g) ⊎ (f ≢ g)
@@ -27,7 +16,7 @@ one_or_two f g = grind (arith, common_steps, cases_eq)
 -- a fact is the one apart, or it isn't
 pub apart_or_not : (apart : Option Fact) (f : Fact) → (apart ≡ Some f) ⊎ (apart ≢ Some f)
 apart_or_not None f = inr (λ e. absurd cc)
-apart_or_not (Some g) f = grind (arith, common_steps, one_or_two, same_inside)
+apart_or_not (Some g) f = grind (arith, common_steps, one_or_two, same_Some)
 
 -- a note is nothing, or something
 pub a_note : {A : Type 0} (noted : Option A) → (noted ≡ None) ⊎ ((x : A) × (noted ≡ Some x))
@@ -155,12 +144,12 @@ completed p index facts notes place noted indexed there exists are is = elim (a_
       (all_beside (λ f e. none_or_some f notes.apart none e))
   | inr w ↦ elim (is_among (groups_of index w.0) place) [
     | inl among ↦ note_changes Beside Are w.0 (λ f beside. beside.of) (λ f of. elim (apart_or_not notes.apart f) [
-      | inl e ↦ inr (same_inside w.0 f (sym w.1 ∙ e))
+      | inl e ↦ inr (same_Some w.0 f (sym w.1 ∙ e))
       | inr ne ↦ inl (record { of = of; beside = ne })
     ]) (group_note notes.groups place) noted
         (record { among = are.one_apart w.0 w.1; has = (indexed.groups w.0 (there w.0 (are.one_apart w.0 w.1)) place).0 among })
         (is.with_apart w.0 (w.1, among)) (are.groups place exists)
-    | inr out ↦ subst (IsGroupNote p facts place) (sym (is.without (λ f has. out (subst (λ (x : Fact). Contains (groups_of index x) place) (same_inside f w.0 (sym has.0 ∙ w.1)) has.1))))
+    | inr out ↦ subst (IsGroupNote p facts place) (sym (is.without (λ f has. out (subst (λ (x : Fact). Contains (groups_of index x) place) (same_Some f w.0 (sym has.0 ∙ w.1)) has.1))))
         (all_beside' w.0 w.1 out)
   ]
 ]
@@ -180,7 +169,7 @@ completed p index facts notes place noted indexed there exists are is = elim (a_
     all_beside' : (one : Fact) → notes.apart ≡ Some one → (Contains (groups_of index one) place → ⊥) → IsGroupNote p facts place (group_note notes.groups place)
     all_beside' one is_one out = by_beside (λ f of. record {
       of = of;
-      beside = λ e. out (subst (λ (x : Fact). Contains (groups_of index x) place) (same_inside f one (sym e ∙ is_one))
+      beside = λ e. out (subst (λ (x : Fact). Contains (groups_of index x) place) (same_Some f one (sym e ∙ is_one))
           ((indexed.groups f (there f of.among) place).1 of.has));
     })
 

@@ -1,6 +1,5 @@
 -- Different facts have different numbers.
-use Rattle.sas_groups.proofs.Imports.{◌≡◌, ℕ, zero, suc, ◌+◌, ◌*◌, ◌^◌, ◌<◌, ◌≤◌, List, [], ◌∷◌, length, ap, subst, inl, inr, arith, AllByRecursion, cases_lt, Fact, Parts, Variable, FactExists, range_of, WellRanged, VariableFits, fact_within, common_steps}
-use Rattle.sas_groups.specs.Index.{facts_below, number, AreFirstNumbers}
+use Rattle.sas_groups.proofs.Imports.{◌≡◌, ℕ, zero, suc, ◌+◌, ◌*◌, ◌^◌, ◌<◌, ◌≤◌, List, [], ◌∷◌, length, ap, subst, inl, inr, arith, AllByRecursion, cases_lt, Fact, Parts, Variable, FactExists, range_of, WellRanged, VariableFits, fact_within, common_steps, facts_below, number, AreFirstNumbers}
 
 -- a variable has fewer than 2^31 values
 range_low : (variables : List Variable) (var : ℕ) → AllByRecursion VariableFits variables → range_of variables var < 2 ^ 31

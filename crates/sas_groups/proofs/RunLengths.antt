@@ -1,6 +1,5 @@
 -- Splitting facts into runs, one by one.
-use Rattle.sas_groups.proofs.Imports.{◌≡◌, ℕ, ◌+◌, ◌<◌, ◌≤◌, length, get_or, take, drop, List, [], ◌∷◌, ◌++◌, sym, ap, subst, ◌∙◌, append_assoc, arith, All, take_more, take_all, take-append-drop, drop_all, length-append, take-append-le, drop-append-le, All-nil, All-cons, All-append, Fact, common_steps}
-use Rattle.sas_groups.specs.Runs.{AreOnOne, AreRuns}
+use Rattle.sas_groups.proofs.Imports.{◌≡◌, ℕ, ◌+◌, ◌<◌, ◌≤◌, length, get_or, take, drop, List, [], ◌∷◌, ◌++◌, sym, ap, subst, ◌∙◌, append_assoc, arith, All, take_more, take_all, take-append-drop, drop_all, length-append, take-append-le, drop-append-le, All-nil, All-cons, All-append, Fact, common_steps, AreOnOne, AreRuns}
 
 -- one fact more is on the variable
 pub on_more : (facts : List Fact) (var place : ℕ) (d : Fact) → place < length facts → All (λ (f : Fact). f.var ≡ var) (take place facts)

@@ -1,6 +1,5 @@
 -- What an answer tells.
-use Rattle.sas_groups.proofs.Imports.{Bool, true, false}
-use Rattle.sas_groups.specs.Checks.{Tells}
+use Rattle.sas_groups.proofs.Imports.{Bool, true, false, Tells}
 
 pub tells_yes : {Claim : Type 0} → Claim → Tells true Claim
 tells_yes is = record { yes = λ t. is; no = λ f. absurd cc }

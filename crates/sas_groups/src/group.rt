@@ -3,11 +3,9 @@ ghost use Rattle.std.specs.Prelude.{◌≡◌, ◌<◌, ◌↔◌, length, All, 
 ghost use Rattle.sas_core.specs.Variables.{FactExists};
 ghost use Rattle.sas_meaning.specs.States.{Holds};
 ghost use Rattle.sas_groups.specs.Groups.{IsExclusiveIn, IsInvariant};
-ghost use Rattle.sas_groups.specs.Families.{IsOnBasic};
-ghost use Rattle.sas_groups.specs.Families.{AllKeep};
+ghost use Rattle.sas_groups.specs.Families.{IsOnBasic, AllKeep};
 ghost use Rattle.sas_groups.specs.Verdicts.{IsVerdictAlone, IsFirstBreaking};
-ghost use Rattle.sas_groups.specs.Checks.{IsFirstVerdict};
-ghost use Rattle.sas_groups.specs.Checks.{Tells, Alone, IsOnlyOne};
+ghost use Rattle.sas_groups.specs.Checks.{IsFirstVerdict, Tells, Alone, IsOnlyOne};
 
 use crate::keeping::keeps;
 use crate::verdict::Verdict;

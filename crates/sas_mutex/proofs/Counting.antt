@@ -1,6 +1,5 @@
 -- The number of groups in the family after one is removed.
-use Rattle.sas_mutex.proofs.Imports.{◌≡◌, ℕ, ◌+◌, ◌≤◌, Bool, true, false, List, [], ◌∷◌, length, get_or, set, sym, zero, suc, arith, true≢false}
-use Rattle.sas_mutex.specs.Falling.{count}
+use Rattle.sas_mutex.proofs.Imports.{◌≡◌, ℕ, ◌+◌, ◌≤◌, Bool, true, false, List, [], ◌∷◌, length, get_or, set, sym, zero, suc, arith, true≢false, count}
 
 pub count_fell : (kept : List Bool) (place : ℕ) → get_or kept place false ≡ true → count (set kept place false) + 1 ≡ count kept
 count_fell [] place is = absurd (true≢false (sym is))

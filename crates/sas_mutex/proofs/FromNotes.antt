@@ -1,12 +1,6 @@
 -- What the notes of facts that don't clash imply for another fact.
-use Rattle.sas_mutex.proofs.Imports.{◌≡◌, ◌≢◌, ◌⊎◌, ℕ, ◌<◌, Bool, [], length, get_or, List, ◌∷◌, ◌++◌, None, Some, subst, refl, sym, ap, ◌∙◌, inl, inr, append-nil, All, Contains, cases_eq, get_or_default, Contains-append_left, Contains-append_right, Contains-append_cases, Contains-push, Contains-push_cases, Contains-get_or, Fact, Effect, Operator, Parts, effect_at, group_at, FactExists, EffectKeeps, AreGone}
-use Rattle.sas_mutex.proofs.Imports.{preconditions, Contradict, Clash, IsRemoved, IsIn, known, Index, Notes, IsGone, clash_more, group_of_larger, family_of, IsIndexOf, HasFact, groups_of, value_note, group_note, IsOfGroupBeside, HasOtherValue, HasNotedGroup, ShareKept, SharesApart, WellRanged, variable_below, a_note, apart_or_not, one_or_two, value_note_shows, no_value_note_shows, no_note_shows}
-use Rattle.sas_mutex.proofs.Imports.{some_note_shows, shared_turned}
-use Rattle.sas_mutex.specs.declared.marks.Marks.{Marks}
-use Rattle.sas_mutex.specs.Effects.{IsKept}
-use Rattle.sas_mutex.specs.Firing.{EffectPlace, operator_of, effect_of}
+use Rattle.sas_mutex.proofs.Imports.{◌≡◌, ◌≢◌, ◌⊎◌, ℕ, ◌<◌, Bool, [], length, get_or, List, ◌∷◌, ◌++◌, None, Some, subst, refl, sym, ap, ◌∙◌, inl, inr, append-nil, All, Contains, cases_eq, get_or_default, Contains-append_left, Contains-append_right, Contains-append_cases, Contains-push, Contains-push_cases, Contains-get_or, Fact, Effect, Operator, Parts, effect_at, group_at, FactExists, EffectKeeps, AreGone, Marks, IsKept, EffectPlace, operator_of, effect_of, IsNotedAt, ShareOne, AreKnown, IsMet, RemovesByNotes, SomeRemoves, IsNotedFor, known_at, preconditions, Contradict, Clash, IsRemoved, IsIn, known, Index, Notes, IsGone, clash_more, group_of_larger, family_of, IsIndexOf, HasFact, groups_of, value_note, group_note, IsOfGroupBeside, HasOtherValue, HasNotedGroup, ShareKept, SharesApart, WellRanged, variable_below, a_note, apart_or_not, one_or_two, value_note_shows, no_value_note_shows, no_note_shows, some_note_shows, shared_turned}
 use Rattle.sas_mutex.proofs.TaskFacts.{known_at_exist, conditions_exist}
-use Rattle.sas_mutex.specs.ByNotes.{IsNotedAt, ShareOne, AreKnown, IsMet, RemovesByNotes, SomeRemoves, IsNotedFor, known_at}
 use Rattle.sas_mutex.proofs.KnownFacts.{contradict_turned, not_itself, shares_contradicts, contradicts_shares, share_one, share_kept}
 
 -- the effect exists, and the index is that of its task

@@ -1,10 +1,6 @@
 -- Facts of a group that can't remain, run by run.
-use Rattle.sas_mutex.proofs.Imports.{◌≡◌, ℕ, ◌+◌, ◌<◌, ◌≤◌, length, get_or, take, drop, Bool, List, [], ◌∷◌, ◌++◌, Some, refl, sym, ap, subst, ◌∙◌, append-nil, inl, inr, arith, All, Contains, cases_eq, take-append-drop, drop_more, All-nil, All-append, All-contains, Contains-append_left, Contains-append_right, Contains-get_or, Fact, FactExists, Index, value_note, AreDistinct, AreOnOne, AreRuns}
-use Rattle.sas_mutex.proofs.Imports.{variable_below, a_note, value_note_shows}
+use Rattle.sas_mutex.proofs.Imports.{◌≡◌, ℕ, ◌+◌, ◌<◌, ◌≤◌, length, get_or, take, drop, Bool, List, [], ◌∷◌, ◌++◌, Some, refl, sym, ap, subst, ◌∙◌, append-nil, inl, inr, arith, All, Contains, cases_eq, take-append-drop, drop_more, All-nil, All-append, All-contains, Contains-append_left, Contains-append_right, Contains-get_or, Fact, FactExists, Index, value_note, AreDistinct, AreOnOne, AreRuns, IsNotedAt, IsUnknownAt, IsGoneAt, IsDecidedByFirst, known_at, Marks, EffectPlace, effect_of, variable_below, a_note, value_note_shows}
 use Rattle.std.proofs.Common.{append_assoc}
-use Rattle.sas_mutex.specs.ByNotes.{IsNotedAt, IsUnknownAt, IsGoneAt, IsDecidedByFirst, known_at}
-use Rattle.sas_mutex.specs.declared.marks.Marks.{Marks}
-use Rattle.sas_mutex.specs.Firing.{EffectPlace, effect_of}
 use Rattle.sas_mutex.proofs.FromNotes.{IsFiring, other_value_clashes}
 
 -- of the facts of a run that is settled none is known, so that what is noted for their variable is

@@ -1,20 +1,16 @@
--- What the proofs use of other crates.
-pub use Rattle.std.proofs.Common.{◌≡◌, ℕ, ◌+◌, ◌≤◌, Bool, true, false, List, [], ◌∷◌, length, get_or, set, sym, zero, suc, arith, ◌<◌, ◌++◌, drop}
-pub use Rattle.std.proofs.Common.{refl, ◌∙◌, ap, subst, inl, inr, append-nil, ◌≢◌, ◌⊎◌, None, Some, take, Option, IfSome, vec_capacity, ◌↔◌, IsTrue}
-pub use Rattle.std.proofs.Common.{◌^◌, ◌-◌, below_more, rules, IsFalse, replicate}
+-- What the proofs use of other crates, and of the definitions of this one.
+pub use Rattle.std.proofs.lemmas.Option.{same_Some}
+pub use Rattle.std.proofs.Common.{◌≡◌, ℕ, ◌+◌, ◌≤◌, Bool, true, false, List, [], ◌∷◌, length, get_or, set, sym, zero, suc, arith, ◌<◌, ◌++◌, drop, refl, ◌∙◌, ap, subst, inl, inr, append-nil, ◌≢◌, ◌⊎◌, None, Some, take, Option, IfSome, vec_capacity, ◌↔◌, IsTrue, ◌^◌, ◌-◌, below_more, rules, IsFalse, replicate}
 pub use Rattle.std.proofs.Math.ListN.{get_or-eq_default}
 pub use Rattle.std.proofs.Math.Seq.{get_or-append_seam}
 pub use Rattle.std.proofs.lemmas.Bool.{true≢false, cases_eq, cases_Bool, both_ways, cases_lt, and_parts}
 pub use Rattle.std.proofs.lemmas.Grind.{common_steps}
-pub use Rattle.std.proofs.lemmas.List.{append_assoc, drop_all, drop_at, length-append, length-set, get_or-set_same, get_or-set_other, get_or_default}
-pub use Rattle.std.proofs.lemmas.List.{take-append-drop, drop_more, length_push, length-map, get_or-map, get_or_past, get_or_push, get_or_append_left}
-pub use Rattle.std.proofs.lemmas.List.{set-set, set-get_or, get_or-append_right, length-replicate, get_or-replicate, take_more, take_all}
-pub use Rattle.std.proofs.lemmas.List.Elements.{All-nil, All-cons, All-append, All-from_get_or, Contains-append_left, Contains-append_right}
-pub use Rattle.std.proofs.lemmas.List.Elements.{Contains-push, Contains-push_cases, Contains-append_cases, Contains-get_or, All-contains}
-pub use Rattle.std.proofs.lemmas.List.Elements.{All-from_recursion, All-weaker, All-head, All-tail, All-get_or}
+pub use Rattle.std.proofs.lemmas.List.{append_assoc, drop_all, drop_at, length-append, length-set, get_or-set_same, get_or-set_other, get_or_default, take-append-drop, drop_more, length_push, length-map, get_or-map, get_or_past, get_or_push, get_or_append_left, set-set, set-get_or, get_or-append_right, length-replicate, get_or-replicate, take_more, take_all}
+pub use Rattle.std.proofs.lemmas.List.Elements.{All-nil, All-cons, All-append, All-from_get_or, Contains-append_left, Contains-append_right, Contains-push, Contains-push_cases, Contains-append_cases, Contains-get_or, All-contains, All-from_recursion, All-weaker, All-head, All-tail, All-get_or}
 pub use Rattle.std.specs.Global.{Vec}
 pub use Rattle.std.specs.List.{All, Contains, filter_map, cons_option}
 pub use Rattle.std.specs.Option.{option_to_list}
+pub use Rattle.sas_meaning.proofs.Members.{contains_none}
 pub use Rattle.sas_core.proofs.Places.{holds_at, each_more}
 pub use Rattle.sas_core.specs.Changes.{effect_change, plain_effect, plain_effects}
 pub use Rattle.sas_core.specs.Grounded.{operator_at, effect_at, group_at}
@@ -29,26 +25,21 @@ pub use Rattle.sas_groups.proofs.Effects.{set_is, keeps_from_effects, effect_of_
 pub use Rattle.sas_groups.proofs.Entering.{group_fact_exists}
 pub use Rattle.sas_groups.proofs.Existing.{variable_below, groups_below}
 pub use Rattle.sas_groups.proofs.GreatestFamily.{group_of_larger, keeps_more, clash_more, outside_is_broken}
-pub use Rattle.sas_groups.proofs.InLists.{in_none, is_among, in_flat, given_is}
+pub use Rattle.sas_groups.proofs.InLists.{is_among, in_flat, given_is}
 pub use Rattle.sas_groups.proofs.JointLists.{listed_invariants}
-pub use Rattle.sas_groups.proofs.NotesOfFacts.{a_note, apart_or_not, one_or_two, value_note_shows, no_value_note_shows, no_note_shows}
-pub use Rattle.sas_groups.proofs.NotesOfFacts.{some_note_shows, shared_turned, none_or_some, same_inside, value_note_of, note_stays, note_changes}
-pub use Rattle.sas_groups.proofs.NotesOfFacts.{other_known, no_other, from_apart, noted_still, at_most_one, one_note_shows, completed, noted_less}
-pub use Rattle.sas_groups.proofs.NotesOfFacts.{forgotten_now, forgotten_still, blank_in_the_end, blank_same}
+pub use Rattle.sas_groups.proofs.NotesOfFacts.{a_note, apart_or_not, one_or_two, value_note_shows, no_value_note_shows, no_note_shows, some_note_shows, shared_turned, none_or_some, value_note_of, note_stays, note_changes, other_known, no_other, from_apart, noted_still, at_most_one, one_note_shows, completed, noted_less, forgotten_now, forgotten_still, blank_in_the_end, blank_same}
 pub use Rattle.sas_groups.proofs.Telling.{tells_yes, tells_no, tells_other}
 pub use Rattle.sas_groups.proofs.Turns.{Turns, turns_begin, turn_has, turn_more, turns_end}
-pub use Rattle.sas_groups.specs.Checks.{Tells, IsGone, IsFirstVerdict, NotBoth, AreGone, EffectKeeps}
+pub use Rattle.sas_groups.specs.Checks.{IsGone, IsFirstVerdict, NotBoth, AreGone, EffectKeeps}
 pub use Rattle.sas_groups.specs.Clashes.{Keeps, Clash, sets, Contradict, IsRemoved}
-pub use Rattle.sas_groups.specs.Distinct.{AreDistinct, facts_at}
+pub use Rattle.sas_groups.specs.Distinct.{AreDistinct}
 pub use Rattle.sas_groups.specs.Families.{IsIn, IsGroupOf, IsGroupOfOr, IsKeptJointly, IsGreatest, MayBeExclusive}
 pub use Rattle.sas_groups.specs.Index.{IsIndexOf, HasFact, groups_of}
 pub use Rattle.sas_groups.specs.Joint.{verdict_at, AreJointVerdicts, AreInvariants}
 pub use Rattle.sas_groups.specs.Kept.{family_of}
 pub use Rattle.sas_groups.specs.Lists.{known, known_left, known_on}
-pub use Rattle.sas_groups.specs.Notes.{value_note, group_note, IsOfGroupBeside, IsWide, AreBlank, AreFrom, IsValueNote, IsOfGroup, IsNoteOf}
-pub use Rattle.sas_groups.specs.Notes.{IsGroupNote}
-pub use Rattle.sas_groups.specs.Noting.{HasOtherValue, HasNotedGroup, ShareKept, SharesApart, NotesForGroup, IsContradicted, ChangesAt, IsThere}
-pub use Rattle.sas_groups.specs.Noting.{NotesFirstFact, IsSetApart, AreBelow, IsForgotten}
+pub use Rattle.sas_groups.specs.Notes.{value_note, group_note, IsOfGroupBeside, IsWide, AreBlank, AreFrom, IsValueNote, IsOfGroup, IsNoteOf, IsGroupNote}
+pub use Rattle.sas_groups.specs.Noting.{HasOtherValue, HasNotedGroup, ShareKept, SharesApart, NotesForGroup, IsContradicted, ChangesAt, IsThere, NotesFirstFact, IsSetApart, AreBelow, IsForgotten}
 pub use Rattle.sas_groups.specs.Runs.{AreOnOne, AreRuns}
 pub use Rattle.sas_groups.specs.Verdicts.{IsJointVerdict}
 pub use Rattle.sas_groups.specs.declared.index.Index.{Index}
@@ -57,5 +48,17 @@ pub use Rattle.sas_groups.specs.declared.notes.Noted.TheVariants.{Nothing, One, 
 pub use Rattle.sas_groups.specs.declared.notes.Notes.{Notes}
 pub use Rattle.sas_groups.specs.declared.verdict.Verdict.{Verdict}
 pub use Rattle.sas_groups.specs.declared.verdict.Verdict.TheVariants.{Derived, Initial, Broken, Exclusive}
-pub use Rattle.sas_meaning.proofs.Forced.{fact_within}
 pub use Rattle.sas_meaning.specs.Steps.{preconditions, old_fact}
+pub use Rattle.sas_mutex.specs.Basis.{Grows, HasGrown, IsBasis, IsOfNone, SetsNone}
+pub use Rattle.sas_mutex.specs.ByNotes.{IsNotedAt, ShareOne, AreKnown, IsMet, RemovesByNotes, SomeRemoves, IsNotedFor, known_at, IsUnknownAt, IsGoneAt, IsDecidedByFirst, NeverFires, HasNoPartnerAt, NotBothAt, SetsBeside, IsApartAt, IsSingleOn, IsSingleOnFirst, IsUnknown, ClashesAt, SetsOtherValue, EffectKeepsGroupWithItself, EffectKeepsGroup}
+pub use Rattle.sas_mutex.specs.Effects.{IsKept, KeepsAt, KeepsWithItself, IsUnconditional}
+pub use Rattle.sas_mutex.specs.Falling.{count, IsAtRest, AreCandidates, newly, Falls, FamilyHasRoom, RestsOn, IsWithin}
+pub use Rattle.sas_mutex.specs.Firing.{EffectPlace, operator_of, effect_of}
+pub use Rattle.sas_mutex.specs.Judging.{AreFirstVerdicts, IsUndecided, KeptSoFar, IsVerdictSoFar, AreVerdictsSoFar}
+pub use Rattle.sas_mutex.specs.Looking.{ForPairs, Looked, IsPair, IsOfEffect, IsOfOperator, IsOfAlike, IsOfUnconditional}
+pub use Rattle.sas_mutex.specs.Marks.{IsNotedFrom, IsClean}
+pub use Rattle.sas_mutex.specs.Watching.{watch_at, IsLastBelow, AreChained, AreMore, WatchesMore, HasWatchFrom, since_of, IsWatchOf, RestsBy, IsOver, IsUnwatched, IsUnwatchedBehind, AreFallen, AreUnwatched, AreWatched, IsWatchedAnew, FallenAreUnwatched, StayUnwatched, AreLooseAtRest, IsReady}
+pub use Rattle.sas_mutex.specs.declared.family.Family.{Family}
+pub use Rattle.sas_mutex.specs.declared.marks.Marks.{Marks}
+pub use Rattle.sas_mutex.specs.declared.watches.Watch.{Watch}
+pub use Rattle.sas_mutex.specs.declared.watches.Watches.{Watches}

@@ -1,6 +1,5 @@
 -- The verdicts before operators are checked.
-use Rattle.sas_mutex.proofs.Imports.{◌≢◌, ℕ, ◌<◌, List, refl, sym, subst, All, Parts, group_at, Verdict, Derived, Initial, Broken, Exclusive, IsFirstVerdict, IsJointVerdict, verdict_at, AreJointVerdicts}
-use Rattle.sas_mutex.specs.Judging.{AreFirstVerdicts}
+use Rattle.sas_mutex.proofs.Imports.{◌≢◌, ℕ, ◌<◌, List, refl, sym, subst, All, Parts, group_at, Verdict, Derived, Initial, Broken, Exclusive, IsFirstVerdict, IsJointVerdict, verdict_at, AreJointVerdicts, AreFirstVerdicts}
 
 -- where no group may be exclusive, the verdicts before operators are checked are the joint ones
 pub decided_at_first : (p : Parts) (verdicts : List Verdict) → AreFirstVerdicts p verdicts

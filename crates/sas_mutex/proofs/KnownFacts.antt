@@ -1,9 +1,5 @@
 -- Which facts are known according to the notes, and that they don't clash.
-use Rattle.sas_mutex.proofs.Imports.{◌≡◌, ◌≢◌, ◌⊎◌, ℕ, ◌<◌, Bool, [], length, get_or, List, ◌∷◌, ◌++◌, Option, None, Some, subst, refl, sym, ap, ◌∙◌, inl, inr, arith, All, Contains, option_to_list, IfSome, cases_eq, get_or_default, get_or-set_same, get_or-set_other, All-contains, Contains-append_left, Contains-push, Contains-push_cases, Fact, Parts, group_at, FactExists, Contradict, Clash, Index}
-use Rattle.sas_mutex.proofs.Imports.{Notes, Noted, Nothing, One, Several, IsIndexOf, HasFact, groups_of, value_note, group_note, IsWide, AreBlank, AreFrom, IsValueNote, IsOfGroup, IsOfGroupBeside, IsNoteOf, IsGroupNote, NotesForGroup, ShareKept, IsContradicted, ChangesAt, IsThere, NotesFirstFact, IsSetApart, in_none, is_among, variable_below, none_or_some, same_inside, apart_or_not}
-use Rattle.sas_mutex.proofs.Imports.{value_note_shows, no_value_note_shows, value_note_of, note_stays, note_changes, other_known, no_other, from_apart, noted_still}
-use Rattle.sas_mutex.specs.Effects.{IsKept}
-use Rattle.sas_mutex.specs.ByNotes.{ShareOne, AreKnown}
+use Rattle.sas_mutex.proofs.Imports.{◌≡◌, ◌≢◌, ◌⊎◌, ℕ, ◌<◌, Bool, [], length, get_or, List, ◌∷◌, ◌++◌, Option, None, Some, subst, refl, sym, ap, ◌∙◌, inl, inr, arith, All, Contains, option_to_list, IfSome, cases_eq, get_or_default, get_or-set_same, get_or-set_other, All-contains, Contains-append_left, Contains-push, Contains-push_cases, Fact, Parts, group_at, FactExists, Contradict, Clash, Index, same_Some, contains_none, IsKept, ShareOne, AreKnown, Notes, Noted, Nothing, One, Several, IsIndexOf, HasFact, groups_of, value_note, group_note, IsWide, AreBlank, AreFrom, IsValueNote, IsOfGroup, IsOfGroupBeside, IsNoteOf, IsGroupNote, NotesForGroup, ShareKept, IsContradicted, ChangesAt, IsThere, NotesFirstFact, IsSetApart, is_among, variable_below, none_or_some, apart_or_not, value_note_shows, no_value_note_shows, value_note_of, note_stays, note_changes, other_known, no_other, from_apart, noted_still}
 
 -- where several are, they clash if the group counts
 pub several_clash : (p : Parts) (Counts : List Fact → Type 0) (facts : List Fact) (place : ℕ) → Counts (group_at p place)
@@ -114,19 +110,19 @@ module _ (p : Parts) (kept : List Bool) (old new : Notes) (blank : AreBlank p ol
     noted = record {
       values = λ var lt. value_note_of [] var (value_note new.values var)
           (λ value at. absurd (none_or_some value (value_note new.values var) (ap (λ vs. value_note vs var) is_set.values ∙ blank.values var lt) at))
-          (λ none f within. absurd (in_none f within));
+          (λ none f within. absurd (contains_none f within));
       groups = λ place lt. subst (IsNoteOf (IsOfGroupBeside p [] new.apart place)) (sym (ap (λ gs. group_note gs place) is_set.same_groups ∙ blank.groups place lt))
-          (λ f beside. in_none f beside.of.among);
+          (λ f beside. contains_none f beside.of.among);
       one_apart = λ f e. absurd (none_or_some f new.apart is_set.now e);
     };
-    apart = λ clash. in_none clash.0 clash.2;
+    apart = λ clash. contains_none clash.0 clash.2;
   }
   known_apart (Some one) is_set exists = record {
     noted = record {
       values = λ var lt. elim (cases_eq var one.var) [
         | inl e ↦ subst (λ v. IsValueNote (one ∷ []) v (value_note new.values v)) (sym e)
             (value_note_of (one ∷ []) one.var (value_note new.values one.var)
-            (λ value at. subst (λ v. Contains (one ∷ []) (record { var = one.var; value = v })) (same_inside one.value value (sym here ∙ at)) its)
+            (λ value at. subst (λ v. Contains (one ∷ []) (record { var = one.var; value = v })) (same_Some one.value value (sym here ∙ at)) its)
             (λ none. absurd (none_or_some one.value (value_note new.values one.var) none here)))
         | inr ne ↦ value_note_of (one ∷ []) var (value_note new.values var)
             (λ value at. absurd (none_or_some value (value_note new.values var) (elsewhere var ne lt) at))
@@ -134,7 +130,7 @@ module _ (p : Parts) (kept : List Bool) (old new : Notes) (blank : AreBlank p ol
       ];
       groups = λ place lt. subst (IsNoteOf (IsOfGroupBeside p (one ∷ []) new.apart place)) (sym (ap (λ gs. group_note gs place) is_set.same_groups ∙ blank.groups place lt))
           (λ f beside. beside.beside (is_set.now ∙ ap (λ x. Some x) (sym (only f beside.of.among))));
-      one_apart = λ f e. subst (λ (x : Fact). Contains (one ∷ []) x) (same_inside one f (sym is_set.now ∙ e)) its;
+      one_apart = λ f e. subst (λ (x : Fact). Contains (one ∷ []) x) (same_Some one f (sym is_set.now ∙ e)) its;
     };
     apart = λ clash. not_itself (IsKept p kept) one (subst (λ (x : Fact). Contradict (IsKept p kept) x one) (only clash.0 clash.2)
         (subst (λ (x : Fact). Contradict (IsKept p kept) clash.0 x) (only clash.1 clash.3) clash.4));
@@ -145,7 +141,7 @@ module _ (p : Parts) (kept : List Bool) (old new : Notes) (blank : AreBlank p ol
 
       only : (f : Fact) → Contains (one ∷ []) f → f ≡ one
       only f within = elim (Contains-push_cases [] one f within) [
-        | inl none ↦ absurd (in_none f none)
+        | inl none ↦ absurd (contains_none f none)
         | inr e ↦ sym e
       ]
 
@@ -260,7 +256,7 @@ module _ (p : Parts) (index : Index) (kept : List Bool) (before : List Fact) (ol
     values_noted var lt = elim (cases_eq var fact.var) [
       | inl e ↦ subst (λ v. IsValueNote (before ++ fact ∷ []) v (value_note new.values v)) (sym e)
           (value_note_of (before ++ fact ∷ []) fact.var (value_note new.values fact.var)
-          (λ value at. subst (λ v. Contains (before ++ fact ∷ []) (record { var = fact.var; value = v })) (same_inside fact.value value (sym value_here ∙ at)) (Contains-push before fact))
+          (λ value at. subst (λ v. Contains (before ++ fact ∷ []) (record { var = fact.var; value = v })) (same_Some fact.value value (sym value_here ∙ at)) (Contains-push before fact))
           (λ none. absurd (none_or_some fact.value (value_note new.values fact.var) none value_here)))
       | inr ne ↦ value_note_of (before ++ fact ∷ []) var (value_note new.values var)
           (λ value at. Contains-append_left before (fact ∷ []) (record { var = var; value = value })
@@ -362,22 +358,22 @@ module _ {p : Parts} {kept : List Bool} {all : List Fact} (exist : All (FactExis
   none_so_far apart {old} {new} chosen blank is_set = record {
     seen = option_to_list apart;
     within = λ f within. among f (one_of apart f within);
-    covers = λ f within. absurd (in_none f within);
+    covers = λ f within. absurd (contains_none f within);
     known = known_apart p kept old new blank apart is_set (λ f e. exists_of p all exist f (among f e));
     from = from_apart p old new blank apart all is_set among;
   }
     where
       chosen_among : (apart : Option Fact) → IfSome apart (Contains all) → (f : Fact) → apart ≡ Some f → Contains all f
       chosen_among None chosen f e = absurd cc
-      chosen_among (Some one) chosen f e = subst (λ (x : Fact). Contains all x) (same_inside one f e) chosen
+      chosen_among (Some one) chosen f e = subst (λ (x : Fact). Contains all x) (same_Some one f e) chosen
 
       among : (f : Fact) → apart ≡ Some f → Contains all f
       among = chosen_among apart chosen
 
       one_of : (apart : Option Fact) (f : Fact) → Contains (option_to_list apart) f → apart ≡ Some f
-      one_of None f within = absurd (in_none f within)
+      one_of None f within = absurd (contains_none f within)
       one_of (Some one) f within = elim (Contains-push_cases [] one f within) [
-        | inl none ↦ absurd (in_none f none)
+        | inl none ↦ absurd (contains_none f none)
         | inr e ↦ ap (λ x. Some x) e
       ]
 

@@ -1,14 +1,5 @@
 -- Checks of effects, one after another.
-use Rattle.sas_mutex.proofs.Imports.{◌≡◌, ◌⊎◌, ◌<◌, ◌≤◌, ℕ, Bool, true, false, List, [], ◌∷◌, ◌++◌, length, get_or, set, arith, ap, subst, sym, ◌∙◌, inl, inr, All-contains, vec_capacity, both_ways, get_or_default, get_or-set_same, length-set, length_push, All, Contains, Fact, Parts, operator_at, effect_at, group_at, Clash, sets, known, HasFact, IsIn, family_of}
-use Rattle.sas_mutex.specs.declared.family.Family.{Family}
-use Rattle.sas_mutex.specs.declared.marks.Marks.{Marks}
-use Rattle.sas_mutex.specs.Effects.{IsKept, KeepsAt, KeepsWithItself, IsUnconditional}
-use Rattle.sas_mutex.specs.Firing.{EffectPlace}
-use Rattle.sas_mutex.specs.Marks.{IsNotedFrom}
-use Rattle.sas_mutex.specs.ByNotes.{AreKnown, IsNotedFor, NeverFires, known_at}
-use Rattle.sas_mutex.specs.Basis.{HasGrown}
-use Rattle.sas_mutex.specs.Falling.{FamilyHasRoom, RestsOn, count}
-use Rattle.sas_mutex.specs.Looking.{ForPairs, Looked, IsPair, IsOfEffect, IsOfOperator, IsOfAlike}
+use Rattle.sas_mutex.proofs.Imports.{◌≡◌, ◌⊎◌, ◌<◌, ◌≤◌, ℕ, Bool, true, false, List, [], ◌∷◌, ◌++◌, length, get_or, set, arith, ap, subst, sym, ◌∙◌, inl, inr, All-contains, vec_capacity, both_ways, get_or_default, get_or-set_same, length-set, length_push, All, Contains, Fact, Parts, operator_at, effect_at, group_at, Clash, sets, known, HasFact, IsIn, family_of, Family, Marks, IsKept, KeepsAt, KeepsWithItself, IsUnconditional, EffectPlace, IsNotedFrom, AreKnown, IsNotedFor, NeverFires, known_at, HasGrown, FamilyHasRoom, RestsOn, count, ForPairs, Looked, IsPair, IsOfEffect, IsOfOperator, IsOfAlike}
 use Rattle.sas_mutex.proofs.Counting.{count_fell}
 use Rattle.sas_mutex.proofs.FallingGroups.{falls_then, one_fell, never_jointly, none_first, none_then, keeps_still, basis_keeps, basis_grows}
 use Rattle.sas_mutex.proofs.Supporting.{grown_falls, grown_room, same_grown}

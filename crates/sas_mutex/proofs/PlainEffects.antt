@@ -1,9 +1,5 @@
 -- Effects without conditions, in terms of their changes.
-use Rattle.sas_mutex.proofs.Imports.{◌≡◌, ℕ, ◌<◌, Bool, List, [], length, get_or, None, sym, ◌∙◌, ap, subst, length-map, get_or-map, Contains, Change, Fact, Effect, Operator, effect_change, plain_effect, plain_effects, effect_at, FactExists, WellRanged, Clash, sets, known, Index, IsIndexOf, groups_of}
-use Rattle.sas_mutex.specs.declared.marks.Marks.{Marks}
-use Rattle.sas_mutex.specs.Effects.{IsKept}
-use Rattle.sas_mutex.specs.Firing.{EffectPlace, operator_of, effect_of}
-use Rattle.sas_mutex.specs.ByNotes.{IsNotedAt, HasNoPartnerAt, NotBothAt, SetsBeside}
+use Rattle.sas_mutex.proofs.Imports.{◌≡◌, ℕ, ◌<◌, Bool, List, [], length, get_or, None, sym, ◌∙◌, ap, subst, length-map, get_or-map, Contains, Change, Fact, Effect, Operator, effect_change, plain_effect, plain_effects, effect_at, FactExists, WellRanged, Clash, sets, known, Index, IsIndexOf, groups_of, Marks, IsKept, EffectPlace, operator_of, effect_of, IsNotedAt, HasNoPartnerAt, NotBothAt, SetsBeside}
 use Rattle.sas_mutex.proofs.TaskFacts.{effect_fits}
 
 abbrev no_effect : Effect

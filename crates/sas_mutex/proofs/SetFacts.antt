@@ -1,6 +1,6 @@
 -- The facts that effects set exist, so the index contains their groups. The facts of groups exist,
 -- too.
-use Rattle.sas_mutex.proofs.Imports.{◌≡◌, ℕ, ◌<◌, List, [], length, get_or, None, sym, ◌∙◌, ap, subst, All, Contains, ◌↔◌, get_or_default, All-from_recursion, All-weaker, Change, Fact, Parts, operator_at, effect_at, group_at, effect_change, FactExists, WellRanged, Listed, OperatorFits, EffectFits, holds_at, fact_within, sets, Index, IsIndexOf, HasFact, groups_of}
+use Rattle.sas_mutex.proofs.Imports.{◌≡◌, ℕ, ◌<◌, List, [], length, get_or, None, sym, ◌∙◌, ap, subst, Contains, ◌↔◌, get_or_default, Change, Parts, operator_at, effect_at, effect_change, FactExists, WellRanged, OperatorFits, EffectFits, holds_at, sets, Index, IsIndexOf, HasFact, groups_of}
 
 module _ (p : Parts) (ranged : WellRanged p) where
   pub set_exists : (operator effect : ℕ) → operator < length p.operators → effect < length (operator_at p operator).effects

@@ -1,8 +1,5 @@
 -- Growing the basis and emptying it.
-use Rattle.sas_mutex.proofs.Imports.{◌≡◌, ℕ, ◌+◌, ◌<◌, ◌≤◌, Bool, true, false, List, [], length, set, refl, sym, ◌∙◌, ap, subst, inl, inr, vec_capacity, Vec, cases_eq, cases_lt, true≢false, get_or-set_same, get_or-set_other, get_or_past, All-nil, All, Parts, family_of}
-use Rattle.sas_mutex.specs.declared.family.Family.{Family}
-use Rattle.sas_mutex.specs.Basis.{IsBasis, IsOfNone, HasGrown}
-use Rattle.sas_mutex.specs.Falling.{count, Falls, FamilyHasRoom}
+use Rattle.sas_mutex.proofs.Imports.{◌≡◌, ℕ, ◌+◌, ◌<◌, ◌≤◌, Bool, true, false, List, [], length, set, refl, sym, ◌∙◌, ap, subst, inl, inr, vec_capacity, Vec, cases_eq, cases_lt, true≢false, get_or-set_same, get_or-set_other, get_or_past, All-nil, All, Parts, family_of, Family, IsBasis, IsOfNone, HasGrown, count, Falls, FamilyHasRoom}
 use Rattle.sas_mutex.proofs.FallingGroups.{none_fell}
 
 -- a place at which a list is true is one of its places

@@ -1,11 +1,5 @@
 -- The verdicts after each effect and each operator.
-use Rattle.sas_mutex.proofs.Imports.{below_more, ◌≡◌, ◌≢◌, ℕ, ◌+◌, ◌<◌, Bool, true, false, List, [], ◌∷◌, ◌++◌, length, set, refl, sym, ◌∙◌, ap, subst, inl, inr, arith, cases_eq, cases_Bool, both_ways, length_push, get_or_push, get_or_append_left, length-set, get_or-set_same, get_or-set_other, set-set, set-get_or, All-from_get_or, Contains, ◌↔◌, IsTrue, Fact, Operator, Parts, operator_at, effect_at, group_at, EffectKeeps, keeps_from_effects, effect_of_keeps}
-use Rattle.sas_mutex.proofs.Imports.{Verdict, Exclusive, Derived, Initial, Broken, Clash, Keeps, sets, MayBeExclusive, IsIn, IsGroupOfOr, IsGreatest, IsJointVerdict, IsFirstVerdict, outside_is_broken, clash_more, Noted, Several, family_of, HasFact, verdict_at, AreJointVerdicts, IsGroupNote, at_most_one}
-use Rattle.sas_mutex.specs.declared.marks.Marks.{Marks}
-use Rattle.sas_mutex.specs.Effects.{IsKept, KeepsWithItself}
-use Rattle.sas_mutex.specs.Falling.{AreCandidates}
-use Rattle.sas_mutex.specs.Judging.{AreFirstVerdicts, IsUndecided, KeptSoFar, IsVerdictSoFar, AreVerdictsSoFar}
-use Rattle.sas_mutex.specs.ByNotes.{IsNotedFor, known_at}
+use Rattle.sas_mutex.proofs.Imports.{below_more, ◌≡◌, ◌≢◌, ℕ, ◌+◌, ◌<◌, Bool, true, false, List, [], ◌∷◌, ◌++◌, length, set, refl, sym, ◌∙◌, ap, subst, inl, inr, arith, cases_eq, cases_Bool, both_ways, length_push, get_or_push, get_or_append_left, length-set, get_or-set_same, get_or-set_other, set-set, set-get_or, All-from_get_or, Contains, ◌↔◌, IsTrue, Fact, Operator, Parts, operator_at, effect_at, group_at, EffectKeeps, keeps_from_effects, effect_of_keeps, Marks, IsKept, KeepsWithItself, AreCandidates, AreFirstVerdicts, IsUndecided, KeptSoFar, IsVerdictSoFar, AreVerdictsSoFar, IsNotedFor, known_at, Verdict, Exclusive, Derived, Initial, Broken, Clash, Keeps, sets, MayBeExclusive, IsIn, IsGroupOfOr, IsGreatest, IsJointVerdict, IsFirstVerdict, outside_is_broken, clash_more, Noted, Several, family_of, HasFact, verdict_at, AreJointVerdicts, IsGroupNote, at_most_one}
 use Rattle.sas_mutex.proofs.Keeping.{effect_keeps_more}
 use Rattle.sas_mutex.proofs.KnownFacts.{several_clash}
 use Rattle.sas_mutex.proofs.FromNotes.{clash_keeps}

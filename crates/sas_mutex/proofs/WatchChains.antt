@@ -1,8 +1,5 @@
 -- The watches of a group as a linked list, as more watches are added.
-use Rattle.sas_mutex.proofs.Imports.{◌≡◌, ◌≢◌, ℕ, ◌<◌, ◌≤◌, ◌^◌, Bool, true, List, [], ◌∷◌, ◌++◌, length, get_or, set, Option, Some, None, refl, sym, ◌∙◌, ap, subst, inl, inr, arith, cases_eq, cases_lt, length-set, length-append, length_push, get_or-set_same, get_or-set_other, get_or_append_left, append_assoc, All-nil, All-cons, All-append, get_or-append_seam, family_of}
-use Rattle.sas_mutex.specs.declared.watches.Watch.{Watch}
-use Rattle.sas_mutex.specs.declared.watches.Watches.{Watches}
-use Rattle.sas_mutex.specs.Watching.{watch_at, IsLastBelow, AreChained, AreMore, WatchesMore, HasWatchFrom}
+use Rattle.sas_mutex.proofs.Imports.{◌≡◌, ◌≢◌, ℕ, ◌<◌, ◌≤◌, ◌^◌, Bool, true, List, [], ◌∷◌, ◌++◌, length, get_or, set, Option, Some, None, refl, sym, ◌∙◌, ap, subst, inl, inr, arith, cases_eq, cases_lt, length-set, length-append, length_push, get_or-set_same, get_or-set_other, get_or_append_left, append_assoc, All-nil, All-cons, All-append, get_or-append_seam, family_of, Watch, Watches, watch_at, IsLastBelow, AreChained, AreMore, WatchesMore, HasWatchFrom}
 
 -- a watch stays where it is
 pub watch_still : (made more : List Watch) (place : ℕ) → place < length made → watch_at (made ++ more) place ≡ watch_at made place

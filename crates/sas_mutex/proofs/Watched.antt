@@ -1,11 +1,5 @@
 -- Which groups operators depend on, as operators are checked and groups are removed.
-use Rattle.sas_mutex.proofs.Imports.{◌≡◌, ◌≢◌, ◌⊎◌, ℕ, ◌-◌, ◌<◌, ◌≤◌, ◌^◌, Bool, true, List, [], ◌++◌, length, get_or, set, Option, Some, None, refl, sym, ◌∙◌, ap, subst, inl, inr, arith, cases_eq, cases_lt, cases_Bool, length-set, length-append, get_or-set_same, get_or-set_other, get_or-append_right, get_or_append_left, get_or_default, All-nil, All-append, All-weaker, All-contains}
-use Rattle.sas_mutex.proofs.Imports.{Contains-append_left, Contains-append_right, Contains-append_cases, Contains-get_or, All, Contains, Parts, IsIn, family_of}
-use Rattle.sas_mutex.specs.declared.family.Family.{Family}
-use Rattle.sas_mutex.specs.declared.watches.Watch.{Watch}
-use Rattle.sas_mutex.specs.declared.watches.Watches.{Watches}
-use Rattle.sas_mutex.specs.Falling.{Falls, newly, IsWithin, IsAtRest, RestsOn}
-use Rattle.sas_mutex.specs.Watching.{watch_at, since_of, IsLastBelow, AreChained, IsWatchOf, HasWatchFrom, RestsBy, IsOver, IsUnwatched, IsUnwatchedBehind, AreFallen, AreUnwatched, AreWatched, AreMore, IsWatchedAnew, FallenAreUnwatched, StayUnwatched, AreLooseAtRest}
+use Rattle.sas_mutex.proofs.Imports.{◌≡◌, ◌≢◌, ◌⊎◌, ℕ, ◌-◌, ◌<◌, ◌≤◌, ◌^◌, Bool, true, List, [], ◌++◌, length, get_or, set, Option, Some, None, refl, sym, ◌∙◌, ap, subst, inl, inr, arith, cases_eq, cases_lt, cases_Bool, length-set, length-append, get_or-set_same, get_or-set_other, get_or-append_right, get_or_append_left, get_or_default, All-nil, All-append, All-weaker, All-contains, Family, Watch, Watches, Falls, newly, IsWithin, IsAtRest, RestsOn, watch_at, since_of, IsLastBelow, AreChained, IsWatchOf, HasWatchFrom, RestsBy, IsOver, IsUnwatched, IsUnwatchedBehind, AreFallen, AreUnwatched, AreWatched, AreMore, IsWatchedAnew, FallenAreUnwatched, StayUnwatched, AreLooseAtRest, Contains-append_left, Contains-append_right, Contains-append_cases, Contains-get_or, All, Contains, Parts, IsIn, family_of}
 use Rattle.sas_mutex.proofs.FallingGroups.{fallen_exist}
 use Rattle.sas_mutex.proofs.Supporting.{kept_below}
 use Rattle.sas_mutex.proofs.WatchChains.{watch_still}

@@ -16,10 +16,8 @@ ghost use Rattle.sas_groups.specs.Noting.{AreBelow, IsReadable};
 ghost use Rattle.sas_mutex.specs.ByNotes.{IsMet, SomeRemoves, RemovesByNotes, known_at};
 ghost use Rattle.sas_mutex.specs.ByNotes.{IsNotedAt, EffectKeepsGroup, EffectKeepsGroupWithItself, BothClashAt, NotBothAt};
 ghost use Rattle.sas_mutex.specs.ByNotes.{ClashesAt, SomeClashesAt, SharesBesideAt};
-ghost use Rattle.sas_mutex.specs.ByNotes.{HasNoPartnerAt, IsApartAt, IsSingleOn, IsOnVariableBefore};
-ghost use Rattle.sas_mutex.specs.ByNotes.{SetsBeside, SomeOther, SetsOtherValue};
-ghost use Rattle.sas_mutex.specs.ByNotes.{IsGoneAt, AreGoneAt, IsUnknownAt, IsDecidedByFirst};
-ghost use Rattle.sas_mutex.specs.ByNotes.{NeverFires};
+ghost use Rattle.sas_mutex.specs.ByNotes.{HasNoPartnerAt, IsApartAt, IsSingleOn, IsOnVariableBefore, SetsBeside, SomeOther, SetsOtherValue};
+ghost use Rattle.sas_mutex.specs.ByNotes.{IsGoneAt, AreGoneAt, IsUnknownAt, IsDecidedByFirst, NeverFires};
 ghost use Rattle.sas_mutex.specs.Basis.{SetsNone};
 ghost use Rattle.sas_mutex.specs.Marks.{IsClean, IsNotedFrom};
 

@@ -1,6 +1,5 @@
 -- The list contains the entries of the facts so far.
-use Rattle.sas_groups.proofs.Imports.{◌≡◌, ◌++◌, take}
-use Rattle.sas_groups.specs.Index.{entries_of}
+use Rattle.sas_groups.proofs.Imports.{◌≡◌, ◌++◌, take, entries_of}
 use Rattle.sas_groups.proofs.by_fact.enter_facts.Given as goal
 
 abbrev pub invariant-loop-fact : goal.invariant-loop-fact

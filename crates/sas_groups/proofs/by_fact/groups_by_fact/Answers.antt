@@ -1,8 +1,6 @@
 -- Each iteration adds a group. The numbers of facts, which are the keys, are below the number of
 -- facts.
-use Rattle.sas_groups.proofs.Imports.{◌≡◌, ◌++◌, List, length, sym, ap, subst, ◌∙◌, arith, IfOk-weaker, Fact, by_key, common_steps}
-use Rattle.sas_groups.specs.Distinct.{facts_at}
-use Rattle.sas_groups.specs.Index.{facts_below, entries_of, AreByFact}
+use Rattle.sas_groups.proofs.Imports.{◌≡◌, ◌++◌, List, length, sym, ap, subst, ◌∙◌, arith, IfOk-weaker, Fact, by_key, common_steps, facts_at, facts_below, entries_of, AreByFact}
 use Rattle.sas_groups.proofs.Entering.{EnteredUpTo, group_numbered, group_facts_exist, group_has, entered_more, entered_low, entered_by_fact}
 use Rattle.sas_groups.proofs.by_fact.groups_by_fact.Goals as goal
 

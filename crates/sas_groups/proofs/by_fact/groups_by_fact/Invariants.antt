@@ -1,5 +1,5 @@
 -- The list contains the entries of the groups so far.
-use Rattle.sas_groups.specs.Distinct.{facts_at}
+use Rattle.sas_groups.proofs.Imports.{facts_at}
 use Rattle.sas_groups.proofs.Entering.{EnteredUpTo}
 use Rattle.sas_groups.proofs.by_fact.groups_by_fact.Given as goal
 

@@ -1,6 +1,5 @@
 -- One more operator is processed. In the end all large operators have entries.
-use Rattle.sas_groups.proofs.Imports.{◌≡◌, length, sym, ap, subst, ◌∙◌, arith, IfOk-weaker, by_key, length-table}
-use Rattle.sas_groups.specs.ByVariable.{AreByVariable}
+use Rattle.sas_groups.proofs.Imports.{◌≡◌, length, sym, ap, subst, ◌∙◌, arith, IfOk-weaker, by_key, length-table, AreByVariable}
 use Rattle.sas_groups.proofs.ByVariable.{AreLargeEntered, large_entered, small_passed, large_by_variable}
 use Rattle.sas_groups.proofs.by_variable.effects_by_variable.Goals as goal
 use Rattle.sas_groups.proofs.by_variable.effects_by_variable.Goals.{then-effects-gt-FEW_EFFECTS+in_ok-enter_effects, else-effects-gt-FEW_EFFECTS}

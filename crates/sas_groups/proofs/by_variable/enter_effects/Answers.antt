@@ -1,6 +1,5 @@
 -- One more effect has an entry.
-use Rattle.sas_groups.proofs.Imports.{All-nil, All-cons, All-append, arith, common_steps}
-use Rattle.sas_groups.specs.ByVariable.{place_of}
+use Rattle.sas_groups.proofs.Imports.{All-nil, All-cons, All-append, arith, common_steps, place_of}
 use Rattle.sas_groups.proofs.ByVariable.{effect_entered}
 use Rattle.sas_groups.proofs.by_variable.enter_effects.Goals as goal
 

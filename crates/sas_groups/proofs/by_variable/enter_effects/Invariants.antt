@@ -1,6 +1,5 @@
 -- The effects so far have entries.
-use Rattle.sas_groups.proofs.Imports.{ℕ, ◌<◌, All, Entry}
-use Rattle.sas_groups.specs.ByVariable.{AreEntered}
+use Rattle.sas_groups.proofs.Imports.{ℕ, ◌<◌, All, Entry, AreEntered}
 use Rattle.sas_groups.proofs.by_variable.enter_effects.Given as goal
 
 abbrev pub invariant-loop-effect : goal.invariant-loop-effect

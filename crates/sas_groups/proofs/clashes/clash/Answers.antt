@@ -1,8 +1,5 @@
 -- One more fact is processed.
-use Rattle.sas_groups.proofs.Imports.{All-contains, Fact}
-use Rattle.sas_groups.specs.Clashes.{Contradict}
-use Rattle.sas_groups.specs.Checks.{Alone, Has}
-use Rattle.sas_groups.specs.Lists.{known_on}
+use Rattle.sas_groups.proofs.Imports.{All-contains, Fact, Contradict, Alone, Has, known_on}
 use Rattle.sas_groups.proofs.Telling.{tells_yes, tells_no}
 use Rattle.sas_groups.proofs.Turns.{turn_has, turn_more, turns_end}
 use Rattle.sas_groups.proofs.clashes.clash.Goals as goal

@@ -1,7 +1,5 @@
 -- The facts so far contradict no known fact.
-use Rattle.sas_groups.specs.Clashes.{Contradict}
-use Rattle.sas_groups.specs.Checks.{Alone, Has}
-use Rattle.sas_groups.specs.Lists.{known_on, known_left}
+use Rattle.sas_groups.proofs.Imports.{Contradict, Alone, Has, known_on, known_left}
 use Rattle.sas_groups.proofs.Turns.{Turns}
 use Rattle.sas_groups.proofs.clashes.clash.Given as goal
 

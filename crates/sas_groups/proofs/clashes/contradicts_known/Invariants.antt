@@ -1,7 +1,5 @@
 -- The fact contradicts none of the facts so far.
-use Rattle.sas_groups.specs.Clashes.{Contradict}
-use Rattle.sas_groups.specs.Checks.{Alone}
-use Rattle.sas_groups.specs.Lists.{known_on, known_left}
+use Rattle.sas_groups.proofs.Imports.{Contradict, Alone, known_on, known_left}
 use Rattle.sas_groups.proofs.Turns.{Turns}
 use Rattle.sas_groups.proofs.clashes.contradicts_known.Given as goal
 

@@ -1,7 +1,6 @@
 -- Sorting a list and removing duplicates preserves its facts.
-use Rattle.sas_groups.proofs.Imports.{rules}
+use Rattle.sas_groups.proofs.Imports.{rules, AreDistinct}
 use Rattle.sas_groups.proofs.InOrder.{none_own, own_once, in_order_once, fact_order}
-use Rattle.sas_groups.specs.Distinct.{AreDistinct}
 use Rattle.sas_groups.proofs.distinct.own_list.Goals as goal
 
 pub returns-then-is_ascending : goal.returns-then-is_ascending

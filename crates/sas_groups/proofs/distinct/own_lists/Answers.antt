@@ -1,6 +1,5 @@
 -- One more group has an own list, or doesn't need one.
-use Rattle.sas_groups.proofs.Imports.{rules, arith, ◌≡◌, ◌++◌, ◌∷◌, [], length, group_at}
-use Rattle.sas_groups.specs.Distinct.{own_or, AreDistinct}
+use Rattle.sas_groups.proofs.Imports.{rules, arith, ◌≡◌, ◌++◌, ◌∷◌, [], length, group_at, own_or, AreDistinct}
 use Rattle.sas_groups.proofs.InOrder.{filled, own_more, own_passed}
 use Rattle.sas_groups.proofs.distinct.own_lists.Goals as goal
 use Rattle.sas_groups.proofs.distinct.own_lists.Goals.{then-not-is_empty+in_ok-fill+in_ok-push, else-not-is_empty}

@@ -1,6 +1,5 @@
 -- The groups so far have their own lists.
-use Rattle.sas_groups.proofs.Imports.{ℕ, ◌<◌, ◌≤◌, length, group_at}
-use Rattle.sas_groups.specs.Distinct.{facts_at, AreDistinct}
+use Rattle.sas_groups.proofs.Imports.{ℕ, ◌<◌, ◌≤◌, length, group_at, facts_at, AreDistinct}
 use Rattle.sas_groups.proofs.distinct.own_lists.Given as goal
 
 abbrev pub invariant-loop-group : goal.invariant-loop-group

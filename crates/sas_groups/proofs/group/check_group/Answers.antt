@@ -1,9 +1,6 @@
 -- The verdict is the first reason against the group.
-use Rattle.sas_groups.proofs.Imports.{◌≡◌, List, refl, Fact, Parts}
-use Rattle.sas_groups.specs.declared.verdict.Verdict.{Verdict}
-use Rattle.sas_groups.specs.declared.verdict.Verdict.TheVariants.{Exclusive, Derived, Initial, Broken}
-use Rattle.sas_groups.specs.Verdicts.{IsVerdictAlone}
-use Rattle.sas_groups.specs.Checks.{IsFirstVerdict}
+use Rattle.sas_groups.proofs.Imports.{◌≡◌, List, refl, Fact, Parts, Verdict, Exclusive, Derived, Broken, IsVerdictAlone, IsFirstVerdict}
+use Rattle.sas_groups.specs.declared.verdict.Verdict.TheVariants.{Initial}
 use Rattle.sas_groups.proofs.Invariance.{exclusive_alone_is_invariant}
 use Rattle.sas_groups.proofs.group.check_group.Goals as goal
 

@@ -1,7 +1,5 @@
 -- One more operator preserves the group.
-use Rattle.sas_groups.proofs.Imports.{[], below_more, arith, All-from_get_or, Operator}
-use Rattle.sas_groups.specs.Clashes.{Keeps}
-use Rattle.sas_groups.specs.Checks.{Alone}
+use Rattle.sas_groups.proofs.Imports.{[], below_more, arith, All-from_get_or, Operator, Keeps, Alone}
 use Rattle.sas_groups.proofs.group.first_breaking.Goals as goal
 
 pub loop-operator-preserved : goal.loop-operator-preserved

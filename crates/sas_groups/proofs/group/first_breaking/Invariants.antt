@@ -1,7 +1,5 @@
 -- The operators so far preserve the group.
-use Rattle.sas_groups.proofs.Imports.{ℕ, ◌<◌, operator_at}
-use Rattle.sas_groups.specs.Clashes.{Keeps}
-use Rattle.sas_groups.specs.Checks.{Alone}
+use Rattle.sas_groups.proofs.Imports.{ℕ, ◌<◌, operator_at, Keeps, Alone}
 use Rattle.sas_groups.proofs.group.first_breaking.Given as goal
 
 abbrev pub invariant-loop-operator : goal.invariant-loop-operator

@@ -1,6 +1,5 @@
 -- No other fact so far holds.
-use Rattle.sas_groups.proofs.Imports.{ℕ, ◌<◌, get_or, Fact}
-use Rattle.sas_groups.specs.Checks.{IsOnlyOne}
+use Rattle.sas_groups.proofs.Imports.{ℕ, ◌<◌, get_or, Fact, IsOnlyOne}
 use Rattle.sas_groups.proofs.group.is_only_one.Given as goal
 
 abbrev pub invariant-loop-other : goal.invariant-loop-other

@@ -1,6 +1,5 @@
 -- A task has so few facts that their numbers don't overflow.
-use Rattle.sas_groups.proofs.Imports.{◌≡◌, ◌^◌, ◌<◌, ◌≤◌, length, get_or, sym, ◌∙◌, subst, arith, get_or_default, get_or_append_left, get_or_push, length_push, cases_eq, common_steps}
-use Rattle.sas_groups.specs.Index.{facts_below}
+use Rattle.sas_groups.proofs.Imports.{◌≡◌, ◌^◌, ◌<◌, ◌≤◌, length, get_or, sym, ◌∙◌, subst, arith, get_or_default, get_or_append_left, get_or_push, length_push, cases_eq, common_steps, facts_below}
 use Rattle.sas_groups.proofs.Numbering.{facts_below_more, below_low}
 use Rattle.sas_groups.proofs.index.number_facts.Goals as goal
 use Rattle.sas_groups.proofs.index.number_facts.Given.{Over}

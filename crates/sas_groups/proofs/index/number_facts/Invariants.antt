@@ -1,6 +1,5 @@
 -- The first numbers of the variables so far.
-use Rattle.sas_groups.proofs.Imports.{◌≡◌, ℕ, ◌<◌, length, get_or}
-use Rattle.sas_groups.specs.Index.{facts_below}
+use Rattle.sas_groups.proofs.Imports.{◌≡◌, ℕ, ◌<◌, length, get_or, facts_below}
 use Rattle.sas_groups.proofs.index.number_facts.Given as goal
 
 abbrev pub invariant-loop-var : goal.invariant-loop-var

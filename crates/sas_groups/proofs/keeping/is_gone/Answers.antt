@@ -1,7 +1,5 @@
 -- The fact would remain.
-use Rattle.sas_groups.proofs.Imports.{List, sym, ◌∙◌, ap, subst, inl, inr, Change, Fact, operator_at, effect_at}
-use Rattle.sas_groups.specs.Clashes.{Clash, IsRemoved}
-use Rattle.sas_groups.specs.Checks.{Alone}
+use Rattle.sas_groups.proofs.Imports.{List, sym, ◌∙◌, ap, subst, inl, inr, Change, Fact, operator_at, Clash, IsRemoved, Alone}
 use Rattle.sas_groups.proofs.Effects.{known_same}
 use Rattle.sas_groups.proofs.Telling.{tells_other}
 use Rattle.sas_groups.proofs.keeping.is_gone.Goals as goal

@@ -1,6 +1,5 @@
 -- None of the effects so far sets another fact of the group.
-use Rattle.sas_groups.proofs.Imports.{ℕ, ◌<◌, operator_at, effect_at}
-use Rattle.sas_groups.specs.Checks.{Alone, NotBoth}
+use Rattle.sas_groups.proofs.Imports.{ℕ, ◌<◌, operator_at, effect_at, Alone, NotBoth}
 use Rattle.sas_groups.proofs.keeping.is_single.Given as goal
 
 abbrev pub invariant-loop-other : goal.invariant-loop-other

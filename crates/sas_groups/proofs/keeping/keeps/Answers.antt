@@ -1,6 +1,5 @@
 -- An operator preserves the group if and only if each of its effects does.
-use Rattle.sas_groups.proofs.Imports.{below_more, arith, operator_at}
-use Rattle.sas_groups.specs.Checks.{Alone}
+use Rattle.sas_groups.proofs.Imports.{below_more, arith, operator_at, Alone}
 use Rattle.sas_groups.proofs.Effects.{keeps_from_effects, effect_of_keeps}
 use Rattle.sas_groups.proofs.Telling.{tells_yes, tells_no}
 use Rattle.sas_groups.proofs.keeping.keeps.Goals as goal

@@ -1,6 +1,5 @@
 -- The effects so far preserve the group.
-use Rattle.sas_groups.proofs.Imports.{ℕ, ◌<◌, operator_at, effect_at}
-use Rattle.sas_groups.specs.Checks.{Alone, KeepsIfSets}
+use Rattle.sas_groups.proofs.Imports.{ℕ, ◌<◌, operator_at, effect_at, Alone, KeepsIfSets}
 use Rattle.sas_groups.proofs.keeping.keeps.Given as goal
 
 abbrev pub invariant-loop-effect : goal.invariant-loop-effect

@@ -1,7 +1,5 @@
 -- The effect sets a fact of the group, or doesn't.
-use Rattle.sas_groups.proofs.Imports.{get_or, sym, subst, All-contains, Contains, Contains-get_or, operator_at, effect_at}
-use Rattle.sas_groups.specs.Checks.{Alone, IsGone}
-use Rattle.sas_groups.specs.Clashes.{sets}
+use Rattle.sas_groups.proofs.Imports.{get_or, sym, subst, All-contains, Contains, Contains-get_or, operator_at, effect_at, Alone, IsGone, sets}
 use Rattle.sas_groups.proofs.Effects.{set_is}
 use Rattle.sas_groups.proofs.Telling.{tells_yes, tells_other}
 use Rattle.sas_groups.proofs.keeping.keeps_if_sets.Goals as goal

@@ -1,6 +1,5 @@
 -- One more fact doesn't remain.
-use Rattle.sas_groups.proofs.Imports.{operator_at, effect_at, each_more}
-use Rattle.sas_groups.specs.Checks.{Alone, IsGone}
+use Rattle.sas_groups.proofs.Imports.{operator_at, effect_at, each_more, Alone, IsGone}
 use Rattle.sas_groups.proofs.keeping.removes_all.Goals as goal
 
 pub loop-fact-preserved : goal.loop-fact-preserved

@@ -1,6 +1,5 @@
 -- None of the facts so far remains.
-use Rattle.sas_groups.proofs.Imports.{ℕ, ◌<◌, get_or, Fact, operator_at, effect_at}
-use Rattle.sas_groups.specs.Checks.{Alone, IsGone}
+use Rattle.sas_groups.proofs.Imports.{ℕ, ◌<◌, get_or, Fact, operator_at, effect_at, Alone, IsGone}
 use Rattle.sas_groups.proofs.keeping.removes_all.Given as goal
 
 abbrev pub invariant-loop-fact : goal.invariant-loop-fact

@@ -1,7 +1,5 @@
 -- Nothing is recorded for the facts so far.
-use Rattle.sas_groups.proofs.Imports.{ℕ, ◌<◌, get_or, Fact}
-use Rattle.sas_groups.specs.Notes.{AreFrom}
-use Rattle.sas_groups.specs.Noting.{IsForgotten}
+use Rattle.sas_groups.proofs.Imports.{ℕ, ◌<◌, get_or, Fact, AreFrom, IsForgotten}
 use Rattle.sas_groups.proofs.notes.forget_facts.Given as goal
 
 abbrev pub invariant-loop-fact : goal.invariant-loop-fact

@@ -1,7 +1,5 @@
 -- Nothing is recorded for the groups so far.
-use Rattle.sas_groups.proofs.Imports.{◌≡◌, ◌⊎◌, ℕ, ◌<◌, get_or, length}
-use Rattle.sas_groups.specs.declared.notes.Noted.TheVariants.{Nothing}
-use Rattle.sas_groups.specs.Notes.{group_note}
+use Rattle.sas_groups.proofs.Imports.{◌≡◌, ◌⊎◌, ℕ, ◌<◌, get_or, length, Nothing, group_note}
 use Rattle.sas_groups.proofs.notes.forget_groups.Given as goal
 
 abbrev pub invariant-loop-group : goal.invariant-loop-group

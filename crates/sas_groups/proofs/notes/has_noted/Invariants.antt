@@ -1,8 +1,5 @@
 -- No fact is recorded for the groups so far that are in the family.
-use Rattle.sas_groups.proofs.Imports.{◌≡◌, ℕ, ◌<◌, get_or, IsTrue}
-use Rattle.sas_groups.specs.declared.notes.Noted.TheVariants.{Nothing}
-use Rattle.sas_groups.specs.Kept.{family_of}
-use Rattle.sas_groups.specs.Notes.{group_note}
+use Rattle.sas_groups.proofs.Imports.{◌≡◌, ℕ, ◌<◌, get_or, IsTrue, Nothing, family_of, group_note}
 use Rattle.sas_groups.proofs.notes.has_noted.Given as goal
 
 abbrev pub invariant-loop-group : goal.invariant-loop-group

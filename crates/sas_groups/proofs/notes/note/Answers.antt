@@ -1,7 +1,5 @@
 -- Only the records of the fact's variable and groups change.
-use Rattle.sas_groups.proofs.Imports.{ℕ, ◌≡◌, List, Option, None, Some, length, refl, ap, subst, ◌∙◌, inl, inr, Contains, cases_eq, eqb-false, length-set, get_or-set_other, arith, common_steps}
-use Rattle.sas_groups.specs.Notes.{value_note}
-use Rattle.sas_groups.specs.Noting.{IsExcluded}
+use Rattle.sas_groups.proofs.Imports.{ℕ, ◌≡◌, List, Option, None, Some, length, refl, ap, subst, ◌∙◌, inl, inr, Contains, cases_eq, eqb-false, length-set, get_or-set_other, arith, common_steps, value_note, IsExcluded}
 use Rattle.sas_groups.proofs.notes.note.Goals as goal
 
 pub returns-in-Some-clause-no : goal.returns-in-Some-clause-no

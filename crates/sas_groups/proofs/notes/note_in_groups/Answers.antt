@@ -1,10 +1,5 @@
 -- The fact is recorded for one more group.
-use Rattle.sas_groups.proofs.Imports.{◌≢◌, ◌<◌, List, length, get_or, IsTrue, subst, sym, ◌∙◌, arith, both_ways, Contains-get_or, each_more, common_steps}
-use Rattle.sas_groups.specs.declared.notes.Noted.{Noted}
-use Rattle.sas_groups.specs.declared.notes.Noted.TheVariants.{Several}
-use Rattle.sas_groups.specs.Kept.{family_of}
-use Rattle.sas_groups.specs.Notes.{group_note}
-use Rattle.sas_groups.specs.Noting.{IsNotedToo, NotesForGroup}
+use Rattle.sas_groups.proofs.Imports.{◌≢◌, ◌<◌, List, length, get_or, IsTrue, subst, sym, ◌∙◌, arith, both_ways, Contains-get_or, each_more, common_steps, Noted, Several, family_of, group_note, IsNotedToo, NotesForGroup}
 use Rattle.sas_groups.proofs.NotesOfFacts.{since_before, takes_still, takes_here, taken_more}
 use Rattle.sas_groups.proofs.notes.note_in_groups.Goals as goal
 use Rattle.sas_groups.proofs.notes.note_in_groups.Goals.{else-is_several-via-then-is_several+else-is_kept, else-is_several-via-else-is_several}

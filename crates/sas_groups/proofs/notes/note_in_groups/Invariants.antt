@@ -1,6 +1,5 @@
 -- The fact is recorded for the groups so far.
-use Rattle.sas_groups.proofs.Imports.{ℕ, ◌<◌, get_or}
-use Rattle.sas_groups.specs.Noting.{TakenBySome, NotesForGroup}
+use Rattle.sas_groups.proofs.Imports.{ℕ, ◌<◌, get_or, TakenBySome, NotesForGroup}
 use Rattle.sas_groups.proofs.notes.note_in_groups.Given as goal
 
 abbrev pub invariant-loop-group : goal.invariant-loop-group

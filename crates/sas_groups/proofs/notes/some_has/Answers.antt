@@ -1,7 +1,5 @@
 -- A group of the one fact that is in the family contains the other fact, or doesn't.
-use Rattle.sas_groups.proofs.Imports.{ℕ, List, length, get_or, sym, ap, subst, ◌∙◌, below_more, arith, IsTrue, Contains, true≢false, get_or_default, Contains-get_or}
-use Rattle.sas_groups.specs.Index.{groups_of}
-use Rattle.sas_groups.specs.Kept.{family_of}
+use Rattle.sas_groups.proofs.Imports.{ℕ, List, length, get_or, sym, ap, subst, ◌∙◌, below_more, arith, IsTrue, Contains, true≢false, get_or_default, Contains-get_or, groups_of, family_of}
 use Rattle.sas_groups.proofs.Telling.{tells_yes, tells_no}
 use Rattle.sas_groups.proofs.notes.some_has.Goals as goal
 use Rattle.sas_groups.proofs.notes.some_has.Goals.{else-is_kept-via-then-is_kept+else-has, else-is_kept-via-else-is_kept}

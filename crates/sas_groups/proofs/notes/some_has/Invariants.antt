@@ -1,7 +1,5 @@
 -- None of the groups so far that are in the family contains the other fact.
-use Rattle.sas_groups.proofs.Imports.{ℕ, ◌<◌, get_or, IsTrue, Contains}
-use Rattle.sas_groups.specs.Index.{groups_of}
-use Rattle.sas_groups.specs.Kept.{family_of}
+use Rattle.sas_groups.proofs.Imports.{ℕ, ◌<◌, get_or, IsTrue, Contains, groups_of, family_of}
 use Rattle.sas_groups.proofs.notes.some_has.Given as goal
 
 abbrev pub invariant-loop-group : goal.invariant-loop-group

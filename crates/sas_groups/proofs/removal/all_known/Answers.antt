@@ -1,6 +1,5 @@
 -- One more condition is known.
-use Rattle.sas_groups.proofs.Imports.{Contains, each_more}
-use Rattle.sas_groups.specs.Lists.{known_on}
+use Rattle.sas_groups.proofs.Imports.{Contains, each_more, known_on}
 use Rattle.sas_groups.proofs.removal.all_known.Goals as goal
 
 pub loop-condition-preserved : goal.loop-condition-preserved

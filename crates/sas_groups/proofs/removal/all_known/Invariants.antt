@@ -1,6 +1,5 @@
 -- The conditions so far are known.
-use Rattle.sas_groups.proofs.Imports.{ℕ, ◌<◌, get_or, Contains, Fact}
-use Rattle.sas_groups.specs.Lists.{known_on}
+use Rattle.sas_groups.proofs.Imports.{ℕ, ◌<◌, get_or, Contains, Fact, known_on}
 use Rattle.sas_groups.proofs.removal.all_known.Given as goal
 
 abbrev pub invariant-loop-condition : goal.invariant-loop-condition

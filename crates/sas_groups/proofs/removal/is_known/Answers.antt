@@ -1,6 +1,5 @@
 -- One more fact is processed.
-use Rattle.sas_groups.proofs.Imports.{◌≡◌, refl, ◌∙◌, ap, subst, Contains, All-contains, Fact, arith, common_steps}
-use Rattle.sas_groups.specs.Lists.{known_on, known_left}
+use Rattle.sas_groups.proofs.Imports.{◌≡◌, refl, ◌∙◌, ap, subst, Contains, All-contains, Fact, arith, common_steps, known_on, known_left}
 use Rattle.sas_groups.proofs.Telling.{tells_yes, tells_no}
 use Rattle.sas_groups.proofs.Turns.{turn_has, turns_begin, turn_more, turns_end}
 use Rattle.sas_groups.proofs.removal.is_known.Goals as goal

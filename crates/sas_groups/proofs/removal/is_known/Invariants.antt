@@ -1,6 +1,5 @@
 -- The fact is none of the known facts so far.
-use Rattle.sas_groups.proofs.Imports.{◌≡◌}
-use Rattle.sas_groups.specs.Lists.{known_on, known_left}
+use Rattle.sas_groups.proofs.Imports.{◌≡◌, known_on, known_left}
 use Rattle.sas_groups.proofs.Turns.{Turns}
 use Rattle.sas_groups.proofs.removal.is_known.Given as goal
 

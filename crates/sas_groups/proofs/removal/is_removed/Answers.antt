@@ -1,6 +1,5 @@
 -- No effect removes the fact.
-use Rattle.sas_groups.proofs.Imports.{arith, operator_at}
-use Rattle.sas_groups.specs.Lists.{known_on}
+use Rattle.sas_groups.proofs.Imports.{arith, operator_at, known_on}
 use Rattle.sas_groups.proofs.Effects.{never_removed}
 use Rattle.sas_groups.proofs.Telling.{tells_no}
 use Rattle.sas_groups.proofs.removal.is_removed.Goals as goal

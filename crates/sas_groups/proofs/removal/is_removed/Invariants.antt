@@ -1,7 +1,5 @@
 -- No effect so far removes the fact.
-use Rattle.sas_groups.proofs.Imports.{ℕ, ◌<◌, operator_at, effect_at}
-use Rattle.sas_groups.specs.Checks.{Removes}
-use Rattle.sas_groups.specs.Lists.{known_on}
+use Rattle.sas_groups.proofs.Imports.{ℕ, ◌<◌, operator_at, effect_at, Removes, known_on}
 use Rattle.sas_groups.proofs.removal.is_removed.Given as goal
 
 abbrev pub invariant-loop-effect : goal.invariant-loop-effect

@@ -1,6 +1,5 @@
 -- The change is that of the effect.
-use Rattle.sas_groups.proofs.Imports.{sym, ◌∙◌, ap, subst, All, Contains, Change}
-use Rattle.sas_groups.specs.Lists.{known_on}
+use Rattle.sas_groups.proofs.Imports.{sym, ◌∙◌, ap, subst, All, Contains, Change, known_on}
 use Rattle.sas_groups.proofs.Telling.{tells_other}
 use Rattle.sas_groups.proofs.removal.removes.Goals as goal
 

@@ -1,6 +1,5 @@
 -- The facts so far consist of the runs so far.
-use Rattle.sas_groups.proofs.Imports.{◌≡◌, ◌++◌, List, length, Fact}
-use Rattle.sas_groups.specs.Runs.{AreRuns}
+use Rattle.sas_groups.proofs.Imports.{◌≡◌, ◌++◌, List, length, Fact, AreRuns}
 use Rattle.sas_groups.proofs.runs.runs_in.Given as goal
 
 abbrev pub invariant-loop-first : goal.invariant-loop-first

@@ -1,7 +1,5 @@
 -- The runs of the groups so far.
-use Rattle.sas_groups.proofs.Imports.{◌≡◌, ℕ, ◌<◌, length}
-use Rattle.sas_groups.specs.Distinct.{facts_at}
-use Rattle.sas_groups.specs.Runs.{AreRuns, runs_at}
+use Rattle.sas_groups.proofs.Imports.{◌≡◌, ℕ, ◌<◌, length, facts_at, AreRuns, runs_at}
 use Rattle.sas_groups.proofs.runs.runs_of_groups.Given as goal
 
 abbrev pub invariant-loop-group : goal.invariant-loop-group

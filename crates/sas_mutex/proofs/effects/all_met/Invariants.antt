@@ -1,6 +1,5 @@
 -- The conditions so far are met.
-use Rattle.sas_mutex.proofs.Imports.{ℕ, ◌<◌, get_or, Fact}
-use Rattle.sas_mutex.specs.ByNotes.{IsMet}
+use Rattle.sas_mutex.proofs.Imports.{ℕ, ◌<◌, get_or, Fact, IsMet}
 use Rattle.sas_mutex.proofs.effects.all_met.Given as goal
 
 abbrev pub invariant-loop-condition : goal.invariant-loop-condition

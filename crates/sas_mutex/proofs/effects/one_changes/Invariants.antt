@@ -1,6 +1,5 @@
 -- None of the changes so far removes the fact.
-use Rattle.sas_mutex.proofs.Imports.{ℕ, ◌<◌, get_or, Change}
-use Rattle.sas_mutex.specs.ByNotes.{SetsOtherValue}
+use Rattle.sas_mutex.proofs.Imports.{ℕ, ◌<◌, get_or, Change, SetsOtherValue}
 use Rattle.sas_mutex.proofs.effects.one_changes.Given as goal
 
 abbrev pub invariant-loop-change : goal.invariant-loop-change

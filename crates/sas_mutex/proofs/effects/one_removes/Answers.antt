@@ -1,6 +1,5 @@
 -- An effect that removes the fact is on its variable, so it is one of these effects.
-use Rattle.sas_mutex.proofs.Imports.{ℕ, ◌<◌, length, sym, subst, ◌∙◌, arith, get_or_default, operator_at, effect_at, tells_no}
-use Rattle.sas_mutex.specs.ByNotes.{RemovesByNotes}
+use Rattle.sas_mutex.proofs.Imports.{ℕ, ◌<◌, length, sym, subst, ◌∙◌, arith, get_or_default, operator_at, effect_at, tells_no, RemovesByNotes}
 use Rattle.sas_mutex.proofs.effects.one_removes.Goals as goal
 
 pub returns : goal.returns

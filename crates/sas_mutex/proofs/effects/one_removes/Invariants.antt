@@ -1,6 +1,5 @@
 -- None of the effects so far removes the fact.
-use Rattle.sas_mutex.proofs.Imports.{ℕ, ◌<◌, length, get_or, operator_at, effect_at}
-use Rattle.sas_mutex.specs.ByNotes.{RemovesByNotes}
+use Rattle.sas_mutex.proofs.Imports.{ℕ, ◌<◌, length, get_or, operator_at, effect_at, RemovesByNotes}
 use Rattle.sas_mutex.proofs.effects.one_removes.Given as goal
 
 abbrev pub invariant-loop-effect : goal.invariant-loop-effect

@@ -1,6 +1,5 @@
 -- No effect so far removes the fact.
-use Rattle.sas_mutex.proofs.Imports.{ℕ, ◌<◌, operator_at, effect_at}
-use Rattle.sas_mutex.specs.ByNotes.{RemovesByNotes}
+use Rattle.sas_mutex.proofs.Imports.{ℕ, ◌<◌, operator_at, effect_at, RemovesByNotes}
 use Rattle.sas_mutex.proofs.effects.some_of_all_removes.Given as goal
 
 abbrev pub invariant-loop-effect : goal.invariant-loop-effect

@@ -1,6 +1,5 @@
 -- If no loose operator removed a group, all operators are at rest.
-use Rattle.sas_mutex.proofs.Imports.{◌≡◌, ℕ, List, length, sym, subst, arith, get_or_append_left, common_steps}
-use Rattle.sas_mutex.specs.Watching.{FallenAreUnwatched, AreLooseAtRest}
+use Rattle.sas_mutex.proofs.Imports.{◌≡◌, ℕ, List, length, sym, subst, arith, get_or_append_left, common_steps, FallenAreUnwatched, AreLooseAtRest}
 use Rattle.sas_mutex.proofs.FallingGroups.{none_fell, fallen_grow, falls_then, greatest_in_the_end, none_newly, as_before}
 use Rattle.sas_mutex.proofs.Watched.{none_watched, rest_in_the_end}
 use Rattle.sas_mutex.proofs.greatest.find_greatest.Goals as goal

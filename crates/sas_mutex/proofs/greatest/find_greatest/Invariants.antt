@@ -1,7 +1,5 @@
 -- All operators that watched a removed group were checked again.
-use Rattle.sas_mutex.proofs.Imports.{◌-◌, length}
-use Rattle.sas_mutex.specs.Falling.{Falls}
-use Rattle.sas_mutex.specs.Watching.{IsReady, FallenAreUnwatched}
+use Rattle.sas_mutex.proofs.Imports.{◌-◌, length, Falls, IsReady, FallenAreUnwatched}
 use Rattle.sas_mutex.proofs.greatest.find_greatest.Given as goal
 
 abbrev pub invariant-loop-before : goal.invariant-loop-before

@@ -1,7 +1,5 @@
 -- One more operator is at rest, if it is loose.
-use Rattle.sas_mutex.proofs.Imports.{length, sym, ◌∙◌, ap, subst, inl, inr, arith, cases_eq, Parts, ◌≡◌}
-use Rattle.sas_mutex.specs.Falling.{IsAtRest}
-use Rattle.sas_mutex.specs.Watching.{since_of}
+use Rattle.sas_mutex.proofs.Imports.{length, sym, ◌∙◌, ap, subst, inl, inr, arith, cases_eq, Parts, ◌≡◌, IsAtRest, since_of}
 use Rattle.sas_mutex.proofs.FallingGroups.{falls_then, rest_still, none_first, none_then}
 use Rattle.sas_mutex.proofs.Watched.{stays_unwatched, unwatched_more, fell_first}
 use Rattle.sas_mutex.proofs.greatest.look_at_loose.Goals as goal

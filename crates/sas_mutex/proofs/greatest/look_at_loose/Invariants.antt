@@ -1,7 +1,5 @@
 -- The operators so far are at rest, if they are loose.
-use Rattle.sas_mutex.proofs.Imports.{length}
-use Rattle.sas_mutex.specs.Falling.{Falls, newly}
-use Rattle.sas_mutex.specs.Watching.{IsReady, FallenAreUnwatched, AreLooseAtRest}
+use Rattle.sas_mutex.proofs.Imports.{length, Falls, newly, IsReady, FallenAreUnwatched, AreLooseAtRest}
 use Rattle.sas_mutex.proofs.greatest.look_at_loose.Given as goal
 
 abbrev pub invariant-loop-operator : goal.invariant-loop-operator

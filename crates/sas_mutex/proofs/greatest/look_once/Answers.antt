@@ -1,13 +1,8 @@
 -- The operator depends on the groups that it now watches, or is loose.
-use Rattle.sas_mutex.proofs.Imports.{◌≡◌, ℕ, ◌<◌, ◌^◌, Bool, true, Option, Some, None, List, length, set, sym, ap, subst, ◌∙◌, append-nil, All, All-nil, arith, common_steps}
-use Rattle.sas_mutex.specs.declared.watches.Watches.{Watches}
-use Rattle.sas_mutex.specs.Watching.{AreChained, HasWatchFrom, RestsBy, WatchesMore}
+use Rattle.sas_mutex.proofs.Imports.{◌≡◌, ℕ, ◌<◌, ◌^◌, Bool, true, Option, Some, None, List, length, set, sym, ap, subst, ◌∙◌, append-nil, All, All-nil, arith, common_steps, same_Some, Watches, AreChained, HasWatchFrom, RestsBy, WatchesMore}
 use Rattle.sas_mutex.proofs.Watched.{rests_by, watched_anew}
 use Rattle.sas_mutex.proofs.greatest.look_once.Goals as goal
 use Rattle.sas_mutex.proofs.greatest.look_once.Goals.{else-look_until_quiet-via-then-look_until_quiet+else-watch_all, else-look_until_quiet-via-else-look_until_quiet}
-
-same_inside : (x y : ℕ) → Some x ≡ Some y → x ≡ y
-same_inside x y e = cc
 
 -- no watch is made
 no_more : (operator : ℕ) (kept : List Bool) (w : Watches) → AreChained w.made w.last → length w.made < 2 ^ 32 → WatchesMore operator kept w w
@@ -29,7 +24,7 @@ returns-then-watch_all-clause-ready g c =
       watched = watched_anew p c.args.family.now family w now.made now.last c.set.new.self now.room c.args.operator (Some start)
           turn.falls turn.room.one_each c.requires.operator c.requires.ready.watched more.made more.chained more.one_each more.few
           (c.set.ensures ∙ ap (λ (xs : List (Option ℕ)). set xs c.args.operator (Some start)) more.since)
-          (λ from is. subst (RestsBy p family.kept now.made c.args.operator) (sym c.len-start.ensures ∙ same_inside start from is)
+          (λ from is. subst (RestsBy p family.kept now.made c.args.operator) (sym c.len-start.ensures ∙ same_Some start from is)
           (rests_by p family.kept now.made c.args.operator (length w.made) family.supports (turn.alone c.if-look_until_quiet.true)
           (subst (All (HasWatchFrom now.made c.args.operator (length w.made))) c.as_slice.ensures (c.watch_all.ensures.all c.if-watch_all.true))));
       room = turn.room;

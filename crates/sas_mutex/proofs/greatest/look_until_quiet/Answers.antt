@@ -1,6 +1,5 @@
 -- If no more groups were removed, the operator is at rest.
-use Rattle.sas_mutex.proofs.Imports.{ℕ, ◌≡◌, length, sym, subst, arith, Vec, common_steps}
-use Rattle.sas_mutex.specs.Falling.{Falls}
+use Rattle.sas_mutex.proofs.Imports.{ℕ, ◌≡◌, length, sym, subst, arith, Vec, common_steps, Falls}
 use Rattle.sas_mutex.proofs.FallingGroups.{falls_then, none_newly}
 use Rattle.sas_mutex.proofs.LookedAt.{rests_on}
 use Rattle.sas_mutex.proofs.Supporting.{none_are, same_falls, same_room}

@@ -1,7 +1,5 @@
 -- The operator may have removed groups.
-use Rattle.sas_mutex.proofs.Imports.{◌-◌, length}
-use Rattle.sas_mutex.specs.Falling.{FamilyHasRoom, Falls}
-use Rattle.sas_mutex.specs.Marks.{IsClean}
+use Rattle.sas_mutex.proofs.Imports.{◌-◌, length, FamilyHasRoom, Falls, IsClean}
 use Rattle.sas_mutex.proofs.greatest.look_until_quiet.Given as goal
 
 abbrev pub invariant-loop-operator : goal.invariant-loop-operator

@@ -1,7 +1,5 @@
 -- After the next watch of the group, no watch of the group is valid any more.
-use Rattle.sas_mutex.proofs.Imports.{ℕ, ◌+◌, Option, Some, None}
-use Rattle.sas_mutex.specs.Falling.{Falls}
-use Rattle.sas_mutex.specs.Watching.{IsReady, IsUnwatchedBehind, StayUnwatched}
+use Rattle.sas_mutex.proofs.Imports.{ℕ, ◌+◌, Option, Some, None, Falls, IsReady, IsUnwatchedBehind, StayUnwatched}
 use Rattle.sas_mutex.proofs.greatest.recheck_watchers.Given as goal
 
 abbrev pub invariant-loop-next : goal.invariant-loop-next

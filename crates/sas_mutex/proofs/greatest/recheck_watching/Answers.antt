@@ -1,7 +1,5 @@
 -- All operators that watched one more removed group were checked again.
-use Rattle.sas_mutex.proofs.Imports.{◌+◌, ◌<◌, length, get_or, sym, ◌∙◌, subst, arith, get_or_default, Contains-get_or, below_more}
-use Rattle.sas_mutex.specs.Falling.{newly}
-use Rattle.sas_mutex.specs.Watching.{IsUnwatched, FallenAreUnwatched}
+use Rattle.sas_mutex.proofs.Imports.{◌+◌, ◌<◌, length, get_or, sym, ◌∙◌, subst, arith, get_or_default, Contains-get_or, below_more, newly, IsUnwatched, FallenAreUnwatched}
 use Rattle.sas_mutex.proofs.FallingGroups.{falls_then, fallen_grow}
 use Rattle.sas_mutex.proofs.Watched.{unwatched_more, unwatched_in}
 use Rattle.sas_mutex.proofs.greatest.recheck_watching.Goals as goal

@@ -1,7 +1,5 @@
 -- All operators that watched one of the removed groups so far were checked again.
-use Rattle.sas_mutex.proofs.Imports.{◌-◌, ◌≤◌, length}
-use Rattle.sas_mutex.specs.Falling.{Falls}
-use Rattle.sas_mutex.specs.Watching.{IsReady, FallenAreUnwatched}
+use Rattle.sas_mutex.proofs.Imports.{◌-◌, ◌≤◌, length, Falls, IsReady, FallenAreUnwatched}
 use Rattle.sas_mutex.proofs.greatest.recheck_watching.Given as goal
 
 abbrev pub invariant-loop-next : goal.invariant-loop-next

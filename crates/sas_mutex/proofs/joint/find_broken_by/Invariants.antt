@@ -1,7 +1,5 @@
 -- The verdicts consider the effects so far; the family is unchanged.
-use Rattle.sas_mutex.proofs.Imports.{◌≡◌}
-use Rattle.sas_mutex.specs.Judging.{AreVerdictsSoFar}
-use Rattle.sas_mutex.specs.Marks.{IsClean}
+use Rattle.sas_mutex.proofs.Imports.{◌≡◌, AreVerdictsSoFar, IsClean}
 use Rattle.sas_mutex.proofs.joint.find_broken_by.Given as goal
 
 abbrev pub invariant-loop-effect : goal.invariant-loop-effect

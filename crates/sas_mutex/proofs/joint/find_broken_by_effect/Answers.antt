@@ -1,8 +1,6 @@
 -- The verdict on each group that contains the fact set by the effect considers the effect: the
 -- notes decide, the effect never fires, or the verdict was known before.
-use Rattle.sas_mutex.proofs.Imports.{ℕ, ◌+◌, Bool, List, length, ap, subst, ◌∙◌, arith, Contains-get_or, All-contains, verdict_at}
-use Rattle.sas_mutex.specs.ByNotes.{IsNotedAt, NeverFires}
-use Rattle.sas_mutex.specs.Judging.{IsUndecided, IsVerdictSoFar}
+use Rattle.sas_mutex.proofs.Imports.{ℕ, ◌+◌, Bool, List, length, ap, subst, ◌∙◌, arith, Contains-get_or, All-contains, verdict_at, IsNotedAt, NeverFires, IsUndecided, IsVerdictSoFar}
 use Rattle.sas_mutex.proofs.VerdictsSoFar.{next_effect, one_effect_more, so_far_by, decided_already, clash_never_fires}
 use Rattle.sas_mutex.proofs.joint.find_broken_by_effect.Goals as goal
 use Rattle.sas_mutex.proofs.joint.find_broken_by_effect.Goals.{then-not-note, else-not-note}

@@ -1,6 +1,5 @@
 -- The effect breaks the group, or the verdict is unchanged.
-use Rattle.sas_mutex.proofs.Imports.{sym, subst, arith, both_ways, get_or-set_same, Broken, IsJointVerdict, common_steps}
-use Rattle.sas_mutex.specs.Judging.{AreVerdictsSoFar}
+use Rattle.sas_mutex.proofs.Imports.{sym, subst, arith, both_ways, get_or-set_same, Broken, IsJointVerdict, common_steps, AreVerdictsSoFar}
 use Rattle.sas_mutex.proofs.VerdictsSoFar.{broken_here, one_judged, so_far_by, one_effect_more, decided_already}
 use Rattle.sas_mutex.proofs.joint.judge_group.Goals as goal
 use Rattle.sas_mutex.proofs.joint.judge_group.Given.{Over}

@@ -1,7 +1,5 @@
 -- The verdict on one more group considers the effect.
-use Rattle.sas_mutex.proofs.Imports.{ℕ, ◌+◌, Bool, List, get_or, sym, ◌∙◌, subst, below_more, inl, inr, arith, cases_eq, All-from_get_or, verdict_at}
-use Rattle.sas_mutex.specs.Judging.{IsVerdictSoFar, AreVerdictsSoFar}
-use Rattle.sas_mutex.specs.ByNotes.{IsNotedAt}
+use Rattle.sas_mutex.proofs.Imports.{ℕ, ◌+◌, Bool, List, get_or, sym, ◌∙◌, subst, below_more, inl, inr, arith, cases_eq, All-from_get_or, verdict_at, IsVerdictSoFar, AreVerdictsSoFar, IsNotedAt}
 use Rattle.sas_mutex.proofs.joint.judge_groups.Goals as goal
 
 pub loop-group-preserved : goal.loop-group-preserved

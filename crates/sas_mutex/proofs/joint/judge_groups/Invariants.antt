@@ -1,7 +1,5 @@
 -- The verdicts on the groups so far consider the effect; the family is unchanged.
-use Rattle.sas_mutex.proofs.Imports.{◌≡◌, ◌+◌, ℕ, ◌<◌, get_or, verdict_at}
-use Rattle.sas_mutex.specs.Judging.{IsVerdictSoFar, AreVerdictsSoFar}
-use Rattle.sas_mutex.specs.ByNotes.{IsNotedAt}
+use Rattle.sas_mutex.proofs.Imports.{◌≡◌, ◌+◌, ℕ, ◌<◌, get_or, verdict_at, IsVerdictSoFar, AreVerdictsSoFar, IsNotedAt}
 use Rattle.sas_mutex.proofs.joint.judge_groups.Given as goal
 
 abbrev pub invariant-loop-group : goal.invariant-loop-group

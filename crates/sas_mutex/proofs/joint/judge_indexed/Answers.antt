@@ -1,9 +1,8 @@
 -- At first the family contains all groups that may be exclusive, with room for all that may be
 -- removed.
-use Rattle.sas_mutex.proofs.Imports.{◌≡◌, ◌<◌, ℕ, ◌∙◌, List, length, ap, subst, arith, ◌↔◌, IsTrue, Verdict, Exclusive, family_of, verdict_at}
+use Rattle.sas_mutex.proofs.Imports.{◌≡◌, ◌<◌, ℕ, ◌∙◌, List, length, ap, subst, arith, ◌↔◌, IsTrue, Verdict, Exclusive, family_of, verdict_at, IsOfNone}
 use Rattle.sas_mutex.proofs.Counting.{count_within}
 use Rattle.sas_mutex.proofs.VerdictsSoFar.{candidates_from}
-use Rattle.sas_mutex.specs.Basis.{IsOfNone}
 use Rattle.sas_mutex.proofs.Supporting.{none_are}
 use Rattle.sas_mutex.proofs.joint.judge_indexed.Goals as goal
 

@@ -1,6 +1,5 @@
 -- None of the groups so far lacks a verdict.
-use Rattle.sas_mutex.proofs.Imports.{ℕ, ◌<◌}
-use Rattle.sas_mutex.specs.Judging.{IsUndecided}
+use Rattle.sas_mutex.proofs.Imports.{ℕ, ◌<◌, IsUndecided}
 use Rattle.sas_mutex.proofs.joint.some_fell.Given as goal
 
 abbrev pub invariant-loop-group : goal.invariant-loop-group

@@ -1,6 +1,5 @@
 -- None of the groups so far lacks a verdict.
-use Rattle.sas_mutex.proofs.Imports.{ℕ, ◌<◌, get_or}
-use Rattle.sas_mutex.specs.Judging.{IsUndecided}
+use Rattle.sas_mutex.proofs.Imports.{ℕ, ◌<◌, get_or, IsUndecided}
 use Rattle.sas_mutex.proofs.joint.some_undecided.Given as goal
 
 abbrev pub invariant-loop-group : goal.invariant-loop-group

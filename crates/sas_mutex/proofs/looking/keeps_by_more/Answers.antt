@@ -1,8 +1,5 @@
 -- The basis grows, and then the effect is tested by it.
-use Rattle.sas_mutex.proofs.Imports.{List, Bool, sym, subst}
-use Rattle.sas_mutex.specs.declared.family.Family.{Family}
-use Rattle.sas_mutex.specs.Basis.{HasGrown}
-use Rattle.sas_mutex.specs.ByNotes.{IsNotedAt, EffectKeepsGroupWithItself}
+use Rattle.sas_mutex.proofs.Imports.{List, Bool, sym, subst, Family, HasGrown, IsNotedAt, EffectKeepsGroupWithItself}
 use Rattle.sas_mutex.proofs.Supporting.{grown_room}
 use Rattle.sas_mutex.proofs.looking.keeps_by_more.Goals as goal
 

@@ -1,8 +1,5 @@
 -- One more effect was checked. Those without conditions were checked before.
-use Rattle.sas_mutex.proofs.Imports.{◌<◌, length, sym, subst, inl, inr, arith, and_parts, cases_eq, Parts, common_steps}
-use Rattle.sas_mutex.specs.Falling.{FamilyHasRoom}
-use Rattle.sas_mutex.specs.Looking.{Looked, IsOfEffect, IsOfUnconditional}
-use Rattle.sas_mutex.specs.Marks.{IsClean}
+use Rattle.sas_mutex.proofs.Imports.{◌<◌, length, sym, subst, inl, inr, arith, and_parts, cases_eq, Parts, common_steps, FamilyHasRoom, Looked, IsOfEffect, IsOfUnconditional, IsClean}
 use Rattle.sas_mutex.proofs.LookedAt.{looked_then, looked_by}
 use Rattle.sas_mutex.proofs.looking.look_at.Goals as goal
 use Rattle.sas_mutex.proofs.looking.look_at.Goals.{then-not-is_plain, else-not-is_plain}

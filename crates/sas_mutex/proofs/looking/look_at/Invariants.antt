@@ -1,7 +1,5 @@
 -- The effects so far, and all effects without conditions, were checked.
-use Rattle.sas_mutex.proofs.Imports.{◌<◌, ◌⊎◌}
-use Rattle.sas_mutex.specs.Looking.{Looked, IsOfUnconditional}
-use Rattle.sas_mutex.specs.Marks.{IsClean}
+use Rattle.sas_mutex.proofs.Imports.{◌<◌, ◌⊎◌, Looked, IsOfUnconditional, IsClean}
 use Rattle.sas_mutex.proofs.looking.look_at.Given as goal
 
 abbrev pub invariant-loop-effect : goal.invariant-loop-effect

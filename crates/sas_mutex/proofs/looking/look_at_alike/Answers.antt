@@ -1,6 +1,5 @@
 -- Effects that never fire, assuming the basis, preserve all groups under this assumption.
-use Rattle.sas_mutex.proofs.Imports.{length, ap, subst, ◌∙◌, inr}
-use Rattle.sas_mutex.specs.ByNotes.{NeverFires}
+use Rattle.sas_mutex.proofs.Imports.{length, ap, subst, ◌∙◌, inr, NeverFires}
 use Rattle.sas_mutex.proofs.LookedAt.{looked_by, alike_never_fires}
 use Rattle.sas_mutex.proofs.FallingGroups.{clash_by_basis}
 use Rattle.sas_mutex.proofs.looking.look_at_alike.Goals as goal

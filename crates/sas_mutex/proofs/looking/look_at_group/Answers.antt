@@ -1,11 +1,6 @@
 -- A group that the effect doesn't preserve is removed. One that it preserves assuming the basis
 -- isn't.
-use Rattle.sas_mutex.proofs.Imports.{◌<◌, Bool, true, false, List, length, sym, ap, subst, arith, both_ways, IsIn, family_of, common_steps}
-use Rattle.sas_mutex.specs.declared.family.Family.{Family}
-use Rattle.sas_mutex.specs.Firing.{EffectPlace, operator_of}
-use Rattle.sas_mutex.specs.Looking.{IsPair, Looked}
-use Rattle.sas_mutex.specs.Falling.{FamilyHasRoom}
-use Rattle.sas_mutex.specs.ByNotes.{IsNotedAt, EffectKeepsGroup}
+use Rattle.sas_mutex.proofs.Imports.{◌<◌, Bool, true, false, List, length, sym, ap, subst, arith, both_ways, IsIn, family_of, common_steps, Family, EffectPlace, operator_of, IsPair, Looked, FamilyHasRoom, IsNotedAt, EffectKeepsGroup}
 use Rattle.sas_mutex.proofs.LookedAt.{looked_none, looked_pair, looked_removed}
 use Rattle.sas_mutex.proofs.Supporting.{same_grown}
 use Rattle.sas_mutex.proofs.FromNotes.{noted_fewer}

@@ -1,7 +1,5 @@
 -- The groups so far were checked.
-use Rattle.sas_mutex.proofs.Imports.{◌≡◌, ◌<◌, ℕ, get_or}
-use Rattle.sas_mutex.specs.Looking.{Looked, IsOfEffect}
-use Rattle.sas_mutex.specs.ByNotes.{IsNotedAt}
+use Rattle.sas_mutex.proofs.Imports.{◌≡◌, ◌<◌, ℕ, get_or, Looked, IsOfEffect, IsNotedAt}
 use Rattle.sas_mutex.proofs.looking.look_at_groups.Given as goal
 
 abbrev pub invariant-loop-group : goal.invariant-loop-group

@@ -1,9 +1,5 @@
 -- One more effect without conditions was checked. Its known facts are the recorded ones.
-use Rattle.sas_mutex.proofs.Imports.{◌≡◌, length, sym, subst, inl, inr, arith, and_parts, cases_eq, ◌<◌}
-use Rattle.sas_mutex.specs.Effects.{IsUnconditional}
-use Rattle.sas_mutex.specs.Firing.{EffectPlace, operator_of}
-use Rattle.sas_mutex.specs.ByNotes.{IsNotedFor}
-use Rattle.sas_mutex.specs.Looking.{Looked, IsOfEffect}
+use Rattle.sas_mutex.proofs.Imports.{◌≡◌, length, sym, subst, inl, inr, arith, and_parts, cases_eq, ◌<◌, IsUnconditional, EffectPlace, operator_of, IsNotedFor, Looked, IsOfEffect}
 use Rattle.sas_mutex.proofs.LookedAt.{looked_then, looked_by, alike_notes}
 use Rattle.sas_mutex.proofs.looking.look_at_noted.Goals as goal
 use Rattle.sas_mutex.proofs.looking.look_at_noted.Goals.{then-is_plain, else-is_plain}

@@ -1,8 +1,5 @@
 -- The effects so far without conditions were checked.
-use Rattle.sas_mutex.proofs.Imports.{◌<◌}
-use Rattle.sas_mutex.specs.Effects.{IsUnconditional}
-use Rattle.sas_mutex.specs.Looking.{Looked}
-use Rattle.sas_mutex.specs.ByNotes.{IsNotedAt}
+use Rattle.sas_mutex.proofs.Imports.{◌<◌, IsUnconditional, Looked, IsNotedAt}
 use Rattle.sas_mutex.proofs.looking.look_at_noted.Given as goal
 
 abbrev pub invariant-loop-effect : goal.invariant-loop-effect

@@ -1,6 +1,5 @@
 -- The effect that was checked stands for all effects without conditions.
-use Rattle.sas_mutex.proofs.Imports.{subst, inl, inr, Parts}
-use Rattle.sas_mutex.specs.Looking.{Looked, IsOfAlike}
+use Rattle.sas_mutex.proofs.Imports.{subst, inl, inr, Parts, Looked, IsOfAlike}
 use Rattle.sas_mutex.proofs.LookedAt.{looked_by}
 use Rattle.sas_mutex.proofs.looking.look_at_plain.Goals as goal
 

@@ -1,7 +1,5 @@
 -- One more effect sets no fact of a group in the family, or has conditions.
-use Rattle.sas_mutex.proofs.Imports.{◌≡◌, ◌<◌, length, sym, subst, below_more, arith, Parts}
-use Rattle.sas_mutex.specs.Basis.{SetsNone}
-use Rattle.sas_mutex.specs.Effects.{IsUnconditional}
+use Rattle.sas_mutex.proofs.Imports.{◌≡◌, ◌<◌, length, sym, subst, below_more, arith, Parts, SetsNone, IsUnconditional}
 use Rattle.sas_mutex.proofs.looking.plain_setting.Goals as goal
 use Rattle.sas_mutex.proofs.looking.plain_setting.Goals.{then-is_plain+else-sets_one_of, else-is_plain}
 

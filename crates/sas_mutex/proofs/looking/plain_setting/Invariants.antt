@@ -1,7 +1,5 @@
 -- None of the effects so far without conditions sets a fact of a group in the family.
-use Rattle.sas_mutex.proofs.Imports.{ℕ, ◌<◌}
-use Rattle.sas_mutex.specs.Effects.{IsUnconditional}
-use Rattle.sas_mutex.specs.Basis.{SetsNone}
+use Rattle.sas_mutex.proofs.Imports.{ℕ, ◌<◌, IsUnconditional, SetsNone}
 use Rattle.sas_mutex.proofs.looking.plain_setting.Given as goal
 
 abbrev pub invariant-loop-effect : goal.invariant-loop-effect

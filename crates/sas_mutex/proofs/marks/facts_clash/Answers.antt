@@ -1,5 +1,5 @@
 -- A single fact doesn't clash.
-use Rattle.sas_mutex.specs.Effects.{IsKept}
+use Rattle.sas_mutex.proofs.Imports.{IsKept}
 use Rattle.sas_mutex.proofs.KnownFacts.{few_apart}
 use Rattle.sas_mutex.proofs.marks.facts_clash.Goals as goal
 

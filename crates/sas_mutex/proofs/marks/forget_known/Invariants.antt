@@ -1,6 +1,5 @@
 -- The facts so far aren't recorded any more.
-use Rattle.sas_mutex.proofs.Imports.{known_on, known_left, IsForgotten, Turns}
-use Rattle.sas_mutex.specs.Marks.{IsNotedFrom}
+use Rattle.sas_mutex.proofs.Imports.{known_on, known_left, IsForgotten, Turns, IsNotedFrom}
 use Rattle.sas_mutex.proofs.marks.forget_known.Given as goal
 
 abbrev pub invariant-loop-fact : goal.invariant-loop-fact

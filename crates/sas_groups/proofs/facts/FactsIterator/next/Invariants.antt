@@ -1,6 +1,5 @@
 -- All prevail conditions were returned, and the remaining facts are unchanged.
-use Rattle.sas_groups.proofs.Imports.{◌≡◌, [], length}
-use Rattle.sas_groups.specs.Lists.{facts_left}
+use Rattle.sas_groups.proofs.Imports.{◌≡◌, [], length, facts_left}
 use Rattle.sas_groups.proofs.facts.FactsIterator.next.Given as goal
 
 abbrev pub invariant-loop-effect : goal.invariant-loop-effect

@@ -1,6 +1,5 @@
 -- The list of a large operator and a variable contains all effects on the variable.
-use Rattle.sas_groups.proofs.Imports.{◌≡◌, ℕ, List, [], length, get_or, sym, ap, subst, ◌∙◌, arith, Contains}
-use Rattle.sas_groups.specs.ByVariable.{IsLarge, place_of}
+use Rattle.sas_groups.proofs.Imports.{◌≡◌, ℕ, List, [], length, get_or, sym, ap, subst, ◌∙◌, arith, Contains, IsLarge, place_of}
 use Rattle.sas_groups.proofs.index.Index.effects_on.Goals as goal
 
 pub returns-then-effects-gt-FEW_EFFECTS : goal.returns-then-effects-gt-FEW_EFFECTS

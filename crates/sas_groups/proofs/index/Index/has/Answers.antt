@@ -1,6 +1,5 @@
 -- A group that isn't found is above those before the index and below those after it.
-use Rattle.sas_groups.proofs.Imports.{◌≡◌, ℕ, ◌<◌, ◌≤◌, ◌↔◌, List, length, get_or, Result, Ok, Err, true, false, refl, ◌∙◌, inl, inr, arith, Contains, MatchResult, is_ok, cases_lt, get_or_default, searched}
-use Rattle.sas_groups.specs.Index.{groups_of}
+use Rattle.sas_groups.proofs.Imports.{◌≡◌, ℕ, ◌<◌, ◌≤◌, ◌↔◌, List, length, get_or, Result, Ok, Err, true, false, refl, ◌∙◌, inl, inr, arith, Contains, MatchResult, is_ok, cases_lt, get_or_default, searched, groups_of}
 use Rattle.sas_groups.proofs.index.Index.has.Goals as goal
 
 found : (xs : List ℕ) (x : ℕ) (r : Result ℕ ℕ)

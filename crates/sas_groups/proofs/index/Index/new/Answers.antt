@@ -1,6 +1,5 @@
 -- Each field has the contract of the call that returned it.
-use Rattle.sas_groups.proofs.Imports.{ℕ, List, subst}
-use Rattle.sas_groups.specs.Index.{number, AreByFact}
+use Rattle.sas_groups.proofs.Imports.{ℕ, List, subst, number, AreByFact}
 use Rattle.sas_groups.proofs.index.Index.new.Goals as goal
 
 pub returns : goal.returns

@@ -1,8 +1,6 @@
 -- A condition of the other effect clashes with the known facts, or its conditions clash with each
 -- other.
-use Rattle.sas_mutex.proofs.Imports.{◌<◌, List, length, sym, subst, inl, inr, Contains, Fact, operator_at, effect_at, Clash, AreBlank}
-use Rattle.sas_mutex.specs.Firing.{EffectPlace, operator_of}
-use Rattle.sas_mutex.specs.Effects.{IsKept}
+use Rattle.sas_mutex.proofs.Imports.{◌<◌, List, length, sym, subst, inl, inr, Contains, Fact, operator_at, effect_at, Clash, AreBlank, EffectPlace, operator_of, IsKept}
 use Rattle.sas_mutex.proofs.TaskFacts.{conditions_exist}
 use Rattle.sas_mutex.proofs.FromNotes.{one_clashes, themselves_clash, one_or_themselves}
 use Rattle.sas_mutex.proofs.effects.Firing.both_clash.Goals as goal

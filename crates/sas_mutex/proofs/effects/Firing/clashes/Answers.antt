@@ -1,6 +1,5 @@
 -- The record of the fact's variable decides whether the fact clashes.
-use Rattle.sas_mutex.proofs.Imports.{◌≡◌, ◌≢◌, ap, subst, sym, ◌∙◌, arith, common_steps, Some, value_note}
-use Rattle.sas_mutex.specs.Firing.{EffectPlace}
+use Rattle.sas_mutex.proofs.Imports.{◌≡◌, ◌≢◌, ap, subst, sym, ◌∙◌, arith, common_steps, Some, value_note, EffectPlace}
 use Rattle.sas_mutex.proofs.FromNotes.{IsFiring, other_value_clashes, noted_no_clash}
 use Rattle.sas_mutex.proofs.effects.Firing.clashes.Goals as goal
 

@@ -1,7 +1,5 @@
 -- What is recorded are the known facts of the effect.
-use Rattle.sas_mutex.proofs.Imports.{subst, arith, common_steps}
-use Rattle.sas_mutex.specs.Firing.{EffectPlace}
-use Rattle.sas_mutex.specs.Marks.{IsClean}
+use Rattle.sas_mutex.proofs.Imports.{subst, arith, common_steps, EffectPlace, IsClean}
 use Rattle.sas_mutex.proofs.TaskFacts.{known_here_exist}
 use Rattle.sas_mutex.proofs.effects.Firing.forget.Goals as goal
 

@@ -1,6 +1,5 @@
 -- The notes decide whether the fact can remain.
-use Rattle.sas_mutex.proofs.Imports.{◌∙◌, subst, inl, inr, tells_other}
-use Rattle.sas_mutex.specs.Firing.{EffectPlace}
+use Rattle.sas_mutex.proofs.Imports.{◌∙◌, subst, inl, inr, tells_other, EffectPlace}
 use Rattle.sas_mutex.proofs.FromNotes.{IsFiring, removes_is_removed, removed_is_removes}
 use Rattle.sas_mutex.proofs.effects.Firing.goes.Goals as goal
 

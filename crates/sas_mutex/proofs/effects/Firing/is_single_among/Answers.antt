@@ -1,7 +1,5 @@
 -- One more effect sets no other fact of the group, or doesn't exist.
-use Rattle.sas_mutex.proofs.Imports.{◌≡◌, length, below_more, subst, arith, get_or_default}
-use Rattle.sas_mutex.specs.Firing.{EffectPlace, operator_of}
-use Rattle.sas_mutex.specs.ByNotes.{IsApartAt}
+use Rattle.sas_mutex.proofs.Imports.{◌≡◌, length, below_more, subst, arith, get_or_default, EffectPlace, operator_of, IsApartAt}
 use Rattle.sas_mutex.proofs.effects.Firing.is_single_among.Goals as goal
 use Rattle.sas_mutex.proofs.effects.Firing.is_single_among.Goals.{else-other-effects-via-then-other-effects+else-not-not_both, else-other-effects-via-else-other-effects}
 

@@ -1,6 +1,5 @@
 -- None of the effects so far sets another fact of the group.
-use Rattle.sas_mutex.proofs.Imports.{ℕ, ◌<◌, get_or}
-use Rattle.sas_mutex.specs.ByNotes.{IsNotedAt, IsApartAt}
+use Rattle.sas_mutex.proofs.Imports.{ℕ, ◌<◌, get_or, IsNotedAt, IsApartAt}
 use Rattle.sas_mutex.proofs.effects.Firing.is_single_among.Given as goal
 
 abbrev pub invariant-loop-other : goal.invariant-loop-other

@@ -1,8 +1,6 @@
 -- One more fact, which may be the first on its variable. An effect that sets a fact of the group is
 -- on the variable of one of them.
-use Rattle.sas_mutex.proofs.Imports.{List, sym, subst, ap, arith, Fact, effect_at, group_at, sets, AreDistinct, each_more}
-use Rattle.sas_mutex.specs.Firing.{EffectPlace, operator_of}
-use Rattle.sas_mutex.specs.ByNotes.{IsSingleOn}
+use Rattle.sas_mutex.proofs.Imports.{List, sym, subst, ap, arith, Fact, effect_at, group_at, sets, AreDistinct, each_more, EffectPlace, operator_of, IsSingleOn}
 use Rattle.sas_mutex.proofs.effects.Firing.is_single_by_facts.Goals as goal
 use Rattle.sas_mutex.proofs.effects.Firing.is_single_by_facts.Goals.{else-begins_run-via-then-begins_run+else-not-is_single_on, else-begins_run-via-else-begins_run}
 

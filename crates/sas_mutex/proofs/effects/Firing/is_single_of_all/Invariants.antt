@@ -1,7 +1,5 @@
 -- None of the effects so far sets another fact of the group.
-use Rattle.sas_mutex.proofs.Imports.{ℕ, ◌<◌, operator_at, effect_at, group_at, NotBoth}
-use Rattle.sas_mutex.specs.Effects.{IsKept}
-use Rattle.sas_mutex.specs.ByNotes.{IsNotedAt}
+use Rattle.sas_mutex.proofs.Imports.{ℕ, ◌<◌, operator_at, effect_at, group_at, NotBoth, IsKept, IsNotedAt}
 use Rattle.sas_mutex.proofs.effects.Firing.is_single_of_all.Given as goal
 
 abbrev pub invariant-loop-other : goal.invariant-loop-other

@@ -1,6 +1,5 @@
 -- One more change sets no other fact of the group, or one does.
-use Rattle.sas_mutex.proofs.Imports.{below_more, ap, Change, tells_no}
-use Rattle.sas_mutex.specs.Firing.{EffectPlace}
+use Rattle.sas_mutex.proofs.Imports.{below_more, ap, Change, tells_no, EffectPlace}
 use Rattle.sas_mutex.proofs.PlainEffects.{change_apart, change_beside}
 use Rattle.sas_mutex.proofs.effects.Firing.is_single_of_changes.Goals as goal
 

@@ -1,6 +1,5 @@
 -- None of the changes so far sets another fact of the group.
-use Rattle.sas_mutex.proofs.Imports.{ℕ, ◌<◌}
-use Rattle.sas_mutex.specs.ByNotes.{NotBothAt}
+use Rattle.sas_mutex.proofs.Imports.{ℕ, ◌<◌, NotBothAt}
 use Rattle.sas_mutex.proofs.effects.Firing.is_single_of_changes.Given as goal
 
 abbrev pub invariant-loop-change : goal.invariant-loop-change

@@ -1,6 +1,5 @@
 -- The family with the group consists of the groups of the family and this one.
-use Rattle.sas_mutex.proofs.Imports.{◌≢◌, Bool, true, false, List, get_or, set, sym, ap, ◌∙◌, subst, true≢false, both_ways, length-set, IsGroupNote, arith, common_steps}
-use Rattle.sas_mutex.specs.ByNotes.{known_at}
+use Rattle.sas_mutex.proofs.Imports.{Bool, true, false, List, get_or, set, sym, ap, ◌∙◌, subst, true≢false, both_ways, length-set, IsGroupNote, arith, common_steps, known_at}
 use Rattle.sas_mutex.proofs.VerdictsSoFar.{keeps_then, keeps_itself, put_back, several_never_fire, noted_with, is_more}
 use Rattle.sas_mutex.proofs.FromNotes.{noted_fewer}
 use Rattle.sas_mutex.proofs.effects.Firing.keeps_with_itself.Goals as goal

@@ -1,7 +1,5 @@
 -- One more known fact shares no group with the fact, or is the one set apart.
-use Rattle.sas_mutex.proofs.Imports.{◌≢◌, List, [], Some, ap, ◌∙◌, subst, both_ways, All-contains, Fact, operator_at, known, known_left, turns_begin, turn_has, turn_more, turns_end, tells_yes, tells_no}
-use Rattle.sas_mutex.specs.Firing.{EffectPlace}
-use Rattle.sas_mutex.specs.ByNotes.{ShareOne, known_at}
+use Rattle.sas_mutex.proofs.Imports.{◌≢◌, List, [], Some, ap, ◌∙◌, subst, both_ways, All-contains, Fact, operator_at, known, known_left, turns_begin, turn_has, turn_more, turns_end, tells_yes, tells_no, EffectPlace, ShareOne, known_at}
 use Rattle.sas_mutex.proofs.TaskFacts.{known_at_exist}
 use Rattle.sas_mutex.proofs.KnownFacts.{share_one, share_kept}
 use Rattle.sas_mutex.proofs.FromNotes.{IsFiring}

@@ -1,7 +1,6 @@
 -- No group of the family contains the fact and one of the known facts so far, except perhaps the
 -- one set apart.
-use Rattle.sas_mutex.proofs.Imports.{◌≢◌, Some, Fact, known_left, Turns}
-use Rattle.sas_mutex.specs.ByNotes.{ShareOne, known_at}
+use Rattle.sas_mutex.proofs.Imports.{◌≢◌, Some, Fact, known_left, Turns, ShareOne, known_at}
 use Rattle.sas_mutex.proofs.effects.Firing.known_share.Given as goal
 
 abbrev pub invariant-loop-known : goal.invariant-loop-known

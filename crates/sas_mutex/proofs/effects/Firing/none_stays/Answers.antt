@@ -1,8 +1,5 @@
 -- One more run can't remain, or a fact of the group is known.
-use Rattle.sas_mutex.proofs.Imports.{◌≡◌, [], drop, subst, arith, refl, get_or_default, drop_all, operator_at, effect_at, FactExists, known, WellRanged, group_fact_exists, one_note_shows, tells_yes, tells_no, tells_other, common_steps}
-use Rattle.sas_mutex.specs.Firing.{EffectPlace}
-use Rattle.sas_mutex.specs.Effects.{IsKept}
-use Rattle.sas_mutex.specs.ByNotes.{IsUnknown, IsGoneAt}
+use Rattle.sas_mutex.proofs.Imports.{◌≡◌, [], drop, subst, arith, refl, get_or_default, drop_all, operator_at, effect_at, FactExists, known, WellRanged, group_fact_exists, one_note_shows, tells_yes, tells_no, tells_other, common_steps, EffectPlace, IsKept, IsUnknown, IsGoneAt}
 use Rattle.sas_mutex.proofs.GoneRuns.{such_none, such_all, next_within, next_on_one, next_too, such_more}
 use Rattle.sas_mutex.proofs.KnownFacts.{none_if_not_one}
 use Rattle.sas_mutex.proofs.FromNotes.{known_one_is_all}

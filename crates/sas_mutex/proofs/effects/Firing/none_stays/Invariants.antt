@@ -1,6 +1,5 @@
 -- The facts so far can't remain.
-use Rattle.sas_mutex.proofs.Imports.{drop, operator_at, effect_at, group_at, IsGone}
-use Rattle.sas_mutex.specs.Effects.{IsKept}
+use Rattle.sas_mutex.proofs.Imports.{drop, operator_at, effect_at, group_at, IsGone, IsKept}
 use Rattle.sas_mutex.proofs.GoneRuns.{SuchBefore}
 use Rattle.sas_mutex.proofs.effects.Firing.none_stays.Given as goal
 

@@ -1,9 +1,5 @@
 -- The known facts of the effect are recorded.
-use Rattle.sas_mutex.proofs.Imports.{List, [], length, ap, subst, sym, ◌∙◌, Fact, operator_at, Clash, known, arith, common_steps}
-use Rattle.sas_mutex.specs.Effects.{IsKept}
-use Rattle.sas_mutex.specs.Firing.{EffectPlace}
-use Rattle.sas_mutex.specs.Marks.{IsClean}
-use Rattle.sas_mutex.specs.ByNotes.{NeverFires}
+use Rattle.sas_mutex.proofs.Imports.{List, [], length, ap, subst, sym, ◌∙◌, Fact, operator_at, Clash, known, arith, common_steps, IsKept, EffectPlace, IsClean, NeverFires}
 use Rattle.sas_mutex.proofs.TaskFacts.{known_here_exist}
 use Rattle.sas_mutex.proofs.effects.Firing.note.Goals as goal
 

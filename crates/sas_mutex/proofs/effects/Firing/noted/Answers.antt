@@ -1,7 +1,6 @@
 -- The record of the group and the fact set apart cover all known facts.
-use Rattle.sas_mutex.specs.ByNotes.{known_at}
 use Rattle.sas_mutex.proofs.TaskFacts.{known_at_exist}
-use Rattle.sas_mutex.proofs.Imports.{completed}
+use Rattle.sas_mutex.proofs.Imports.{completed, known_at}
 use Rattle.sas_mutex.proofs.effects.Firing.noted.Goals as goal
 
 pub returns : goal.returns

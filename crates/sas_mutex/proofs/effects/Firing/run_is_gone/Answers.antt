@@ -1,7 +1,5 @@
 -- The first fact decides for the whole run, or one more fact can't remain.
-use Rattle.sas_mutex.proofs.Imports.{subst, arith, operator_at, effect_at, IsGone, each_more, variable_below, tells_yes, tells_no, common_steps}
-use Rattle.sas_mutex.specs.Firing.{EffectPlace}
-use Rattle.sas_mutex.specs.Effects.{IsKept}
+use Rattle.sas_mutex.proofs.Imports.{subst, arith, operator_at, effect_at, IsGone, each_more, variable_below, tells_yes, tells_no, common_steps, EffectPlace, IsKept}
 use Rattle.sas_mutex.proofs.FromNotes.{IsFiring}
 use Rattle.sas_mutex.proofs.GoneRuns.{settled_are_gone}
 use Rattle.sas_mutex.proofs.effects.Firing.run_is_gone.Goals as goal

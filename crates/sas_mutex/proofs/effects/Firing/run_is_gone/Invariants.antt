@@ -1,6 +1,5 @@
 -- The facts so far can't remain.
-use Rattle.sas_mutex.proofs.Imports.{ℕ, ◌<◌, get_or, Fact, operator_at, effect_at, IsGone}
-use Rattle.sas_mutex.specs.Effects.{IsKept}
+use Rattle.sas_mutex.proofs.Imports.{ℕ, ◌<◌, get_or, Fact, operator_at, effect_at, IsGone, IsKept}
 use Rattle.sas_mutex.proofs.effects.Firing.run_is_gone.Given as goal
 
 abbrev pub invariant-loop-fact : goal.invariant-loop-fact

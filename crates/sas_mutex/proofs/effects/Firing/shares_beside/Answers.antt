@@ -1,6 +1,5 @@
 -- A known fact other than the one set apart is recorded for each group that contains it.
-use Rattle.sas_mutex.proofs.Imports.{ℕ, List, length, sym, subst, ◌∙◌, ap, groups_of, Noted, AreBelow, HasNotedGroup, groups_below, tells_other}
-use Rattle.sas_mutex.specs.Firing.{EffectPlace}
+use Rattle.sas_mutex.proofs.Imports.{ℕ, List, length, sym, subst, ◌∙◌, ap, AreBelow, groups_below, tells_other, EffectPlace}
 use Rattle.sas_mutex.proofs.FromNotes.{IsFiring, noted_beside, beside_noted}
 use Rattle.sas_mutex.proofs.effects.Firing.shares_beside.Goals as goal
 

@@ -1,6 +1,5 @@
 -- The fact clashes if a group contains it and the fact set apart, or it and another known fact.
-use Rattle.sas_mutex.proofs.Imports.{subst, inl, inr, tells_yes, tells_other}
-use Rattle.sas_mutex.specs.Firing.{EffectPlace}
+use Rattle.sas_mutex.proofs.Imports.{subst, inl, inr, tells_yes, tells_other, EffectPlace}
 use Rattle.sas_mutex.proofs.FromNotes.{IsFiring, apart_clashes, beside_clashes, clash_shares, apart_or_beside}
 use Rattle.sas_mutex.proofs.effects.Firing.shares_known.Goals as goal
 

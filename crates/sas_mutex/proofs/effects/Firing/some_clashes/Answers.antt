@@ -1,6 +1,5 @@
 -- One more fact doesn't clash.
-use Rattle.sas_mutex.proofs.Imports.{sym, subst, arith, Fact, each_more, tells_no}
-use Rattle.sas_mutex.specs.ByNotes.{ClashesAt}
+use Rattle.sas_mutex.proofs.Imports.{sym, subst, arith, Fact, each_more, tells_no, ClashesAt}
 use Rattle.sas_mutex.proofs.effects.Firing.some_clashes.Goals as goal
 
 pub loop-fact-preserved : goal.loop-fact-preserved

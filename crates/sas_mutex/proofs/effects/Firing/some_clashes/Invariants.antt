@@ -1,6 +1,5 @@
 -- None of the facts so far clashes.
-use Rattle.sas_mutex.proofs.Imports.{ℕ, ◌<◌, get_or, Fact}
-use Rattle.sas_mutex.specs.ByNotes.{ClashesAt}
+use Rattle.sas_mutex.proofs.Imports.{ℕ, ◌<◌, get_or, Fact, ClashesAt}
 use Rattle.sas_mutex.proofs.effects.Firing.some_clashes.Given as goal
 
 abbrev pub invariant-loop-fact : goal.invariant-loop-fact

@@ -1,5 +1,5 @@
 -- The basis has grown, and nothing else was changed.
-use Rattle.sas_mutex.specs.Basis.{HasGrown}
+use Rattle.sas_mutex.proofs.Imports.{HasGrown}
 use Rattle.sas_mutex.proofs.family.Family.grow_basis.Given as goal
 
 abbrev pub invariant-loop-group : goal.invariant-loop-group

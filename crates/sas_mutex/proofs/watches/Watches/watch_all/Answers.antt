@@ -1,7 +1,5 @@
 -- One more group is watched.
-use Rattle.sas_mutex.proofs.Imports.{◌≡◌, ℕ, ◌+◌, ◌<◌, ◌++◌, ◌∷◌, [], List, None, length, get_or, subst, sym, refl, arith, each_more}
-use Rattle.sas_mutex.specs.declared.watches.Watch.{Watch}
-use Rattle.sas_mutex.specs.Watching.{HasWatchFrom}
+use Rattle.sas_mutex.proofs.Imports.{◌≡◌, ℕ, ◌+◌, ◌<◌, ◌++◌, ◌∷◌, [], List, None, length, get_or, subst, sym, refl, arith, each_more, Watch, HasWatchFrom}
 use Rattle.sas_mutex.proofs.WatchChains.{watches_one_more, has_still, has_now, grown}
 use Rattle.sas_mutex.proofs.Supporting.{kept_below}
 use Rattle.sas_mutex.proofs.watches.Watches.watch_all.Goals as goal

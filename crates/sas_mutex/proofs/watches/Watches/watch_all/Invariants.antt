@@ -1,6 +1,5 @@
 -- The operator watches the groups so far.
-use Rattle.sas_mutex.proofs.Imports.{ℕ, ◌<◌, length, get_or}
-use Rattle.sas_mutex.specs.Watching.{HasWatchFrom, WatchesMore}
+use Rattle.sas_mutex.proofs.Imports.{ℕ, ◌<◌, length, get_or, HasWatchFrom, WatchesMore}
 use Rattle.sas_mutex.proofs.watches.Watches.watch_all.Given as goal
 
 abbrev pub invariant-loop-group : goal.invariant-loop-group
