@@ -39,11 +39,11 @@ impl<'a, E: Settle<Task> + Drop> Settle<Task> for Reporting<'a, E> {
 }
 
 /// Makes the call with an evaluator of this kind.
-pub fn call_by_kind(rt: &HostRuntime, asked: Asked<'_>, words: &[u8], layered: &Layered<Task>) {
+pub fn call_by_kind(rt: &HostRuntime, asked: Asked<'_>, pieces: &[&[u8]], layered: &Layered<Task>) {
     match asked.kind {
-        "rounds" => call_with(rt, asked.call, words, layered, Rounds),
+        "rounds" => call_with(rt, asked.call, pieces, layered, Rounds),
         _ => match Worklist::new(rt.alloc(), layered) {
-            Ok(worklist) => call_with_worklist(rt, asked, words, layered, worklist),
+            Ok(worklist) => call_with_worklist(rt, asked, pieces, layered, worklist),
             Err(_) => say(rt, "wanting"),
         },
     }
@@ -53,7 +53,7 @@ pub fn call_by_kind(rt: &HostRuntime, asked: Asked<'_>, words: &[u8], layered: &
 fn call_with_worklist(
     rt: &HostRuntime,
     asked: Asked<'_>,
-    words: &[u8],
+    pieces: &[&[u8]],
     layered: &Layered<Task>,
     worklist: Worklist,
 )
@@ -62,9 +62,9 @@ fn call_with_worklist(
     match asked.kind {
         "reporting" => {
             let evaluator = worklist;
-            call_with(rt, asked.call, words, layered, Reporting { rt, evaluator })
+            call_with(rt, asked.call, pieces, layered, Reporting { rt, evaluator })
         }
-        _ => call_with(rt, asked.call, words, layered, worklist),
+        _ => call_with(rt, asked.call, pieces, layered, worklist),
     }
 }
 
@@ -72,29 +72,29 @@ fn call_with_worklist(
 fn call_with<E: Settle<Task> + Drop>(
     rt: &HostRuntime,
     call: &str,
-    words: &[u8],
+    pieces: &[&[u8]],
     layered: &Layered<Task>,
     mut evaluator: E,
 )
     requires { E.ready evaluator layered.now }
 {
     match call {
-        "settle" => settle(rt, &mut evaluator, layered, words),
-        _ => call_with_runner(rt, call, words, layered, evaluator),
+        "settle" => settle(rt, &mut evaluator, layered, pieces),
+        _ => call_with_runner(rt, call, pieces, layered, evaluator),
     }
 }
 
-/// Settles the states one after another by this evaluator, and prints each. `;` separates states. Detects a definition of settled states
-/// that uses a rule which can't fire, evaluates layers in another order, or allows circular derivations.
+/// Settles the states one after another by this evaluator, and prints each. Detects a definition of settled states that uses a rule which
+/// can't fire, evaluates layers in another order, or allows circular derivations.
 fn settle<E: Settle<Task>>(
     rt: &HostRuntime,
     evaluator: &mut E,
     layered: &Layered<Task>,
-    states: &[u8],
+    states: &[&[u8]],
 )
     requires { E.ready evaluator.old layered.now }
 {
-    for words in states.split(|&byte| byte == b';') {
+    for words in states {
         match state_of(rt.alloc(), layered.task(), words) {
             Ok(mut state) => {
                 evaluator.settle(layered, &mut state);

@@ -12,6 +12,7 @@ use sas_axioms::{Layered, meaning_laws};
 use sas_core::Task;
 use sas_mutex::group_laws;
 use sas_run::verdict_laws;
+use std::alloc::Global;
 use task_calls::{new_layered, new_state};
 use test_words::{Asked, answer, cut, say, task_of};
 
@@ -47,13 +48,27 @@ fn call_on_task(rt: &HostRuntime, call: &str, words: &[u8], task: &Task) -> Opti
 
 /// Makes the call on a task that has to be layered.
 fn call_with_layers(rt: &HostRuntime, asked: Asked<'_>, words: &[u8], task: Task) -> Option<()> {
+    let pieces = pieces_of(rt.alloc(), asked.call, words)?;
     let layered = Layered::new(rt.alloc(), task).ok()?;
     match asked.call {
         "check-groups" => check_all(rt, &layered),
-        _ => call_by_kind(rt, asked, words, &layered),
+        _ => call_by_kind(rt, asked, pieces.as_slice(), &layered),
     }
     drop(layered);
     Some(())
+}
+
+/// Returns the arguments, which `;` separates. Those of `plan` are one file.
+fn pieces_of<'a>(alloc: Global, call: &str, words: &'a [u8]) -> Option<Vec<&'a [u8]>> {
+    let mut pieces = Vec::new(alloc);
+    if call == "plan" {
+        pieces.push(words).ok()?;
+        return Some(pieces);
+    }
+    for piece in words.split(|&byte| byte == b';') {
+        pieces.push(piece).ok()?;
+    }
+    Some(pieces)
 }
 
 /// Calls each law once. Detects a law that can't be called.

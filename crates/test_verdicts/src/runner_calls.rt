@@ -12,14 +12,14 @@ use test_words::{cut, number_in, plan_of, say, say_debug, say_number, text_of};
 pub fn call_with_runner<E: Settle<Task> + Drop>(
     rt: &HostRuntime,
     call: &str,
-    words: &[u8],
+    pieces: &[&[u8]],
     layered: &Layered<Task>,
     evaluator: E,
 )
     requires { E.ready evaluator layered.now }
 {
     match Runner::new(rt.alloc(), layered, evaluator) {
-        Ok(mut runner) => start(rt, call, words, &mut runner),
+        Ok(mut runner) => start(rt, call, pieces, &mut runner),
         Err(_) => say(rt, "wanting"),
     }
 }
@@ -28,7 +28,7 @@ pub fn call_with_runner<E: Settle<Task> + Drop>(
 fn start<E: Settle<Task> + Drop>(
     rt: &HostRuntime,
     call: &str,
-    words: &[u8],
+    pieces: &[&[u8]],
     runner: &mut Runner<'_, E>,
 ) {
     let Ok(mut state) = runner.initial(rt.alloc()) else {
@@ -36,23 +36,23 @@ fn start<E: Settle<Task> + Drop>(
     };
     say_state(rt, &state);
     match call {
-        "plan" => check_plan(rt, words, runner),
-        _ => make_calls(rt, words, runner, &mut state),
+        "plan" => check_plan(rt, pieces, runner),
+        _ => make_calls(rt, pieces, runner, &mut state),
     }
 }
 
-/// Makes calls of a runner one after another in the state. `;` separates calls. Detects a definition of steps by which an effect that
+/// Makes calls of a runner one after another in the state. Detects a definition of steps by which an effect that
 /// doesn't fire requires no old value, effects are applied one after another, or the last of two conflicting effects wins; and a definition
 /// of choices that compares only the first bytes of names.
 fn make_calls<E: Settle<Task> + Drop>(
     rt: &HostRuntime,
-    calls: &[u8],
+    calls: &[&[u8]],
     runner: &mut Runner<'_, E>,
     state: &mut State,
 )
     requires { IsState runner.old.variables state.old }
 {
-    for call in calls.split(|&byte| byte == b';') {
+    for call in calls {
         make_call(rt, call, runner, state);
         say_state(rt, state);
     }
@@ -87,8 +87,12 @@ fn operator_of(layered: &Layered<Task>, word: &[u8]) -> Option<u32>
 
 /// Calls `check_plan` with the plan of a file, and prints the answer. Detects a definition of valid plans that uses the last operator of a
 /// name instead of the first, ignores a fact of the goal, or adds up cost lines under metric 0.
-fn check_plan<E: Settle<Task> + Drop>(rt: &HostRuntime, file: &[u8], runner: &mut Runner<'_, E>) {
-    let Some(plan) = plan_of(rt.alloc(), file) else {
+fn check_plan<E: Settle<Task> + Drop>(
+    rt: &HostRuntime,
+    pieces: &[&[u8]],
+    runner: &mut Runner<'_, E>,
+) {
+    let Some(plan) = pieces.first().and_then(|file| plan_of(rt.alloc(), file)) else {
         return say(rt, "not made");
     };
     match runner.check_plan(rt.alloc(), &plan) {
