@@ -10,16 +10,21 @@ calls.json: for each program what its calls print, in groups of the same call.
 
     call         its name, and for some calls a word that names its kind
     about        what is shown
-    refused      left out, or how many allocations come before the call, of which memory.py refuses each in turn
+    refused      true, or left out: memory.py refuses each allocation of the program in turn
     inputs       how many inputs the call reads at most, for memory.py; left out: two
     rows         [INPUT, ANSWER]: the bytes that the call is about, and what the program prints
+
+The calls of `run` and `judge` are made once more with writers of each room up to the length of the answer, and with plans that can't
+be opened or that fail behind each of their bytes.
 
 The calls over the files of tasks.json, lines.json, plans.json, verdicts.json and groups.json are made here, and those over
 the tasks of axioms.py, walks.py, following.py, families.py and large.py, and over devices that go on behind a failure.
 texts.py defines what a text is. Each case that fails has a line, and the last line is 'N passed, M failed'. The exit status is
 0 where none failed.
 """
+import itertools
 import os
+import re
 import subprocess
 import sys
 from concurrent.futures import ThreadPoolExecutor
@@ -36,27 +41,37 @@ from walks import walked_calls, walked_plans
 from why import written_plans
 
 SECONDS = 60
+# what a program is given at once: fewer bytes than it reads
+MOST = 65_000
+# the byte that separates calls and ends answers, and those that a script for a device or a list of pieces has a meaning for
+SEPARATOR, MEANT = b"\x1e", b"\x1e#|"
 # longer files are left to run.py: what tries each front of a file takes a time that grows as its square
-LONGEST = 8000
-MINIMAL, EMPTY = {"file": "cases/tasks/minimal.sas"}, "; cost = 0 (unit cost)\n"
+LONGEST, SMALL = 8000, 600
+# the length of an answer of which each front is tried, and how many are tried around the ends of the pieces of a longer one
+SHORT, NEAR = 2000, 20
+# where the pieces of a long answer end
+PIECES = (0, 60_089, 65_536)
 CORE, FILES, VERDICTS, REQUESTS = "test_core", "test_files", "test_verdicts", "test_requests"
-RIGHT = "right\n"
-LAYERED = "layered\nkept\n"
 EVALUATORS = ("rounds", "worklist")
+# the ways to read a file; the last two keep no text of it
 TASK_WAYS, TASK_REQUESTS = ("task", "task-text", "outline", "flat-task"), ("print", "show", "check", "mutex")
 PLAN_WAYS, PLAN_REQUESTS = ("plan", "plan-text", "flat-plan"), ("steps",)
+TEXT_WAYS = ("task", "task-text", "plan", "plan-text")
 # the requests over a plan and its task; the second one tells reasons, the third one traces the plan
 PLAN_OF_TASK = ("plan", "plan-why", "trace")
+MINIMAL, EMPTY = as_bytes({"file": "cases/tasks/minimal.sas"}), b"; cost = 0 (unit cost)\n"
 # what a trace tells first of the task of minimal.sas
-INITIAL = "initial 0 0 Atom dummy(val1)\n"
+INITIAL = b"initial 0 0 Atom dummy(val1)\n"
+# an answer: the plans that were opened, the status, and the text
+ANSWER = re.compile(rb"((?:open \d+\n)*)Ok\((?:Yes|No)\)\n(.*)\n", re.DOTALL)
 
 
 def case(program, call, given, answer, about=""):
-    """Returns a call of a program that is made at once, without an allocation before it."""
+    """Returns a call of a program."""
     return {
         "program": program,
         "name": f"{call}, {about}",
-        "input": b"%s 0\n%s" % (call.encode(), as_bytes(given)),
+        "input": b"%s\n%s" % (call.encode(), as_bytes(given)),
         "answer": as_bytes(answer),
     }
 
@@ -67,96 +82,154 @@ def written_cases():
     for program, groups in table("calls.json").items():
         for group in groups:
             for given, answer in group["rows"]:
-                about = f"{group.get('about', '')} {as_bytes(given)[:60]!r}"
-                yield case(program, group["call"], given, told_call(group["call"], given, answer), about)
+                call, given = group["call"], as_bytes(given)
+                answer = as_bytes(told_call(call, given, answer))
+                about = f"{group.get('about', '')} {given[:60]!r}"
+                yield case(program, call, given, answer, about)
+                told = ANSWER.fullmatch(answer)
+                if told and call.startswith(("run", "judge")) and call != "judge-slices":
+                    yield from narrow_cases(call, given, answer, *told.groups())
+                    yield from broken_cases(call, given, answer)
+
+
+def narrow_cases(call, given, answer, opened, text):
+    """Yields a call with writers that take few bytes at a time, and so many in all, and then fail, or take none. They could show
+    bytes that go out twice or not at all, and a piece of a long answer that isn't counted."""
+    length = len(text)
+    rooms = range(length + 1) if length < SHORT else [end + more for end in (*PIECES, length - NEAR) for more in range(NEAR + 1)]
+    fault = b"Err(Tool(Write { written: %d }))\n" if call == "judge" else b"Err(Write { written: %d })\n"
+    for room, piece, end in itertools.product(rooms, (1, 1000), (b"fails", b"stops")):
+        said = answer if room >= length else opened + fault % room + text[:room] + b"\n"
+        yield case(REQUESTS, call, b"%d,%d,%s%s" % (piece, room, end, given), said, f"room for {room}, {given[:60]!r}")
+
+
+def failing(held):
+    """Yields scripts for devices that fail once behind each front of a file, and then go on: how many lines come before, and the
+    script."""
+    for length, failure in itertools.product(range(len(held) + 1), (b"!", b"~")):
+        front, rest = held[:length], held[length:]
+        yield 1 + front.count(b"\n"), b"#".join(filter(None, [front, failure, rest]))
+
+
+def broken_cases(call, given, answer):
+    """Yields a call with plans that can't be opened, or that fail behind each front, unless a file is refused before. They could
+    show a failure that is ignored since the verdict is known before, or that is told of another plan, and lines that are written
+    before all plans are read."""
+    _, plans, task = given.split(b"|", 2)
+    if b" refused: " in answer or b"#" in plans or not call.endswith((*PLAN_OF_TASK, "judge")):
+        return
+    if call != "judge":
+        for _, script in failing(plans):
+            yield case(REQUESTS, call, b"|%s|%s" % (script, task), "Err(Read)\n\n", repr(script))
+        return
+    plans = plans.split(b"&") if plans else []
+    for number, plan in enumerate(plans):
+        label, held = plan.split(b":", 1)
+        faults = [("NotOpened", b"?"), *(("Read", script) for _, script in failing(held))]
+        for fault, script in faults:
+            listed_plans = b"&".join([*plans[:number], label + b":" + script, *plans[number + 1 :]])
+            said = "".join(f"open {it}\n" for it in range(number + 1)) + f"Err(Plan {{ number: {number}, fault: {fault} }})\n\n"
+            yield case(REQUESTS, call, b"|%s|%s" % (listed_plans, task), said, f"plan {number}: {script!r}")
+
+
+def told_fault(said):
+    """Returns the line that tells a fault."""
+    place, word = said.split(": ")
+    return f"{place}: {word.title().replace(' ', '')}\n"
+
+
+def read_as(way, text):
+    """Returns what a way to read a file prints of a whole one: its text, where the way keeps it."""
+    return ["whole\n", text, "\n"] if way in TEXT_WAYS else "read\n"
+
+
+def over(request, file):
+    """Returns what a request over one file is given."""
+    return [b"|", file, b"|"] if request in PLAN_REQUESTS else [b"||", file]
 
 
 def task_cases():
-    """Yields each task file, as it stands and with CR LF: read in any way, in any pieces, cut off, and from a device that
-    fails. They could show a line that is judged otherwise where a piece ends in it, and parts that don't make a task
-    again."""
+    """Yields each task file, as it stands and with CR LF: read in any way, in any pieces, and from a device that fails. They could
+    show a line that is judged otherwise where a piece ends in it, and parts that don't make a task again."""
     for task in table("tasks.json"):
         name, held = task["file"], as_bytes({"file": task["file"]})
-        whole = ["whole\n", {"file": name}, "\n"]
-        yield case(CORE, "new-task", ["|", {"file": name}], ["kept\n", whole], name)
-        yield case(CORE, "same-parts", ["|", {"file": name}], "equal\nequal tasks\n", name)
         if task["check"] == "task layered":
-            yield case(VERDICTS, "layered", {"file": name}, LAYERED, name)
-        for ends in ("\n", "\r\n"):
-            given, about = {"file": name, "ends": ends}, f"{name} {ends!r}"
-            for way in ("task", "task-text"):
-                yield case(FILES, f"read {way}", given, whole, about)
-            yield case(FILES, "cut-task", given, RIGHT, about)
+            yield case(VERDICTS, "layered", [b"|", held], "layered\n", name)
+        for given in (held, held.replace(b"\n", b"\r\n")):
             for way in TASK_WAYS:
-                yield case(FILES, f"read-fronts {way}", given, RIGHT, about)
-        if len(held) < 600:
-            yield from device_cases("task", TASK_WAYS, TASK_REQUESTS, name, held)
-            for request in PLAN_OF_TASK:
-                yield case(REQUESTS, f"run-broken-fronts {request}", held, RIGHT, name)
-            yield case(REQUESTS, "judge-broken-fronts", ["none:?|", held], RIGHT, name)
+                yield case(FILES, f"read {way}", given, read_as(way, held), name)
+            if len(held) < SMALL:
+                yield from cut_cases("feed-task", given, held, name)
+        if len(held) < SMALL:
+            yield from device_cases(TASK_WAYS, TASK_REQUESTS, name, held)
+            for request, (_, script) in itertools.product(PLAN_OF_TASK, failing(held)):
+                yield case(REQUESTS, f"run {request}", [b"||", script], "Err(Read)\n\n", name)
+            for _, script in failing(held):
+                yield case(REQUESTS, "judge", [b"|none:?|", script], "Err(Tool(Read))\n\n", name)
+    yield from behind_cases("feed-task", MINIMAL)
 
 
-def device_cases(reader, ways, requests, name, held):
-    """Yields a file that something follows, and devices that fail behind each front of it, or before all is written. They
-    could show a failure that is taken for the end, and bytes that go out twice."""
-    yield case(FILES, f"behind-{reader}", held, RIGHT, name)
-    for way in ways:
-        yield case(FILES, f"read-broken-fronts {way}", held, RIGHT, name)
-    for request in requests:
-        yield case(REQUESTS, f"run-broken-fronts {request}", held, RIGHT, name)
-        yield case(REQUESTS, f"run-narrow {request}", held, RIGHT, name)
+def cut_cases(call, given, held, about):
+    """Yields a file that is cut in two at each place, with and without an empty piece between, and in single bytes. They could
+    show a line that is judged otherwise where a piece ends in it."""
+    pieces = [(given[:place], *between, given[place:]) for place in range(len(given) + 1) for between in ((), (b"",))]
+    for cut in (*pieces, [given[place : place + 1] for place in range(len(given))]):
+        yield case(FILES, call, b"|".join(cut), ["read\n" * len(cut), "whole\n", held, "\n"], about)
+
+
+def behind_cases(call, held):
+    """Yields a whole file that a byte follows. They could show a byte that is taken there, such as a space or a CR."""
+    said = f"line {1 + held.count(10)}: Trailing\n"
+    for byte in (bytes([it]) for it in range(256) if it not in MEANT):
+        yield case(FILES, call, b"%s|%s" % (held, byte), f"read\n{said}{said}", repr(byte))
+
+
+def device_cases(ways, requests, name, held):
+    """Yields devices that fail behind each front of a file. They could show a failure that is taken for the end, and a read that
+    is tried again behind it, which goes well then."""
+    for line, script in failing(held):
+        for way in ways:
+            yield case(FILES, f"read {way}", script, f"line {line}: Read\nfailed\n", name)
+        for request in requests:
+            yield case(REQUESTS, f"run {request}", over(request, script), "Err(Read)\n\n", name)
 
 
 def told_cases():
-    """Yields files of devices that fail once, or end, and go on then. They could show a read that is tried again behind a
-    failure, which goes well then, or one that is made behind the end."""
+    """Yields files of devices that end, and go on then. They could show a read that is made behind the end."""
     plan = b"(go )\n(open door)\n; cost = 2 (unit cost)\n"
-    for what, ways, requests, held in (
-        ("task", TASK_WAYS, TASK_REQUESTS, as_bytes(MINIMAL)),
-        ("plan", PLAN_WAYS, PLAN_REQUESTS, plan),
-    ):
-        for length in (0, 1, len(held) // 2, len(held) - 1, len(held)):
-            front, rest, about = held[:length], held[length:], f"{length} bytes of a {what}"
-            for failure in (b"!", b"~"):
-                told = b"#".join(filter(None, [front, failure, rest]))
-                yield from told_calls(ways, requests, told, f"line {1 + front.count(10)}: read\nfailed\n", "Err(Read)\n\n", about)
-            if rest:
-                said, told = early_end(front), b"#".join([*filter(None, [front]), b"", b"!", rest])
-                answer = f"Ok(No)\n{what} refused: {said}\n\n"
-                yield from told_calls(ways, requests, told, f"{said}\nnot failed\n", answer, about)
-
-
-def told_calls(ways, requests, told, read, answer, about):
-    """Yields the calls that read from a device that follows this text, which return that, or report that."""
-    for way in ways:
-        yield case(FILES, f"read-reported {way}", told, read, about)
-    for request in requests:
-        yield case(REQUESTS, f"run-reported {request}", told, answer, about)
+    for what, ways, requests, held in (("task", TASK_WAYS, TASK_REQUESTS, MINIMAL), ("plan", PLAN_WAYS, PLAN_REQUESTS, plan)):
+        for length in (0, 1, len(held) // 2, len(held) - 1):
+            front, about = held[:length], f"{length} bytes of a {what}"
+            said, script = early_end(front), b"#".join([*filter(None, [front]), b"", b"!", held[length:]])
+            for way in ways:
+                yield case(FILES, f"read {way}", script, told_fault(said), about)
+            for request in requests:
+                yield case(REQUESTS, f"run {request}", over(request, script), f"Ok(No)\n{what} refused: {said}\n\n", about)
 
 
 def told_by(request, answer):
     """Returns this answer as a request about a plan gives it: a trace begins with the initial state, and `plan-why` tells why a task
     is refused, the one that a byte follows."""
     if request == "trace":
-        return answer.replace("Ok(Yes)\n", f"Ok(Yes)\n{INITIAL}")
-    return told_call(request, ["|", MINIMAL, "x"], answer)
+        return answer.replace(b"Ok(Yes)\n", b"Ok(Yes)\n" + INITIAL)
+    return told_call(request, [b"||", MINIMAL, b"x"], answer)
 
 
 def told_plan_cases():
     """Yields the same for `run` with a plan and its task. They could show a plan that is read before its task, too: the
     task's device comes to its end or fails before that."""
+    valid = b"Ok(Yes)\nplan valid: 0 steps, cost 0\n\n"
     for plan, task, answer in (
-        ("~#" + EMPTY, MINIMAL, "Err(Read)\n\n"),
-        (EMPTY + "#!", MINIMAL, "Err(Read)\n\n"),
-        (EMPTY + "##!", MINIMAL, "Ok(Yes)\nplan valid: 0 steps, cost 0\n\n"),
-        (EMPTY, ["~#", MINIMAL], "Err(Read)\n\n"),
-        ("!", [MINIMAL, "#~"], "Err(Read)\n\n"),
-        (EMPTY + "#", [MINIMAL, "##!"], "Ok(Yes)\nplan valid: 0 steps, cost 0\n\n"),
-        ("!", [MINIMAL, "#x#~"], "Ok(No)\ntask refused: line 25: trailing\n\n"),
+        (b"~#" + EMPTY, MINIMAL, b"Err(Read)\n\n"),
+        (EMPTY + b"#!", MINIMAL, b"Err(Read)\n\n"),
+        (EMPTY + b"##!", MINIMAL, valid),
+        (EMPTY, b"~#" + MINIMAL, b"Err(Read)\n\n"),
+        (b"!", MINIMAL + b"#~", b"Err(Read)\n\n"),
+        (EMPTY + b"#", MINIMAL + b"##!", valid),
+        (b"!", MINIMAL + b"#x#~", b"Ok(No)\ntask refused: line 25: trailing\n\n"),
     ):
         for request in PLAN_OF_TASK:
-            said = told_by(request, answer)
-            yield case(REQUESTS, f"run-reported {request}", [plan, "|", task], said, f"{plan!r}")
+            yield case(REQUESTS, f"run {request}", b"|%s|%s" % (plan, task), told_by(request, answer), f"{plan!r}")
 
 
 def wide_cases():
@@ -165,42 +238,21 @@ def wide_cases():
     for width in (65, 130):
         task, about = wide_task(width), f"{width} of everything"
         text, plans = text_of(task), wide_plans(width)
-        yield from wide_file_cases("task", text, about)
-        yield from wide_file_cases("plan", plan_text(plans[0][0], 0), about)
-        yield from longest_cases(text, plan_text(plans[0][0], 0), about)
+        for ways, file in ((TASK_WAYS, text), (PLAN_WAYS, plan_text(plans[0][0], 0))):
+            yield case(FILES, f"feed-{ways[0]}", file, ["read\n", *read_as(ways[0], file)], about)
+            for way in ways:
+                yield case(FILES, f"read {way}", file, read_as(way, file), about)
         yield from judged_cases(text, plans, about)
-        yield case(CORE, "new-task", ["|", text], f"kept\nwhole\n{text}\n", about)
-        yield case(CORE, "same-parts", ["|", text], "equal\nequal tasks\n", about)
-        yield case(VERDICTS, "layered", text, LAYERED, about)
+        yield case(REQUESTS, "run print", over("print", text), f"Ok(Yes)\n{text}\n", about)
+        yield case(REQUESTS, "run check", over("check", text), "Ok(Yes)\ntask layered\n\n", about)
+        yield case(VERDICTS, "layered", f"|{text}", "layered\n", about)
         joint = [said for _, said in wide_groups(width)]
         said = "".join(f"{word} {it}\n" for word in ("joint", "alone") for it in joint)
-        yield case(VERDICTS, "check-groups", text, said, about)
+        yield case(VERDICTS, "check-groups", f"|{text}", said, about)
         for names, cost, _ in plans:
             answer = f"{state_line(initial(task))}\n{verdict(task, names, cost)[1]}\n"
             for way in EVALUATORS:
                 yield case(VERDICTS, f"plan {way}", [plan_text(names, cost), "|", text], answer, about)
-
-
-def wide_file_cases(what, text, about):
-    """Yields the file of a wide task or of its plan, read and written again. They could show want of memory that no one was
-    refused."""
-    whole = f"whole\n{text}\n"
-    yield case(FILES, f"read {what}", text, whole, about)
-    yield case(FILES, f"read {what}-text", text, whole, about)
-    yield case(FILES, f"feed-{what}", text, f"taken\n{whole}", about)
-
-
-def longest_cases(task, plan, about):
-    """Yields the calls that show how much is read at a time of a long task and of a long plan. They could show a reader with
-    a buffer that is longer than allowed."""
-    for ways, requests, file in ((TASK_WAYS, TASK_REQUESTS, task), (PLAN_WAYS, PLAN_REQUESTS, plan)):
-        for way in ways:
-            yield case(FILES, f"longest {way}", file, "read\nright\n", about)
-        for request in requests:
-            yield case(REQUESTS, f"run-longest {request}", file, "answered\nright\n", about)
-    for request in PLAN_OF_TASK:
-        yield case(REQUESTS, f"run-longest {request}", [plan, "|", task], "answered\nright\n", about)
-    yield case(REQUESTS, "judge-longest", [listed([plan, plan]), "|", task], "answered\nright\n", about)
 
 
 def listed(plans):
@@ -209,45 +261,44 @@ def listed(plans):
 
 
 def judged_cases(task, plans, about):
-    """Yields the plans of a wide task in one list, of which the first one alone is valid. They could show want of memory that no
-    one was refused, and a plan for which those before it count."""
+    """Yields the plans of a wide task in one list, of which the first one alone is valid, and each by itself. They could show want
+    of memory that no one was refused, and a plan for which those before it count."""
+    opened = "".join(f"open {number}\n" for number in range(len(plans)))
     said = "".join(f"{number}: {verdict}\n" for number, (_, _, verdict) in enumerate(plans))
     summary = f"{len(plans)} plans, 1 valid, best cost {plans[0][1]}: 0\n"
     files = listed(plan_text(names, cost) for names, cost, _ in plans)
-    yield case(REQUESTS, "judge", [files, "|", task], f"no\n{said}{summary}\n", about)
+    yield case(REQUESTS, "judge", ["|", files, "|", task], f"{opened}Ok(No)\n{said}{summary}\n", about)
+    for number, (names, cost, said) in enumerate(plans):
+        status = "No" if number else "Yes"
+        yield case(REQUESTS, "run plan", ["|", plan_text(names, cost), "|", task], f"Ok({status})\n{said}\n\n", about)
 
 
 def line_cases():
     """Yields each changed line of a task file that isn't too long. They could show two ways to read a task that don't
     agree."""
     for changed in changed_lines():
-        if len(as_bytes(changed["task"])) > LONGEST:
+        held = as_bytes(changed["task"])
+        if len(held) > LONGEST or any(it in held for it in MEANT):
             continue
-        whole = ["whole\n", changed["task"], "\n"]
-        answer = whole if changed["fault"] is None else f"{changed['fault']}\n"
-        for way in ("task", "outline")[: 1 if changed["fault"] is None else 2]:
-            yield case(FILES, f"read {way}", changed["task"], answer, changed["name"])
+        for way in ("task", "outline"):
+            answer = read_as(way, held) if changed["fault"] is None else told_fault(changed["fault"])
+            yield case(FILES, f"read {way}", held, answer, changed["name"])
 
 
 def plan_cases():
     """Yields each plan file that isn't too long: read in any way, and in pieces. They could show two ways to read a plan
     that don't agree."""
     for plan in table("plans.json"):
-        held, output = as_bytes(plan["plan"]), as_bytes(plan["output"])
-        if len(held) > LONGEST:
+        held, output, name = as_bytes(plan["plan"]), as_bytes(plan["output"]), plan["name"]
+        if len(held) > LONGEST or any(it in held for it in MEANT):
             continue
-        if plan["status"]:
-            answer = output.removeprefix(b"plan refused: ")
-        else:
-            answer = b"whole\n" + output + b"\n"
-        for way in ("plan", "plan-text"):
-            yield case(FILES, f"read {way}", held, answer, plan["name"])
-        if plan["status"] == 0:
-            yield case(FILES, "cut-plan", held, RIGHT, plan["name"])
-        if plan.get("cut_off"):
-            for way in PLAN_WAYS:
-                yield case(FILES, f"read-fronts {way}", held, RIGHT, plan["name"])
-            yield from device_cases("plan", PLAN_WAYS, PLAN_REQUESTS, plan["name"], held)
+        for way in PLAN_WAYS:
+            answer = told_fault(plan["output"].strip().removeprefix("plan refused: ")) if plan["status"] else read_as(way, output)
+            yield case(FILES, f"read {way}", held, answer, name)
+        if plan["status"] == 0 and len(held) < SMALL:
+            yield from cut_cases("feed-plan", held, output, name)
+            yield from device_cases(PLAN_WAYS, PLAN_REQUESTS, name, held)
+    yield from behind_cases("feed-plan", EMPTY)
 
 
 def verdict_cases():
@@ -263,13 +314,11 @@ def verdict_cases():
 
 
 def why_cases():
-    """Yields the plans of why.json, with reasons, and into writers that stop. They could show a text that isn't that of the
-    program, and bytes that go out twice or not at all where a piece of it ends."""
+    """Yields the plans of why.json, with reasons. They could show a text that isn't that of the program."""
     for name, task, plan, lines in written_plans():
-        said = "yes" if lines[0].startswith("plan valid") else "no"
-        answer = "".join(f"{line}\n" for line in (said, *lines, ""))
-        yield case(REQUESTS, "run plan-why", [plan, "|", task], answer, name)
-        yield case(REQUESTS, "run-narrow plan-why", [plan, "|", task], RIGHT, name)
+        status = "Yes" if lines[0].startswith("plan valid") else "No"
+        answer = "".join(f"{line}\n" for line in (f"Ok({status})", *lines, ""))
+        yield case(REQUESTS, "run plan-why", ["|", plan, "|", task], answer, name)
 
 
 def step_cases():
@@ -281,12 +330,11 @@ def step_cases():
 
 
 def following_cases():
-    """Yields long runs over tasks made at random, through each evaluator: those that go on from the state before, and, step by
-    step, those that settle each state by itself. They could show a state that rests on the one before it."""
+    """Yields long runs over tasks made at random: those that go on from the state before, and, step by step, those that settle each
+    state by itself. They could show a state that rests on the one before it."""
     for made in called_runs():
         for call, (words, answer) in made["calls"].items():
-            for way in EVALUATORS:
-                yield case(VERDICTS, f"{call} {way}", [words, "|", made["task"]], answer, made["name"])
+            yield case(VERDICTS, call, [words, "|", made["task"]], answer, made["name"])
 
 
 def group_cases():
@@ -294,7 +342,7 @@ def group_cases():
     itself. They could show a definition of kept groups by which too few are shown."""
     for made in (*table("groups.json"), *grouped_tasks()):
         if len(as_bytes(made["task"])) <= LONGEST:
-            yield case(VERDICTS, "check-groups", made["task"], made["call"], made["name"])
+            yield case(VERDICTS, "check-groups", ["|", made["task"]], made["call"], made["name"])
 
 
 def numbers(values):
@@ -316,8 +364,8 @@ def layer_cases():
     """Yields the layers of tasks made at random. They could show a wrong definition of layered tasks, and faults in another
     order."""
     for number, made in enumerate(spoiled_tasks()):
-        answer = f"kept\n{made['fault']}\n" if made["fault"] else LAYERED
-        yield case(VERDICTS, "layered", made["task"], answer, f"random task {number}")
+        answer = f"{made['fault'] or 'layered'}\n"
+        yield case(VERDICTS, "layered", ["|", made["task"]], answer, f"random task {number}")
 
 
 def cases():
@@ -328,30 +376,50 @@ def cases():
     return [*written_cases(), *files, *devices, *random]
 
 
-def faults(programs, call):
-    """Returns what is wrong with the answer of a program to a call of it."""
-    if call["program"] not in programs:
-        return [f"{call['program']} is none of the programs"]
-    program = programs[call["program"]]
+def batches(calls):
+    """Yields the calls in order, as many of one program together as it can be given at once."""
+    batch, size = [], 0
+    for call in calls:
+        size += len(call["input"]) + 1
+        if batch and (size > MOST or call["program"] != batch[0]["program"]):
+            yield batch
+            batch, size = [], len(call["input"]) + 1
+        batch.append(call)
+    yield batch
+
+
+def answers(programs, batch):
+    """Returns what a program prints of each call of a batch, or what is wrong with its run."""
+    program = programs.get(batch[0]["program"])
+    if program is None:
+        return f"{batch[0]['program']} is none of the programs"
+    given = SEPARATOR.join(call["input"] for call in batch)
     try:
-        ran = subprocess.run([program], input=call["input"], capture_output=True, timeout=SECONDS, check=False)
+        ran = subprocess.run([program], input=given, capture_output=True, timeout=SECONDS, check=False)
     except subprocess.TimeoutExpired:
-        return [f"no end within {SECONDS} seconds"]
-    found = []
-    if ran.returncode or ran.stderr:
-        found.append(f"status {ran.returncode}, and on standard error {ran.stderr[:200]!r}")
-    if ran.stdout != call["answer"]:
-        found.append(f"{ran.stdout[:300]!r}, not {call['answer'][:300]!r}")
-    return found
+        return f"no end within {SECONDS} seconds"
+    *told, last = ran.stdout.split(SEPARATOR)
+    if ran.returncode or ran.stderr or last or len(told) != len(batch):
+        return f"status {ran.returncode}, {len(told)} answers for {len(batch)} calls, and on standard error {ran.stderr[:200]!r}"
+    return told
+
+
+def faults(programs, batch):
+    """Returns what is wrong with the answers of a program to a batch of calls."""
+    told = answers(programs, batch)
+    if isinstance(told, str):
+        return [[told] for _ in batch]
+    pairs = zip(told, batch, strict=True)
+    return [[] if said == call["answer"] else [f"{said[:300]!r}, not {call['answer'][:300]!r}"] for said, call in pairs]
 
 
 def main():
     if len(sys.argv) < 2:
         sys.exit(__doc__)
     programs = {os.path.basename(path): os.path.abspath(path) for path in sys.argv[1:]}
-    calls = cases()
+    calls = sorted(cases(), key=lambda call: call["program"])
     with ThreadPoolExecutor(os.cpu_count()) as pool:
-        wrong = list(pool.map(lambda call: faults(programs, call), calls))
+        wrong = list(itertools.chain.from_iterable(pool.map(lambda batch: faults(programs, batch), batches(calls))))
     report.end(calls, wrong)
 
 

@@ -284,51 +284,31 @@ def lines_of(lines):
 
 
 def walked(task, run):
-    """Returns what the call `walk` prints of a run: the states that are settled, where the initial one is settled twice, and then
-    as `plan` does."""
+    """Returns what the call `plan reporting` prints of a run: the initial state, which is settled twice, then the states that are
+    settled, and then what `plan` prints."""
     first, chosen = state_line(initial(task)), " ".join(str(operator) for operator, _ in run)
     states = [state_line(state) for _, state in run]
-    return lines_of([first, first, *states, first, f"operators {chosen}", f"cost {cost_of_run(task, run)}"])
+    return lines_of([first, first, first, *states, f"operators {chosen}", f"cost {cost_of_run(task, run)}"])
 
 
 def stepped(task, run):
     """Returns what the call `steps` prints of a run."""
-    return lines_of([state_line(initial(task)), *(line for _, state in run for line in ("made", state_line(state)))])
-
-
-def fact_on(chance, task, state, var):
-    """Returns a fact on a variable; a third of them hold."""
-    return var, state[var] if chance.random() < 0.3 else chance.randrange(task["ranges"][var])
-
-
-def pairs_in_turn(chance, task, count):
-    """Returns a state and pairs of facts on basic variables, as the words of the call `follow`, and what it prints."""
-    states, basic = States(task), on_layers(task, lambda layer: layer is None)
-    start = [chance.randrange(size) for size in task["ranges"]]
-    state = states.behind(start, ("", [], [], 0))
-    words, said = [" ".join(map(str, start))], [state_line(state)]
-    for _ in range(count):
-        pair = [fact_on(chance, task, state, var) for var in chance.sample(basic, 2)]
-        state = states.behind(state, ("", [], [([], var, -1, value) for var, value in pair], 0))
-        words.append(",".join(f"{var} {value}" for var, value in pair))
-        said.append(state_line(state))
-    return ";".join(words), lines_of(said)
+    return lines_of([state_line(initial(task)), *(line for _, state in run for line in ("Ok(())", state_line(state)))])
 
 
 def called_runs():
-    """Yields runs over tasks, as texts, each with what calls print of it, which tell each state: of the plan, of its steps one by
-    one, where each state is settled by itself, and of pairs of facts that are set in turn. They could show the same as the long
-    runs."""
+    """Yields runs over tasks, as texts, each with what calls print of it, which tell each state: of the plan, and of its steps one
+    by one, where each state is settled by itself. They could show the same as the long runs."""
     chance = random.Random(SEED + 1)
     made = (*made_runs(chance, CALLED_TASKS, CALLED_STEPS), *storm_runs(chance, STORM_STEPS))
     for number, (task, _, run) in enumerate(made):
-        pairs, followed = pairs_in_turn(chance, task, CALLED_STEPS)
+        steps = ";".join(f"step {operator}" for operator, _ in run)
         yield {
             "name": f"run {number}",
             "task": text_of(task),
             "calls": {
-                "walk": (plan_text(names_of(task, run), cost_of_run(task, run)), walked(task, run)),
-                "steps": (";".join(f"step {operator}" for operator, _ in run), stepped(task, run)),
-                "follow": (pairs, followed),
+                "plan reporting": (plan_text(names_of(task, run), cost_of_run(task, run)), walked(task, run)),
+                "steps rounds": (steps, stepped(task, run)),
+                "steps worklist": (steps, stepped(task, run)),
             },
         }

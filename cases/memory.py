@@ -3,11 +3,9 @@
 
     python3 cases/memory.py SAS PROGRAM ..
 
-The programs are those of `calls.py`. The calls are those of calls.json with a number of allocations that come before them:
-what they are given is made by so many, which are left alone. Then a program makes one allocation and reports if it is refused
-(`before`), and then makes the call. So a run that refuses that one answers `before`. The next ones refuse those of the call,
-one after another, and answer `wanting`, where the call wants memory and all that has to hold then holds. The last one refuses
-nothing and has the answer of the call. A reader that wants memory returns that for each piece behind it, too.
+The programs are those of `calls.py`. The calls are those of calls.json with `refused`. A program answers `not made` where what the
+call is given doesn't fit into memory, and `wanting` where the call wants memory; what it printed before is the front of its answer.
+The last run refuses nothing and has the answer of the call. A reader that wants memory returns that for each piece behind it, too.
 
 SAS is the program itself, with requests over a task of the examples and over one that has several of everything. Each
 allocation of it is refused in turn, until a run meets no refusal. With one refused it prints `sas: out of memory` on standard
@@ -40,7 +38,10 @@ from traces import traced
 
 # no run of these makes more allocations
 MOST = 1000
-WANTING = re.compile(rb"(taken\n)*(wanting\n)+")
+# the byte that ends an answer
+END = b"\x1e"
+WANTING = re.compile(rb"(.*?)(wanting\n)+", re.DOTALL)
+NOT_MADE = re.compile(rb"(.*?)not made\n", re.DOTALL)
 OUT_OF_MEMORY = (3, b"", b"sas: out of memory\n")
 # how many of everything a task has that is refused memory for
 SEVERAL = 65
@@ -82,27 +83,26 @@ def ended(library, command, given, number):
             os.close(note)
 
 
-def runs(library, command, given, first):
-    """Yields how a command ends with each allocation refused, from this one on, up to the run that refuses none."""
-    for number in range(first, MOST):
-        end, was_refused = ended(library, command, given, number)
+def runs(library, call):
+    """Yields how the command of a call ends with each allocation refused, up to the run that refuses none."""
+    for number in range(1, MOST):
+        end, was_refused = ended(library, call["command"], call["given"], number)
         yield end, was_refused
         if not was_refused:
             return
 
 
 def refused_calls(programs):
-    """Yields each call that is to be refused memory, with the program that makes it and the first allocation that is
-    refused. It could show what is lost then, and a refusal that comes where none was."""
+    """Yields each call that is to be refused memory, with the program that makes it. It could show a call that goes on without the
+    memory that it was refused, and a refusal that comes where none was."""
     for name, groups in table("calls.json").items():
         for group in groups:
             for given, answer in group["rows"] if "refused" in group else ():
                 yield {
                     "command": [programs[name]],
                     "name": f"{group['call']} {as_bytes(given)[:40]!r}",
-                    "given": b"%s 1\n%s" % (group["call"].encode(), as_bytes(given)),
+                    "given": b"%s\n%s" % (group["call"].encode(), as_bytes(given)),
                     "answer": as_bytes(told_call(group["call"], given, answer)),
-                    "first": 1 + group["refused"],
                     "inputs": group.get("inputs", 2),
                 }
 
@@ -126,7 +126,7 @@ def refused_requests(sas, folder):
 def asked(sas, words, status, output=None, error=b""):
     """Returns a request to the program, its answer, where None is some text that is due, and standard error."""
     name, command = " ".join(words), [sas, *words]
-    return {"command": command, "name": name, "given": b"", "first": 1, "status": status, "output": output, "error": error}
+    return {"command": command, "name": name, "given": b"", "status": status, "output": output, "error": error}
 
 
 def written(folder, name, text):
@@ -223,26 +223,28 @@ def refused_plans(sas, folder):
 
 
 def letter(end, was_refused, answer):
-    """Returns what came of a run of a call, in a letter: before, wanting, the answer itself, or something else."""
-    _, said, _ = end
+    """Returns what came of a run of a call, in a letter: not made, wanting, the answer itself, or something else."""
+    said = end[1].removesuffix(END)
     if said == answer:
         return "A" if was_refused else "a"
-    if said == b"before\n":
-        return "b"
-    return "w" if WANTING.fullmatch(said) else "?"
+    for word, form in (("n", NOT_MADE), ("w", WANTING)):
+        told = form.fullmatch(said)
+        if told and answer.startswith(told[1]):
+            return word
+    return "?"
 
 
 def wrong_with_call(library, call):
     """Returns what is wrong with a call."""
-    came = "".join(letter(*run, call["answer"]) for run in runs(library, call["command"], call["given"], call["first"]))
-    # The first one shows that none of the call was left alone. Each input is read without memory for large pieces, which is
-    # asked for before all other, and, if its lines end with CR LF, without memory for a copy with LF alone.
-    return [] if re.fullmatch("b+(A{0,2}w+){1,%d}A*a" % call["inputs"], came) else [came]
+    came = "".join(letter(*run, call["answer"]) for run in runs(library, call))
+    # Each input is read without memory for large pieces, which is asked for before all other, and, if its lines end with CR LF,
+    # without memory for a copy with LF alone.
+    return [] if "w" in came and re.fullmatch("n*(A{0,2}[nw]+){1,%d}A*a" % call["inputs"], came) else [came]
 
 
 def wrong_with_request(library, call):
     """Returns what is wrong with a request to the program itself."""
-    *refused, (last, was_refused) = runs(library, call["command"], call["given"], call["first"])
+    *refused, (last, was_refused) = runs(library, call)
     due = last[1] if call["output"] is None else call["output"]
     answered = not was_refused and last == (call["status"], due, call["error"]) and (last[1] or call["output"] is not None)
     wrong = [f"allocation {number}: {end}" for number, (end, _) in enumerate(refused, 1) if end not in (OUT_OF_MEMORY, last)]

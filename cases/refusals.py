@@ -280,7 +280,7 @@ def told_call(call, given, answer):
     if not call.endswith("plan-why"):
         return answer
     lines = as_bytes(answer).decode("latin-1").split("\n")
-    plan, task = as_bytes(given).split(b"|", 1)
+    _, plan, task = as_bytes(given).split(b"|", 2)
     return "\n".join(it for line in lines for it in (line, *behind_file(line, task if line.startswith("task ") else plan)))
 
 

@@ -92,11 +92,11 @@ def step_answer(task, state, operator):
     """Returns what comes of the step of an operator in a state, and the state behind it."""
     for var, value in preconditions(operator):
         if state[var] != value:
-            return f"NotApplicable {{ fact: Fact {{ var: {var}, value: {value} }} }}", state
+            return f"Err(NotApplicable {{ fact: Fact {{ var: {var}, value: {value} }} }})", state
     effect = conflict(state, operator)
     if effect is not None:
-        return f"Conflict {{ effect: {effect} }}", state
-    return "made", next_state(task, state, operator)
+        return f"Err(Conflict {{ effect: {effect} }})", state
+    return "Ok(())", next_state(task, state, operator)
 
 
 def call_answer(task, state, call, word):

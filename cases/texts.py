@@ -11,6 +11,9 @@ A text of a case is one of
         "from": 20       without so many bytes at the front
         "first": 20      without what stands behind so many bytes
         "then": TEXT     what follows
+
+    {"parts": NAME, ..}   the words of the parts of that name of parts.json, with other fields: a list is its length and its items,
+                          and `;` ends a word
 """
 import functools
 import json
@@ -45,7 +48,7 @@ def as_bytes(text):
     if isinstance(text, str):
         return text.encode("latin-1")
     if isinstance(text, dict):
-        return changed(text)
+        return described(text) if "parts" in text else changed(text)
     return b"".join(as_bytes(part[0]) * part[1] if is_repeated(part) else as_bytes(part) for part in text)
 
 
@@ -62,6 +65,21 @@ def changed(text):
             lines[int(key[5:]) - 1] = None if line is None else as_bytes(line)
     held = as_bytes(text.get("ends", "\n")).join(line for line in lines if line is not None)
     return held[text.get("from", 0) : text.get("first")] + as_bytes(text.get("then", ""))
+
+
+def described(text):
+    """Returns the words of parts with other fields."""
+    fields = {name: it for name, it in text.items() if name != "parts"}
+    return words_of({**table("parts.json")[text["parts"]], **fields}).encode("latin-1")
+
+
+def words_of(part):
+    """Returns the words of a part."""
+    if isinstance(part, dict):
+        return "".join(map(words_of, part.values()))
+    if isinstance(part, list):
+        return f"{len(part)};" + "".join(map(words_of, part))
+    return f"{'none' if part is None else part};"
 
 
 def with_line(name, line, text):

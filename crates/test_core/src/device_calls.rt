@@ -1,86 +1,97 @@
 // Calls of `sas_lines` on devices.
-use sas_lines::trial::{Breaks, Narrow};
-use sas_lines::{Opened, Short, Watched, write_out};
-use std::alloc::{AllocError, Global};
-use std::io::Read;
+use sas_lines::trial::Breaks;
+use sas_lines::{Opened, Watched, write_out};
+use std::io;
+use std::io::{Error, Read, Write};
 use test_words::{
-    Asked, ReportedReader, ReportedWriter, cut, say, say_bytes, say_number, say_right,
+    Asked, ReportedReader, cut, failure, narrow_of, number_in, say, say_debug, say_either,
+    say_line, say_number,
 };
 
-/// Makes the call if it is defined in this file. Returns whether it is.
-pub fn call_of_devices<R: AllocGlobal + Print>(
-    rt: &R,
-    asked: &Asked<'_>,
-) -> Result<bool, AllocError> {
-    match asked.call {
-        "take" => {
-            let device = Breaks::new(asked.bytes, asked.kind == "interrupted");
-            say_taken(rt, device, &mut [0; 2], asked.bytes.len());
+/// An input that follows a text.
+type Input<'a> = Opened<ReportedReader<'a>, ReportedReader<'a>>;
+
+/// A writer that follows the bytes of a text, one at each write. For a digit it takes at most this many bytes, for `!` it fails, and for
+/// `~` it fails as interrupted. After each of these it continues with the next byte. After the last byte it takes everything.
+#[derive(Drop)]
+struct ReportedWriter<'a> {
+    kept: Vec<u8>,
+    turns: &'a [u8],
+}
+
+impl<'a> Write for ReportedWriter<'a> {
+    fn write(&mut self, buf: &[u8]) -> io::Result<usize> {
+        let (turn, rest) = self.turns.split_at(self.turns.len().min(1));
+        self.turns = rest;
+        if let Some(kind) = failure(turn) {
+            return Err(Error::from(kind));
         }
-        "take-reported" => take_reported(rt, asked.kind, asked.bytes),
-        "give-reported" => give_reported(rt, asked.bytes),
-        "write-out" => say_right(rt, wrong_room(rt.alloc(), asked.bytes)?),
-        "write-out-reported" => write_out_reported(rt, asked.bytes),
-        _ => return Ok(false),
+        let most = number_in(turn).map_or(buf.len(), |most| most as usize);
+        let taken = buf.len().min(most);
+        self.kept.extend_from_slice(&buf[..taken])?;
+        Ok(taken)
     }
-    Ok(true)
-}
 
-/// Calls `Watched::take` of a reader that follows a text, or of an opened input over such a reader. Detects a read that is repeated after a
-/// failure, and then succeeds.
-fn take_reported<P: Print>(out: &P, kind: &str, text: &[u8]) {
-    let device = ReportedReader::new(text);
-    match kind {
-        "1" => say_taken(out, device, &mut [0; 1], text.len()),
-        "2" => say_taken(out, device, &mut [0; 2], text.len()),
-        _ => say_taken(out, opened(kind, device), &mut [0; 2], text.len()),
+    fn flush(&mut self) -> io::Result<()> {
+        Ok(())
     }
 }
 
-/// Returns an opened input of this kind over the device.
-fn opened<'a>(
-    kind: &str,
-    device: ReportedReader<'a>,
-) -> Opened<ReportedReader<'a>, ReportedReader<'a>> {
+/// Makes the call if it is defined in this file.
+pub fn call_of_devices(rt: &HostRuntime, asked: Asked<'_>) -> Option<()> {
+    match asked.call {
+        "take" => take(rt, asked.kind, asked.bytes),
+        "give" => give(rt, asked.bytes),
+        "write-out" => write(rt, asked.bytes)?,
+        _ => return None,
+    }
+    Some(())
+}
+
+/// Calls `Watched::take` of a reader of this kind. Detects a read that is repeated after a failure, and then succeeds.
+fn take(rt: &HostRuntime, kind: &str, bytes: &[u8]) {
+    let device = ReportedReader::new(bytes, 2);
     match kind {
-        "file" => Opened::File(device),
-        "standard" => Opened::Standard(device),
-        _ => Opened::Nothing,
+        "fails" => say_taken(rt, Breaks::new(bytes, false), bytes.len()),
+        "interrupted" => say_taken(rt, Breaks::new(bytes, true), bytes.len()),
+        "file" => say_taken(rt, Input::File(device), bytes.len()),
+        "standard" => say_taken(rt, Input::Standard(device), bytes.len()),
+        "nothing" => say_taken(rt, Input::Nothing, bytes.len()),
+        _ => say_taken(rt, device, bytes.len()),
     }
 }
 
 /// Calls `Watched::take` of a reader until it ends or fails. Detects a failure that isn't noted, and a failure that is noted at the end.
-fn say_taken<P: Print, D: Read + Drop>(out: &P, device: D, buffer: &mut [u8], most: usize) {
+fn say_taken<D: Read + Drop>(rt: &HostRuntime, device: D, most: usize) {
     let mut input = Watched::new(device);
+    let mut buffer = [0; 2];
     for _ in 0..=most {
         if input.failed() {
-            return say(out, "noted");
+            return say(rt, "noted");
         }
-        match input.take(buffer) {
-            Ok(0) => return say(out, "ended"),
+        match input.take(&mut buffer) {
+            Ok(0) => return say(rt, "ended"),
             Ok(count) => {
-                say_number(out, "taken", count as u64);
-                say_bytes(out, buffer);
-                say(out, "");
+                say_number(rt, "taken", count as u64);
+                say_line(rt, &buffer);
             }
-            Err(_) => say(out, "failed"),
+            Err(_) => say(rt, "failed"),
         }
     }
 }
 
 /// Calls `Watched::give` of a writer that follows a text, each time with the remaining bytes: `TURNS|BYTES`. Detects a write that is
 /// repeated after it failed or took no bytes, and then succeeds.
-fn give_reported<R: AllocGlobal + Print>(rt: &R, words: &[u8]) {
+fn give(rt: &HostRuntime, words: &[u8]) {
     let (turns, bytes) = cut(words, b'|');
-    let mut out = Watched::new(ReportedWriter::new(rt.alloc(), turns));
+    let kept = Vec::new(rt.alloc());
+    let mut out = Watched::new(ReportedWriter { kept, turns });
     say_given(rt, &mut out, bytes);
-    let device = out.into_device();
-    say_bytes(rt, device.kept());
-    say(rt, "");
+    say_line(rt, out.into_device().kept.as_slice());
 }
 
-/// `give_reported` for a writer that may have failed.
-fn say_given<P: Print>(rt: &P, out: &mut Watched<ReportedWriter<'_>>, bytes: &[u8]) {
+/// `give` for a writer that may have failed.
+fn say_given(rt: &HostRuntime, out: &mut Watched<ReportedWriter<'_>>, bytes: &[u8]) {
     let mut left = bytes;
     for _ in 0..=bytes.len() {
         if out.failed() {
@@ -99,55 +110,12 @@ fn say_given<P: Print>(rt: &P, out: &mut Watched<ReportedWriter<'_>>, bytes: &[u
     }
 }
 
-/// Calls `write_out` of a writer that follows a text: `TURNS|BYTES`. Detects the mistakes of `give_reported`, and a count of bytes that weren't
-/// written.
-fn write_out_reported<R: AllocGlobal + Print>(rt: &R, words: &[u8]) {
-    let (turns, bytes) = cut(words, b'|');
-    let mut out = Watched::new(ReportedWriter::new(rt.alloc(), turns));
-    match write_out(&mut out, bytes) {
-        Ok(()) => say(rt, "written"),
-        Err(Short { written }) => say_number(rt, "short", written as u64),
-    }
-    if out.failed() {
-        say(rt, "noted");
-    }
-    let device = out.into_device();
-    say_bytes(rt, device.kept());
-    say(rt, "");
-}
-
-/// Returns whether a writer gets as much of the text as it has room for. The writer takes at most `piece` bytes at a time and `room` bytes
-/// in all, and then fails or takes no bytes.
-fn is_written_out(
-    alloc: Global,
-    piece: usize,
-    room: usize,
-    fails: bool,
-    text: &[u8],
-) -> Result<bool, AllocError> {
-    let mut out = Watched::new(Narrow::new(alloc, piece, room, fails)?);
-    let answer = write_out(&mut out, text);
-    let short = room < text.len();
-    let reported = match answer {
-        Ok(()) => !short,
-        Err(Short { written }) => short && written == room,
-    };
-    let stands = reported && out.failed() == short;
-    let written = out.into_device();
-    Ok(stands && text.starts_with(written.kept()) && written.kept().len() == room)
-}
-
-/// Calls `write_out` of writers with each room up to the length of the text. Returns the least room with a wrong result. Detects bytes that
-/// are written twice or not at all.
-fn wrong_room(alloc: Global, text: &[u8]) -> Result<Option<usize>, AllocError> {
-    for room in 0..=text.len() {
-        for piece in [1, 3] {
-            let right = is_written_out(alloc, piece, room, false, text)?
-                && is_written_out(alloc, piece, room, true, text)?;
-            if !right {
-                return Ok(Some(room));
-            }
-        }
-    }
-    Ok(None)
+/// Calls `write_out`: `WRITER|BYTES`. Detects bytes that are written twice or not at all, and a wrong count of them.
+fn write(rt: &HostRuntime, words: &[u8]) -> Option<()> {
+    let (writer, bytes) = cut(words, b'|');
+    let mut out = Watched::new(narrow_of(rt.alloc(), writer)?);
+    say_debug(rt, &write_out(&mut out, bytes));
+    say_either(rt, out.failed(), "noted", "not noted");
+    say_line(rt, out.into_device().kept());
+    Some(())
 }

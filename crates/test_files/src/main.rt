@@ -1,27 +1,33 @@
-//! Test program for task files and plan files, read from devices and in pieces. Standard input requests a call, as `test_words` describes.
+//! Test program for task files and plan files, read from devices and in pieces. Standard input requests calls, as `test_words` describes.
 #![tactic(auto)]
 
-mod fault_words;
-mod limits;
-mod part_calls;
-mod parts_text;
 mod reader_calls;
-mod readers;
 
-use part_calls::call_of_parts;
-use reader_calls::call_of_readers;
-use std::alloc::AllocError;
-use test_words::{Asked, LONGEST, asked_by, say, say_made};
+use reader_calls::{feed_plan, feed_task, feed_within, read};
+use sas_text::{plan_laws, task_laws};
+use test_words::{Asked, answer, say};
 
-/// Makes the call. Returns whether it is known.
-fn call<R: AllocGlobal + Print>(rt: &R, asked: &Asked<'_>) -> Result<bool, AllocError> {
-    Ok(call_of_parts(rt, asked)? || call_of_readers(rt, asked)?)
+/// Makes the call, or returns `None` if it doesn't.
+fn call(rt: &HostRuntime, asked: Asked<'_>) -> Option<()> {
+    match asked.call {
+        "read" => read(rt, asked.kind, asked.bytes),
+        "feed-plan" => feed_plan(rt, asked.bytes),
+        "feed-task" => feed_task(rt, asked.bytes),
+        "feed-within" => feed_within(rt, asked.kind, asked.bytes)?,
+        "laws" => say_laws(rt),
+        _ => return None,
+    }
+    Some(())
+}
+
+/// Calls each law once. Detects a law that can't be called.
+fn say_laws(rt: &HostRuntime) {
+    plan_laws();
+    task_laws();
+    sas_core::task_laws();
+    say(rt, "laws");
 }
 
 fn main(rt: HostRuntime) {
-    let mut buffer = [0u8; LONGEST];
-    match asked_by(&mut rt.reader(), &mut buffer) {
-        Some(asked) => say_made(&rt, call(&rt, &asked)),
-        None => say(&rt, "WRONG: no call"),
-    }
+    answer(&rt, |asked| call(&rt, asked));
 }

@@ -1,245 +1,128 @@
 // Calls of `sas_text` that read files from devices and in pieces.
-use crate::fault_words::{say_fault, say_read};
-use crate::limits::call_within_limits;
-use crate::readers::{Pieces, Way, read_from, way_of};
-use sas_lines::trial::Breaks;
-use sas_text::{Fault, Kind, PlanReader, TaskReader, plan_laws, task_laws};
-use std::alloc::{AllocError, Global};
-use std::cell::Cell;
-use test_words::{
-    Asked, NotingReader, ReportedReader, longer_than, say, say_either, say_right, spend,
+ghost use Rattle.std.specs.Prelude.{◌≡◌, false};
+
+use sas_core::{Plan, Task};
+use sas_lines::Watched;
+use sas_plan_file::PlanMachine;
+use sas_reader::Reader;
+use sas_text::{
+    Fault, Kind, PlanReader, PlanRefusal, TaskReader, TaskRefusal, encode_plan, encode_task,
+    read_flat_plan, read_flat_task, read_outline, read_plan, read_plan_text, read_task,
+    read_task_text,
 };
+use std::io::Read;
+use test_words::{ReportedReader, number_in, say, say_text};
 
-/// Makes the call if it is defined in this file. Returns whether it is.
-pub fn call_of_readers<R: AllocGlobal + Print>(
-    rt: &R,
-    asked: &Asked<'_>,
-) -> Result<bool, AllocError> {
-    match asked.call {
-        "read" => read(rt, asked.number, way_of(asked.kind), asked.bytes)?,
-        "read-broken" => read_broken(rt, way_of(asked.kind), asked.bytes),
-        "read-reported" => read_reported(rt, way_of(asked.kind), asked.bytes),
-        "longest" => say_longest(rt, way_of(asked.kind), asked.bytes),
-        "feed-plan" => feed::<R, PlanReader>(rt, asked.number, asked.bytes)?,
-        "feed-task" => feed::<R, TaskReader>(rt, asked.number, asked.bytes)?,
-        "laws" => say_laws(rt),
-        _ => return call_of_fronts(rt, asked),
+/// Prints a fault.
+fn say_fault(rt: &HostRuntime, fault: Fault) {
+    let Fault { line, kind } = fault;
+    if kind == Kind::Memory {
+        return say(rt, "wanting");
     }
-    Ok(true)
+    let _ = println!(rt; "line {line}: {kind:?}");
 }
 
-/// Makes the call if it reads all prefixes of a file. Returns whether it does.
-fn call_of_fronts<R: AllocGlobal + Print>(rt: &R, asked: &Asked<'_>) -> Result<bool, AllocError> {
-    let way = way_of(asked.kind);
-    match asked.call {
-        "read-fronts" => say_right(rt, wrong_front(rt.alloc(), way, asked.bytes)),
-        "read-broken-fronts" => say_right(rt, wrong_failure(rt.alloc(), way, asked.bytes)),
-        _ => return call_in_pieces(rt, asked),
+/// Prints that something was read, or the fault.
+fn say_end<T: Drop>(rt: &HostRuntime, read: Result<T, Fault>) {
+    match read {
+        Ok(_value) => say(rt, "read"),
+        Err(fault) => say_fault(rt, fault),
     }
-    Ok(true)
 }
 
-/// Makes the call if it cuts a file into pieces in all ways. Returns whether it does.
-fn call_in_pieces<R: AllocGlobal + Print>(rt: &R, asked: &Asked<'_>) -> Result<bool, AllocError> {
-    match asked.call {
-        "cut-plan" => say_right(rt, wrong_cut::<PlanReader>(rt.alloc(), asked.bytes)?),
-        "cut-task" => say_right(rt, wrong_cut::<TaskReader>(rt.alloc(), asked.bytes)?),
-        "behind-plan" => say_right(rt, wrong_byte::<PlanReader>(rt.alloc(), asked.bytes)),
-        "behind-task" => say_right(rt, wrong_byte::<TaskReader>(rt.alloc(), asked.bytes)),
-        _ => return Ok(call_within_limits(rt, asked)),
+/// Prints the text of a plan, or the fault.
+fn say_plan(rt: &HostRuntime, read: Result<Plan, Fault>) {
+    match read {
+        Ok(plan) => say_text(rt, &encode_plan(rt.alloc(), &plan)),
+        Err(fault) => say_fault(rt, fault),
     }
-    Ok(true)
 }
 
-/// Calls each law once. Detects a law that can't be called.
-fn say_laws<P: Print>(out: &P) {
-    plan_laws();
-    task_laws();
-    sas_core::task_laws();
-    say(out, "laws");
-}
-
-/// Reads a file from a device, and prints the result. Detects a call that is always out of memory, and a result that depends on the
-/// available memory.
-fn read<R: AllocGlobal + Print>(
-    rt: &R,
-    count: usize,
-    way: Way,
-    file: &[u8],
-) -> Result<(), AllocError> {
-    spend(rt.alloc(), count)?;
-    let (read, failed) = read_from(rt.alloc(), way, file);
-    if failed {
-        say(rt, "WRONG: a failure");
+/// Prints the text of a task, or the fault.
+fn say_task(rt: &HostRuntime, read: Result<Task, Fault>) {
+    match read {
+        Ok(task) => say_text(rt, &encode_task(rt.alloc(), &task)),
+        Err(fault) => say_fault(rt, fault),
     }
-    say_read(rt, read);
-    Ok(())
 }
 
-/// Reads a file from a device that returns the bytes and then fails. Detects a fault that is reported only after another read.
-fn read_broken<R: AllocGlobal + Print>(rt: &R, way: Way, bytes: &[u8]) {
-    let (read, failed) = read_from(rt.alloc(), way, Breaks::new(bytes, false));
-    say_read(rt, read);
-    say_either(rt, failed, "failed", "not failed");
+/// Prints a text that was read, or the fault.
+fn say_read(rt: &HostRuntime, read: Result<Vec<u8>, Fault>) {
+    match read {
+        Ok(_) => say_text(rt, &read),
+        Err(fault) => say_fault(rt, fault),
+    }
 }
 
-/// Reads a file from a device that follows a text. Detects a read that is repeated after a failure, and another read after the end.
-fn read_reported<R: AllocGlobal + Print>(rt: &R, way: Way, text: &[u8]) {
-    let (read, failed) = read_from(rt.alloc(), way, ReportedReader::new(text));
-    say_read(rt, read);
-    say_either(rt, failed, "failed", "not failed");
+/// Returns the fault of a plan that is refused.
+fn plan_fault(refusal: PlanRefusal) -> Fault {
+    refusal.fault
 }
 
-/// Returns how many bytes this way of reading reads at a time, at most.
-fn longest_read(way: Way) -> usize {
+/// Returns the fault of a task that is refused.
+fn task_fault(refusal: TaskRefusal) -> Fault {
+    refusal.fault
+}
+
+/// Reads a file in the way with this name, and prints the result.
+fn read_device<D: Read>(rt: &HostRuntime, way: &str, device: &mut Watched<D>)
+    requires { device.old.failed ≡ false }
+{
+    let alloc = rt.alloc();
     match way {
-        Way::Plan | Way::Task => 4096,
-        _ => 65_536,
+        "plan" => say_plan(rt, read_plan(alloc, device)),
+        "plan-text" => say_read(rt, read_plan_text(alloc, device).map_err(plan_fault)),
+        "flat-plan" => say_end(rt, read_flat_plan(alloc, device).map_err(plan_fault)),
+        "task" => say_task(rt, read_task(alloc, device)),
+        "task-text" => say_read(rt, read_task_text(alloc, device).map_err(task_fault)),
+        "flat-task" => say_end(rt, read_flat_task(alloc, device).map_err(task_fault)),
+        _ => say_end(rt, read_outline(alloc, device).map_err(task_fault)),
     }
 }
 
-/// Prints whether each read of a file is within the limit of this way of reading. Detects a reader with a larger buffer.
-fn say_longest<R: AllocGlobal + Print>(rt: &R, way: Way, file: &[u8]) {
-    let longest = Cell::new(0usize);
-    let (read, _) = read_from(rt.alloc(), way, NotingReader::new(file, &longest));
-    say_either(rt, read.is_ok(), "read", "WRONG: not read");
-    say_right(rt, longer_than(longest.get(), longest_read(way)));
-}
-
-/// Returns the line of a fault at the end of these bytes.
-fn last_line(bytes: &[u8]) -> u64 {
-    let mut line = 1u64;
-    for byte in bytes {
-        if *byte == b'\n' {
-            line = line.saturating_add(1);
-        }
-    }
-    line
-}
-
-/// Returns whether the result is this kind of fault, on the last line of the bytes.
-fn is_fault_at_end(read: &Result<Vec<u8>, Fault>, bytes: &[u8], kind: Kind) -> bool {
-    match read {
-        Ok(_) => false,
-        Err(fault) => fault.kind == kind && fault.line == last_line(bytes),
-    }
-}
-
-/// Returns the length of the shortest prefix of a file whose fault isn't an early end on its last line. Detects a definition that counts
-/// lines differently, or that refuses a prefix of a file.
-fn wrong_front(alloc: Global, way: Way, file: &[u8]) -> Option<usize> {
-    for length in 0..file.len() {
-        let front = &file[..length];
-        let (read, _) = read_from(alloc, way, front);
-        if !is_fault_at_end(&read, front, Kind::End) {
-            return Some(length);
-        }
-    }
-    None
-}
-
-/// Returns whether the failure of a device that returns the bytes and then fails is reported on the last line.
-fn is_failure(alloc: Global, way: Way, bytes: &[u8], interrupted: bool) -> bool {
-    let (read, failed) = read_from(alloc, way, Breaks::new(bytes, interrupted));
-    failed && is_fault_at_end(&read, bytes, Kind::Read)
-}
-
-/// Returns the length of the shortest prefix of a file after which a failure of the device isn't reported. Detects a failure that is taken
-/// for the end, and a read that is repeated.
-fn wrong_failure(alloc: Global, way: Way, file: &[u8]) -> Option<usize> {
-    for length in 0..=file.len() {
-        let front = &file[..length];
-        if !is_failure(alloc, way, front, false) || !is_failure(alloc, way, front, true) {
-            return Some(length);
-        }
-    }
-    None
-}
-
-/// Feeds pieces to a reader, and prints its result for each piece and at the end. `|` separates pieces. Without bytes there is no piece.
-/// Detects a fault that is reported too early or too late, or that isn't repeated.
-fn feed<R: AllocGlobal + Print, F: Pieces>(
-    rt: &R,
-    count: usize,
-    pieces: &[u8],
-) -> Result<(), AllocError> {
-    spend(rt.alloc(), count)?;
-    let mut reader = F::start(rt.alloc());
-    if !pieces.is_empty() {
-        for piece in pieces.split(|&byte| byte == b'|') {
-            match reader.take(piece) {
-                Ok(()) => say(rt, "taken"),
-                Err(fault) => say_fault(rt, fault),
-            }
-        }
-    }
-    say_read(rt, reader.text(rt.alloc()));
-    Ok(())
-}
-
-/// Feeds these pieces to a reader. Returns whether it accepts each piece.
-fn takes_all<F: Pieces>(reader: &mut F, pieces: &[&[u8]]) -> bool {
-    for piece in pieces {
-        if reader.take(piece).is_err() {
-            return false;
-        }
-    }
-    true
-}
-
-/// Returns whether reading a file in these pieces gives this text.
-fn is_read_as<F: Pieces>(alloc: Global, pieces: &[&[u8]], text: &[u8]) -> bool {
-    let mut reader = F::start(alloc);
-    takes_all(&mut reader, pieces) && is_text(&reader.text(alloc), text)
-}
-
-/// Returns whether this text was read.
-fn is_text(read: &Result<Vec<u8>, Fault>, text: &[u8]) -> bool {
-    match read {
-        Ok(read) => read.as_slice() == text,
-        Err(_) => false,
-    }
-}
-
-/// Returns the text of a file that is read byte by byte.
-fn text_of_bytes<F: Pieces>(alloc: Global, file: &[u8]) -> Result<Vec<u8>, Fault> {
-    let mut reader = F::start(alloc);
-    for byte in file {
-        reader.take(&[*byte])?;
-    }
-    reader.text(alloc)
-}
-
-/// Returns the first place at which cutting a file in two, with or without an empty piece between, changes the result. Detects a line that
-/// is judged differently if a piece ends in it.
-fn wrong_cut<F: Pieces>(alloc: Global, file: &[u8]) -> Result<Option<usize>, AllocError> {
-    let Ok(text) = text_of_bytes::<F>(alloc, file) else {
-        return Ok(Some(0));
+/// Reads a file from a device that follows a text, and prints the result. Detects a call that is always out of memory, a result that
+/// depends on the available memory, a larger buffer than documented, a read that is repeated after a failure, and another read after the
+/// end.
+pub fn read(rt: &HostRuntime, way: &str, text: &[u8]) {
+    let most = if way == "plan" || way == "task" {
+        4096
+    } else {
+        65_536
     };
-    for place in 0..=file.len() {
-        let (front, rest) = file.split_at(place);
-        let right = is_read_as::<F>(alloc, &[front, rest], text.as_slice())
-            && is_read_as::<F>(alloc, &[front, b"", rest], text.as_slice());
-        if !right {
-            return Ok(Some(place));
-        }
+    let mut device = Watched::new(ReportedReader::new(text, most));
+    read_device(rt, way, &mut device);
+    if device.failed() {
+        say(rt, "failed");
     }
-    Ok(None)
 }
 
-/// Returns the first byte that isn't refused after a whole file, on the line after the last one. Detects a byte that is accepted there,
-/// such as a space or a CR.
-fn wrong_byte<F: Pieces>(alloc: Global, file: &[u8]) -> Option<usize> {
-    for last in 0..=u8::MAX {
-        let mut reader = F::start(alloc);
-        let taken = reader.take(file).is_ok();
-        let want = Fault {
-            line: last_line(file),
-            kind: Kind::Trailing,
-        };
-        if !taken || reader.take(&[last]) != Err(want) {
-            return Some(usize::from(last));
-        }
+/// Feeds pieces of a plan to a reader, and prints its result for each piece and at the end. `|` separates pieces. Detects a fault that is
+/// reported too early or too late, or that isn't repeated.
+pub fn feed_plan(rt: &HostRuntime, pieces: &[u8]) {
+    let mut reader = PlanReader::new(rt.alloc());
+    for piece in pieces.split(|&byte| byte == b'|') {
+        say_end(rt, reader.feed(piece));
     }
-    None
+    say_plan(rt, reader.finish());
+}
+
+/// Feeds pieces of a task to a reader, as `feed_plan` does.
+pub fn feed_task(rt: &HostRuntime, pieces: &[u8]) {
+    let mut reader = TaskReader::new(rt.alloc());
+    for piece in pieces.split(|&byte| byte == b'|') {
+        say_end(rt, reader.feed(piece));
+    }
+    say_task(rt, reader.finish());
+}
+
+/// Feeds a plan to a reader with a smaller limit than that of files, and prints the result. The reader is made from a machine, since the
+/// constructor of `PlanReader` that takes a limit is private to its crate. Detects a definition of the limit that is too small.
+pub fn feed_within(rt: &HostRuntime, limit: &str, bytes: &[u8]) -> Option<()> {
+    let limit = u64::from(number_in(limit.as_bytes())?);
+    let mut reader = Reader::new(rt.alloc(), PlanMachine::new(rt.alloc()), limit);
+    match reader.feed(bytes) {
+        Ok(()) => say_end(rt, reader.finish().map_err(|refused| refused.into_fault())),
+        Err(fault) => say_fault(rt, fault),
+    }
+    Some(())
 }

@@ -1,25 +1,50 @@
-//! Test program for `run`, `explain`, `trace` and `judge` over devices. Standard input requests a call, as `test_words` describes.
+//! Test program for `run`, `explain`, `trace` and `judge` over devices. Standard input requests calls, as `test_words` describes.
 #![tactic(auto)]
 
-mod answers;
 mod judge_calls;
-mod plan_list;
 mod run_calls;
 
-use judge_calls::call_of_judge;
-use run_calls::call_of_tool;
-use std::alloc::AllocError;
-use test_words::{Asked, LONGEST, asked_by, say, say_made};
+use judge_calls::{judge_in_memory, judge_listed};
+use run_calls::{answer_question, say_messages};
+use sas_plans::judge_laws;
+use sas_requests::{explain_laws, run_laws, trace_output_laws};
+use std::fmt::Debug;
+use test_words::{Asked, answer, say, say_debug, say_line};
 
-/// Makes the call. Returns whether it is known.
-fn call<R: AllocGlobal + Print>(rt: &R, asked: &Asked<'_>) -> Result<bool, AllocError> {
-    Ok(call_of_tool(rt, asked)? || call_of_judge(rt, asked)?)
+/// The longest read of an input.
+const LONGEST_READ: usize = 65_536;
+
+/// Makes the call, or returns `None` if it doesn't.
+fn call(rt: &HostRuntime, asked: Asked<'_>) -> Option<()> {
+    match asked.call {
+        "run" => answer_question(rt, asked.kind, asked.bytes)?,
+        "judge" => judge_listed(rt, asked.bytes)?,
+        "judge-slices" => judge_in_memory(rt, asked.bytes)?,
+        "messages" => say_messages(rt),
+        "laws" => say_laws(rt),
+        _ => return None,
+    }
+    Some(())
+}
+
+/// Prints an answer and what was written, or `wanting` if there was no memory for an answer and nothing was written.
+fn say_answer<A: Debug + PartialEq>(rt: &HostRuntime, answer: &A, wanting: &A, written: &[u8]) {
+    if answer == wanting && written.is_empty() {
+        return say(rt, "wanting");
+    }
+    say_debug(rt, answer);
+    say_line(rt, written);
+}
+
+/// Calls the laws of outputs. Detects a law that can't be called.
+fn say_laws(rt: &HostRuntime) {
+    run_laws();
+    explain_laws();
+    judge_laws();
+    trace_output_laws();
+    say(rt, "laws");
 }
 
 fn main(rt: HostRuntime) {
-    let mut buffer = [0u8; LONGEST];
-    match asked_by(&mut rt.reader(), &mut buffer) {
-        Some(asked) => say_made(&rt, call(&rt, &asked)),
-        None => say(&rt, "WRONG: no call"),
-    }
+    answer(&rt, |asked| call(&rt, asked));
 }

@@ -1,73 +1,93 @@
 // Calls with an evaluator of the requested kind.
-ghost use Rattle.std.specs.Prelude.{IfOk};
 ghost use Rattle.sas_axioms.specs.Worklist.{IsReadyFor};
 
-use crate::axiom_calls::{say_state, settled};
-use crate::files::pieces_of;
-use crate::following_calls::{Reporting, follow};
 use crate::runner_calls::call_with_runner;
-use sas_axioms::{Layered, Rounds, Settle, State, StateFault, Worklist};
-use sas_core::Task;
+use crate::task_calls::{say_state, say_state_fault, state_of};
+use sas_axioms::{Layered, Rounds, Settle, State, Touched, Worklist};
+use sas_core::{Fact, Task};
 use std::alloc::AllocError;
-use test_words::{Asked, say_either};
+use test_words::{Asked, say};
 
-/// Makes the call with an evaluator of the kind.
-pub fn call_by_kind<R: AllocGlobal + Print>(
-    rt: &R,
-    asked: &Asked<'_>,
-    words: &[u8],
-    layered: &Layered<Task>,
-) -> Result<(), AllocError> {
+/// An evaluator that prints each state after another evaluator has settled it. So it prints each state of a plan. Detects a runner that
+/// settles by another evaluator than its own.
+#[derive(Drop)]
+struct Reporting<'a, E: Settle<Task> + Drop> {
+    rt: &'a HostRuntime,
+    evaluator: E,
+}
+
+impl<'a, E: Settle<Task> + Drop> Settle<Task> for Reporting<'a, E> {
+    ghost ready = { λ t p. E.ready t.evaluator p };
+
+    ghost follows = { λ t p s. E.follows t.evaluator p s };
+
+    fn settle(&mut self, layered: &Layered<Task>, state: &mut State) {
+        self.evaluator.settle(layered, state);
+        say_state(self.rt, state);
+    }
+
+    fn settle_on(
+        &mut self,
+        layered: &Layered<Task>,
+        gone: &[Fact],
+        state: &mut State,
+        touched: &mut Touched,
+    ) {
+        self.evaluator.settle_on(layered, gone, state, touched);
+        say_state(self.rt, state);
+    }
+}
+
+/// Makes the call with an evaluator of this kind.
+pub fn call_by_kind(rt: &HostRuntime, asked: Asked<'_>, pieces: &[&[u8]], layered: &Layered<Task>) {
     match asked.kind {
-        "worklist" => call_with(
-            rt,
-            asked,
-            words,
-            layered,
-            Worklist::new(rt.alloc(), layered),
-        ),
-        "both" => compare(rt, words, layered),
-        _ => call_with(rt, asked, words, layered, Ok(Rounds)),
+        "rounds" => call_with(rt, asked.call, pieces, layered, Rounds),
+        _ => match Worklist::new(rt.alloc(), layered) {
+            Ok(worklist) => call_with_worklist(rt, asked, pieces, layered, worklist),
+            Err(_) => say(rt, "wanting"),
+        },
     }
 }
 
-/// Makes the call with this evaluator. Returns `Err` if there was no memory for it.
-fn call_with<R: AllocGlobal + Print, E: Settle<Task> + Drop>(
-    rt: &R,
-    asked: &Asked<'_>,
-    words: &[u8],
+/// Makes the call with this evaluator, or with one that prints what it settles.
+fn call_with_worklist(
+    rt: &HostRuntime,
+    asked: Asked<'_>,
+    pieces: &[&[u8]],
     layered: &Layered<Task>,
-    made: Result<E, AllocError>,
-) -> Result<(), AllocError>
-    requires { IfOk made (λ evaluator. E.ready evaluator layered.now) }
+    worklist: Worklist,
+)
+    requires { IsReadyFor layered.now worklist }
 {
-    let mut evaluator = made?;
-    match asked.call {
-        "settle" => settle(rt, &mut evaluator, layered, words),
-        "follow" => follow(rt, &mut evaluator, layered, words),
-        "walk" => call_with_runner(rt, asked, words, layered, Reporting::new(rt, evaluator)),
-        _ => call_with_runner(rt, asked, words, layered, evaluator),
+    match asked.kind {
+        "reporting" => {
+            let evaluator = worklist;
+            call_with(rt, asked.call, pieces, layered, Reporting { rt, evaluator })
+        }
+        _ => call_with(rt, asked.call, pieces, layered, worklist),
     }
 }
 
-/// Settles the states one after another by this evaluator, and prints each. `;` separates states. Detects a definition of settled states
-/// that uses a rule which can't fire, evaluates layers in another order, or allows circular derivations.
-fn settle<R: AllocGlobal + Print, E: Settle<Task>>(
-    rt: &R,
-    evaluator: &mut E,
+/// Makes the call with this evaluator.
+fn call_with<E: Settle<Task> + Drop>(
+    rt: &HostRuntime,
+    call: &str,
+    pieces: &[&[u8]],
     layered: &Layered<Task>,
-    states: &[u8],
-) -> Result<(), AllocError>
-    requires { E.ready evaluator.old layered.now }
+    mut evaluator: E,
+)
+    requires { E.ready evaluator layered.now }
 {
-    let pieces = pieces_of(rt.alloc(), states)?;
-    settle_each(rt, evaluator, layered, pieces.as_slice());
-    Ok(())
+    match call {
+        "settle" => settle(rt, &mut evaluator, layered, pieces),
+        _ => call_with_runner(rt, call, pieces, layered, evaluator),
+    }
 }
 
-/// `settle` with the states as a list.
-fn settle_each<R: AllocGlobal + Print, E: Settle<Task>>(
-    rt: &R,
+/// Settles the states one after another by this evaluator, and prints each. Detects a definition of settled states that uses a rule which
+/// can't fire, evaluates layers in another order, or allows circular derivations.
+fn settle<E: Settle<Task>>(
+    rt: &HostRuntime,
     evaluator: &mut E,
     layered: &Layered<Task>,
     states: &[&[u8]],
@@ -75,55 +95,12 @@ fn settle_each<R: AllocGlobal + Print, E: Settle<Task>>(
     requires { E.ready evaluator.old layered.now }
 {
     for words in states {
-        say_state(rt, &settled(rt.alloc(), evaluator, layered, words));
-    }
-}
-
-/// Prints for each state whether two evaluators settle it to the same state. Detects a definition by which a state has two settled states.
-fn compare<R: AllocGlobal + Print>(
-    rt: &R,
-    states: &[u8],
-    layered: &Layered<Task>,
-) -> Result<(), AllocError> {
-    let pieces = pieces_of(rt.alloc(), states)?;
-    let said = compare_all(rt, pieces.as_slice(), layered);
-    drop(pieces);
-    said
-}
-
-/// `compare` with the states as a list.
-fn compare_all<R: AllocGlobal + Print>(
-    rt: &R,
-    states: &[&[u8]],
-    layered: &Layered<Task>,
-) -> Result<(), AllocError> {
-    let mut worklist = Worklist::new(rt.alloc(), layered)?;
-    compare_each(rt, &mut worklist, layered, states);
-    drop(worklist);
-    Ok(())
-}
-
-/// `compare_all` with the given `Worklist`.
-fn compare_each<R: AllocGlobal + Print>(
-    rt: &R,
-    worklist: &mut Worklist,
-    layered: &Layered<Task>,
-    states: &[&[u8]],
-)
-    requires { IsReadyFor layered.now worklist.old }
-{
-    for words in states {
-        let state = settled(rt.alloc(), &mut Rounds, layered, words);
-        let other = settled(rt.alloc(), worklist, layered, words);
-        say_either(rt, are_same(&state, &other), "equal", "WRONG: different");
-        drop((state, other));
-    }
-}
-
-/// Returns whether both are states, and are equal.
-fn are_same(state: &Result<State, StateFault>, other: &Result<State, StateFault>) -> bool {
-    match (state, other) {
-        (Ok(state), Ok(other)) => state.values() == other.values(),
-        _ => false,
+        match state_of(rt.alloc(), layered.task(), words) {
+            Ok(mut state) => {
+                evaluator.settle(layered, &mut state);
+                say_state(rt, &state);
+            }
+            Err(fault) => say_state_fault(rt, fault),
+        }
     }
 }

@@ -2,18 +2,12 @@
 use sas_axioms::Layered;
 use sas_core::{Effect, Operator, Task};
 use sas_mutex::{Facts, Verdict, check_group, check_groups};
-use std::alloc::AllocError;
-use test_words::{cut, fact_of, number_in, say, spend};
+use test_words::{cut, fact_of, number_in, say};
 
 /// Calls `check_groups` of a layered task, and `check_group` of each of its groups. Detects a definition that blames an operator none of
 /// whose steps breaks the group, or misses one whose step does; a family that isn't the greatest; an operator that isn't the lowest; and a
 /// call that is always out of memory.
-pub fn judge_groups<R: AllocGlobal + Print>(
-    rt: &R,
-    count: usize,
-    layered: &Layered<Task>,
-) -> Result<(), AllocError> {
-    spend(rt.alloc(), count)?;
+pub fn check_all(rt: &HostRuntime, layered: &Layered<Task>) {
     match check_groups(rt.alloc(), layered) {
         Ok(verdicts) => {
             say_verdicts(rt, verdicts.as_slice());
@@ -21,25 +15,20 @@ pub fn judge_groups<R: AllocGlobal + Print>(
         }
         Err(_) => say(rt, "wanting"),
     }
-    Ok(())
-}
-
-/// Prints a word and a verdict.
-fn say_verdict<P: Print>(out: &P, word: &str, verdict: Verdict) {
-    let _ = println!(out; "{word} {verdict:?}");
 }
 
 /// Prints the joint verdicts.
-fn say_verdicts<P: Print>(out: &P, verdicts: &[Verdict]) {
+fn say_verdicts(rt: &HostRuntime, verdicts: &[Verdict]) {
     for verdict in verdicts {
-        say_verdict(out, "joint", *verdict);
+        let _ = println!(rt; "joint {verdict:?}");
     }
 }
 
 /// Prints the verdict on each group alone. This takes no memory.
-fn say_alone<P: Print>(out: &P, layered: &Layered<Task>) {
+fn say_alone(rt: &HostRuntime, layered: &Layered<Task>) {
     for group in layered.task().parts().groups.as_slice() {
-        say_verdict(out, "alone", check_group(layered, group.as_slice()));
+        let verdict = check_group(layered, group.as_slice());
+        let _ = println!(rt; "alone {verdict:?}");
     }
 }
 
@@ -48,26 +37,21 @@ fn effect_of<'a>(operator: &'a Operator, word: &[u8]) -> Option<&'a Effect> {
     operator.effects.as_slice().get(number_in(word)? as usize)
 }
 
-/// Prints the items of `Facts` for an operator of the task: `OPERATOR;EFFECT;EFFECT;FACT|FILE`. An empty part means no effect or no fact.
+/// Prints the items of `Facts` for an operator of the task: `OPERATOR;EFFECT;EFFECT;FACT`. An empty part means no effect or no fact.
 /// Detects a definition of these facts that ignores the old value of an effect that doesn't fire.
-pub fn say_facts<P: Print>(out: &P, words: &[u8], task: &Task) {
+pub fn say_facts(rt: &HostRuntime, words: &[u8], task: &Task) -> Option<()> {
     let (number, words) = cut(words, b';');
-    let Some(place) = number_in(number) else {
-        return say(out, "WRONG: no number");
-    };
-    match task.parts().operators.as_slice().get(place as usize) {
-        Some(operator) => say_each(out, operator, words),
-        None => say(out, "WRONG: no operator"),
-    }
-}
-
-/// Prints the items of `Facts` for the operator, with these effects and this fact.
-fn say_each<P: Print>(out: &P, operator: &Operator, words: &[u8]) {
     let (first, words) = cut(words, b';');
     let (second, extra) = cut(words, b';');
+    let operator = task
+        .parts()
+        .operators
+        .as_slice()
+        .get(number_in(number)? as usize)?;
     let (first, second) = (effect_of(operator, first), effect_of(operator, second));
     for fact in Facts::new(operator, first, second, fact_of(extra)) {
         let (var, value) = (fact.var, fact.value);
-        let _ = println!(out; "{var} {value}");
+        let _ = println!(rt; "{var} {value}");
     }
+    Some(())
 }

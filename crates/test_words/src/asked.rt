@@ -1,18 +1,20 @@
-// Parses the call that standard input requests.
+// Parses the calls that standard input requests, and makes them.
 ghost use Rattle.std.specs.Prelude.{◌≤◌, length, IfSome};
 
-use std::alloc::{AllocError, Global};
+use crate::saying::{say, say_bytes};
 use std::io::Read;
 
 /// The greatest length of an input.
-pub const LONGEST: usize = 65_536;
+const LONGEST: usize = 65_536;
 
-/// A call: its name, its kind, the number of allocations before it, and its bytes.
-#[derive(Drop)]
+/// The byte that separates calls, and that ends each answer.
+const SEPARATOR: u8 = 30;
+
+/// A call: its name, its kind, and its bytes.
+#[derive(Clone, Copy)]
 pub struct Asked<'a> {
     pub call: &'a str,
     pub kind: &'a str,
-    pub number: usize,
     pub bytes: &'a [u8],
 }
 
@@ -31,23 +33,28 @@ fn fill<R: Read>(input: &mut R, buffer: &mut [u8]) -> Option<usize>
     Some(filled)
 }
 
-/// Reads the input into the buffer, and returns the call that it requests. Returns `None` if a read fails or the input has another form.
-pub fn asked_by<'a, R: Read>(input: &mut R, buffer: &'a mut [u8]) -> Option<Asked<'a>> {
-    let filled = fill(input, buffer)?;
-    asked_in(&buffer[..filled])
+/// Makes the calls that standard input requests. `call` returns `None` if it doesn't make a call.
+pub fn answer<F: Fn(Asked<'_>) -> Option<()>>(rt: &HostRuntime, call: F)
+    requires { F.IsAlwaysCallable call }
+{
+    let mut buffer = [0u8; LONGEST];
+    let Some(filled) = fill(&mut rt.reader(), &mut buffer) else {
+        return say(rt, "not read");
+    };
+    for given in buffer[..filled].split(|&byte| byte == SEPARATOR) {
+        if call(asked_in(given)).is_none() {
+            say(rt, "not made");
+        }
+        say_bytes(rt, &[SEPARATOR]);
+    }
 }
 
 /// Returns the call that some bytes request.
-fn asked_in(given: &[u8]) -> Option<Asked<'_>> {
+fn asked_in(given: &[u8]) -> Asked<'_> {
     let (line, bytes) = cut(given, b'\n');
-    let (call, words) = str::from_utf8(line).ok()?.split_once(' ')?;
-    let (kind, number) = words.split_once(' ').unwrap_or(("", words));
-    Some(Asked {
-        call,
-        kind,
-        number: number.parse().ok()?,
-        bytes,
-    })
+    let line = text_of(line);
+    let (call, kind) = line.split_once(' ').unwrap_or((line, ""));
+    Asked { call, kind, bytes }
 }
 
 /// Cuts the bytes at the first separator. Returns the bytes before it and after it. Without a separator, the second part is empty.
@@ -66,12 +73,4 @@ pub fn text_of(bytes: &[u8]) -> &str {
 /// Returns the number that the bytes spell, or `None` if they don't spell one.
 pub fn number_in(bytes: &[u8]) -> Option<u32> {
     text_of(bytes).parse().ok()
-}
-
-/// Makes `count` allocations. Returns `Err` if one of them fails.
-pub fn spend(alloc: Global, count: usize) -> Result<(), AllocError> {
-    for _ in 0..count {
-        let _spent = Box::new(alloc, 0u8)?;
-    }
-    Ok(())
 }

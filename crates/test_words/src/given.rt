@@ -1,6 +1,4 @@
-// Parses the arguments of calls: facts, plans and tasks. Compares tasks.
-ghost use Rattle.std.specs.Prelude.{◌≡◌, ◌↔◌, IsTrue};
-
+// Parses the arguments of calls: facts, plans and tasks.
 use crate::asked::{cut, number_in};
 use sas_core::{Fact, Plan, Task};
 use sas_lines::Watched;
@@ -24,11 +22,4 @@ pub fn plan_of(alloc: Global, file: &[u8]) -> Option<Plan> {
 /// Returns the task in a task file, or `None` if the file isn't one.
 pub fn task_of(alloc: Global, file: &[u8]) -> Option<Task> {
     read_task(alloc, &mut Watched::new(file)).ok()
-}
-
-/// Returns whether two tasks are equal, which means that they have the same parts.
-pub fn is_same_task(task: &Task, other: &Task) -> bool
-    ensures { IsTrue result ↔ (task.now ≡ other.now) }
-{
-    task == other
 }

@@ -1,11 +1,10 @@
-//! Shared code of the test programs, which call the libraries: parses the call that standard input requests, and prints the result. `sas`
+//! Shared code of the test programs, which call the libraries: parses the calls that standard input requests, and prints the results. `sas`
 //! doesn't use it.
 //!
-//! The first line of the input is the name of a call, for some calls a word for its kind, and a number. The bytes of the call follow. The
-//! program makes this many allocations before the call. A test that makes a certain allocation of the process fail can thus choose an
-//! allocation of the call. The program prints `before` if an allocation before the call fails. It prints `wanting` if the call is out of
-//! memory and behaves as promised. A line that begins with `WRONG` reports a mistake. The comment at each call names the mistakes that it
-//! can detect and a proof can't.
+//! The first line of a call is its name and, for some calls, a word for its kind. The bytes of the call follow. The program prints `not
+//! made` if it doesn't make a call: it is unknown, its bytes have another form, or there is no memory for what it is given. It prints
+//! `wanting` if the call is out of memory. A line that begins with `WRONG` reports a mistake. The comment at each call names the mistakes
+//! that it can detect and a proof can't.
 #![tactic(auto)]
 
 mod asked;
@@ -13,9 +12,7 @@ mod devices;
 mod given;
 mod saying;
 
-pub use asked::{Asked, LONGEST, asked_by, cut, number_in, spend, text_of};
-pub use devices::{NotingReader, ReportedReader, ReportedWriter, longer_than};
-pub use given::{fact_of, is_same_task, plan_of, task_of};
-pub use saying::{
-    say, say_bytes, say_either, say_made, say_number, say_right, say_text, say_want, say_whole,
-};
+pub use asked::{Asked, answer, cut, number_in, text_of};
+pub use devices::{ReportedReader, failure, narrow_of};
+pub use given::{fact_of, plan_of, task_of};
+pub use saying::{say, say_bytes, say_debug, say_either, say_line, say_number, say_text};

@@ -1,4 +1,4 @@
-use Rattle.test_verdicts.proofs.evaluator_calls.settle_each.Given as goal
+use Rattle.test_verdicts.proofs.evaluator_calls.settle.Given as goal
 
 -- the evaluator is still ready
 abbrev pub invariant-loop-words : goal.invariant-loop-words

@@ -1,7 +1,7 @@
 -- Tasks are equal if their parts are.
 use Rattle.std.proofs.Common.{sym, ◌∙◌}
 use Rattle.sas_core.proofs.SameParts.{parts}
-use Rattle.test_words.proofs.given.is_same_task.Goals as goal
+use Rattle.test_core.proofs.task_calls.is_same_task.Goals as goal
 
 pub returns : goal.returns
 returns c =
