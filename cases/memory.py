@@ -4,8 +4,8 @@
     python3 cases/memory.py SAS PROGRAM ..
 
 The programs are those of `calls.py`. The calls are those of calls.json with `refused`. A program answers `not made` where what the
-call is given doesn't fit into memory, and `wanting` where the call wants memory; what it printed before is the front of its answer.
-The last run refuses nothing and has the answer of the call. A reader that wants memory returns that for each piece behind it, too.
+call is given doesn't fit into memory, and `wanting` where the call is out of memory; what it printed before is the front of its answer.
+The last run refuses nothing and has the answer of the call. A reader that is out of memory returns that for each later piece, too.
 
 SAS is the program itself, with requests over a task of the examples and over one that has several of everything. Each
 allocation of it is refused in turn, until a run meets no refusal. With one refused it prints `sas: out of memory` on standard

@@ -1,5 +1,5 @@
 -- The variables and values in a rule of a task exist.
-use Rattle.sas_axioms.proofs.Imports.{◌≡◌, ◌≢◌, ◌⊎◌, ℕ, ◌<◌, ◌^◌, true, false, not, nat_eq, Option, None, Some, List, length, refl, sym, ap, subst, inl, inr, option_eq, eqb_tells, slice_index, All, All-weaker, All-from_recursion, Fact, Parts, Change, rule_change, rule_at, FactExists, WellRanged, RuleFits, holds_at, default_of, differs, fact_within}
+use Rattle.sas_axioms.proofs.Imports.{◌≡◌, ◌≢◌, ◌⊎◌, ℕ, ◌<◌, ◌^◌, true, false, not, nat_eq, Option, None, Some, List, length, refl, sym, ap, subst, inl, inr, option_eq, eqb_tells, slice_index, All, All-weaker, All-from_recursion, Fact, Parts, Change, rule_change, rule_at, FactExists, WellRanged, RuleFits, holds_at, default_of, differs, fact_within, ◌==◌}
 use Rattle.sas_axioms.proofs.Sources.{no_rule}
 
 module _ (p : Parts) (ranged : WellRanged p) (rule : ℕ) (exists : rule < length p.rules) where

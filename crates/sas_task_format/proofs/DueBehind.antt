@@ -88,10 +88,19 @@ no_fact zero d e f g h = f h
 no_fact (suc n) d e f g h = g h
 
 facts_behind_variables : (p : Place) (t : Tracker) → HasFacts (mark_at p t).due → IsBehindVariables p
+facts_behind_variables place.VersionBegin t h = h
+facts_behind_variables place.VersionNumber t h = h
+facts_behind_variables place.VersionEnd t h = h
+facts_behind_variables place.MetricBegin t h = h
+facts_behind_variables place.MetricNumber t h = h
+facts_behind_variables place.MetricEnd t h = h
+facts_behind_variables place.VariableCount t h = h
 facts_behind_variables place.Variables t h = no_facts t.left (mark at.Groups any_number) (mark (at.Variable (next_number t)) (due.Word fixed.BeginVariable)) (λ x. x) (λ x. x) h
+facts_behind_variables place.VariableName t h = h
+facts_behind_variables place.VariableLayer t h = h
+facts_behind_variables place.VariableRange t h = h
 facts_behind_variables place.VariableValues t h = no_fact t.more (due.Word fixed.EndVariable) due.Name (λ x. x) (λ x. x) h
 facts_behind_variables _ t h = tt
-facts_behind_variables _ t h = h
 
 -- such lines are expected only after the variables
 pub speaks_behind_variables : (t : Tracker) → HasFacts (mark_in t).due → IsBehindVariables t.place

@@ -7,7 +7,7 @@ use Rattle.sas_task_format.specs.declared.places.Place.TheVariants as place
 use Rattle.sas_task_format.specs.declared.marks.Due.TheVariants as due
 use Rattle.sas_task_format.specs.declared.marks.FixedWord.TheVariants as fixed
 use Rattle.sas_task_format.specs.declared.marks.Location.TheVariants as at
-use Rattle.sas_task_format.proofs.Tracking.{IsBehindVariables, Known, Scan, marked, leading, spelled, one}
+use Rattle.sas_task_format.proofs.Tracking.{IsBehindVariables, Known, Scan, marked, leading, spelled, one, ◌then◌}
 
 -- ---- marks of the lines of a section
 

@@ -10,8 +10,25 @@ track_marks t (i ∷ items) = mark_in t ∷ track_marks (step t i) items
 
 -- places after the last variable
 abbrev pub IsBehindVariables : Place → Type 0
+IsBehindVariables place.Groups = Unit {0}
+IsBehindVariables place.GroupSize = Unit {0}
+IsBehindVariables place.GroupFacts = Unit {0}
+IsBehindVariables place.StateValues = Unit {0}
+IsBehindVariables place.GoalBegin = Unit {0}
+IsBehindVariables place.GoalSize = Unit {0}
+IsBehindVariables place.GoalFacts = Unit {0}
+IsBehindVariables place.OperatorCount = Unit {0}
+IsBehindVariables place.Operators = Unit {0}
+IsBehindVariables place.OperatorName = Unit {0}
+IsBehindVariables place.PrevailCount = Unit {0}
+IsBehindVariables place.Prevail = Unit {0}
+IsBehindVariables place.Effects = Unit {0}
+IsBehindVariables place.OperatorEnd = Unit {0}
+IsBehindVariables place.Rules = Unit {0}
+IsBehindVariables place.RuleSize = Unit {0}
+IsBehindVariables place.RuleConditions = Unit {0}
+IsBehindVariables place.RuleEnd = Unit {0}
 IsBehindVariables _ = ⊥
-IsBehindVariables _ = Unit {0}
 
 -- ---- lines after lines: their last tracker, and their marks
 

@@ -25,8 +25,10 @@ all_stand n (b ∷ bounds) e = stands_too n b bounds (may_stand b) refl e (all_s
 
 -- the slots of lines with bounded numbers
 abbrev pub HasBounds : TaskSlot → Type 0
+HasBounds fact_slot = Unit {0}
+HasBounds effect_slot = Unit {0}
+HasBounds head_slot = Unit {0}
 HasBounds _ = ⊥
-HasBounds _ = Unit {0}
 
 pub range_is : (vs : List Variable) (var : ℕ) → slice_index (ranges_in vs) var ≡ range_of vs var
 range_is [] var = refl

@@ -65,8 +65,13 @@ state_of j s = process_at j.place j.left j.more s
 
 -- how many items are left in the current list; at other places the judge's count is meaningless
 abbrev pub more_in : Place → ℕ → ℕ
+more_in at.VariableValues more = more
+more_in at.GroupFacts more = more
+more_in at.GoalFacts more = more
+more_in at.Prevail more = more
+more_in at.Effects more = more
+more_in at.RuleConditions more = more
 more_in _ more = 0
-more_in _ more = more
 
 -- the number of values of each variable, including the current one
 abbrev pub ranges_in : Place → List ℕ → ℕ → List ℕ
@@ -94,8 +99,22 @@ HasEnded j = (j.place ≡ at.Rules) × (j.left ≡ 0)
 
 -- the place is after the mutex groups
 abbrev pub IsBehindGroups : Place → Type 0
+IsBehindGroups at.VersionBegin = ⊥
+IsBehindGroups at.VersionNumber = ⊥
+IsBehindGroups at.VersionEnd = ⊥
+IsBehindGroups at.MetricBegin = ⊥
+IsBehindGroups at.MetricNumber = ⊥
+IsBehindGroups at.MetricEnd = ⊥
+IsBehindGroups at.VariableCount = ⊥
+IsBehindGroups at.Variables = ⊥
+IsBehindGroups at.VariableName = ⊥
+IsBehindGroups at.VariableLayer = ⊥
+IsBehindGroups at.VariableRange = ⊥
+IsBehindGroups at.VariableValues = ⊥
+IsBehindGroups at.Groups = ⊥
+IsBehindGroups at.GroupSize = ⊥
+IsBehindGroups at.GroupFacts = ⊥
 IsBehindGroups _ = Unit {0}
-IsBehindGroups _ = ⊥
 
 -- the first line of such a section is expected
 abbrev pub SectionDue : TaskJudge → Section → Type 0

@@ -1,6 +1,6 @@
 -- What the rounds that are over reach, and what follows for the conditions of rules.
 use Rattle.std.proofs.lemmas.Grind.{common_steps}
-use Rattle.sas_why.proofs.Imports.{◌≡◌, ◌≢◌, ℕ, zero, suc, ◌<◌, ◌≤◌, ◌⊎◌, true, false, cond, List, [], ◌∷◌, length, get_or, Option, None, Some, refl, sym, ◌∙◌, ap, subst, inl, inr, arith, option_eq, All, Contains, cases_eq, cases_Bool, eqb_tells, Fact, Parts, IsOnLayer, default_of, LooksDown, IsLayered, new_value_of, IsSettled, layer_decides, given_on, given_off, one_layer, reached, reached_more, IsReached, OriginsUpToRound, value_in_round, reached_differs}
+use Rattle.sas_why.proofs.Imports.{◌≡◌, ◌≢◌, ℕ, zero, suc, ◌<◌, ◌≤◌, ◌⊎◌, true, false, cond, List, [], ◌∷◌, length, get_or, Option, None, Some, refl, sym, ◌∙◌, ap, subst, inl, inr, arith, option_eq, All, Contains, cases_eq, cases_Bool, eqb_tells, Fact, Parts, IsOnLayer, default_of, LooksDown, IsLayered, new_value_of, IsSettled, layer_decides, given_on, given_off, one_layer, reached, reached_more, IsReached, OriginsUpToRound, value_in_round, reached_differs, ◌==◌}
 
 module _ (p : Parts) (s : List ℕ) (layered : IsLayered p) where
   -- what is reached stays reached

@@ -1,5 +1,5 @@
 -- Setting the variable and its source.
-use Rattle.sas_axioms.proofs.Imports.{◌≡◌, ◌≢◌, ℕ, Option, Some, true, false, [], ◌∷◌, ◌++◌, get_or, set, refl, sym, ap, subst, ◌∙◌, inl, inr, arith, is_ok, option_eq, Change, rule_at, layer_of, IsRuleOn}
+use Rattle.sas_axioms.proofs.Imports.{◌≡◌, ◌≢◌, ℕ, Option, Some, true, false, [], ◌∷◌, ◌++◌, get_or, set, refl, sym, ap, subst, ◌∙◌, inl, inr, arith, is_ok, option_eq, Change, rule_at, layer_of, IsRuleOn, ◌==◌}
 use Rattle.sas_axioms.proofs.Counters.{Pushed, pushed, fires_by, fires_nothing, rule_within, was_default}
 use Rattle.sas_axioms.proofs.RuleChanges.{change_within, same_option}
 use Rattle.sas_axioms.proofs.Sources.{given_when_fired}
