@@ -39,7 +39,7 @@ same_facts (f ∷ fs) (g ∷ gs) ws vs h k l e =
     let b = same_facts fs gs ws vs h.1 k.1 (omega arith) a.1 in
     (ap (λ (x : Fact). x ∷ fs) a.0 ∙ ap (λ (x : List Fact). g ∷ x) b.0, b.1)
 
-NoSpace-facts : (fs : List Fact) (ws : List (List ℕ)) → AllByRecursion FactNumbers fs → AllByRecursion NoSpace ws → AllByRecursion NoSpace (flat_map fact_words fs ++ ws)
+pub NoSpace-facts : (fs : List Fact) (ws : List (List ℕ)) → AllByRecursion FactNumbers fs → AllByRecursion NoSpace ws → AllByRecursion NoSpace (flat_map fact_words fs ++ ws)
 NoSpace-facts [] ws h g = g
 NoSpace-facts (f ∷ fs) ws h g = (NoSpace-number f.var h.0.0, (NoSpace-number f.value h.0.1, NoSpace-facts fs ws h.1 g))
 
