@@ -4,7 +4,7 @@
     python3 cases/calls.py PROGRAM ..
 
 The programs are those that the crates `test_core`, `test_files`, `test_verdicts` and `test_requests` are built to, and have
-their names.
+their names. Only the calls of the programs given are made.
 
 calls.json: for each program what its calls print, in groups of the same call.
 
@@ -390,9 +390,7 @@ def batches(calls):
 
 def answers(programs, batch):
     """Returns what a program prints of each call of a batch, or what is wrong with its run."""
-    program = programs.get(batch[0]["program"])
-    if program is None:
-        return f"{batch[0]['program']} is none of the programs"
+    program = programs[batch[0]["program"]]
     given = SEPARATOR.join(call["input"] for call in batch)
     try:
         ran = subprocess.run([program], input=given, capture_output=True, timeout=SECONDS, check=False)
@@ -417,7 +415,7 @@ def main():
     if len(sys.argv) < 2:
         sys.exit(__doc__)
     programs = {os.path.basename(path): os.path.abspath(path) for path in sys.argv[1:]}
-    calls = sorted(cases(), key=lambda call: call["program"])
+    calls = sorted((call for call in cases() if call["program"] in programs), key=lambda call: call["program"])
     with ThreadPoolExecutor(os.cpu_count()) as pool:
         wrong = list(itertools.chain.from_iterable(pool.map(lambda batch: faults(programs, batch), batches(calls))))
     report.end(calls, wrong)
