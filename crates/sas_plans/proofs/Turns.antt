@@ -8,8 +8,10 @@ use Rattle.sas_plans.specs.Inputs.{tool_fault as fault_of}
 -- ---- the fault of one plan
 
 pub of_plan : {S I : Type 0} (gives : S → ℕ → Option I → S → Type 0) (number : ℕ) (old new : S) (why : JudgeFault) → EndsAt gives number old new why → IsOfPlan number why
+of_plan gives number old new (Plan other NotOpened) h = h.0
+of_plan gives number old new (Plan other Read) h = h.0
+of_plan gives number old new (Plan other TooLong) h = h.0
 of_plan gives number old new (Tool why) h = tt
-of_plan gives number old new _ h = h.0
 
 -- it isn't reported of the task
 pub not_of_task : {S I : Type 0} (gives : S → ℕ → Option I → S → Type 0) (number : ℕ) (old new : S) (why : JudgeFault) → EndsAt gives number old new why → why ≢ Tool tool_fault.Read
