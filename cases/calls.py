@@ -57,10 +57,10 @@ EVALUATORS = ("rounds", "worklist")
 TASK_WAYS, TASK_REQUESTS = ("task", "task-text", "outline", "flat-task"), ("print", "show", "check", "mutex")
 PLAN_WAYS, PLAN_REQUESTS = ("plan", "plan-text", "flat-plan"), ("steps",)
 TEXT_WAYS = ("task", "task-text", "plan", "plan-text")
-# the requests over a plan and its task; the second one tells reasons, the third one traces the plan
+# the requests over a plan and its task; the second one adds reasons, the third one traces the plan
 PLAN_OF_TASK = ("plan", "plan-why", "trace")
 MINIMAL, EMPTY = as_bytes({"file": "cases/tasks/minimal.sas"}), b"; cost = 0 (unit cost)\n"
-# what a trace tells first of the task of minimal.sas
+# what a trace prints first of the task of minimal.sas
 INITIAL = b"initial 0 0 Atom dummy(val1)\n"
 # an answer: the plans that were opened, the status, and the text
 ANSWER = re.compile(rb"((?:open \d+\n)*)Ok\((?:Yes|No)\)\n(.*)\n", re.DOTALL)
@@ -113,7 +113,7 @@ def failing(held):
 
 def broken_cases(call, given, answer):
     """Yields a call with plans that can't be opened, or that fail behind each front, unless a file is refused before. They could
-    show a failure that is ignored since the verdict is known before, or that is told of another plan, and lines that are written
+    show a failure that is ignored since the verdict is known before, or that is reported of another plan, and lines that are written
     before all plans are read."""
     _, plans, task = given.split(b"|", 2)
     if b" refused: " in answer or b"#" in plans or not call.endswith((*PLAN_OF_TASK, "judge")):
@@ -133,7 +133,7 @@ def broken_cases(call, given, answer):
 
 
 def told_fault(said):
-    """Returns the line that tells a fault."""
+    """Returns the line that reports a fault."""
     place, word = said.split(": ")
     return f"{place}: {word.title().replace(' ', '')}\n"
 
@@ -208,7 +208,7 @@ def told_cases():
 
 
 def told_by(request, answer):
-    """Returns this answer as a request about a plan gives it: a trace begins with the initial state, and `plan-why` tells why a task
+    """Returns this answer as a request about a plan gives it: a trace begins with the initial state, and `plan-why` reports why a task
     is refused, the one that a byte follows."""
     if request == "trace":
         return answer.replace(b"Ok(Yes)\n", b"Ok(Yes)\n" + INITIAL)
