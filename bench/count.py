@@ -38,10 +38,10 @@ Size = namedtuple("Size", "bytes lines")
 def counted(command):
     """Runs a command once, and counts its instructions."""
     run = subprocess.run([*VALGRIND, *command], stdin=subprocess.DEVNULL, capture_output=True)
-    told = re.search(rb"I +refs: +([\d,]+)", run.stderr)
-    if not told:
-        sys.exit("count.py: valgrind told no count: " + run.stderr.decode(errors="replace")[-500:])
-    return Count(int(told[1].replace(b",", b"")), run.returncode, digest([run.stdout]))
+    found = re.search(rb"I +refs: +([\d,]+)", run.stderr)
+    if not found:
+        sys.exit("count.py: valgrind printed no count: " + run.stderr.decode(errors="replace")[-500:])
+    return Count(int(found[1].replace(b",", b"")), run.returncode, digest([run.stdout]))
 
 
 def size_of(case, made):

@@ -70,10 +70,10 @@ def measured(command, limit, compared=False):
     finally:
         process.wait()
     with open(source) as file:
-        told = file.read().split()
-    if not told:
+        figures = file.read().split()
+    if not figures:
         return Run(None, None, None, output)
-    return Run(float(told[0]), int(told[1]) * 1024 / 1e6, int(told[2]), output)
+    return Run(float(figures[0]), int(figures[1]) * 1024 / 1e6, int(figures[2]), output)
 
 
 def commands_of(given, case, files):
@@ -95,9 +95,9 @@ def best_runs(commands, rounds, limit, stopped):
         for name in list(commands)[::-1 if turn % 2 else 1]:
             if name not in stopped:
                 runs[name].append(measured(commands[name], limit))
-    whole = {name: [run for run in told if run.status is not None] for name, told in runs.items()}
-    return {name: Best(min(run.seconds for run in told), max(run.peak for run in told)) if told else NOTHING
-            for name, told in whole.items()}
+    whole = {name: [run for run in ran if run.status is not None] for name, ran in runs.items()}
+    return {name: Best(min(run.seconds for run in ran), max(run.peak for run in ran)) if ran else NOTHING
+            for name, ran in whole.items()}
 
 
 def word_of(run, due, limit):
@@ -167,7 +167,7 @@ def main():
     given = read_words()
     floor = measured(["true"], given.limit)
     print("\n".join(machine.header(given.sas, given.beside)))
-    print("Best of %d rounds at scale %g; memory below some %.0f MB can't be told" % (
+    print("Best of %d rounds at scale %g; memory below some %.0f MB is not measured" % (
         given.rounds, given.scale, floor.peak), flush=True)
     print("\n" + machine.table_head(heads(given.beside)), flush=True)
     for case in chosen(given.only):

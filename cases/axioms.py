@@ -14,7 +14,7 @@ lowest one on, a derived variable has its default, unless a rule that can fire s
 conditions hold in the values so reached. A rule whose new value is the default can't fire.
 
 A rule has to be of a derived variable. If it can fire, its old value is none or the default, rules before it set its
-variable to the same value, and its conditions are on no higher layer; one that asks for a default is on a lower layer.
+variable to the same value, and its conditions are on no higher layer; one that requires a default is on a lower layer.
 """
 import random
 

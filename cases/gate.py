@@ -52,9 +52,9 @@ def counts(command, lines=None):
             show(line.rstrip("\n"))
             last = line.strip() or last
     show(f"{' '.join(command)}: {time.monotonic() - began:.0f} s")
-    told = re.fullmatch(r"(\d+) passed, (\d+) failed", last)
-    passed, failed = (int(told[1]), int(told[2])) if told else (0, 0)
-    agrees = told and (failed == 0) == (process.returncode == 0)
+    counts = re.fullmatch(r"(\d+) passed, (\d+) failed", last)
+    passed, failed = (int(counts[1]), int(counts[2])) if counts else (0, 0)
+    agrees = counts and (failed == 0) == (process.returncode == 0)
     return passed, failed if agrees else failed + 1
 
 

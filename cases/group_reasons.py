@@ -9,7 +9,7 @@ represents `VARIABLE VALUE NAME`, with the name of the value.
         effect F sets FACT        the two effects may fire together, and set facts of the group on different variables
         may remain FACT             the fact of the group may hold before a step in which effect E fires, and behind it
 
-Told is the first such effect E, with the first effect F; where there is none, with the first fact of the group that may remain. Facts
+The reason is the first such effect E, with the first effect F; where there is none, with the first fact of the group that may remain. Facts
 contradict each other as in families.py, in the family of the groups that are exclusive and the group itself.
 """
 from axioms import task_of
@@ -71,8 +71,8 @@ def behind_groups(lines, text):
     task = task_of(as_bytes(text).decode("latin-1"))
     verdicts = [line.split(" ", 2)[2] for line in lines]
     family = [group for group, verdict in zip(task["groups"], verdicts) if verdict == "exclusive"]
-    told = zip(lines, task["groups"], verdicts)
-    return [said for line, group, verdict in told for said in (line, *group_reasons(task, group, verdict, family))]
+    answers = zip(lines, task["groups"], verdicts)
+    return [said for line, group, verdict in answers for said in (line, *group_reasons(task, group, verdict, family))]
 
 
 def with_all_reasons(output, text):

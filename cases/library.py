@@ -40,8 +40,8 @@ from texts import TOP, as_bytes, changed_lines, table
 
 YES, NO, ROOM_TOO_SHORT, OUT_OF_MEMORY, INPUT_TOO_LONG, NO_TASK = range(6)
 LIMIT = 4_294_967_296
-# the words of a case of run.py that say more than what is asked
-LIMITED = ("memory", "stack", "file", "open", "closed", "output_to", "streamed", "told", "input_ends")
+# the words of a case of run.py that say more than the request
+LIMITED = ("memory", "stack", "file", "open", "closed", "output_to", "streamed", "front", "input_ends")
 OVER_BOTH, OVER_PLAN, OVER_TASK = ("plan", "plan_why", "trace"), ("steps",), ("check", "check_why", "mutex", "mutex_why", "show", "print")
 REQUESTS = (*OVER_BOTH, *OVER_PLAN, *OVER_TASK)
 # of each request over both files there is a call over a task that is held
@@ -132,12 +132,12 @@ def differs(got, due):
     return [] if got == due else [f"{got[0]}, {got[1][:200]!r}, not {due[0]}, {due[1][:200]!r}"]
 
 
-def asked(sas, request, *files):
+def answer_of(sas, request, *files):
     """Returns the answer of the wrapper in Python to a request."""
     return getattr(sas, "print_task" if request == "print" else request)(*files)
 
 
-def told(program, request, *files):
+def answer_of_program(program, request, *files):
     """Returns the answer of the program to the same request."""
     word, *flag = request.split("_")
     with tempfile.TemporaryDirectory() as folder:
@@ -157,7 +157,7 @@ def same_as_case(sas, case):
         return None
     files = [word for word in words if word != "--why"]
     if "--why" in words and request not in ("plan", "check", "mutex"):
-        # of these the library has no call with reasons, which they tell of a file that is refused alone
+        # of these the library has no call with reasons, which they report of a file that is refused alone
         return None if b" refused: " in as_bytes(case["output"]) else same_as_case(sas, {**case, "words": [request, *files]})
     request += "_why" if "--why" in words else ""
     if request not in (*REQUESTS, "plans") or any(word.startswith("-") and word != "-" for word in files):
@@ -169,7 +169,7 @@ def same_as_case(sas, case):
     due = case["status"] == 0, as_bytes(case["output"])
     if request == "plans":
         return differs(lines_of_plans(sas, files[1:], *held), due)
-    return differs(asked(sas, request, *held), due) + (same_of_held(sas, request, *held, due) if request in OVER_BOTH else [])
+    return differs(answer_of(sas, request, *held), due) + (same_of_held(sas, request, *held, due) if request in OVER_BOTH else [])
 
 
 def file_of(case, word):
@@ -205,8 +205,8 @@ def lines_of_plans(sas, labels, task, *plans):
 
 
 def case_tests(_, library, folder):
-    """Yields each case of run.py that asks about whole files, but for the largest: the answer is the text and the status of the
-    program. Plans are asked about with their task held, too. They could show a call that answers another request, inputs that are
+    """Yields each case of run.py about whole files, but for the largest: the answer is the text and the status of the
+    program. Plans are judged with their task held, too. They could show a call that answers another request, inputs that are
     exchanged, and a plan for which those before it count."""
     files = (*run.whole_cases(), *run.line_cases(), *run.plan_cases(folder), *run.group_cases())
     plans = (*run.verdict_cases(), *run.why_cases(), *run.trace_cases(), *run.plans_cases())
@@ -218,21 +218,21 @@ def case_tests(_, library, folder):
 
 
 def program_tests(program, library, _):
-    """Yields files about which the program itself is asked, with reasons too: the answers are the same. They could show the same."""
+    """Yields files about which the program itself answers, with reasons too: the answers are the same. They could show the same."""
     minimal, valid = read("cases/tasks/minimal.sas"), b"; cost = 0 (unit cost)\n"
     tasks = [read(task["file"]) for task in table("tasks.json")] + [as_bytes(made["task"]) for made in table("groups.json")]
     tasks += [as_bytes(changed["task"]) for changed in changed_lines() if len(as_bytes(changed["task"])) < 10_000]
-    asks = [(request, task) for task in dict.fromkeys(tasks) for request in ("check_why", "mutex_why")]
-    asks += [("plan_why", minimal, as_bytes(made["plan"])) for made in table("plans.json")]
+    calls = [(request, task) for task in dict.fromkeys(tasks) for request in ("check_why", "mutex_why")]
+    calls += [("plan_why", minimal, as_bytes(made["plan"])) for made in table("plans.json")]
     for name in ("blocks-4-0", "doorway", "elevator", "fuses"):
         files = read(f"examples/{name}.sas"), read(f"examples/{name}.plan")
-        asks += [(request, *inputs_of(request, *files)) for request in REQUESTS]
-    asks += [(request, *inputs_of(request, b"", b"")) for request in REQUESTS]
-    asks += [(request, minimal, b"") for request in OVER_BOTH] + [(request, b"", valid) for request in OVER_BOTH]
+        calls += [(request, *inputs_of(request, *files)) for request in REQUESTS]
+    calls += [(request, *inputs_of(request, b"", b"")) for request in REQUESTS]
+    calls += [(request, minimal, b"") for request in OVER_BOTH] + [(request, b"", valid) for request in OVER_BOTH]
     with ThreadPoolExecutor(2) as pool:
-        answers = pool.map(lambda it: told(program, *it), asks)
-        for (request, *files), due in zip(asks, answers):
-            yield f"{request}, as the program, {files[-1][:40]!r}", differs(asked(library.sas, request, *files), due)
+        answers = pool.map(lambda it: answer_of_program(program, *it), calls)
+        for (request, *files), due in zip(calls, answers):
+            yield f"{request}, as the program, {files[-1][:40]!r}", differs(answer_of(library.sas, request, *files), due)
 
 
 def room_tests(_, library, __):
@@ -243,14 +243,14 @@ def room_tests(_, library, __):
     for request in REQUESTS:
         for task, plan in (fuses, broken, refused):
             given = inputs_of(request, task, plan)
-            answer = asked(library.sas, request, *given)
+            answer = answer_of(library.sas, request, *given)
             yield f"{request}, each room", wrong_rooms(library, f"sas_{request}", lambda given=given: given, answer)
     for task, plan in (fuses, broken, refused):
         held = Held()
         yield "task_read, each room", wrong_rooms(library, "sas_task_read", lambda: [held, task], library.sas.check(task), held)
         library.call("sas_task_read", [held, fuses[0]], 128)
         for request in OVER_BOTH:
-            answer = asked(library.sas, request, fuses[0], plan)
+            answer = answer_of(library.sas, request, fuses[0], plan)
             yield f"task_{request}, each room", wrong_rooms(library, f"sas_task_{request}", lambda: [held, plan], answer)
         library.calls.sas_task_free(ctypes.byref(held))
 
@@ -371,11 +371,11 @@ def mixed_tests(_, library, __):
     """Yields calls about many plans of one task that is held, in any order: each answer is that over both files. They could show a call
     that leaves something of a plan for the next."""
     sas, task, chance = library.sas, read(f"{FUSES}.sas"), random.Random(1)
-    asks = [(request, plan) for request in OVER_BOTH for plan in PLANS_OF_FUSES]
-    dues = [asked(sas, request, task, plan) for request, plan in asks]
+    calls = [(request, plan) for request in OVER_BOTH for plan in PLANS_OF_FUSES]
+    dues = [answer_of(sas, request, task, plan) for request, plan in calls]
     with sas.Task(task) as held:
-        for number, place in enumerate(chance.choices(range(len(asks)), k=1000)):
-            request, plan = asks[place]
+        for number, place in enumerate(chance.choices(range(len(calls)), k=1000)):
+            request, plan = calls[place]
             yield f"call {number} of one task, {request}, {plan[:40]!r}", differs(getattr(held, request)(plan), dues[place])
 
 
@@ -649,7 +649,7 @@ def symbols(path, *words):
 
 
 def symbol_tests(_, library, __):
-    """Yields what the libraries want of others and show to them. They could show a call of the system that the proofs know nothing
+    """Yields what the libraries need of others and show to them. They could show a call of the system that the proofs know nothing
     of, a name that is another's in a program that links the library, and a library that is loaded where its instructions aren't known."""
     if not compilers("nm"):
         return
@@ -661,7 +661,7 @@ def symbol_tests(_, library, __):
     yield "what libsas.so shows", [] if shown == names else [f"{sorted(shown ^ names)} more or less"]
     if compilers("readelf"):
         said = ended("readelf", "-n", "-d", os.path.join(library.folder, "libsas.so")).stdout.decode()
-        yield "what the loader is told", [it for it in ("x86 ISA needed: x86-64-v2", "soname: [libsas.so.1]") if it not in said]
+        yield "what the loader reads", [it for it in ("x86 ISA needed: x86-64-v2", "soname: [libsas.so.1]") if it not in said]
 
 
 def built_driver(library, folder):
@@ -781,7 +781,7 @@ IN_ORDER = ("plan", "plan_why", "trace", "check", "check_why", "mutex", "mutex_w
 
 def lines_of_wrappers(sas, task, plan):
     """Returns what library.cpp and library.rs print of a task and of a plan. What is None is no answer, as no task is held."""
-    said = b"".join(answer_lines(it, asked(sas, it, *inputs_of(it, task, plan))) for it in IN_ORDER)
+    said = b"".join(answer_lines(it, answer_of(sas, it, *inputs_of(it, task, plan))) for it in IN_ORDER)
     said += answer_lines("empty", sas.plan(b"", b""))
     came, refused = sas.check(task), sas.check(plan)
     held = sas.plan(task, plan) if came else None
@@ -789,7 +789,7 @@ def lines_of_wrappers(sas, task, plan):
     def each(name, is_held):
         """Returns the answers about a plan of a task, in the order of the calls."""
         names = (name, "held plan_why", "held trace")
-        return [(word, asked(sas, it, task, plan) if is_held else None) for word, it in zip(names, OVER_BOTH)]
+        return [(word, answer_of(sas, it, task, plan) if is_held else None) for word, it in zip(names, OVER_BOTH)]
 
     moved = [("moved from", None), ("moved to", held)]
     first = [*each("none", False), ("read", came), *each("held" if came else "not held", bool(came))]
@@ -817,8 +817,8 @@ def built_wrapper(language, library, folder):
 
 
 def wrapper_tests(_, library, folder):
-    """Yields all calls of the wrappers in C++ and Rust, over a task that is layered and one that isn't. They could show a call that asks
-    another request or exchanges its inputs, and a task that is freed twice, or never."""
+    """Yields all calls of the wrappers in C++ and Rust, over a task that is layered and one that isn't. They could show a call that
+    answers for another request or exchanges its inputs, and a task that is freed twice, or never."""
     for language, compiler in (("cpp", "g++"), ("rs", "rustc")):
         path = built_wrapper(language, library.folder, folder) if compilers(compiler) else None
         for name in (DOORWAY, LAMPS) if path else ():
@@ -872,7 +872,7 @@ def number_tests(_, library, folder):
     for number, exception in ((OUT_OF_MEMORY, MemoryError), (INPUT_TOO_LONG, sas.InputTooLong), (NO_TASK, sas.NoTask)):
         # the library that is loaded sees no change that Python alone makes of its environment
         ctypes.CDLL(None).setenv(b"STUB", str(number).encode(), 1)
-        came = [raised(lambda it=it: asked(sas, it, *inputs_of(it, b"", b""))) for it in IN_ORDER] + [raised(lambda: sas.Task(b""))]
+        came = [raised(lambda it=it: answer_of(sas, it, *inputs_of(it, b"", b""))) for it in IN_ORDER] + [raised(lambda: sas.Task(b""))]
         yield f"sas.py, number {number}", [] if set(came) == {exception} else [f"{came}"]
 
 
@@ -934,7 +934,7 @@ def refused_code_tests(_, library, folder):
         return
     held, words = "let mut held = sas::Task::read(b\"\").unwrap();", crate(library.folder, folder)
     for name, code, error in (
-        ("asked by two threads", "fn shared<T: Sync>() {} shared::<sas::Task>();", "E0277"),
+        ("shared by two threads", "fn shared<T: Sync>() {} shared::<sas::Task>();", "E0277"),
         ("copied", f"{held} let other = held.clone(); drop(other);", "E0599"),
         ("used after it was dropped", f"{held} drop(held); let _ = held.plan(b\"\");", "E0382"),
     ):

@@ -77,9 +77,9 @@ def wrong_answer(parse, answer):
     line = lines[0] if re.match("plan |task ", answer) else lines[-2]
     name, fields = parse.verdict(answer)
     rebuilt = FORMS.get(name.upper(), name).format(**fields)
-    told = [it for it in lines if re.match("  ", it)]
+    reasons = [it for it in lines if re.match("  ", it)]
     wrong = wrong_line(parse, line) + ([] if rebuilt == line else [rebuilt]) + wrong_lab(answer, name, fields)
-    return wrong + [it for it in told if it[2:] not in parse.reasons(answer)]
+    return wrong + [it for it in reasons if it[2:] not in parse.reasons(answer)]
 
 
 def wrong_plans(parse, lines):

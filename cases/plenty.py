@@ -132,8 +132,8 @@ def late_faults():
 
 
 def wide_traces():
-    """Traces of tasks that have so many of everything, as in large.py. They could show want of memory that no one was
-    refused, and a list of which only the front counts."""
+    """Traces of tasks that have so many of everything, as in large.py. They could show `out of memory` where no allocation
+    was refused, and a list of which only the front counts."""
     for width in WIDTHS[:2]:
         task = wide_task(width)
         text = text_of(task)
@@ -161,13 +161,13 @@ def named_trace():
     made before it is written."""
     name = "a" * NAME
     task = task_with([2], operators=[turning("turn", 0)], names=[["off", name]])
-    told = [["initial 0 0 off\n", 1]]
+    front = [["initial 0 0 off\n", 1]]
     for step in range(1, TIMES + 1):
         change = ["change 0 0 1 ", name, "\n"] if step % 2 else "change 0 1 0 off\n"
-        told.append([[f"step {step} 0 1 turn\n", change], 1])
+        front.append([[f"step {step} 0 1 turn\n", change], 1])
     files = {"t.sas": text_of(task), "p.txt": plan_text(["turn"] * TIMES, TIMES)}
     said = f"{valid_line(['turn'] * TIMES)}\n"
-    return case("a name in a long text, trace", TRACE, said, 0, files=files, told=told, memory=MEMORY)
+    return case("a name in a long text, trace", TRACE, said, 0, files=files, front=front, memory=MEMORY)
 
 
 def priced_task(count):
@@ -258,7 +258,7 @@ def limited_plans():
 
 def wide_files():
     """The plans of tasks that have so many of everything, as in large.py, one behind the other and the other way round. They
-    could show want of memory that no one was refused, and something of a plan that the next one finds."""
+    could show `out of memory` where no allocation was refused, and something of a plan that the next one finds."""
     for width in WIDTHS:
         made = enumerate(wide_plans(width))
         plans = [(str(place), plan_text(names, cost), said, None if place else cost) for place, (names, cost, said) in made]

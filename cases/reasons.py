@@ -24,7 +24,7 @@ that stands further up already isn't said again.
 
 Variables of a layer rise in rounds: in each round all whose rules hold in what has risen in the rounds before. The rule that
 gives a variable its value is the first of its rules that holds when it rises. The derivation of a variable has the variable,
-and with each one those that this rule asks for and that have risen, too; so none rests on itself.
+and with each one those that this rule requires and that have risen, too; so none rests on itself.
 """
 from functools import cached_property
 
@@ -126,16 +126,16 @@ def derivation(run, var):
     found = [var]
     for its in found:
         _, rule = run.rising[its]
-        asked = (on for on, _ in run.task["rules"][rule][0] if is_risen(run.task, run.last, on))
-        found += [on for on in dict.fromkeys(asked) if on not in found]
+        required = (on for on, _ in run.task["rules"][rule][0] if is_risen(run.task, run.last, on))
+        found += [on for on in dict.fromkeys(required) if on not in found]
     ordered = sorted(found, key=lambda its: (run.task["layers"][its], run.rising[its][0], its))
     assert_explains(run, var, ordered)
     return ordered
 
 
 def assert_explains(run, var, ordered):
-    """Compares a derivation with what it is for: each rule asks for basic facts, for defaults on lower layers and for variables
-    that stand before its own, and gives the value that there is; the variable that is asked about is the last."""
+    """Compares a derivation with what it is for: each rule requires basic facts, for defaults on lower layers and for variables
+    that stand before its own, and gives the value that there is; the variable for which it is derived is the last."""
     task, before = run.task, set()
     for its in ordered:
         facts, of, _, new = task["rules"][run.rising[its][1]]
@@ -169,8 +169,8 @@ def held_back(run, var, value):
     rules = [rule for rule in rules_of(task, var) if task["rules"][rule][3] == value]
     if not rules:
         return ["no rule derives it"]
-    asked = [next(fact for fact in task["rules"][rule][0] if not holds(run.last, [fact])) for rule in rules]
-    return [f"rule {rule} requires {fact_said(task, *fact)}" for rule, fact in zip(rules, asked)]
+    required = [next(fact for fact in task["rules"][rule][0] if not holds(run.last, [fact])) for rule in rules]
+    return [f"rule {rule} requires {fact_said(task, *fact)}" for rule, fact in zip(rules, required)]
 
 
 def cause(run, fact):

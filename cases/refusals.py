@@ -91,7 +91,7 @@ def values_of(due, words):
 
 
 def limits(due, ranges, values):
-    """Yields of each word of a line the least and the most that it may be. Behind one that may not stand there nothing is asked."""
+    """Yields of each word of a line the least and the most that it may be. Behind one that may not stand there nothing is required."""
     facts = {FACT: values, HEAD: [], EFFECT: values[1:-3]}[due]
     if due == EFFECT:
         yield 0, MOST
@@ -214,14 +214,14 @@ def plan_line(line):
 
 
 def plan_slots():
-    """Yields the slots of a plan, which are alike, up to the line of its cost. What is due is told by the kind of fault."""
+    """Yields the slots of a plan, which are alike, up to the line of its cost. What is due follows from the kind of fault."""
     while not (yield "", ("", plan_line)).startswith(b";"):
         pass
 
 
 def first_fault(slots, text):
     """Follows some bytes through the slots. Returns the first fault: its line, its kind, where that stands, what is due there, what is
-    told of its words, and what was found; None where there is no fault."""
+    said of its words, and what was found; None where there is no fault."""
     here, at, line = next(slots), 0, 1
     while here:
         place, (due, judge) = here
@@ -274,8 +274,8 @@ def behind_file(said, text):
     return behind
 
 
-def told_call(call, given, answer):
-    """Returns the answer of a call of calls.json: where it is given a plan and a task, and asked for reasons, with those behind the
+def answer_of_call(call, given, answer):
+    """Returns the answer of a call of calls.json: where it is given a plan and a task, and the reasons are requested, with those behind the
     refusal of a file."""
     if not call.endswith("plan-why"):
         return answer
@@ -292,7 +292,7 @@ ODD = bytes([0, 31, 32, 91, 92, 93, 126, 127, 128, 255])
 ANYWHERE = [b"", b"x", b"\t", ODD, b"\\", b"..", *(b"x" * size for size in (63, 64, 65)), b" ", b"x" * 63 + b" ", b"x" * 63 + b" x", b"\xff" * 64, ODD * 7, b"x" * 64 + b"\n"]
 # what may not stand in the place of a name either
 NAMELESS = [b"a\rb", b"\r\r", b"\rx", *(b"x" * size + b"\ry" for size in (61, 62, 63, 64)), b"\r" * 65 + b"x"]
-# what stands behind the end of a file
+# what comes after the end of a file
 MORE = [b"\n", b"\r", b"\r\n", b" ", b"x", b"0\n", b"xyz"]
 SPELLINGS = [b"-1", b"-0", b"-2", b"00", b"01", b"+1", b"1 ", b" 1", b"1 1", b"1.", b"2147483647", b"2147483648", b"9" * 20, b"9" * 99]
 
@@ -442,7 +442,7 @@ def damaged_tasks():
         yield f"spoiled task {number}, {file}", spoiled(chance, bytes_of_file(file))
 
 
-def asked(name, words, lines, **inputs):
+def case_of(name, words, lines, **inputs):
     """Returns the case of a request about a file that is refused, with `--why`."""
     output = "".join(f"{line}\n" for line in lines)
     return {"name": f"{name}, {' '.join(words)} --why", "words": [*words, "--why"], "output": output, "status": 1, **inputs}
@@ -457,10 +457,10 @@ def refusal_cases():
             request = ("check", "print", "show", "mutex", "plan")[number % 5]
             words = [request, "-", "p.txt"] if request == "plan" else [request, "-"]
             files = {"files": {"p.txt": "x"}} if request == "plan" else {}
-            yield asked(about, words, lines, input=text, **files)
+            yield case_of(about, words, lines, input=text, **files)
     for number, (about, text) in enumerate(damaged_plans()):
         lines = refusal("plan", text)
         if lines:
             words = (["steps", "-"], ["plan", "t.sas", "-"])[number % 2]
             files = {"files": {"t.sas": {"file": "cases/tasks/minimal.sas"}}} if number % 2 else {}
-            yield asked(f"plan, {about}", words, lines, input=text, **files)
+            yield case_of(f"plan, {about}", words, lines, input=text, **files)

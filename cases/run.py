@@ -57,7 +57,7 @@ program.json: words and devices, by these names.
     open         how many files it may have open at a time, with its streams; left out: as many as the system lets it
     closed       which of "input", "output" and "error" aren't open when the program starts; left out: none
     output_to    where standard output goes: "full device", "closed pipe"; left out: to be compared with `output`
-    told         pairs [TEXT, TIMES] that come before `output`, and aren't held in memory as a whole; left out: nothing
+    front        pairs [TEXT, TIMES] that come before `output`, and aren't held in memory as a whole; left out: nothing
     output       standard output, exactly
     status       the exit status
     error        standard error, exactly; null: some text about the words, no line of the program's own; left out: nothing
@@ -333,8 +333,8 @@ def answer_of(program, case, folder, place):
             given = b""
         if "streamed" in case:
             stream(process, case["streamed"])
-        if "told" in case:
-            written, said = compared(process, case["told"])
+        if "front" in case:
+            written, said = compared(process, case["front"])
         else:
             written, said = process.communicate(given, SECONDS)
         if "file" in case:
@@ -414,8 +414,8 @@ def main():
     with tempfile.TemporaryDirectory() as plans, tempfile.TemporaryDirectory() as folder:
         files = [*whole_cases(), *line_cases(), *plan_cases(plans), *group_cases()]
         plans = [*verdict_cases(), *why_cases(), *trace_cases(), *plans_cases()]
-        told = [*reason_cases(), *layer_cases(), *refusal_cases()]
-        made = [*cut_cases(), *plans, *family_cases(), *told, *table("program.json")]
+        reasons = [*reason_cases(), *layer_cases(), *refusal_cases()]
+        made = [*cut_cases(), *plans, *family_cases(), *reasons, *table("program.json")]
         # those that take longest first
         large = [*nets_cases(), *idle_cases(), *lengthy_cases(), *plenty_cases(), *crowded_cases(), *large_cases()]
         cases = [*large, *files, *map(with_why, files), *made]

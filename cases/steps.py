@@ -1,7 +1,7 @@
 """What operators do and plans are worth, computed from the meaning of a task: a task here is as in walks.py.
 
 The initial state is that of the state section, settled. An operator is applicable where its prevail conditions hold, and
-each of its effects that asks for an old value finds it, whether it fires or not. A step means the first operator of its
+each of its effects that requires an old value finds it, whether it fires or not. A step means the first operator of its
 name that is applicable. Each effect fires whose conditions hold before the step. Where two that fire set one variable to
 different values there is no step; else all take place at once, and the rules settle the state.
 

@@ -33,7 +33,7 @@ TURNS = 12
 PLACES = (["--why", "t.sas", "p.txt"], ["t.sas", "--why", "p.txt"], ["t.sas", "p.txt", "--why"])
 
 
-def asked(name, task, plan, lines, words=PLACES[0]):
+def case_of(name, task, plan, lines, words=PLACES[0]):
     """Returns the case of a plan with `--why`, of which these lines are printed."""
     return {
         "name": f"{name}, plan {' '.join(words)}",
@@ -47,8 +47,8 @@ def asked(name, task, plan, lines, words=PLACES[0]):
 def twice(name, task, plan, lines, words=PLACES[0]):
     """Yields the same, and the case without `--why`."""
     assert all(line.startswith("  ") for line in lines[1:]) and not lines[0].startswith(" ")
-    yield asked(name, task, plan, lines[:1], PLACES[0][1:])
-    yield asked(name, task, plan, lines, words)
+    yield case_of(name, task, plan, lines[:1], PLACES[0][1:])
+    yield case_of(name, task, plan, lines, words)
 
 
 def written_task(task):
@@ -74,7 +74,7 @@ def written_cases():
     for name, task, plan, lines in written_plans():
         for words in PLACES:
             yield from twice(name, task, plan, lines, words)
-        yield asked(f"{name}, with CR LF", *(text.replace("\n", "\r\n") for text in (task, plan)), lines)
+        yield case_of(f"{name}, with CR LF", *(text.replace("\n", "\r\n") for text in (task, plan)), lines)
 
 
 def verdict_cases():
@@ -87,7 +87,7 @@ def verdict_cases():
             assert f"{fault}\n" == made["output"]
         if "call" in made or " refused: " in fault:
             of = task if fault.startswith(REFUSED) else plan
-            yield asked(made["name"], task, plan, [fault, *behind, *behind_refusal(fault, of)])
+            yield case_of(made["name"], task, plan, [fault, *behind, *behind_refusal(fault, of)])
 
 
 def refused_cases():
@@ -95,12 +95,12 @@ def refused_cases():
     for made in table("plans.json"):
         if made["status"]:
             plan, said = as_bytes(made["plan"]), made["output"].removesuffix("\n")
-            yield asked(f"{made['name']}, of a task", as_bytes(MINIMAL), plan, [said, *behind_refusal(said, plan)])
+            yield case_of(f"{made['name']}, of a task", as_bytes(MINIMAL), plan, [said, *behind_refusal(said, plan)])
     for changed in changed_lines():
         if changed["fault"] or changed["layers"]:
             said = f"task refused: {changed['fault'] or changed['layers']}"
             task = as_bytes(changed["task"])
-            yield asked(changed["name"], task, "", [said, *behind_refusal(said, task)])
+            yield case_of(changed["name"], task, "", [said, *behind_refusal(said, task)])
 
 
 def walked_cases():
@@ -108,7 +108,7 @@ def walked_cases():
     for made in walked_plans():
         fault, behind = reasons(task_of(made["task"]), *plan_of(made["plan"]))
         assert f"{fault}\n" == made["output"]
-        yield asked(made["name"], made["task"], made["plan"], [fault, *behind])
+        yield case_of(made["name"], made["task"], made["plan"], [fault, *behind])
 
 
 def long_cases():
@@ -117,7 +117,7 @@ def long_cases():
     for made in long_runs():
         fault = made["output"].removesuffix("\n")
         behind = [] if fault.startswith("plan valid") else reasons_of(made["run"])
-        yield asked(made["name"], made["task"], made["plan"], [fault, *behind])
+        yield case_of(made["name"], made["task"], made["plan"], [fault, *behind])
 
 
 def alike(chance, name):
