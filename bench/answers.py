@@ -44,7 +44,7 @@ def expected_lines(request, about):
 
 
 def expected(request, made):
-    """Returns the bytes that are due, in pieces."""
+    """Returns the expected bytes, in pieces."""
     if request == "print":
         return file_pieces(made.task)
     if request == "steps":

@@ -56,8 +56,8 @@ def further(sizes, counts):
             for size, next_size, count, next_count in zip(sizes, sizes[1:], counts, counts[1:])]
 
 
-def answer_word(count, due, status=0):
-    return "right" if (count.status, count.output) == (status, due) else "WRONG: status %d" % count.status
+def answer_word(count, expected, status=0):
+    return "right" if (count.status, count.output) == (status, expected) else "WRONG: status %d" % count.status
 
 
 def beside_cells(given, case, made, mine):

@@ -55,12 +55,12 @@ def input_of(folder, family, domain):
 
 
 def row_of(family, domain, made, count):
-    """Returns how the answer compares with the one that is due. Here groups may fall."""
+    """Returns how the answer compares with the one that is expected. Here groups may fall."""
     if family.request != "mutex":
         return answer_word(count, expected_digest(family.request, made))
     is_exclusive = set(domain.breaking()) <= {None}
-    due = digest((line + "\n").encode("ascii") for line in domain.answer())
-    return answer_word(count, due, 0 if is_exclusive else 1)
+    expected = digest((line + "\n").encode("ascii") for line in domain.answer())
+    return answer_word(count, expected, 0 if is_exclusive else 1)
 
 
 def family_row(given, family):

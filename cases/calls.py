@@ -15,10 +15,10 @@ calls.json: for each program what its calls print, in groups of the same call.
     rows         [INPUT, ANSWER]: the bytes that the call is about, and what the program prints
 
 The calls of `run` and `judge` are made once more with writers of each room up to the length of the answer, and with plans that can't
-be opened or that fail behind each of their bytes.
+be opened or that fail after each of their bytes.
 
 The calls over the files of tasks.json, lines.json, plans.json, verdicts.json and groups.json are made here, and those over
-the tasks of axioms.py, walks.py, following.py, families.py and large.py, and over devices that go on behind a failure.
+the tasks of axioms.py, walks.py, following.py, families.py and large.py, and over devices that go on after a failure.
 texts.py defines what a text is. Each case that fails has a line, and the last line is 'N passed, M failed'. The exit status is
 0 where none failed.
 """
@@ -104,7 +104,7 @@ def narrow_cases(call, given, answer, opened, text):
 
 
 def failing(held):
-    """Yields scripts for devices that fail once behind each front of a file, and then go on: how many lines come before, and the
+    """Yields scripts for devices that fail once after each front of a file, and then go on: how many lines come before, and the
     script."""
     for length, failure in itertools.product(range(len(held) + 1), (b"!", b"~")):
         front, rest = held[:length], held[length:]
@@ -112,7 +112,7 @@ def failing(held):
 
 
 def broken_cases(call, given, answer):
-    """Yields a call with plans that can't be opened, or that fail behind each front, unless a file is refused before. They could
+    """Yields a call with plans that can't be opened, or that fail after each front, unless a file is refused before. They could
     show a failure that is ignored since the verdict is known before, or that is reported of another plan, and lines that are written
     before all plans are read."""
     _, plans, task = given.split(b"|", 2)
@@ -166,7 +166,7 @@ def task_cases():
                 yield case(REQUESTS, f"run {request}", [b"||", script], "Err(Read)\n\n", name)
             for _, script in failing(held):
                 yield case(REQUESTS, "judge", [b"|none:?|", script], "Err(Tool(Read))\n\n", name)
-    yield from behind_cases("feed-task", MINIMAL)
+    yield from after_cases("feed-task", MINIMAL)
 
 
 def cut_cases(call, given, held, about):
@@ -177,7 +177,7 @@ def cut_cases(call, given, held, about):
         yield case(FILES, call, b"|".join(cut), ["read\n" * len(cut), "whole\n", held, "\n"], about)
 
 
-def behind_cases(call, held):
+def after_cases(call, held):
     """Yields a whole file that a byte follows. They could show a byte that is taken there, such as a space or a CR."""
     said = f"line {1 + held.count(10)}: Trailing\n"
     for byte in (bytes([it]) for it in range(256) if it not in MEANT):
@@ -185,8 +185,8 @@ def behind_cases(call, held):
 
 
 def device_cases(ways, requests, name, held):
-    """Yields devices that fail behind each front of a file. They could show a failure that is taken for the end, and a read that
-    is tried again behind it, which goes well then."""
+    """Yields devices that fail after each front of a file. They could show a failure that is taken for the end, and a read that
+    is tried again after it, which goes well then."""
     for line, script in failing(held):
         for way in ways:
             yield case(FILES, f"read {way}", script, f"line {line}: Read\nfailed\n", name)
@@ -195,7 +195,7 @@ def device_cases(ways, requests, name, held):
 
 
 def cut_cases():
-    """Yields files of devices that end, and go on then. They could show a read that is made behind the end."""
+    """Yields files of devices that end, and go on then. They could show a read that is made after the end."""
     plan = b"(go )\n(open door)\n; cost = 2 (unit cost)\n"
     for what, ways, requests, held in (("task", TASK_WAYS, TASK_REQUESTS, MINIMAL), ("plan", PLAN_WAYS, PLAN_REQUESTS, plan)):
         for length in (0, 1, len(held) // 2, len(held) - 1):
@@ -298,7 +298,7 @@ def plan_cases():
         if plan["status"] == 0 and len(held) < SMALL:
             yield from cut_cases("feed-plan", held, output, name)
             yield from device_cases(PLAN_WAYS, PLAN_REQUESTS, name, held)
-    yield from behind_cases("feed-plan", EMPTY)
+    yield from after_cases("feed-plan", EMPTY)
 
 
 def verdict_cases():

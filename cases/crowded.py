@@ -76,7 +76,7 @@ def conditional_cases():
 
 def sharing_task(count, effects, shared):
     """A task of so many groups, each of a fact that all share, 0, and one of its own. An operator of each sets the group's own
-    fact, has these effects too, and requires fact 0 and the own facts of so many groups behind it."""
+    fact, has these effects too, and requires fact 0 and the own facts of so many groups after it."""
     own = [(place, 0) for place in range(1, count + 1)]
     operators = [
         ("go", [(0, 0), *own[place : place + shared]], [*effects, setting(place)], 1) for place in range(1, count + 1)

@@ -56,7 +56,7 @@ def never_both(operator, f, g, family):
 
 
 def gone(operator, f, effect, family):
-    """Returns whether the fact doesn't hold behind a step in which the effect fires."""
+    """Returns whether the fact doesn't hold after a step in which the effect fires."""
     known = [*preconditions(operator), *effect[0], f]
     if clash(known, family):
         return True

@@ -8,8 +8,8 @@ A task is as in walks.py. Its operators are
     ask F       requires the fact F, and changes nothing
     main, small K   see `storm_task`
 
-A run is its steps: of each the operator, and the state behind it. Where it has an `ask` that fact holds. So a wrong value shows
-at that step, or soon behind it: by an operator that isn't applicable, or by the cost.
+A run is its steps: of each the operator, and the state after it. Where it has an `ask` that fact holds. So a wrong value shows
+at that step, or soon after it: by an operator that isn't applicable, or by the cost.
 """
 import functools
 import random
@@ -43,8 +43,8 @@ class States(dict):
         self[values] = settled(self.task, values)
         return self[values]
 
-    def behind(self, state, operator):
-        """Returns the state behind a step of this operator."""
+    def after(self, state, operator):
+        """Returns the state after a step of this operator."""
         basic = (layer is None for layer in self.task["layers"])
         return self[tuple(value if is_basic else 0 for value, is_basic in zip(changed(state, operator), basic))]
 
@@ -149,7 +149,7 @@ def turning_names(chance, derived):
 
 def storm_task():
     """Returns a task in which the operator `main` lets nearly all derived variables fall or rise, by rules that ask about two of
-    them each, and `small K` those of a small net, in a ring. It is worth it to go on from the state before behind the second
+    them each, and `small K` those of a small net, in a ring. It is worth it to go on from the state before after the second
     alone."""
     nets = [[1 + CHAIN * 2 + net * SMALL + place for place in range(SMALL)] for net in range(NETS)]
     count = 1 + 2 * CHAIN + NETS * SMALL
@@ -183,13 +183,13 @@ def storm_names(chance, derived):
 
 
 def run_over(task, names, steps):
-    """Returns so many steps with these names: of each its operator, and the state behind it. A variable in place of a name means
+    """Returns so many steps with these names: of each its operator, and the state after it. A variable in place of a name means
     the operator that requires the value that it has."""
     states, state, run = States(task), initial(task), []
     for name, _ in zip(names, range(steps)):
         step = f"ask {name} {state[name]}" if isinstance(name, int) else name
         operator = meant(task, state, step)
-        state = states.behind(state, task["operators"][operator])
+        state = states.after(state, task["operators"][operator])
         run.append((operator, state))
     return run
 

@@ -79,7 +79,7 @@ def nets_steps():
 
 def nets_cases():
     """Plans of which each step changes one net of many, and concerns twenty rules of a hundred thousand. They could show a
-    program that goes through all rules at each step, or at each one behind a step that changed nearly all."""
+    program that goes through all rules at each step, or at each one after a step that changed nearly all."""
     names, text = list(nets_steps()), text_of(nets_task())
     said = f"plan valid: {len(names)} steps, cost {len(names)}\n"
     yield over_plan("many nets", text, names, len(names), said)

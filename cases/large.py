@@ -222,7 +222,7 @@ def stack_cases():
 
 def full_file_cases():
     """Outputs into files that may have fewer bytes, so that a write stops early and the next one fails; and one into a file that
-    is just full then. They could show bytes that are missing before those that went out, and a further write behind the last."""
+    is just full then. They could show bytes that are missing before those that went out, and a further write after the last."""
     task = wide_task(1001)
     text = text_of(task)
     for request, output in (("show", summary(task)), ("print", text)):
@@ -240,7 +240,7 @@ def full_file_cases():
 
 def late_changes(width, lines):
     """Changes of the last item of each list of a wide task: its place among the lines, what it then says, the fault, and how many
-    lines behind it that is reported."""
+    lines after it that is reported."""
     turn, rule = lines.index("turn"), len(lines) - 3
     effect = turn + 3 + 2 * width
     return [
@@ -263,9 +263,9 @@ def late_cases():
     fault that is reported of another line."""
     for width in WIDTHS[:2]:
         lines = text_of(wide_task(width)).splitlines()
-        for place, changed, word, behind in late_changes(width, lines):
+        for place, changed, word, after in late_changes(width, lines):
             text = "".join(f"{line}\n" for line in [*lines[:place], changed, *lines[place + 1 :]])
-            said = f"line {place + 1 + behind}: {word}"
+            said = f"line {place + 1 + after}: {word}"
             for request in ("print", "show", "check"):
                 yield over_input(f"{width} of everything, {said}", request, text, f"task refused: {said}\n", 1)
 
@@ -348,16 +348,16 @@ def piece_cases():
 
 
 def late_line_cases():
-    """Files whose fault comes behind very many lines. They could show a line that is counted in too few bits, and `out of memory`
+    """Files whose fault comes after very many lines. They could show a line that is counted in too few bits, and `out of memory`
     where no allocation was refused."""
     facts = "0 0\n" * LINES
     task = as_bytes(with_line(MINIMAL, 20, f"{LINES}\n{facts}0 2"))
     said = f"task refused: line {20 + LINES + 1}: keyword\n"
     for request in ("print", "show", "check", "mutex"):
-        yield over_input("a fault behind very many lines", request, task, said, 1)
+        yield over_input("a fault after very many lines", request, task, said, 1)
     plan, said = "(a)\n" * LINES + "()\n", f"plan refused: line {LINES + 1}: name\n"
-    yield over_input("a fault behind very many steps", "steps", plan, said, 1)
-    yield case("a fault behind very many steps, plan", ["plan", MINIMAL, "-"], said, 1, input=plan)
+    yield over_input("a fault after very many steps", "steps", plan, said, 1)
+    yield case("a fault after very many steps, plan", ["plan", MINIMAL, "-"], said, 1, input=plan)
 
 
 def longest_cases():

@@ -240,8 +240,8 @@ def many_alike(size):
 def compare_small(maker):
     """Compares what is said of a small size with what the meaning of reasons gives."""
     task, names, cost, lines = maker(SMALL)
-    fault, behind = reasons(task, names, cost)
-    assert [fault, *behind] == lines, (maker.__name__, [fault, *behind], lines)
+    fault, after = reasons(task, names, cost)
+    assert [fault, *after] == lines, (maker.__name__, [fault, *after], lines)
 
 
 def made_case(maker, size, **limits):

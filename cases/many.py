@@ -126,7 +126,7 @@ def with_plan_from_input(name, task, plans, place):
     return case_of(name, ["t.sas", *words], {"t.sas": text_of(task), **files, "-": "x\n"}, lines, input=plans[place][1])
 
 
-def behind_dashes(name, task, plans, lines):
+def after_dashes(name, task, plans, lines):
     """Returns the case of these plans, whose labels may begin with a dash, as they come after `--`."""
     return case_of(name, ["--", "-t", *(label for label, _ in plans)], {"-t": task, **dict(plans)}, lines)
 
@@ -215,11 +215,11 @@ def plan_file(chance, names, cost):
 def damaged(chance, text):
     """Returns a plan file that is cut off, or has a byte less or more."""
     place = chance.randrange(len(text))
-    behind = (text[place:], text[place + 1 :], chance.choice("\n\r(); 0a") + text[place:])
+    after = (text[place:], text[place + 1 :], chance.choice("\n\r(); 0a") + text[place:])
     change = chance.randrange(5)
     if change == 0:
         return text + chance.choice("\n\r( ;a")
-    return text[:place] + ("" if change == 1 else behind[change - 2])
+    return text[:place] + ("" if change == 1 else after[change - 2])
 
 
 def files_made(chance, task, make):
@@ -289,7 +289,7 @@ def random_cases():
             yield with_plan_from_input(name, task, plans, chance.randrange(len(plans)))
         elif number % EACH == 2:
             plans = labelled(chance, texts, ("-{}", "--{}", "--why {}", "{}"))
-            yield behind_dashes(name, text, plans, lines_of(task, plans))
+            yield after_dashes(name, text, plans, lines_of(task, plans))
         else:
             plans.reverse()
             yield with_task_from_input(name, text, plans, lines_of(task, plans))

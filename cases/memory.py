@@ -30,7 +30,7 @@ import report
 from axioms import text_of
 from group_reasons import with_all_reasons
 from large import plan_text, wide_plans, wide_task
-from layers import behind_refusal
+from layers import after_refusal
 from many import lines_of, status_of
 from reasons import reasons
 from refusals import answer_of_call
@@ -110,7 +110,7 @@ def refused_calls(programs):
 
 def refused_requests(sas, folder):
     """Yields each request to the program itself. It could show a call that goes on without the memory that it was refused,
-    or that reports this behind a part of its answer."""
+    or that reports this after a part of its answer."""
     names, cost, _ = wide_plans(SEVERAL)[0]
     files = {"several.sas": text_of(wide_task(SEVERAL)), "several.plan": plan_text(names, cost)}
     for name, text in files.items():
@@ -125,7 +125,7 @@ def refused_requests(sas, folder):
 
 
 def case_of(sas, words, status, output=None, error=b""):
-    """Returns a request to the program, its answer, where None is some text that is due, and standard error."""
+    """Returns a request to the program, its answer, where None is some text that is expected, and standard error."""
     name, command = " ".join(words), [sas, *words]
     return {"command": command, "name": name, "given": b"", "status": status, "output": output, "error": error}
 
@@ -182,14 +182,14 @@ def refused_reasons(sas, folder):
     that stop where memory is refused, or of which a part is written before that."""
     for number, (task, names, cost) in enumerate(failing_plans()):
         files = both_written(folder, f"why.{number}", task, names, cost)
-        fault, behind = reasons(task, names, cost)
-        yield case_of(sas, ["plan", "--why", *files], 0 if fault.startswith("plan valid") else 1, lines_text([fault, *behind]))
+        fault, after = reasons(task, names, cost)
+        yield case_of(sas, ["plan", "--why", *files], 0 if fault.startswith("plan valid") else 1, lines_text([fault, *after]))
     for words, said in (*refusals(files[1]), ([MINIMAL, MINIMAL], "plan refused: line 1: keyword")):
         of = words[1] if said.startswith("plan ") else words[0]
-        yield case_of(sas, ["plan", "--why", *words], 1, lines_text([said, *behind_refusal(said, {"file": of})]))
+        yield case_of(sas, ["plan", "--why", *words], 1, lines_text([said, *after_refusal(said, {"file": of})]))
     for request in ("check", "mutex"):
         said = "task refused: rule 0: layer order"
-        yield case_of(sas, [request, "--why", UNLAYERED], 1, lines_text([said, *behind_refusal(said, {"file": UNLAYERED})]))
+        yield case_of(sas, [request, "--why", UNLAYERED], 1, lines_text([said, *after_refusal(said, {"file": UNLAYERED})]))
     groups = next(made for made in table("groups.json") if made["name"] == "each verdict")
     task = written(folder, "groups.sas", as_bytes(groups["task"]).decode())
     yield case_of(sas, ["mutex", "--why", task], 1, with_all_reasons(groups["output"], groups["task"]))
@@ -246,8 +246,8 @@ def wrong_with_call(library, call):
 def wrong_with_request(library, call):
     """Returns what is wrong with a request to the program itself."""
     *refused, (last, was_refused) = runs(library, call)
-    due = last[1] if call["output"] is None else call["output"]
-    answered = not was_refused and last == (call["status"], due, call["error"]) and (last[1] or call["output"] is not None)
+    expected = last[1] if call["output"] is None else call["output"]
+    answered = not was_refused and last == (call["status"], expected, call["error"]) and (last[1] or call["output"] is not None)
     wrong = [f"allocation {number}: {end}" for number, (end, _) in enumerate(refused, 1) if end not in (OUT_OF_MEMORY, last)]
     return wrong if answered and OUT_OF_MEMORY in [end for end, _ in refused] else [*wrong, f"nothing refused: {last}"]
 

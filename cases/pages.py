@@ -23,7 +23,7 @@ from texts import TOP, text_of
 
 PAGE, README, GUIDE = "man/sas.1", "README.md", "docs/GUIDE.md"
 COMPLETIONS = {"bash": "completions/sas.bash", "zsh": "completions/_sas", "fish": "completions/sas.fish"}
-# what is typed behind requests and flags, and what bash and fish offer for it
+# what is typed after requests and flags, and what bash and fish offer for it
 PLAN, DOORWAY = "examples/doorway.p", {"examples/doorway.plan"}
 OFFERED = (
     (("plan", "--why", "examples/lam"), {"examples/lamps.sas"}),
@@ -32,7 +32,7 @@ OFFERED = (
     (("plans", "examples/lamps.sas", "-", PLAN), DOORWAY),
     (("steps", PLAN), DOORWAY),
 )
-# what bash offers where a task is due, and where all files of a request are there
+# what bash offers where a task is expected, and where all files of a request are there
 OFFERED_BY_BASH = (
     (("plan", "examples/doorway"), {"examples/doorway.sas"}),
     (("plan", "-", "x", PLAN), set()),

@@ -77,7 +77,7 @@ def storm_task(size):
 
 
 def storm_trace(size, storms, breezes):
-    """So often the step that turns the first switch of that task, and behind each so many that turn the second one."""
+    """So often the step that turns the first switch of that task, and after each so many that turn the second one."""
     names, values = (["storm"] + ["breeze"] * breezes) * storms, {"storm": 0, "breeze": 0}
     touched = {"storm": [0, *range(2, size + 2)], "breeze": [1, *range(size + 2, size + 5)]}
     lines = initial_lines(size + 5)
@@ -126,9 +126,9 @@ def late_faults():
     hold. They could show a trace that is written before the plan is read."""
     files, turns = {"t.sas": text_of(task_with([2], operators=[turning("turn", 0)]))}, ["(turn)\n", LONG]
     refusal, words = f"plan refused: line {LONG + 1}: name\n", ["trace", "t.sas", "-"]
-    yield case("a fault behind very many steps, trace", words, refusal, 1, files=files, input=[turns, "()\n"])
+    yield case("a fault after very many steps, trace", words, refusal, 1, files=files, input=[turns, "()\n"])
     inputs = {"input": [turns, "(", ["a", 2 * MEMORY]], "memory": MEMORY, "error": "sas: out of memory\n"}
-    yield case("a name that memory doesn't hold behind very many steps, trace", words, "", 3, files=files, **inputs)
+    yield case("a name that memory doesn't hold after very many steps, trace", words, "", 3, files=files, **inputs)
 
 
 def wide_traces():
@@ -257,7 +257,7 @@ def limited_plans():
 
 
 def wide_files():
-    """The plans of tasks that have so many of everything, as in large.py, one behind the other and the other way round. They
+    """The plans of tasks that have so many of everything, as in large.py, one after the other and the other way round. They
     could show `out of memory` where no allocation was refused, and something of a plan that the next one finds."""
     for width in WIDTHS:
         made = enumerate(wide_plans(width))

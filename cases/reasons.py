@@ -1,9 +1,9 @@
-"""Why a plan isn't valid, computed from the meaning of a task: the lines that `plan --why` prints behind the verdict. Two spaces
+"""Why a plan isn't valid, computed from the meaning of a task: the lines that `plan --why` prints after the verdict. Two spaces
 stand in front of each, four where it belongs to the line above. A task here is as in walks.py; `fact` in a line represents
 `VARIABLE VALUE NAME`, with the name of the value.
 
 A run is the task, the names of a plan's steps, the operators of those steps that go through, and the states: the initial one, and
-the one behind each of these steps. A fact fails that doesn't hold in the last of them.
+the one after each of these steps. A fact fails that doesn't hold in the last of them.
 
     no operator of that name    step S NAME, and `similar operator I NAME` of the first operator whose name is the same but for
                                 spaces at the end and capitals, if there is one
@@ -13,10 +13,10 @@ the one behind each of these steps. A fact fails that doesn't hold in the last o
     goal fact not reached       each goal fact that fails, with its cause
     cost differs                metric M, steps S, sum of cost lines N, also where the metric doesn't count them
 
-Behind each of these comes the first step that went through and could also be an operator behind the one that it meant, as
+After each of these comes the first step that went through and could also be an operator after the one that it meant, as
 that has the name too and was applicable, with the first such operator.
 
-The cause of a fact that fails: the value that is required, the actual one, and since which step. That is the last one behind
+The cause of a fact that fails: the value that is required, the actual one, and since which step. That is the last one after
 which it had another value than before; a step that sets the value that is there changes nothing. Where the variable is derived
 and isn't at its default, the rules of its derivation follow. Where it is derived and the required value isn't the default, there
 follows for each rule that would derive that the first of its conditions that fails, or that there is no such rule. A line of a rule
@@ -255,7 +255,7 @@ def said_once(lines):
 
 
 def reasons_of(run):
-    """Returns the lines behind the verdict on the plan of a run that isn't valid."""
+    """Returns the lines after the verdict on the plan of a run that isn't valid."""
     if len(run.operators) < len(run.names):
         said = step_reasons(run)
     else:
@@ -264,6 +264,6 @@ def reasons_of(run):
 
 
 def reasons(task, names, cost):
-    """Returns the verdict on a plan, and the lines behind it; none where the plan is valid."""
+    """Returns the verdict on a plan, and the lines after it; none where the plan is valid."""
     fault, _ = verdict(task, names, cost)
     return fault, [] if fault.startswith("plan valid") else reasons_of(run_of(task, names))

@@ -6,7 +6,7 @@ Of a layered task and a plan file that is well formed these lines stand in front
     initial VARIABLE VALUE NAME     each variable, in order, with its value in the initial state, which is settled
     step I OPERATOR COST NAME       each step that goes through, counted from 1: which operator it means, what that costs, and the
                                     operator's name
-    change VARIABLE OLD NEW NAME    behind it each variable, in order, that has another value than before, derived ones too
+    change VARIABLE OLD NEW NAME    after it each variable, in order, that has another value than before, derived ones too
 
 VALUE, OLD and NEW are numbers, and NAME is the name of the value VALUE or NEW. Of other files that last line is all. The exit
 status is that of `plan`.
@@ -147,7 +147,7 @@ def written_cases():
 
 
 def verdict_cases():
-    """Yields the plans of verdicts.json, but for those that are too long. They could show a verdict behind a trace that isn't
+    """Yields the plans of verdicts.json, but for those that are too long. They could show a verdict after a trace that isn't
     the one of `plan`, and lines in front of the refusal of a file."""
     for made in table("verdicts.json"):
         task, plan = (as_bytes(made[it]).decode("latin-1") for it in ("task", "plan"))
