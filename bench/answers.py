@@ -44,7 +44,7 @@ def expected_lines(request, about):
 
 
 def expected(request, made):
-    """Returns the bytes that are due, in pieces."""
+    """Returns the expected bytes, in pieces."""
     if request == "print":
         return file_pieces(made.task)
     if request == "steps":
@@ -54,10 +54,10 @@ def expected(request, made):
 
 def digest(pieces):
     """Returns a digest of an output, by which two outputs are compared."""
-    told = hashlib.sha256()
+    made = hashlib.sha256()
     for piece in pieces:
-        told.update(piece)
-    return told.hexdigest()
+        made.update(piece)
+    return made.hexdigest()
 
 
 def expected_digest(request, made):

@@ -7,8 +7,8 @@ Power comes up a riser from floor to floor, each room has a switch, and nobody w
     layer 2     dim(FLOOR)      where a room isn't lit
     layer 3     safe(FLOOR)     where it isn't dim
 
-A worker is on one of ten floors, and goes up or down by one. No rule asks where the workers are. So once the lowest riser is
-closed, no step changes what a rule asks about, though each asks whether a floor is safe.
+A worker is on one of ten floors, and goes up or down by one. No rule reads where the workers are. So once the lowest riser is
+closed, no step changes what a rule reads, though each requires whether a floor is safe.
 
 With n floors there are 24.1 n variables, 23.8 n operators and 22 n rules.
 """

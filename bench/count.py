@@ -38,10 +38,10 @@ Size = namedtuple("Size", "bytes lines")
 def counted(command):
     """Runs a command once, and counts its instructions."""
     run = subprocess.run([*VALGRIND, *command], stdin=subprocess.DEVNULL, capture_output=True)
-    told = re.search(rb"I +refs: +([\d,]+)", run.stderr)
-    if not told:
-        sys.exit("count.py: valgrind told no count: " + run.stderr.decode(errors="replace")[-500:])
-    return Count(int(told[1].replace(b",", b"")), run.returncode, digest([run.stdout]))
+    found = re.search(rb"I +refs: +([\d,]+)", run.stderr)
+    if not found:
+        sys.exit("count.py: valgrind printed no count: " + run.stderr.decode(errors="replace")[-500:])
+    return Count(int(found[1].replace(b",", b"")), run.returncode, digest([run.stdout]))
 
 
 def size_of(case, made):
@@ -56,8 +56,8 @@ def further(sizes, counts):
             for size, next_size, count, next_count in zip(sizes, sizes[1:], counts, counts[1:])]
 
 
-def answer_word(count, due, status=0):
-    return "right" if (count.status, count.output) == (status, due) else "WRONG: status %d" % count.status
+def answer_word(count, expected, status=0):
+    return "right" if (count.status, count.output) == (status, expected) else "WRONG: status %d" % count.status
 
 
 def beside_cells(given, case, made, mine):

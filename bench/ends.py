@@ -1,5 +1,5 @@
 #!/usr/bin/env python3
-"""Tells what files cost whose lines end in CR LF, beside the same files with LF: the instructions that ./sas takes.
+"""Prints what files cost whose lines end in CR LF, beside the same files with LF: the instructions that ./sas takes.
 
     bench/ends.py ./sas FOLDER [--scale F]
 

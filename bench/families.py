@@ -1,5 +1,5 @@
 #!/usr/bin/env python3
-"""Tells of families of tasks whether what ./sas takes grows with the input and no faster: instructions a byte at two sizes.
+"""Prints of families of tasks whether what ./sas takes grows with the input and no faster: instructions a byte at two sizes.
 
     bench/families.py ./sas FOLDER [--only TEXT] [--scale F] [--at-once N]
 
@@ -54,13 +54,13 @@ def input_of(folder, family, domain):
     return made_input(folder, family.domain.__name__.lower(), domain, steps)
 
 
-def told(family, domain, made, count):
-    """Returns how the answer compares with the one that is due. Here groups may fall."""
+def row_of(family, domain, made, count):
+    """Returns how the answer compares with the one that is expected. Here groups may fall."""
     if family.request != "mutex":
         return answer_word(count, expected_digest(family.request, made))
     is_exclusive = set(domain.breaking()) <= {None}
-    due = digest((line + "\n").encode("ascii") for line in domain.answer())
-    return answer_word(count, due, 0 if is_exclusive else 1)
+    expected = digest((line + "\n").encode("ascii") for line in domain.answer())
+    return answer_word(count, expected, 0 if is_exclusive else 1)
 
 
 def family_row(given, family):
@@ -70,7 +70,7 @@ def family_row(given, family):
     sizes = [size_of(family, made) for made in inputs]
     counts = [counted([given.sas, family.request, *files_of(family, made)]) for made in inputs]
     each = [count.instructions / size.bytes for count, size in zip(counts, sizes)]
-    words = [told(family, *answered) for answered in zip(domains, inputs, counts)]
+    words = [row_of(family, *answered) for answered in zip(domains, inputs, counts)]
     word = next((word for word in words if word != "right"), "right")
     growth = each[1] / each[0]
     is_linear = growth <= LINEAR

@@ -2,7 +2,7 @@
 each of another:
 
     Repeated    two facts that a group lists again and again, and operators that change its facts
-    Shared      groups that share a fact, and operators that ask for it; all groups are exclusive
+    Shared      groups that share a fact, and operators that require it; all groups are exclusive
     Spoiled     the same, and each group falls by an operator of its own
     Chained     the same, and each group falls as the next one has fallen
     Resting     groups that share facts and fall one after another, and operators that rest on a group that stays
@@ -46,7 +46,7 @@ class Grouped:
     def answer(self):
         """Returns the lines that `mutex` prints."""
         words = ["exclusive" if it is None else "not shown: operator %d" % it for it in self.breaking()]
-        return ["group %d %s" % told for told in enumerate(words)]
+        return ["group %d %s" % it for it in enumerate(words)]
 
 
 class Repeated(Grouped):
@@ -77,7 +77,7 @@ class Shared(Grouped):
         return [(0, HOLDS, NOT)]
 
     def asking(self, group):
-        """Returns what the operator of a group asks for."""
+        """Returns what the operator of a group requires."""
         return [(0, HOLDS)]
 
     def operators(self):
@@ -96,7 +96,7 @@ class Spoiled(Shared):
 
 
 class Chained(Spoiled):
-    """Each operator asks for the own fact of the next group too, which never holds beside fact 0 while that group stands."""
+    """Each operator requires the own fact of the next group too, which never holds beside fact 0 while that group stands."""
 
     def asking(self, group):
         # the last one has no next one
@@ -104,8 +104,8 @@ class Chained(Spoiled):
 
 
 class Resting(Grouped):
-    """Facts 0 and 1 are in each group, beside one of its own, and each group rests on the next one: its operator asks for the own
-    facts of both. Before these stand an eighth as many operators that set fact 0, and ask for fact 1 and for two facts of another
+    """Facts 0 and 1 are in each group, beside one of its own, and each group rests on the next one: its operator requires the own
+    facts of both. Before these stand an eighth as many operators that set fact 0, and require fact 1 and for two facts of another
     group, which stays, so that they are never applicable."""
 
     def resting(self):
@@ -127,7 +127,7 @@ class Resting(Grouped):
         return rest + [("go %d" % group, self.needed(group), [(2 + group, -1, HOLDS)]) for group in range(self.objects)]
 
     def needed(self, group):
-        """Returns what the operator of a group asks for: the last one for nothing."""
+        """Returns what the operator of a group requires: the last one for nothing."""
         return [self.own(group + 1)] if group + 1 < self.objects else []
 
     def breaking(self):
@@ -135,24 +135,24 @@ class Resting(Grouped):
 
 
 class Relying(Grouped):
-    """Fact 0 is in each group but the last, beside one of its own. Each operator sets fact 0, and asks for a fact that is in the last
+    """Fact 0 is in each group but the last, beside one of its own. Each operator sets fact 0, and requires a fact that is in the last
     group with all own facts, so that none of these holds beside it."""
 
     SHARING = 100
 
     def groups(self):
         own = [(1 + group, HOLDS) for group in range(self.SHARING)]
-        return [[(0, HOLDS), fact] for fact in own] + [own + [self.asked(place) for place in range(self.objects)]]
+        return [[(0, HOLDS), fact] for fact in own] + [own + [self.required(place) for place in range(self.objects)]]
 
-    def asked(self, place):
-        """Returns what an operator asks for."""
+    def required(self, place):
+        """Returns what an operator requires."""
         return 1 + self.SHARING + place, HOLDS
 
     def initial(self):
         return [NOT] * (1 + self.SHARING + self.objects)
 
     def operators(self):
-        return [("go %d" % place, [self.asked(place)], [(0, -1, HOLDS)]) for place in range(self.objects)]
+        return [("go %d" % place, [self.required(place)], [(0, -1, HOLDS)]) for place in range(self.objects)]
 
 
 class Effects(Grouped):

@@ -82,8 +82,8 @@ def main():
     with ThreadPoolExecutor(given.at_once) as pool:
         counts = [[pool.submit(counted, command_of(given.sas, case, files)) for files in of_case]
                   for case, of_case in zip(cases, inputs)]
-        for case, files, told in zip(cases, inputs, counts):
-            print(case_row(given.sas, case, files, told), flush=True)
+        for case, files, count in zip(cases, inputs, counts):
+            print(case_row(given.sas, case, files, count), flush=True)
 
 
 if __name__ == "__main__":

@@ -1,9 +1,9 @@
-"""Tasks with derived variables whose plans change nothing that a rule asks about: a door is opened and shut, again and again,
+"""Tasks with derived variables whose plans change nothing that a rule reads: a door is opened and shut, again and again,
 and the lamps stay as they are. Each class has one thing in great number that a step might go through:
 
     Unruled     derived variables without a rule
     Layers      layers, with a lamp on each, lit where the one on the layer below is
-    Below       rules that ask about a lower layer, each of a lamp of its own
+    Below       rules that read a lower layer, each of a lamp of its own
 
 A task of n objects has n + 2 or n + 3 variables, n or n + 1 of them derived, and three operators.
 """

@@ -22,7 +22,7 @@ def load():
     return "load %.2f %.2f %.2f" % os.getloadavg()
 
 
-def told_program(path):
+def program_line(path):
     """Returns the line about a program: its name and a checksum of its file, which sets one build apart from another."""
     found = shutil.which(path)
     if not found:
@@ -35,9 +35,9 @@ def header(program, beside):
     """Yields the lines in front of a table."""
     yield "Date: " + time.strftime("%Y-%m-%d %H:%M:%S UTC", time.gmtime())
     yield "Machine: %s, %d cores, %s %s" % (cpu_model(), os.cpu_count(), platform.system(), platform.release())
-    yield "Program: " + told_program(program)
+    yield "Program: " + program_line(program)
     if beside:
-        yield "Beside: " + told_program(beside)
+        yield "Beside: " + program_line(beside)
     yield "Before: " + load()
 
 

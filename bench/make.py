@@ -102,13 +102,13 @@ def case_input(top, case, scale):
 def size_and_unit(domain, text):
     """Returns the number and the unit of a SIZE."""
     units = DOMAINS[domain].UNITS
-    told = re.fullmatch(r"([0-9.]+)([A-Za-z]*)", text)
-    if not told or told[2] and told[2] not in units:
+    parts = re.fullmatch(r"([0-9.]+)([A-Za-z]*)", text)
+    if not parts or parts[2] and parts[2] not in units:
         sys.exit("make.py: a size is a number and one of " + ", ".join(units))
-    return float(told[1]), told[2] or next(iter(units))
+    return float(parts[1]), parts[2] or next(iter(units))
 
 
-def told_line(made):
+def made_line(made):
     """Returns one line about an input."""
     about = made.about
     counts = ", ".join("%d %s" % (about[word], word) for word in ("variables", "groups", "operators", "rules"))
@@ -130,11 +130,11 @@ def main():
         if not given.size:
             words.error("a domain needs a size")
         domain = domain_of(given.domain, *size_and_unit(given.domain, given.size))
-        print(told_line(made_input(given.folder, given.domain, domain, given.steps)))
+        print(made_line(made_input(given.folder, given.domain, domain, given.steps)))
         return
     inputs = (case_input(given.folder, case, given.scale) for case in chosen(given.only))
     # two cases may have one input
-    print("\n".join(dict.fromkeys(told_line(made) for made in inputs)))
+    print("\n".join(dict.fromkeys(made_line(made) for made in inputs)))
 
 
 if __name__ == "__main__":

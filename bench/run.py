@@ -7,7 +7,7 @@ For each case of cases.py it prints the size of the input, the best wall time of
 memory of the process, and as floors the best times of `cat` and `wc -l` over the same files. PROGRAM takes the same
 words, an older build for example. It runs in turn with ./sas, and for times and memory ./sas / PROGRAM is printed.
 
-In front of the rounds each program runs once to be compared with the answer that is due (answers.py); by then the input
+In front of the rounds each program runs once to be compared with the answer that is expected (answers.py); by then the input
 is in the cache of the system. A run past S seconds is stopped; a program that is stopped there isn't run in the rounds.
 """
 import argparse
@@ -70,10 +70,10 @@ def measured(command, limit, compared=False):
     finally:
         process.wait()
     with open(source) as file:
-        told = file.read().split()
-    if not told:
+        figures = file.read().split()
+    if not figures:
         return Run(None, None, None, output)
-    return Run(float(told[0]), int(told[1]) * 1024 / 1e6, int(told[2]), output)
+    return Run(float(figures[0]), int(figures[1]) * 1024 / 1e6, int(figures[2]), output)
 
 
 def commands_of(given, case, files):
@@ -91,31 +91,31 @@ def best_runs(commands, rounds, limit, stopped):
     run."""
     runs = {name: [] for name in commands}
     for turn in range(rounds):
-        # every other round backwards, so that none is always behind the same one
+        # every other round backwards, so that none is always after the same one
         for name in list(commands)[::-1 if turn % 2 else 1]:
             if name not in stopped:
                 runs[name].append(measured(commands[name], limit))
-    whole = {name: [run for run in told if run.status is not None] for name, told in runs.items()}
-    return {name: Best(min(run.seconds for run in told), max(run.peak for run in told)) if told else NOTHING
-            for name, told in whole.items()}
+    whole = {name: [run for run in ran if run.status is not None] for name, ran in runs.items()}
+    return {name: Best(min(run.seconds for run in ran), max(run.peak for run in ran)) if ran else NOTHING
+            for name, ran in whole.items()}
 
 
-def word_of(run, due, limit):
-    """Returns how a run compares with the answer that is due."""
+def word_of(run, expected, limit):
+    """Returns how a run compares with the answer that is expected."""
     if run.status is None:
         return "stopped after %d s" % limit
     if run.status != 0:
         return "WRONG: status %d" % run.status
-    return "right" if run.output == due else "WRONG"
+    return "right" if run.output == expected else "WRONG"
 
 
-def compared_words(firsts, due, limit):
+def compared_words(firsts, expected, limit):
     """Returns what the answers were like, and those of both programs beside each other."""
-    words = [word_of(firsts["sas"], due, limit)]
+    words = [word_of(firsts["sas"], expected, limit)]
     if "beside" in firsts:
         mine, other = firsts["sas"], firsts["beside"]
         words.append("same" if (mine.status, mine.output) == (other.status, other.output) else
-                     "DIFFERENT: " + word_of(other, due, limit))
+                     "DIFFERENT: " + word_of(other, expected, limit))
     return words
 
 
@@ -167,7 +167,7 @@ def main():
     given = read_words()
     floor = measured(["true"], given.limit)
     print("\n".join(machine.header(given.sas, given.beside)))
-    print("Best of %d rounds at scale %g; memory below some %.0f MB can't be told" % (
+    print("Best of %d rounds at scale %g; memory below some %.0f MB is not measured" % (
         given.rounds, given.scale, floor.peak), flush=True)
     print("\n" + machine.table_head(heads(given.beside)), flush=True)
     for case in chosen(given.only):

@@ -1,7 +1,7 @@
 """The text of a task file (`output.sas`, version 3), section by section, as the translator of Fast Downward writes it.
 
 A domain is an object with these members. Facts are pairs (VARIABLE, VALUE), and an effect is (VARIABLE, OLD, NEW),
-where -1 is no old value; its conditions, where it has some, stand behind these three. Everything is under metric 0, so each
+where -1 is no old value; its conditions, where it has some, come after these three. Everything is under metric 0, so each
 operator's cost line is 1.
 
     objects                 how many things its size counts

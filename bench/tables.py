@@ -6,7 +6,7 @@ What is above what follows from what lies on what, as a transitive closure, so e
                 under(X)        where a block lies on X
     layer 1     clear(X)        where X isn't under a block
 
-A move asks for clear blocks, and changes one table alone. So of all rules only those of that table have to be looked at.
+A move requires clear blocks, and changes one table alone. So of all rules only those of that table have to be looked at.
 
 On each table the blocks are a tower at first, and in the end. With n tables there are 15 n variables, 18 n operators and 21 n
 rules.

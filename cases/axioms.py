@@ -14,7 +14,7 @@ lowest one on, a derived variable has its default, unless a rule that can fire s
 conditions hold in the values so reached. A rule whose new value is the default can't fire.
 
 A rule has to be of a derived variable. If it can fire, its old value is none or the default, rules before it set its
-variable to the same value, and its conditions are on no higher layer; one that asks for a default is on a lower layer.
+variable to the same value, and its conditions are on no higher layer; one that requires a default is on a lower layer.
 """
 import random
 
@@ -222,10 +222,10 @@ def settled(task, state):
     for layer in sorted({layer for layer in layers if layer is not None}):
         rules = [rule for rule in task["rules"] if layers[rule[1]] == layer and rule[3] != defaults[rule[1]]]
         while True:
-            due = {var: new for facts, var, _, new in rules if all(values[on] == value for on, value in facts)}
-            if all(values[var] == new for var, new in due.items()):
+            expected = {var: new for facts, var, _, new in rules if all(values[on] == value for on, value in facts)}
+            if all(values[var] == new for var, new in expected.items()):
                 break
-            values = [due.get(var, value) for var, value in enumerate(values)]
+            values = [expected.get(var, value) for var, value in enumerate(values)]
     return values
 
 

@@ -15,10 +15,10 @@ calls.json: for each program what its calls print, in groups of the same call.
     rows         [INPUT, ANSWER]: the bytes that the call is about, and what the program prints
 
 The calls of `run` and `judge` are made once more with writers of each room up to the length of the answer, and with plans that can't
-be opened or that fail behind each of their bytes.
+be opened or that fail after each of their bytes.
 
 The calls over the files of tasks.json, lines.json, plans.json, verdicts.json and groups.json are made here, and those over
-the tasks of axioms.py, walks.py, following.py, families.py and large.py, and over devices that go on behind a failure.
+the tasks of axioms.py, walks.py, following.py, families.py and large.py, and over devices that go on after a failure.
 texts.py defines what a text is. Each case that fails has a line, and the last line is 'N passed, M failed'. The exit status is
 0 where none failed.
 """
@@ -34,7 +34,7 @@ from axioms import settled_tasks, spoiled_tasks, text_of
 from families import grouped_tasks
 from following import called_runs
 from large import plan_text, wide_groups, wide_plans, wide_task
-from refusals import told_call
+from refusals import answer_of_call
 from steps import initial, state_line, verdict
 from texts import as_bytes, changed_lines, early_end, table
 from walks import walked_calls, walked_plans
@@ -83,12 +83,12 @@ def written_cases():
         for group in groups:
             for given, answer in group["rows"]:
                 call, given = group["call"], as_bytes(given)
-                answer = as_bytes(told_call(call, given, answer))
+                answer = as_bytes(answer_of_call(call, given, answer))
                 about = f"{group.get('about', '')} {given[:60]!r}"
                 yield case(program, call, given, answer, about)
-                told = ANSWER.fullmatch(answer)
-                if told and call.startswith(("run", "judge")) and call != "judge-slices":
-                    yield from narrow_cases(call, given, answer, *told.groups())
+                parts = ANSWER.fullmatch(answer)
+                if parts and call.startswith(("run", "judge")) and call != "judge-slices":
+                    yield from narrow_cases(call, given, answer, *parts.groups())
                     yield from broken_cases(call, given, answer)
 
 
@@ -104,7 +104,7 @@ def narrow_cases(call, given, answer, opened, text):
 
 
 def failing(held):
-    """Yields scripts for devices that fail once behind each front of a file, and then go on: how many lines come before, and the
+    """Yields scripts for devices that fail once after each front of a file, and then go on: how many lines come before, and the
     script."""
     for length, failure in itertools.product(range(len(held) + 1), (b"!", b"~")):
         front, rest = held[:length], held[length:]
@@ -112,7 +112,7 @@ def failing(held):
 
 
 def broken_cases(call, given, answer):
-    """Yields a call with plans that can't be opened, or that fail behind each front, unless a file is refused before. They could
+    """Yields a call with plans that can't be opened, or that fail after each front, unless a file is refused before. They could
     show a failure that is ignored since the verdict is known before, or that is reported of another plan, and lines that are written
     before all plans are read."""
     _, plans, task = given.split(b"|", 2)
@@ -132,7 +132,7 @@ def broken_cases(call, given, answer):
             yield case(REQUESTS, call, b"|%s|%s" % (listed_plans, task), said, f"plan {number}: {script!r}")
 
 
-def told_fault(said):
+def answer_of_fault(said):
     """Returns the line that reports a fault."""
     place, word = said.split(": ")
     return f"{place}: {word.title().replace(' ', '')}\n"
@@ -166,7 +166,7 @@ def task_cases():
                 yield case(REQUESTS, f"run {request}", [b"||", script], "Err(Read)\n\n", name)
             for _, script in failing(held):
                 yield case(REQUESTS, "judge", [b"|none:?|", script], "Err(Tool(Read))\n\n", name)
-    yield from behind_cases("feed-task", MINIMAL)
+    yield from after_cases("feed-task", MINIMAL)
 
 
 def cut_cases(call, given, held, about):
@@ -177,7 +177,7 @@ def cut_cases(call, given, held, about):
         yield case(FILES, call, b"|".join(cut), ["read\n" * len(cut), "whole\n", held, "\n"], about)
 
 
-def behind_cases(call, held):
+def after_cases(call, held):
     """Yields a whole file that a byte follows. They could show a byte that is taken there, such as a space or a CR."""
     said = f"line {1 + held.count(10)}: Trailing\n"
     for byte in (bytes([it]) for it in range(256) if it not in MEANT):
@@ -185,8 +185,8 @@ def behind_cases(call, held):
 
 
 def device_cases(ways, requests, name, held):
-    """Yields devices that fail behind each front of a file. They could show a failure that is taken for the end, and a read that
-    is tried again behind it, which goes well then."""
+    """Yields devices that fail after each front of a file. They could show a failure that is taken for the end, and a read that
+    is tried again after it, which goes well then."""
     for line, script in failing(held):
         for way in ways:
             yield case(FILES, f"read {way}", script, f"line {line}: Read\nfailed\n", name)
@@ -194,28 +194,28 @@ def device_cases(ways, requests, name, held):
             yield case(REQUESTS, f"run {request}", over(request, script), "Err(Read)\n\n", name)
 
 
-def told_cases():
-    """Yields files of devices that end, and go on then. They could show a read that is made behind the end."""
+def cut_cases():
+    """Yields files of devices that end, and go on then. They could show a read that is made after the end."""
     plan = b"(go )\n(open door)\n; cost = 2 (unit cost)\n"
     for what, ways, requests, held in (("task", TASK_WAYS, TASK_REQUESTS, MINIMAL), ("plan", PLAN_WAYS, PLAN_REQUESTS, plan)):
         for length in (0, 1, len(held) // 2, len(held) - 1):
             front, about = held[:length], f"{length} bytes of a {what}"
             said, script = early_end(front), b"#".join([*filter(None, [front]), b"", b"!", held[length:]])
             for way in ways:
-                yield case(FILES, f"read {way}", script, told_fault(said), about)
+                yield case(FILES, f"read {way}", script, answer_of_fault(said), about)
             for request in requests:
                 yield case(REQUESTS, f"run {request}", over(request, script), f"Ok(No)\n{what} refused: {said}\n\n", about)
 
 
-def told_by(request, answer):
+def answer_by(request, answer):
     """Returns this answer as a request about a plan gives it: a trace begins with the initial state, and `plan-why` reports why a task
     is refused, the one that a byte follows."""
     if request == "trace":
         return answer.replace(b"Ok(Yes)\n", b"Ok(Yes)\n" + INITIAL)
-    return told_call(request, [b"||", MINIMAL, b"x"], answer)
+    return answer_of_call(request, [b"||", MINIMAL, b"x"], answer)
 
 
-def told_plan_cases():
+def cut_plan_cases():
     """Yields the same for `run` with a plan and its task. They could show a plan that is read before its task, too: the
     task's device comes to its end or fails before that."""
     valid = b"Ok(Yes)\nplan valid: 0 steps, cost 0\n\n"
@@ -229,11 +229,11 @@ def told_plan_cases():
         (b"!", MINIMAL + b"#x#~", b"Ok(No)\ntask refused: line 25: trailing\n\n"),
     ):
         for request in PLAN_OF_TASK:
-            yield case(REQUESTS, f"run {request}", b"|%s|%s" % (plan, task), told_by(request, answer), f"{plan!r}")
+            yield case(REQUESTS, f"run {request}", b"|%s|%s" % (plan, task), answer_by(request, answer), f"{plan!r}")
 
 
 def wide_cases():
-    """Yields wide tasks, through the calls that take a task or a plan as it is. They could show want of memory that no one
+    """Yields wide tasks, through the calls that take a task or a plan as it is. They could show `out of memory` where no allocation
     was refused, and a buffer that reads more at a time than is documented."""
     for width in (65, 130):
         task, about = wide_task(width), f"{width} of everything"
@@ -261,8 +261,8 @@ def listed(plans):
 
 
 def judged_cases(task, plans, about):
-    """Yields the plans of a wide task in one list, of which the first one alone is valid, and each by itself. They could show want
-    of memory that no one was refused, and a plan for which those before it count."""
+    """Yields the plans of a wide task in one list, of which the first one alone is valid, and each by itself. They could show `out
+    of memory` where no allocation was refused, and a plan for which those before it count."""
     opened = "".join(f"open {number}\n" for number in range(len(plans)))
     said = "".join(f"{number}: {verdict}\n" for number, (_, _, verdict) in enumerate(plans))
     summary = f"{len(plans)} plans, 1 valid, best cost {plans[0][1]}: 0\n"
@@ -281,7 +281,7 @@ def line_cases():
         if len(held) > LONGEST or any(it in held for it in MEANT):
             continue
         for way in ("task", "outline"):
-            answer = read_as(way, held) if changed["fault"] is None else told_fault(changed["fault"])
+            answer = read_as(way, held) if changed["fault"] is None else answer_of_fault(changed["fault"])
             yield case(FILES, f"read {way}", held, answer, changed["name"])
 
 
@@ -293,12 +293,12 @@ def plan_cases():
         if len(held) > LONGEST or any(it in held for it in MEANT):
             continue
         for way in PLAN_WAYS:
-            answer = told_fault(plan["output"].strip().removeprefix("plan refused: ")) if plan["status"] else read_as(way, output)
+            answer = answer_of_fault(plan["output"].strip().removeprefix("plan refused: ")) if plan["status"] else read_as(way, output)
             yield case(FILES, f"read {way}", held, answer, name)
         if plan["status"] == 0 and len(held) < SMALL:
             yield from cut_cases("feed-plan", held, output, name)
             yield from device_cases(PLAN_WAYS, PLAN_REQUESTS, name, held)
-    yield from behind_cases("feed-plan", EMPTY)
+    yield from after_cases("feed-plan", EMPTY)
 
 
 def verdict_cases():
@@ -371,7 +371,7 @@ def layer_cases():
 def cases():
     """Returns all calls."""
     files = (*task_cases(), *line_cases(), *plan_cases(), *verdict_cases(), *why_cases())
-    devices = (*told_cases(), *told_plan_cases(), *wide_cases())
+    devices = (*cut_cases(), *cut_plan_cases(), *wide_cases())
     random = (*settled_cases(), *layer_cases(), *step_cases(), *following_cases(), *group_cases())
     return [*written_cases(), *files, *devices, *random]
 
@@ -396,18 +396,18 @@ def answers(programs, batch):
         ran = subprocess.run([program], input=given, capture_output=True, timeout=SECONDS, check=False)
     except subprocess.TimeoutExpired:
         return f"no end within {SECONDS} seconds"
-    *told, last = ran.stdout.split(SEPARATOR)
-    if ran.returncode or ran.stderr or last or len(told) != len(batch):
-        return f"status {ran.returncode}, {len(told)} answers for {len(batch)} calls, and on standard error {ran.stderr[:200]!r}"
-    return told
+    *printed, last = ran.stdout.split(SEPARATOR)
+    if ran.returncode or ran.stderr or last or len(printed) != len(batch):
+        return f"status {ran.returncode}, {len(printed)} answers for {len(batch)} calls, and on standard error {ran.stderr[:200]!r}"
+    return printed
 
 
 def faults(programs, batch):
     """Returns what is wrong with the answers of a program to a batch of calls."""
-    told = answers(programs, batch)
-    if isinstance(told, str):
-        return [[told] for _ in batch]
-    pairs = zip(told, batch, strict=True)
+    printed = answers(programs, batch)
+    if isinstance(printed, str):
+        return [[printed] for _ in batch]
+    pairs = zip(printed, batch, strict=True)
     return [[] if said == call["answer"] else [f"{said[:300]!r}, not {call['answer'][:300]!r}"] for said, call in pairs]
 
 

@@ -74,20 +74,20 @@ def conditional_cases():
     yield groups_case("many conditional effects on a group", task, ["Exclusive"])
 
 
-def sharing_task(count, effects, asked):
+def sharing_task(count, effects, shared):
     """A task of so many groups, each of a fact that all share, 0, and one of its own. An operator of each sets the group's own
-    fact, has these effects too, and asks for fact 0 and for the own facts of so many groups behind it."""
+    fact, has these effects too, and requires fact 0 and the own facts of so many groups after it."""
     own = [(place, 0) for place in range(1, count + 1)]
     operators = [
-        ("go", [(0, 0), *own[place : place + asked]], [*effects, setting(place)], 1) for place in range(1, count + 1)
+        ("go", [(0, 0), *own[place : place + shared]], [*effects, setting(place)], 1) for place in range(1, count + 1)
     ]
     return facts_task(count + 1, groups=[[(0, 0), fact] for fact in own], operators=operators)
 
 
 def sharing_cases():
-    """Groups that share a fact, and operators that ask for it. All groups stay, or all fall at once, or one after another: an
-    operator that asks for the own fact of the next group keeps its group until that one falls. They could show a program that
-    goes through all groups of a fact for each operator that asks for it."""
+    """Groups that share a fact, and operators that require it. All groups stay, or all fall at once, or one after another: an
+    operator that requires the own fact of the next group keeps its group until that one falls. They could show a program that
+    goes through all groups of a fact for each operator that requires it."""
     stay, fall = ["Exclusive"] * SHARING, [broken(place) for place in range(SHARING)]
     yield groups_case("many groups of a fact, which stay", sharing_task(SHARING, [setting(0, 1)], 0), stay)
     yield groups_case("many groups of a fact, which fall", sharing_task(SHARING, [], 0), fall)
@@ -96,7 +96,7 @@ def sharing_cases():
 
 def resting_cases():
     """Groups that share facts and fall one after another, as each rests on the next, and operators that mention such a fact and
-    rest on another group, which stays: they ask for two facts of it. They could show a program that looks at each of these
+    rest on another group, which stays: they require two facts of it. They could show a program that looks at each of these
     operators as each group falls."""
     own = [(place, 0) for place in range(2, FALLEN + 2)]
     pair = [(FALLEN + 2, 0), (FALLEN + 3, 0)]

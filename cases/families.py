@@ -56,7 +56,7 @@ def never_both(operator, f, g, family):
 
 
 def gone(operator, f, effect, family):
-    """Returns whether the fact doesn't hold behind a step in which the effect fires."""
+    """Returns whether the fact doesn't hold after a step in which the effect fires."""
     known = [*preconditions(operator), *effect[0], f]
     if clash(known, family):
         return True
@@ -167,7 +167,7 @@ def two_facts(chance, task):
 
 
 def either_operator(chance, task, f, g):
-    """Returns an operator with an effect for each of these two facts; it asks for facts that may contradict each other."""
+    """Returns an operator with an effect for each of these two facts; it requires facts that may contradict each other."""
     on, value = any_fact(chance, task)
     changed = (on, other_value(chance, task["ranges"][on], value))
     other = chance.choice((changed, *chain.from_iterable(task["groups"])))
@@ -209,8 +209,8 @@ def grouped_task(chance):
 
 
 def chain_of(last):
-    """Returns a task of many groups, each of which rests on the next: the operator that sets its second fact asks for both
-    facts of the next group. For the last of them it asks for these facts."""
+    """Returns a task of many groups, each of which rests on the next: the operator that sets its second fact requires both
+    facts of the next group. For the last of them it requires these facts."""
     facts = [[(2 * place, 0), (2 * place + 1, 0)] for place in range(MANY)]
     return {
         "ranges": [2] * (2 * MANY),

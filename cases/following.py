@@ -5,11 +5,11 @@ A task is as in walks.py. Its operators are
 
     turn K      several of each name, of which the first applicable one is meant. Most ask for derived facts, and the last one
                 for nothing. So with a wrong value another operator is meant, which does something else at another cost
-    ask F       asks for the fact F, and changes nothing
+    ask F       requires the fact F, and changes nothing
     main, small K   see `storm_task`
 
-A run is its steps: of each the operator, and the state behind it. Where it has an `ask` that fact holds. So a wrong value shows
-at that step, or soon behind it: by an operator that isn't applicable, or by the cost.
+A run is its steps: of each the operator, and the state after it. Where it has an `ask` that fact holds. So a wrong value shows
+at that step, or soon after it: by an operator that isn't applicable, or by the cost.
 """
 import functools
 import random
@@ -20,7 +20,7 @@ from steps import changed, cost_of, initial, meant, state_line
 from walks import plan_text
 
 SEED = 31
-# how many tasks, and of how many steps the runs over them are: those of the program, and those of calls, which tell each state
+# how many tasks, and of how many steps the runs over them are: those of the program, and those of calls, which print each state
 TASKS, STEPS = 40, 2000
 CALLED_TASKS, CALLED_STEPS = 80, 300
 STORMS, STORM_STEPS = 4, 1500
@@ -43,8 +43,8 @@ class States(dict):
         self[values] = settled(self.task, values)
         return self[values]
 
-    def behind(self, state, operator):
-        """Returns the state behind a step of this operator."""
+    def after(self, state, operator):
+        """Returns the state after a step of this operator."""
         basic = (layer is None for layer in self.task["layers"])
         return self[tuple(value if is_basic else 0 for value, is_basic in zip(changed(state, operator), basic))]
 
@@ -64,8 +64,8 @@ def on_layers(task, fits):
     return [var for var, layer in enumerate(task["layers"]) if fits(layer)]
 
 
-def condition(chance, task, asked, news, layer):
-    """Returns a condition of a rule on this layer: on one of the basic variables that are asked about, on a lower layer, where
+def condition(chance, task, basic, news, layer):
+    """Returns a condition of a rule on this layer: on one of the basic variables that conditions may be on, on a lower layer, where
     it may be a default, or on the layer itself."""
     lower = on_layers(task, lambda its: its is not None and its < layer)
     kind = chance.random()
@@ -75,17 +75,17 @@ def condition(chance, task, asked, news, layer):
     if kind < 0.6 and lower:
         on = chance.choice(lower)
         return on, chance.choice((news[on], task["defaults"][on], chance.randrange(task["ranges"][on])))
-    on = chance.choice(asked)
+    on = chance.choice(basic)
     return on, chance.randrange(task["ranges"][on])
 
 
-def rules_of(chance, task, asked, news):
+def rules_of(chance, task, basic, news):
     """Yields rules of a layered task which set these new values. Some variables have none, some rules can't fire, and some ask
     for nothing, or for one fact twice."""
     for var in sorted(news):
         layer, default = task["layers"][var], task["defaults"][var]
         for _ in range(chance.choice((0, 1, 2, 2, 3, 3, 4))):
-            facts = [condition(chance, task, asked, news, layer) for _ in range(chance.choice(COUNTS))]
+            facts = [condition(chance, task, basic, news, layer) for _ in range(chance.choice(COUNTS))]
             if facts and chance.random() < 0.1:
                 facts.append(chance.choice(facts))
             yield facts, var, chance.choice((-1, -1, default)), default if chance.random() < 0.05 else news[var]
@@ -113,8 +113,8 @@ def turns_of(chance, task, news):
     """Yields the operators `turn`."""
     basic, derived = on_layers(task, lambda layer: layer is None), sorted(news)
     for name in TURNS:
-        for asks in (2, 1, 1, 0):
-            prevail = [(var, chance.choice((task["defaults"][var], news[var]))) for var in chance.sample(derived, asks)]
+        for count in (2, 1, 1, 0):
+            prevail = [(var, chance.choice((task["defaults"][var], news[var]))) for var in chance.sample(derived, count)]
             touched = chance.sample(basic, chance.choice((1, 1, 2, 3)))
             effects = [effect for var in touched for effect in effects_on(chance, task, var, derived)]
             yield name, prevail, effects, chance.randint(1, 1000)
@@ -128,28 +128,28 @@ def asks_of(task, derived):
 
 
 def turning_task(chance):
-    """Returns a task of several layers, with rules in cycles, defaults that rules ask for, and basic variables that none asks
-    about."""
+    """Returns a task of several layers, with rules in cycles, defaults that rules require, and basic variables that no
+    rule reads."""
     task = variables_of(chance)
     derived = on_layers(task, lambda layer: layer is not None)
     basic = on_layers(task, lambda layer: layer is None)
-    asked = chance.sample(basic, len(basic) - chance.choice((0, 1, 2)))
+    readable = chance.sample(basic, len(basic) - chance.choice((0, 1, 2)))
     news = {var: other_value(chance, task["ranges"][var], task["defaults"][var]) for var in derived}
-    task["rules"] = list(rules_of(chance, task, asked, news))
+    task["rules"] = list(rules_of(chance, task, basic, news))
     chance.shuffle(task["rules"])
     task["operators"] = [*turns_of(chance, task, news), *asks_of(task, derived)]
     return task, derived
 
 
 def turning_names(chance, derived):
-    """Yields names of steps without an end; of one that asks about a variable, that variable."""
+    """Yields names of steps without an end; of one that reads a variable, that variable."""
     while True:
         yield chance.choice(TURNS) if chance.random() < 0.5 else chance.choice(derived)
 
 
 def storm_task():
     """Returns a task in which the operator `main` lets nearly all derived variables fall or rise, by rules that ask about two of
-    them each, and `small K` those of a small net, in a ring. It is worth it to go on from the state before behind the second
+    them each, and `small K` those of a small net, in a ring. It is worth it to go on from the state before after the second
     alone."""
     nets = [[1 + CHAIN * 2 + net * SMALL + place for place in range(SMALL)] for net in range(NETS)]
     count = 1 + 2 * CHAIN + NETS * SMALL
@@ -183,13 +183,13 @@ def storm_names(chance, derived):
 
 
 def run_over(task, names, steps):
-    """Returns so many steps with these names: of each its operator, and the state behind it. A variable in place of a name means
-    the operator that asks for the value that it has."""
+    """Returns so many steps with these names: of each its operator, and the state after it. A variable in place of a name means
+    the operator that requires the value that it has."""
     states, state, run = States(task), initial(task), []
     for name, _ in zip(names, range(steps)):
-        asked = f"ask {name} {state[name]}" if isinstance(name, int) else name
-        operator = meant(task, state, asked)
-        state = states.behind(state, task["operators"][operator])
+        step = f"ask {name} {state[name]}" if isinstance(name, int) else name
+        operator = meant(task, state, step)
+        state = states.after(state, task["operators"][operator])
         run.append((operator, state))
     return run
 
@@ -212,7 +212,7 @@ def wrong_fact(chance, task, derived, state):
 
 def said_of_run(chance, task, derived, run):
     """Yields plans, each with the goal, its steps, how much of the run they are before one fails, its cost and what is said of it:
-    the run itself, whose goal is the last state; one that asks on its way for a fact that doesn't hold; and one whose goal has a
+    the run itself, whose goal is the last state; one that requires on its way a fact that doesn't hold; and one whose goal has a
     fact that doesn't hold in the end."""
     names, cost, last = names_of(task, run), cost_of_run(task, run), run[-1][1]
     goal = list(enumerate(last))
@@ -254,7 +254,7 @@ def storm_runs(chance, steps):
 
 @functools.lru_cache(None)
 def long_runs():
-    """Returns the long plans, which several scripts ask for: those of a run stand behind one another."""
+    """Returns the long plans, which several scripts use: those of a run follow one another."""
     return tuple(long_plans())
 
 
@@ -297,7 +297,7 @@ def stepped(task, run):
 
 
 def called_runs():
-    """Yields runs over tasks, as texts, each with what calls print of it, which tell each state: of the plan, and of its steps one
+    """Yields runs over tasks, as texts, each with what calls print of it, which print each state: of the plan, and of its steps one
     by one, where each state is settled by itself. They could show the same as the long runs."""
     chance = random.Random(SEED + 1)
     made = (*made_runs(chance, CALLED_TASKS, CALLED_STEPS), *storm_runs(chance, STORM_STEPS))

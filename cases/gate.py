@@ -52,9 +52,9 @@ def counts(command, lines=None):
             show(line.rstrip("\n"))
             last = line.strip() or last
     show(f"{' '.join(command)}: {time.monotonic() - began:.0f} s")
-    told = re.fullmatch(r"(\d+) passed, (\d+) failed", last)
-    passed, failed = (int(told[1]), int(told[2])) if told else (0, 0)
-    agrees = told and (failed == 0) == (process.returncode == 0)
+    found = re.fullmatch(r"(\d+) passed, (\d+) failed", last)
+    passed, failed = (int(found[1]), int(found[2])) if found else (0, 0)
+    agrees = found and (failed == 0) == (process.returncode == 0)
     return passed, failed if agrees else failed + 1
 
 

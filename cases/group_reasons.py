@@ -1,5 +1,5 @@
 """Why mutex groups aren't shown to be exclusive, computed from the file of a task and the verdicts on its groups: the lines that
-`--why` prints behind each of these. Two spaces stand in front of each line. A task here is as in families.py; `FACT` in a line
+`--why` prints after each of these. Two spaces stand in front of each line. A task here is as in families.py; `FACT` in a line
 represents `VARIABLE VALUE NAME`, with the name of the value.
 
     derived                       fact FACT: the first one of the group on a derived variable
@@ -7,9 +7,9 @@ represents `VARIABLE VALUE NAME`, with the name of the value.
                                   first of these
     not shown: operator I         operator I NAME, effect E sets FACT, and how the operator fails to keep the group:
         effect F sets FACT        the two effects may fire together, and set facts of the group on different variables
-        may remain FACT             the fact of the group may hold before a step in which effect E fires, and behind it
+        may remain FACT             the fact of the group may hold before a step in which effect E fires, and after it
 
-Told is the first such effect E, with the first effect F; where there is none, with the first fact of the group that may remain. Facts
+The reason is the first such effect E, with the first effect F; where there is none, with the first fact of the group that may remain. Facts
 contradict each other as in families.py, in the family of the groups that are exclusive and the group itself.
 """
 from axioms import task_of
@@ -66,21 +66,21 @@ def group_reasons(task, group, verdict, family):
     return broken_reasons(task, int(verdict.removeprefix("not shown: operator ")), group, [*family, group])
 
 
-def behind_groups(lines, text):
-    """Returns these lines of verdicts on the groups of the file's task, with the reasons behind each."""
+def after_groups(lines, text):
+    """Returns these lines of verdicts on the groups of the file's task, with the reasons after each."""
     task = task_of(as_bytes(text).decode("latin-1"))
     verdicts = [line.split(" ", 2)[2] for line in lines]
     family = [group for group, verdict in zip(task["groups"], verdicts) if verdict == "exclusive"]
-    told = zip(lines, task["groups"], verdicts)
-    return [said for line, group, verdict in told for said in (line, *group_reasons(task, group, verdict, family))]
+    answers = zip(lines, task["groups"], verdicts)
+    return [said for line, group, verdict in answers for said in (line, *group_reasons(task, group, verdict, family))]
 
 
 def with_all_reasons(output, text):
-    """Returns the output about a file with the lines behind it: those of its groups, why it isn't layered, or why it is refused."""
+    """Returns the output about a file with the lines after it: those of its groups, why it isn't layered, or why it is refused."""
     said = as_bytes(output)
     if not said.startswith(b"group "):
         return with_reasons(output, text)
-    lines = behind_groups(said.decode("latin-1").removesuffix("\n").split("\n"), text)
+    lines = after_groups(said.decode("latin-1").removesuffix("\n").split("\n"), text)
     return "".join(f"{line}\n" for line in lines).encode("latin-1")
 
 

@@ -5,7 +5,7 @@ No proof speaks of time. A program that settles each state anew is proved, too, 
 variables, the layers or the rules at each step. Each case here is so large that such a program takes some minutes over it, and
 run.py stops it. One that looks only at what a step changes takes a second or two.
 
-Each task has a switch that no rule asks about, 0, another variable that keeps its value, 1, and a main switch, which is on, 2.
+Each task has a switch that no rule reads, 0, another variable that keeps its value, 1, and a main switch, which is on, 2.
 """
 from axioms import text_of
 from large import over_plan, task_with
@@ -14,7 +14,7 @@ from large import over_plan, task_with
 NETS, RING = 4762, 10
 # how often a net of these is turned off and on, and how often all are meanwhile
 ROUNDS, STORMS = 50_000, 5
-# how many derived variables have no rule, or layers there are, or rules that ask about a lower one; how many steps each plan has
+# how many derived variables have no rule, or layers there are, or rules that read a lower one; how many steps each plan has
 MANY, STEPS = 50_000, 2_000_000
 MAIN, FIRST = 2, 3
 
@@ -25,7 +25,7 @@ def turning(name, var):
 
 
 def asking(name, var, value):
-    """An operator that asks for a fact, and changes nothing."""
+    """An operator that requires a fact, and changes nothing."""
     return name, [(var, value)], [], 1
 
 
@@ -36,7 +36,7 @@ def lamps_task(layers, rules, operators):
 
 
 def switch_of(net):
-    """The switch of a net, which is on. The variables of its ring stand behind it."""
+    """The switch of a net, which is on. The variables of its ring depend on it."""
     return FIRST + net * (1 + RING)
 
 
@@ -68,7 +68,7 @@ def nets_task():
 
 
 def nets_steps():
-    """Yields steps that turn one net off and on again, and ask each time whether it is dark or lit. At times the main switch is
+    """Yields steps that turn one net off and on again, and check each time whether it is dark or lit. At times the main switch is
     turned, by which all nets fall and rise: to go on from such a state takes more than to settle it anew."""
     for turn in range(ROUNDS):
         net = turn * 1009 % NETS
@@ -78,8 +78,8 @@ def nets_steps():
 
 
 def nets_cases():
-    """Plans of which each step changes one net of many, and asks about twenty rules of a hundred thousand. They could show a
-    program that goes through all rules at each step, or at each one behind a step that changed nearly all."""
+    """Plans of which each step changes one net of many, and concerns twenty rules of a hundred thousand. They could show a
+    program that goes through all rules at each step, or at each one after a step that changed nearly all."""
     names, text = list(nets_steps()), text_of(nets_task())
     said = f"plan valid: {len(names)} steps, cost {len(names)}\n"
     yield over_plan("many nets", text, names, len(names), said)
@@ -88,7 +88,7 @@ def nets_cases():
 
 
 def idle_case(name, layers, rules):
-    """A case of steps that change nothing which a rule asks about, over a task with these derived variables: a switch is turned,
+    """A case of steps that change nothing which a rule reads, over a task with these derived variables: a switch is turned,
     a variable is set to the value that it has, and the last derived variable that a rule sets is seen to be on. Then the main
     switch is turned off and on, so that this one falls and rises."""
     last = rules[-1][1]
@@ -100,7 +100,7 @@ def idle_case(name, layers, rules):
 
 
 def idle_cases():
-    """Plans whose steps change nothing that a rule asks about. They could show a program that at each step goes through the
+    """Plans whose steps change nothing that a rule reads. They could show a program that at each step goes through the
     derived variables, as to give them their default; through the layers, as to see whether there is anything on one; or through
     the rules that look at a lower layer, as to count which of them hold."""
     lit = [(MAIN, 1)], FIRST, -1, 1

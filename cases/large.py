@@ -79,7 +79,7 @@ def task_with(ranges, **parts):
 
 
 def read_cases(name, task, text):
-    """The cases of what a task says by itself, of which this is the text. They could show want of memory that no one was refused,
+    """The cases of what a task says by itself, of which this is the text. They could show `out of memory` where no allocation was refused,
     in any of the three ways to read a task."""
     yield over_input(name, "show", text, summary(task))
     yield over_input(name, "check", text, "task layered\n")
@@ -136,7 +136,7 @@ def wide_task(width):
 
 
 def wide_plans(width):
-    """Plans of a wide task: steps, the cost that is told, and what is said of it."""
+    """Plans of a wide task: steps, the cost that is printed, and what is said of it."""
     around = [f"next {place}" for place in range(width)]
     cost = sum(range(width)) + 3
     return [
@@ -157,7 +157,7 @@ def compare_narrow(width):
 
 
 def wide_cases():
-    """Each request over wide tasks. They could show want of memory that no one was refused, and a list of which only the front
+    """Each request over wide tasks. They could show `out of memory` where no allocation was refused, and a list of which only the front
     counts."""
     compare_narrow(4)
     for width in WIDTHS:
@@ -222,7 +222,7 @@ def stack_cases():
 
 def full_file_cases():
     """Outputs into files that may have fewer bytes, so that a write stops early and the next one fails; and one into a file that
-    is just full then. They could show bytes that are missing before those that went out, and a further write behind the last."""
+    is just full then. They could show bytes that are missing before those that went out, and a further write after the last."""
     task = wide_task(1001)
     text = text_of(task)
     for request, output in (("show", summary(task)), ("print", text)):
@@ -240,7 +240,7 @@ def full_file_cases():
 
 def late_changes(width, lines):
     """Changes of the last item of each list of a wide task: its place among the lines, what it then says, the fault, and how many
-    lines behind it that is told."""
+    lines after it that is reported."""
     turn, rule = lines.index("turn"), len(lines) - 3
     effect = turn + 3 + 2 * width
     return [
@@ -260,12 +260,12 @@ def late_changes(width, lines):
 
 def late_cases():
     """Wide tasks with a fault at the last item of a list. They could show a list of which only the front is judged, or a
-    fault that is told of another line."""
+    fault that is reported of another line."""
     for width in WIDTHS[:2]:
         lines = text_of(wide_task(width)).splitlines()
-        for place, told, word, behind in late_changes(width, lines):
-            text = "".join(f"{line}\n" for line in [*lines[:place], told, *lines[place + 1 :]])
-            said = f"line {place + 1 + behind}: {word}"
+        for place, changed, word, after in late_changes(width, lines):
+            text = "".join(f"{line}\n" for line in [*lines[:place], changed, *lines[place + 1 :]])
+            said = f"line {place + 1 + after}: {word}"
             for request in ("print", "show", "check"):
                 yield over_input(f"{width} of everything, {said}", request, text, f"task refused: {said}\n", 1)
 
@@ -297,7 +297,7 @@ def digit_cases():
 
 
 def long_name_cases():
-    """A task with operators of long names, and plans of it. They could show want of memory that no one was refused, and names of
+    """A task with operators of long names, and plans of it. They could show `out of memory` where no allocation was refused, and names of
     which only the front is compared."""
     long = "a" * PIECE
     operators = [(f"{long}b", [], [([], 0, -1, 1)], 1), (f"{long}c", [(0, 1)], [], 1)]
@@ -348,16 +348,16 @@ def piece_cases():
 
 
 def late_line_cases():
-    """Files whose fault comes behind very many lines. They could show a line that is counted in too few bits, and want of memory
-    that no one was refused."""
+    """Files whose fault comes after very many lines. They could show a line that is counted in too few bits, and `out of memory`
+    where no allocation was refused."""
     facts = "0 0\n" * LINES
     task = as_bytes(with_line(MINIMAL, 20, f"{LINES}\n{facts}0 2"))
     said = f"task refused: line {20 + LINES + 1}: keyword\n"
     for request in ("print", "show", "check", "mutex"):
-        yield over_input("a fault behind very many lines", request, task, said, 1)
+        yield over_input("a fault after very many lines", request, task, said, 1)
     plan, said = "(a)\n" * LINES + "()\n", f"plan refused: line {LINES + 1}: name\n"
-    yield over_input("a fault behind very many steps", "steps", plan, said, 1)
-    yield case("a fault behind very many steps, plan", ["plan", MINIMAL, "-"], said, 1, input=plan)
+    yield over_input("a fault after very many steps", "steps", plan, said, 1)
+    yield case("a fault after very many steps, plan", ["plan", MINIMAL, "-"], said, 1, input=plan)
 
 
 def longest_cases():
@@ -405,8 +405,8 @@ def long_plan_cases():
 
 
 def many_cases():
-    """Tasks with very many groups, goal facts, operators, variables and rules, of which the last one decides. They could show
-    want of memory that no one was refused, and one of so many that isn't looked at."""
+    """Tasks with very many groups, goal facts, operators, variables and rules, of which the last one decides. They could show `out
+    of memory` where no allocation was refused, and one of so many that isn't looked at."""
     yield from many_groups()
     yield from many_goals()
     yield from many_operators()
@@ -461,7 +461,7 @@ def many_variables():
 
 
 def many_rules():
-    """Very many derived variables, each with a rule that asks for the one before it, in a file whose rules stand the other way
+    """Very many derived variables, each with a rule that requires the one before it, in a file whose rules stand the other way
     round."""
     layers, rules = [None, *[0] * MANY], [([(var - 1, 1)], var, 0, 1) for var in range(MANY, 0, -1)]
     name, task = f"{MANY} rules", task_with([2] * (MANY + 1), layers=layers, rules=rules, goal=[(MANY, 0), (MANY, 1)])

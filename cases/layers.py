@@ -1,4 +1,4 @@
-"""Why a task isn't layered, computed from its file: the lines that `--why` prints behind the refusal. Two spaces stand in front of
+"""Why a task isn't layered, computed from its file: the lines that `--why` prints after the refusal. Two spaces stand in front of
 each. Why a file isn't well formed is computed in refusals.py. A task here is as in axioms.py; `fact` in a line represents
 `VARIABLE VALUE NAME`, with the name of the value.
 
@@ -13,7 +13,7 @@ each. Why a file isn't well formed is computed in refusals.py. A task here is as
 import re
 
 from axioms import spoiled_tasks, task_of, value_name
-from refusals import behind_file
+from refusals import after_file
 from texts import as_bytes
 
 REFUSED = "task refused: "
@@ -77,19 +77,19 @@ def layer_reasons(task, fault):
     return operator_reasons(task, int(place)) if kind == "operator" else rule_reasons(task, int(place), what)
 
 
-def behind_refusal(said, text):
-    """Returns the lines behind this line about the file that it is about: none, unless it says that a task isn't layered, or that the
+def after_refusal(said, text):
+    """Returns the lines after this line about the file that it is about: none, unless it says that a task isn't layered, or that the
     file isn't well formed."""
     fault = said.removeprefix(REFUSED)
     if fault == said or not fault.startswith(("operator ", "rule ")):
-        return behind_file(said, text)
+        return after_file(said, text)
     return layer_reasons(task_of(as_bytes(text).decode("latin-1")), fault)
 
 
 def with_reasons(output, text):
-    """Returns the output about a file with the lines behind it."""
+    """Returns the output about a file with the lines after it."""
     said = as_bytes(output)
-    lines = behind_refusal(said.decode("latin-1").removesuffix("\n"), text)
+    lines = after_refusal(said.decode("latin-1").removesuffix("\n"), text)
     return said + "".join(f"{line}\n" for line in lines).encode("latin-1")
 
 

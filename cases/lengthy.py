@@ -81,7 +81,7 @@ def long_unknown(size):
 
 
 def long_settled(size):
-    """So many steps that change nothing which a rule asks about, and a derived variable on each of many layers."""
+    """So many steps that change nothing which a rule reads, and a derived variable on each of many layers."""
     depth = max(1, size // 20)
     layers = [None, None, *range(depth)]
     rules = [([(var - 1, 1)], var, -1, 1) for var in range(2, depth + 2)]
@@ -164,7 +164,7 @@ def tree_up(size):
 
 
 def chain_dark(size):
-    """A goal of a chain that the switch holds back: each rule asks for the variable before."""
+    """A goal of a chain that the switch holds back: each rule requires the variable before."""
     goal = [(var, 1) for var in range(size, 0, -1)]
     causes = [[*requires(var, 1, 0), held(size - var, var - 1, 1 if var > 1 else 0)] for var in range(size, 0, -1)]
     return derived_task(size, chain_rules(size), goal, defaults=[1, *[0] * size]), [], 0, missed(*causes)
@@ -185,7 +185,7 @@ def no_rules_again(size):
 
 
 def many_blocked(size):
-    """A name that so many operators have, of which each asks for two facts. None is applicable."""
+    """A name that so many operators have, of which each requires two facts. None is applicable."""
     operators = [("go", [(var, 1), (0, 1)], [], 1) for var in range(1, size + 1)]
     named = [(f"  operator {place}", *requires(place + 1, 1, 0), *requires(0, 1, 0)) for place in range(size)]
     lines = [*blocked(1, "go"), *(line for its in named for line in its)]
@@ -193,7 +193,7 @@ def many_blocked(size):
 
 
 def many_blocked_derived(size):
-    """A name that so many operators have, of which each asks for a variable of a chain, the first for the last one."""
+    """A name that so many operators have, of which each requires a variable of a chain, the first for the last one."""
     operators = [("go", [(var, 0)], [], 1) for var in range(size, 0, -1)]
     given = [derives(size - var, var) for var in range(1, size + 1)]
     lines = blocked(1, "go")
@@ -203,7 +203,7 @@ def many_blocked_derived(size):
 
 
 def many_preconditions(size):
-    """An operator that asks for the last variable of a chain so many times, and for it again by the old values of its effects."""
+    """An operator that requires the last variable of a chain so many times, and for it again by the old values of its effects."""
     operators = [("go", [(size, 0)] * size, [([(0, 1)], 0, 1, 0)] * size, 1)]
     given = [derives(size - var, var) for var in range(1, size + 1)]
     again = [line for _ in range(size - 1) for line in requires(size, 0, 1)] + [line for _ in range(size) for line in requires(0, 1, 0)]
@@ -240,8 +240,8 @@ def many_alike(size):
 def compare_small(maker):
     """Compares what is said of a small size with what the meaning of reasons gives."""
     task, names, cost, lines = maker(SMALL)
-    fault, behind = reasons(task, names, cost)
-    assert [fault, *behind] == lines, (maker.__name__, [fault, *behind], lines)
+    fault, after = reasons(task, names, cost)
+    assert [fault, *after] == lines, (maker.__name__, [fault, *after], lines)
 
 
 def made_case(maker, size, **limits):
@@ -255,29 +255,29 @@ def made_case(maker, size, **limits):
 
 
 def long_texts():
-    """Small files whose reasons repeat a long name very often: of a value that the goal or a rule asks for, or of the step since
+    """Small files whose reasons repeat a long name very often: of a value that the goal or a rule requires, or of the step since
     which another one is there. They could show a text that is made before it is written, and lines that are kept so that they
-    aren't told again."""
+    aren't printed again."""
     name, goal = "a" * NAME, [(0, 1)] * TIMES
     facts = [f"  goal fact {place}\n    requires 0 1 " for place in range(TIMES)]
-    told = [[fact, name, "\n    actual 0 0 no\n    since the initial state\n"] for fact in facts]
-    yield long_text("the name of a value", task_with([2], goal=goal, names=[["no", name]]), [], told)
+    reasons = [[fact, name, "\n    actual 0 0 no\n    since the initial state\n"] for fact in facts]
+    yield long_text("the name of a value", task_with([2], goal=goal, names=[["no", name]]), [], reasons)
     operators, names = [(name, [], [([], 0, -1, 2)], 1)], [["no", "yes", "so"]]
-    told = [[f"{fact}yes\n    actual 0 2 so\n    since step 1 ", name, "\n"] for fact in facts]
-    yield long_text("the name of a step", task_with([3], goal=goal, operators=operators, names=names), [name], told)
+    reasons = [[f"{fact}yes\n    actual 0 2 so\n    since step 1 ", name, "\n"] for fact in facts]
+    yield long_text("the name of a step", task_with([3], goal=goal, operators=operators, names=names), [name], reasons)
     task = derived_task(1, [([(0, 1)], 1, -1, 1)] * RULES, [(1, 1)] * 2, names=[["no", name], ["off", "on"]])
     cause = "    requires 1 1 on\n    actual 1 0 off\n    since the initial state\n"
     rules = [[f"    rule {rule} requires 0 1 ", name, "\n"] for rule in range(RULES)]
-    told = [f"  goal fact 0\n{cause}", *rules, f"  goal fact 1\n{cause}"]
-    yield long_text("the name of a value that rules ask for", task, [], told)
+    reasons = [f"  goal fact 0\n{cause}", *rules, f"  goal fact 1\n{cause}"]
+    yield long_text("the name of a value that rules require", task, [], reasons)
 
 
-def long_text(name, task, steps, told):
-    """A case of such a text, of which these parts are told behind the verdict."""
+def long_text(name, task, steps, reasons):
+    """A case of such a text, of which these parts are printed after the verdict."""
     files = {"t.sas": text_of(task), "p.txt": plan_text(steps, 0)}
-    told = [[part, 1] for part in ("plan invalid: goal fact 0 not reached\n", *told)]
+    reasons = [[part, 1] for part in ("plan invalid: goal fact 0 not reached\n", *reasons)]
     words = ["plan", "--why", "t.sas", "p.txt"]
-    return case(f"{name} in a long text, plan --why", words, "", 1, files=files, told=told, memory=MEMORY)
+    return case(f"{name} in a long text, plan --why", words, "", 1, files=files, reasons=reasons, memory=MEMORY)
 
 
 def limited_cases():

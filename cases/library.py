@@ -40,8 +40,8 @@ from texts import TOP, as_bytes, changed_lines, table
 
 YES, NO, ROOM_TOO_SHORT, OUT_OF_MEMORY, INPUT_TOO_LONG, NO_TASK = range(6)
 LIMIT = 4_294_967_296
-# the words of a case of run.py that say more than what is asked
-LIMITED = ("memory", "stack", "file", "open", "closed", "output_to", "streamed", "told", "input_ends")
+# the words of a case of run.py that say more than the request
+LIMITED = ("memory", "stack", "file", "open", "closed", "output_to", "streamed", "front", "input_ends")
 OVER_BOTH, OVER_PLAN, OVER_TASK = ("plan", "plan_why", "trace"), ("steps",), ("check", "check_why", "mutex", "mutex_why", "show", "print")
 REQUESTS = (*OVER_BOTH, *OVER_PLAN, *OVER_TASK)
 # of each request over both files there is a call over a task that is held
@@ -75,7 +75,7 @@ class Held(ctypes.Structure):
 class Guarded(ctypes.Structure):
     """The same between other bytes."""
 
-    _fields_ = [("before", ctypes.c_uint64), ("held", Held), ("behind", ctypes.c_uint64)]
+    _fields_ = [("before", ctypes.c_uint64), ("held", Held), ("after", ctypes.c_uint64)]
 
 
 class Library:
@@ -127,17 +127,17 @@ def inputs_of(request, task, plan):
     return [plan] if request in OVER_PLAN else [task] if request in OVER_TASK else [task, plan]
 
 
-def differs(got, due):
+def differs(got, expected):
     """Returns what is wrong with an answer: whether it is yes, and its text."""
-    return [] if got == due else [f"{got[0]}, {got[1][:200]!r}, not {due[0]}, {due[1][:200]!r}"]
+    return [] if got == expected else [f"{got[0]}, {got[1][:200]!r}, not {expected[0]}, {expected[1][:200]!r}"]
 
 
-def asked(sas, request, *files):
+def answer_of(sas, request, *files):
     """Returns the answer of the wrapper in Python to a request."""
     return getattr(sas, "print_task" if request == "print" else request)(*files)
 
 
-def told(program, request, *files):
+def answer_of_program(program, request, *files):
     """Returns the answer of the program to the same request."""
     word, *flag = request.split("_")
     with tempfile.TemporaryDirectory() as folder:
@@ -157,7 +157,7 @@ def same_as_case(sas, case):
         return None
     files = [word for word in words if word != "--why"]
     if "--why" in words and request not in ("plan", "check", "mutex"):
-        # of these the library has no call with reasons, which they tell of a file that is refused alone
+        # of these the library has no call with reasons, which they report of a file that is refused alone
         return None if b" refused: " in as_bytes(case["output"]) else same_as_case(sas, {**case, "words": [request, *files]})
     request += "_why" if "--why" in words else ""
     if request not in (*REQUESTS, "plans") or any(word.startswith("-") and word != "-" for word in files):
@@ -166,10 +166,10 @@ def same_as_case(sas, case):
         held = [file_of(case, word) for word in files]
     except (KeyError, OSError):
         return None
-    due = case["status"] == 0, as_bytes(case["output"])
+    expected = case["status"] == 0, as_bytes(case["output"])
     if request == "plans":
-        return differs(lines_of_plans(sas, files[1:], *held), due)
-    return differs(asked(sas, request, *held), due) + (same_of_held(sas, request, *held, due) if request in OVER_BOTH else [])
+        return differs(lines_of_plans(sas, files[1:], *held), expected)
+    return differs(answer_of(sas, request, *held), expected) + (same_of_held(sas, request, *held, expected) if request in OVER_BOTH else [])
 
 
 def file_of(case, word):
@@ -179,14 +179,14 @@ def file_of(case, word):
     return as_bytes(case["files"][word]) if "files" in case else read(word)
 
 
-def same_of_held(sas, request, task, plan, due):
+def same_of_held(sas, request, task, plan, expected):
     """Returns what is wrong with the answer to a request about a plan of a task that is held."""
     try:
         with sas.Task(task) as held:
-            return [f"held: {it}" for it in differs(getattr(held, request)(plan), due)]
+            return [f"held: {it}" for it in differs(getattr(held, request)(plan), expected)]
     except sas.Refused as refusal:
         # a task that is refused has no reasons here
-        return [f"held: {it}" for it in differs((False, refusal.text), (due[0], due[1][: len(refusal.text)]))]
+        return [f"held: {it}" for it in differs((False, refusal.text), (expected[0], expected[1][: len(refusal.text)]))]
 
 
 def lines_of_plans(sas, labels, task, *plans):
@@ -205,8 +205,8 @@ def lines_of_plans(sas, labels, task, *plans):
 
 
 def case_tests(_, library, folder):
-    """Yields each case of run.py that asks about whole files, but for the largest: the answer is the text and the status of the
-    program. Plans are asked about with their task held, too. They could show a call that answers another request, inputs that are
+    """Yields each case of run.py about whole files, but for the largest: the answer is the text and the status of the
+    program. Plans are judged with their task held, too. They could show a call that answers another request, inputs that are
     exchanged, and a plan for which those before it count."""
     files = (*run.whole_cases(), *run.line_cases(), *run.plan_cases(folder), *run.group_cases())
     plans = (*run.verdict_cases(), *run.why_cases(), *run.trace_cases(), *run.plans_cases())
@@ -218,39 +218,39 @@ def case_tests(_, library, folder):
 
 
 def program_tests(program, library, _):
-    """Yields files about which the program itself is asked, with reasons too: the answers are the same. They could show the same."""
+    """Yields files about which the program itself answers, with reasons too: the answers are the same. They could show the same."""
     minimal, valid = read("cases/tasks/minimal.sas"), b"; cost = 0 (unit cost)\n"
     tasks = [read(task["file"]) for task in table("tasks.json")] + [as_bytes(made["task"]) for made in table("groups.json")]
     tasks += [as_bytes(changed["task"]) for changed in changed_lines() if len(as_bytes(changed["task"])) < 10_000]
-    asks = [(request, task) for task in dict.fromkeys(tasks) for request in ("check_why", "mutex_why")]
-    asks += [("plan_why", minimal, as_bytes(made["plan"])) for made in table("plans.json")]
+    calls = [(request, task) for task in dict.fromkeys(tasks) for request in ("check_why", "mutex_why")]
+    calls += [("plan_why", minimal, as_bytes(made["plan"])) for made in table("plans.json")]
     for name in ("blocks-4-0", "doorway", "elevator", "fuses"):
         files = read(f"examples/{name}.sas"), read(f"examples/{name}.plan")
-        asks += [(request, *inputs_of(request, *files)) for request in REQUESTS]
-    asks += [(request, *inputs_of(request, b"", b"")) for request in REQUESTS]
-    asks += [(request, minimal, b"") for request in OVER_BOTH] + [(request, b"", valid) for request in OVER_BOTH]
+        calls += [(request, *inputs_of(request, *files)) for request in REQUESTS]
+    calls += [(request, *inputs_of(request, b"", b"")) for request in REQUESTS]
+    calls += [(request, minimal, b"") for request in OVER_BOTH] + [(request, b"", valid) for request in OVER_BOTH]
     with ThreadPoolExecutor(2) as pool:
-        answers = pool.map(lambda it: told(program, *it), asks)
-        for (request, *files), due in zip(asks, answers):
-            yield f"{request}, as the program, {files[-1][:40]!r}", differs(asked(library.sas, request, *files), due)
+        answers = pool.map(lambda it: answer_of_program(program, *it), calls)
+        for (request, *files), expected in zip(calls, answers):
+            yield f"{request}, as the program, {files[-1][:40]!r}", differs(answer_of(library.sas, request, *files), expected)
 
 
 def room_tests(_, library, __):
-    """Yields each call with rooms of each length up to a little more than it needs. They could show a byte that is written behind the
+    """Yields each call with rooms of each length up to a little more than it needs. They could show a byte that is written after the
     room, or in front of it, a wrong length, and a room that is just long enough and is reported as too short."""
     fuses, broken = (read(f"{FUSES}.sas"), read(f"{FUSES}.plan")), (read(f"{DOORWAY}.sas"), read(f"{FUSES}.plan"))
     refused = read(f"{LAMPS}.sas"), b"(take f1)\n"
     for request in REQUESTS:
         for task, plan in (fuses, broken, refused):
             given = inputs_of(request, task, plan)
-            answer = asked(library.sas, request, *given)
+            answer = answer_of(library.sas, request, *given)
             yield f"{request}, each room", wrong_rooms(library, f"sas_{request}", lambda given=given: given, answer)
     for task, plan in (fuses, broken, refused):
         held = Held()
         yield "task_read, each room", wrong_rooms(library, "sas_task_read", lambda: [held, task], library.sas.check(task), held)
         library.call("sas_task_read", [held, fuses[0]], 128)
         for request in OVER_BOTH:
-            answer = asked(library.sas, request, fuses[0], plan)
+            answer = answer_of(library.sas, request, fuses[0], plan)
             yield f"task_{request}, each room", wrong_rooms(library, f"sas_task_{request}", lambda: [held, plan], answer)
         library.calls.sas_task_free(ctypes.byref(held))
 
@@ -261,10 +261,10 @@ def wrong_rooms(library, name, given, answer, held=None):
     is_yes, text = answer
     for length in range(len(text) + 3):
         number, size, room, is_kept = library.call(name, given(), length)
-        due = ROOM_TOO_SHORT if length < len(text) else YES if is_yes else NO
+        expected = ROOM_TOO_SHORT if length < len(text) else YES if is_yes else NO
         fits = number == ROOM_TOO_SHORT or room.startswith(text)
         holds = held is None or bool(held.is_there) == (number == YES)
-        if (number, size) != (due, len(text)) or not (is_kept and fits and holds):
+        if (number, size) != (expected, len(text)) or not (is_kept and fits and holds):
             return [f"{length} bytes: number {number}, size {size}, {room[:80]!r}, around it {is_kept}, held rightly {holds}"]
     return []
 
@@ -287,7 +287,7 @@ def held_tests(_, library, __):
         library.calls.sas_task_free(ctypes.byref(held))
         return bool(held.is_there)
 
-    for name, calls, due in (
+    for name, calls, expected in (
         ("none at first", lambda: [number(plan), *each(plan)], none * 4),
         ("none dropped", lambda: [free(), number(plan), *each(plan)], [False, *none * 4]),
         ("held", lambda: [number("read", fuses), number(plan), number(other), number(plan)], [YES, YES, NO, YES]),
@@ -305,9 +305,9 @@ def held_tests(_, library, __):
         ("plans that are refused", lambda: [number("read", fuses), number(b""), number(b"\xff\n"), number(plan)], [YES, NO, NO, YES]),
     ):
         came = calls()
-        yield f"a task that is held: {name}", [] if came == due else [f"{came}, not {due}"]
+        yield f"a task that is held: {name}", [] if came == expected else [f"{came}, not {expected}"]
         free()
-    around = [guarded.before, guarded.behind]
+    around = [guarded.before, guarded.after]
     yield "the bytes around a task that is held", [] if around == [LIMIT] * 2 else [f"{around}"]
 
 
@@ -315,7 +315,7 @@ def python_tests(_, library, folder):
     """Yields the answers of the wrapper in Python about inputs of other types, tasks that are refused and tasks that are closed. They
     could show bytes that aren't those of the caller, and an answer where there is none."""
     sas, task, plan = library.sas, read(f"{FUSES}.sas"), read(f"{FUSES}.plan")
-    due = sas.plan(task, plan)
+    expected = sas.plan(task, plan)
     path = os.path.join(folder, "task")
     with open(path, "wb+") as file:
         file.write(task)
@@ -331,7 +331,7 @@ def python_tests(_, library, folder):
             ):
                 with sas.Task(view) as held:
                     answers = sas.plan(view, bytearray(plan)), held.plan(memoryview(plan))
-                yield f"Python, {name}", [it for answer in answers for it in differs(answer, due)]
+                yield f"Python, {name}", [it for answer in answers for it in differs(answer, expected)]
     empty = sas.plan(b"", b"")
     yield "Python, nothing", [it for view in (bytearray(), memoryview(b"")) for it in differs(sas.plan(view, view), empty)]
     for name, exception, call in (
@@ -349,7 +349,7 @@ def python_tests(_, library, folder):
         closed(sas, task).close()
     with ThreadPoolExecutor(4) as pool, sas.Task(task) as held:
         answers = list(pool.map(held.plan, [plan] * 1000))
-    yield "Python, one task in four threads", [it for answer in answers for it in differs(answer, due)][:1]
+    yield "Python, one task in four threads", [it for answer in answers for it in differs(answer, expected)][:1]
 
 
 # plans of FUSES, of which the file is refused or not
@@ -371,20 +371,20 @@ def mixed_tests(_, library, __):
     """Yields calls about many plans of one task that is held, in any order: each answer is that over both files. They could show a call
     that leaves something of a plan for the next."""
     sas, task, chance = library.sas, read(f"{FUSES}.sas"), random.Random(1)
-    asks = [(request, plan) for request in OVER_BOTH for plan in PLANS_OF_FUSES]
-    dues = [asked(sas, request, task, plan) for request, plan in asks]
+    calls = [(request, plan) for request in OVER_BOTH for plan in PLANS_OF_FUSES]
+    expected_answers = [answer_of(sas, request, task, plan) for request, plan in calls]
     with sas.Task(task) as held:
-        for number, place in enumerate(chance.choices(range(len(asks)), k=1000)):
-            request, plan = asks[place]
-            yield f"call {number} of one task, {request}, {plan[:40]!r}", differs(getattr(held, request)(plan), dues[place])
+        for number, place in enumerate(chance.choices(range(len(calls)), k=1000)):
+            request, plan = calls[place]
+            yield f"call {number} of one task, {request}, {plan[:40]!r}", differs(getattr(held, request)(plan), expected_answers[place])
 
 
 def version_tests(program, library, _):
     """Yields the version of the library. They could show one that isn't that of the program."""
     ran = ended(program, "--version")
-    due = (ran.stdout + ran.stderr).split()[-1].decode()
+    expected = (ran.stdout + ran.stderr).split()[-1].decode()
     for name, version in (("the library", library.sas.version()), ("sas.py", library.sas.__version__)):
-        yield f"version of {name}", [] if version == due else [f"{version}, not {due}"]
+        yield f"version of {name}", [] if version == expected else [f"{version}, not {expected}"]
 
 
 def answer_tests(_, library, __):
@@ -394,7 +394,7 @@ def answer_tests(_, library, __):
     doorway = read(f"{DOORWAY}.sas")
     # the value's name of the task that is printed is the line of a valid plan
     printed = task.replace(b"Atom handempty()", b"plan valid: 1 steps, cost 1")
-    for name, answer, due in (
+    for name, answer, expected in (
         ("valid", sas.plan(task, plan), (True, 4, 4, None)),
         ("valid, traced", sas.trace(task, plan), (True, 4, 4, None)),
         ("invalid", sas.plan(doorway, plan), (False, None, None, "step 1: no operator of that name")),
@@ -410,7 +410,7 @@ def answer_tests(_, library, __):
     ):
         is_yes, text = answer
         got = bool(answer), answer.steps, answer.cost, answer.reason
-        yield f"Python, {name}", [] if got == due and (is_yes, text) == (answer.is_yes, answer.text) else [f"{got}, not {due}"]
+        yield f"Python, {name}", [] if got == expected and (is_yes, text) == (answer.is_yes, answer.text) else [f"{got}, not {expected}"]
     sys.modules["sas"] = sas
     for it in (sas.plan(task, plan), sas.Refused(b"task refused: \xff\n"), sas.NoTask("a"), sas.InputTooLong("b")):
         copies = pickle.loads(pickle.dumps(it)), copy.copy(it), copy.deepcopy(it)
@@ -649,7 +649,7 @@ def symbols(path, *words):
 
 
 def symbol_tests(_, library, __):
-    """Yields what the libraries want of others and show to them. They could show a call of the system that the proofs know nothing
+    """Yields what the libraries need of others and show to them. They could show a call of the system that the proofs know nothing
     of, a name that is another's in a program that links the library, and a library that is loaded where its instructions aren't known."""
     if not compilers("nm"):
         return
@@ -661,7 +661,7 @@ def symbol_tests(_, library, __):
     yield "what libsas.so shows", [] if shown == names else [f"{sorted(shown ^ names)} more or less"]
     if compilers("readelf"):
         said = ended("readelf", "-n", "-d", os.path.join(library.folder, "libsas.so")).stdout.decode()
-        yield "what the loader is told", [it for it in ("x86 ISA needed: x86-64-v2", "soname: [libsas.so.1]") if it not in said]
+        yield "what the loader reads", [it for it in ("x86 ISA needed: x86-64-v2", "soname: [libsas.so.1]") if it not in said]
 
 
 def built_driver(library, folder):
@@ -757,9 +757,9 @@ def example_tests(program, library, folder):
     fuses, lamps = os.path.join(TOP, f"{FUSES}.sas"), os.path.join(TOP, f"{LAMPS}.sas")
     for name, command in built_examples(library, folder):
         for words in ([fuses, *plans], [fuses, plans[0]], [lamps, *plans]):
-            ran, due = ended(*command, *words, env=env), held_prints(program, *words)
+            ran, expected = ended(*command, *words, env=env), held_prints(program, *words)
             got = ran.returncode, ran.stdout, ran.stderr
-            yield f"{name} {' '.join(words)}", [] if got == due else [f"{got}, not {due}"]
+            yield f"{name} {' '.join(words)}", [] if got == expected else [f"{got}, not {expected}"]
         for words in (["none", plans[0]], [fuses, plans[0], "none"]):
             ran = ended(*command, *words, env=env)
             yield f"{name} {' '.join(words)}", [] if ran.returncode == 3 and ran.stderr else [f"{ran}"]
@@ -781,7 +781,7 @@ IN_ORDER = ("plan", "plan_why", "trace", "check", "check_why", "mutex", "mutex_w
 
 def lines_of_wrappers(sas, task, plan):
     """Returns what library.cpp and library.rs print of a task and of a plan. What is None is no answer, as no task is held."""
-    said = b"".join(answer_lines(it, asked(sas, it, *inputs_of(it, task, plan))) for it in IN_ORDER)
+    said = b"".join(answer_lines(it, answer_of(sas, it, *inputs_of(it, task, plan))) for it in IN_ORDER)
     said += answer_lines("empty", sas.plan(b"", b""))
     came, refused = sas.check(task), sas.check(plan)
     held = sas.plan(task, plan) if came else None
@@ -789,7 +789,7 @@ def lines_of_wrappers(sas, task, plan):
     def each(name, is_held):
         """Returns the answers about a plan of a task, in the order of the calls."""
         names = (name, "held plan_why", "held trace")
-        return [(word, asked(sas, it, task, plan) if is_held else None) for word, it in zip(names, OVER_BOTH)]
+        return [(word, answer_of(sas, it, task, plan) if is_held else None) for word, it in zip(names, OVER_BOTH)]
 
     moved = [("moved from", None), ("moved to", held)]
     first = [*each("none", False), ("read", came), *each("held" if came else "not held", bool(came))]
@@ -817,16 +817,16 @@ def built_wrapper(language, library, folder):
 
 
 def wrapper_tests(_, library, folder):
-    """Yields all calls of the wrappers in C++ and Rust, over a task that is layered and one that isn't. They could show a call that asks
-    another request or exchanges its inputs, and a task that is freed twice, or never."""
+    """Yields all calls of the wrappers in C++ and Rust, over a task that is layered and one that isn't. They could show a call that
+    answers for another request or exchanges its inputs, and a task that is freed twice, or never."""
     for language, compiler in (("cpp", "g++"), ("rs", "rustc")):
         path = built_wrapper(language, library.folder, folder) if compilers(compiler) else None
         for name in (DOORWAY, LAMPS) if path else ():
             files = [os.path.join(TOP, f"{name}.sas"), os.path.join(TOP, f"{FUSES}.plan")]
-            due = 0, lines_of_wrappers(library.sas, *map(read, files))[language], b""
+            expected = 0, lines_of_wrappers(library.sas, *map(read, files))[language], b""
             ran = ended(path, *files)
             got = ran.returncode, ran.stdout, ran.stderr
-            yield f"library.{language}, {name}", [] if got == due else [f"{got}, not {due}"]
+            yield f"library.{language}, {name}", [] if got == expected else [f"{got}, not {expected}"]
             if compilers("valgrind"):
                 ran = watched(path, *files)
                 yield f"valgrind library.{language}, {name}", [] if ran.returncode == 0 and not ran.stderr else [f"{ran}"]
@@ -872,7 +872,7 @@ def number_tests(_, library, folder):
     for number, exception in ((OUT_OF_MEMORY, MemoryError), (INPUT_TOO_LONG, sas.InputTooLong), (NO_TASK, sas.NoTask)):
         # the library that is loaded sees no change that Python alone makes of its environment
         ctypes.CDLL(None).setenv(b"STUB", str(number).encode(), 1)
-        came = [raised(lambda it=it: asked(sas, it, *inputs_of(it, b"", b""))) for it in IN_ORDER] + [raised(lambda: sas.Task(b""))]
+        came = [raised(lambda it=it: answer_of(sas, it, *inputs_of(it, b"", b""))) for it in IN_ORDER] + [raised(lambda: sas.Task(b""))]
         yield f"sas.py, number {number}", [] if set(came) == {exception} else [f"{came}"]
 
 
@@ -934,7 +934,7 @@ def refused_code_tests(_, library, folder):
         return
     held, words = "let mut held = sas::Task::read(b\"\").unwrap();", crate(library.folder, folder)
     for name, code, error in (
-        ("asked by two threads", "fn shared<T: Sync>() {} shared::<sas::Task>();", "E0277"),
+        ("shared by two threads", "fn shared<T: Sync>() {} shared::<sas::Task>();", "E0277"),
         ("copied", f"{held} let other = held.clone(); drop(other);", "E0599"),
         ("used after it was dropped", f"{held} drop(held); let _ = held.plan(b\"\");", "E0382"),
     ):
@@ -1007,8 +1007,8 @@ def wrong_large(sas, judge):
     task[21] = b"%d\n" % count
     text = b"".join([*task[:22], operator * count, *task[22:]])
     ran, plan = ended(judge, input=text), sas.plan(text, b"(take f1)\n; cost = 1 (unit cost)\n")
-    due = 1, plan.text
-    return [] if len(text) > LARGE and (ran.returncode, ran.stdout[: len(plan.text)]) == due else [f"{ran}, {plan}"]
+    expected = 1, plan.text
+    return [] if len(text) > LARGE and (ran.returncode, ran.stdout[: len(plan.text)]) == expected else [f"{ran}, {plan}"]
 
 
 TESTS = (

@@ -96,7 +96,7 @@ def status_of(lines):
     return 0 if counts and counts[1] == counts[2] else 1
 
 
-def asked(name, words, files, lines, **inputs):
+def case_of(name, words, files, lines, **inputs):
     """Returns the case of a request for plans with these words, of which these lines are printed."""
     return {
         "name": f"{name}, plans {' '.join(words)[:200]}",
@@ -110,12 +110,12 @@ def asked(name, words, files, lines, **inputs):
 
 def over_files(name, task, plans, lines):
     """Returns the case of plans of which each is a file."""
-    return asked(name, ["t.sas", *(label for label, _ in plans)], {"t.sas": task, **dict(plans)}, lines)
+    return case_of(name, ["t.sas", *(label for label, _ in plans)], {"t.sas": task, **dict(plans)}, lines)
 
 
 def with_task_from_input(name, task, plans, lines):
     """Returns the case of these plans with the task from standard input."""
-    return asked(name, ["-", *(label for label, _ in plans)], dict(plans), lines, input=task)
+    return case_of(name, ["-", *(label for label, _ in plans)], dict(plans), lines, input=task)
 
 
 def with_plan_from_input(name, task, plans, place):
@@ -123,12 +123,12 @@ def with_plan_from_input(name, task, plans, place):
     given = [*plans[:place], ("-", plans[place][1]), *plans[place + 1 :]]
     words, files = [label for label, _ in given], {label: text for label, text in given if label != "-"}
     lines = lines_of(task, given)
-    return asked(name, ["t.sas", *words], {"t.sas": text_of(task), **files, "-": "x\n"}, lines, input=plans[place][1])
+    return case_of(name, ["t.sas", *words], {"t.sas": text_of(task), **files, "-": "x\n"}, lines, input=plans[place][1])
 
 
-def behind_dashes(name, task, plans, lines):
-    """Returns the case of these plans, whose labels may begin with a dash, as they stand behind `--`."""
-    return asked(name, ["--", "-t", *(label for label, _ in plans)], {"-t": task, **dict(plans)}, lines)
+def after_dashes(name, task, plans, lines):
+    """Returns the case of these plans, whose labels may begin with a dash, as they come after `--`."""
+    return case_of(name, ["--", "-t", *(label for label, _ in plans)], {"-t": task, **dict(plans)}, lines)
 
 
 def each_alone(name, task, plans):
@@ -193,7 +193,7 @@ def unopened_cases():
         if changed["fault"] or changed["layers"]:
             said = f"task refused: {changed['fault'] or changed['layers']}"
             files = {"t.sas": as_bytes(changed["task"])}
-            yield asked(f"{changed['name']}, no plans", ["t.sas", "none", ".", "none"], files, [said])
+            yield case_of(f"{changed['name']}, no plans", ["t.sas", "none", ".", "none"], files, [said])
 
 
 def piped_cases():
@@ -202,7 +202,7 @@ def piped_cases():
     for name, task, plans, lines in written_plans():
         files, pipes = {"t.sas": task}, dict(plans)
         if len(pipes) == len(plans) and not any(os.path.dirname(label) for label in pipes):
-            yield asked(f"{name}, from named pipes", ["t.sas", *pipes], files, lines, pipes=pipes)
+            yield case_of(f"{name}, from named pipes", ["t.sas", *pipes], files, lines, pipes=pipes)
 
 
 def plan_file(chance, names, cost):
@@ -215,11 +215,11 @@ def plan_file(chance, names, cost):
 def damaged(chance, text):
     """Returns a plan file that is cut off, or has a byte less or more."""
     place = chance.randrange(len(text))
-    behind = (text[place:], text[place + 1 :], chance.choice("\n\r(); 0a") + text[place:])
+    after = (text[place:], text[place + 1 :], chance.choice("\n\r(); 0a") + text[place:])
     change = chance.randrange(5)
     if change == 0:
         return text + chance.choice("\n\r( ;a")
-    return text[:place] + ("" if change == 1 else behind[change - 2])
+    return text[:place] + ("" if change == 1 else after[change - 2])
 
 
 def files_made(chance, task, make):
@@ -289,7 +289,7 @@ def random_cases():
             yield with_plan_from_input(name, task, plans, chance.randrange(len(plans)))
         elif number % EACH == 2:
             plans = labelled(chance, texts, ("-{}", "--{}", "--why {}", "{}"))
-            yield behind_dashes(name, text, plans, lines_of(task, plans))
+            yield after_dashes(name, text, plans, lines_of(task, plans))
         else:
             plans.reverse()
             yield with_task_from_input(name, text, plans, lines_of(task, plans))

@@ -4,14 +4,15 @@
     python3 cases/memory.py SAS PROGRAM ..
 
 The programs are those of `calls.py`. The calls are those of calls.json with `refused`. A program answers `not made` where what the
-call is given doesn't fit into memory, and `wanting` where the call is out of memory; what it printed before is the front of its answer.
-The last run refuses nothing and has the answer of the call. A reader that is out of memory returns that for each later piece, too.
+call is given doesn't fit into memory, and `out of memory` where the call itself had none; what it printed before is the front of
+its answer. The last run refuses nothing and has the answer of the call. A reader that is out of memory returns that for each later
+piece, too.
 
 SAS is the program itself, with requests over a task of the examples and over one that has several of everything. Each
 allocation of it is refused in turn, until a run meets no refusal. With one refused it prints `sas: out of memory` on standard
 error, writes nothing on standard output and ends with status 3; or it does without and answers as ever. So it is with `--why`,
-for each kind of answer about a plan and about groups, with `trace` and with `plans`: there the answer is what reasons.py, traces.py and many.py
-compute.
+for each kind of answer about a plan and about groups, with `trace` and with `plans`: there the answer is what reasons.py, traces.py and
+many.py compute.
 
 The library that refuses is made of refuse.c, with $CC or cc. Each call that fails has a line, and the last line is
 'N passed, M failed'. The exit status is 0 where none failed.
@@ -29,10 +30,10 @@ import report
 from axioms import text_of
 from group_reasons import with_all_reasons
 from large import plan_text, wide_plans, wide_task
-from layers import behind_refusal
+from layers import after_refusal
 from many import lines_of, status_of
 from reasons import reasons
-from refusals import told_call
+from refusals import answer_of_call
 from texts import CASES, TOP, as_bytes, table
 from traces import traced
 
@@ -40,7 +41,7 @@ from traces import traced
 MOST = 1000
 # the byte that ends an answer
 END = b"\x1e"
-WANTING = re.compile(rb"(.*?)(wanting\n)+", re.DOTALL)
+OUT_OF_MEMORY = re.compile(rb"(.*?)(out of memory\n)+", re.DOTALL)
 NOT_MADE = re.compile(rb"(.*?)not made\n", re.DOTALL)
 OUT_OF_MEMORY = (3, b"", b"sas: out of memory\n")
 # how many of everything a task has that is refused memory for
@@ -102,14 +103,14 @@ def refused_calls(programs):
                     "command": [programs[name]],
                     "name": f"{group['call']} {as_bytes(given)[:40]!r}",
                     "given": b"%s\n%s" % (group["call"].encode(), as_bytes(given)),
-                    "answer": as_bytes(told_call(group["call"], given, answer)),
+                    "answer": as_bytes(answer_of_call(group["call"], given, answer)),
                     "inputs": group.get("inputs", 2),
                 }
 
 
 def refused_requests(sas, folder):
     """Yields each request to the program itself. It could show a call that goes on without the memory that it was refused,
-    or that reports this behind a part of its answer."""
+    or that reports this after a part of its answer."""
     names, cost, _ = wide_plans(SEVERAL)[0]
     files = {"several.sas": text_of(wide_task(SEVERAL)), "several.plan": plan_text(names, cost)}
     for name, text in files.items():
@@ -119,12 +120,12 @@ def refused_requests(sas, folder):
         requests = [[request, task] for request in ("show", "check", "print", "mutex")]
         for words in (*requests, ["plan", task, plan], ["steps", plan]):
             status = 1 if words[0] == "mutex" and not exclusive else 0
-            yield asked(sas, words, status)
-            yield asked(sas, [*words, "--why"], status)
+            yield case_of(sas, words, status)
+            yield case_of(sas, [*words, "--why"], status)
 
 
-def asked(sas, words, status, output=None, error=b""):
-    """Returns a request to the program, its answer, where None is some text that is due, and standard error."""
+def case_of(sas, words, status, output=None, error=b""):
+    """Returns a request to the program, its answer, where None is some text that is expected, and standard error."""
     name, command = " ".join(words), [sas, *words]
     return {"command": command, "name": name, "given": b"", "status": status, "output": output, "error": error}
 
@@ -142,7 +143,7 @@ def both_written(folder, name, task, names, cost):
     return [written(folder, f"{name}.sas", text_of(task)), written(folder, f"{name}.plan", plan_text(names, cost))]
 
 
-def told(lines):
+def lines_text(lines):
     """Returns the bytes of these lines."""
     return "".join(f"{line}\n" for line in lines).encode()
 
@@ -181,17 +182,17 @@ def refused_reasons(sas, folder):
     that stop where memory is refused, or of which a part is written before that."""
     for number, (task, names, cost) in enumerate(failing_plans()):
         files = both_written(folder, f"why.{number}", task, names, cost)
-        fault, behind = reasons(task, names, cost)
-        yield asked(sas, ["plan", "--why", *files], 0 if fault.startswith("plan valid") else 1, told([fault, *behind]))
+        fault, after = reasons(task, names, cost)
+        yield case_of(sas, ["plan", "--why", *files], 0 if fault.startswith("plan valid") else 1, lines_text([fault, *after]))
     for words, said in (*refusals(files[1]), ([MINIMAL, MINIMAL], "plan refused: line 1: keyword")):
         of = words[1] if said.startswith("plan ") else words[0]
-        yield asked(sas, ["plan", "--why", *words], 1, told([said, *behind_refusal(said, {"file": of})]))
+        yield case_of(sas, ["plan", "--why", *words], 1, lines_text([said, *after_refusal(said, {"file": of})]))
     for request in ("check", "mutex"):
         said = "task refused: rule 0: layer order"
-        yield asked(sas, [request, "--why", UNLAYERED], 1, told([said, *behind_refusal(said, {"file": UNLAYERED})]))
+        yield case_of(sas, [request, "--why", UNLAYERED], 1, lines_text([said, *after_refusal(said, {"file": UNLAYERED})]))
     groups = next(made for made in table("groups.json") if made["name"] == "each verdict")
     task = written(folder, "groups.sas", as_bytes(groups["task"]).decode())
-    yield asked(sas, ["mutex", "--why", task], 1, with_all_reasons(groups["output"], groups["task"]))
+    yield case_of(sas, ["mutex", "--why", task], 1, with_all_reasons(groups["output"], groups["task"]))
 
 
 def refused_traces(sas, folder):
@@ -200,14 +201,14 @@ def refused_traces(sas, folder):
     for number, (task, names, cost) in enumerate((*failing_plans(), long_plan())):
         files = both_written(folder, f"trace.{number}", task, names, cost)
         lines = traced(task, names, cost)
-        yield asked(sas, ["trace", *files], 0 if lines[-1].startswith("plan valid") else 1, told(lines))
+        yield case_of(sas, ["trace", *files], 0 if lines[-1].startswith("plan valid") else 1, lines_text(lines))
     for words, said in (*refusals(files[1]), ([MINIMAL, MINIMAL], "plan refused: line 1: keyword")):
-        yield asked(sas, ["trace", *words], 1, told([said]))
+        yield case_of(sas, ["trace", *words], 1, lines_text([said]))
 
 
 def refused_plans(sas, folder):
     """Yields plans of a task that has several of everything: each alone, all of them in either order, one twice, and one in
-    front of a plan that can't be opened or read. It could show a plan that is left out, or told as refused, where memory is;
+    front of a plan that can't be opened or read. It could show a plan that is left out, or reported as refused, where memory is;
     one for which the plans before it count; and a label that is cut off."""
     task = wide_task(SEVERAL)
     path = written(folder, "many.sas", text_of(task))
@@ -215,21 +216,21 @@ def refused_plans(sas, folder):
     plans = [(written(folder, f"many.{number}", text), text) for number, text in enumerate(texts)]
     for some in (*([plan] for plan in plans), plans, plans[::-1], plans[:1] * 2):
         lines = lines_of(task, some)
-        yield asked(sas, ["plans", path, *(label for label, _ in some)], status_of(lines), told(lines))
+        yield case_of(sas, ["plans", path, *(label for label, _ in some)], status_of(lines), lines_text(lines))
     for label, said in (("none", "cannot open the plan"), (".", "read failed")):
-        yield asked(sas, ["plans", path, plans[0][0], label], 3, b"", told([f"sas: {said}: {label}"]))
+        yield case_of(sas, ["plans", path, plans[0][0], label], 3, b"", lines_text([f"sas: {said}: {label}"]))
     for words, said in refusals("none"):
-        yield asked(sas, ["plans", *words], 1, told([said]))
+        yield case_of(sas, ["plans", *words], 1, lines_text([said]))
 
 
 def letter(end, was_refused, answer):
-    """Returns what came of a run of a call, in a letter: not made, wanting, the answer itself, or something else."""
+    """Returns what came of a run of a call, in a letter: not made, out of memory, the answer itself, or something else."""
     said = end[1].removesuffix(END)
     if said == answer:
         return "A" if was_refused else "a"
-    for word, form in (("n", NOT_MADE), ("w", WANTING)):
-        told = form.fullmatch(said)
-        if told and answer.startswith(told[1]):
+    for word, form in (("n", NOT_MADE), ("w", OUT_OF_MEMORY)):
+        found = form.fullmatch(said)
+        if found and answer.startswith(found[1]):
             return word
     return "?"
 
@@ -237,7 +238,7 @@ def letter(end, was_refused, answer):
 def wrong_with_call(library, call):
     """Returns what is wrong with a call."""
     came = "".join(letter(*run, call["answer"]) for run in runs(library, call))
-    # Each input is read without memory for large pieces, which is asked for before all other, and, if its lines end with CR LF,
+    # Each input is read without memory for large pieces, which is requested before all other, and, if its lines end with CR LF,
     # without memory for a copy with LF alone.
     return [] if "w" in came and re.fullmatch("n*(A{0,2}[nw]+){1,%d}A*a" % call["inputs"], came) else [came]
 
@@ -245,8 +246,8 @@ def wrong_with_call(library, call):
 def wrong_with_request(library, call):
     """Returns what is wrong with a request to the program itself."""
     *refused, (last, was_refused) = runs(library, call)
-    due = last[1] if call["output"] is None else call["output"]
-    answered = not was_refused and last == (call["status"], due, call["error"]) and (last[1] or call["output"] is not None)
+    expected = last[1] if call["output"] is None else call["output"]
+    answered = not was_refused and last == (call["status"], expected, call["error"]) and (last[1] or call["output"] is not None)
     wrong = [f"allocation {number}: {end}" for number, (end, _) in enumerate(refused, 1) if end not in (OUT_OF_MEMORY, last)]
     return wrong if answered and OUT_OF_MEMORY in [end for end, _ in refused] else [*wrong, f"nothing refused: {last}"]
 

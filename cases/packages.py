@@ -71,8 +71,8 @@ def wrong(*command, **more):
 def wrong_held(top, *command, **more):
     """Returns what is wrong with a build of the example `held`, run over a plan that is valid."""
     files = [os.path.join(top, f"examples/fuses.{it}") for it in ("sas", "plan")]
-    got, due = ended(*command, *files, **more), (0, f"{files[1]}: plan valid: 4 steps, cost 4\n")
-    return [] if got == due else [f"{got}"]
+    got, expected = ended(*command, *files, **more), (0, f"{files[1]}: plan valid: 4 steps, cost 4\n")
+    return [] if got == expected else [f"{got}"]
 
 
 def cmake_tests(top, prefix, place):
@@ -131,8 +131,8 @@ def pip_tests(top, place):
     env = {**os.environ, "PYTHONPATH": site}
     yield "pip, the program", wrong_held(top, sys.executable, os.path.join(top, "library/examples/held.py"), env=env, cwd=place)
     command = "import sas, importlib.metadata as it; print(sas.__file__, sas.__version__ == it.version('sas'))"
-    got, due = ended(sys.executable, "-c", command, env=env, cwd=place), (0, f"{site}/sas.py True\n")
-    yield "pip, the module", [] if got == due else [f"{got}"]
+    got, expected = ended(sys.executable, "-c", command, env=env, cwd=place), (0, f"{site}/sas.py True\n")
+    yield "pip, the module", [] if got == expected else [f"{got}"]
 
 
 def package_tests(top, place):

@@ -7,7 +7,7 @@ Each request and each flag that `sas --help` names stands in README.md, in the m
 that it doesn't name. Each line that the program may print on standard error stands in docs/GUIDE.md and in the manual page. The version
 is one: that of the program, of the first entry of CHANGELOG.md, of the packages of the library and of the manual page. Links of documents
 lead to files. The completions are tried in bash and in fish and read by zsh, and the manual page by mandoc, where these are there; what
-isn't there is told in a line that begins with `without`.
+isn't there is named in a line that begins with `without`.
 
 No proof reads these files. A request that no page names, or a page of another version, would be found here alone.
 """
@@ -23,7 +23,7 @@ from texts import TOP, text_of
 
 PAGE, README, GUIDE = "man/sas.1", "README.md", "docs/GUIDE.md"
 COMPLETIONS = {"bash": "completions/sas.bash", "zsh": "completions/_sas", "fish": "completions/sas.fish"}
-# what is typed behind requests and flags, and what bash and fish offer for it
+# what is typed after requests and flags, and what bash and fish offer for it
 PLAN, DOORWAY = "examples/doorway.p", {"examples/doorway.plan"}
 OFFERED = (
     (("plan", "--why", "examples/lam"), {"examples/lamps.sas"}),
@@ -32,7 +32,7 @@ OFFERED = (
     (("plans", "examples/lamps.sas", "-", PLAN), DOORWAY),
     (("steps", PLAN), DOORWAY),
 )
-# what bash offers where a task is due, and where all files of a request are there
+# what bash offers where a task is expected, and where all files of a request are there
 OFFERED_BY_BASH = (
     (("plan", "examples/doorway"), {"examples/doorway.sas"}),
     (("plan", "-", "x", PLAN), set()),
@@ -54,7 +54,7 @@ def printed(*command):
 
 
 def is_there(tool):
-    """Whether a tool is there; tells where it isn't."""
+    """Whether a tool is there; says where it isn't."""
     if not shutil.which(tool):
         print(f"without {tool}")
     return shutil.which(tool)
@@ -62,14 +62,14 @@ def is_there(tool):
 
 def requests_of(sas):
     """Returns the requests that the help names, each with its flags, and the flags of the program itself under the empty word."""
-    told = printed(sas, "--help")
-    names = re.findall(r"^  (\w+) ", told.partition("Commands:")[2].partition("Options:")[0], re.MULTILINE)
-    return {"": flags_of(told)} | {name: flags_of(printed(sas, name, "--help")) for name in names if name != "help"} | {"help": set()}
+    page = printed(sas, "--help")
+    names = re.findall(r"^  (\w+) ", page.partition("Commands:")[2].partition("Options:")[0], re.MULTILINE)
+    return {"": flags_of(page)} | {name: flags_of(printed(sas, name, "--help")) for name in names if name != "help"} | {"help": set()}
 
 
-def flags_of(told):
+def flags_of(page):
     """Returns the flags that a help names."""
-    return set(re.findall(r"^ +(?:-\w, )?(--\w+) ", told.partition("Options:")[2], re.MULTILINE))
+    return set(re.findall(r"^ +(?:-\w, )?(--\w+) ", page.partition("Options:")[2], re.MULTILINE))
 
 
 def named_in_page(page):
@@ -98,11 +98,11 @@ def page_cases(requests):
 def diagnostic_cases():
     """Yields the lines on standard error, as the code has them."""
     code = text_of(f"{TOP}/crates/sas_tool/src/program.rt") + text_of(f"{TOP}/crates/sas_tool/src/plan_files.rt")
-    told = set(re.findall(r'"(sas: [^"]*[^": ])', code))
+    messages = set(re.findall(r'"(sas: [^"]*[^": ])', code))
     page, guide = text_of(f"{TOP}/{PAGE}"), text_of(f"{TOP}/{GUIDE}")
     named = set(re.findall(r'^\.It "(sas: .*)"$', page, re.MULTILINE))
-    yield f"standard error, {PAGE}", sorted(told ^ named) if told else ["no line was found in the code"]
-    yield f"standard error, {GUIDE}", [it for it in sorted(told) if it not in guide]
+    yield f"standard error, {PAGE}", sorted(messages ^ named) if messages else ["no line was found in the code"]
+    yield f"standard error, {GUIDE}", [it for it in sorted(messages) if it not in guide]
 
 
 def completion_cases(requests):
@@ -131,7 +131,7 @@ def completion_cases(requests):
 
 def version_cases(sas):
     """Yields where the version stands."""
-    told = printed(sas, "--version").split()[-1]
+    version = printed(sas, "--version").split()[-1]
     for file, pattern in (
         ("CHANGELOG.md", r"^## (\S+)"),
         ("crates/sas_tool/src/arguments.rt", r'^const VERSION: &str = "(.*)";$'),
@@ -143,7 +143,7 @@ def version_cases(sas):
         (PAGE, r"^This page is that of version (.*)\.$"),
     ):
         found = re.search(pattern, text_of(os.path.join(TOP, file)), re.MULTILINE)
-        yield f"version of {file}", [] if found and found[1] == told else [f"{found and found[1]}, not {told}"]
+        yield f"version of {file}", [] if found and found[1] == version else [f"{found and found[1]}, not {version}"]
 
 
 def link_cases(top=TOP):

@@ -49,11 +49,11 @@ def of_lab():
 
 def wrong_lab(answer, name, fields):
     """Returns what is wrong with what these find in an answer about a plan, of which the verdict is known."""
-    due = {"steps": fields.get("steps"), "cost": fields.get("cost") if name == "valid" else None}
-    due["why_not"] = fields.get("reason") if fields.get("file") != "task" else None
+    expected = {"steps": fields.get("steps"), "cost": fields.get("cost") if name == "valid" else None}
+    expected["why_not"] = fields.get("reason") if fields.get("file") != "task" else None
     found = {key: re.search(pattern, answer, re.MULTILINE) for key, pattern in of_lab().items()}
     got = {key: it and it[1] for key, it in found.items()}
-    return [] if got == due else [f"{got}, not {due}"]
+    return [] if got == expected else [f"{got}, not {expected}"]
 
 
 def found_by(parse, names, line):
@@ -77,9 +77,9 @@ def wrong_answer(parse, answer):
     line = lines[0] if re.match("plan |task ", answer) else lines[-2]
     name, fields = parse.verdict(answer)
     rebuilt = FORMS.get(name.upper(), name).format(**fields)
-    told = [it for it in lines if re.match("  ", it)]
+    reasons = [it for it in lines if re.match("  ", it)]
     wrong = wrong_line(parse, line) + ([] if rebuilt == line else [rebuilt]) + wrong_lab(answer, name, fields)
-    return wrong + [it for it in told if it[2:] not in parse.reasons(answer)]
+    return wrong + [it for it in reasons if it[2:] not in parse.reasons(answer)]
 
 
 def wrong_plans(parse, lines):
@@ -91,18 +91,18 @@ def wrong_plans(parse, lines):
     rebuilt = [f"{label}: {FORMS[name.upper()].format(**fields)}" for label, name, fields in found]
     last = re.search(parse.SUMMARY, lines[-1])
     valid, costs = [it for it in found if it[1] == "valid"], [int(it[2]["cost"]) for it in found if it[1] == "valid"]
-    due = {"plans": str(len(found)), "valid": str(len(valid)), "cost": None, "best": None}
+    expected = {"plans": str(len(found)), "valid": str(len(valid)), "cost": None, "best": None}
     if valid:
-        due |= {"cost": str(min(costs)), "best": valid[costs.index(min(costs))][0]}
-    wrong = [] if last and last.groupdict() == due else [f"{last and last.groupdict()}, not {due}"]
+        expected |= {"cost": str(min(costs)), "best": valid[costs.index(min(costs))][0]}
+    wrong = [] if last and last.groupdict() == expected else [f"{last and last.groupdict()}, not {expected}"]
     return wrong + [f"{got!r}, not {line!r}" for got, line in zip(rebuilt, lines[:-1]) if got != line]
 
 
 def wrong_runs(parse, runs):
     """Returns what is wrong with what is found in several answers of `plans`, one after another."""
     answers = ["".join(f"{it}\n" for it in lines) for lines in runs]
-    due = sum(map(parse.verdicts, answers), [])
-    return [] if parse.verdicts("".join(answers)) == due and len(due) == sum(map(len, runs)) - len(runs) else [f"{runs}"]
+    expected = sum(map(parse.verdicts, answers), [])
+    return [] if parse.verdicts("".join(answers)) == expected and len(expected) == sum(map(len, runs)) - len(runs) else [f"{runs}"]
 
 
 def wrong_groups(parse, lines):

@@ -77,7 +77,7 @@ def storm_task(size):
 
 
 def storm_trace(size, storms, breezes):
-    """So often the step that turns the first switch of that task, and behind each so many that turn the second one."""
+    """So often the step that turns the first switch of that task, and after each so many that turn the second one."""
     names, values = (["storm"] + ["breeze"] * breezes) * storms, {"storm": 0, "breeze": 0}
     touched = {"storm": [0, *range(2, size + 2)], "breeze": [1, *range(size + 2, size + 5)]}
     lines = initial_lines(size + 5)
@@ -126,14 +126,14 @@ def late_faults():
     hold. They could show a trace that is written before the plan is read."""
     files, turns = {"t.sas": text_of(task_with([2], operators=[turning("turn", 0)]))}, ["(turn)\n", LONG]
     refusal, words = f"plan refused: line {LONG + 1}: name\n", ["trace", "t.sas", "-"]
-    yield case("a fault behind very many steps, trace", words, refusal, 1, files=files, input=[turns, "()\n"])
+    yield case("a fault after very many steps, trace", words, refusal, 1, files=files, input=[turns, "()\n"])
     inputs = {"input": [turns, "(", ["a", 2 * MEMORY]], "memory": MEMORY, "error": "sas: out of memory\n"}
-    yield case("a name that memory doesn't hold behind very many steps, trace", words, "", 3, files=files, **inputs)
+    yield case("a name that memory doesn't hold after very many steps, trace", words, "", 3, files=files, **inputs)
 
 
 def wide_traces():
-    """Traces of tasks that have so many of everything, as in large.py. They could show want of memory that no one was
-    refused, and a list of which only the front counts."""
+    """Traces of tasks that have so many of everything, as in large.py. They could show `out of memory` where no allocation
+    was refused, and a list of which only the front counts."""
     for width in WIDTHS[:2]:
         task = wide_task(width)
         text = text_of(task)
@@ -161,13 +161,13 @@ def named_trace():
     made before it is written."""
     name = "a" * NAME
     task = task_with([2], operators=[turning("turn", 0)], names=[["off", name]])
-    told = [["initial 0 0 off\n", 1]]
+    front = [["initial 0 0 off\n", 1]]
     for step in range(1, TIMES + 1):
         change = ["change 0 0 1 ", name, "\n"] if step % 2 else "change 0 1 0 off\n"
-        told.append([[f"step {step} 0 1 turn\n", change], 1])
+        front.append([[f"step {step} 0 1 turn\n", change], 1])
     files = {"t.sas": text_of(task), "p.txt": plan_text(["turn"] * TIMES, TIMES)}
     said = f"{valid_line(['turn'] * TIMES)}\n"
-    return case("a name in a long text, trace", TRACE, said, 0, files=files, told=told, memory=MEMORY)
+    return case("a name in a long text, trace", TRACE, said, 0, files=files, front=front, memory=MEMORY)
 
 
 def priced_task(count):
@@ -257,8 +257,8 @@ def limited_plans():
 
 
 def wide_files():
-    """The plans of tasks that have so many of everything, as in large.py, one behind the other and the other way round. They
-    could show want of memory that no one was refused, and something of a plan that the next one finds."""
+    """The plans of tasks that have so many of everything, as in large.py, one after the other and the other way round. They
+    could show `out of memory` where no allocation was refused, and something of a plan that the next one finds."""
     for width in WIDTHS:
         made = enumerate(wide_plans(width))
         plans = [(str(place), plan_text(names, cost), said, None if place else cost) for place, (names, cost, said) in made]

@@ -24,6 +24,8 @@ EXPORT = re.compile(r"^pub use (?:crate::)?(\w+)::(\{[^}]*\}|\w+);", re.MULTILIN
 ITEM = re.compile(r"^pub (?:fn|struct|enum|trait) (\w+)", re.MULTILINE)
 # definitions that a file imports from a crate of the repository, other than its types, by their names or by one for all of a file
 IMPORT = re.compile(r"ghost use Rattle\.sas_\w+\.specs\.(?!declared)[\w.]+(?:\.\{([^}]*)\}| as (\w+);)")
+# types of the code, which the preludes of crates pass on beside definitions
+TYPE = re.compile(r"specs\.declared\.[\w.]+\.\{([^}]*)\}")
 # an item that has functions in it, and how a function begins; a name of a clause, and a sentence of a comment
 OWNER = re.compile(r"^(pub trait|impl)\b(?P<rest>.*)")
 FUNCTION = re.compile(r'^(?P<indent> *)(?P<pub>pub )?(?P<extern>extern "C" )?fn (?P<name>\w+)')
@@ -89,7 +91,7 @@ def shown(clause, definitions):
     """Returns how a clause is named in a table: by its name, or by the definitions of its file that it cites."""
     name, text = clause
     parts = [it.partition(".") for it in re.findall(r"[\w.]+", text)]
-    cited = dict.fromkeys(behind or front for front, _, behind in parts if front in definitions)
+    cited = dict.fromkeys(after or front for front, _, after in parts if front in definitions)
     return f"`{name}`" if name else f"({', '.join(f'`{it}`' for it in cited) or 'unnamed'})"
 
 
@@ -105,12 +107,18 @@ def comment(lines, place):
     return sentence[0] if sentence else ""
 
 
+def passed_on_types():
+    """Returns the types that preludes pass on."""
+    texts = map(text_of, glob.glob(f"{TOP}/crates/*/specs/Prelude.antt"))
+    return set(re.findall(r"\w+", str([TYPE.findall(text) for text in texts])))
+
+
 def functions(crate):
     """Yields the public functions of a crate: its name, its comment, how its clauses are named."""
-    public = exports(crate)
+    public, types = exports(crate), passed_on_types()
     for path in sorted(glob.glob(f"{TOP}/crates/{crate}/src/*.rt")):
         text = text_of(path)
-        definitions = set(re.findall(r"\w+", str(IMPORT.findall(text))))
+        definitions = set(re.findall(r"\w+", str(IMPORT.findall(text)))) - types
         lines, owner = text.splitlines(), None
         for place, line in enumerate(lines):
             owner = None if line == "}" else owner_of(line) if OWNER.match(line) else owner
@@ -159,15 +167,15 @@ def tables():
 def main(*words):
     page = text_of(PAGE)
     front, rest = page.split(BEGIN)
-    written, behind = rest.split(END)
+    written, after = rest.split(END)
     if words == ("--write",):
         with open(PAGE, "w", encoding="utf-8") as file:
-            file.write(front + BEGIN + tables() + END + behind)
+            file.write(front + BEGIN + tables() + END + after)
         return
-    due, lines = set(tables().splitlines()), set(written.splitlines())
+    expected, lines = set(tables().splitlines()), set(written.splitlines())
     there = {f"{crate}/{name}" for crate in crates() for name, _ in edits(crate)}
-    named = set(EDIT.findall(front + behind))
-    found = [[] if written == tables() else [f"not up to date: {it}" for it in sorted(due ^ lines)] or ["not in order"]]
+    named = set(EDIT.findall(front + after))
+    found = [[] if written == tables() else [f"not up to date: {it}" for it in sorted(expected ^ lines)] or ["not in order"]]
     found.append([f"no edit {it}" for it in sorted(named - there)])
     report.end([{"name": "PROMISES.md, its tables"}, {"name": "PROMISES.md, the edits that it names"}], found)
 

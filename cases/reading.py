@@ -28,10 +28,19 @@ def text_of(path):
         return file.read()
 
 
+def imported(path):
+    """Yields what a file imports from definitions of a crate: the crate, the module and the names."""
+    found = re.findall(r"^(?:pub )?use Rattle\.(sas_\w+)\.specs\.([\w.]+?)(?:\.\{(.*)\}| as \w+)$", text_of(path), re.MULTILINE)
+    return [(crate, module, set(re.split(r",\s*", names))) for crate, module, names in found]
+
+
 def imports(path):
-    """Returns the files of definitions that this one imports, in order. A type of the code is none of them."""
-    names = re.findall(r"^(?:pub )?use Rattle\.(sas_\w+)\.specs\.(?!declared)(\w+)", text_of(path), re.MULTILINE)
-    return [f"crates/{crate}/specs/{name}.antt" for crate, name in names]
+    """Returns the files of definitions that this one imports, in order, past the prelude of a crate. A type of the code is none."""
+    found = []
+    for crate, module, names in imported(path):
+        passed_on = imported(f"crates/{crate}/specs/Prelude.antt") if module == "Prelude" else []
+        found += [(crate, it) for _, it, theirs in passed_on if names & theirs] if passed_on else [(crate, module)]
+    return [f"crates/{crate}/specs/{module}.antt" for crate, module in found if not module.startswith("declared")]
 
 
 def closure(path):
@@ -56,10 +65,11 @@ def wrong_sections(reading):
     for heading, text in zip(parts[::2], parts[1::2]):
         starts = START.findall(text)
         named = {path: int(lines) for path, lines in NAMED.findall(text)}
-        due = {path: size(path) for start in starts for path in closure(start) if path not in known}
-        known |= set(due)
+        expected = {path: size(path) for start in starts for path in closure(start) if path not in known}
+        known |= set(expected)
         if starts or named:
-            wrong = [f"{path}: {due.get(path)} lines, not {named.get(path)}" for path in due | named if due.get(path) != named.get(path)]
+            apart = [path for path in expected | named if expected.get(path) != named.get(path)]
+            wrong = [f"{path}: {expected.get(path)} lines, not {named.get(path)}" for path in apart]
             yield heading, starts, wrong
 
 

@@ -1,9 +1,9 @@
-"""Why a plan isn't valid, computed from the meaning of a task: the lines that `plan --why` prints behind the verdict. Two spaces
+"""Why a plan isn't valid, computed from the meaning of a task: the lines that `plan --why` prints after the verdict. Two spaces
 stand in front of each, four where it belongs to the line above. A task here is as in walks.py; `fact` in a line represents
 `VARIABLE VALUE NAME`, with the name of the value.
 
 A run is the task, the names of a plan's steps, the operators of those steps that go through, and the states: the initial one, and
-the one behind each of these steps. A fact fails that doesn't hold in the last of them.
+the one after each of these steps. A fact fails that doesn't hold in the last of them.
 
     no operator of that name    step S NAME, and `similar operator I NAME` of the first operator whose name is the same but for
                                 spaces at the end and capitals, if there is one
@@ -13,10 +13,10 @@ the one behind each of these steps. A fact fails that doesn't hold in the last o
     goal fact not reached       each goal fact that fails, with its cause
     cost differs                metric M, steps S, sum of cost lines N, also where the metric doesn't count them
 
-Behind each of these comes the first step that went through and could also be an operator behind the one that it meant, as
+After each of these comes the first step that went through and could also be an operator after the one that it meant, as
 that has the name too and was applicable, with the first such operator.
 
-The cause of a fact that fails: the value that is required, the actual one, and since which step. That is the last one behind
+The cause of a fact that fails: the value that is required, the actual one, and since which step. That is the last one after
 which it had another value than before; a step that sets the value that is there changes nothing. Where the variable is derived
 and isn't at its default, the rules of its derivation follow. Where it is derived and the required value isn't the default, there
 follows for each rule that would derive that the first of its conditions that fails, or that there is no such rule. A line of a rule
@@ -24,7 +24,7 @@ that stands further up already isn't said again.
 
 Variables of a layer rise in rounds: in each round all whose rules hold in what has risen in the rounds before. The rule that
 gives a variable its value is the first of its rules that holds when it rises. The derivation of a variable has the variable,
-and with each one those that this rule asks for and that have risen, too; so none rests on itself.
+and with each one those that this rule requires and that have risen, too; so none rests on itself.
 """
 from functools import cached_property
 
@@ -126,16 +126,16 @@ def derivation(run, var):
     found = [var]
     for its in found:
         _, rule = run.rising[its]
-        asked = (on for on, _ in run.task["rules"][rule][0] if is_risen(run.task, run.last, on))
-        found += [on for on in dict.fromkeys(asked) if on not in found]
+        required = (on for on, _ in run.task["rules"][rule][0] if is_risen(run.task, run.last, on))
+        found += [on for on in dict.fromkeys(required) if on not in found]
     ordered = sorted(found, key=lambda its: (run.task["layers"][its], run.rising[its][0], its))
     assert_explains(run, var, ordered)
     return ordered
 
 
 def assert_explains(run, var, ordered):
-    """Compares a derivation with what it is for: each rule asks for basic facts, for defaults on lower layers and for variables
-    that stand before its own, and gives the value that there is; the variable that is asked about is the last."""
+    """Compares a derivation with what it is for: each rule requires basic facts, for defaults on lower layers and for variables
+    that stand before its own, and gives the value that there is; the variable for which it is derived is the last."""
     task, before = run.task, set()
     for its in ordered:
         facts, of, _, new = task["rules"][run.rising[its][1]]
@@ -169,8 +169,8 @@ def held_back(run, var, value):
     rules = [rule for rule in rules_of(task, var) if task["rules"][rule][3] == value]
     if not rules:
         return ["no rule derives it"]
-    asked = [next(fact for fact in task["rules"][rule][0] if not holds(run.last, [fact])) for rule in rules]
-    return [f"rule {rule} requires {fact_said(task, *fact)}" for rule, fact in zip(rules, asked)]
+    required = [next(fact for fact in task["rules"][rule][0] if not holds(run.last, [fact])) for rule in rules]
+    return [f"rule {rule} requires {fact_said(task, *fact)}" for rule, fact in zip(rules, required)]
 
 
 def cause(run, fact):
@@ -255,7 +255,7 @@ def said_once(lines):
 
 
 def reasons_of(run):
-    """Returns the lines behind the verdict on the plan of a run that isn't valid."""
+    """Returns the lines after the verdict on the plan of a run that isn't valid."""
     if len(run.operators) < len(run.names):
         said = step_reasons(run)
     else:
@@ -264,6 +264,6 @@ def reasons_of(run):
 
 
 def reasons(task, names, cost):
-    """Returns the verdict on a plan, and the lines behind it; none where the plan is valid."""
+    """Returns the verdict on a plan, and the lines after it; none where the plan is valid."""
     fault, _ = verdict(task, names, cost)
     return fault, [] if fault.startswith("plan valid") else reasons_of(run_of(task, names))

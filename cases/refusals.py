@@ -1,16 +1,16 @@
 """Why a file is refused, computed from its bytes: the first fault of a task file or a plan file, and the lines that `--why` prints
-behind it. Two spaces stand in front of each.
+after it. Two spaces stand in front of each.
 
     at PLACE                  where the refused line of a task stands
-    expected DUE              what is due there; of a plan it follows from the kind of fault
+    expected WORDS            what is expected there; of a plan it follows from the kind of fault
     number K must be A to B   of a task, for `value` on a line of several numbers: the first number that may not stand there
     found TEXT                the line without its end; for `trailing` the one byte
     empty line                the line was empty
-    unfinished TEXT           for `end` the rest behind the last line end
+    unfinished TEXT           for `end` the rest after the last line end
     end of file               for `end` where there is no rest
 
-The lines of a task are read here by what is due on each, and not by anything of the program. What is due follows from the lines that
-came before.
+The lines of a task are read here by what is expected on each, and not by anything of the program. What is expected follows from the
+lines that came before.
 """
 import random
 import re
@@ -30,8 +30,8 @@ SHOWN = 64
 FACT, HEAD = "fact: VAR VALUE", "head: VAR OLD NEW"
 EFFECT = "effect: COUNT, COUNT times VAR VALUE, VAR OLD NEW"
 STEP, COST = "(NAME)", "; cost = N (unit cost) or ; cost = N (general cost)"
-# what is due in a plan, by the kind of fault
-PLAN_DUES = {"name": STEP, "shape": COST, "keyword": f"{STEP} or {COST}", "end": f"{STEP} or {COST}", "trailing": "end of file"}
+# what is expected in a plan, by the kind of fault
+PLAN_EXPECTED = {"name": STEP, "shape": COST, "keyword": f"{STEP} or {COST}", "end": f"{STEP} or {COST}", "trailing": "end of file"}
 
 
 def spelled(word, most=MOST):
@@ -45,22 +45,22 @@ def signed(word):
     return -1 if word == b"-1" else spelled(word)
 
 
-# What is due: its words, and how a line is judged by it. A judge returns None where the line may stand there; else the kind of
+# What is expected: its words, and how a line is judged by it. A judge returns None where the line may stand there; else the kind of
 # fault, and the lines about its words.
 
 
 def fixed(text):
-    """This word is due."""
+    """This word is expected."""
     return text, lambda line: None if line == text.encode() else ("keyword", [])
 
 
 def name():
-    """A name is due."""
+    """A name is expected."""
     return "a name", lambda line: None if line and b"\r" not in line else ("name", [])
 
 
 def number(least, most=MOST):
-    """A number is due, at least and at most this."""
+    """A number is expected, at least and at most this."""
 
     def judge(line):
         value = signed(line) if least < 0 else spelled(line)
@@ -71,57 +71,57 @@ def number(least, most=MOST):
     return f"number {least} to {most}", judge
 
 
-def numbers(due, ranges):
-    """A fact, a head or an effect is due, of variables with these ranges."""
-    return due, lambda line: words_fault(due, ranges, line.split(b" "))
+def numbers(expected, ranges):
+    """A fact, a head or an effect is expected, of variables with these ranges."""
+    return expected, lambda line: words_fault(expected, ranges, line.split(b" "))
 
 
-def values_of(due, words):
+def values_of(expected, words):
     """Returns the numbers of a line, -1 where none stands for an old value; None where the line isn't made so."""
-    if due == EFFECT:
+    if expected == EFFECT:
         count = spelled(words[0])
         size = None if count is None else 2 * count + 4
     else:
-        size = 2 if due == FACT else 3
+        size = 2 if expected == FACT else 3
     if len(words) != size:
         return None
-    old = None if due == FACT else size - 2
+    old = None if expected == FACT else size - 2
     values = [signed(word) if place == old else spelled(word) for place, word in enumerate(words)]
     return None if None in values else values
 
 
-def limits(due, ranges, values):
-    """Yields of each word of a line the least and the most that it may be. Behind one that may not stand there nothing is asked."""
-    facts = {FACT: values, HEAD: [], EFFECT: values[1:-3]}[due]
-    if due == EFFECT:
+def limits(expected, ranges, values):
+    """Yields of each word of a line the least and the most that it may be. After one that may not stand there nothing is required."""
+    facts = {FACT: values, HEAD: [], EFFECT: values[1:-3]}[expected]
+    if expected == EFFECT:
         yield 0, MOST
     for var in facts[::2]:
         yield 0, len(ranges) - 1
         yield 0, ranges[var] - 1
-    if due != FACT:
+    if expected != FACT:
         yield 0, len(ranges) - 1
         yield -1, ranges[values[-3]] - 1
         yield 0, ranges[values[-3]] - 1
 
 
-def words_fault(due, ranges, words):
+def words_fault(expected, ranges, words):
     """Returns what is wrong with a line of several numbers."""
-    values = values_of(due, words)
+    values = values_of(expected, words)
     if values is None:
         return "shape", []
-    for place, (value, (least, most)) in enumerate(zip(values, limits(due, ranges, values)), 1):
+    for place, (value, (least, most)) in enumerate(zip(values, limits(expected, ranges, values)), 1):
         if not least <= value <= most:
             return "value", [f"number {place} must be {least} to {most}"]
     return None
 
 
-# The slots of a file, in order: where a line stands, and what is due there. Each is sent the line that stands there.
+# The slots of a file, in order: where a line stands, and what is expected there. Each is sent the line that stands there.
 
 
-def counted(place, due):
+def counted(place, expected):
     """Yields the slots of a count, and of so many lines."""
     for _ in range(int((yield place, number(0)))):
-        yield place, due
+        yield place, expected
 
 
 def one_number(place, least, most):
@@ -214,25 +214,25 @@ def plan_line(line):
 
 
 def plan_slots():
-    """Yields the slots of a plan, which are alike, up to the line of its cost. What is due is told by the kind of fault."""
+    """Yields the slots of a plan, which are alike, up to the line of its cost. What is expected follows from the kind of fault."""
     while not (yield "", ("", plan_line)).startswith(b";"):
         pass
 
 
 def first_fault(slots, text):
-    """Follows some bytes through the slots. Returns the first fault: its line, its kind, where that stands, what is due there, what is
-    told of its words, and what was found; None where there is no fault."""
+    """Follows some bytes through the slots. Returns the first fault: its line, its kind, where that stands, what is expected there, what is
+    said of its words, and what was found; None where there is no fault."""
     here, at, line = next(slots), 0, 1
     while here:
-        place, (due, judge) = here
+        place, (expected, judge) = here
         end = text.find(b"\n", at)
         if end < 0:
-            return line, "end", place, due, [], text[at:]
+            return line, "end", place, expected, [], text[at:]
         held = text[at:end].removesuffix(b"\r")
         wrong = judge(held)
         if wrong:
             kind, words = wrong
-            return line, kind, place, due, words, held
+            return line, kind, place, expected, words, held
         at, line = end + 1, line + 1
         try:
             here = slots.send(held)
@@ -242,7 +242,7 @@ def first_fault(slots, text):
 
 
 def shown(text):
-    """Returns a text as it is shown: its first bytes, and ` ..` behind them if there are more, or a space at its end as `\\x20`."""
+    """Returns a text as it is shown: its first bytes, and ` ..` after them if there are more, or a space at its end as `\\x20`."""
     first = "".join(chr(byte) if 32 <= byte <= 126 and byte != 92 else f"\\x{byte:02x}" for byte in text[:SHOWN])
     return f"{first} .." if text[SHOWN:] else re.sub(" $", r"\\x20", first)
 
@@ -259,29 +259,29 @@ def refusal(what, text):
     fault = first_fault(task_slots() if what == "task" else plan_slots(), text)
     if fault is None:
         return None
-    line, kind, place, due, words, found = fault
-    expected = [f"at {place}", f"expected {due}", *words] if what == "task" else [f"expected {PLAN_DUES[kind]}"]
-    return [f"{what} refused: line {line}: {kind}", *(f"  {it}" for it in (*expected, found_line(kind, found)))]
+    line, kind, place, expected, words, found = fault
+    shown = [f"at {place}", f"expected {expected}", *words] if what == "task" else [f"expected {PLAN_EXPECTED[kind]}"]
+    return [f"{what} refused: line {line}: {kind}", *(f"  {it}" for it in (*shown, found_line(kind, found)))]
 
 
-def behind_file(said, text):
-    """Returns the lines behind this line about a file: none, unless it says that the file isn't well formed."""
+def after_file(said, text):
+    """Returns the lines after this line about a file: none, unless it says that the file isn't well formed."""
     refused = re.fullmatch(r"(task|plan) refused: line [0-9]+: [a-z]+", said)
     if not refused:
         return []
-    first, *behind = refusal(refused[1], as_bytes(text))
+    first, *after = refusal(refused[1], as_bytes(text))
     assert first == said, (first, said)
-    return behind
+    return after
 
 
-def told_call(call, given, answer):
-    """Returns the answer of a call of calls.json: where it is given a plan and a task, and asked for reasons, with those behind the
+def answer_of_call(call, given, answer):
+    """Returns the answer of a call of calls.json: where it is given a plan and a task, and the reasons are requested, with those after the
     refusal of a file."""
     if not call.endswith("plan-why"):
         return answer
     lines = as_bytes(answer).decode("latin-1").split("\n")
     _, plan, task = as_bytes(given).split(b"|", 2)
-    return "\n".join(it for line in lines for it in (line, *behind_file(line, task if line.startswith("task ") else plan)))
+    return "\n".join(it for line in lines for it in (line, *after_file(line, task if line.startswith("task ") else plan)))
 
 
 # ---- files that are damaged
@@ -292,21 +292,21 @@ ODD = bytes([0, 31, 32, 91, 92, 93, 126, 127, 128, 255])
 ANYWHERE = [b"", b"x", b"\t", ODD, b"\\", b"..", *(b"x" * size for size in (63, 64, 65)), b" ", b"x" * 63 + b" ", b"x" * 63 + b" x", b"\xff" * 64, ODD * 7, b"x" * 64 + b"\n"]
 # what may not stand in the place of a name either
 NAMELESS = [b"a\rb", b"\r\r", b"\rx", *(b"x" * size + b"\ry" for size in (61, 62, 63, 64)), b"\r" * 65 + b"x"]
-# what stands behind the end of a file
+# what comes after the end of a file
 MORE = [b"\n", b"\r", b"\r\n", b" ", b"x", b"0\n", b"xyz"]
 SPELLINGS = [b"-1", b"-0", b"-2", b"00", b"01", b"+1", b"1 ", b" 1", b"1 1", b"1.", b"2147483647", b"2147483648", b"9" * 20, b"9" * 99]
 
 
-def near_word(due):
+def near_word(expected):
     """Returns texts that are nearly this word."""
-    word = due.encode()
+    word = expected.encode()
     near = [word[:-1], word[1:], word + b" ", b" " + word, word + b"s", word.upper(), word + b"\r\r"]
     return [*near, b"begin_goal", b"end_rule", b"0", b"-1"]
 
 
-def near_number(due):
+def near_number(expected):
     """Returns texts that are nearly such a number."""
-    least, most = map(int, re.findall(r"-?[0-9]+", due))
+    least, most = map(int, re.findall(r"-?[0-9]+", expected))
     return [*SPELLINGS, b"%d" % (least - 1), b"%d" % (most + 1), b"%d" % most, b"%d " % least, b"0%d" % most]
 
 
@@ -317,40 +317,40 @@ def changes(variables, size):
     return [*(b"%d %d %d" % it for it in (*wrong, *misspelled)), b"0 -1", b"0 -1 0 0", b"0  -1 0", b"0 -1 0 "]
 
 
-def near_numbers(due, variables, size):
+def near_numbers(expected, variables, size):
     """Returns texts that are nearly a fact, a head or an effect."""
     wrong = ((0, 0), (variables, 0), (0, size), (variables, size), (MOST, MOST), (0, MOST + 1), (-1, 0), (0, -1))
     facts = [b"%d %d" % fact for fact in wrong]
-    if due == FACT:
+    if expected == FACT:
         return [*facts, b"0", b"0 0 0", b"0  0", b" 0 0", b"0 0 ", b"00 0", b"0,0"]
     heads = changes(variables, size)
-    if due == HEAD:
+    if expected == HEAD:
         return heads
     one = [b"%s %s" % (count, head) for head in heads for count in (b"0", b"1 0 0")]
     two = [b"2 0 0 %s 0 -1 0" % fact for fact in facts] + [b"1 %s 0 %d %d" % (fact, size, size) for fact in facts]
     return [*one, *two, b"1 0 -1 0", b"0 0 0 0 -1 0", b"2147483647 0 -1 0", b"2147483648 0 -1 0", b"-1 0 -1 0", b"1  0 -1 0"]
 
 
-def near(due, variables, size):
-    """Returns texts for the place of a line where this is due, most of which may not stand there."""
-    if due == "a name":
+def near(expected, variables, size):
+    """Returns texts for the place of a line where this is expected, most of which may not stand there."""
+    if expected == "a name":
         return [b"", *NAMELESS]
-    if due in (FACT, HEAD, EFFECT):
-        return dict.fromkeys([*ANYWHERE, *near_numbers(due, variables, size)])
-    return dict.fromkeys([*ANYWHERE, *NAMELESS, *(near_number(due) if due.startswith("number") else near_word(due))])
+    if expected in (FACT, HEAD, EFFECT):
+        return dict.fromkeys([*ANYWHERE, *near_numbers(expected, variables, size)])
+    return dict.fromkeys([*ANYWHERE, *NAMELESS, *(near_number(expected) if expected.startswith("number") else near_word(expected))])
 
 
 def slots_of(text):
-    """Returns what is due on each line of a task."""
-    slots, dues = task_slots(), []
+    """Returns what is expected on each line of a task."""
+    slots, all_expected = task_slots(), []
     here = next(slots)
     for line in text.splitlines():
-        dues.append(here[1][0])
+        all_expected.append(here[1][0])
         try:
             here = slots.send(line)
         except StopIteration:
             pass
-    return dues
+    return all_expected
 
 
 def with_text(lines, place, text, end):
@@ -363,16 +363,16 @@ def damaged_lines():
     for file in LINES_OF:
         lines = bytes_of_file(file).splitlines()
         variables, size = int(lines[6]), int(lines[10])
-        for place, due in enumerate(slots_of(b"\n".join(lines) + b"\n")):
-            for number, text in enumerate(near(due, variables, size)):
+        for place, expected in enumerate(slots_of(b"\n".join(lines) + b"\n")):
+            for number, text in enumerate(near(expected, variables, size)):
                 end = (b"\n", b"\n", b"\r\n")[(place + number) % 3]
                 yield f"{file}, line {place + 1}: {text!r}", with_text(lines, place, text, end)
 
 
 def damaged_ends(held):
-    """Yields a file that goes on behind its end, or that ends early: in each of its bytes, or behind a line with these bytes."""
+    """Yields a file that goes on after its end, or that ends early: in each of its bytes, or after a line with these bytes."""
     for more in (*MORE, *(bytes([byte]) for byte in ODD)):
-        yield f"and {more!r} behind", held + more
+        yield f"and {more!r} after", held + more
     for length in range(len(held)):
         yield f"{length} bytes", held[:length]
     fronts = [place + 1 for place, byte in enumerate(held) if byte == 10][:-1]
@@ -442,7 +442,7 @@ def damaged_tasks():
         yield f"spoiled task {number}, {file}", spoiled(chance, bytes_of_file(file))
 
 
-def asked(name, words, lines, **inputs):
+def case_of(name, words, lines, **inputs):
     """Returns the case of a request about a file that is refused, with `--why`."""
     output = "".join(f"{line}\n" for line in lines)
     return {"name": f"{name}, {' '.join(words)} --why", "words": [*words, "--why"], "output": output, "status": 1, **inputs}
@@ -450,17 +450,17 @@ def asked(name, words, lines, **inputs):
 
 def refusal_cases():
     """Yields files that are damaged, with `--why`: by each request in turn. They could show a fault that isn't the first one, a wrong
-    place, and what is due on another line."""
+    place, and what is expected on another line."""
     for number, (about, text) in enumerate(damaged_tasks()):
         lines = refusal("task", text)
         if lines:
             request = ("check", "print", "show", "mutex", "plan")[number % 5]
             words = [request, "-", "p.txt"] if request == "plan" else [request, "-"]
             files = {"files": {"p.txt": "x"}} if request == "plan" else {}
-            yield asked(about, words, lines, input=text, **files)
+            yield case_of(about, words, lines, input=text, **files)
     for number, (about, text) in enumerate(damaged_plans()):
         lines = refusal("plan", text)
         if lines:
             words = (["steps", "-"], ["plan", "t.sas", "-"])[number % 2]
             files = {"files": {"t.sas": {"file": "cases/tasks/minimal.sas"}}} if number % 2 else {}
-            yield asked(f"plan, {about}", words, lines, input=text, **files)
+            yield case_of(f"plan, {about}", words, lines, input=text, **files)

@@ -14,7 +14,7 @@ line; that is tried with `print`, and with `check` where the file is small.
 
 lines.json: lines of these files, and texts in their place. Rows are [LINE, TEXT, ANSWER]; or each of `texts` stands in
 each of `lines` with the same answer. It is `kept`, where the file is printed as changed; a word, where `print`, `show` and
-`check` refuse it on that line; or the line with the word, as `line 15: keyword`. Behind `kept` may stand the fault of the
+`check` refuse it on that line; or the line with the word, as `line 15: keyword`. After `kept` may stand the fault of the
 layers for which `check` and `mutex` refuse the task, which is layered where none stands there. `memory` is as below.
 
 plans.json: plan files. Each is given to `steps` twice, as a file and as standard input, and nothing may come on
@@ -43,7 +43,7 @@ too; those that families.py makes at random, and its larger ones, as standard in
 
 program.json: words and devices, by these names.
 
-    words        the words behind the program's name, each character a byte; FOLDER in one represents an empty folder
+    words        the words after the program's name, each character a byte; FOLDER in one represents an empty folder
     files        files by their names, each character a byte: the program runs in a folder that has these alone
     pipes        named pipes beside the files, by their names. They are written one after another, each once: the program has to open
                  them in this order, and none a second time
@@ -57,7 +57,7 @@ program.json: words and devices, by these names.
     open         how many files it may have open at a time, with its streams; left out: as many as the system lets it
     closed       which of "input", "output" and "error" aren't open when the program starts; left out: none
     output_to    where standard output goes: "full device", "closed pipe"; left out: to be compared with `output`
-    told         pairs [TEXT, TIMES] that come before `output`, and aren't held in memory as a whole; left out: nothing
+    front        pairs [TEXT, TIMES] that come before `output`, and aren't held in memory as a whole; left out: nothing
     output       standard output, exactly
     status       the exit status
     error        standard error, exactly; null: some text about the words, no line of the program's own; left out: nothing
@@ -227,7 +227,7 @@ def held_by(case):
 
 
 def with_why(case):
-    """Returns a case with `--why`: no other answer is due, but for the reasons why a file is refused, a task isn't layered, or its
+    """Returns a case with `--why`: no other answer is expected, but for the reasons why a file is refused, a task isn't layered, or its
     groups aren't exclusive. It could show one."""
     request, *words = case["words"]
     output = with_all_reasons(case["output"], held_by(case))
@@ -301,7 +301,7 @@ def unlike(stream, parts):
         for _ in range(times):
             held = stream.read(len(piece))
             if held != piece:
-                return b"behind %d bytes: %s" % (read, held[:200])
+                return b"after %d bytes: %s" % (read, held[:200])
             read += len(piece)
     return stream.read()
 
@@ -333,8 +333,8 @@ def answer_of(program, case, folder, place):
             given = b""
         if "streamed" in case:
             stream(process, case["streamed"])
-        if "told" in case:
-            written, said = compared(process, case["told"])
+        if "front" in case:
+            written, said = compared(process, case["front"])
         else:
             written, said = process.communicate(given, SECONDS)
         if "file" in case:
@@ -414,8 +414,8 @@ def main():
     with tempfile.TemporaryDirectory() as plans, tempfile.TemporaryDirectory() as folder:
         files = [*whole_cases(), *line_cases(), *plan_cases(plans), *group_cases()]
         plans = [*verdict_cases(), *why_cases(), *trace_cases(), *plans_cases()]
-        told = [*reason_cases(), *layer_cases(), *refusal_cases()]
-        made = [*cut_cases(), *plans, *family_cases(), *told, *table("program.json")]
+        reasons = [*reason_cases(), *layer_cases(), *refusal_cases()]
+        made = [*cut_cases(), *plans, *family_cases(), *reasons, *table("program.json")]
         # those that take longest first
         large = [*nets_cases(), *idle_cases(), *lengthy_cases(), *plenty_cases(), *crowded_cases(), *large_cases()]
         cases = [*large, *files, *map(with_why, files), *made]

@@ -3,7 +3,7 @@
 
     python3 cases/shown.py SAS
 
-A command of a document is a line that is set off by four spaces and begins with `$ `; the lines behind it that are set off, too, up to
+A command of a document is a line that is set off by four spaces and begins with `$ `; the lines after it that are set off, too, up to
 the next command, are what it prints on standard output. In the manual page they stand in literal displays. It is run by a shell in a
 folder that has the documents' examples, what the commands of the same document have made, and SAS, as `./sas`; the page calls it `sas`.
 Each that prints something else has a line, and the last line is 'N passed, M failed'. The exit status is 0 where none failed.

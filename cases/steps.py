@@ -1,11 +1,11 @@
 """What operators do and plans are worth, computed from the meaning of a task: a task here is as in walks.py.
 
 The initial state is that of the state section, settled. An operator is applicable where its prevail conditions hold, and
-each of its effects that asks for an old value finds it, whether it fires or not. A step means the first operator of its
+each of its effects that requires an old value finds it, whether it fires or not. A step means the first operator of its
 name that is applicable. Each effect fires whose conditions hold before the step. Where two that fire set one variable to
 different values there is no step; else all take place at once, and the rules settle the state.
 
-The goal has to hold behind the last step of a plan, and its cost has to be the sum of its operators' costs: of their cost
+The goal has to hold after the last step of a plan, and its cost has to be the sum of its operators' costs: of their cost
 lines under metric 1, of 1 for each under metric 0.
 """
 from axioms import settled
@@ -41,7 +41,7 @@ def conflict(state, operator):
 
 
 def changed(state, operator):
-    """Returns the state behind a step of an applicable operator without a conflict, before it is settled."""
+    """Returns the state after a step of an applicable operator without a conflict, before it is settled."""
     values = list(state)
     for facts, var, _, new in operator[2]:
         if holds(state, facts):
@@ -50,7 +50,7 @@ def changed(state, operator):
 
 
 def next_state(task, state, operator):
-    """Returns the state behind a step of an applicable operator without a conflict."""
+    """Returns the state after a step of an applicable operator without a conflict."""
     return settled(task, changed(state, operator))
 
 
@@ -89,7 +89,7 @@ def verdict(task, names, cost):
 
 
 def step_answer(task, state, operator):
-    """Returns what comes of the step of an operator in a state, and the state behind it."""
+    """Returns what comes of the step of an operator in a state, and the state after it."""
     for var, value in preconditions(operator):
         if state[var] != value:
             return f"Err(NotApplicable {{ fact: Fact {{ var: {var}, value: {value} }} }})", state
@@ -100,7 +100,7 @@ def step_answer(task, state, operator):
 
 
 def call_answer(task, state, call, word):
-    """Returns what a call of a runner answers in a state, and the state behind it."""
+    """Returns what a call of a runner answers in a state, and the state after it."""
     if call == "applicable":
         return str(holds(state, preconditions(task["operators"][word]))).lower(), state
     if call == "choose":

@@ -62,7 +62,7 @@ def stream_cases():
         yield {"name": name, "request": request, "closed": closed, "unreadable": unreadable}
 
 
-def due(request, closed, unreadable):
+def ends_of(request, closed, unreadable):
     """Returns the files that a request opens, and how it ends, as if its end were seen on closed streams, too."""
     if request.end.status == 2:
         return [], request.end
@@ -102,7 +102,7 @@ def ended(program, library, case):
 
 def faults(program, library, case):
     """Returns what is wrong with the program's answer to a case."""
-    files, end = due(case["request"], case["closed"], case["unreadable"])
+    files, end = ends_of(case["request"], case["closed"], case["unreadable"])
     expected, found = (files, seen(end, case["closed"])), ended(program, library, case)
     return [] if found == expected else [f"{found}, not {expected}"]
 

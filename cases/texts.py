@@ -9,7 +9,7 @@ A text of a case is one of
         "line 7": TEXT   in place of that line, its end apart; null: the line is left out
         "ends": TEXT     in place of LF at each line's end
         "from": 20       without so many bytes at the front
-        "first": 20      without what stands behind so many bytes
+        "first": 20      without what comes after so many bytes
         "then": TEXT     what follows
 
     {"parts": NAME, ..}   the words of the parts of that name of parts.json, with other fields: a list is its length and its items,

@@ -6,7 +6,7 @@ Of a layered task and a plan file that is well formed these lines stand in front
     initial VARIABLE VALUE NAME     each variable, in order, with its value in the initial state, which is settled
     step I OPERATOR COST NAME       each step that goes through, counted from 1: which operator it means, what that costs, and the
                                     operator's name
-    change VARIABLE OLD NEW NAME    behind it each variable, in order, that has another value than before, derived ones too
+    change VARIABLE OLD NEW NAME    after it each variable, in order, that has another value than before, derived ones too
 
 VALUE, OLD and NEW are numbers, and NAME is the name of the value VALUE or NEW. Of other files that last line is all. The exit
 status is that of `plan`.
@@ -53,13 +53,13 @@ def step_lines(run, step):
 
 
 def lines_of(run):
-    """Returns the lines that tell a run."""
+    """Returns the lines of a run."""
     steps = range(1, len(run.states))
     return initial_lines(run) + [line for step in steps for line in step_lines(run, step)]
 
 
 def folded(lines):
-    """Returns the states that such lines tell, where each change is made to the values that there are, and of each step its
+    """Returns the states that such lines describe, where each change is made to the values that there are, and of each step its
     operator, its cost and its name."""
     states, steps = [[]], []
     for line in lines:
@@ -83,10 +83,10 @@ def folded(lines):
 def assert_tells(run, cost, lines):
     """Compares a trace with what it is for: its changes lead through the states of the run; its operators are those of the
     run, by the names of the plan's steps; in the last state the goal holds exactly if that is what the verdict says; and what
-    it says of the cost is the sum of those that are told. So a trace is right here only if it agrees with states that
+    it says of the cost is the sum of those that are printed. So a trace is right here only if it agrees with states that
     steps.py computed, and the program's is the same to the byte."""
-    *told, last = lines
-    states, steps = folded(told)
+    *front, last = lines
+    states, steps = folded(front)
     assert states == run.states and [operator for operator, _, _ in steps] == run.operators
     assert [name for _, _, name in steps] == run.names[: len(steps)]
     goal_holds = len(steps) == len(run.names) and holds(states[-1], run.task["goal"])
@@ -105,7 +105,7 @@ def traced(task, names, cost):
     return lines
 
 
-def asked(name, task, plan, lines, request="trace", words=FILES, **inputs):
+def case_of(name, task, plan, lines, request="trace", words=FILES, **inputs):
     """Returns the case of a request over a task and a plan, of which these lines are printed."""
     files = {word: text for word, text in zip(FILES, (task, plan)) if word in words}
     return {
@@ -120,8 +120,8 @@ def asked(name, task, plan, lines, request="trace", words=FILES, **inputs):
 
 def twice(name, task, plan, lines):
     """Yields the case of a trace, and the case of `plan` over the same files, which prints its last line."""
-    yield asked(name, task, plan, lines[-1:], "plan")
-    yield asked(name, task, plan, lines)
+    yield case_of(name, task, plan, lines[-1:], "plan")
+    yield case_of(name, task, plan, lines)
 
 
 def written_traces():
@@ -140,14 +140,14 @@ def written_cases():
     could show a wrong definition of traces, and two inputs that are exchanged."""
     for name, task, plan, lines in written_traces():
         yield from twice(name, task, plan, lines)
-        yield asked(name, task, plan, lines, words=("-", "p.txt"), input=task)
-        yield asked(name, task, plan, lines, words=("t.sas", "-"), input=plan)
+        yield case_of(name, task, plan, lines, words=("-", "p.txt"), input=task)
+        yield case_of(name, task, plan, lines, words=("t.sas", "-"), input=plan)
         ends = (text.replace(b"\n", b"\r\n") for text in (task, plan))
-        yield asked(f"{name}, with CR LF", *ends, lines)
+        yield case_of(f"{name}, with CR LF", *ends, lines)
 
 
 def verdict_cases():
-    """Yields the plans of verdicts.json, but for those that are too long. They could show a verdict behind a trace that isn't
+    """Yields the plans of verdicts.json, but for those that are too long. They could show a verdict after a trace that isn't
     the one of `plan`, and lines in front of the refusal of a file."""
     for made in table("verdicts.json"):
         task, plan = (as_bytes(made[it]).decode("latin-1") for it in ("task", "plan"))
@@ -155,9 +155,9 @@ def verdict_cases():
         if "call" in made:
             lines = traced(task_of(task), *plan_of(plan))
             assert lines[-1] == last
-            yield asked(made["name"], task, plan, lines)
+            yield case_of(made["name"], task, plan, lines)
         elif " refused: " in last:
-            yield asked(made["name"], task, plan, [last])
+            yield case_of(made["name"], task, plan, [last])
 
 
 def refused_cases():
@@ -166,11 +166,11 @@ def refused_cases():
     for made in table("plans.json"):
         if made["status"]:
             plan = as_bytes(made["plan"])
-            yield asked(f"{made['name']}, of a task", as_bytes(MINIMAL), plan, [made["output"].removesuffix("\n")])
+            yield case_of(f"{made['name']}, of a task", as_bytes(MINIMAL), plan, [made["output"].removesuffix("\n")])
     for changed in changed_lines():
         if changed["fault"] or changed["layers"]:
             said = f"task refused: {changed['fault'] or changed['layers']}"
-            yield asked(changed["name"], as_bytes(changed["task"]), "", [said])
+            yield case_of(changed["name"], as_bytes(changed["task"]), "", [said])
 
 
 def walked_cases():
@@ -178,16 +178,16 @@ def walked_cases():
     for made in walked_plans():
         lines = traced(task_of(made["task"]), *plan_of(made["plan"]))
         assert f"{lines[-1]}\n" == made["output"]
-        yield asked(made["name"], made["task"], made["plan"], lines)
+        yield case_of(made["name"], made["task"], made["plan"], lines)
 
 
 def long_cases():
     """Yields the long plans of following.py, but for those that end as a valid one does and miss the goal. They could show a
-    definition by which a variable need not be told that rises or falls where the program goes on from the state before."""
+    definition by which a variable need not be printed that rises or falls where the program goes on from the state before."""
     for made in long_runs():
         last = made["output"].removesuffix("\n")
         if "goal fact" not in last:
-            yield asked(made["name"], made["task"], made["plan"], [*lines_of(made["run"]), last])
+            yield case_of(made["name"], made["task"], made["plan"], [*lines_of(made["run"]), last])
 
 
 def named(chance, task):

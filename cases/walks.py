@@ -100,7 +100,7 @@ def operated_task(chance):
 
 
 def walked_task(chance):
-    """Returns a task and plans of it with their costs. Its goal holds behind the first of them, most often, and that has a
+    """Returns a task and plans of it with their costs. Its goal holds after the first of them, most often, and that has a
     step, most often."""
     while True:
         task = operated_task(chance)
@@ -158,7 +158,7 @@ def random_calls(chance, task):
 
 
 def walked_calls():
-    """Yields tasks, as texts, each with calls of a runner, and what comes of them: the initial state, and behind each call
+    """Yields tasks, as texts, each with calls of a runner, and what comes of them: the initial state, and after each call
     its answer and the state. They could show a wrong definition of steps, in a case that no one thought of."""
     chance = random.Random(SEED)
     for number in range(TASKS):

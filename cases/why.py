@@ -11,13 +11,13 @@ why.json: small tasks, and plans of each.
         lines    what is printed of it with `--why`
 
 Each of these is given to `plan` without `--why` too, and so are those that are made here at random. With it the first line is the
-same, and so is the status; the lines behind it begin with two spaces.
+same, and so is the status; the lines after it begin with two spaces.
 """
 import random
 
 from axioms import task_of, text_of
 from following import long_runs, run_over, turning_names, turning_task
-from layers import REFUSED, behind_refusal
+from layers import REFUSED, after_refusal
 from reasons import reasons, reasons_of
 from steps import cost_of, holds
 from texts import as_bytes, changed_lines, table
@@ -33,7 +33,7 @@ TURNS = 12
 PLACES = (["--why", "t.sas", "p.txt"], ["t.sas", "--why", "p.txt"], ["t.sas", "p.txt", "--why"])
 
 
-def asked(name, task, plan, lines, words=PLACES[0]):
+def case_of(name, task, plan, lines, words=PLACES[0]):
     """Returns the case of a plan with `--why`, of which these lines are printed."""
     return {
         "name": f"{name}, plan {' '.join(words)}",
@@ -47,8 +47,8 @@ def asked(name, task, plan, lines, words=PLACES[0]):
 def twice(name, task, plan, lines, words=PLACES[0]):
     """Yields the same, and the case without `--why`."""
     assert all(line.startswith("  ") for line in lines[1:]) and not lines[0].startswith(" ")
-    yield asked(name, task, plan, lines[:1], PLACES[0][1:])
-    yield asked(name, task, plan, lines, words)
+    yield case_of(name, task, plan, lines[:1], PLACES[0][1:])
+    yield case_of(name, task, plan, lines, words)
 
 
 def written_task(task):
@@ -64,8 +64,8 @@ def written_plans():
         task = written_task(group["task"])
         for plan in group["plans"]:
             name, lines = f"{group['task']['about']}: {plan['shows']}", plan["lines"]
-            fault, behind = reasons(task, plan["steps"], plan["cost"])
-            assert [fault, *behind] == lines, name
+            fault, after = reasons(task, plan["steps"], plan["cost"])
+            assert [fault, *after] == lines, name
             yield name, text_of(task), plan_text(plan["steps"], plan["cost"]), lines
 
 
@@ -74,20 +74,20 @@ def written_cases():
     for name, task, plan, lines in written_plans():
         for words in PLACES:
             yield from twice(name, task, plan, lines, words)
-        yield asked(f"{name}, with CR LF", *(text.replace("\n", "\r\n") for text in (task, plan)), lines)
+        yield case_of(f"{name}, with CR LF", *(text.replace("\n", "\r\n") for text in (task, plan)), lines)
 
 
 def verdict_cases():
     """Yields the plans of verdicts.json with `--why`, but for those that are too long, and the refusals of files."""
     for made in table("verdicts.json"):
         task, plan = (as_bytes(made[it]).decode("latin-1") for it in ("task", "plan"))
-        fault, behind = made["output"].removesuffix("\n"), []
+        fault, after = made["output"].removesuffix("\n"), []
         if "call" in made:
-            fault, behind = reasons(task_of(task), *plan_of(plan))
+            fault, after = reasons(task_of(task), *plan_of(plan))
             assert f"{fault}\n" == made["output"]
         if "call" in made or " refused: " in fault:
             of = task if fault.startswith(REFUSED) else plan
-            yield asked(made["name"], task, plan, [fault, *behind, *behind_refusal(fault, of)])
+            yield case_of(made["name"], task, plan, [fault, *after, *after_refusal(fault, of)])
 
 
 def refused_cases():
@@ -95,20 +95,20 @@ def refused_cases():
     for made in table("plans.json"):
         if made["status"]:
             plan, said = as_bytes(made["plan"]), made["output"].removesuffix("\n")
-            yield asked(f"{made['name']}, of a task", as_bytes(MINIMAL), plan, [said, *behind_refusal(said, plan)])
+            yield case_of(f"{made['name']}, of a task", as_bytes(MINIMAL), plan, [said, *after_refusal(said, plan)])
     for changed in changed_lines():
         if changed["fault"] or changed["layers"]:
             said = f"task refused: {changed['fault'] or changed['layers']}"
             task = as_bytes(changed["task"])
-            yield asked(changed["name"], task, "", [said, *behind_refusal(said, task)])
+            yield case_of(changed["name"], task, "", [said, *after_refusal(said, task)])
 
 
 def walked_cases():
     """Yields the plans of walks.py with `--why`."""
     for made in walked_plans():
-        fault, behind = reasons(task_of(made["task"]), *plan_of(made["plan"]))
+        fault, after = reasons(task_of(made["task"]), *plan_of(made["plan"]))
         assert f"{fault}\n" == made["output"]
-        yield asked(made["name"], made["task"], made["plan"], [fault, *behind])
+        yield case_of(made["name"], made["task"], made["plan"], [fault, *after])
 
 
 def long_cases():
@@ -116,8 +116,8 @@ def long_cases():
     than the first."""
     for made in long_runs():
         fault = made["output"].removesuffix("\n")
-        behind = [] if fault.startswith("plan valid") else reasons_of(made["run"])
-        yield asked(made["name"], made["task"], made["plan"], [fault, *behind])
+        after = [] if fault.startswith("plan valid") else reasons_of(made["run"])
+        yield case_of(made["name"], made["task"], made["plan"], [fault, *after])
 
 
 def alike(chance, name):
@@ -188,9 +188,9 @@ def random_cases():
     for number in range(WALKED + TURNED):
         made = walked_again(chance) if number < WALKED else turned(chance)
         for place, (task, names, cost) in enumerate(made):
-            fault, behind = reasons(task, names, cost)
+            fault, after = reasons(task, names, cost)
             name, words = f"plan {place} of task {number}", PLACES[(number + place) % len(PLACES)]
-            yield from twice(name, text_of(task), plan_text(names, cost), [fault, *behind], words)
+            yield from twice(name, text_of(task), plan_text(names, cost), [fault, *after], words)
 
 
 def why_cases():

@@ -45,7 +45,7 @@ fn say_lines(rt: &HostRuntime, pieces: &[u8]) {
     let mut lines = Lines::new(rt.alloc());
     for piece in pieces.split(|&byte| byte == b'|') {
         let Ok(fed) = lines.feed(piece) else {
-            return say(rt, "wanting");
+            return say(rt, "out of memory");
         };
         say_debug(rt, &fed);
         say_bytes(rt, lines.line());

@@ -17,7 +17,7 @@ use test_words::{ReportedReader, number_in, say, say_text};
 fn say_fault(rt: &HostRuntime, fault: Fault) {
     let Fault { line, kind } = fault;
     if kind == Kind::Memory {
-        return say(rt, "wanting");
+        return say(rt, "out of memory");
     }
     let _ = println!(rt; "line {line}: {kind:?}");
 }

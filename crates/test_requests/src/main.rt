@@ -27,10 +27,10 @@ fn call(rt: &HostRuntime, asked: Asked<'_>) -> Option<()> {
     Some(())
 }
 
-/// Prints an answer and what was written, or `wanting` if there was no memory for an answer and nothing was written.
-fn say_answer<A: Debug + PartialEq>(rt: &HostRuntime, answer: &A, wanting: &A, written: &[u8]) {
-    if answer == wanting && written.is_empty() {
-        return say(rt, "wanting");
+/// Prints an answer and what was written, or `out of memory` if there was no memory for an answer and nothing was written.
+fn say_answer<A: Debug + PartialEq>(rt: &HostRuntime, answer: &A, no_memory: &A, written: &[u8]) {
+    if answer == no_memory && written.is_empty() {
+        return say(rt, "out of memory");
     }
     say_debug(rt, answer);
     say_line(rt, written);

@@ -44,7 +44,7 @@ pub fn call_by_kind(rt: &HostRuntime, asked: Asked<'_>, pieces: &[&[u8]], layere
         "rounds" => call_with(rt, asked.call, pieces, layered, Rounds),
         _ => match Worklist::new(rt.alloc(), layered) {
             Ok(worklist) => call_with_worklist(rt, asked, pieces, layered, worklist),
-            Err(_) => say(rt, "wanting"),
+            Err(_) => say(rt, "out of memory"),
         },
     }
 }

@@ -13,7 +13,7 @@ pub fn check_all(rt: &HostRuntime, layered: &Layered<Task>) {
             say_verdicts(rt, verdicts.as_slice());
             say_alone(rt, layered);
         }
-        Err(_) => say(rt, "wanting"),
+        Err(_) => say(rt, "out of memory"),
     }
 }
 

@@ -20,7 +20,7 @@ pub fn call_with_runner<E: Settle<Task> + Drop>(
 {
     match Runner::new(rt.alloc(), layered, evaluator) {
         Ok(mut runner) => start(rt, call, pieces, &mut runner),
-        Err(_) => say(rt, "wanting"),
+        Err(_) => say(rt, "out of memory"),
     }
 }
 
@@ -32,7 +32,7 @@ fn start<E: Settle<Task> + Drop>(
     runner: &mut Runner<'_, E>,
 ) {
     let Ok(mut state) = runner.initial(rt.alloc()) else {
-        return say(rt, "wanting");
+        return say(rt, "out of memory");
     };
     say_state(rt, &state);
     match call {
@@ -100,7 +100,7 @@ fn check_plan<E: Settle<Task> + Drop>(
             say_numbers(rt, "operators", valid.operators.as_slice());
             say_number(rt, "cost", valid.cost);
         }
-        Err(PlanFault::Memory) => say(rt, "wanting"),
+        Err(PlanFault::Memory) => say(rt, "out of memory"),
         Err(fault) => say_debug(rt, &fault),
     }
 }

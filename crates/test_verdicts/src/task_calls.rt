@@ -25,7 +25,7 @@ pub fn new_layered(rt: &HostRuntime, task: Task) {
 /// Prints why a task isn't layered.
 fn say_layer_fault(rt: &HostRuntime, fault: LayerFault) {
     match fault {
-        LayerFault::Memory => say(rt, "wanting"),
+        LayerFault::Memory => say(rt, "out of memory"),
         _ => say_debug(rt, &fault),
     }
 }
@@ -59,7 +59,7 @@ pub fn say_state(rt: &HostRuntime, state: &State) {
 pub fn say_state_fault(rt: &HostRuntime, fault: StateFault) {
     match fault {
         StateFault::BadState => say(rt, "bad state"),
-        StateFault::Memory => say(rt, "wanting"),
+        StateFault::Memory => say(rt, "out of memory"),
     }
 }
 

@@ -3,8 +3,8 @@
 //!
 //! The first line of a call is its name and, for some calls, a word for its kind. The bytes of the call follow. The program prints `not
 //! made` if it doesn't make a call: it is unknown, its bytes have another form, or there is no memory for what it is given. It prints
-//! `wanting` if the call is out of memory. A line that begins with `WRONG` reports a mistake. The comment at each call names the mistakes
-//! that it can detect and a proof can't.
+//! `out of memory` if there was no memory for the call. A line that begins with `WRONG` reports a mistake. The comment at each call names
+//! the mistakes that it can detect and a proof can't.
 #![tactic(auto)]
 
 mod asked;

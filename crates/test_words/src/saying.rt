@@ -34,13 +34,13 @@ pub fn say_line<P: Print>(out: &P, bytes: &[u8]) {
     say(out, "");
 }
 
-/// Prints `whole`, and the text with a line end. Prints `wanting` if there was no memory for the text.
+/// Prints `whole`, and the text with a line end. Prints `out of memory` if there was no memory for the text.
 pub fn say_text<P: Print, E>(out: &P, text: &Result<Vec<u8>, E>) {
     match text {
         Ok(text) => {
             say(out, "whole");
             say_line(out, text.as_slice());
         }
-        Err(_) => say(out, "wanting"),
+        Err(_) => say(out, "out of memory"),
     }
 }
