@@ -1,14 +1,14 @@
 // Parses the first line of some bytes directly, if it ends with LF and has the expected content. Otherwise these functions return `None`.
 // Then the line is cut out and parsed by the functions of `task_line.rt`, which report its fault.
-ghost use Rattle.std.specs.Prelude.{◌+◌, ◌≤◌, ◌++◌, length, IfSome};
+ghost use Rattle.std.specs.Prelude.{ℕ, ◌+◌, ◌<◌, ◌≤◌, ◌++◌, length, slice_index, IfSome};
 ghost use Rattle.std.specs.Fmt.{decimal};
 ghost use Rattle.sas_core.specs.Names.{IsName};
 ghost use Rattle.sas_task_format.specs.TaskFormat as format;
 ghost use Rattle.sas_task_line.specs.Ahead.{SpellsAhead, LineAhead, NumberAhead, SignedAhead, ChangeAhead};
 ghost use Rattle.sas_core.specs.Changes.{plain_effect};
 
-use memchr::memchr2;
 use sas_core::{Change, Fact};
+use std::simd::prelude::*;
 
 /// The content of the first line of some bytes, and the number of bytes of the line with its LF.
 #[derive(Clone, Copy, Debug, PartialEq, Eq)]
@@ -20,6 +20,9 @@ pub struct Ahead<A> {
 /// The most bytes of a number that is parsed here, which has at most nine digits, with the byte after it. Where so many bytes are left for
 /// each number of a line, no byte has to be compared with the end of the bytes.
 const NUMBER: usize = 10;
+
+/// How many bytes of a name are compared at once.
+const LANES: usize = 32;
 
 /// Returns the number of at most nine digits before the byte `end`, and the bytes after it.
 #[inline(always)]
@@ -41,11 +44,12 @@ fn number_in(bytes: &[u8], end: u8) -> Option<(u32, &[u8])>
     }
     for at in 1..9 {
         let byte = bytes[at];
-        if byte == end {
-            return Some((value, &bytes[at + 1..]));
-        }
         if !byte.is_ascii_digit() {
-            return None;
+            return if byte == end {
+                Some((value, &bytes[at + 1..]))
+            } else {
+                None
+            };
         }
         value = value * 10 + (byte - b'0') as u32;
     }
@@ -161,12 +165,46 @@ pub(crate) fn word_before<'a, const N: usize>(bytes: &'a [u8], word: &[u8; N]) -
     }
 }
 
+/// Returns how many of the thirty-two bytes from `at` on come before the first byte that is at most CR.
+#[inline(always)]
+fn plain_bytes(bytes: &[u8], at: usize) -> usize
+    requires { at + LANES ≤ length bytes.now }
+    ensures most { result ≤ LANES }
+    ensures plain { (k : ℕ) → at ≤ k → k < at + result → 13 < slice_index bytes.now k }
+{
+    let lanes = u8x32::from_slice(&bytes[at..]);
+    let stops = lanes.simd_le(u8x32::splat(b'\r')).to_bitmask();
+    if stops == 0 {
+        LANES
+    } else {
+        stops.trailing_zeros() as usize
+    }
+}
+
+/// Returns the index of the first byte that is at most CR, as LF is, or `None` if there is none or it is near the end of the bytes.
+#[inline(always)]
+fn name_end(bytes: &[u8]) -> Option<usize>
+    ensures { IfSome result (λ end. (end < length bytes.now)
+        × ((k : ℕ) → k < end → 13 < slice_index bytes.now k)) }
+{
+    let mut at = 0;
+    while bytes.len() - at >= LANES {
+        let plain = plain_bytes(bytes, at);
+        if plain < LANES {
+            return Some(at + plain);
+        }
+        at += LANES;
+    }
+    None
+}
+
 /// Returns the name before LF, and the bytes after LF.
+#[inline(always)]
 pub(crate) fn name_before(bytes: &[u8]) -> Option<(&[u8], &[u8])>
     ensures { IfSome result (λ found.
         IsName found.0.now × LineAhead (format.name found.0.now) bytes.now found.1.now) }
 {
-    let end = memchr2(b'\n', b'\r', bytes)?;
+    let end = name_end(bytes)?;
     if end > 0 && bytes[end] == b'\n' {
         Some((&bytes[..end], &bytes[end + 1..]))
     } else {
