@@ -1,5 +1,5 @@
 -- Reading the first line of some bytes up to its LF.
-use Rattle.sas_task_line.proofs.Imports.{◌≡◌, ℕ, zero, suc, ◌+◌, ◌*◌, ◌-◌, ◌<◌, ◌≤◌, ◌^◌, List, [], ◌∷◌, ◌++◌, length, take, drop, refl, sym, ap, ap₂, subst, ◌∙◌, append_assoc, length-append, arith, Option, get_or, true, false, Bool, not, ◌&&◌, ◌==◌, IsTrue, decimal, list_all, list_all-from_AllPass, All-from_get_or, decimal_digit, length-take-le, take_rest, take_at, get_or-take, take-append-drop, drop_more, SpellsAhead, LineAhead, NumberAhead, SignedAhead, ChangeAhead, is_plain, IsName, ne_eqb, leb, leb-false, map, prefix_len, count_trailing_zeros, chunk, mask_l, leading_from_mask_l, trailing_mask_l, length-chunk, run_in_chunk_fails, Fact, LineStandsFirst, stands_first, plain, TaskLine, word, name, number, signed, fact, effect, head, task_line_bytes, TaskLineFits, EffectNumbers, Sayable, plain-line, Change, plain_effect}
+use Rattle.sas_task_line.proofs.Imports.{◌≡◌, ℕ, zero, suc, ◌+◌, ◌*◌, ◌-◌, ◌<◌, ◌≤◌, ◌^◌, List, [], ◌∷◌, ◌++◌, length, take, drop, refl, sym, ap, ap₂, subst, ◌∙◌, append_assoc, length-append, arith, Option, get_or, true, false, Bool, not, ◌&&◌, ◌==◌, IsTrue, decimal, list_all, list_all-from_AllPass, All-from_get_or, decimal_digit, length-take-le, take_rest, take_at, get_or-take, take-append-drop, drop-drop, drop_more, SpellsAhead, LineAhead, NumberAhead, SignedAhead, ChangeAhead, is_plain, IsName, ne_eqb, leb, leb-false, map, prefix_len, count_trailing_zeros, chunk, mask_l, leading_from_mask_l, trailing_mask_l, length-chunk, run_in_chunk_fails, Fact, LineStandsFirst, stands_first, plain, TaskLine, word, name, number, signed, fact, effect, head, task_line_bytes, TaskLineFits, EffectNumbers, Sayable, plain-line, Change, plain_effect}
 use Rattle.sas_task_line.proofs.Digits.{digit_is, digit_more}
 
 -- ---- a line and its LF
@@ -105,6 +105,13 @@ effect_is_ahead bytes more rest c e h =
     says_line (effect (plain_effect c)) bytes rest numbers numbers (then _ _ bytes more (10 ∷ rest) 32 (e ∙ ap (λ (x : List ℕ). x ++ 32 ∷ more) (sym zero_is)) h.1)
 
 -- ---- a word, a name
+
+-- lists of eight to sixteen elements with the same first eight and the same last eight
+pub by_ends : (n : ℕ) (a b : List ℕ) → 8 ≤ n → n ≤ 16 → take 8 a ≡ take 8 b → drop (n - 8) a ≡ drop (n - 8) b → a ≡ b
+by_ends n a b low high first last =
+    let place : (n - 8) + (16 - n) ≡ 8 = omega arith in
+    let behind : (l : List ℕ) → drop (16 - n) (drop (n - 8) l) ≡ drop 8 l = λ l. drop-drop (16 - n) (n - 8) l ∙ ap (λ k. drop k l) place in
+    sym (take-append-drop 8 a) ∙ ap₂ (λ (x y : List ℕ). x ++ y) first (sym (behind a) ∙ ap (drop (16 - n)) last ∙ behind b) ∙ take-append-drop 8 b
 
 both : (a b : Bool) → IsTrue (a && b) → IsTrue b
 both true b h = h

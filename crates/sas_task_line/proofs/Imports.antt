@@ -7,7 +7,7 @@ pub use Rattle.std.proofs.lemmas.Bool.{leb-false, ne_eqb, and_parts, eqb-true}
 pub use Rattle.std.proofs.lemmas.Bool.Decides.{nat_tests, Decides-eqb}
 pub use Rattle.std.proofs.lemmas.Fmt.{decimal_digit, decimal_step, decimal_injective}
 pub use Rattle.std.proofs.lemmas.Grind.{flat_map-append, common_steps}
-pub use Rattle.std.proofs.lemmas.List.{length-take-le, take_rest, take_at, get_or-take, take-append-drop, drop_more, map-append, length-map}
+pub use Rattle.std.proofs.lemmas.List.{length-take-le, take_rest, take_at, get_or-take, take-append-drop, drop-drop, drop_more, map-append, length-map}
 pub use Rattle.std.proofs.lemmas.List.Elements.{All-from_get_or}
 pub use Rattle.std.proofs.lemmas.List.Folds.{list_all-append}
 pub use Rattle.std.proofs.lemmas.List.Sums.{list_all-from_AllPass}

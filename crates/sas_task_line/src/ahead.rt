@@ -1,6 +1,6 @@
 // Parses the first line of some bytes directly, if it ends with LF and has the expected content. Otherwise these functions return `None`.
 // Then the line is cut out and parsed by the functions of `task_line.rt`, which report its fault.
-ghost use Rattle.std.specs.Prelude.{ℕ, ◌+◌, ◌<◌, ◌≤◌, ◌++◌, length, slice_index, IfSome};
+ghost use Rattle.std.specs.Prelude.{◌≡◌, ℕ, ◌+◌, ◌-◌, ◌<◌, ◌≤◌, ◌++◌, length, take, drop, slice_index, IfSome, IsTrue};
 ghost use Rattle.std.specs.Fmt.{decimal};
 ghost use Rattle.sas_core.specs.Names.{IsName};
 ghost use Rattle.sas_task_format.specs.TaskFormat as format;
@@ -151,6 +151,39 @@ pub(crate) fn effect_before(bytes: &[u8]) -> Option<(Change, &[u8])>
     change_in_line(&bytes[2..])
 }
 
+/// Returns the first eight bytes of an array that has so many.
+#[inline(always)]
+fn first_eight<const N: usize>(bytes: &[u8; N]) -> [u8; 8]
+    ensures { 8 ≤ N → result ≡ take 8 bytes.now }
+{
+    match bytes.split_first_chunk::<8>() {
+        Some((first, _)) => *first,
+        None => [0; 8],
+    }
+}
+
+/// Returns the last eight bytes of an array that has so many.
+#[inline(always)]
+fn last_eight<const N: usize>(bytes: &[u8; N]) -> [u8; 8]
+    ensures { 8 ≤ N → result ≡ drop (N - 8) bytes.now }
+{
+    match bytes.split_last_chunk::<8>() {
+        Some((_, last)) => *last,
+        None => [0; 8],
+    }
+}
+
+/// Returns whether the arrays are equal. Eight bytes are compared at once, so two comparisons are enough for up to sixteen bytes.
+#[inline(always)]
+fn are_equal<const N: usize>(a: &[u8; N], b: &[u8; N]) -> bool
+    ensures { IsTrue result → a.now ≡ b.now }
+{
+    if N < 8 || N > 16 {
+        return a == b;
+    }
+    first_eight(a) == first_eight(b) && last_eight(a) == last_eight(b)
+}
+
 /// If the bytes begin with the fixed word and LF, returns the bytes after them. The word is an array, since a word of constant length is
 /// compared without a call.
 #[inline(always)]
@@ -160,7 +193,7 @@ pub(crate) fn word_before<'a, const N: usize>(bytes: &'a [u8], word: &[u8; N]) -
 {
     let (first, rest) = bytes.split_first_chunk::<N>()?;
     match rest {
-        [b'\n', rest @ ..] if first == word => Some(rest),
+        [b'\n', rest @ ..] if are_equal(first, word) => Some(rest),
         _ => None,
     }
 }
@@ -245,29 +278,6 @@ pub fn effect_ahead(bytes: &[u8]) -> Option<Ahead<Change>>
         said,
         taken: bytes.len() - rest.len(),
     })
-}
-
-/// Returns the head of a rule on the first line. Its facts need not exist. After `None` the line has to be parsed by `head_at`.
-pub fn head_ahead(bytes: &[u8]) -> Option<Ahead<Change>>
-    ensures { IfSome result
-        (λ a. SpellsAhead (format.head a.said.var a.said.old a.said.new) bytes.now a.taken) }
-{
-    let (said, rest) = change_before(bytes)?;
-    Some(Ahead {
-        said,
-        taken: bytes.len() - rest.len(),
-    })
-}
-
-/// If the first line is the fixed word, returns the number of its bytes with LF. After `None` the line has to be parsed by `word_at`.
-pub fn word_ahead(bytes: &[u8], word: &[u8]) -> Option<usize>
-    requires { IsName word.now }
-    ensures { IfSome result (λ taken. SpellsAhead (format.word word.now) bytes.now taken) }
-{
-    match bytes.strip_prefix(word)? {
-        [b'\n', ..] => Some(word.len() + 1),
-        _ => None,
-    }
 }
 
 /// Returns the name on the first line. After `None` the line has to be parsed by `name_at`.
