@@ -1,5 +1,5 @@
 -- Reading the first line of some bytes up to its LF.
-use Rattle.sas_task_line.proofs.Imports.{◌≡◌, ℕ, zero, suc, ◌+◌, ◌*◌, ◌-◌, ◌<◌, ◌≤◌, ◌^◌, List, [], ◌∷◌, ◌++◌, length, take, drop, refl, sym, ap, ap₂, subst, ◌∙◌, append_assoc, length-append, arith, Option, get_or, true, false, Bool, not, ◌&&◌, ◌==◌, IsTrue, decimal, list_all, list_all-from_AllPass, All-from_get_or, decimal_digit, length-take-le, take_rest, take_at, get_or-take, take-append-drop, drop-drop, drop_more, SpellsAhead, LineAhead, NumberAhead, SignedAhead, ChangeAhead, is_plain, IsName, ne_eqb, leb, leb-false, map, prefix_len, count_trailing_zeros, chunk, mask_l, leading_from_mask_l, trailing_mask_l, length-chunk, run_in_chunk_fails, Fact, LineStandsFirst, stands_first, plain, TaskLine, word, name, number, signed, fact, effect, head, task_line_bytes, TaskLineFits, EffectNumbers, Sayable, plain-line, Change, plain_effect}
+use Rattle.sas_task_line.proofs.Imports.{◌≡◌, ℕ, zero, suc, ◌+◌, ◌*◌, ◌-◌, ◌<◌, ◌≤◌, ◌^◌, List, [], ◌∷◌, ◌++◌, length, take, drop, refl, sym, ap, ap₂, ◌∙◌, append_assoc, arith, Option, get_or, true, false, Bool, not, ◌&&◌, ◌==◌, IsTrue, decimal, list_all, list_all-from_AllPass, All-from_get_or, decimal_digit, length-take-le, take_rest, get_or-take, take-append-drop, drop-drop, drop_more, LineAhead, NumberAhead, SignedAhead, ChangeAhead, is_plain, IsName, ne_eqb, leb, leb-false, map, prefix_len, count_trailing_zeros, chunk, mask_l, leading_from_mask_l, trailing_mask_l, length-chunk, run_in_chunk_fails, Fact, TaskLine, word, name, number, signed, fact, effect, head, task_line_bytes, TaskLineFits, EffectNumbers, Sayable, plain-line, Change, plain_effect}
 use Rattle.sas_task_line.proofs.Digits.{digit_is, digit_more}
 
 -- ---- a line and its LF
@@ -7,20 +7,6 @@ use Rattle.sas_task_line.proofs.Digits.{digit_is, digit_more}
 -- a line before LF
 pub says_line : (i : TaskLine) (bytes rest : List ℕ) → TaskLineFits i → Sayable i → bytes ≡ task_line_bytes i ++ 10 ∷ rest → LineAhead i bytes rest
 says_line i bytes rest fits says e = record { fits = fits; plain = plain-line i says; before = e }
-
--- the bytes of a line with its LF
-pub line_is_ahead : (i : TaskLine) (bytes rest : List ℕ) (taken : ℕ) → LineAhead i bytes rest → length (task_line_bytes i) + 1 ≡ taken → SpellsAhead i bytes taken
-line_is_ahead i bytes rest taken h n =
-    let line = task_line_bytes i in
-    record {
-      fits = h.fits;
-      first = subst (LineStandsFirst bytes line) n (stands_first bytes line rest (plain line h.plain) h.before);
-      before_end = sym (ap (take (taken - 1)) h.before ∙ take_at line (10 ∷ rest) (taken - 1) (omega arith));
-    }
-
--- the same, with the number of bytes computed from the rest
-pub spells_ahead : (i : TaskLine) (bytes rest : List ℕ) (taken : ℕ) → LineAhead i bytes rest → taken ≡ length bytes - length rest → SpellsAhead i bytes taken
-spells_ahead i bytes rest taken h n = line_is_ahead i bytes rest taken h (omega (arith, n, ap length h.before, length-append (task_line_bytes i) (10 ∷ rest)))
 
 -- ---- bytes in front
 

@@ -13,7 +13,7 @@ pub use Rattle.std.proofs.lemmas.List.Folds.{list_all-append}
 pub use Rattle.std.proofs.lemmas.List.Sums.{list_all-from_AllPass}
 pub use Rattle.std.proofs.lemmas.Option.{none-some, IfSome_then}
 pub use Rattle.std.proofs.lemmas.Simd.{bitmask_splat, leading_from_mask_l, trailing_mask_l, length-chunk, run_in_chunk_le, run_in_chunk_fails}
-pub use Rattle.std.proofs.lemmas.Slice.Eq.{strip_prefix_is, slice_eq-Decides}
+pub use Rattle.std.proofs.lemmas.Slice.Eq.{slice_eq-Decides}
 pub use Rattle.std.specs.Fmt.{decimal}
 pub use Rattle.std.specs.List.{list_all, flat_map, prefix_len, AllByRecursion}
 pub use Rattle.sas_core.specs.Changes.{plain_effect}
@@ -46,7 +46,7 @@ pub use Rattle.sas_task_format.specs.TaskFormat.{TaskLine, word, name, number, s
 pub use Rattle.sas_task_format.specs.TaskProcess.{number_in, signed_in, fact_in, effect_in, head_in}
 pub use Rattle.sas_task_format.specs.TaskReasons.{Bounded, below, first_wrong, fact_bounds, change_bounds, line_bounds}
 pub use Rattle.sas_task_format.specs.declared.marks.WrongWord.{WrongWord}
-pub use Rattle.sas_task_line.specs.Ahead.{SpellsAhead, LineAhead, NumberAhead, SignedAhead, ChangeAhead}
+pub use Rattle.sas_task_line.specs.Ahead.{LineAhead, NumberAhead, SignedAhead, ChangeAhead}
 pub use Rattle.sas_task_line.specs.FirstWrong.{HasWrong, FirstWrong}
 pub use Rattle.sas_task_line.specs.LinesBefore.{LinesBefore, CountedBefore, AppendedBefore, EffectsBefore, FactsBefore, NamesBefore}
 pub use Rattle.sas_task_line.specs.Sections.{spelled, LinesAhead, VariableAhead, GroupAhead, OperatorAhead, RuleAhead, gathered_rule}

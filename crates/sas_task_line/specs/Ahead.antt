@@ -1,19 +1,11 @@
 -- What the code parses from the first line of some bytes, up to and including its LF.
-use Rattle.std.specs.Prelude.{◌≡◌, ℕ, ◌-◌, List, take, ◌∷◌, ◌++◌, Option}
+use Rattle.std.specs.Prelude.{◌≡◌, ℕ, List, ◌∷◌, ◌++◌, Option}
 use Rattle.std.specs.Fmt.{decimal}
 use Rattle.sas_core.specs.Numbers.{IsNumber, IsSigned}
-use Rattle.sas_lines.specs.FirstLines.{LineStandsFirst}
 use Rattle.sas_lines.specs.Spelling.{signed_decimal, joined}
 use Rattle.sas_reader.specs.System.{IsPlain}
 use Rattle.sas_task_format.specs.TaskFormat.{TaskLine, task_line_bytes, TaskLineFits, head_words, HeadNumbers}
 use Rattle.sas_core.specs.declared.grounded.Change.{Change}
-
--- The bytes begin with this line, whose numbers a file can spell. The line has `taken` bytes with
--- its LF.
-pub record SpellsAhead (i : TaskLine) (bytes : List ℕ) (taken : ℕ) : Type 0 where
-  pub fits : TaskLineFits i
-  pub first : LineStandsFirst bytes (task_line_bytes i) taken
-  pub before_end : task_line_bytes i ≡ take (taken - 1) bytes
 
 -- the bytes are this line, whose numbers a file can spell, then LF, then the rest
 pub record LineAhead (i : TaskLine) (bytes rest : List ℕ) : Type 0 where

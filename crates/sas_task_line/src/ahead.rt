@@ -4,18 +4,11 @@ ghost use Rattle.std.specs.Prelude.{◌≡◌, ℕ, ◌+◌, ◌-◌, ◌<◌, �
 ghost use Rattle.std.specs.Fmt.{decimal};
 ghost use Rattle.sas_core.specs.Names.{IsName};
 ghost use Rattle.sas_task_format.specs.TaskFormat as format;
-ghost use Rattle.sas_task_line.specs.Ahead.{SpellsAhead, LineAhead, NumberAhead, SignedAhead, ChangeAhead};
+ghost use Rattle.sas_task_line.specs.Ahead.{LineAhead, NumberAhead, SignedAhead, ChangeAhead};
 ghost use Rattle.sas_core.specs.Changes.{plain_effect};
 
 use sas_core::{Change, Fact};
 use std::simd::prelude::*;
-
-/// The content of the first line of some bytes, and the number of bytes of the line with its LF.
-#[derive(Clone, Copy, Debug, PartialEq, Eq)]
-pub struct Ahead<A> {
-    pub said: A,
-    pub taken: usize,
-}
 
 /// The most bytes of a number that is parsed here, which has at most nine digits, with the byte after it. Where so many bytes are left for
 /// each number of a line, no byte has to be compared with the end of the bytes.
@@ -101,6 +94,14 @@ pub(crate) fn number_before(bytes: &[u8], end: u8) -> Option<(u32, &[u8])>
     number_in(bytes, end)
 }
 
+/// Returns the number before LF, and the bytes after LF.
+#[inline(always)]
+pub fn number_line_before(bytes: &[u8]) -> Option<(u32, &[u8])>
+    ensures { IfSome result (λ found. LineAhead (format.number found.0) bytes.now found.1.now) }
+{
+    number_before(bytes, b'\n')
+}
+
 /// Returns the number before the byte `end` (`None` for `-1`), and the bytes after it.
 #[inline(always)]
 pub(crate) fn signed_before(bytes: &[u8], end: u8) -> Option<(Option<u32>, &[u8])>
@@ -125,7 +126,7 @@ pub(crate) fn change_before(bytes: &[u8]) -> Option<(Change, &[u8])>
 
 /// Returns the fact before LF, and the bytes after LF. The fact need not exist.
 #[inline(always)]
-pub(crate) fn fact_before(bytes: &[u8]) -> Option<(Fact, &[u8])>
+pub fn fact_before(bytes: &[u8]) -> Option<(Fact, &[u8])>
     ensures { IfSome result (λ found. LineAhead (format.fact found.0) bytes.now found.1.now) }
 {
     if bytes.len() < 2 * NUMBER {
@@ -138,7 +139,7 @@ pub(crate) fn fact_before(bytes: &[u8]) -> Option<(Fact, &[u8])>
 
 /// Returns the change of an effect without conditions before LF, and the bytes after LF. Its facts need not exist.
 #[inline(always)]
-pub(crate) fn effect_before(bytes: &[u8]) -> Option<(Change, &[u8])>
+pub fn effect_before(bytes: &[u8]) -> Option<(Change, &[u8])>
     ensures { IfSome result
         (λ found. LineAhead (format.effect (plain_effect found.0)) bytes.now found.1.now) }
 {
@@ -233,7 +234,7 @@ fn name_end(bytes: &[u8]) -> Option<usize>
 
 /// Returns the name before LF, and the bytes after LF.
 #[inline(always)]
-pub(crate) fn name_before(bytes: &[u8]) -> Option<(&[u8], &[u8])>
+pub fn name_before(bytes: &[u8]) -> Option<(&[u8], &[u8])>
     ensures { IfSome result (λ found.
         IsName found.0.now × LineAhead (format.name found.0.now) bytes.now found.1.now) }
 {
@@ -243,48 +244,4 @@ pub(crate) fn name_before(bytes: &[u8]) -> Option<(&[u8], &[u8])>
     } else {
         None
     }
-}
-
-/// Returns the number on the first line. After `None` the line has to be parsed by `number_at`.
-pub fn number_ahead(bytes: &[u8]) -> Option<Ahead<u32>>
-    ensures { IfSome result (λ a. SpellsAhead (format.number a.said) bytes.now a.taken) }
-{
-    let (said, rest) = number_before(bytes, b'\n')?;
-    Some(Ahead {
-        said,
-        taken: bytes.len() - rest.len(),
-    })
-}
-
-/// Returns the fact on the first line, which need not exist. After `None` the line has to be parsed by `fact_at`.
-pub fn fact_ahead(bytes: &[u8]) -> Option<Ahead<Fact>>
-    ensures { IfSome result (λ a. SpellsAhead (format.fact a.said) bytes.now a.taken) }
-{
-    let (said, rest) = fact_before(bytes)?;
-    Some(Ahead {
-        said,
-        taken: bytes.len() - rest.len(),
-    })
-}
-
-/// Returns the change of the effect on the first line, if the effect has no conditions. Its facts need not exist. After `None` the line has
-/// to be parsed by `effect_at`.
-pub fn effect_ahead(bytes: &[u8]) -> Option<Ahead<Change>>
-    ensures { IfSome result
-        (λ a. SpellsAhead (format.effect (plain_effect a.said)) bytes.now a.taken) }
-{
-    let (said, rest) = effect_before(bytes)?;
-    Some(Ahead {
-        said,
-        taken: bytes.len() - rest.len(),
-    })
-}
-
-/// Returns the name on the first line. After `None` the line has to be parsed by `name_at`.
-pub fn name_ahead(bytes: &[u8]) -> Option<&[u8]>
-    ensures { IfSome result (λ name.
-        IsName name.now × SpellsAhead (format.name name.now) bytes.now (length name.now + 1)) }
-{
-    let (name, _) = name_before(bytes)?;
-    Some(name)
 }

@@ -8,88 +8,74 @@ ghost use Rattle.sas_task_judge.specs.TaskJudge.{Due, MovesAhead, HasEnded};
 use super::TaskJudge;
 use sas_task_format::Place;
 use sas_task_line::{
-    Ahead, Event, change_in, effect_ahead, fact_ahead, name_ahead, number_ahead, value_in,
+    Event, change_in, effect_before, fact_before, name_before, number_line_before, value_in,
 };
 
 impl TaskJudge {
     /// Accepts the name of a value.
-    fn variable_value_ahead(&mut self, bytes: &[u8]) -> Option<Ahead<Event>>
+    fn variable_value_ahead<'a>(&mut self, bytes: &'a [u8]) -> Option<(Event, &'a [u8])>
         requires place { self.old.place ≡ Place.VariableValues }
         requires more { 0 < self.old.more }
-        ensures some { IfSome result (λ a. MovesAhead self.old bytes.now self.new a.said a.taken) }
+        ensures some { IfSome result (λ a. MovesAhead self.old bytes.now self.new a.0 a.1.now) }
         ensures none { IfNone result (self.new ≡ self.old) }
     {
-        let name = name_ahead(bytes)?;
+        let (_name, rest) = name_before(bytes)?;
         self.more -= 1;
-        Some(Ahead {
-            said: Event::Value,
-            taken: name.len() + 1,
-        })
+        Some((Event::Value, rest))
     }
 
     /// Accepts a fact of a group, a prevail condition, or a condition of a rule.
-    fn fact_ahead(&mut self, bytes: &[u8]) -> Option<Ahead<Event>>
+    fn fact_ahead<'a>(&mut self, bytes: &'a [u8]) -> Option<(Event, &'a [u8])>
         requires apart { self.old.place ≢ Place.VariableValues }
         requires more { 0 < self.old.more }
         requires due { Due self.old a_fact format.fact
             (λ _. record self.old { more = self.old.more - 1 })
             (λ f s. record s { facts = s.facts ++ f ∷ [] }) }
-        ensures some { IfSome result (λ a. MovesAhead self.old bytes.now self.new a.said a.taken) }
+        ensures some { IfSome result (λ a. MovesAhead self.old bytes.now self.new a.0 a.1.now) }
         ensures none { IfNone result (self.new ≡ self.old) }
     {
-        let ahead = fact_ahead(bytes)?;
-        let fact = ahead.said;
+        let (fact, rest) = fact_before(bytes)?;
         if !value_in(&self.ranges, fact.var, fact.value) {
             return None;
         }
-        Some(Ahead {
-            said: self.took_fact(fact),
-            taken: ahead.taken,
-        })
+        Some((self.took_fact(fact), rest))
     }
 
     /// Accepts the value of the next variable.
-    fn state_value_ahead(&mut self, bytes: &[u8]) -> Option<Ahead<Event>>
+    fn state_value_ahead<'a>(&mut self, bytes: &'a [u8]) -> Option<(Event, &'a [u8])>
         requires place { self.old.place ≡ Place.StateValues }
         requires more { self.old.valued < length self.old.ranges }
         requires few { length self.old.ranges < 2 ^ 64 }
-        ensures some { IfSome result (λ a. MovesAhead self.old bytes.now self.new a.said a.taken) }
+        ensures some { IfSome result (λ a. MovesAhead self.old bytes.now self.new a.0 a.1.now) }
         ensures none { IfNone result (self.new ≡ self.old) }
     {
-        let ahead = number_ahead(bytes)?;
-        if ahead.said as usize >= self.next_range() {
+        let (value, rest) = number_line_before(bytes)?;
+        if value as usize >= self.next_range() {
             return None;
         }
-        Some(Ahead {
-            said: self.took_state_value(ahead.said),
-            taken: ahead.taken,
-        })
+        Some((self.took_state_value(value), rest))
     }
 
     /// Accepts an effect without conditions.
-    fn effect_ahead(&mut self, bytes: &[u8]) -> Option<Ahead<Event>>
+    fn effect_ahead<'a>(&mut self, bytes: &'a [u8]) -> Option<(Event, &'a [u8])>
         requires place { self.old.place ≡ Place.Effects }
         requires more { 0 < self.old.more }
-        ensures some { IfSome result (λ a. MovesAhead self.old bytes.now self.new a.said a.taken) }
+        ensures some { IfSome result (λ a. MovesAhead self.old bytes.now self.new a.0 a.1.now) }
         ensures none { IfNone result (self.new ≡ self.old) }
     {
-        let ahead = effect_ahead(bytes)?;
-        let change = ahead.said;
+        let (change, rest) = effect_before(bytes)?;
         if !change_in(&self.ranges, change.var, change.old, change.new) {
             return None;
         }
         self.said.say_effect(change);
-        Some(Ahead {
-            said: self.took_effect(),
-            taken: ahead.taken,
-        })
+        Some((self.took_effect(), rest))
     }
 
-    /// Accepts the first line of the bytes, with its line end, if it is one of many alike and is allowed here. Otherwise returns `None`
-    /// and changes nothing; then `take` has to judge the line.
-    pub fn take_ahead(&mut self, bytes: &[u8]) -> Option<Ahead<Event>>
+    /// Accepts the first line of the bytes, which ends with LF, if it is one of many alike and is allowed here. Returns what it adds, and
+    /// the bytes after it. Otherwise returns `None` and changes nothing; then `take` has to judge the line.
+    pub fn take_ahead<'a>(&mut self, bytes: &'a [u8]) -> Option<(Event, &'a [u8])>
         requires { HasEnded self.old → ⊥ }
-        ensures some { IfSome result (λ a. MovesAhead self.old bytes.now self.new a.said a.taken) }
+        ensures some { IfSome result (λ a. MovesAhead self.old bytes.now self.new a.0 a.1.now) }
         ensures none { IfNone result (self.new ≡ self.old) }
     {
         match self.place {
