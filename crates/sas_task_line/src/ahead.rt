@@ -215,7 +215,8 @@ fn plain_bytes(bytes: &[u8], at: usize) -> usize
     }
 }
 
-/// Returns the index of the first byte that is at most CR, as LF is, or `None` if there is none or it is near the end of the bytes.
+/// Returns the index of the first byte that is at most CR, as LF is, or `None` if there is none or it is near the end of the bytes. A name
+/// may have such a byte, such as a tab; then its section is read line by line.
 #[inline(always)]
 fn name_end(bytes: &[u8]) -> Option<usize>
     ensures { IfSome result (λ end. (end < length bytes.now)
