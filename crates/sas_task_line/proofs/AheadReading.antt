@@ -1,5 +1,7 @@
 -- Reading the first line of some bytes up to its LF.
-use Rattle.sas_task_line.proofs.Imports.{◌≡◌, ℕ, zero, suc, ◌+◌, ◌*◌, ◌-◌, ◌<◌, ◌≤◌, ◌^◌, List, [], ◌∷◌, ◌++◌, length, take, drop, refl, sym, ap, ap₂, ◌∙◌, append_assoc, arith, Option, get_or, true, false, Bool, not, ◌&&◌, ◌==◌, IsTrue, decimal, list_all, list_all-from_AllPass, All-from_get_or, decimal_digit, length-take-le, take_rest, get_or-take, take-append-drop, drop-drop, drop_more, LineAhead, NumberAhead, SignedAhead, ChangeAhead, is_plain, IsName, ne_eqb, leb, leb-false, map, prefix_len, count_trailing_zeros, chunk, mask_l, leading_from_mask_l, trailing_mask_l, length-chunk, run_in_chunk_fails, Fact, TaskLine, word, name, number, signed, fact, effect, head, task_line_bytes, TaskLineFits, EffectNumbers, Sayable, plain-line, Change, plain_effect}
+use Rattle.sas_task_line.proofs.Imports.{◌≡◌, ℕ, zero, suc, ◌+◌, ◌*◌, ◌-◌, ◌<◌, ◌≤◌, ◌^◌, List, [], ◌∷◌, ◌++◌, length, take, drop, refl, sym, ap, ap₂, ◌∙◌, append_assoc, arith, Option, get_or, true, false, Bool, not, ◌&&◌, ◌==◌, IsTrue, decimal, list_all, list_all-from_AllPass, list_all-append, All-from_get_or, decimal_digit, length-take-le, take_rest, get_or-take, take-append-drop, drop-drop, drop_more, LineAhead, NumberAhead, SignedAhead, FactAhead, ChangeAhead, is_plain, IsName, ne_eqb, leb, leb-false, map, prefix_len, count_trailing_zeros, chunk, mask_l, leading_from_mask_l, trailing_mask_l, length-chunk, run_in_chunk_fails, Fact, TaskLine, word, name, number, signed, fact, effect, head, task_line_bytes, TaskLineFits, EffectNumbers, fact_words, effect_words, signed_decimal, joined, IsNumber, TakesFacts, fact_in_ranges, Sayable, plain-line, Change, plain_effect}
+use Rattle.sas_flat.specs.Effects as flat
+use Rattle.sas_task_line.proofs.TaskReading.{one_more_fact}
 use Rattle.sas_task_line.proofs.Digits.{digit_is, digit_more}
 
 -- ---- a line and its LF
@@ -78,17 +80,51 @@ number_is_ahead bytes rest n h = says_line (number n) bytes rest h.0 h.0 h.1
 pub signed_is_ahead : (bytes rest : List ℕ) (n : Option ℕ) → SignedAhead bytes n 10 rest → LineAhead (signed n) bytes rest
 signed_is_ahead bytes rest n h = says_line (signed n) bytes rest h.0 h.0 h.1
 
-pub fact_is_ahead : (bytes more rest : List ℕ) (f : Fact) → NumberAhead bytes f.var 32 more → NumberAhead more f.value 10 rest → LineAhead (fact f) bytes rest
-fact_is_ahead bytes more rest f h g = says_line (fact f) bytes rest (h.0, g.0) (h.0, g.0) (then _ _ bytes more (10 ∷ rest) 32 h.1 g.1)
+pub two_numbers_ahead : (bytes more rest : List ℕ) (f : Fact) (end : ℕ) → NumberAhead bytes f.var 32 more → NumberAhead more f.value end rest → FactAhead bytes f end rest
+two_numbers_ahead bytes more rest f end h g = ((h.0, g.0), then _ _ bytes more (end ∷ rest) 32 h.1 g.1)
+
+pub fact_is_ahead : (bytes rest : List ℕ) (f : Fact) → FactAhead bytes f 10 rest → LineAhead (fact f) bytes rest
+fact_is_ahead bytes rest f h = says_line (fact f) bytes rest h.0 h.0 h.1
 
 pub head_is_ahead : (bytes rest : List ℕ) (c : Change) → ChangeAhead bytes c rest → LineAhead (head c.var c.old c.new) bytes rest
 head_is_ahead bytes rest c h = says_line (head c.var c.old c.new) bytes rest h.0 h.0 h.1
 
-pub effect_is_ahead : (bytes more rest : List ℕ) (c : Change) → bytes ≡ 48 ∷ 32 ∷ more → ChangeAhead more c rest → LineAhead (effect (plain_effect c)) bytes rest
-effect_is_ahead bytes more rest c e h =
-    let numbers : EffectNumbers (plain_effect c) = record { count = omega arith; conditions = tt; head = h.0 } in
+-- ---- an effect
+
+-- The bytes are a count and the first conditions of an effect, which exist, and the rest: if the
+-- rest begins with words, then the bytes begin with all these words.
+pub record ConditionsBefore (ranges : List ℕ) (count done : ℕ) (conditions : List Fact) (bytes rest : List ℕ) : Type 0 where
+  pub exist : IsTrue (list_all (fact_in_ranges ranges) conditions)
+  pub before : (w : List ℕ) (ws : List (List ℕ)) (tail : List ℕ) → rest ≡ joined (w ∷ ws) ++ tail
+      → (words : List (List ℕ)) × TakesFacts words done conditions (w ∷ ws) × (bytes ≡ joined (decimal count ∷ words) ++ tail)
+
+module _ (ranges : List ℕ) (count : ℕ) (bytes : List ℕ) where
+  pub no_condition : (rest : List ℕ) → NumberAhead bytes count 32 rest → ConditionsBefore ranges count 0 [] bytes rest
+  no_condition rest h = record {
+    exist = refl;
+    before = λ w ws tail e. (w ∷ ws, record { many = refl; numbers = tt; before = refl }, then (decimal count) (joined (w ∷ ws)) bytes rest tail 32 h.1 e);
+  }
+
+  pub one_more_condition : (done : ℕ) (fs : List Fact) (f : Fact) (more rest : List ℕ) → ConditionsBefore ranges count done fs bytes more → FactAhead more f 32 rest → IsTrue (fact_in_ranges ranges f) → ConditionsBefore ranges count (done + 1) (fs ++ f ∷ []) bytes rest
+  one_more_condition done fs f more rest h g there = record {
+    exist = list_all-append (fact_in_ranges ranges) fs (f ∷ []) ∙ ap₂ (λ x y. x && (y && true)) h.exist there;
+    before = λ w ws tail e.
+        let here = then (joined (fact_words f)) (joined (w ∷ ws)) more rest tail 32 g.1 e ∙ ap (λ l. l ++ tail) (append_assoc (decimal f.var) (32 ∷ decimal f.value) (32 ∷ joined (w ∷ ws))) in
+        let so_far = h.before (decimal f.var) (decimal f.value ∷ w ∷ ws) tail here in
+        (so_far.0, one_more_fact so_far.0 _ (w ∷ ws) done fs f so_far.1 (g.0, refl), so_far.2);
+  }
+
+  pub effect_is_ahead : (fs : List Fact) (more rest : List ℕ) (c : Change) → IsNumber count → ConditionsBefore ranges count count fs bytes more → ChangeAhead more c rest → LineAhead (effect (flat.effect c fs)) bytes rest
+  effect_is_ahead fs more rest c few h g =
+      let all = h.before (decimal c.var) (signed_decimal c.old ∷ decimal c.new ∷ []) (10 ∷ rest) g.1 in
+      let numbers : EffectNumbers (flat.effect c fs) = record { count = omega (arith, few, all.1.many); conditions = all.1.numbers; head = g.0 } in
+      let words : decimal count ∷ all.0 ≡ effect_words (flat.effect c fs) = ap₂ (λ n ws. decimal n ∷ ws) (sym all.1.many) all.1.before in
+      says_line (effect (flat.effect c fs)) bytes rest numbers numbers (all.2 ∙ ap (λ ws. joined ws ++ 10 ∷ rest) words)
+
+pub plain_effect_is_ahead : (bytes more rest : List ℕ) (c : Change) → bytes ≡ 48 ∷ 32 ∷ more → ChangeAhead more c rest → LineAhead (effect (plain_effect c)) bytes rest
+plain_effect_is_ahead bytes more rest c e h =
     let zero_is : decimal 0 ≡ 48 ∷ [] = decimal_digit 0 (omega arith) in
-    says_line (effect (plain_effect c)) bytes rest numbers numbers (then _ _ bytes more (10 ∷ rest) 32 (e ∙ ap (λ (x : List ℕ). x ++ 32 ∷ more) (sym zero_is)) h.1)
+    effect_is_ahead [] 0 bytes [] more rest c (omega arith) (no_condition [] 0 bytes more (omega arith, e ∙ ap (λ (x : List ℕ). x ++ 32 ∷ more) (sym zero_is))) h
 
 -- ---- a word, a name
 

@@ -4,7 +4,7 @@ ghost use Rattle.std.specs.Prelude.{◌≡◌, ℕ, ◌+◌, ◌-◌, ◌<◌, �
 ghost use Rattle.std.specs.Fmt.{decimal};
 ghost use Rattle.sas_core.specs.Names.{IsName};
 ghost use Rattle.sas_task_format.specs.TaskFormat as format;
-ghost use Rattle.sas_task_line.specs.Ahead.{LineAhead, NumberAhead, SignedAhead, ChangeAhead};
+ghost use Rattle.sas_task_line.specs.Ahead.{LineAhead, NumberAhead, SignedAhead, FactAhead, ChangeAhead};
 ghost use Rattle.sas_core.specs.Changes.{plain_effect};
 
 use sas_core::{Change, Fact};
@@ -124,17 +124,25 @@ pub(crate) fn change_before(bytes: &[u8]) -> Option<(Change, &[u8])>
     change_in_line(bytes)
 }
 
-/// Returns the fact before LF, and the bytes after LF. The fact need not exist.
+/// Returns the fact before the byte `end`, and the bytes after it. The fact need not exist.
 #[inline(always)]
-pub fn fact_before(bytes: &[u8]) -> Option<(Fact, &[u8])>
-    ensures { IfSome result (λ found. LineAhead (format.fact found.0) bytes.now found.1.now) }
+pub(crate) fn fact_with_end(bytes: &[u8], end: u8) -> Option<(Fact, &[u8])>
+    ensures { IfSome result (λ found. FactAhead bytes.now found.0 end found.1.now) }
 {
     if bytes.len() < 2 * NUMBER {
         return None;
     }
     let (var, rest) = number_in(bytes, b' ')?;
-    let (value, rest) = number_in(rest, b'\n')?;
+    let (value, rest) = number_in(rest, end)?;
     Some((Fact { var, value }, rest))
+}
+
+/// Returns the fact before LF, and the bytes after LF. The fact need not exist.
+#[inline(always)]
+pub fn fact_before(bytes: &[u8]) -> Option<(Fact, &[u8])>
+    ensures { IfSome result (λ found. LineAhead (format.fact found.0) bytes.now found.1.now) }
+{
+    fact_with_end(bytes, b'\n')
 }
 
 /// Returns the change of an effect without conditions before LF, and the bytes after LF. Its facts need not exist.
