@@ -1,7 +1,7 @@
 -- What the proofs use of other crates, and of the definitions of this one.
 pub use Rattle.std.proofs.Common.{◌≡◌, ℕ, List, Option, Some, None, Result, refl, sym, ap, subst, ◌∙◌, IfOk, ◌≢◌, [], ◌∷◌, ◌++◌, Bool, length, append_assoc, IsTrue, codes, suc, ◌<◌, ◌-◌, arith, Ok, ◌≤◌, ◌+◌, true, false, nat_lt, if◌then◌else◌, zero, drop, Err, take, ◌&&◌, rules, inr, length-append}
 pub use Rattle.std.proofs.lemmas.Bool.Decides.{nat_tests}
-pub use Rattle.std.proofs.lemmas.List.{append-nil}
+pub use Rattle.std.proofs.lemmas.List.{append-nil, take_at}
 pub use Rattle.std.proofs.lemmas.Option.{none-some}
 pub use Rattle.std.proofs.lemmas.Result.{on_ok_weaker}
 pub use Rattle.std.specs.List.{AllByRecursion, flat_map, list_all}
@@ -17,9 +17,10 @@ pub use Rattle.sas_core.specs.declared.parts.Operator.{Operator}
 pub use Rattle.sas_core.specs.declared.parts.Parts.{Parts}
 pub use Rattle.sas_core.specs.declared.parts.Rule.{Rule}
 pub use Rattle.sas_core.specs.declared.parts.Variable.{Variable}
-pub use Rattle.sas_lines.proofs.Beginnings.{one_stands_first}
+pub use Rattle.sas_lines.proofs.Beginnings.{stands_first, one_stands_first}
 pub use Rattle.sas_lines.specs.FirstLines.{LineStandsFirst}
 pub use Rattle.sas_reader.proofs.Paths.{cut_at, after_ends, map-append, after_append}
+pub use Rattle.sas_reader.proofs.Plain.{plain}
 pub use Rattle.sas_reader.specs.Faults.{IsOfBytes}
 pub use Rattle.sas_reader.specs.Format.{IsBegun}
 pub use Rattle.sas_reader.specs.Machine.{IsFront, AcceptsAhead}
@@ -44,7 +45,7 @@ pub use Rattle.sas_task_format.specs.declared.marks.Mark.{Mark}
 pub use Rattle.sas_task_format.specs.declared.marks.WrongWord.{WrongWord}
 pub use Rattle.sas_task_format.specs.declared.places.Place.{Place}
 pub use Rattle.sas_task_line.proofs.WrongWords.{first_back, range_is, ranges_many}
-pub use Rattle.sas_task_line.specs.Ahead.{SpellsAhead}
+pub use Rattle.sas_task_line.specs.Ahead.{LineAhead}
 pub use Rattle.sas_task_line.specs.FirstWrong.{HasWrong, FirstWrong}
 pub use Rattle.sas_task_line.specs.Sections.{HasNames, OperatorInRanges, RuleInRanges, spelled}
 pub use Rattle.sas_task_line.specs.TaskEvents.{after, nothing_yet}

@@ -1,5 +1,5 @@
 -- The location of the next line and what is expected there, by the tracker.
-use Rattle.sas_task_judge.proofs.Imports.{◌≡◌, ℕ, List, Option, Some, None, Result, refl, sym, ap, subst, ◌∙◌, none-some, IfOk, Due, Location, WrongWord, Place, slot_of_due, TaskLine, number, fact, effect, head, TaskSlot, task_slot, first_wrong, line_bounds, mark_at, HasFacts, HasBounds, HasWrong, FirstWrong, TaskJudge, due_slot, DueIs, LocationIs, tracker_at}
+use Rattle.sas_task_judge.proofs.Imports.{◌≡◌, ℕ, List, Option, Some, None, Result, refl, sym, ap, subst, ◌∙◌, none-some, IfOk, Due, Location, WrongWord, Place, slot_of_due, TaskLine, fact, effect, head, TaskSlot, task_slot, first_wrong, line_bounds, mark_at, HasFacts, HasBounds, HasWrong, FirstWrong, TaskJudge, due_slot, DueIs, LocationIs, tracker_at}
 use Rattle.sas_task_format.specs.declared.marks.Due.TheVariants as due
 
 -- ---- the mark of a place

@@ -1,5 +1,5 @@
 -- One line of a task moves the judge.
-use Rattle.sas_task_judge.proofs.Imports.{IsTrue, ◌≡◌, ◌≢◌, ℕ, zero, suc, ◌<◌, ◌≤◌, ◌-◌, Bool, nat_lt, length, List, [], ◌∷◌, ◌++◌, refl, sym, ap, subst, ◌∙◌, arith, codes, Result, Ok, Err, take, drop, Option, Some, None, result_err, none-some, Kind, IsOfBytes, IsAllowed, OneLine, IsRejected, Rejects, read, process_node, TaskLine, effect, TaskSlot, number_slot, task_line_bytes, task_format, TaskJudge, state_values, state_values_of, goal_begin, process_at, state_of, tracker_of, KnownTo, LeadsOn, RejectsLine, StandsAsBefore, TakesMemory, JudgesLine, MovesBy, MovesAhead, TaskLineFits, Parts, Variable, range_of, Event, Said, SoFar, Place, step, Effect, LineStandsFirst, Change, plain_effect, SpellsAhead, change_in_ranges, effect_in_ranges, IsOfLine, TaskProcess, a_word, a_number, number_in, effect_in}
+use Rattle.sas_task_judge.proofs.Imports.{IsTrue, ◌≡◌, ◌≢◌, ℕ, zero, suc, ◌+◌, ◌<◌, ◌≤◌, ◌-◌, Bool, nat_lt, length, List, [], ◌∷◌, ◌++◌, refl, sym, ap, subst, ◌∙◌, arith, codes, Result, Ok, Err, take, drop, take_at, length-append, stands_first, plain, Option, Some, None, result_err, none-some, Kind, IsOfBytes, IsAllowed, OneLine, IsRejected, Rejects, read, process_node, TaskLine, effect, TaskSlot, number_slot, task_line_bytes, task_format, TaskJudge, state_values, state_values_of, goal_begin, process_at, state_of, tracker_of, KnownTo, LeadsOn, RejectsLine, StandsAsBefore, TakesMemory, JudgesLine, MovesBy, MovesAhead, TaskLineFits, Parts, Variable, range_of, Event, Said, SoFar, Place, step, Effect, LineStandsFirst, Change, plain_effect, LineAhead, change_in_ranges, effect_in_ranges, IsOfLine, TaskProcess, a_word, a_number, number_in, effect_in}
 use Rattle.sas_reader.specs.declared.fault.Kind.TheVariants as kinds
 use Rattle.sas_task_format.specs.declared.places.Place.TheVariants as at
 use Rattle.sas_task_judge.proofs.TaskRanges.{many_same}
@@ -82,27 +82,31 @@ said_apart j k said line event moves = λ s f.
 
 -- ---- the first line of some bytes
 
-module _ (j k : TaskJudge) (bytes : List ℕ) (event : Event) (n : ℕ) where
+module _ (j k : TaskJudge) (bytes rest : List ℕ) (event : Event) where
   -- the first line has this content, which may stand under the test
-  pub moves_ahead : (test : TaskLine → Bool) (i : TaskLine) → SpellsAhead i bytes n → IsTrue (test i) → MovesBy j test i k event → MovesAhead j bytes k event n
-  moves_ahead test i spells good by = record {
+  pub moves_ahead : (test : TaskLine → Bool) (i : TaskLine) → LineAhead i bytes rest → IsTrue (test i) → MovesBy j test i k event → MovesAhead j bytes k event rest
+  moves_ahead test i ahead good by = record {
     line = task_line_bytes i;
-    first = spells.first;
-    before_end = spells.before_end;
-    moves = by (task_line_bytes i) (record { slot = refl; fits = spells.fits; good = good }, refl);
+    plain = ahead.plain;
+    before = ahead.before;
+    moves = by (task_line_bytes i) (record { slot = refl; fits = ahead.fits; good = good }, refl);
   }
 
-  -- the line is the bytes before the last byte that was taken
-  pub taken_line : MovesAhead j bytes k event n → LineStandsFirst bytes (take (n - 1) bytes) n × JudgesLine j (take (n - 1) bytes) k (Ok event)
-  taken_line h = (subst (λ (l : List ℕ). LineStandsFirst bytes l n) h.before_end h.first, subst (λ (l : List ℕ). JudgesLine j l k (Ok event)) h.before_end h.moves)
-
   -- at least LF was taken
-  pub some_taken : MovesAhead j bytes k event n → 0 < n
-  some_taken h = omega (arith, h.first.taken.4)
+  pub some_taken : MovesAhead j bytes k event rest → length rest < length bytes
+  some_taken h = omega (arith, ap length h.before, length-append h.line (10 ∷ rest))
+
+  -- the line is the bytes before the last byte that was taken
+  pub taken_line : (n : ℕ) → n ≡ length bytes - length rest → MovesAhead j bytes k event rest → LineStandsFirst bytes (take (n - 1) bytes) n × JudgesLine j (take (n - 1) bytes) k (Ok event)
+  taken_line n taken h =
+      let long : length h.line + 1 ≡ n = omega (arith, taken, ap length h.before, length-append h.line (10 ∷ rest)) in
+      let is : h.line ≡ take (n - 1) bytes = sym (ap (take (n - 1)) h.before ∙ take_at h.line (10 ∷ rest) (n - 1) (omega (arith, long))) in
+      let first : LineStandsFirst bytes h.line n = subst (LineStandsFirst bytes h.line) long (stands_first bytes h.line rest (plain h.line h.plain) h.before) in
+      (subst (λ (l : List ℕ). LineStandsFirst bytes l n) is first, subst (λ (l : List ℕ). JudgesLine j l k (Ok event)) is h.moves)
 
   -- its effect was stored before the judge moved
-  pub effect_moves_ahead : (said : Said) (change : Change) → said.effect ≡ plain_effect change → SpellsAhead (effect (plain_effect change)) bytes n → IsTrue (change_in_ranges j.ranges change.var change.old change.new)
-      → MovesBy (record j { said = said }) (λ i. effect_in_ranges j.ranges (effect_in i)) (effect said.effect) k event → MovesAhead j bytes k event n
+  pub effect_moves_ahead : (said : Said) (change : Change) → said.effect ≡ plain_effect change → LineAhead (effect (plain_effect change)) bytes rest → IsTrue (change_in_ranges j.ranges change.var change.old change.new)
+      → MovesBy (record j { said = said }) (λ i. effect_in_ranges j.ranges (effect_in i)) (effect said.effect) k event → MovesAhead j bytes k event rest
   effect_moves_ahead said change e spells good by =
       let test : TaskLine → Bool = λ i. effect_in_ranges j.ranges (effect_in i) in
       let by_change : MovesBy (record j { said = said }) test (effect (plain_effect change)) k event = subst (λ (f : Effect). MovesBy (record j { said = said }) test (effect f) k event) e by in

@@ -1,7 +1,6 @@
 -- What the judge of the lines of a task file represents: what may still follow the content so far.
-use Rattle.std.specs.Prelude.{◌≡◌, ◌≢◌, ◌⊎◌, ◌<◌, ℕ, ◌+◌, ◌-◌, Bool, List, [], ◌∷◌, ◌++◌, length, take, Result, Ok, Err, codes}
+use Rattle.std.specs.Prelude.{◌≡◌, ◌≢◌, ◌⊎◌, ◌<◌, ℕ, ◌+◌, Bool, List, [], ◌∷◌, ◌++◌, length, Result, Ok, Err, codes}
 use Rattle.sas_core.specs.declared.parts.Variable.{Variable}
-use Rattle.sas_lines.specs.FirstLines.{LineStandsFirst}
 use Rattle.sas_reader.specs.declared.fault.Kind.{Kind}
 use Rattle.sas_reader.specs.declared.fault.Kind.TheVariants as kinds
 use Rattle.sas_task_line.specs.declared.task_events.Event.{Event}
@@ -13,7 +12,7 @@ use Rattle.sas_task_judge.specs.declared.task_judge.sections.Section.TheVariants
 use Rattle.sas_task_judge.specs.declared.task_judge.TaskJudge.{TaskJudge}
 use Rattle.sas_reader.specs.Faults.{IsOfBytes}
 use Rattle.sas_task_format.specs.Process.{process_node, ◌>>◌}
-use Rattle.sas_reader.specs.System.{OneLine, Rejects, IsAllowed}
+use Rattle.sas_reader.specs.System.{OneLine, Rejects, IsAllowed, IsPlain}
 use Rattle.sas_task_format.specs.Tracker.{Tracker, step}
 use Rattle.sas_task_line.specs.TaskEvents.{after}
 use Rattle.sas_task_format.specs.TaskFormat.{TaskLine, task_slot, task_line_bytes, task_format, TaskLineFits}
@@ -184,11 +183,10 @@ MovesBy j test i k event = (line : List ℕ)
     → IsAllowed task_format TaskLineFits (task_slot i) test i × (task_line_bytes i ≡ line)
     → JudgesLine j line k (Ok event)
 
--- The first line of the bytes has n bytes with its end, which is LF, and leads to the content with
--- what it adds.
+-- The bytes are a line, then LF, then the rest. The line leads to the content with what it adds.
 pub record MovesAhead (j : TaskJudge) (bytes : List ℕ) (k : TaskJudge) (event : Event)
-    (n : ℕ) : Type 0 where
+    (rest : List ℕ) : Type 0 where
   pub line : List ℕ
-  pub first : LineStandsFirst bytes line n
-  pub before_end : line ≡ take (n - 1) bytes
+  pub plain : IsPlain line
+  pub before : bytes ≡ line ++ 10 ∷ rest
   pub moves : JudgesLine j line k (Ok event)

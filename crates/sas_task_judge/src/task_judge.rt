@@ -190,18 +190,6 @@ impl TaskJudge {
         Ok(Event::Variable)
     }
 
-    /// Moves past the number of the facts or conditions that follow.
-    fn took_fact_count(&mut self, count: u32, next: Place) -> Event
-        requires apart { next ≢ Place.VariableValues }
-        requires due { Due self.old (λ _. a_number any) format.number
-            (λ n. record self.old { more = n; place = next }) (λ _ s. record s { facts = [] }) }
-        ensures { MovesBy self.old (λ i. any (number_in i)) (format.number count) self.new result }
-    {
-        self.more = count;
-        self.place = next;
-        Event::Facts
-    }
-
     /// Accepts the number of the facts or conditions that follow.
     fn fact_count(&mut self, line: &[u8], next: Place) -> Result<Event, Kind>
         requires apart { next ≢ Place.VariableValues }
@@ -209,8 +197,9 @@ impl TaskJudge {
             (λ n. record self.old { more = n; place = next }) (λ _ s. record s { facts = [] }) }
         ensures { JudgesLine self.old line.now self.new result }
     {
-        let count = number_at(line)?;
-        Ok(self.took_fact_count(count, next))
+        self.more = number_at(line)?;
+        self.place = next;
+        Ok(Event::Facts)
     }
 
     /// Moves past a fact of a group, a prevail condition, or a condition of a rule.
@@ -339,25 +328,15 @@ impl TaskJudge {
         Ok(Event::Name)
     }
 
-    /// Moves past the number of an operator's effects.
-    fn took_effect_count(&mut self, count: u32) -> Event
-        requires place { self.old.place ≡ Place.Prevail }
-        requires all { self.old.more ≡ 0 }
-        ensures { MovesBy self.old (λ i. any (number_in i)) (format.number count) self.new result }
-    {
-        self.more = count;
-        self.place = Place::Effects;
-        Event::Effects
-    }
-
     /// Accepts the number of an operator's effects.
     fn effect_count(&mut self, line: &[u8]) -> Result<Event, Kind>
         requires place { self.old.place ≡ Place.Prevail }
         requires all { self.old.more ≡ 0 }
         ensures { JudgesLine self.old line.now self.new result }
     {
-        let count = number_at(line)?;
-        Ok(self.took_effect_count(count))
+        self.more = number_at(line)?;
+        self.place = Place::Effects;
+        Ok(Event::Effects)
     }
 
     /// Moves past the effect that is stored in `said`.
@@ -380,37 +359,15 @@ impl TaskJudge {
         Ok(self.took_effect())
     }
 
-    /// Moves past the cost of an operator.
-    fn took_cost(&mut self, cost: u32) -> Event
-        requires place { self.old.place ≡ Place.Effects }
-        requires all { self.old.more ≡ 0 }
-        ensures { MovesBy self.old (λ i. any (number_in i)) (format.number cost) self.new result }
-    {
-        self.said.number = cost;
-        self.place = Place::OperatorEnd;
-        Event::Operator
-    }
-
     /// Accepts the cost of an operator.
     fn operator_cost(&mut self, line: &[u8]) -> Result<Event, Kind>
         requires place { self.old.place ≡ Place.Effects }
         requires all { self.old.more ≡ 0 }
         ensures { JudgesLine self.old line.now self.new result }
     {
-        let cost = number_at(line)?;
-        Ok(self.took_cost(cost))
-    }
-
-    /// Moves past the head of a rule.
-    fn took_head(&mut self, head: Change) -> Event
-        requires place { self.old.place ≡ Place.RuleConditions }
-        requires all { self.old.more ≡ 0 }
-        ensures { MovesBy self.old (λ i. head_in_ranges self.old.ranges (head_in i))
-            (format.head head.var head.old head.new) self.new result }
-    {
-        self.said.head = head;
-        self.place = Place::RuleEnd;
-        Event::Rule
+        self.said.number = number_at(line)?;
+        self.place = Place::OperatorEnd;
+        Ok(Event::Operator)
     }
 
     /// Accepts the head of a rule.
@@ -419,8 +376,9 @@ impl TaskJudge {
         requires all { self.old.more ≡ 0 }
         ensures { JudgesLine self.old line.now self.new result }
     {
-        let head = head_at(&self.ranges, line)?;
-        Ok(self.took_head(head))
+        self.said.head = head_at(&self.ranges, line)?;
+        self.place = Place::RuleEnd;
+        Ok(Event::Rule)
     }
 
     /// Judges the next line. Returns what it adds, or the kind of its fault.

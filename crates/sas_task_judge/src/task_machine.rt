@@ -138,14 +138,15 @@ impl<K: Keeper> TaskMachine<K> {
         requires { HasEnded self.old.judge → ⊥ }
         ensures { AcceptsAhead (LedBy K.keeps) self.old bytes.now self.new result }
     {
-        let Some(ahead) = self.judge.take_ahead(bytes) else {
+        let Some((event, rest)) = self.judge.take_ahead(bytes) else {
             return Ok(Front::EMPTY);
         };
-        let line = &bytes[..ahead.taken - 1];
-        self.kept.keep(line, ahead.said, &mut self.judge.said)?;
+        let taken = bytes.len() - rest.len();
+        self.kept
+            .keep(&bytes[..taken - 1], event, &mut self.judge.said)?;
         Ok(Front {
             lines: 1,
-            bytes: ahead.taken,
+            bytes: taken,
         })
     }
 }

@@ -1,5 +1,7 @@
 -- Reading the first line of some bytes up to its LF.
-use Rattle.sas_task_line.proofs.Imports.{◌≡◌, ℕ, zero, suc, ◌+◌, ◌*◌, ◌-◌, ◌<◌, ◌≤◌, ◌^◌, List, [], ◌∷◌, ◌++◌, length, take, drop, refl, sym, ap, subst, ◌∙◌, append_assoc, length-append, arith, Option, None, get_or, true, false, Bool, not, ◌&&◌, ◌==◌, IsTrue, decimal, list_all, decimal_digit, length-take-le, take_rest, take_at, get_or-take, take-append-drop, drop_more, Nowhere, NoneBefore, Passes, SpellsAhead, LineAhead, NumberAhead, SignedAhead, ChangeAhead, is_byte2, is_plain, IsName, is_none-search, ne_eqb, Fact, LineStandsFirst, stands_first, plain, TaskLine, word, name, number, signed, fact, effect, head, task_line_bytes, TaskLineFits, EffectNumbers, Sayable, plain-line, Change, plain_effect}
+use Rattle.sas_task_line.proofs.Imports.{◌≡◌, ℕ, zero, suc, ◌+◌, ◌*◌, ◌-◌, ◌<◌, ◌≤◌, ◌^◌, List, [], ◌∷◌, ◌++◌, length, take, drop, refl, sym, ap, ap₂, ◌∙◌, append_assoc, arith, Option, get_or, true, false, Bool, not, ◌&&◌, ◌==◌, IsTrue, decimal, list_all, list_all-from_AllPass, list_all-append, All-from_get_or, decimal_digit, length-take-le, take_rest, get_or-take, take-append-drop, drop-drop, drop_more, LineAhead, NumberAhead, SignedAhead, FactAhead, ChangeAhead, is_plain, IsName, ne_eqb, leb, leb-false, map, prefix_len, count_trailing_zeros, chunk, mask_l, leading_from_mask_l, trailing_mask_l, length-chunk, run_in_chunk_fails, Fact, TaskLine, word, name, number, signed, fact, effect, head, task_line_bytes, TaskLineFits, EffectNumbers, fact_words, effect_words, signed_decimal, joined, IsNumber, TakesFacts, fact_in_ranges, Sayable, plain-line, Change, plain_effect}
+use Rattle.sas_flat.specs.Effects as flat
+use Rattle.sas_task_line.proofs.TaskReading.{one_more_fact}
 use Rattle.sas_task_line.proofs.Digits.{digit_is, digit_more}
 
 -- ---- a line and its LF
@@ -7,20 +9,6 @@ use Rattle.sas_task_line.proofs.Digits.{digit_is, digit_more}
 -- a line before LF
 pub says_line : (i : TaskLine) (bytes rest : List ℕ) → TaskLineFits i → Sayable i → bytes ≡ task_line_bytes i ++ 10 ∷ rest → LineAhead i bytes rest
 says_line i bytes rest fits says e = record { fits = fits; plain = plain-line i says; before = e }
-
--- the bytes of a line with its LF
-pub line_is_ahead : (i : TaskLine) (bytes rest : List ℕ) (taken : ℕ) → LineAhead i bytes rest → length (task_line_bytes i) + 1 ≡ taken → SpellsAhead i bytes taken
-line_is_ahead i bytes rest taken h n =
-    let line = task_line_bytes i in
-    record {
-      fits = h.fits;
-      first = subst (LineStandsFirst bytes line) n (stands_first bytes line rest (plain line h.plain) h.before);
-      before_end = sym (ap (take (taken - 1)) h.before ∙ take_at line (10 ∷ rest) (taken - 1) (omega arith));
-    }
-
--- the same, with the number of bytes computed from the rest
-pub spells_ahead : (i : TaskLine) (bytes rest : List ℕ) (taken : ℕ) → LineAhead i bytes rest → taken ≡ length bytes - length rest → SpellsAhead i bytes taken
-spells_ahead i bytes rest taken h n = line_is_ahead i bytes rest taken h (omega (arith, n, ap length h.before, length-append (task_line_bytes i) (10 ∷ rest)))
 
 -- ---- bytes in front
 
@@ -92,19 +80,60 @@ number_is_ahead bytes rest n h = says_line (number n) bytes rest h.0 h.0 h.1
 pub signed_is_ahead : (bytes rest : List ℕ) (n : Option ℕ) → SignedAhead bytes n 10 rest → LineAhead (signed n) bytes rest
 signed_is_ahead bytes rest n h = says_line (signed n) bytes rest h.0 h.0 h.1
 
-pub fact_is_ahead : (bytes more rest : List ℕ) (f : Fact) → NumberAhead bytes f.var 32 more → NumberAhead more f.value 10 rest → LineAhead (fact f) bytes rest
-fact_is_ahead bytes more rest f h g = says_line (fact f) bytes rest (h.0, g.0) (h.0, g.0) (then _ _ bytes more (10 ∷ rest) 32 h.1 g.1)
+pub two_numbers_ahead : (bytes more rest : List ℕ) (f : Fact) (end : ℕ) → NumberAhead bytes f.var 32 more → NumberAhead more f.value end rest → FactAhead bytes f end rest
+two_numbers_ahead bytes more rest f end h g = ((h.0, g.0), then _ _ bytes more (end ∷ rest) 32 h.1 g.1)
+
+pub fact_is_ahead : (bytes rest : List ℕ) (f : Fact) → FactAhead bytes f 10 rest → LineAhead (fact f) bytes rest
+fact_is_ahead bytes rest f h = says_line (fact f) bytes rest h.0 h.0 h.1
 
 pub head_is_ahead : (bytes rest : List ℕ) (c : Change) → ChangeAhead bytes c rest → LineAhead (head c.var c.old c.new) bytes rest
 head_is_ahead bytes rest c h = says_line (head c.var c.old c.new) bytes rest h.0 h.0 h.1
 
-pub effect_is_ahead : (bytes more rest : List ℕ) (c : Change) → bytes ≡ 48 ∷ 32 ∷ more → ChangeAhead more c rest → LineAhead (effect (plain_effect c)) bytes rest
-effect_is_ahead bytes more rest c e h =
-    let numbers : EffectNumbers (plain_effect c) = record { count = omega arith; conditions = tt; head = h.0 } in
+-- ---- an effect
+
+-- The bytes are a count and the first conditions of an effect, which exist, and the rest: if the
+-- rest begins with words, then the bytes begin with all these words.
+pub record ConditionsBefore (ranges : List ℕ) (count done : ℕ) (conditions : List Fact) (bytes rest : List ℕ) : Type 0 where
+  pub exist : IsTrue (list_all (fact_in_ranges ranges) conditions)
+  pub before : (w : List ℕ) (ws : List (List ℕ)) (tail : List ℕ) → rest ≡ joined (w ∷ ws) ++ tail
+      → (words : List (List ℕ)) × TakesFacts words done conditions (w ∷ ws) × (bytes ≡ joined (decimal count ∷ words) ++ tail)
+
+module _ (ranges : List ℕ) (count : ℕ) (bytes : List ℕ) where
+  pub no_condition : (rest : List ℕ) → NumberAhead bytes count 32 rest → ConditionsBefore ranges count 0 [] bytes rest
+  no_condition rest h = record {
+    exist = refl;
+    before = λ w ws tail e. (w ∷ ws, record { many = refl; numbers = tt; before = refl }, then (decimal count) (joined (w ∷ ws)) bytes rest tail 32 h.1 e);
+  }
+
+  pub one_more_condition : (done : ℕ) (fs : List Fact) (f : Fact) (more rest : List ℕ) → ConditionsBefore ranges count done fs bytes more → FactAhead more f 32 rest → IsTrue (fact_in_ranges ranges f) → ConditionsBefore ranges count (done + 1) (fs ++ f ∷ []) bytes rest
+  one_more_condition done fs f more rest h g there = record {
+    exist = list_all-append (fact_in_ranges ranges) fs (f ∷ []) ∙ ap₂ (λ x y. x && (y && true)) h.exist there;
+    before = λ w ws tail e.
+        let here = then (joined (fact_words f)) (joined (w ∷ ws)) more rest tail 32 g.1 e ∙ ap (λ l. l ++ tail) (append_assoc (decimal f.var) (32 ∷ decimal f.value) (32 ∷ joined (w ∷ ws))) in
+        let so_far = h.before (decimal f.var) (decimal f.value ∷ w ∷ ws) tail here in
+        (so_far.0, one_more_fact so_far.0 _ (w ∷ ws) done fs f so_far.1 (g.0, refl), so_far.2);
+  }
+
+  pub effect_is_ahead : (fs : List Fact) (more rest : List ℕ) (c : Change) → IsNumber count → ConditionsBefore ranges count count fs bytes more → ChangeAhead more c rest → LineAhead (effect (flat.effect c fs)) bytes rest
+  effect_is_ahead fs more rest c few h g =
+      let all = h.before (decimal c.var) (signed_decimal c.old ∷ decimal c.new ∷ []) (10 ∷ rest) g.1 in
+      let numbers : EffectNumbers (flat.effect c fs) = record { count = omega (arith, few, all.1.many); conditions = all.1.numbers; head = g.0 } in
+      let words : decimal count ∷ all.0 ≡ effect_words (flat.effect c fs) = ap₂ (λ n ws. decimal n ∷ ws) (sym all.1.many) all.1.before in
+      says_line (effect (flat.effect c fs)) bytes rest numbers numbers (all.2 ∙ ap (λ ws. joined ws ++ 10 ∷ rest) words)
+
+pub plain_effect_is_ahead : (bytes more rest : List ℕ) (c : Change) → bytes ≡ 48 ∷ 32 ∷ more → ChangeAhead more c rest → LineAhead (effect (plain_effect c)) bytes rest
+plain_effect_is_ahead bytes more rest c e h =
     let zero_is : decimal 0 ≡ 48 ∷ [] = decimal_digit 0 (omega arith) in
-    says_line (effect (plain_effect c)) bytes rest numbers numbers (then _ _ bytes more (10 ∷ rest) 32 (e ∙ ap (λ (x : List ℕ). x ++ 32 ∷ more) (sym zero_is)) h.1)
+    effect_is_ahead [] 0 bytes [] more rest c (omega arith) (no_condition [] 0 bytes more (omega arith, e ∙ ap (λ (x : List ℕ). x ++ 32 ∷ more) (sym zero_is))) h
 
 -- ---- a word, a name
+
+-- lists of eight to sixteen elements with the same first eight and the same last eight
+pub by_ends : (n : ℕ) (a b : List ℕ) → 8 ≤ n → n ≤ 16 → take 8 a ≡ take 8 b → drop (n - 8) a ≡ drop (n - 8) b → a ≡ b
+by_ends n a b low high first last =
+    let place : (n - 8) + (16 - n) ≡ 8 = omega arith in
+    let behind : (l : List ℕ) → drop (16 - n) (drop (n - 8) l) ≡ drop 8 l = λ l. drop-drop (16 - n) (n - 8) l ∙ ap (λ k. drop k l) place in
+    sym (take-append-drop 8 a) ∙ ap₂ (λ (x y : List ℕ). x ++ y) first (sym (behind a) ∙ ap (drop (16 - n)) last ∙ behind b) ∙ take-append-drop 8 b
 
 both : (a b : Bool) → IsTrue (a && b) → IsTrue b
 both true b h = h
@@ -116,12 +145,32 @@ Name_all w h = both (not (length w == 0)) (list_all is_plain w) h
 pub word_is_ahead : (bytes w rest : List ℕ) → IsName w → bytes ≡ w ++ 10 ∷ rest → LineAhead (word w) bytes rest
 word_is_ahead bytes w rest h e = says_line (word w) bytes rest tt (Name_all w h) e
 
-pub name_is_ahead : (bytes : List ℕ) (end : ℕ) → 0 < end → NoneBefore (Passes (is_byte2 10 13) bytes) 0 (length bytes) end → get_or bytes end 0 ≡ 10 → IsName (take end bytes) × LineAhead (name (take end bytes)) bytes (drop (end + 1) bytes)
-name_is_ahead bytes end some first here =
+high_is_plain : (b : ℕ) → 13 < b → is_plain b ≡ true
+high_is_plain b high = ap₂ (λ x y. not x && not y) (ne_eqb b 10 (λ e. omega (arith, e, high))) (ne_eqb b 13 (λ e. omega (arith, e, high)))
+
+pub name_is_ahead : (bytes : List ℕ) (end : ℕ) → 0 < end → end < length bytes → ((k : ℕ) → k < end → 13 < get_or bytes k 0) → get_or bytes end 0 ≡ 10
+    → IsName (take end bytes) × LineAhead (name (take end bytes)) bytes (drop (end + 1) bytes)
+name_is_ahead bytes end some high before here =
     let w = take end bytes in
-    let l : length w ≡ end = length-take-le end bytes (omega (arith, first.high)) in
-    let nowhere : Nowhere (Passes (is_byte2 10 13) w) 0 (length w) = λ k low below found. first.before k low (omega arith) (rw (get_or-take end bytes k 0 (omega arith)) at found) in
-    let one_line = is_none-search w None true nowhere refl in
+    let l : length w ≡ end = length-take-le end bytes (omega (arith, high)) in
+    let each_plain : (k : ℕ) → k < length w → is_plain (get_or w k 0) ≡ true = λ k below. ap is_plain (get_or-take end bytes k 0 (omega arith)) ∙ high_is_plain _ (before k (omega arith)) in
+    let all : list_all is_plain w ≡ true = list_all-from_AllPass is_plain w (All-from_get_or (λ b. is_plain b ≡ true) w 0 each_plain) in
     let many : (length w == 0) ≡ false = ne_eqb (length w) 0 (λ e. omega (arith, e, l, some)) in
-    let h : IsName w = ap (λ (b : Bool). not b && list_all is_plain w) many ∙ sym one_line in
-    (h, says_line (name w) bytes (drop (end + 1) bytes) tt h (sym (take-append-drop end bytes) ∙ ap (λ (x : List ℕ). w ++ x) (drop_more bytes end 0 first.high ∙ ap (λ (b : ℕ). b ∷ drop (end + 1) bytes) here)))
+    let h : IsName w = ap₂ (λ x y. not x && y) many all in
+    (h, says_line (name w) bytes (drop (end + 1) bytes) tt h (sym (take-append-drop end bytes) ∙ ap (λ (x : List ℕ). w ++ x) (drop_more bytes end 0 high ∙ ap (λ (b : ℕ). b ∷ drop (end + 1) bytes) here)))
+
+-- ---- the bytes before the first that is at most 13
+
+abbrev pub stops : ℕ → Bool
+stops b = leb b 13
+
+module _ (bytes : List ℕ) (at mask : ℕ) (room : at + 32 ≤ length bytes) (is : mask ≡ mask_l (map stops (chunk at 32 bytes))) where
+  -- thirty-two bytes, or as many as the zeros at the end of the mask
+  pub none_stops : mask ≡ 0 → 32 ≡ prefix_len (λ b. not (stops b)) (chunk at 32 bytes)
+  none_stops none = sym (leading_from_mask_l stops (chunk at 32 bytes) (sym is ∙ none) ∙ length-chunk at 32 bytes room)
+
+  pub one_stops : (mask ≡ 0 → ⊥) → count_trailing_zeros 64 mask ≡ prefix_len (λ b. not (stops b)) (chunk at 32 bytes)
+  one_stops some = ap (count_trailing_zeros 64) is ∙ trailing_mask_l stops 64 (chunk at 32 bytes) (omega (arith, length-chunk at 32 bytes room)) (omega (arith, is, some))
+
+  pub are_plain : (r : ℕ) → r ≡ prefix_len (λ b. not (stops b)) (chunk at 32 bytes) → (k : ℕ) → at ≤ k → k < at + r → 13 < get_or bytes k 0
+  are_plain r counted k low high = leb-false _ 13 (run_in_chunk_fails stops bytes at 32 r 0 room counted k low high)

@@ -1,17 +1,21 @@
 -- What the proofs use of other crates, and of the definitions of this one.
-pub use Rattle.std.proofs.Common.{◌≡◌, ℕ, zero, suc, ◌+◌, ◌*◌, ◌-◌, ◌<◌, ◌≤◌, ◌^◌, List, [], ◌∷◌, ◌++◌, length, take, drop, refl, sym, ap, subst, ◌∙◌, append-nil, append_assoc, length-append, arith, Option, None, get_or, true, false, Bool, not, ◌&&◌, ◌==◌, IsTrue, ◌/◌, ◌%◌, codes, ◌≢◌, Some, if◌then◌else◌, slice_get, rules, ap₂}
-pub use Rattle.std.proofs.lemmas.Bool.{ne_eqb, and_parts, eqb-true}
+pub use lib.Count.{count_trailing_zeros}
+pub use lib.Lanes.{chunk, mask_l}
+pub use mir.Syntax.{w8}
+pub use Rattle.std.proofs.Common.{leb, map, ◌≡◌, ℕ, zero, suc, ◌+◌, ◌*◌, ◌-◌, ◌<◌, ◌≤◌, ◌^◌, List, [], ◌∷◌, ◌++◌, length, take, drop, refl, sym, ap, subst, ◌∙◌, append-nil, append_assoc, length-append, arith, Option, None, get_or, true, false, Bool, not, ◌&&◌, ◌==◌, IsTrue, ◌/◌, ◌%◌, codes, ◌≢◌, Some, if◌then◌else◌, slice_get, rules, ap₂}
+pub use Rattle.std.proofs.lemmas.Bool.{leb-false, ne_eqb, and_parts, eqb-true}
 pub use Rattle.std.proofs.lemmas.Bool.Decides.{nat_tests, Decides-eqb}
 pub use Rattle.std.proofs.lemmas.Fmt.{decimal_digit, decimal_step, decimal_injective}
 pub use Rattle.std.proofs.lemmas.Grind.{flat_map-append, common_steps}
-pub use Rattle.std.proofs.lemmas.List.{length-take-le, take_rest, take_at, get_or-take, take-append-drop, drop_more, map-append, length-map}
+pub use Rattle.std.proofs.lemmas.List.{length-take-le, take_rest, take_at, get_or-take, take-append-drop, drop-drop, drop_more, map-append, length-map}
+pub use Rattle.std.proofs.lemmas.List.Elements.{All-from_get_or}
 pub use Rattle.std.proofs.lemmas.List.Folds.{list_all-append}
+pub use Rattle.std.proofs.lemmas.List.Sums.{list_all-from_AllPass}
 pub use Rattle.std.proofs.lemmas.Option.{none-some, IfSome_then}
-pub use Rattle.std.proofs.lemmas.Slice.Eq.{strip_prefix_is, slice_eq-Decides}
+pub use Rattle.std.proofs.lemmas.Simd.{bitmask_splat, leading_from_mask_l, trailing_mask_l, length-chunk, run_in_chunk_le, run_in_chunk_fails}
+pub use Rattle.std.proofs.lemmas.Slice.Eq.{slice_eq-Decides}
 pub use Rattle.std.specs.Fmt.{decimal}
-pub use Rattle.std.specs.List.{list_all, flat_map, AllByRecursion}
-pub use Rattle.memchr.specs.Find.{Nowhere, NoneBefore, Passes, is_byte2}
-pub use Rattle.sas_core.proofs.PlainBytes.{is_none-search}
+pub use Rattle.std.specs.List.{list_all, flat_map, prefix_len, AllByRecursion}
 pub use Rattle.sas_core.specs.Changes.{plain_effect}
 pub use Rattle.sas_core.specs.Names.{is_plain, IsName, is_name}
 pub use Rattle.sas_core.specs.Numbers.{IsNumber, IsSigned}
@@ -38,11 +42,11 @@ pub use Rattle.sas_task_format.proofs.TaskLines.{one_task_line, NoSpace-facts}
 pub use Rattle.sas_task_format.proofs.TaskPlain.{Sayable, plain-line}
 pub use Rattle.sas_task_format.proofs.TaskSections.{number_is, signed_is, fact_is, effect_is, head_is, is_less}
 pub use Rattle.sas_task_format.proofs.WrongWords.{may_stand, wrong_at}
-pub use Rattle.sas_task_format.specs.TaskFormat.{TaskLine, word, name, number, signed, fact, effect, head, task_line_bytes, TaskLineFits, EffectNumbers, line, variable_lines, group_lines, operator_lines, rule_lines, TaskSlot, number_slot, signed_slot, fact_slot, effect_slot, head_slot, task_slot, HasShape, NumbersKind, no_shape, no_value, TaskKind, task_format, fact_words, head_words, FactNumbers}
+pub use Rattle.sas_task_format.specs.TaskFormat.{TaskLine, word, name, number, signed, fact, effect, head, task_line_bytes, TaskLineFits, EffectNumbers, line, variable_lines, group_lines, operator_lines, rule_lines, TaskSlot, number_slot, signed_slot, fact_slot, effect_slot, head_slot, task_slot, HasShape, NumbersKind, no_shape, no_value, TaskKind, task_format, fact_words, head_words, effect_words, FactNumbers}
 pub use Rattle.sas_task_format.specs.TaskProcess.{number_in, signed_in, fact_in, effect_in, head_in}
 pub use Rattle.sas_task_format.specs.TaskReasons.{Bounded, below, first_wrong, fact_bounds, change_bounds, line_bounds}
 pub use Rattle.sas_task_format.specs.declared.marks.WrongWord.{WrongWord}
-pub use Rattle.sas_task_line.specs.Ahead.{SpellsAhead, LineAhead, NumberAhead, SignedAhead, ChangeAhead}
+pub use Rattle.sas_task_line.specs.Ahead.{LineAhead, NumberAhead, SignedAhead, FactAhead, ChangeAhead, EffectAhead}
 pub use Rattle.sas_task_line.specs.FirstWrong.{HasWrong, FirstWrong}
 pub use Rattle.sas_task_line.specs.LinesBefore.{LinesBefore, CountedBefore, AppendedBefore, EffectsBefore, FactsBefore, NamesBefore}
 pub use Rattle.sas_task_line.specs.Sections.{spelled, LinesAhead, VariableAhead, GroupAhead, OperatorAhead, RuleAhead, gathered_rule}

@@ -1,25 +1,21 @@
 // Parses the first line of some bytes directly, if it ends with LF and has the expected content. Otherwise these functions return `None`.
 // Then the line is cut out and parsed by the functions of `task_line.rt`, which report its fault.
-ghost use Rattle.std.specs.Prelude.{◌+◌, ◌≤◌, ◌++◌, length, IfSome};
+ghost use Rattle.std.specs.Prelude.{◌≡◌, ℕ, ◌+◌, ◌-◌, ◌<◌, ◌≤◌, ◌++◌, length, take, drop, slice_index, IfSome, IsTrue};
 ghost use Rattle.std.specs.Fmt.{decimal};
 ghost use Rattle.sas_core.specs.Names.{IsName};
 ghost use Rattle.sas_task_format.specs.TaskFormat as format;
-ghost use Rattle.sas_task_line.specs.Ahead.{SpellsAhead, LineAhead, NumberAhead, SignedAhead, ChangeAhead};
+ghost use Rattle.sas_task_line.specs.Ahead.{LineAhead, NumberAhead, SignedAhead, FactAhead, ChangeAhead};
 ghost use Rattle.sas_core.specs.Changes.{plain_effect};
 
-use memchr::memchr2;
 use sas_core::{Change, Fact};
-
-/// The content of the first line of some bytes, and the number of bytes of the line with its LF.
-#[derive(Clone, Copy, Debug, PartialEq, Eq)]
-pub struct Ahead<A> {
-    pub said: A,
-    pub taken: usize,
-}
+use std::simd::prelude::*;
 
 /// The most bytes of a number that is parsed here, which has at most nine digits, with the byte after it. Where so many bytes are left for
 /// each number of a line, no byte has to be compared with the end of the bytes.
 const NUMBER: usize = 10;
+
+/// How many bytes of a name are compared at once.
+const LANES: usize = 32;
 
 /// Returns the number of at most nine digits before the byte `end`, and the bytes after it.
 #[inline(always)]
@@ -41,11 +37,12 @@ fn number_in(bytes: &[u8], end: u8) -> Option<(u32, &[u8])>
     }
     for at in 1..9 {
         let byte = bytes[at];
-        if byte == end {
-            return Some((value, &bytes[at + 1..]));
-        }
         if !byte.is_ascii_digit() {
-            return None;
+            return if byte == end {
+                Some((value, &bytes[at + 1..]))
+            } else {
+                None
+            };
         }
         value = value * 10 + (byte - b'0') as u32;
     }
@@ -97,6 +94,14 @@ pub(crate) fn number_before(bytes: &[u8], end: u8) -> Option<(u32, &[u8])>
     number_in(bytes, end)
 }
 
+/// Returns the number before LF, and the bytes after LF.
+#[inline(always)]
+pub fn number_line_before(bytes: &[u8]) -> Option<(u32, &[u8])>
+    ensures { IfSome result (λ found. LineAhead (format.number found.0) bytes.now found.1.now) }
+{
+    number_before(bytes, b'\n')
+}
+
 /// Returns the number before the byte `end` (`None` for `-1`), and the bytes after it.
 #[inline(always)]
 pub(crate) fn signed_before(bytes: &[u8], end: u8) -> Option<(Option<u32>, &[u8])>
@@ -119,22 +124,30 @@ pub(crate) fn change_before(bytes: &[u8]) -> Option<(Change, &[u8])>
     change_in_line(bytes)
 }
 
-/// Returns the fact before LF, and the bytes after LF. The fact need not exist.
+/// Returns the fact before the byte `end`, and the bytes after it. The fact need not exist.
 #[inline(always)]
-pub(crate) fn fact_before(bytes: &[u8]) -> Option<(Fact, &[u8])>
-    ensures { IfSome result (λ found. LineAhead (format.fact found.0) bytes.now found.1.now) }
+pub(crate) fn fact_with_end(bytes: &[u8], end: u8) -> Option<(Fact, &[u8])>
+    ensures { IfSome result (λ found. FactAhead bytes.now found.0 end found.1.now) }
 {
     if bytes.len() < 2 * NUMBER {
         return None;
     }
     let (var, rest) = number_in(bytes, b' ')?;
-    let (value, rest) = number_in(rest, b'\n')?;
+    let (value, rest) = number_in(rest, end)?;
     Some((Fact { var, value }, rest))
+}
+
+/// Returns the fact before LF, and the bytes after LF. The fact need not exist.
+#[inline(always)]
+pub fn fact_before(bytes: &[u8]) -> Option<(Fact, &[u8])>
+    ensures { IfSome result (λ found. LineAhead (format.fact found.0) bytes.now found.1.now) }
+{
+    fact_with_end(bytes, b'\n')
 }
 
 /// Returns the change of an effect without conditions before LF, and the bytes after LF. Its facts need not exist.
 #[inline(always)]
-pub(crate) fn effect_before(bytes: &[u8]) -> Option<(Change, &[u8])>
+pub fn effect_before(bytes: &[u8]) -> Option<(Change, &[u8])>
     ensures { IfSome result
         (λ found. LineAhead (format.effect (plain_effect found.0)) bytes.now found.1.now) }
 {
@@ -147,6 +160,39 @@ pub(crate) fn effect_before(bytes: &[u8]) -> Option<(Change, &[u8])>
     change_in_line(&bytes[2..])
 }
 
+/// Returns the first eight bytes of an array that has so many.
+#[inline(always)]
+fn first_eight<const N: usize>(bytes: &[u8; N]) -> [u8; 8]
+    ensures { 8 ≤ N → result ≡ take 8 bytes.now }
+{
+    match bytes.split_first_chunk::<8>() {
+        Some((first, _)) => *first,
+        None => [0; 8],
+    }
+}
+
+/// Returns the last eight bytes of an array that has so many.
+#[inline(always)]
+fn last_eight<const N: usize>(bytes: &[u8; N]) -> [u8; 8]
+    ensures { 8 ≤ N → result ≡ drop (N - 8) bytes.now }
+{
+    match bytes.split_last_chunk::<8>() {
+        Some((_, last)) => *last,
+        None => [0; 8],
+    }
+}
+
+/// Returns whether the arrays are equal. Eight bytes are compared at once, so two comparisons are enough for up to sixteen bytes.
+#[inline(always)]
+fn are_equal<const N: usize>(a: &[u8; N], b: &[u8; N]) -> bool
+    ensures { IsTrue result → a.now ≡ b.now }
+{
+    if N < 8 || N > 16 {
+        return a == b;
+    }
+    first_eight(a) == first_eight(b) && last_eight(a) == last_eight(b)
+}
+
 /// If the bytes begin with the fixed word and LF, returns the bytes after them. The word is an array, since a word of constant length is
 /// compared without a call.
 #[inline(always)]
@@ -156,87 +202,55 @@ pub(crate) fn word_before<'a, const N: usize>(bytes: &'a [u8], word: &[u8; N]) -
 {
     let (first, rest) = bytes.split_first_chunk::<N>()?;
     match rest {
-        [b'\n', rest @ ..] if first == word => Some(rest),
+        [b'\n', rest @ ..] if are_equal(first, word) => Some(rest),
         _ => None,
     }
 }
 
+/// Returns how many of the thirty-two bytes from `at` on come before the first byte that is at most CR.
+#[inline(always)]
+fn plain_bytes(bytes: &[u8], at: usize) -> usize
+    requires { at + LANES ≤ length bytes.now }
+    ensures most { result ≤ LANES }
+    ensures plain { (k : ℕ) → at ≤ k → k < at + result → 13 < slice_index bytes.now k }
+{
+    let lanes = u8x32::from_slice(&bytes[at..]);
+    let stops = lanes.simd_le(u8x32::splat(b'\r')).to_bitmask();
+    if stops == 0 {
+        LANES
+    } else {
+        stops.trailing_zeros() as usize
+    }
+}
+
+/// Returns the index of the first byte that is at most CR, as LF is, or `None` if there is none or it is near the end of the bytes. A name
+/// may have such a byte, such as a tab; then its section is read line by line.
+#[inline(always)]
+fn name_end(bytes: &[u8]) -> Option<usize>
+    ensures { IfSome result (λ end. (end < length bytes.now)
+        × ((k : ℕ) → k < end → 13 < slice_index bytes.now k)) }
+{
+    let mut at = 0;
+    while bytes.len() - at >= LANES {
+        let plain = plain_bytes(bytes, at);
+        if plain < LANES {
+            return Some(at + plain);
+        }
+        at += LANES;
+    }
+    None
+}
+
 /// Returns the name before LF, and the bytes after LF.
-pub(crate) fn name_before(bytes: &[u8]) -> Option<(&[u8], &[u8])>
+#[inline(always)]
+pub fn name_before(bytes: &[u8]) -> Option<(&[u8], &[u8])>
     ensures { IfSome result (λ found.
         IsName found.0.now × LineAhead (format.name found.0.now) bytes.now found.1.now) }
 {
-    let end = memchr2(b'\n', b'\r', bytes)?;
+    let end = name_end(bytes)?;
     if end > 0 && bytes[end] == b'\n' {
         Some((&bytes[..end], &bytes[end + 1..]))
     } else {
         None
     }
-}
-
-/// Returns the number on the first line. After `None` the line has to be parsed by `number_at`.
-pub fn number_ahead(bytes: &[u8]) -> Option<Ahead<u32>>
-    ensures { IfSome result (λ a. SpellsAhead (format.number a.said) bytes.now a.taken) }
-{
-    let (said, rest) = number_before(bytes, b'\n')?;
-    Some(Ahead {
-        said,
-        taken: bytes.len() - rest.len(),
-    })
-}
-
-/// Returns the fact on the first line, which need not exist. After `None` the line has to be parsed by `fact_at`.
-pub fn fact_ahead(bytes: &[u8]) -> Option<Ahead<Fact>>
-    ensures { IfSome result (λ a. SpellsAhead (format.fact a.said) bytes.now a.taken) }
-{
-    let (said, rest) = fact_before(bytes)?;
-    Some(Ahead {
-        said,
-        taken: bytes.len() - rest.len(),
-    })
-}
-
-/// Returns the change of the effect on the first line, if the effect has no conditions. Its facts need not exist. After `None` the line has
-/// to be parsed by `effect_at`.
-pub fn effect_ahead(bytes: &[u8]) -> Option<Ahead<Change>>
-    ensures { IfSome result
-        (λ a. SpellsAhead (format.effect (plain_effect a.said)) bytes.now a.taken) }
-{
-    let (said, rest) = effect_before(bytes)?;
-    Some(Ahead {
-        said,
-        taken: bytes.len() - rest.len(),
-    })
-}
-
-/// Returns the head of a rule on the first line. Its facts need not exist. After `None` the line has to be parsed by `head_at`.
-pub fn head_ahead(bytes: &[u8]) -> Option<Ahead<Change>>
-    ensures { IfSome result
-        (λ a. SpellsAhead (format.head a.said.var a.said.old a.said.new) bytes.now a.taken) }
-{
-    let (said, rest) = change_before(bytes)?;
-    Some(Ahead {
-        said,
-        taken: bytes.len() - rest.len(),
-    })
-}
-
-/// If the first line is the fixed word, returns the number of its bytes with LF. After `None` the line has to be parsed by `word_at`.
-pub fn word_ahead(bytes: &[u8], word: &[u8]) -> Option<usize>
-    requires { IsName word.now }
-    ensures { IfSome result (λ taken. SpellsAhead (format.word word.now) bytes.now taken) }
-{
-    match bytes.strip_prefix(word)? {
-        [b'\n', ..] => Some(word.len() + 1),
-        _ => None,
-    }
-}
-
-/// Returns the name on the first line. After `None` the line has to be parsed by `name_at`.
-pub fn name_ahead(bytes: &[u8]) -> Option<&[u8]>
-    ensures { IfSome result (λ name.
-        IsName name.now × SpellsAhead (format.name name.now) bytes.now (length name.now + 1)) }
-{
-    let (name, _) = name_before(bytes)?;
-    Some(name)
 }

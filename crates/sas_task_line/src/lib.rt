@@ -9,9 +9,7 @@ mod task_line;
 mod variables_and_groups;
 mod wrong_word;
 
-pub use ahead::{
-    Ahead, effect_ahead, fact_ahead, head_ahead, name_ahead, number_ahead, word_ahead,
-};
+pub use ahead::{effect_before, fact_before, name_before, number_line_before};
 pub use sections::{Gathered, OperatorFound, RuleFound, operator_found, rule_found};
 pub use so_far::SoFar;
 pub use task_events::{Event, Said};

@@ -4,15 +4,18 @@ ghost use Rattle.std.specs.Prelude.{◌≡◌, List, [], ◌∷◌, ◌++◌, co
 ghost use Rattle.sas_core.specs.declared.parts.Fact.{Fact};
 ghost use Rattle.sas_core.specs.declared.parts.Effect.{Effect};
 ghost use Rattle.sas_core.specs.Names.{IsName};
+ghost use Rattle.sas_flat.specs.Effects.{effect};
 ghost use Rattle.sas_flat.specs.Growing.{Kept};
 ghost use Rattle.sas_flat.specs.Operators.{operator};
 ghost use Rattle.sas_task_format.specs.TaskFormat as format;
+ghost use Rattle.sas_task_line.specs.Ahead.{EffectAhead};
 ghost use Rattle.sas_task_line.specs.LinesBefore.{LinesBefore, FactsBefore, EffectsBefore};
 ghost use Rattle.sas_task_line.specs.TaskRanges.{change_in_ranges};
 ghost use Rattle.sas_task_line.specs.Sections.{OperatorAhead, RuleAhead, gathered_rule};
 
 use crate::ahead::{
-    change_before, effect_before, fact_before, name_before, number_before, word_before,
+    change_before, effect_before, fact_before, fact_with_end, name_before, number_before,
+    word_before,
 };
 use crate::task_line::{change_in, value_in};
 use sas_core::{Change, Fact, Items};
@@ -33,6 +36,8 @@ pub struct Gathered {
     pub facts: Vec<Fact>,
     /// The effects of an operator.
     pub effects: Effects,
+    /// The conditions of an effect.
+    pub conditions: Vec<Fact>,
 }
 
 impl Gathered {
@@ -42,6 +47,7 @@ impl Gathered {
             values: Lists::new(alloc),
             facts: Vec::new(alloc),
             effects: Effects::new(alloc),
+            conditions: Vec::new(alloc),
         }
     }
 }
@@ -92,14 +98,71 @@ pub(crate) fn facts_before<'a>(
     Ok(Some((count, rest)))
 }
 
-/// Reads a count and this many effects without conditions, and appends these to `effects`. Returns the count and the bytes after them.
-/// Returns `None` if a fact of an effect doesn't exist or the lines have another form. After `None` or `Err` some effects may have been
-/// appended. It isn't inlined, so that its loop has all registers.
+/// Reads an effect whose facts exist, and stores its conditions in `conditions`. Returns its change and the bytes after its line. Returns
+/// `None` if a fact doesn't exist or the line has another form. After `None` or `Err` the content of `conditions` is unspecified.
+#[inline(always)]
+fn any_effect_before<'a>(
+    ranges: &Items<u32>,
+    bytes: &'a [u8],
+    conditions: &mut Vec<Fact>,
+) -> Result<Option<(Change, &'a [u8])>, AllocError>
+    ensures { IfOk result (λ found. IfSome found (λ f.
+        EffectAhead ranges.now bytes.now (effect f.0 conditions.new.items) f.1.now)) }
+{
+    conditions.clear();
+    let Some((count, mut rest)) = number_before(bytes, b' ') else {
+        return Ok(None);
+    };
+    if count > MOST_FACTS {
+        return Ok(None);
+    }
+    for _i in 0..count {
+        let Some((fact, more)) = fact_with_end(rest, b' ') else {
+            return Ok(None);
+        };
+        if !value_in(ranges, fact.var, fact.value) {
+            return Ok(None);
+        }
+        conditions.push(fact)?;
+        rest = more;
+    }
+    match change_before(rest) {
+        Some((change, rest)) if change_in(ranges, change.var, change.old, change.new) => {
+            Ok(Some((change, rest)))
+        }
+        _ => Ok(None),
+    }
+}
+
+/// Reads an effect whose facts exist, and appends it to `effects`. Returns the bytes after its line. Returns `None` if a fact doesn't exist
+/// or the line has another form. It isn't inlined, so that it takes no registers from the loop over effects without conditions.
+#[inline(never)]
+fn append_effect<'a>(
+    ranges: &Items<u32>,
+    bytes: &'a [u8],
+    effects: &mut Effects,
+    conditions: &mut Vec<Fact>,
+) -> Result<Option<&'a [u8]>, AllocError>
+    ensures found { IfOk result (λ found. IfSome found (λ rest. (e : Effect)
+        × (effects.new ≡ effects.old ++ e ∷ []) × EffectAhead ranges.now bytes.now e rest.now)) }
+    ensures kept { Kept effects.old effects.new }
+{
+    let Some((change, rest)) = any_effect_before(ranges, bytes, conditions)? else {
+        return Ok(None);
+    };
+    effects.push(conditions.as_slice(), change)?;
+    Ok(Some(rest))
+}
+
+/// Reads a count and this many effects, and appends these to `effects`. Returns the count and the bytes after them. Returns `None` if a
+/// fact of an effect doesn't exist or the lines have another form. After `None` or `Err` some effects may have been appended. The content
+/// of `conditions` is unspecified afterwards. It isn't inlined, so that its loop has all registers.
 #[inline(never)]
 fn effects_before<'a>(
     ranges: &Items<u32>,
     bytes: &'a [u8],
     effects: &mut Effects,
+    conditions: &mut Vec<Fact>,
 ) -> Result<Option<(u32, &'a [u8])>, AllocError>
     ensures found { IfOk result (λ found. IfSome found (λ f.
         EffectsBefore ranges.now f.0 f.0 effects.old effects.new bytes.now f.1.now)) }
@@ -109,8 +172,13 @@ fn effects_before<'a>(
         return Ok(None);
     };
     for _i in 0..count {
+        // Most effects have no conditions.
         let Some((change, more)) = effect_before(rest) else {
-            return Ok(None);
+            let Some(more) = append_effect(ranges, rest, effects, conditions)? else {
+                return Ok(None);
+            };
+            rest = more;
+            continue;
         };
         if !change_in(ranges, change.var, change.old, change.new) {
             return Ok(None);
@@ -145,14 +213,15 @@ fn begin_before(bytes: &[u8]) -> Option<(&[u8], &[u8])>
 }
 
 /// Reads a whole operator at the beginning of the bytes, and appends its prevail conditions to `prevail` and its effects to `effects`.
-/// Returns `None` if a fact doesn't exist, an effect has conditions, or the lines have another form; then the operator has to be read line
-/// by line. Returns `Err` if out of memory. After `None` or `Err` some of them may have been appended.
+/// Returns `None` if a fact doesn't exist or the lines have another form; then the operator has to be read line by line. Returns `Err` if
+/// out of memory. After `None` or `Err` some of them may have been appended. The content of `conditions` is unspecified afterwards.
 #[inline(always)]
 pub fn operator_found<'a>(
     ranges: &Items<u32>,
     bytes: &'a [u8],
     prevail: &mut Vec<Fact>,
     effects: &mut Effects,
+    conditions: &mut Vec<Fact>,
 ) -> Result<Option<OperatorFound<'a>>, AllocError>
     ensures found { IfOk result (λ found. IfSome found (λ f. (p : List Fact) × (e : List Effect)
         × (prevail.new.items ≡ prevail.old.items ++ p) × (effects.new ≡ effects.old ++ e)
@@ -166,7 +235,7 @@ pub fn operator_found<'a>(
     let Some((facts, rest)) = facts_before(ranges, rest, prevail)? else {
         return Ok(None);
     };
-    let Some((changed, rest)) = effects_before(ranges, rest, effects)? else {
+    let Some((changed, rest)) = effects_before(ranges, rest, effects, conditions)? else {
         return Ok(None);
     };
     let Some((cost, rest)) = end_before(rest) else {

@@ -80,12 +80,13 @@ fn append_variable<'a>(
 }
 
 /// Appends a whole operator at the beginning of the bytes, if `operator_found` finds one, and returns the extent of its lines. After `None`
-/// or `Err` parts of an operator may have been appended, but no head.
+/// or `Err` parts of an operator may have been appended, but no head. The content of `conditions` is unspecified afterwards.
 #[inline(always)]
 fn append_operator(
     ranges: &Items<u32>,
     bytes: &[u8],
     columns: &mut OperatorColumns,
+    conditions: &mut Vec<Fact>,
 ) -> Result<Option<Front>, AllocError>
     ensures some { IfOk result (λ found. IfSome found (λ front.
         (o : Operator) × OperatorAhead ranges.now bytes.now o front
@@ -93,7 +94,13 @@ fn append_operator(
     ensures none { IfOk result (λ found. IfNone found (IsBegun columns.old columns.new)) }
     ensures err { OnErr result (IsBegun columns.old columns.new) }
 {
-    let found = operator_found(ranges, bytes, &mut columns.prevail, &mut columns.effects)?;
+    let found = operator_found(
+        ranges,
+        bytes,
+        &mut columns.prevail,
+        &mut columns.effects,
+        conditions,
+    )?;
     let Some(found) = found else {
         return Ok(None);
     };
@@ -346,7 +353,8 @@ impl FlatSoFar {
             × (self.new ≡ behind_operator self.old o)) }
         ensures none { IfOk result (λ front. front.bytes ≡ 0 → self.new ≡ self.old) }
     {
-        match append_operator(ranges, bytes, &mut self.operators) {
+        let conditions = &mut self.begun.gathered.conditions;
+        match append_operator(ranges, bytes, &mut self.operators, conditions) {
             Ok(Some(front)) => {
                 self.begun.name.clear();
                 self.begun.facts.clear();

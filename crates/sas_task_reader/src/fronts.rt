@@ -63,7 +63,13 @@ pub fn operator_front(
 {
     gathered.facts.clear();
     gathered.effects.clear();
-    let found = operator_found(ranges, bytes, &mut gathered.facts, &mut gathered.effects)?;
+    let found = operator_found(
+        ranges,
+        bytes,
+        &mut gathered.facts,
+        &mut gathered.effects,
+        &mut gathered.conditions,
+    )?;
     let Some(found) = found else {
         return Ok(None);
     };

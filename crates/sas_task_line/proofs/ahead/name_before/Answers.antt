@@ -5,4 +5,4 @@ use Rattle.sas_task_line.proofs.ahead.name_before.Goals as goal
 pub returns-then-bytes-end-eq10 : goal.returns-then-bytes-end-eq10
 returns-then-bytes-end-eq10 c =
     let end = c.in_ok-end.end in
-    rw (take_rest c.args.bytes.now (end + 1)) (name_is_ahead c.args.bytes.now end c.if-end-gt0.true c.in_ok-end.ensures.0 c.if-bytes-end-eq10.true)
+    rw (take_rest c.args.bytes.now (end + 1)) (name_is_ahead c.args.bytes.now end c.if-end-gt0.true c.in_ok-end.ensures.0 c.in_ok-end.ensures.1 c.if-bytes-end-eq10.true)
