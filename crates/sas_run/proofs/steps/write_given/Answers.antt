@@ -3,7 +3,7 @@ use Rattle.std.proofs.lemmas.Grind.{common_steps}
 use Rattle.sas_run.proofs.Imports.{◌≡◌, ◌<◌, length, set, None, Some, sym, ap, subst, ◌∙◌, inl, inr, arith, IsTrue, cases_eq, Change, operator_at, effect_at, IsBasic, state_set, Deleted, NotesOn, given_to}
 use Rattle.sas_run.proofs.Ranges.{no_effect, change_within}
 use Rattle.sas_run.proofs.Giving.{fewer_on_effects, one_more_taken, written_same, all_taken}
-use Rattle.sas_run.proofs.Deleted.{notes_on, notes_still, nothing_deleted, deleted_more, deleted_few, deleted_in_the_end}
+use Rattle.sas_run.proofs.Deleted.{notes_on, notes_still, nothing_deleted, deleted_more, deleted_few}
 use Rattle.sas_run.proofs.NextStates.{effects_basic}
 use Rattle.sas_run.proofs.steps.write_given.Goals as goal
 use Rattle.sas_run.proofs.steps.write_given.Goals.{in-Some, in_default}
@@ -66,7 +66,7 @@ pub loop-effect-init : goal.loop-effect-init
 loop-effect-init g c = grind (arith, common_steps, nothing_deleted, notes_still)
 
 pub returns-clause-gone : goal.returns-clause-gone
-returns-clause-gone g c noted = grind (arith, common_steps, deleted_in_the_end)
+returns-clause-gone g c noted = (c.loop-effect.invariant.deleted noted).gone
 
 pub bounds : goal.bounds
 bounds g c =
