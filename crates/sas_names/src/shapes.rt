@@ -1,4 +1,4 @@
-// Shapes of names, by which most names that no step has are seen at once.
+// Shapes of names. A name whose shape no step's name has is the name of no step.
 ghost use Rattle.std.specs.Prelude.{◌≡◌, ◌<◌, IfOk, false, slice_index_or};
 ghost use Rattle.sas_names.specs.Shapes.{shape_of, HaveShapes};
 

@@ -1,7 +1,7 @@
 -- The facts that are deleted while given values are written into a state.
 use Rattle.sas_run.proofs.Giving.{not_both}
 use Rattle.std.proofs.lemmas.Grind.{common_steps}
-use Rattle.sas_run.proofs.Imports.{◌≡◌, ◌≢◌, ℕ, ◌+◌, ◌<◌, ◌≤◌, List, [], ◌∷◌, ◌++◌, length, get_or, set, Option, None, Some, refl, sym, ◌∙◌, ap, subst, inl, inr, arith, All, cases_eq, get_or-set_same, get_or-set_other, get_or_append_left, get_or_push, length-append, All-nil, All-push, All-weaker, all_pairs_push, Fact, Parts, Holds, IsBasic, HaveGone, Deleted, HasRoom, NotesOn, given_to, Replaces}
+use Rattle.sas_run.proofs.Imports.{◌≡◌, ◌≢◌, ℕ, ◌+◌, ◌<◌, ◌≤◌, List, [], ◌∷◌, ◌++◌, length, get_or, set, Option, None, Some, refl, sym, ◌∙◌, ap, subst, inl, inr, arith, All, cases_eq, get_or-set_same, get_or-set_other, length-append, All-nil, All-cons, All-head, All-tail, All-push, All-weaker, all_pairs_push, Fact, Parts, Holds, IsBasic, HaveGone, Deleted, HasRoom, NotesOn, given_to, Replaces}
 
 -- facts are still noted or not, as before
 pub notes_on : (a b c : Deleted) → NotesOn a b → NotesOn b c → NotesOn a c
@@ -20,12 +20,14 @@ pub deleted_few : (s : List ℕ) (fact : Fact) (deleted deleted' : List Fact) �
 deleted_few s fact deleted deleted' (inl same) = omega (arith, ap length same.1)
 deleted_few s fact deleted deleted' (inr other) = grind (arith, common_steps, length-append)
 
--- for a list with one more item
-pub all_before : {X : Type 0} (P : X → Type 0) (xs : List X) (x : X) → All P (xs ++ x ∷ []) → All P xs
-all_before P xs x h = λ k d lt. subst P (get_or_append_left xs (x ∷ []) d k lt) (h k d (omega (arith, length-append xs (x ∷ []))))
+-- for a list in two parts
+pub all_front : {X : Type 0} (P : X → Type 0) (xs ys : List X) → All P (xs ++ ys) → All P xs
+all_front P [] ys h = All-nil P
+all_front P (x ∷ xs) ys h = All-cons P x xs (All-head P x (xs ++ ys) h) (all_front P xs ys (All-tail P x (xs ++ ys) h))
 
-pub all_last : {X : Type 0} (P : X → Type 0) (xs : List X) (x : X) → All P (xs ++ x ∷ []) → P x
-all_last P xs x h = subst P (get_or_push xs x x (length xs) refl) (h (length xs) x (omega (arith, length-append xs (x ∷ []))))
+pub all_behind : {X : Type 0} (P : X → Type 0) (xs ys : List X) → All P (xs ++ ys) → All P ys
+all_behind P [] ys h = h
+all_behind P (x ∷ xs) ys h = all_behind P xs ys (All-tail P x (xs ++ ys) h)
 
 -- what holds for each deleted fact, and for the one that may be added, holds for all
 pub all_replaced : (P : Fact → Type 0) (s : List ℕ) (fact : Fact) (deleted deleted' : List Fact) → Replaces s fact deleted deleted' → All P deleted
@@ -60,8 +62,8 @@ module _ (p : Parts) (s s' : List ℕ) (deleted : List Fact) (gone : HaveGone p 
         held = All-push (Holds (λ x. get_or s x 0)) deleted f gone.held (sym (gone.others v apart));
         once = all_pairs_push (λ (f g : Fact). f.var ≢ g.var) deleted f gone.once (λ k d lt. apart k d lt);
         others = λ var not.
-            (let other_var : var ≢ v = λ e. (all_last (λ (g : Fact). g.var ≢ var) deleted f not) (sym e) in
-            get_or-set_other s' v var value 0 other_var ∙ gone.others var (all_before (λ (g : Fact). g.var ≢ var) deleted f not));
+            (let other_var : var ≢ v = λ e. All-head (λ (g : Fact). g.var ≢ var) f [] (all_behind (λ (g : Fact). g.var ≢ var) deleted (f ∷ []) not) (sym e) in
+            get_or-set_other s' v var value 0 other_var ∙ gone.others var (all_front (λ (g : Fact). g.var ≢ var) deleted (f ∷ []) not));
       })
 
 -- these facts are deleted so far, and their variables have no given value any more

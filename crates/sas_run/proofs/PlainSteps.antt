@@ -2,7 +2,7 @@
 use Rattle.sas_run.proofs.Imports.{◌≡◌, ◌≢◌, ℕ, ◌+◌, ◌<◌, ◌≤◌, List, [], ◌∷◌, ◌++◌, length, get_or, set, Option, None, Some, refl, sym, ◌∙◌, ap, subst, inl, inr, arith, filter_map, option_map, All, cons_option, cases_eq, get_or-set_same, get_or-set_other, get_or-map, length-map, All-nil, All-cons, All-head, All-tail, All-map, All-append, All-weaker, All-from_recursion, same_Some, Replaces, AreApart, AreMade, IsPlainStep, OldHolds, IsApplied, Change, Effect, Fact, Operator, Parts, plain_effect, plain_effects, operator_at, effect_at, HasValue, IsState, EffectFits, WellRanged, HaveGone, IsBasic, IsLayered, Holds, AllHold, preconditions, old_fact, Fires, fact_within, state_set}
 use Rattle.sas_run.proofs.Ranges.{no_effect, operator_fits}
 use Rattle.sas_run.proofs.NextStates.{effects_basic}
-use Rattle.sas_run.proofs.Deleted.{deleted_few, all_replaced, gone_more}
+use Rattle.sas_run.proofs.Deleted.{deleted_few, all_front, all_behind, all_replaced, gone_more}
 
 -- a default for indices that are out of range
 abbrev pub no_change : Change
@@ -127,15 +127,6 @@ one_old_held s var (Some old) facts all = (
   (λ value is. All-head (Holds (λ v. get_or s v 0)) (record { var = var; value = old }) facts all ∙ same_Some old value is),
   All-tail (Holds (λ v. get_or s v 0)) (record { var = var; value = old }) facts all,
 )
-
--- for a list in two parts
-all_front : {X : Type 0} (P : X → Type 0) (xs ys : List X) → All P (xs ++ ys) → All P xs
-all_front P [] ys h = All-nil P
-all_front P (x ∷ xs) ys h = All-cons P x xs (All-head P x (xs ++ ys) h) (all_front P xs ys (All-tail P x (xs ++ ys) h))
-
-all_behind : {X : Type 0} (P : X → Type 0) (xs ys : List X) → All P (xs ++ ys) → All P ys
-all_behind P [] ys h = h
-all_behind P (x ∷ xs) ys h = all_behind P xs ys (All-tail P x (xs ++ ys) h)
 
 -- the old values hold exactly if they hold as facts
 pub olds_hold : (s : List ℕ) (changes : List Change) → All (OldHolds s) changes → AllHold (λ v. get_or s v 0) (filter_map old_fact (plain_effects changes))

@@ -82,25 +82,13 @@ pub bounds-as_slice-var : goal.bounds-as_slice-var
 bounds-as_slice-var g c = grind (arith, common_steps)
 
 pub replace-requires-clause-exists : goal.replace-requires-clause-exists
-replace-requires-clause-exists g c =
-    omega (
-      arith,
-      change_within c.args.task.now c.task.ensures.well_ranged c.args.operator c.requires.operator c.loop-effect.effect (omega arith)
-          c.effect_change-var.result c.effect_change-var.ensures,
-      c.loop-effect.invariant.state.one_each,
-    )
+replace-requires-clause-exists g c = grind (arith, common_steps, change_within)
 
 pub replace-requires-clause-room : goal.replace-requires-clause-room
 replace-requires-clause-room g c noted = grind (arith, common_steps)
 
 pub set-requires : goal.set-requires
-set-requires g c =
-    omega (
-      arith,
-      change_within c.args.task.now c.task.ensures.well_ranged c.args.operator c.requires.operator c.loop-effect.effect (omega arith)
-          c.effect_change-var.result c.effect_change-var.ensures,
-      c.loop-effect.invariant.on_effects.one_each,
-    )
+set-requires g c = grind (arith, common_steps, change_within)
 
 pub returns-clause-clean : goal.returns-clause-clean
 returns-clause-clean g c = grind (arith, common_steps, all_taken)
