@@ -1,5 +1,5 @@
 -- What the proofs use of other crates, and of the definitions of this one.
-pub use Rattle.std.proofs.Common.{◌≡◌, ℕ, ◌+◌, ◌<◌, ◌≤◌, ◌≢◌, List, length, get_or, slice_set, Option, None, Some, sym, ap, subst, ◌∙◌, inl, inr, arith, [], Bool, true, false, nat_eq, refl, if◌then◌else◌, true≢false, ◌-◌, ◌⊎◌, ◌∷◌, ◌++◌, vec_capacity, rules}
+pub use Rattle.std.proofs.Common.{◌≡◌, IsTrue, ℕ, ◌+◌, ◌<◌, ◌≤◌, ◌≢◌, List, length, get_or, slice_set, Option, None, Some, sym, ap, subst, ◌∙◌, inl, inr, arith, [], Bool, true, false, nat_eq, refl, if◌then◌else◌, true≢false, ◌-◌, ◌⊎◌, ◌∷◌, ◌++◌, vec_capacity, rules}
 pub use Rattle.std.proofs.Math.Nat.{eq-or-lt_of_le}
 pub use Rattle.std.proofs.lemmas.Bool.{cases_eq, eqb-true, eq-eqb, cases_lt}
 pub use Rattle.std.proofs.lemmas.List.{get_or-set_same, get_or-set_other, length-set, get_or_append_left, get_or_push, get_or_read, length-append}
@@ -26,3 +26,4 @@ pub use Rattle.sas_names.specs.declared.name_table.NameTable.{NameTable}
 pub use Rattle.sas_names.specs.declared.names.Names.{Names}
 pub use Rattle.sas_names.specs.declared.step_names.StepNames.{StepNames}
 unfoldable pub use Rattle.sas_names.specs.NameDigest.{digest_of}
+unfoldable pub use Rattle.sas_names.specs.Shapes.{shape_of}

@@ -1,6 +1,7 @@
 mod TablePuts
 mod NamesFrom
 pub mod Searching
+mod NameShapes
 mod StepNumbers
 mod ChainsFrom
 mod FoundSteps

@@ -4,7 +4,7 @@ use Rattle.sas_core.specs.declared.parts.Parts.{Parts}
 use Rattle.sas_core.specs.Grounded.{operator_at}
 use Rattle.sas_names.specs.declared.chains.Chains.{Chains}
 use Rattle.sas_names.specs.declared.step_names.StepNames.{StepNames}
-use Rattle.sas_names.specs.Names.{IsNextNamed}
+use Rattle.sas_names.specs.Names.{IsNextNamed, AreFirsts}
 use Rattle.sas_names.specs.Named.{IsNamed}
 use Rattle.sas_names.specs.NameTable.{value_of}
 use Rattle.sas_names.specs.StepNames.{step_names}
@@ -18,6 +18,13 @@ IsChain p first nexts = (operator : ℕ) → IsNamed p (operator_at p first).nam
 abbrev pub HaveChains : Parts → List ℕ → List (Option ℕ) → Type 0
 HaveChains p firsts nexts = (step : ℕ) → step < length firsts
     → IsChain p (slice_index firsts step) nexts
+
+-- the lowest operator of each step's name, up to the first name that no operator has, and for each
+-- operator of one of these names the next one
+pub record AreStepOperators (p : Parts) (steps : List (List ℕ)) (lowest : List ℕ)
+    (nexts : List (Option ℕ)) : Type 0 where
+  pub firsts : AreFirsts p steps lowest
+  pub chains : HaveChains p lowest nexts
 
 -- the lowest operator of each name, and for each operator of one of these names the next one
 pub record AreChains (p : Parts) (steps : List (List ℕ)) (names : StepNames) (chains : Chains)

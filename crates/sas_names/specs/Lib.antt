@@ -4,5 +4,6 @@ pub mod Names
 pub mod Likely
 pub mod NameDigest
 pub mod NameTable
+pub mod Shapes
 pub mod StepNames
 pub mod Chains

@@ -3,6 +3,7 @@ use Rattle.std.specs.Prelude.{◌≡◌, ℕ, ◌<◌, List, [], length, Some, s
 use Rattle.sas_names.specs.declared.name_table.NameTable.{NameTable}
 use Rattle.sas_names.specs.declared.step_names.StepNames.{StepNames}
 use Rattle.sas_names.specs.NameTable.{Exist, value_of}
+use Rattle.sas_names.specs.Shapes.{HaveShapes}
 
 -- the name of each step
 abbrev pub step_names : List (List ℕ) → ℕ → List ℕ
@@ -30,8 +31,9 @@ HaveNumbers steps table of_steps = (step : ℕ) → step < length of_steps
     → value_of (step_names steps) table (step_names steps step)
     ≡ Some (slice_index of_steps step)
 
--- the numbered names of these steps
+-- the numbered names of these steps, and their shapes
 pub record AreStepNames (steps : List (List ℕ)) (names : StepNames) : Type 0 where
   pub numbers : AreStepsOf steps names.numbers
   pub one_each : length names.of_steps.items ≡ length steps
   pub each : HaveNumbers steps names.numbers names.of_steps.items
+  pub shapes : HaveShapes steps names.shapes.items

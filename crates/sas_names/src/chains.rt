@@ -1,7 +1,7 @@
 // The operators whose names occur in a plan.
 ghost use Rattle.std.specs.Prelude.{◌≡◌, ◌<◌, length, All, IfOk, None, slice_index_or};
 ghost use Rattle.sas_names.specs.Chains.{AreChains, AreFound};
-ghost use Rattle.sas_names.specs.StepNames.{AreStepsOf};
+ghost use Rattle.sas_names.specs.StepNames.{AreStepNames};
 
 use crate::step_names::StepNames;
 use sas_core::{Grounded, Stepwise};
@@ -30,7 +30,7 @@ impl Chains {
         plan: &P,
         names: &StepNames,
     ) -> Result<Chains, AllocError>
-        requires { AreStepsOf (P.says plan.now).steps names.now.numbers }
+        requires { AreStepNames (P.says plan.now).steps names.now }
         ensures { IfOk result (λ chains.
             AreChains (T.says task.now) (P.says plan.now).steps names.now chains) }
     {

@@ -7,6 +7,7 @@ mod looking_up;
 mod name_table;
 mod named;
 mod names;
+mod shapes;
 mod step_names;
 mod step_operators;
 

@@ -4,6 +4,7 @@ ghost use Rattle.sas_names.specs.NameTable.{value_of};
 ghost use Rattle.sas_names.specs.StepNames.{AreStepsOf, HaveNumbers, AreStepNames, Numbers, step_names};
 
 use crate::name_table::NameTable;
+use crate::shapes::{is_shape_of, shapes_of_steps};
 use sas_core::Stepwise;
 use std::alloc::{AllocError, Global};
 
@@ -11,13 +12,20 @@ use std::alloc::{AllocError, Global};
 pub struct StepNames {
     numbers: NameTable<usize>,
     of_steps: Vec<usize>,
+    /// For each shape of a name, whether a step's name has it. Most names of operators have another, and so aren't looked up.
+    shapes: Vec<bool>,
 }
 
 impl Drop for StepNames {
     fn drop(self) {
-        let StepNames { numbers, of_steps } = self;
+        let StepNames {
+            numbers,
+            of_steps,
+            shapes,
+        } = self;
         drop(numbers);
         drop(of_steps);
+        drop(shapes);
     }
 }
 
@@ -26,9 +34,14 @@ impl StepNames {
     pub fn new<P: Stepwise>(alloc: Global, plan: &P) -> Result<StepNames, AllocError>
         ensures { IfOk result (λ names. AreStepNames (P.says plan.now).steps names) }
     {
+        let shapes = shapes_of_steps(alloc, plan)?;
         let mut numbers = NameTable::new(alloc, plan.steps())?;
         match number_all(alloc, plan, &mut numbers) {
-            Ok(of_steps) => Ok(StepNames { numbers, of_steps }),
+            Ok(of_steps) => Ok(StepNames {
+                numbers,
+                of_steps,
+                shapes,
+            }),
             Err(error) => {
                 drop(numbers);
                 Err(error)
@@ -38,10 +51,14 @@ impl StepNames {
 
     /// Returns the number of the name, or `None` if no step has it. `plan` is the plan of these names. It takes no memory.
     pub fn number<P: Stepwise>(&self, plan: &P, name: &[u8]) -> Option<usize>
-        requires { AreStepsOf (P.says plan.now).steps self.now.numbers }
+        requires { AreStepNames (P.says plan.now).steps self.now }
         ensures { result ≡ value_of (step_names (P.says plan.now).steps) self.now.numbers name.now }
     {
-        self.numbers.get(plan, name)
+        if is_shape_of(self.shapes.as_slice(), name) {
+            self.numbers.get(plan, name)
+        } else {
+            None
+        }
     }
 
     /// Returns the number of the name of each step. It takes no memory.

@@ -1,7 +1,6 @@
 // The operators whose names occur in one plan.
 ghost use Rattle.std.specs.Prelude.{◌≡◌, IfOk};
-ghost use Rattle.sas_names.specs.Chains.{HaveChains};
-ghost use Rattle.sas_names.specs.Names.{AreFirsts};
+ghost use Rattle.sas_names.specs.Chains.{AreStepOperators};
 
 use crate::chains::Chains;
 use crate::looking_up::first_operators;
@@ -43,8 +42,8 @@ impl StepOperators {
         task: &T,
         plan: &P,
     ) -> Result<StepOperators, AllocError>
-        ensures firsts { IfOk result (λ o. AreFirsts (T.says task.now) (P.says plan.now).steps o.firsts.items) }
-        ensures chains { IfOk result (λ o. HaveChains (T.says task.now) o.firsts.items o.next.items) }
+        ensures { IfOk result (λ o. AreStepOperators (T.says task.now) (P.says plan.now).steps
+            o.firsts.items o.next.items) }
     {
         if is_long(task, plan) {
             StepOperators::by_operator_names(alloc, task, plan)
@@ -59,8 +58,8 @@ impl StepOperators {
         task: &T,
         plan: &P,
     ) -> Result<StepOperators, AllocError>
-        ensures firsts { IfOk result (λ o. AreFirsts (T.says task.now) (P.says plan.now).steps o.firsts.items) }
-        ensures chains { IfOk result (λ o. HaveChains (T.says task.now) o.firsts.items o.next.items) }
+        ensures { IfOk result (λ o. AreStepOperators (T.says task.now) (P.says plan.now).steps
+            o.firsts.items o.next.items) }
     {
         let names = StepNames::new(alloc, plan)?;
         let chains = Chains::new(alloc, task, plan, &names)?;
@@ -77,8 +76,8 @@ impl StepOperators {
         task: &T,
         plan: &P,
     ) -> Result<StepOperators, AllocError>
-        ensures firsts { IfOk result (λ o. AreFirsts (T.says task.now) (P.says plan.now).steps o.firsts.items) }
-        ensures chains { IfOk result (λ o. HaveChains (T.says task.now) o.firsts.items o.next.items) }
+        ensures { IfOk result (λ o. AreStepOperators (T.says task.now) (P.says plan.now).steps
+            o.firsts.items o.next.items) }
     {
         let names = Names::new(alloc, task)?;
         let named = NamedTask {
@@ -90,13 +89,6 @@ impl StepOperators {
             firsts,
             next: names.into_next(),
         })
-    }
-
-    /// Returns the lowest operator of each step's name, up to the first name that no operator has. It takes no memory.
-    pub fn firsts(&self) -> &[u32]
-        ensures { result.now ≡ self.now.firsts.items }
-    {
-        self.firsts.as_slice()
     }
 
     /// Returns both lists, borrowed. It takes no memory.

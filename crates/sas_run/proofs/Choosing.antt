@@ -15,53 +15,44 @@ named_or_not p name operator = elim (cases_lt operator (length p.operators)) [
 pub applicable_or_not : (p : Parts) (s : List ℕ) (operator : ℕ) → IsApplicable s (operator_at p operator) ⊎ (IsApplicable s (operator_at p operator) → ⊥)
 applicable_or_not p s operator = hold_or_not (slice_index s) (preconditions (operator_at p operator))
 
--- one of the operators below n has the name, or none of them
-named_below : (p : Parts) (name : List ℕ) (n : ℕ) → ((operator : ℕ) × IsNamed p name operator) ⊎ ((operator : ℕ) → operator < n → IsNamed p name operator → ⊥)
-named_below p name zero = inr (λ operator lt. absurd (omega arith))
-named_below p name (suc n) = elim (named_below p name n) [
+-- the least number with a decidable property, or none below n has it
+least_below : (P : ℕ → Type 0) → ((k : ℕ) → P k ⊎ (P k → ⊥)) → (n : ℕ)
+    → ((k : ℕ) × P k × ((lower : ℕ) → lower < k → P lower → ⊥)) ⊎ ((k : ℕ) → k < n → P k → ⊥)
+least_below P each zero = inr (λ k lt. absurd (omega arith))
+least_below P each (suc n) = elim (least_below P each n) [
   | inl w ↦ inl w
-  | inr before ↦ elim (named_or_not p name n) [
-    | inl is ↦ inl (n, is)
-    | inr not_here ↦ inr (λ operator lt is. elim (cases_eq operator n) [
-      | inl e ↦ not_here (subst (λ k. IsNamed p name k) e is)
-      | inr ne ↦ before operator (omega arith) is
+  | inr before ↦ elim (each n) [
+    | inl here ↦ inl (n, here, before)
+    | inr not_here ↦ inr (λ k lt is. elim (cases_eq k n) [
+      | inl e ↦ not_here (subst P e is)
+      | inr ne ↦ before k (omega arith) is
     ])
   ]
 ]
 
 -- some operator has the name, or none of them
 pub named_or_none : (p : Parts) (name : List ℕ) → ((operator : ℕ) × IsNamed p name operator) ⊎ ((operator : ℕ) → IsNamed p name operator → ⊥)
-named_or_none p name = elim (named_below p name (length p.operators)) [
-  | inl w ↦ inl w
+named_or_none p name = elim (least_below (IsNamed p name) (named_or_not p name) (length p.operators)) [
+  | inl w ↦ inl (w.0, w.1)
   | inr none ↦ inr (λ operator is. none operator is.exists is)
 ]
 
--- one of the operators below n is chosen, or none has the name and is applicable
-chosen_below : (p : Parts) (s name : List ℕ) (n : ℕ)
-    → ((operator : ℕ) × IsChosen p s name operator) ⊎ ((operator : ℕ) → operator < n → IsNamed p name operator → IsApplicable s (operator_at p operator) → ⊥)
-chosen_below p s name zero = inr (λ operator lt. absurd (omega arith))
-chosen_below p s name (suc n) = elim (chosen_below p s name n) [
-  | inl w ↦ inl w
-  | inr before ↦ elim (named_or_not p name n) [
-    | inr not_here ↦ inr (λ operator lt is can. elim (cases_eq operator n) [
-      | inl e ↦ not_here (subst (λ k. IsNamed p name k) e is)
-      | inr ne ↦ before operator (omega arith) is can
-    ])
-    | inl is_here ↦ elim (applicable_or_not p s n) [
-      | inl can ↦ inl (n, record { of_name = is_here; applicable = can; first = before })
-      | inr cannot ↦ inr (λ operator lt is can. elim (cases_eq operator n) [
-        | inl e ↦ cannot (subst (λ k. IsApplicable s (operator_at p k)) e can)
-        | inr ne ↦ before operator (omega arith) is can
-      ])
-    ]
+-- whether an operator has the name and is applicable
+can_or_not : (p : Parts) (s name : List ℕ) (operator : ℕ) → (IsNamed p name operator × IsApplicable s (operator_at p operator))
+    ⊎ ((IsNamed p name operator × IsApplicable s (operator_at p operator)) → ⊥)
+can_or_not p s name operator = elim (named_or_not p name operator) [
+  | inr not_here ↦ inr (λ both. not_here both.0)
+  | inl is ↦ elim (applicable_or_not p s operator) [
+    | inl can ↦ inl (is, can)
+    | inr cannot ↦ inr (λ both. cannot both.1)
   ]
 ]
 
 -- an operator is chosen, or none of the name is applicable
 pub chosen_or_none : (p : Parts) (s name : List ℕ) → ((operator : ℕ) × IsChosen p s name operator) ⊎ NoneApplicable p s name
-chosen_or_none p s name = elim (chosen_below p s name (length p.operators)) [
-  | inl w ↦ inl w
-  | inr none ↦ inr (λ operator is can. none operator is.exists is can)
+chosen_or_none p s name = elim (least_below (λ operator. IsNamed p name operator × IsApplicable s (operator_at p operator)) (can_or_not p s name) (length p.operators)) [
+  | inl w ↦ inl (w.0, record { of_name = w.1.0; applicable = w.1.1; first = λ lower below is can. w.2 lower below (is, can) })
+  | inr none ↦ inr (λ operator is can. none operator is.exists (is, can))
 ]
 
 -- all facts hold, or one is the first that doesn't

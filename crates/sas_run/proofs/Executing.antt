@@ -125,7 +125,7 @@ module _ {E : Type 0} {Ready : E → Parts → Type 0} {Follows : E → Parts �
         (next_goes executing.run e executing.executes left layered)
 
     pub step_chain : IsChain p operator nexts
-    step_chain = subst (λ o. IsChain p o nexts) (sym is_next) (chain_next executing.run e executing.executes left layered found nexts executing.firsts executing.chains)
+    step_chain = subst (λ o. IsChain p o nexts) (sym is_next) (chain_next executing.run e executing.executes left layered found nexts executing.operators.firsts executing.operators.chains)
 
     -- it was made
     module _ (stepper' : Stepper E) (state : List ℕ) (step : Step p progress.state (operator_at p operator) state)
@@ -154,8 +154,7 @@ module _ {E : Type 0} {Ready : E → Parts → Type 0} {Follows : E → Parts �
         prepared = prepared;
         noted = noted;
         follows = follows;
-        firsts = executing.firsts;
-        chains = executing.chains;
+        operators = executing.operators;
         room = executing.room;
         run = executing.run;
         executes = step_along executing.run executing.executes;
@@ -173,8 +172,7 @@ module _ {E : Type 0} {Ready : E → Parts → Type 0} {Follows : E → Parts �
       prepared = prepared;
       noted = noted;
       follows = follows;
-      firsts = executing.firsts;
-      chains = executing.chains;
+      operators = executing.operators;
       room = room;
       run = goes_back.run;
       executes = goes_back.executes;

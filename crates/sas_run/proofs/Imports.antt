@@ -41,7 +41,7 @@ pub use Rattle.sas_meaning.specs.Steps.{preconditions, Step, Fires, Agree, old_f
 pub use Rattle.sas_meaning.specs.Touched.{CoversChanges}
 pub use Rattle.sas_meaning.specs.declared.touched.Touched.{Touched}
 pub use Rattle.sas_names.proofs.Searching.{left}
-pub use Rattle.sas_names.specs.Chains.{IsChain, HaveChains}
+pub use Rattle.sas_names.specs.Chains.{IsChain, HaveChains, AreStepOperators}
 pub use Rattle.sas_names.specs.Named.{IsNamed}
 pub use Rattle.sas_names.specs.Names.{AreFirsts, IsNextNamed}
 pub use Rattle.sas_run.specs.Deletions.{HasRoom, NotesOn}

@@ -1,7 +1,7 @@
 -- An applicable operator whose effects agree has a step. It is decidable whether an operator has a
 -- step.
 use Rattle.std.proofs.lemmas.Grind.{common_steps}
-use Rattle.sas_run.proofs.Imports.{◌≡◌, ℕ, zero, suc, ◌<◌, ◌⊎◌, List, [], ◌∷◌, length, get_or, set, slice_index, None, refl, sym, ◌∙◌, subst, inl, inr, arith, All, cases_eq, get_or-set_same, get_or-set_other, All-nil, All-cons, All-head, All-tail, Effect, Operator, Parts, operator_at, HasValue, IsState, WellRanged, holds_at, IsBasic, IsLayered, Settles, Fires, Agree, IsApplicable, StepFault, IsApplied, IsStepFault, Step, hold_or_not, Untouched, state_set, fact_within, settled_exists, settled_where_empty}
+use Rattle.sas_run.proofs.Imports.{◌≡◌, ℕ, zero, suc, ◌<◌, ◌⊎◌, List, [], ◌∷◌, length, get_or, set, slice_index, refl, sym, ◌∙◌, subst, inl, inr, arith, All, cases_eq, get_or-set_same, get_or-set_other, All-nil, All-cons, All-head, All-tail, Effect, Operator, Parts, operator_at, HasValue, IsState, WellRanged, holds_at, IsBasic, IsLayered, Settles, Fires, Agree, IsApplicable, StepFault, IsApplied, IsStepFault, Step, hold_or_not, Untouched, state_set, fact_within, settled_exists, settled_where_empty}
 use Rattle.sas_run.specs.declared.steps.StepFault.TheVariants.{NotApplicable, Conflict}
 use Rattle.sas_run.proofs.Choosing.{no_fact}
 
@@ -129,9 +129,6 @@ step_or_conflict p s operator ranged layered state lt can = elim (agree_or_not s
   | inr conflict ↦ inr conflict
   | inl agree ↦ inl (step_exists p s operator ranged layered state lt can agree)
 ]
-
-abbrev no_effect : Effect
-no_effect = record { conditions = []; var = 0; old = None; new = 0 }
 
 -- the fault of an operator that is applicable is a conflict
 pub fault_is_conflict : (s : List ℕ) (o : Operator) (fault : StepFault) → IsApplicable s o → IsStepFault s o fault → Agree s o.effects → ⊥

@@ -1,8 +1,8 @@
 -- Making changes on different variables one after another.
-use Rattle.sas_run.proofs.Imports.{◌≡◌, ◌≢◌, ℕ, ◌+◌, ◌<◌, ◌≤◌, List, [], ◌∷◌, ◌++◌, length, get_or, set, Option, None, Some, refl, sym, ◌∙◌, ap, subst, inl, inr, arith, filter_map, option_map, All, cons_option, cases_eq, get_or-set_same, get_or-set_other, get_or-map, length-map, All-nil, All-cons, All-head, All-tail, All-push, All-map, All-append, All-weaker, All-from_recursion, all_pairs_push, same_Some, Replaces, AreApart, AreMade, IsPlainStep, OldHolds, IsApplied, Change, Effect, Fact, Operator, Parts, plain_effect, plain_effects, operator_at, effect_at, HasValue, IsState, EffectFits, WellRanged, HaveGone, IsBasic, IsLayered, Holds, AllHold, preconditions, old_fact, Fires, fact_within, state_set}
+use Rattle.sas_run.proofs.Imports.{◌≡◌, ◌≢◌, ℕ, ◌+◌, ◌<◌, ◌≤◌, List, [], ◌∷◌, ◌++◌, length, get_or, set, Option, None, Some, refl, sym, ◌∙◌, ap, subst, inl, inr, arith, filter_map, option_map, All, cons_option, cases_eq, get_or-set_same, get_or-set_other, get_or-map, length-map, All-nil, All-cons, All-head, All-tail, All-map, All-append, All-weaker, All-from_recursion, same_Some, Replaces, AreApart, AreMade, IsPlainStep, OldHolds, IsApplied, Change, Effect, Fact, Operator, Parts, plain_effect, plain_effects, operator_at, effect_at, HasValue, IsState, EffectFits, WellRanged, HaveGone, IsBasic, IsLayered, Holds, AllHold, preconditions, old_fact, Fires, fact_within, state_set}
 use Rattle.sas_run.proofs.Ranges.{no_effect, operator_fits}
 use Rattle.sas_run.proofs.NextStates.{effects_basic}
-use Rattle.sas_run.proofs.Deleted.{deleted_few, all_before, all_last}
+use Rattle.sas_run.proofs.Deleted.{deleted_few, all_front, all_behind, all_replaced, gone_more}
 
 -- a default for indices that are out of range
 abbrev pub no_change : Change
@@ -33,9 +33,6 @@ module _ (p : Parts) (s s' : List ℕ) (changes : List Change) (n : ℕ) (made :
   in_state : change.var < length s'
   in_state = let one_each = made.state.one_each in omega arith
 
-  was : get_or s' change.var 0 ≡ get_or s change.var 0
-  was = made.kept change.var fresh
-
   now_set : (k : ℕ) (d : Change) → k < n + 1 → get_or (set s' change.var change.new) (get_or changes k d).var 0 ≡ (get_or changes k d).new
   now_set k d lt = elim (cases_eq k n) [
     | inl e ↦ subst (λ (c : Change). get_or (set s' change.var change.new) c.var 0 ≡ c.new) (sym (ap (λ i. get_or changes i d) e ∙ at d)) (get_or-set_same s' change.var change.new 0 in_state)
@@ -49,12 +46,6 @@ module _ (p : Parts) (s s' : List ℕ) (changes : List Change) (n : ℕ) (made :
   another : (var : ℕ) → Untouched changes (n + 1) var → var ≢ change.var
   another var not same = not n no_change (omega arith) (ap (λ (c : Change). c.var) (at no_change) ∙ sym same)
 
-  kept_value : get_or s' change.var 0 ≡ change.new → (var : ℕ) → get_or (set s' change.var change.new) var 0 ≡ get_or s' var 0
-  kept_value same var = elim (cases_eq var change.var) [
-    | inl e ↦ ap (λ x. get_or (set s' change.var change.new) x 0) e ∙ get_or-set_same s' change.var change.new 0 in_state ∙ sym same ∙ ap (λ x. get_or s' x 0) (sym e)
-    | inr ne ↦ get_or-set_other s' change.var var change.new 0 ne
-  ]
-
   pub one_more_made : HasValue p.variables change.var change.new → MadeSoFar p s changes (n + 1) (set s' change.var change.new)
   one_more_made fits = record {
     state = state_set p s' change.var change.new made.state fits;
@@ -63,42 +54,14 @@ module _ (p : Parts) (s s' : List ℕ) (changes : List Change) (n : ℕ) (made :
   }
 
   -- what it deletes
-  module _ (deleted : List Fact) (so_far : LostSoFar p s changes n deleted s') (basic : IsBasic p change.var) where
-    abbrev taken : Fact
-    taken = record { var = change.var; value = get_or s' change.var 0 }
-
-    others_than : All (λ (f : Fact). f.var ≢ change.var) deleted
-    others_than = so_far.among change.var fresh
-
-    deleted_now : (deleted' : List Fact) → Replaces s' (record { var = change.var; value = change.new }) deleted deleted' → HaveGone p deleted' s (set s' change.var change.new)
-    deleted_now deleted' (inl same) = subst (λ g. HaveGone p g s (set s' change.var change.new)) (sym same.1) (record {
-      basic = so_far.lost.basic;
-      exist = so_far.lost.exist;
-      held = so_far.lost.held;
-      once = so_far.lost.once;
-      others = λ var not. kept_value same.0 var ∙ so_far.lost.others var not;
-    })
-    deleted_now deleted' (inr other) = subst (λ g. HaveGone p g s (set s' change.var change.new)) (sym other.1) (record {
-      basic = All-push (λ (f : Fact). IsBasic p f.var) deleted taken so_far.lost.basic basic;
-      exist = All-push (λ (f : Fact). f.var < length p.variables) deleted taken so_far.lost.exist exists;
-      held = All-push (Holds (λ x. get_or s x 0)) deleted taken so_far.lost.held (sym was);
-      once = all_pairs_push (λ (f g : Fact). f.var ≢ g.var) deleted taken so_far.lost.once (λ k d lt. others_than k d lt);
-      others = λ var not.
-          (let apart : var ≢ change.var = λ e. (all_last (λ (g : Fact). g.var ≢ var) deleted taken not) (sym e) in
-          get_or-set_other s' change.var var change.new 0 apart ∙ so_far.lost.others var (all_before (λ (g : Fact). g.var ≢ var) deleted taken not));
-    })
-
-    among_now : (deleted' : List Fact) → Replaces s' (record { var = change.var; value = change.new }) deleted deleted' → (var : ℕ) → Untouched changes (n + 1) var → All (λ (f : Fact). f.var ≢ var) deleted'
-    among_now deleted' (inl same) var not = subst (All (λ (f : Fact). f.var ≢ var)) (sym same.1) (so_far.among var (fewer var not))
-    among_now deleted' (inr other) var not = subst (All (λ (f : Fact). f.var ≢ var)) (sym other.1)
-        (All-push (λ (f : Fact). f.var ≢ var) deleted taken (so_far.among var (fewer var not)) (λ same. another var not (sym same)))
-
-    pub one_more_lost : (deleted' : List Fact) → Replaces s' (record { var = change.var; value = change.new }) deleted deleted' → LostSoFar p s changes (n + 1) deleted' (set s' change.var change.new)
-    one_more_lost deleted' replaces = record {
-      lost = deleted_now deleted' replaces;
-      among = among_now deleted' replaces;
-      few = (let few = so_far.few in let more = deleted_few s' (record { var = change.var; value = change.new }) deleted deleted' replaces in omega arith);
-    }
+  pub one_more_lost : (deleted : List Fact) → LostSoFar p s changes n deleted s' → IsBasic p change.var → (deleted' : List Fact)
+      → Replaces s' (record { var = change.var; value = change.new }) deleted deleted' → LostSoFar p s changes (n + 1) deleted' (set s' change.var change.new)
+  one_more_lost deleted so_far basic deleted' replaces = record {
+    lost = gone_more p s s' deleted so_far.lost change.var change.new in_state (so_far.among change.var fresh) basic exists deleted' replaces;
+    among = λ var not. all_replaced (λ (f : Fact). f.var ≢ var) s' (record { var = change.var; value = change.new }) deleted deleted' replaces
+        (so_far.among var (fewer var not)) (λ same. another var not (sym same));
+    few = (let few = so_far.few in let more = deleted_few s' (record { var = change.var; value = change.new }) deleted deleted' replaces in omega arith);
+  }
 
 -- ---- making the changes is applying the effects
 
@@ -164,15 +127,6 @@ one_old_held s var (Some old) facts all = (
   (λ value is. All-head (Holds (λ v. get_or s v 0)) (record { var = var; value = old }) facts all ∙ same_Some old value is),
   All-tail (Holds (λ v. get_or s v 0)) (record { var = var; value = old }) facts all,
 )
-
--- for a list in two parts
-all_front : {X : Type 0} (P : X → Type 0) (xs ys : List X) → All P (xs ++ ys) → All P xs
-all_front P [] ys h = All-nil P
-all_front P (x ∷ xs) ys h = All-cons P x xs (All-head P x (xs ++ ys) h) (all_front P xs ys (All-tail P x (xs ++ ys) h))
-
-all_behind : {X : Type 0} (P : X → Type 0) (xs ys : List X) → All P (xs ++ ys) → All P ys
-all_behind P [] ys h = h
-all_behind P (x ∷ xs) ys h = all_behind P xs ys (All-tail P x (xs ++ ys) h)
 
 -- the old values hold exactly if they hold as facts
 pub olds_hold : (s : List ℕ) (changes : List Change) → All (OldHolds s) changes → AllHold (λ v. get_or s v 0) (filter_map old_fact (plain_effects changes))

@@ -6,8 +6,7 @@ use Rattle.sas_core.specs.Grounded.{operator_at}
 use Rattle.sas_core.specs.PlanParts.{PlanParts}
 use Rattle.sas_meaning.specs.declared.touched.Touched.{Touched}
 use Rattle.sas_meaning.specs.Steps.{Step}
-use Rattle.sas_names.specs.Chains.{HaveChains}
-use Rattle.sas_names.specs.Names.{AreFirsts}
+use Rattle.sas_names.specs.Chains.{AreStepOperators}
 use Rattle.sas_run.specs.declared.plan_check.PlanFault.{PlanFault}
 use Rattle.sas_run.specs.declared.progress.Progress.{Progress}
 use Rattle.sas_run.specs.declared.stepper.Stepper.{Stepper}
@@ -89,8 +88,7 @@ pub record IsExecuting {E : Type 0} (Ready : E → Parts → Type 0)
   pub prepared : IsPrepared Ready p stepper
   pub noted : IsTrue stepper.deleted.noted
   pub follows : Follows stepper.evaluator p progress.state
-  pub firsts : AreFirsts p plan.steps found
-  pub chains : HaveChains p found nexts
+  pub operators : AreStepOperators p plan.steps found nexts
   pub room : length plan.steps ≤ vec_capacity progress.operators
   pub run : Run
   pub executes : Executes run (executed_of p plan stepper progress made)

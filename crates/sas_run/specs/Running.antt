@@ -5,18 +5,20 @@ use Rattle.sas_core.specs.declared.parts.Effect.{Effect}
 use Rattle.sas_core.specs.declared.parts.Operator.{Operator}
 use Rattle.sas_core.specs.declared.parts.Parts.{Parts}
 use Rattle.sas_core.specs.Grounded.{operator_at, effect_at}
+use Rattle.sas_core.specs.PlanParts.{PlanParts}
 use Rattle.sas_core.specs.Variables.{IsState}
 use Rattle.sas_meaning.specs.States.{AllHold}
 use Rattle.sas_meaning.specs.Steps.{preconditions, Fires, Agree, Step}
 use Rattle.sas_names.specs.Named.{IsNamed}
 use Rattle.sas_run.specs.declared.plan_check.PlanFault.{PlanFault}
 use Rattle.sas_run.specs.declared.plan_check.PlanFault.TheVariants as plan_fault
+use Rattle.sas_run.specs.declared.plan_check.Valid.{Valid}
 use Rattle.sas_run.specs.declared.runner.Choice.{Choice}
 use Rattle.sas_run.specs.declared.runner.Choice.TheVariants.{Unknown, Blocked, Found}
 use Rattle.sas_run.specs.declared.steps.StepFault.{StepFault}
 use Rattle.sas_run.specs.declared.steps.StepFault.TheVariants as step_fault
-use Rattle.sas_run.specs.Plans.{IsApplicable, NoneApplicable, IsChosen, cost_of_all}
-use Rattle.sas_run.specs.Verdicts.{IsFirstMissed}
+use Rattle.sas_run.specs.Plans.{IsApplicable, NoneApplicable, IsChosen, IsValid, cost_of_all}
+use Rattle.sas_run.specs.Verdicts.{IsFirstMissed, IsFaultOf}
 
 -- which operator a name means in a state: no operator has the name, no operator of the name is
 -- applicable, or the chosen operator
@@ -134,3 +136,12 @@ IsFinalVerdict p operators s cost (Some (plan_fault.NoOperator step)) = ⊥
 IsFinalVerdict p operators s cost (Some (plan_fault.NotApplicable step)) = ⊥
 IsFinalVerdict p operators s cost (Some (plan_fault.Conflict step operator)) = ⊥
 IsFinalVerdict p operators s cost (Some plan_fault.Memory) = ⊥
+
+-- the plan is valid by these operators, and has this cost
+pub record IsSolution (p : Parts) (plan : PlanParts) (solution : Valid) : Type 0 where
+  pub valid : IsValid p plan solution.operators.items
+  pub cost : solution.cost ≡ plan.cost
+
+-- the plan has this fault, or memory ran out
+abbrev pub IsFaultOrMemory : Parts → PlanParts → PlanFault → Type 0
+IsFaultOrMemory p plan fault = fault ≢ plan_fault.Memory → IsFaultOf p plan fault

@@ -1,7 +1,6 @@
 // Tasks that are kept for many plans.
-ghost use Rattle.std.specs.Prelude.{◌≡◌, ◌≢◌, IfOk, IfErr};
-ghost use Rattle.sas_run.specs.Plans.{IsValid};
-ghost use Rattle.sas_run.specs.Verdicts.{IsFaultOf};
+ghost use Rattle.std.specs.Prelude.{◌≡◌, IfOk, IfErr};
+ghost use Rattle.sas_run.specs.Running.{IsSolution, IsFaultOrMemory};
 
 use crate::plan_check::{PlanFault, Valid, check_named};
 use crate::stepper::{Stepper, stepper_for};
@@ -72,10 +71,8 @@ impl<E: Settle<T> + Drop, T: Grounded + Drop> Held<E, T> {
 
     /// Checks whether the plan is valid, like `Runner::check_plan`.
     pub fn check_plan<P: Stepwise>(&mut self, alloc: Global, plan: &P) -> Result<Valid, PlanFault>
-        ensures valid { IfOk result (λ v. IsValid self.old (P.says plan.now) v.operators.items) }
-        ensures cost { IfOk result (λ v. v.cost ≡ (P.says plan.now).cost) }
-        ensures fault { IfErr result (λ f. f ≢ PlanFault.Memory
-            → IsFaultOf self.old (P.says plan.now) f) }
+        ensures valid { IfOk result (IsSolution self.old (P.says plan.now)) }
+        ensures fault { IfErr result (IsFaultOrMemory self.old (P.says plan.now)) }
         ensures same { self.new ≡ self.old }
     {
         let named = NamedTask {

@@ -1,18 +1,16 @@
 // Checks whether a plan is valid.
-ghost use Rattle.std.specs.Prelude.{◌≡◌, ◌≢◌, ◌≤◌, [], length, Some, IfOk, IfErr, OnOk, vec_capacity};
+ghost use Rattle.std.specs.Prelude.{◌≡◌, ◌≤◌, [], length, IfOk, IfErr, vec_capacity};
 ghost use Rattle.sas_core.specs.Grounded.{operator_at};
 ghost use Rattle.sas_core.specs.Variables.{IsState};
 ghost use Rattle.sas_meaning.specs.Reachable.{IsInitial};
-ghost use Rattle.sas_names.specs.Chains.{IsChain, HaveChains};
-ghost use Rattle.sas_names.specs.Names.{AreFirsts, IsFirst};
-ghost use Rattle.sas_run.specs.Plans.{LeadsTo, IsValid};
-ghost use Rattle.sas_run.specs.Verdicts.{IsFaultOf};
-ghost use Rattle.sas_run.specs.Running.{MakesStep, StepFails};
+ghost use Rattle.sas_names.specs.Chains.{IsChain, AreStepOperators};
+ghost use Rattle.sas_names.specs.Names.{IsFirst};
+ghost use Rattle.sas_run.specs.Running.{IsSolution, IsFaultOrMemory, MakesStep, StepFails};
 ghost use Rattle.sas_run.specs.Runs.{IsEnding};
 ghost use Rattle.sas_run.specs.Stepping.{Follows, IsPrepared};
 
-use crate::progress::{NextStep, Progress, choose, judge_last};
-use crate::runner::Runner;
+use crate::progress::{Progress, judge_last};
+use crate::runner::{Runner, first_applicable};
 use crate::stepper::{Stepper, go_on_from, stepper_for};
 use sas_core::{Grounded, Stepwise};
 use sas_meaning::{Layered, Settle, State};
@@ -57,10 +55,8 @@ impl<'a, E: Settle<T> + Drop, T: Grounded> Runner<'a, E, T> {
     /// Checks whether the plan is valid. Returns its operators and its cost, or its fault. A step means the lowest-numbered applicable
     /// operator of its name. All memory is allocated before the first step.
     pub fn check_plan<P: Stepwise>(&mut self, alloc: Global, plan: &P) -> Result<Valid, PlanFault>
-        ensures valid { IfOk result (λ v. IsValid self.old (P.says plan.now) v.operators.items) }
-        ensures cost { IfOk result (λ v. v.cost ≡ (P.says plan.now).cost) }
-        ensures fault { IfErr result (λ f. f ≢ PlanFault.Memory
-            → IsFaultOf self.old (P.says plan.now) f) }
+        ensures valid { IfOk result (IsSolution self.old (P.says plan.now)) }
+        ensures fault { IfErr result (IsFaultOrMemory self.old (P.says plan.now)) }
         ensures same { self.new ≡ self.old }
     {
         let named = NamedTask {
@@ -80,10 +76,8 @@ pub fn check_named<E: Settle<T> + Drop, T: Grounded, P: Stepwise>(
 ) -> Result<Valid, PlanFault>
     requires { IsPrepared E.ready named.now stepper.old }
     ensures prepared { IsPrepared E.ready named.now stepper.new }
-    ensures valid { IfOk result (λ v. IsValid named.now (P.says plan.now) v.operators.items) }
-    ensures cost { IfOk result (λ v. v.cost ≡ (P.says plan.now).cost) }
-    ensures fault { IfErr result (λ f. f ≢ PlanFault.Memory
-        → IsFaultOf named.now (P.says plan.now) f) }
+    ensures valid { IfOk result (IsSolution named.now (P.says plan.now)) }
+    ensures fault { IfErr result (IsFaultOrMemory named.now (P.says plan.now)) }
 {
     let firsts = first_operators(alloc, named, plan)?;
     let found = Found {
@@ -102,10 +96,8 @@ pub fn check_once<E: Settle<T> + Drop, T: Grounded, P: Stepwise>(
     plan: &P,
 ) -> Result<Valid, PlanFault>
     requires { E.ready evaluator layered.now }
-    ensures valid { IfOk result (λ v. IsValid layered.now (P.says plan.now) v.operators.items) }
-    ensures cost { IfOk result (λ v. v.cost ≡ (P.says plan.now).cost) }
-    ensures fault { IfErr result (λ f. f ≢ PlanFault.Memory
-        → IsFaultOf layered.now (P.says plan.now) f) }
+    ensures valid { IfOk result (IsSolution layered.now (P.says plan.now)) }
+    ensures fault { IfErr result (IsFaultOrMemory layered.now (P.says plan.now)) }
 {
     let Ok(mut stepper) = stepper_for(alloc, layered, evaluator) else {
         return Err(PlanFault::Memory);
@@ -123,13 +115,11 @@ pub fn check_found<E: Settle<T> + Drop, T: Grounded, P: Stepwise>(
     found: Found<'_>,
 ) -> Result<Valid, PlanFault>
     requires prepared { IsPrepared E.ready layered.now stepper.old }
-    requires firsts { AreFirsts layered.now (P.says plan.now).steps found.firsts.now }
-    requires chains { HaveChains layered.now found.firsts.now found.nexts.now }
+    requires found { AreStepOperators layered.now (P.says plan.now).steps
+        found.firsts.now found.nexts.now }
     ensures prepared { IsPrepared E.ready layered.now stepper.new }
-    ensures valid { IfOk result (λ v. IsValid layered.now (P.says plan.now) v.operators.items) }
-    ensures cost { IfOk result (λ v. v.cost ≡ (P.says plan.now).cost) }
-    ensures fault { IfErr result (λ f. f ≢ PlanFault.Memory
-        → IsFaultOf layered.now (P.says plan.now) f) }
+    ensures valid { IfOk result (IsSolution layered.now (P.says plan.now)) }
+    ensures fault { IfErr result (IsFaultOrMemory layered.now (P.says plan.now)) }
 {
     let mut progress = Progress::new(alloc, layered, stepper, plan.steps())?;
     match find_fault(layered, stepper, plan, found, &mut progress) {
@@ -153,8 +143,8 @@ pub fn find_fault<E: Settle<T> + Drop, T: Grounded, P: Stepwise>(
 ) -> Option<PlanFault>
     requires prepared { IsPrepared E.ready layered.now stepper.old }
     requires follows { Follows E.follows layered.now stepper.old progress.old.state }
-    requires firsts { AreFirsts layered.now (P.says plan.now).steps found.firsts.now }
-    requires chains { HaveChains layered.now found.firsts.now found.nexts.now }
+    requires found { AreStepOperators layered.now (P.says plan.now).steps
+        found.firsts.now found.nexts.now }
     requires initial { IsInitial layered.now progress.old.state }
     requires room { length (P.says plan.now).steps ≤ vec_capacity progress.old.operators }
     requires empty { progress.old.operators.items ≡ [] }
@@ -164,54 +154,33 @@ pub fn find_fault<E: Settle<T> + Drop, T: Grounded, P: Stepwise>(
     ensures state { IsState layered.now.variables progress.new.state }
     ensures room { vec_capacity progress.old.operators ≤ vec_capacity progress.new.operators }
 {
-    match go_through(layered, stepper, plan, found, progress) {
-        Ok(()) => judge_last(layered, progress, plan.cost()),
-        Err(fault) => Some(fault),
-    }
-}
-
-/// Makes the plan's steps. Stops at the first that fails, and returns the fault. `found` has the operators of the steps' names. Adds the
-/// operators of the steps made to `progress`, which must have room for them.
-fn go_through<E: Settle<T> + Drop, T: Grounded, P: Stepwise>(
-    layered: &Layered<T>,
-    stepper: &mut Stepper<E>,
-    plan: &P,
-    found: Found<'_>,
-    progress: &mut Progress,
-) -> Result<(), PlanFault>
-    requires prepared { IsPrepared E.ready layered.now stepper.old }
-    requires follows { Follows E.follows layered.now stepper.old progress.old.state }
-    requires firsts { AreFirsts layered.now (P.says plan.now).steps found.firsts.now }
-    requires chains { HaveChains layered.now found.firsts.now found.nexts.now }
-    requires initial { IsInitial layered.now progress.old.state }
-    requires room { length (P.says plan.now).steps ≤ vec_capacity progress.old.operators }
-    requires empty { progress.old.operators.items ≡ [] }
-    ensures prepared { IsPrepared E.ready layered.now stepper.new }
-    ensures noted { stepper.new.deleted.noted ≡ stepper.old.deleted.noted }
-    ensures leads { OnOk result (LeadsTo layered.now (P.says plan.now).steps
-        progress.new.operators.items progress.new.state) }
-    ensures ends { IfErr result (λ fault. IsEnding layered.now (P.says plan.now)
-        progress.new.operators.items (Some fault)) }
-    ensures state { IsState layered.now.variables progress.new.state }
-    ensures room { vec_capacity progress.old.operators ≤ vec_capacity progress.new.operators }
-{
     for before in 0..found.firsts.len() {
         let next = NextStep {
             first: found.firsts[before],
             number: before + 1,
         };
-        let operator = go_on(layered, stepper, found.nexts, next, &mut progress.state)?;
-        progress.operators.push(operator).unwrap();
+        match go_on(layered, stepper, found.nexts, next, &mut progress.state) {
+            Ok(operator) => progress.operators.push(operator).unwrap(),
+            Err(fault) => return Some(fault),
+        }
     }
     if found.firsts.len() < plan.steps() {
-        return Err(PlanFault::NoOperator {
+        return Some(PlanFault::NoOperator {
             step: found.firsts.len() + 1,
         });
     }
-    Ok(())
+    judge_last(layered, progress, plan.cost())
 }
 
-/// Makes the next step from the state that the evaluator settled last. Returns its operator.
+/// The next step of a plan: the lowest operator of its name, and its number, counted from 1.
+#[derive(Clone, Copy)]
+struct NextStep {
+    first: u32,
+    number: usize,
+}
+
+/// Chooses the operator that the next step means in the state, and makes its step from the state that the evaluator settled last. Returns
+/// the operator. `nexts` has, for each operator of the step's name, the next one.
 #[inline(always)]
 fn go_on<E: Settle<T> + Drop, T: Grounded>(
     layered: &Layered<T>,
@@ -234,7 +203,9 @@ fn go_on<E: Settle<T> + Drop, T: Grounded>(
         (operator_at layered.now next.first).name next.number fault) }
     ensures state { IsState layered.now.variables state.new }
 {
-    let operator = choose(layered, nexts, state, next)?;
+    let Some(operator) = first_applicable(layered, nexts, state, next.first) else {
+        return Err(PlanFault::NotApplicable { step: next.number });
+    };
     match go_on_from(layered, stepper, operator, state) {
         Ok(()) => Ok(operator),
         Err(_) => Err(PlanFault::Conflict {

@@ -1,17 +1,13 @@
-// The progress of a plan's execution, the choice of the next operator, and the test of the goal and the cost.
-ghost use Rattle.std.specs.Prelude.{◌≡◌, ◌<◌, ◌≤◌, ℕ, [], length, All, IfOk, IfErr, vec_capacity};
-ghost use Rattle.sas_core.specs.Grounded.{operator_at};
+// The progress of a plan's execution, and the test of the goal and the cost.
+ghost use Rattle.std.specs.Prelude.{◌≡◌, ◌<◌, ◌≤◌, ℕ, [], length, All, IfOk, vec_capacity};
 ghost use Rattle.sas_core.specs.Variables.{IsState};
 ghost use Rattle.sas_meaning.specs.Reachable.{IsInitial};
-ghost use Rattle.sas_names.specs.Chains.{IsChain};
-ghost use Rattle.sas_names.specs.Names.{IsFirst};
-ghost use Rattle.sas_run.specs.Plans.{IsChosen, cost_of_all};
-ghost use Rattle.sas_run.specs.Running.{StepFails, IsFinalVerdict};
+ghost use Rattle.sas_run.specs.Plans.{cost_of_all};
+ghost use Rattle.sas_run.specs.Running.{IsFinalVerdict};
 ghost use Rattle.sas_run.specs.Stepping.{IsPrepared};
 
 use crate::holding::first_missed;
 use crate::plan_check::PlanFault;
-use crate::runner::first_applicable;
 use crate::stepper::{Stepper, initial_of};
 use sas_core::Grounded;
 use sas_meaning::{Layered, Settle, State};
@@ -43,35 +39,6 @@ impl Progress {
         let operators = Vec::with_capacity(alloc, steps)?;
         let state = initial_of(alloc, layered, stepper)?;
         Ok(Progress { state, operators })
-    }
-}
-
-/// The next step of a plan: the lowest operator of its name, and its number, counted from 1.
-#[derive(Clone, Copy, Debug)]
-pub struct NextStep {
-    pub first: u32,
-    pub number: usize,
-}
-
-/// Returns the operator that the next step means in the state. `nexts` has, for each operator of its name, the next one.
-#[inline(always)]
-pub fn choose<T: Grounded>(
-    layered: &Layered<T>,
-    nexts: &[Option<u32>],
-    state: &State,
-    next: NextStep,
-) -> Result<u32, PlanFault>
-    requires first { IsFirst layered.now next.first }
-    requires chain { IsChain layered.now next.first nexts.now }
-    requires state { IsState layered.now.variables state.now }
-    ensures ok { IfOk result (IsChosen layered.now state.now
-        (operator_at layered.now next.first).name) }
-    ensures err { IfErr result (StepFails layered.now state.now
-        (operator_at layered.now next.first).name next.number) }
-{
-    match first_applicable(layered, nexts, state, next.first) {
-        Some(operator) => Ok(operator),
-        None => Err(PlanFault::NotApplicable { step: next.number }),
     }
 }
 

@@ -4,7 +4,6 @@ ghost use Rattle.sas_core.specs.Grounded.{operator_at};
 ghost use Rattle.sas_core.specs.Variables.{IsState};
 ghost use Rattle.sas_meaning.specs.Reachable.{IsInitial};
 ghost use Rattle.sas_names.specs.Chains.{IsChain};
-ghost use Rattle.sas_names.specs.Names.{IsNextNamed};
 ghost use Rattle.sas_run.specs.Plans.{IsApplicable};
 ghost use Rattle.sas_run.specs.Running.{IsChoice, IsFirstChosen, IsLaterIfAny, IsGoalAnswer, Steps};
 
@@ -106,29 +105,13 @@ impl<'a, E: Settle<T> + Drop, T: Grounded> Runner<'a, E, T> {
         requires { IsState self.now.variables state.now }
         ensures { IsChoice self.now state.now name.now result }
     {
-        let Some(first) = self.look_up(name) else {
+        let Some(first) = self.names.first(self.layered, name) else {
             return Choice::Unknown;
         };
-        match self.choose_from(state, first) {
+        match first_applicable(self.layered, self.names.next(), state, first) {
             Some(operator) => Choice::Found(operator),
             None => Choice::Blocked,
         }
-    }
-
-    /// Returns the lowest operator of the name, or `None` if no operator has it. It takes no memory.
-    pub(crate) fn look_up(&self, name: &[u8]) -> Option<u32>
-        ensures { IsNextNamed self.now name.now 0 result }
-    {
-        self.names.first(self.layered, name)
-    }
-
-    /// Returns the first applicable operator, among this one and the later ones of the same name. It takes no memory.
-    pub(crate) fn choose_from(&self, state: &State, first: u32) -> Option<u32>
-        requires state { IsState self.now.variables state.now }
-        requires first { first < length self.now.operators }
-        ensures { IsFirstChosen self.now state.now first result }
-    {
-        first_applicable(self.layered, self.names.next(), state, first)
     }
 
     /// Makes the operator's step in the state. If the operator has no step there, leaves the state unchanged and returns the reason. It

@@ -45,8 +45,8 @@ pub fn missed_precondition<T: Grounded>(
 }
 
 /// Applies the effects that fire to the state. The operator must be applicable. On success `deleted` contains the facts that the effects
-/// made false, if they are noted. If two of the effects conflict, leaves the state and `deleted` unchanged and returns the fault. `given`
-/// is scratch memory: it has no value before and after.
+/// made false, if they are noted. If two of the effects conflict, leaves the state and `deleted` unchanged and returns the fault. Unless
+/// the effects are plain, first stores the value that each of them sets in `given`, which has no value before and after.
 #[inline(always)]
 pub fn apply<T: Grounded>(
     task: &Layered<T>,
@@ -66,35 +66,11 @@ pub fn apply<T: Grounded>(
     ensures clean { NothingGiven task.now given.new }
     ensures notes { NotesOn deleted.old deleted.new }
 {
-    match plain_step(task, operator) {
-        Some(changes) => {
-            deleted.facts.clear();
-            make_changes(task, operator, changes, deleted, state);
-            Ok(())
-        }
-        None => apply_given(task, operator, given, deleted, state),
+    if let Some(changes) = plain_step(task, operator) {
+        deleted.facts.clear();
+        make_changes(task, operator, changes, deleted, state);
+        return Ok(());
     }
-}
-
-/// Applies any effects, like `apply`: first stores the value that each of them sets, then writes these values into the state.
-fn apply_given<T: Grounded>(
-    task: &Layered<T>,
-    operator: u32,
-    given: &mut Items<Option<u32>>,
-    deleted: &mut Deleted,
-    state: &mut State,
-) -> Result<(), StepFault>
-    requires operator { operator < length task.now.operators }
-    requires state { IsState task.now.variables state.old }
-    requires applicable { IsApplicable state.old (operator_at task.now operator) }
-    requires clean { NothingGiven task.now given.old }
-    requires room { HasRoom deleted.old (length (operator_at task.now operator).effects) }
-    ensures applies { Applies task.now state.old operator state.new result }
-    ensures gone { OnOk result (NotesGone task.now deleted.new state.old state.new) }
-    ensures same { OnErr result (deleted.new ≡ deleted.old) }
-    ensures clean { NothingGiven task.now given.new }
-    ensures notes { NotesOn deleted.old deleted.new }
-{
     if let Some(effect) = give_effects(task, operator, state, given) {
         take_back(task, operator, given);
         return Err(StepFault::Conflict { effect });

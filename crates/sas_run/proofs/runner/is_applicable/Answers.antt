@@ -1,5 +1,5 @@
 -- The prevail conditions, and the old values that effects without conditions require, are all preconditions.
-use Rattle.sas_run.proofs.Imports.{true, false, ◌<◌, length, sym, subst, All, slice_index, Change, Fact, operator_at, AllHold, true_from_ne_false}
+use Rattle.sas_run.proofs.Imports.{◌<◌, length, sym, subst, All, slice_index, Change, Fact, operator_at, AllHold, true_from_ne_false}
 use Rattle.sas_run.proofs.Ranges.{preconditions_within}
 use Rattle.sas_run.proofs.PlainSteps.{changes_within, met, prevail_met, olds_met, prevail_within}
 use Rattle.sas_run.proofs.runner.is_applicable.Goals as goal

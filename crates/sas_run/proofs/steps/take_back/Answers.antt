@@ -35,6 +35,4 @@ loop-effect-preserved g c =
     }
 
 pub returns : goal.returns
-returns g c =
-    let inv = c.loop-effect.invariant in
-    all_taken c.args.task.now (operator_at c.args.task.now c.args.operator) c.loop-effect.effect c.loop-effect.given inv.on_effects (omega arith) inv.taken
+returns g c = grind (arith, common_steps, all_taken)

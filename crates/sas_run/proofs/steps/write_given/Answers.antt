@@ -3,7 +3,7 @@ use Rattle.std.proofs.lemmas.Grind.{common_steps}
 use Rattle.sas_run.proofs.Imports.{◌≡◌, ◌<◌, length, set, None, Some, sym, ap, subst, ◌∙◌, inl, inr, arith, IsTrue, cases_eq, Change, operator_at, effect_at, IsBasic, state_set, Deleted, NotesOn, given_to}
 use Rattle.sas_run.proofs.Ranges.{no_effect, change_within}
 use Rattle.sas_run.proofs.Giving.{fewer_on_effects, one_more_taken, written_same, all_taken}
-use Rattle.sas_run.proofs.Deleted.{notes_on, notes_still, nothing_deleted, deleted_more, deleted_few, deleted_in_the_end}
+use Rattle.sas_run.proofs.Deleted.{notes_on, notes_still, nothing_deleted, deleted_more, deleted_few}
 use Rattle.sas_run.proofs.NextStates.{effects_basic}
 use Rattle.sas_run.proofs.steps.write_given.Goals as goal
 use Rattle.sas_run.proofs.steps.write_given.Goals.{in-Some, in_default}
@@ -66,7 +66,7 @@ pub loop-effect-init : goal.loop-effect-init
 loop-effect-init g c = grind (arith, common_steps, nothing_deleted, notes_still)
 
 pub returns-clause-gone : goal.returns-clause-gone
-returns-clause-gone g c noted = grind (arith, common_steps, deleted_in_the_end)
+returns-clause-gone g c noted = (c.loop-effect.invariant.deleted noted).gone
 
 pub bounds : goal.bounds
 bounds g c =
@@ -82,25 +82,13 @@ pub bounds-as_slice-var : goal.bounds-as_slice-var
 bounds-as_slice-var g c = grind (arith, common_steps)
 
 pub replace-requires-clause-exists : goal.replace-requires-clause-exists
-replace-requires-clause-exists g c =
-    omega (
-      arith,
-      change_within c.args.task.now c.task.ensures.well_ranged c.args.operator c.requires.operator c.loop-effect.effect (omega arith)
-          c.effect_change-var.result c.effect_change-var.ensures,
-      c.loop-effect.invariant.state.one_each,
-    )
+replace-requires-clause-exists g c = grind (arith, common_steps, change_within)
 
 pub replace-requires-clause-room : goal.replace-requires-clause-room
 replace-requires-clause-room g c noted = grind (arith, common_steps)
 
 pub set-requires : goal.set-requires
-set-requires g c =
-    omega (
-      arith,
-      change_within c.args.task.now c.task.ensures.well_ranged c.args.operator c.requires.operator c.loop-effect.effect (omega arith)
-          c.effect_change-var.result c.effect_change-var.ensures,
-      c.loop-effect.invariant.on_effects.one_each,
-    )
+set-requires g c = grind (arith, common_steps, change_within)
 
 pub returns-clause-clean : goal.returns-clause-clean
 returns-clause-clean g c = grind (arith, common_steps, all_taken)

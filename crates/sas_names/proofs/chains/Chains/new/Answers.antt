@@ -15,7 +15,7 @@ loop-operator-preserved-in-Some g c =
     let within : o < length p.operators = omega arith in
     let named : number (operator_at p o).name ≡ Some k = ap number (sym c.name.ensures) ∙ sym c.in-Some.ensures in
     let read : c.index.result.now ≡ get_or l.first.items k None =
-    get_or_read l.first.items k c.index.result.now (let below = c.requires.below (operator_at p o).name k named in omega (arith, inv.names)) c.index.ensures None in
+    get_or_read l.first.items k c.index.result.now (let below = c.requires.numbers.below (operator_at p o).name k named in omega (arith, inv.names)) c.index.ensures None in
     record {
       within = omega arith;
       names = length-set l.first.items k (Some o) ∙ inv.names;
@@ -23,8 +23,8 @@ loop-operator-preserved-in-Some g c =
       are = subst (λ v. AreChainsFrom p o number (slice_set l.first.items k (Some o)) (slice_set l.next.items o v)) (sym read)
           (AreChainsFrom-step p o number l.first.items l.next.items within
           (subst (λ n. AreChainsFrom p n number l.first.items l.next.items) (sym back) inv.are)
-          (λ a b j x y. sym (c.requires.named a j x) ∙ c.requires.named b j y)
-          (λ name j is. let below = c.requires.below name j is in omega (arith, inv.names))
+          (λ a b j x y. sym (c.requires.numbers.named a j x) ∙ c.requires.numbers.named b j y)
+          (λ name j is. let below = c.requires.numbers.below name j is in omega (arith, inv.names))
           inv.one_each
           k
           named);
@@ -35,7 +35,7 @@ index-requires g c =
     let number = λ (name : List ℕ). value_of (step_names (g.P.Stepwise.says c.args.plan.now).steps) c.args.names.now.numbers name in
     let k = c.in-Some.number in
     let named : number c.name.result.now ≡ Some k = sym c.in-Some.ensures in
-    omega (arith, c.requires.below c.name.result.now k named, c.loop-operator.invariant.names, c.loop-operator.first.ok.0)
+    omega (arith, c.requires.numbers.below c.name.result.now k named, c.loop-operator.invariant.names, c.loop-operator.first.ok.0)
 
 pub index_mut-requires : goal.index_mut-requires
 index_mut-requires g c = omega (arith, c.loop-operator.invariant.within, c.loop-operator.invariant.one_each, c.loop-operator.next.ok.0)
@@ -45,7 +45,7 @@ index_mut-requires-in-Some g c =
     let number = λ (name : List ℕ). value_of (step_names (g.P.Stepwise.says c.args.plan.now).steps) c.args.names.now.numbers name in
     let k = c.in-Some.number in
     let named : number c.name.result.now ≡ Some k = sym c.in-Some.ensures in
-    omega (arith, c.requires.below c.name.result.now k named, c.loop-operator.invariant.names, c.loop-operator.first.ok.0)
+    omega (arith, c.requires.numbers.below c.name.result.now k named, c.loop-operator.invariant.names, c.loop-operator.first.ok.0)
 
 -- An operator that has none of the names is skipped.
 pub loop-operator-preserved : goal.loop-operator-preserved
