@@ -2,7 +2,7 @@
 -- preserves a group.
 use Rattle.sas_groups.proofs.Imports.{◌≡◌, ℕ, ◌<◌, [], length, None, ◌∙◌, ap, subst, get_or_default, Contains-get_or, Contains, List, Change, Fact, Effect, Operator, effect_at, effect_change, Keeps, IsRemoved, sets, Removes, NotBoth, KeepsIfSets, known}
 
--- what stands behind the last effect
+-- past the last effect
 abbrev no_effect : Effect
 no_effect = record { conditions = []; var = 0; old = None; new = 0 }
 

@@ -1,8 +1,8 @@
 -- What the proofs use of other crates, and of the definitions of this one.
 pub use Rattle.std.proofs.lemmas.Option.{same_Some}
-pub use Rattle.std.proofs.Common.{◌≡◌, ℕ, ◌+◌, ◌<◌, List, [], ◌∷◌, ◌++◌, length, get_or, sym, subst, inl, inr, arith, None, ◌∙◌, ap, ◌-◌, ◌≤◌, ◌↔◌, refl, ◌⊎◌, Bool, true, false, ◌||◌, ◌==◌, IsTrue, map, Option, Some, replicate, Ordering, Less, Equal, Greater, ◌≢◌, zero, suc, set, ◌*◌, ◌^◌, take, drop, append_assoc, rules, slice_index, Result, Ok, Err, below_more, IfSome}
+pub use Rattle.std.proofs.Common.{◌≡◌, ℕ, ◌+◌, ◌<◌, List, [], ◌∷◌, ◌++◌, length, get_or, sym, subst, inl, inr, arith, None, ◌∙◌, ap, ◌-◌, ◌≤◌, ◌↔◌, refl, ◌⊎◌, Bool, true, false, ◌||◌, ◌==◌, IsTrue, IsFalse, map, Option, Some, replicate, Ordering, Less, Equal, Greater, ◌≢◌, zero, suc, set, ◌*◌, ◌^◌, take, drop, append_assoc, rules, slice_index, Result, Ok, Err, below_more, IfSome}
 pub use Rattle.std.proofs.Math.ListN.{get_or-eq_default}
-pub use Rattle.std.proofs.lemmas.Bool.{cases_eq, cases_lt, eq-eqb, eqb-true, cases_order, false≢true, eqb-false, both_ways, true≢false}
+pub use Rattle.std.proofs.lemmas.Bool.{cases_Bool, cases_eq, cases_lt, eq-eqb, eqb-true, cases_order, false≢true, eqb-false, both_ways, true≢false}
 pub use Rattle.std.proofs.lemmas.Grind.{common_steps}
 pub use Rattle.std.proofs.lemmas.List.{get_or_default, get_or_append_left, get_or-append_right, length-append, get_or-map, length-map, get_or_push, get_or-replicate, length-replicate, length_push, ext_get_or, get_or-set_same, get_or-set_other, length-set, take_more, take_all, take-append-drop, drop_all, take-append-le, drop-append-le, append-nil}
 pub use Rattle.std.proofs.lemmas.List.Elements.{Contains-append_left, Contains-push, All-contains, Contains-get_or, Contains-append_right, Contains-append_cases, All-nil, All-cons, All-append, All-from_get_or, All-push}
@@ -12,7 +12,7 @@ pub use Rattle.std.proofs.lemmas.List.Sorted.{Contains-permutation, IsPermutatio
 pub use Rattle.std.proofs.lemmas.Map.Keys.{Less-from_sorted}
 pub use Rattle.std.proofs.lemmas.Result.{IfOk-weaker}
 pub use Rattle.std.specs.Cmp.{IsEquivalence, IsTotalOrder}
-pub use Rattle.std.specs.List.{All, Contains, cons_option, filter_map, flat_map, AllByRecursion}
+pub use Rattle.std.specs.List.{All, Any, Contains, cons_option, filter_map, flat_map, AllByRecursion}
 pub use Rattle.std.specs.List.Retain.{IsFiltered, DiffersFromLast}
 pub use Rattle.std.specs.List.Sorted.{IsNonDecreasingBy, IsPermutation, IsSorted, IsStrictlySortedBy}
 pub use Rattle.std.specs.Option.{option_to_list}
@@ -41,7 +41,7 @@ pub use Rattle.sas_meaning.specs.Reachable.{IsInitial, Reachable, Initial, Next}
 pub use Rattle.sas_meaning.specs.States.{Holds, AllHold}
 pub use Rattle.sas_meaning.specs.Steps.{preconditions, Fires, Step}
 pub use Rattle.sas_groups.specs.ByVariable.{IsLarge, effect_entry, AreEntered, AreByVariable, place_of}
-pub use Rattle.sas_groups.specs.Checks.{Removes, NotBoth, KeepsIfSets, Tells, Alone, Has, IsFirstVerdict, IsOnlyOne, IsGone}
+pub use Rattle.sas_groups.specs.Checks.{Removes, NotBoth, KeepsIfSets, Alone, IsFirstVerdict, IsOnlyOne, IsGone}
 pub use Rattle.sas_groups.specs.Clashes.{Keeps, IsRemoved, sets, Clash, Contradict}
 pub use Rattle.sas_groups.specs.Distinct.{facts_at, AreOwnLists, AreDistinct, IsBelow}
 pub use Rattle.sas_groups.specs.Families.{MayBeExclusive, IsIn, IsGroupOf, IsGroupOfOr, AllKeep, IsKeptJointly, IsGreatest, IsOnBasic}

@@ -1,7 +1,7 @@
 -- The contents of lists that are built from other lists.
 use Rattle.sas_groups.proofs.Imports.{◌≡◌, ◌⊎◌, ℕ, ◌<◌, List, [], ◌∷◌, ◌++◌, length, get_or, map, Option, None, Some, refl, sym, ◌∙◌, ap, subst, inl, inr, arith, Contains, cons_option, filter_map, flat_map, option_to_list, get_or-map, length-map, All-nil, All-cons, All-contains, Contains-get_or, Contains-append_left, Contains-append_right, Contains-append_cases, cases_eq, common_steps, contains_none}
 
--- what is made of each item stands in the list of what is made
+-- what is made of each item is in the list of what is made
 pub in_map : {X Y : Type 0} (f : X → Y) (xs : List X) (x : X) → Contains xs x → Contains (map f xs) (f x)
 in_map f xs x there = grind (arith, common_steps, length-map, get_or-map)
 
@@ -10,7 +10,7 @@ from_map f xs y d there =
     let within : there.0 < length xs = let len = length-map xs f in let lt = there.1 in omega arith in
     (get_or xs there.0 d, Contains-get_or xs there.0 d within, sym (get_or-map f xs there.0 d y within) ∙ there.2)
 
--- what stands in a list made of an item stands in the joined lists
+-- what is in a list made of an item is in the joined lists
 pub in_flat : {X Y : Type 0} (f : X → List Y) (xs : List X) (x : X) (y : Y) → Contains xs x → Contains (f x) y → Contains (flat_map f xs) y
 in_flat f [] x y there its = absurd (contains_none x there)
 in_flat f (z ∷ zs) x y there its = elim (Contains-append_cases (z ∷ []) zs x there) [

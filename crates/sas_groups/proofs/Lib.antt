@@ -9,7 +9,7 @@ pub mod NotesOfFacts
 pub mod Invariance
 pub mod GreatestFamily
 pub mod Turns
-pub mod Telling
+pub mod Iff
 pub mod Effects
 pub mod JointVerdicts
 pub mod JointLists

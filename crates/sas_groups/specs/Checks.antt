@@ -1,6 +1,6 @@
 -- What the parts of the check of a group decide. The predicate `Counts` selects the groups that are
 -- assumed to be exclusive before a step.
-use Rattle.std.specs.Prelude.{◌≡◌, ◌≢◌, ◌⊎◌, ℕ, ◌<◌, Bool, IsTrue, IsFalse, length, List, [], ◌∷◌, All, Contains, slice_index}
+use Rattle.std.specs.Prelude.{◌≡◌, ◌≢◌, ◌⊎◌, ℕ, ◌<◌, length, List, [], ◌∷◌, All, Contains, slice_index}
 use Rattle.sas_core.specs.declared.parts.Fact.{Fact}
 use Rattle.sas_core.specs.declared.parts.Effect.{Effect}
 use Rattle.sas_core.specs.declared.parts.Operator.{Operator}
@@ -14,18 +14,9 @@ use Rattle.sas_groups.specs.Groups.{IsExclusiveIn}
 use Rattle.sas_groups.specs.Families.{IsOnBasic, MayBeExclusive}
 use Rattle.sas_groups.specs.Lists.{known}
 
--- the answer is true exactly if the fact holds
-pub record Tells (answer : Bool) (Claim : Type 0) : Type 0 where
-  pub yes : IsTrue answer → Claim
-  pub no : IsFalse answer → Claim → ⊥
-
 -- only this group is assumed
 abbrev pub Alone : List Fact → List Fact → Type 0
 Alone group = λ (g : List Fact). g ≡ group
-
--- some fact in the list has the property
-abbrev pub Has : (Fact → Type 0) → List Fact → Type 0
-Has P facts = (f : Fact) × Contains facts f × P f
 
 -- the effect, all of whose conditions are in `facts`, sets the variable of `fact` to another value
 pub record Removes (facts : List Fact) (effect : Effect) (fact : Fact) : Type 0 where

@@ -36,6 +36,10 @@ pub record HasFact (p : Parts) (place : ℕ) (fact : Fact) : Type 0 where
 abbrev pub under : List (List ℕ) → ℕ → List ℕ
 under lists key = slice_index_or lists key []
 
+-- the values of facts can be added to these numbers
+abbrev pub AreLow : List ℕ → Type 0
+AreLow firsts = All (λ (first : ℕ). first ≤ 2 ^ 62) firsts
+
 -- the groups of a fact in the index
 abbrev pub groups_of : Index → Fact → List ℕ
 groups_of index fact = under index.groups (number index.firsts.items fact)
@@ -51,7 +55,7 @@ pub record AreByFact (p : Parts) (firsts : List ℕ) (groups : List (List ℕ)) 
 -- runs of each group, and the effects of large operators by variable
 pub record IsIndexOf (p : Parts) (index : Index) : Type 0 where
   pub firsts : AreFirstNumbers p index.firsts.items
-  pub low : All (λ (first : ℕ). first ≤ 2 ^ 62) index.firsts.items
+  pub low : AreLow index.firsts.items
   pub groups : (fact : Fact) → FactExists p.variables fact
       → (place : ℕ) → Contains (groups_of index fact) place ↔ HasFact p place fact
   pub ascending : (fact : Fact) → IsNonDecreasing (groups_of index fact)

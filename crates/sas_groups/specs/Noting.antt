@@ -1,5 +1,5 @@
 -- How recording one fact changes the notes.
-use Rattle.std.specs.Prelude.{◌≡◌, ◌≢◌, ◌⊎◌, ℕ, ◌<◌, ◌≤◌, ◌^◌, Bool, IsTrue, Option, None, Some, List, length, slice_set, All, Contains}
+use Rattle.std.specs.Prelude.{◌≡◌, ◌≢◌, ◌⊎◌, ℕ, ◌<◌, Bool, IsTrue, Option, None, Some, List, length, slice_set, All, Contains}
 use Rattle.sas_core.specs.declared.parts.Fact.{Fact}
 use Rattle.sas_core.specs.declared.parts.Parts.{Parts}
 use Rattle.sas_groups.specs.declared.notes.Notes.{Notes}
@@ -8,7 +8,7 @@ use Rattle.sas_groups.specs.declared.notes.Noted.TheVariants.{Nothing, One, Seve
 use Rattle.sas_groups.specs.Kept.{family_of}
 use Rattle.std.specs.List.Sorted.{IsNonDecreasing}
 use Rattle.sas_groups.specs.declared.index.Index.{Index}
-use Rattle.sas_groups.specs.Index.{HasFact, groups_of}
+use Rattle.sas_groups.specs.Index.{AreLow, HasFact, groups_of}
 use Rattle.sas_groups.specs.Notes.{value_note, group_note}
 
 -- all indexes are below n
@@ -17,7 +17,7 @@ AreBelow n places = All (λ (place : ℕ). place < n) places
 
 -- the index can be queried for any fact: numbers don't overflow, and groups are in ascending order
 pub record IsReadable (index : Index) : Type 0 where
-  pub low : All (λ (first : ℕ). first ≤ 2 ^ 62) index.firsts.items
+  pub low : AreLow index.firsts.items
   pub ascending : (fact : Fact) → IsNonDecreasing (groups_of index fact)
 
 -- a group of the family contains both facts

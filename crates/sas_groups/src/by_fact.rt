@@ -1,8 +1,8 @@
 // The groups that contain each fact.
-ghost use Rattle.std.specs.Prelude.{◌≡◌, ◌<◌, ◌≤◌, ◌^◌, ◌++◌, [], ◌∷◌, ℕ, length, IfOk, OnOk, All};
+ghost use Rattle.std.specs.Prelude.{◌≡◌, ◌<◌, ◌++◌, length, IfOk, OnOk, All};
 ghost use Rattle.sas_core.specs.declared.parts.Fact.{Fact};
 ghost use Rattle.sas_groups.specs.Distinct.{AreOwnLists};
-ghost use Rattle.sas_groups.specs.Index.{AreFirstNumbers, facts_below, AreByFact, entries_of};
+ghost use Rattle.sas_groups.specs.Index.{AreLow, AreFirstNumbers, facts_below, AreByFact, entries_of};
 
 use crate::distinct::facts_of;
 use sas_core::{Fact, Grounded};
@@ -21,10 +21,9 @@ pub fn groups_by_fact<T: Grounded>(
 ) -> Result<Lists<u32>, AllocError>
     requires own { AreOwnLists task.now own.now }
     requires firsts { AreFirstNumbers task.now firsts.now }
-    requires low { All (λ (first : ℕ). first ≤ 2 ^ 62) firsts.now }
+    requires low { AreLow firsts.now }
     requires all { facts ≡ facts_below task.now (length task.now.variables) }
-    ensures { IfOk result
-        (λ groups. AreByFact task.now firsts.now groups) }
+    ensures { IfOk result (λ groups. AreByFact task.now firsts.now groups) }
 {
     // The contract of `task` ensures that the task is well ranged.
     let _ = task.task();
@@ -43,7 +42,7 @@ fn enter_facts(
     entries: &mut Vec<Entry<u32>>,
 ) -> Result<(), AllocError>
     requires known { All (λ (f : Fact). f.var < length firsts.now) facts.now }
-    requires low { All (λ (first : ℕ). first ≤ 2 ^ 62) firsts.now }
+    requires low { AreLow firsts.now }
     ensures { OnOk result
         (entries.new.items ≡ entries.old.items ++ entries_of firsts.now group facts.now) }
 {

@@ -1,7 +1,8 @@
 // Which facts exclude each other.
 ghost use Rattle.std.specs.Prelude.{◌<◌, ◌↔◌, length, Contains, IsTrue};
+ghost use Rattle.std.specs.List.{Any};
 ghost use Rattle.sas_groups.specs.Clashes.{Contradict, Clash};
-ghost use Rattle.sas_groups.specs.Checks.{Tells, Alone, Has};
+ghost use Rattle.sas_groups.specs.Checks.{Alone};
 ghost use Rattle.sas_groups.specs.Lists.{known_on};
 
 use crate::known::{Known, Premises};
@@ -17,7 +18,7 @@ pub fn contains(facts: &[Fact], fact: Fact) -> bool
 
 /// Returns whether the two facts contradict each other: two values of a variable, or two different facts of the group.
 fn contradict(group: &[Fact], f: Fact, g: Fact) -> bool
-    ensures { Tells result (Contradict (Alone group.now) f g) }
+    ensures { IsTrue result ↔ Contradict (Alone group.now) f g }
 {
     if f.var == g.var {
         f.value != g.value
@@ -34,7 +35,8 @@ fn contradicts_known<T: Grounded>(
     f: Fact,
 ) -> bool
     requires { premises.now.operator < length task.now.operators }
-    ensures { Tells result (Has (Contradict (Alone group.now) f) (known_on task.now premises.now)) }
+    ensures { IsTrue result
+        ↔ Any (Contradict (Alone group.now) f) (known_on task.now premises.now) }
 {
     for g in Known::new(task, premises) {
         if contradict(group, f, g) {
@@ -47,7 +49,7 @@ fn contradicts_known<T: Grounded>(
 /// Returns whether two of the known facts contradict each other.
 pub fn clash<T: Grounded>(task: &Layered<T>, premises: &Premises<'_>, group: &[Fact]) -> bool
     requires { premises.now.operator < length task.now.operators }
-    ensures { Tells result (Clash (Alone group.now) (known_on task.now premises.now)) }
+    ensures { IsTrue result ↔ Clash (Alone group.now) (known_on task.now premises.now) }
 {
     for f in Known::new(task, premises) {
         if contradicts_known(task, premises, group, f) {

@@ -5,7 +5,7 @@ ghost use Rattle.sas_meaning.specs.States.{Holds};
 ghost use Rattle.sas_groups.specs.Groups.{IsExclusiveIn, IsInvariant};
 ghost use Rattle.sas_groups.specs.Families.{IsOnBasic, AllKeep};
 ghost use Rattle.sas_groups.specs.Verdicts.{IsVerdictAlone, IsFirstBreaking};
-ghost use Rattle.sas_groups.specs.Checks.{IsFirstVerdict, Tells, Alone, IsOnlyOne};
+ghost use Rattle.sas_groups.specs.Checks.{IsFirstVerdict, Alone, IsOnlyOne};
 
 use crate::keeping::keeps;
 use crate::verdict::Verdict;
@@ -48,7 +48,7 @@ pub fn before_operators<T: Grounded>(task: &Layered<T>, group: &[Fact]) -> Verdi
 /// Returns whether all facts are on basic variables.
 fn is_on_basic<T: Grounded>(task: &Layered<T>, group: &[Fact]) -> bool
     requires { All (λ f. f.var < length task.now.variables) group.now }
-    ensures { Tells result (IsOnBasic task.now group.now) }
+    ensures { IsTrue result ↔ IsOnBasic task.now group.now }
 {
     for fact in group {
         if let Some(_) = task.layer(fact.var) {
@@ -61,7 +61,7 @@ fn is_on_basic<T: Grounded>(task: &Layered<T>, group: &[Fact]) -> bool
 /// Returns whether the state section contains no two different facts of the group.
 fn is_exclusive_in_section<T: Grounded>(task: &Layered<T>, group: &[Fact]) -> bool
     requires { All (λ f. f.var < length task.now.variables) group.now }
-    ensures { Tells result (IsExclusiveIn task.now.init group.now) }
+    ensures { IsTrue result ↔ IsExclusiveIn task.now.init group.now }
 {
     match first_holding(task, group) {
         Some(fact) => is_only_one(task, group, fact),
@@ -88,7 +88,7 @@ fn first_holding<T: Grounded>(task: &Layered<T>, group: &[Fact]) -> Option<Fact>
 /// Returns whether no fact of the group other than `fact` holds in the state section.
 fn is_only_one<T: Grounded>(task: &Layered<T>, group: &[Fact], fact: Fact) -> bool
     requires { All (λ f. f.var < length task.now.variables) group.now }
-    ensures { Tells result (All (IsOnlyOne task.now.init fact) group.now) }
+    ensures { IsTrue result ↔ All (IsOnlyOne task.now.init fact) group.now }
 {
     for other in group {
         if *other != fact && holds(task, *other) {

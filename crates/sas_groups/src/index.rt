@@ -1,10 +1,10 @@
 // The index of the groups of a task.
-ghost use Rattle.std.specs.Prelude.{◌≡◌, ◌<◌, ◌≤◌, ◌^◌, ◌↔◌, ℕ, [], length, IsTrue, IfOk, OnOk, IfSome, All, Contains};
+ghost use Rattle.std.specs.Prelude.{◌≡◌, ◌<◌, ◌↔◌, [], length, IsTrue, IfOk, OnOk, IfSome, Contains};
 ghost use Rattle.std.specs.List.Sorted.{IsNonDecreasing};
 ghost use Rattle.sas_groups.specs.Index as spec;
 ghost use Rattle.sas_groups.specs.ByVariable.{AreOn};
 ghost use Rattle.sas_groups.specs.Distinct.{facts_at};
-ghost use Rattle.sas_groups.specs.Index.{under, number, IsIndexOf, AreFirstNumbers, facts_below};
+ghost use Rattle.sas_groups.specs.Index.{under, number, IsIndexOf, AreLow, AreFirstNumbers, facts_below};
 
 use crate::by_fact::groups_by_fact;
 use crate::by_variable::{FEW_EFFECTS, effects_by_variable, place_of};
@@ -74,7 +74,7 @@ impl Index {
     /// Returns the groups that contain the fact.
     #[inline(always)]
     pub fn groups_of(&self, fact: Fact) -> &[u32]
-        requires { All (λ (first : ℕ). first ≤ 2 ^ 62) self.now.firsts.items }
+        requires { AreLow self.now.firsts.items }
         ensures { result.now ≡ spec.groups_of self.now fact }
     {
         under(&self.groups, self.number_of(fact))
@@ -110,7 +110,7 @@ impl Index {
     /// Returns whether the group contains the fact.
     #[inline(always)]
     pub fn has(&self, group: u32, fact: Fact) -> bool
-        requires low { All (λ (first : ℕ). first ≤ 2 ^ 62) self.now.firsts.items }
+        requires low { AreLow self.now.firsts.items }
         requires ascending { IsNonDecreasing (spec.groups_of self.now fact) }
         ensures { IsTrue result ↔ Contains (spec.groups_of self.now fact) group }
     {
@@ -125,7 +125,7 @@ impl Index {
     /// Returns the number of the fact. If the variable doesn't exist, its first number is taken as 0.
     #[inline(always)]
     fn number_of(&self, fact: Fact) -> usize
-        requires { All (λ (first : ℕ). first ≤ 2 ^ 62) self.now.firsts.items }
+        requires { AreLow self.now.firsts.items }
         ensures { result ≡ number self.now.firsts.items fact }
     {
         let first = match self.firsts.as_slice().get(fact.var as usize) {
@@ -143,7 +143,7 @@ fn number_facts<T: Grounded>(
 ) -> Result<usize, AllocError>
     requires empty { firsts.old.items ≡ [] }
     ensures firsts { OnOk result (AreFirstNumbers task.now firsts.new.items) }
-    ensures low { OnOk result (All (λ (first : ℕ). first ≤ 2 ^ 62) firsts.new.items) }
+    ensures low { OnOk result (AreLow firsts.new.items) }
     ensures all { IfOk result
         (λ facts. facts ≡ facts_below task.now (length task.now.variables)) }
 {

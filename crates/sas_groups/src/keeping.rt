@@ -1,8 +1,8 @@
 // Which operators preserve a group.
-ghost use Rattle.std.specs.Prelude.{◌<◌, length, All};
+ghost use Rattle.std.specs.Prelude.{◌<◌, ◌↔◌, length, All, IsTrue};
 ghost use Rattle.sas_core.specs.Grounded.{operator_at, effect_at};
 ghost use Rattle.sas_groups.specs.Clashes.{Keeps};
-ghost use Rattle.sas_groups.specs.Checks.{Tells, Alone, NotBoth, HasNoPartner, IsGone, KeepsIfSets};
+ghost use Rattle.sas_groups.specs.Checks.{Alone, NotBoth, HasNoPartner, IsGone, KeepsIfSets};
 
 use crate::clashes::{clash, contains};
 use crate::known::Premises;
@@ -13,7 +13,7 @@ use sas_meaning::Layered;
 /// Returns whether the operator preserves the group.
 pub fn keeps<T: Grounded>(task: &Layered<T>, operator: u32, group: &[Fact]) -> bool
     requires { operator < length task.now.operators }
-    ensures { Tells result (Keeps (Alone group.now) (operator_at task.now operator) group.now) }
+    ensures { IsTrue result ↔ Keeps (Alone group.now) (operator_at task.now operator) group.now }
 {
     for effect in 0..task.effects(operator) {
         if !keeps_if_sets(task, operator, group, effect) {
@@ -28,7 +28,7 @@ fn keeps_if_sets<T: Grounded>(task: &Layered<T>, operator: u32, group: &[Fact], 
     requires operator { operator < length task.now.operators }
     requires effect { effect < length (operator_at task.now operator).effects }
     ensures { let o = operator_at task.now operator in
-        Tells result (KeepsIfSets (Alone group.now) o group.now (effect_at o effect)) }
+        IsTrue result ↔ KeepsIfSets (Alone group.now) o group.now (effect_at o effect) }
 {
     if !contains(group, task.effect_change(operator, effect).fact()) {
         return true;
@@ -41,7 +41,7 @@ fn is_single<T: Grounded>(task: &Layered<T>, operator: u32, group: &[Fact], effe
     requires operator { operator < length task.now.operators }
     requires effect { effect < length (operator_at task.now operator).effects }
     ensures { let o = operator_at task.now operator in
-        Tells result (HasNoPartner (Alone group.now) o group.now (effect_at o effect)) }
+        IsTrue result ↔ HasNoPartner (Alone group.now) o group.now (effect_at o effect) }
 {
     for other in 0..task.effects(operator) {
         if !not_both(task, operator, group, effect, other) {
@@ -62,8 +62,8 @@ fn not_both<T: Grounded>(
     requires operator { operator < length task.now.operators }
     requires effect { effect < length (operator_at task.now operator).effects }
     requires other { other < length (operator_at task.now operator).effects }
-    ensures { let o = operator_at task.now operator in Tells result
-        (NotBoth (Alone group.now) o group.now (effect_at o effect) (effect_at o other)) }
+    ensures { let o = operator_at task.now operator in IsTrue result
+        ↔ NotBoth (Alone group.now) o group.now (effect_at o effect) (effect_at o other) }
 {
     let change = task.effect_change(operator, effect);
     let second = task.effect_change(operator, other);
@@ -83,7 +83,7 @@ fn removes_all<T: Grounded>(task: &Layered<T>, operator: u32, group: &[Fact], ef
     requires operator { operator < length task.now.operators }
     requires effect { effect < length (operator_at task.now operator).effects }
     ensures { let o = operator_at task.now operator in
-        Tells result (All (IsGone (Alone group.now) o (effect_at o effect)) group.now) }
+        IsTrue result ↔ All (IsGone (Alone group.now) o (effect_at o effect)) group.now }
 {
     for fact in group {
         if !is_gone(task, operator, group, effect, *fact) {
@@ -104,7 +104,7 @@ fn is_gone<T: Grounded>(
     requires operator { operator < length task.now.operators }
     requires effect { effect < length (operator_at task.now operator).effects }
     ensures { let o = operator_at task.now operator in
-        Tells result (IsGone (Alone group.now) o (effect_at o effect) fact) }
+        IsTrue result ↔ IsGone (Alone group.now) o (effect_at o effect) fact }
 {
     let change = task.effect_change(operator, effect);
     if change.var == fact.var {

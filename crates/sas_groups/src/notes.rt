@@ -9,7 +9,6 @@ ghost use Rattle.sas_groups.specs.Noting.{AreBelow, IsReadable, ShareKept, Share
 ghost use Rattle.sas_groups.specs.Noting.{IsNotedToo, IsExcluded, TakenBySome, TakenByAll};
 ghost use Rattle.sas_groups.specs.Noting.{ChangesAt, IsThere, NotesFirstFact, ForgetsGroups, Forgets, IsSetApart, IsCompleted};
 ghost use Rattle.sas_groups.specs.Noting.{HasNotedGroup};
-ghost use Rattle.sas_groups.specs.Checks.{Tells};
 
 use crate::deciding::Deciding;
 use crate::index::Index;
@@ -229,7 +228,7 @@ pub fn shares_apart(
     deciding: &Deciding,
 ) -> bool
     requires { IsReadable index.now }
-    ensures { Tells result (SharesApart index.now kept.now fact apart) }
+    ensures { IsTrue result ↔ SharesApart index.now kept.now fact apart }
 {
     match apart {
         Some(other) => share_kept(index, kept, fact, other, deciding),
@@ -240,7 +239,7 @@ pub fn shares_apart(
 /// Returns whether a group of the family contains both facts. Searches the groups of the fact that has fewer.
 fn share_kept(index: &Index, kept: &[bool], fact: Fact, other: Fact, deciding: &Deciding) -> bool
     requires { IsReadable index.now }
-    ensures { Tells result (ShareKept index.now kept.now fact other) }
+    ensures { IsTrue result ↔ ShareKept index.now kept.now fact other }
 {
     if index.groups_of(fact).len() <= index.groups_of(other).len() {
         some_has(index, kept, fact, other, deciding)
@@ -252,7 +251,7 @@ fn share_kept(index: &Index, kept: &[bool], fact: Fact, other: Fact, deciding: &
 /// Returns whether a group of the family contains both facts. Searches the groups of `fact`.
 pub fn some_has(index: &Index, kept: &[bool], fact: Fact, other: Fact, deciding: &Deciding) -> bool
     requires { IsReadable index.now }
-    ensures { Tells result (ShareKept index.now kept.now fact other) }
+    ensures { IsTrue result ↔ ShareKept index.now kept.now fact other }
 {
     for group in index.groups_of(fact) {
         if is_kept(kept, *group) && index.has(*group, other) {
@@ -302,7 +301,7 @@ fn note_in_groups(
 /// Returns whether a fact is recorded for one of these groups that is in the family.
 pub fn has_noted(groups: &[u32], kept: &[bool], noted: &[Noted], deciding: &Deciding) -> bool
     requires { AreBelow (length noted.now) groups.now }
-    ensures { Tells result (HasNotedGroup groups.now kept.now noted.now) }
+    ensures { IsTrue result ↔ HasNotedGroup groups.now kept.now noted.now }
 {
     for group in groups {
         if is_kept(kept, *group) && !noted[*group as usize].is_nothing() {

@@ -1,8 +1,8 @@
 // Whether an operator removes a fact.
-ghost use Rattle.std.specs.Prelude.{◌<◌, length, All, Contains};
+ghost use Rattle.std.specs.Prelude.{◌<◌, ◌↔◌, length, All, Contains, IsTrue};
 ghost use Rattle.sas_core.specs.Grounded.{operator_at, effect_at};
 ghost use Rattle.sas_groups.specs.Clashes.{IsRemoved};
-ghost use Rattle.sas_groups.specs.Checks.{Tells, Removes};
+ghost use Rattle.sas_groups.specs.Checks.{Removes};
 ghost use Rattle.sas_groups.specs.Lists.{known_on};
 
 use crate::known::{Known, Premises};
@@ -12,7 +12,7 @@ use sas_meaning::Layered;
 /// Returns whether the fact is a known fact.
 fn is_known<T: Grounded>(task: &Layered<T>, premises: &Premises<'_>, fact: Fact) -> bool
     requires { premises.now.operator < length task.now.operators }
-    ensures { Tells result (Contains (known_on task.now premises.now) fact) }
+    ensures { IsTrue result ↔ Contains (known_on task.now premises.now) fact }
 {
     for g in Known::new(task, premises) {
         if g == fact {
@@ -25,7 +25,7 @@ fn is_known<T: Grounded>(task: &Layered<T>, premises: &Premises<'_>, fact: Fact)
 /// Returns whether all conditions are known facts.
 fn all_known<T: Grounded>(task: &Layered<T>, premises: &Premises<'_>, conditions: &[Fact]) -> bool
     requires { premises.now.operator < length task.now.operators }
-    ensures { Tells result (All (Contains (known_on task.now premises.now)) conditions.now) }
+    ensures { IsTrue result ↔ All (Contains (known_on task.now premises.now)) conditions.now }
 {
     for condition in conditions {
         if !is_known(task, premises, *condition) {
@@ -38,8 +38,8 @@ fn all_known<T: Grounded>(task: &Layered<T>, premises: &Premises<'_>, conditions
 /// Returns whether some effect of the operator, all of whose conditions are known, sets the variable of the fact to another value.
 pub fn is_removed<T: Grounded>(task: &Layered<T>, premises: &Premises<'_>, fact: Fact) -> bool
     requires { premises.now.operator < length task.now.operators }
-    ensures { Tells result (IsRemoved (operator_at task.now premises.now.operator)
-        (known_on task.now premises.now) fact) }
+    ensures { IsTrue result ↔ IsRemoved (operator_at task.now premises.now.operator)
+        (known_on task.now premises.now) fact }
 {
     for effect in 0..task.effects(premises.operator) {
         if removes(task, premises, effect, fact) {
@@ -53,8 +53,8 @@ pub fn is_removed<T: Grounded>(task: &Layered<T>, premises: &Premises<'_>, fact:
 fn removes<T: Grounded>(task: &Layered<T>, premises: &Premises<'_>, effect: u32, fact: Fact) -> bool
     requires operator { premises.now.operator < length task.now.operators }
     requires effect { effect < length (operator_at task.now premises.now.operator).effects }
-    ensures { Tells result (Removes (known_on task.now premises.now)
-        (effect_at (operator_at task.now premises.now.operator) effect) fact) }
+    ensures { IsTrue result ↔ Removes (known_on task.now premises.now)
+        (effect_at (operator_at task.now premises.now.operator) effect) fact }
 {
     let change = task.effect_change(premises.operator, effect);
     if change.var != fact.var || change.new == fact.value {

@@ -1,5 +1,5 @@
 -- What the notes of facts that don't clash imply for another fact.
-use Rattle.sas_mutex.proofs.Imports.{◌≡◌, ◌≢◌, ◌⊎◌, ℕ, ◌<◌, Bool, [], length, get_or, List, ◌∷◌, ◌++◌, None, Some, subst, refl, sym, ap, ◌∙◌, inl, inr, append-nil, All, Contains, cases_eq, get_or_default, Contains-append_left, Contains-append_right, Contains-append_cases, Contains-push, Contains-push_cases, Contains-get_or, Fact, Effect, Operator, Parts, effect_at, group_at, FactExists, EffectKeeps, AreGone, Marks, IsKept, EffectPlace, operator_of, effect_of, IsNotedAt, ShareOne, AreKnown, IsMet, RemovesByNotes, SomeRemoves, IsNotedFor, known_at, preconditions, Contradict, Clash, IsRemoved, IsIn, known, Index, Notes, IsGone, clash_more, group_of_larger, family_of, IsIndexOf, HasFact, groups_of, value_note, group_note, IsOfGroupBeside, HasOtherValue, HasNotedGroup, ShareKept, SharesApart, WellRanged, variable_below, a_note, apart_or_not, one_or_two, value_note_shows, no_value_note_shows, no_note_shows, some_note_shows, shared_turned}
+use Rattle.sas_mutex.proofs.Imports.{◌≡◌, ◌≢◌, ◌⊎◌, ℕ, ◌<◌, Bool, [], length, get_or, List, ◌∷◌, ◌++◌, None, Some, subst, refl, sym, ap, ◌∙◌, inl, inr, append-nil, All, Any, Contains, cases_eq, get_or_default, Contains-append_left, Contains-append_right, Contains-append_cases, Contains-push, Contains-push_cases, Contains-get_or, Fact, Effect, Operator, Parts, effect_at, group_at, FactExists, EffectKeeps, AreGone, Marks, IsKept, EffectPlace, operator_of, effect_of, IsNotedAt, ShareOne, AreKnown, IsMet, RemovesByNotes, SomeRemoves, IsNotedFor, known_at, preconditions, Contradict, Clash, IsRemoved, IsIn, known, Index, Notes, IsGone, clash_more, group_of_larger, family_of, IsIndexOf, HasFact, groups_of, value_note, group_note, IsOfGroupBeside, HasOtherValue, HasNotedGroup, ShareKept, SharesApart, WellRanged, variable_below, a_note, apart_or_not, one_or_two, value_note_shows, no_value_note_shows, no_note_shows, some_note_shows, shared_turned}
 use Rattle.sas_mutex.proofs.TaskFacts.{known_at_exist, conditions_exist}
 use Rattle.sas_mutex.proofs.KnownFacts.{contradict_turned, not_itself, shares_contradicts, contradicts_shares, share_one, share_kept}
 
@@ -235,14 +235,14 @@ module _ (Counts : List Fact → Type 0) (o : Operator) (conditions facts : List
   first = preconditions o ++ conditions
 
   pub one_or_themselves : (Clash Counts (known o conditions []) → ⊥) → Clash Counts (known o conditions facts)
-      → ((fact : Fact) × Contains facts fact × Clash Counts (known o conditions (fact ∷ []))) ⊎ Clash Counts facts
+      → Any (λ (fact : Fact). Clash Counts (known o conditions (fact ∷ []))) facts ⊎ Clash Counts facts
   one_or_themselves apart (f, g, f_in, g_in, why) = elim (Contains-append_cases first facts f f_in) [
     | inl f_first ↦ elim (Contains-append_cases first facts g g_in) [
       | inl g_first ↦ absurd (apart (f, g, Contains-append_left first [] f f_first, Contains-append_left first [] g g_first, why))
-      | inr g_among ↦ inl (g, g_among, (f, g, Contains-append_left first (g ∷ []) f f_first, Contains-push first g, why))
+      | inr g_among ↦ inl (g_among.0, g, g_among.1, g_among.2, (f, g, Contains-append_left first (g ∷ []) f f_first, Contains-push first g, why))
     ]
     | inr f_among ↦ elim (Contains-append_cases first facts g g_in) [
-      | inl g_first ↦ inl (f, f_among, (f, g, Contains-push first f, Contains-append_left first (f ∷ []) g g_first, why))
+      | inl g_first ↦ inl (f_among.0, f, f_among.1, f_among.2, (f, g, Contains-push first f, Contains-append_left first (f ∷ []) g g_first, why))
       | inr g_among ↦ inr (f, g, f_among, g_among, why)
     ]
   ]

@@ -8,7 +8,7 @@ pub use Rattle.std.proofs.lemmas.Grind.{common_steps}
 pub use Rattle.std.proofs.lemmas.List.{append_assoc, drop_all, drop_at, length-append, length-set, get_or-set_same, get_or-set_other, get_or_default, take-append-drop, drop_more, length_push, length-map, get_or-map, get_or_past, get_or_push, get_or_append_left, set-set, set-get_or, get_or-append_right, length-replicate, get_or-replicate, take_more, take_all}
 pub use Rattle.std.proofs.lemmas.List.Elements.{All-nil, All-cons, All-append, All-from_get_or, Contains-append_left, Contains-append_right, Contains-push, Contains-push_cases, Contains-append_cases, Contains-get_or, All-contains, All-from_recursion, All-weaker, All-head, All-tail, All-get_or}
 pub use Rattle.std.specs.Global.{Vec}
-pub use Rattle.std.specs.List.{All, Contains, filter_map, cons_option}
+pub use Rattle.std.specs.List.{All, Any, Contains, filter_map, cons_option}
 pub use Rattle.std.specs.Option.{option_to_list}
 pub use Rattle.sas_meaning.proofs.Members.{contains_none}
 pub use Rattle.sas_core.proofs.Places.{holds_at, each_more}
@@ -25,10 +25,10 @@ pub use Rattle.sas_groups.proofs.Effects.{set_is, keeps_from_effects, effect_of_
 pub use Rattle.sas_groups.proofs.Entering.{group_fact_exists}
 pub use Rattle.sas_groups.proofs.Existing.{variable_below, groups_below}
 pub use Rattle.sas_groups.proofs.GreatestFamily.{group_of_larger, keeps_more, clash_more, outside_is_broken}
+pub use Rattle.sas_groups.proofs.Iff.{iff_yes, iff_no, iff_from, iff_other, iff_not}
 pub use Rattle.sas_groups.proofs.InLists.{is_among, in_flat, given_is}
 pub use Rattle.sas_groups.proofs.JointLists.{listed_invariants}
 pub use Rattle.sas_groups.proofs.NotesOfFacts.{a_note, apart_or_not, one_or_two, value_note_shows, no_value_note_shows, no_note_shows, some_note_shows, shared_turned, none_or_some, value_note_of, note_stays, note_changes, other_known, no_other, from_apart, noted_still, at_most_one, one_note_shows, completed, noted_less, forgotten_now, forgotten_still, blank_in_the_end, blank_same}
-pub use Rattle.sas_groups.proofs.Telling.{tells_yes, tells_no, tells_other}
 pub use Rattle.sas_groups.proofs.Turns.{Turns, turns_begin, turn_has, turn_more, turns_end}
 pub use Rattle.sas_groups.specs.Checks.{IsGone, IsFirstVerdict, NotBoth, AreGone, EffectKeeps}
 pub use Rattle.sas_groups.specs.Clashes.{Keeps, Clash, sets, Contradict, IsRemoved}

@@ -1,22 +1,10 @@
 -- Which facts are known according to the notes, and that they don't clash.
-use Rattle.sas_mutex.proofs.Imports.{◌≡◌, ◌≢◌, ◌⊎◌, ℕ, ◌<◌, Bool, [], length, get_or, List, ◌∷◌, ◌++◌, Option, None, Some, subst, refl, sym, ap, ◌∙◌, inl, inr, arith, All, Contains, option_to_list, IfSome, cases_eq, get_or_default, get_or-set_same, get_or-set_other, All-contains, Contains-append_left, Contains-push, Contains-push_cases, Fact, Parts, group_at, FactExists, Contradict, Clash, Index, same_Some, contains_none, IsKept, ShareOne, AreKnown, Notes, Noted, Nothing, One, Several, IsIndexOf, HasFact, groups_of, value_note, group_note, IsWide, AreBlank, AreFrom, IsValueNote, IsOfGroup, IsOfGroupBeside, IsNoteOf, IsGroupNote, NotesForGroup, ShareKept, IsContradicted, ChangesAt, IsThere, NotesFirstFact, IsSetApart, is_among, variable_below, none_or_some, apart_or_not, value_note_shows, no_value_note_shows, value_note_of, note_stays, note_changes, other_known, no_other, from_apart, noted_still}
+use Rattle.sas_mutex.proofs.Imports.{common_steps, ◌≡◌, ◌≢◌, ◌⊎◌, ℕ, ◌<◌, Bool, [], length, get_or, List, ◌∷◌, ◌++◌, Option, None, Some, subst, refl, sym, ap, ◌∙◌, inl, inr, arith, All, Contains, option_to_list, IfSome, cases_eq, get_or_default, get_or-set_same, get_or-set_other, All-contains, Contains-append_left, Contains-push, Contains-push_cases, Fact, Parts, group_at, FactExists, Contradict, Clash, Index, same_Some, contains_none, IsKept, ShareOne, AreKnown, Notes, Noted, Nothing, One, Several, IsIndexOf, HasFact, groups_of, value_note, group_note, IsWide, AreBlank, AreFrom, IsValueNote, IsOfGroup, IsOfGroupBeside, IsNoteOf, IsGroupNote, NotesForGroup, ShareKept, IsContradicted, ChangesAt, IsThere, NotesFirstFact, IsSetApart, is_among, variable_below, none_or_some, apart_or_not, value_note_shows, no_value_note_shows, value_note_of, note_stays, note_changes, other_known, no_other, from_apart, noted_still}
 
 -- where several are, they clash if the group counts
 pub several_clash : (p : Parts) (Counts : List Fact → Type 0) (facts : List Fact) (place : ℕ) → Counts (group_at p place)
     → IsGroupNote p facts place Several → Clash Counts facts
-several_clash p Counts facts place counts (f, g, of_f, of_g, differ) = (
-  f,
-  g,
-  of_f.among,
-  of_g.among,
-  inr (record {
-    differ = differ;
-    group = group_at p place;
-    counts = counts;
-    first = of_f.has.among;
-    second = of_g.has.among;
-  }),
-)
+several_clash p Counts facts place counts (f, g, of_f, of_g, differ) = grind (arith, common_steps)
 
 -- where not one fact of a group that counts is noted, none is, unless the facts clash
 pub none_if_not_one : (p : Parts) (facts : List Fact) (place : ℕ) (Counts : List Fact → Type 0) → Counts (group_at p place)
@@ -79,6 +67,23 @@ known_same p kept facts old new values groups apart known = record {
     one_apart = λ f e. known.noted.one_apart f (sym apart ∙ e);
   };
   apart = known.apart;
+}
+
+-- the same facts, named otherwise, are known
+pub known_alike : (p : Parts) (kept : List Bool) (facts others : List Fact) (notes : Notes) → ((f : Fact) → Contains facts f → Contains others f)
+    → ((f : Fact) → Contains others f → Contains facts f) → AreKnown p kept facts notes → AreKnown p kept others notes
+known_alike p kept facts others notes there back known = record {
+  noted = record {
+    values = λ var lt. value_note_of others var (value_note notes.values var)
+        (λ value at. there (record { var = var; value = value }) (value_note_shows facts var value (value_note notes.values var) (known.noted.values var lt) at))
+        (λ none f among. no_value_note_shows facts var (value_note notes.values var) (known.noted.values var lt) none f (back f among));
+    groups = λ place lt. note_stays (IsOfGroupBeside p facts notes.apart place) (IsOfGroupBeside p others notes.apart place) (record { var = 0; value = 0 })
+        (λ f is. record { of = record { among = there f is.of.among; has = is.of.has }; beside = is.beside })
+        (λ f is. inl (record { of = record { among = back f is.of.among; has = is.of.has }; beside = is.beside })) (group_note notes.groups place)
+        (λ f is. record { of = record { among = back f is.of.among; has = is.of.has }; beside = is.beside }) (known.noted.groups place lt);
+    one_apart = λ f e. there f (known.noted.one_apart f e);
+  };
+  apart = λ clash. known.apart (clash.0, clash.1, back clash.0 clash.2, back clash.1 clash.3, clash.4);
 }
 
 -- a group that is kept has both, by the index or by the task
@@ -160,18 +165,8 @@ module _ (p : Parts) (index : Index) (kept : List Bool) (before : List Fact) (ol
 
   -- facts of which one more stands there already
   pub known_already : (new : Notes) → IsThere fact old new → AreKnown p kept (before ++ fact ∷ []) new
-  known_already new is_there = known_same p kept (before ++ fact ∷ []) old new is_there.same_values is_there.same_groups is_there.same_apart record {
-    noted = record {
-      values = λ var lt. value_note_of (before ++ fact ∷ []) var (value_note old.values var)
-          (λ value at. Contains-append_left before (fact ∷ []) (record { var = var; value = value }) (value_note_shows before var value (value_note old.values var) (known.noted.values var lt) at))
-          (λ none f in_all. no_value_note_shows before var (value_note old.values var) (known.noted.values var lt) none f (was_in f in_all));
-      groups = λ place lt. note_stays (IsOfGroupBeside p before old.apart place) (IsOfGroupBeside p (before ++ fact ∷ []) old.apart place) fact
-          (λ f was. record { of = record { among = Contains-append_left before (fact ∷ []) f was.of.among; has = was.of.has }; beside = was.beside })
-          (λ f is. inl (back place f is)) (group_note old.groups place) (back place) (known.noted.groups place lt);
-      one_apart = λ f e. Contains-append_left before (fact ∷ []) f (known.noted.one_apart f e);
-    };
-    apart = λ clash. known.apart (clash.0, clash.1, was_in clash.0 clash.2, was_in clash.1 clash.3, clash.4);
-  }
+  known_already new is_there = known_same p kept (before ++ fact ∷ []) old new is_there.same_values is_there.same_groups is_there.same_apart
+      (known_alike p kept before (before ++ fact ∷ []) old (Contains-append_left before (fact ∷ [])) was_in known)
     where
       here : Contains before fact
       here = value_note_shows before fact.var fact.value (value_note old.values fact.var) (known.noted.values fact.var on_variable) is_there.noted
@@ -181,9 +176,6 @@ module _ (p : Parts) (index : Index) (kept : List Bool) (before : List Fact) (ol
         | inl in_before ↦ in_before
         | inr e ↦ subst (λ (x : Fact). Contains before x) e here
       ]
-
-      back : (place : ℕ) (f : Fact) → IsOfGroupBeside p (before ++ fact ∷ []) old.apart place f → IsOfGroupBeside p before old.apart place f
-      back place f is = record { of = record { among = was_in f is.of.among; has = is.of.has }; beside = is.beside }
 
   -- a fact that is refused contradicts one of those before
   pub refused : IsContradicted index kept fact old
@@ -324,23 +316,6 @@ module _ (p : Parts) (index : Index) (kept : List Bool) (before : List Fact) (ol
   pub known_one_more : (new : Notes) → IsThere fact old new ⊎ NotesFirstFact index kept fact old new → AreKnown p kept (before ++ fact ∷ []) new
   known_one_more new (inl is_there) = known_already new is_there
   known_one_more new (inr is) = known_more new is
-
--- the same facts, named otherwise, are known
-pub known_alike : (p : Parts) (kept : List Bool) (facts others : List Fact) (notes : Notes) → ((f : Fact) → Contains facts f → Contains others f)
-    → ((f : Fact) → Contains others f → Contains facts f) → AreKnown p kept facts notes → AreKnown p kept others notes
-known_alike p kept facts others notes there back known = record {
-  noted = record {
-    values = λ var lt. value_note_of others var (value_note notes.values var)
-        (λ value at. there (record { var = var; value = value }) (value_note_shows facts var value (value_note notes.values var) (known.noted.values var lt) at))
-        (λ none f among. no_value_note_shows facts var (value_note notes.values var) (known.noted.values var lt) none f (back f among));
-    groups = λ place lt. note_stays (IsOfGroupBeside p facts notes.apart place) (IsOfGroupBeside p others notes.apart place) (record { var = 0; value = 0 })
-        (λ f is. record { of = record { among = there f is.of.among; has = is.of.has }; beside = is.beside })
-        (λ f is. inl (record { of = record { among = back f is.of.among; has = is.of.has }; beside = is.beside })) (group_note notes.groups place)
-        (λ f is. record { of = record { among = back f is.of.among; has = is.of.has }; beside = is.beside }) (known.noted.groups place lt);
-    one_apart = λ f e. there f (known.noted.one_apart f e);
-  };
-  apart = λ clash. known.apart (clash.0, clash.1, back clash.0 clash.2, back clash.1 clash.3, clash.4);
-}
 
 -- Those that are noted so far: those that came, and the one apart. They don't clash.
 pub record AreSoFar (p : Parts) (kept : List Bool) (all came : List Fact) (notes : Notes) : Type 0 where

@@ -1,5 +1,5 @@
 -- Effects without conditions, in terms of their changes.
-use Rattle.sas_mutex.proofs.Imports.{◌≡◌, ℕ, ◌<◌, Bool, List, [], length, get_or, None, sym, ◌∙◌, ap, subst, length-map, get_or-map, Contains, Change, Fact, Effect, Operator, effect_change, plain_effect, plain_effects, effect_at, FactExists, WellRanged, Clash, sets, known, Index, IsIndexOf, groups_of, Marks, IsKept, EffectPlace, operator_of, effect_of, IsNotedAt, HasNoPartnerAt, NotBothAt, SetsBeside}
+use Rattle.sas_mutex.proofs.Imports.{◌≡◌, ℕ, ◌<◌, Bool, List, [], length, get_or, None, sym, ◌∙◌, ap, subst, length-map, get_or-map, All, All-nil, Any, Contains, Change, Fact, Effect, Operator, effect_change, plain_effect, plain_effects, effect_at, FactExists, WellRanged, Clash, sets, known, Index, IsIndexOf, groups_of, Marks, Notes, IsMet, SomeRemoves, SetsOtherValue, IsKept, EffectPlace, operator_of, effect_of, IsNotedAt, HasNoPartnerAt, NotBothAt, SetsBeside}
 use Rattle.sas_mutex.proofs.TaskFacts.{effect_fits}
 
 abbrev no_effect : Effect
@@ -17,6 +17,25 @@ module _ (o : Operator) (changes : List Change) (is : o.effects ≡ plain_effect
 
   pub no_conditions : (k : ℕ) (d : Change) → k < length changes → (effect_at o k).conditions ≡ []
   no_conditions k d lt = ap (λ (e : Effect). e.conditions) (effect_is k d lt)
+
+  -- an effect removes a fact if its change sets another value
+  pub change_removes : (notes : Notes) (fact : Fact) → Any (SetsOtherValue fact) changes → SomeRemoves o notes fact
+  change_removes notes fact (k, change, lt, at, (var, other)) =
+      let same : effect_change (effect_at o k) ≡ change = sym (change_is k change lt) ∙ at in (
+        k,
+        subst (λ n. k < n) (sym as_many) lt,
+        record {
+          fires = subst (All (IsMet notes fact)) (sym (no_conditions k change lt)) (All-nil (IsMet notes fact));
+          var = ap (λ (c : Change). c.var) same ∙ var;
+          other = λ e. other (sym (ap (λ (c : Change). c.new) same) ∙ e);
+        },
+      )
+
+  pub removes_by_change : (notes : Notes) (fact : Fact) → SomeRemoves o notes fact → Any (SetsOtherValue fact) changes
+  removes_by_change notes fact (effect, lt, removes) =
+      let within = subst (λ n. effect < n) as_many lt in
+      let change = effect_change (effect_at o effect) in
+      (effect, change, within, change_is effect change within, (removes.var, removes.other))
 
 -- one of the changes, where they are those of the operator of an effect
 module _ (f : EffectPlace) (kept : List Bool) (group : ℕ) (index : Index) (changes : List Change) (ranged : WellRanged f.task) (indexed : IsIndexOf f.task index)

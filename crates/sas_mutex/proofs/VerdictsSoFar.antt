@@ -1,5 +1,5 @@
 -- The verdicts after each effect and each operator.
-use Rattle.sas_mutex.proofs.Imports.{below_more, ◌≡◌, ◌≢◌, ℕ, ◌+◌, ◌<◌, Bool, true, false, List, [], ◌∷◌, ◌++◌, length, set, refl, sym, ◌∙◌, ap, subst, inl, inr, arith, cases_eq, cases_Bool, both_ways, length_push, get_or_push, get_or_append_left, length-set, get_or-set_same, get_or-set_other, set-set, set-get_or, All-from_get_or, Contains, ◌↔◌, IsTrue, Fact, Operator, Parts, operator_at, effect_at, group_at, EffectKeeps, keeps_from_effects, effect_of_keeps, Marks, IsKept, KeepsWithItself, AreCandidates, AreFirstVerdicts, IsUndecided, KeptSoFar, IsVerdictSoFar, AreVerdictsSoFar, IsNotedFor, known_at, Verdict, Exclusive, Derived, Initial, Broken, Clash, Keeps, sets, MayBeExclusive, IsIn, IsGroupOfOr, IsGreatest, IsJointVerdict, IsFirstVerdict, outside_is_broken, clash_more, Noted, Several, family_of, HasFact, verdict_at, AreJointVerdicts, IsGroupNote, at_most_one}
+use Rattle.sas_mutex.proofs.Imports.{common_steps, below_more, ◌≡◌, ◌≢◌, ℕ, ◌+◌, ◌<◌, Bool, true, false, List, [], ◌∷◌, ◌++◌, length, set, refl, sym, ◌∙◌, ap, subst, inl, inr, arith, cases_eq, cases_Bool, both_ways, length_push, get_or_push, get_or_append_left, length-set, get_or-set_same, get_or-set_other, set-set, set-get_or, All-from_get_or, Contains, ◌↔◌, IsTrue, Fact, Operator, Parts, operator_at, effect_at, group_at, EffectKeeps, keeps_from_effects, effect_of_keeps, Marks, IsKept, KeepsWithItself, AreCandidates, AreFirstVerdicts, IsUndecided, KeptSoFar, IsVerdictSoFar, AreVerdictsSoFar, IsNotedFor, known_at, Verdict, Exclusive, Derived, Initial, Broken, Clash, Keeps, sets, MayBeExclusive, IsIn, IsGroupOfOr, IsGreatest, IsJointVerdict, IsFirstVerdict, outside_is_broken, clash_more, Noted, Several, family_of, HasFact, verdict_at, AreJointVerdicts, IsGroupNote, at_most_one}
 use Rattle.sas_mutex.proofs.Keeping.{effect_keeps_more}
 use Rattle.sas_mutex.proofs.KnownFacts.{several_clash}
 use Rattle.sas_mutex.proofs.FromNotes.{clash_keeps}
@@ -39,10 +39,7 @@ module _ (p : Parts) where
 
   pub candidates_from : (verdicts : List Verdict) (kept : List Bool) → AreFirstVerdicts p verdicts
       → ((place : ℕ) → place < length verdicts → IsTrue (family_of kept place) ↔ (verdict_at verdicts place ≡ Exclusive)) → AreCandidates p kept
-  candidates_from verdicts kept first exclusive place lt =
-      let a = exclusive place (let len = first.one_each in omega arith) in
-      let b = exclusive_may place (verdict_at verdicts place) (first.are place lt) in
-      (λ h. b.0 (a.0 h), λ may. a.1 (b.1 may))
+  candidates_from verdicts kept first exclusive place lt = grind (arith, common_steps, exclusive_may)
 
 -- ---- a group put into the family for one test
 
@@ -61,20 +58,11 @@ module _ (p : Parts) (kept : List Bool) (place : ℕ) (exists : place < length p
   ]
 
   pub or_itself : (group : List Fact) → IsGroupOfOr p (family_of kept) (group_at p place) group → IsKept p (set kept place true) group
-  or_itself group either = elim either [
-    | inl w ↦ elim (cases_eq w.0 place) [
-      | inl e ↦ (place, is_in_then, w.2 ∙ ap (group_at p) e)
-      | inr ne ↦ (w.0, record { exists = w.1.exists; chosen = get_or-set_other kept place w.0 true false ne ∙ w.1.chosen }, w.2)
-    ]
-    | inr is ↦ (place, is_in_then, is)
-  ]
+  or_itself group either = grind (arith, common_steps, cases_eq, get_or-set_other, is_in_then)
 
   -- so the family has more groups then
   pub is_more : (n : ℕ) → IsIn p (family_of kept) n → IsIn p (family_of (set kept place true)) n
-  is_more n among = elim (cases_eq n place) [
-    | inl e ↦ subst (λ i. IsIn p (family_of (set kept place true)) i) (sym e) is_in_then
-    | inr ne ↦ record { exists = among.exists; chosen = get_or-set_other kept place n true false ne ∙ among.chosen }
-  ]
+  is_more n among = grind (arith, common_steps, cases_eq, get_or-set_other, is_in_then)
 
   pub keeps_then : (operator effect : ℕ) → KeepsWithItself p kept operator effect place
       → EffectKeeps (IsKept p (set kept place true)) (operator_at p operator) (group_at p place) (effect_at (operator_at p operator) effect)

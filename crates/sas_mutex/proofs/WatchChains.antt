@@ -19,6 +19,9 @@ module _ (made : List Watch) (new : Watch) where
   last_is : watch_at (made ++ new ∷ []) (length made) ≡ new
   last_is = get_or-append_seam made new [] (record { group = 0; operator = 0; before = None })
 
+  at_end : (place : ℕ) → place < length (made ++ new ∷ []) → length made ≤ place → place ≡ length made
+  at_end place lt past = let more = length_push made new in omega arith
+
   -- one more watch is the last one of its group
   last_here : IsLastBelow (made ++ new ∷ []) (length (made ++ new ∷ [])) new.group (Some (length made))
   last_here = (
@@ -34,9 +37,6 @@ module _ (made : List Watch) (new : Watch) where
     | inl before ↦ none place before (sym (ap (λ (w : Watch). w.group) (watch_still made (new ∷ []) place before)) ∙ is)
     | inr past ↦ ne (sym (ap (λ (w : Watch). w.group) last_is) ∙ (ap (λ (n : ℕ). (watch_at (made ++ new ∷ []) n).group) (sym (at_end place lt past)) ∙ is))
   ]
-    where
-      at_end : (place : ℕ) → place < length (made ++ new ∷ []) → length made ≤ place → place ≡ length made
-      at_end place lt past = let more = length_push made new in omega arith
   last_elsewhere group (Some at) ne (lt, its, none) = (
     omega (arith, lt, length_push made new),
     ap (λ (w : Watch). w.group) (watch_still made (new ∷ []) at lt) ∙ its,
@@ -45,9 +45,6 @@ module _ (made : List Watch) (new : Watch) where
       | inr past ↦ ne (sym (ap (λ (w : Watch). w.group) last_is) ∙ (ap (λ (n : ℕ). (watch_at (made ++ new ∷ []) n).group) (sym (at_end place lt' past)) ∙ is))
     ],
   )
-    where
-      at_end : (place : ℕ) → place < length (made ++ new ∷ []) → length made ≤ place → place ≡ length made
-      at_end place lt past = let more = length_push made new in omega arith
 
   pub chained_more : (last last' : List (Option ℕ)) → new.group < length last → new.before ≡ get_or last new.group None
       → last' ≡ set last new.group (Some (length made)) → AreChained made last → AreChained (made ++ new ∷ []) last'
@@ -76,9 +73,6 @@ module _ (made : List Watch) (new : Watch) where
 
       as_many : {group : ℕ} → group < length last' → group < length last
       as_many lt = let same = ap length is ∙ length-set last new.group (Some (length made)) in omega arith
-
-      at_end : (place : ℕ) → place < length (made ++ new ∷ []) → length made ≤ place → place ≡ length made
-      at_end place lt past = let more = length_push made new in omega arith
 
 -- ---- watches of one operator
 

@@ -2,7 +2,7 @@
 use Rattle.sas_mutex.proofs.Imports.{◌≡◌, ◌≢◌, ◌⊎◌, ℕ, ◌-◌, ◌<◌, ◌≤◌, ◌^◌, Bool, true, List, [], ◌++◌, length, get_or, set, Option, Some, None, refl, sym, ◌∙◌, ap, subst, inl, inr, arith, cases_eq, cases_lt, cases_Bool, length-set, length-append, get_or-set_same, get_or-set_other, get_or-append_right, get_or_append_left, get_or_default, All-nil, All-append, All-weaker, All-contains, Family, Watch, Watches, Falls, newly, IsWithin, IsAtRest, RestsOn, watch_at, since_of, IsLastBelow, AreChained, IsWatchOf, HasWatchFrom, RestsBy, IsOver, IsUnwatched, IsUnwatchedBehind, AreFallen, AreUnwatched, AreWatched, AreMore, IsWatchedAnew, FallenAreUnwatched, StayUnwatched, AreLooseAtRest, Contains-append_left, Contains-append_right, Contains-append_cases, Contains-get_or, All, Contains, Parts, IsIn, family_of}
 use Rattle.sas_mutex.proofs.FallingGroups.{fallen_exist}
 use Rattle.sas_mutex.proofs.Supporting.{kept_below}
-use Rattle.sas_mutex.proofs.WatchChains.{watch_still}
+use Rattle.sas_mutex.proofs.WatchChains.{watch_still, last_still}
 
 abbrev no_watch : Watch
 no_watch = record { group = 0; operator = 0; before = None }
@@ -104,6 +104,23 @@ module _ (p : Parts) where
 
   -- ---- who was unwatched
 
+  -- where no watch of the group from `at` on is valid, none behind the watch before it is
+  linked_on : (w : Watches) (group at : ℕ) (next : Option ℕ) → at < length w.made
+      → ((place : ℕ) → at ≤ place → place < length w.made → (watch_at w.made place).group ≡ group → IsOver w place)
+      → IsLastBelow w.made at group next → IsUnwatchedBehind w group next
+  linked_on w group at None lt over none = λ place below is. elim (cases_lt place at) [
+    | inl before ↦ absurd (none place before is)
+    | inr from ↦ over place from below is
+  ]
+  linked_on w group at (Some k) lt over (lt', its, none) = (
+    omega (arith, lt', lt),
+    its,
+    λ place above below is. elim (cases_lt place at) [
+      | inl before ↦ absurd (none place above before is)
+      | inr from ↦ over place from below is
+    ],
+  )
+
   module _ (b c : Family) (w after : Watches) (operator : ℕ) (falls : Falls p b c) (one_each : length c.kept ≡ length p.groups)
       (anew : IsWatchedAnew operator c.kept w after) where
     still : (place : ℕ) → place < length w.made → watch_at after.made place ≡ watch_at w.made place
@@ -142,59 +159,28 @@ module _ (p : Parts) where
     pub unwatched_behind : (group at : ℕ) (next : Option ℕ) → (family_of b.kept group ≡ true → ⊥) → at < length w.made → (watch_at w.made at).group ≡ group
         → ((place : ℕ) → at < place → place < length w.made → (watch_at w.made place).group ≡ group → IsOver w place)
         → IsOver after at → IsLastBelow w.made at group next → IsUnwatchedBehind after group next
-    unwatched_behind group at next out lt its behind here link = by next link
-      where
-        unwatched_from : (place : ℕ) → at ≤ place → place < length after.made → (watch_at after.made place).group ≡ group → IsOver after place
-        unwatched_from place from below is = elim (cases_lt place (length w.made)) [
+    unwatched_behind group at next out lt its behind here link = linked_on after group at next (omega (arith, lt, grown))
+        (λ place from below is. elim (cases_lt place (length w.made)) [
           | inr past ↦ absurd (out (kept_before group (ap (family_of c.kept) (sym is) ∙ new_kept place past below)))
           | inl before ↦ elim (cases_eq place at) [
             | inl e ↦ subst (IsOver after) (sym e) here
             | inr ne ↦ over_still place before (behind place (omega arith) before (sym (ap (λ (x : Watch). x.group) (still place before)) ∙ is))
           ]
-        ]
-
+        ])
+        (subst (λ (xs : List Watch). IsLastBelow xs at group next) (sym anew.made.behind) (last_still w.made anew.made.more at group next (omega (arith, lt)) link))
+      where
         grown : length w.made ≤ length after.made
         grown = let len = ap length anew.made.behind ∙ length-append w.made anew.made.more in omega arith
-
-        by : (next : Option ℕ) → IsLastBelow w.made at group next → IsUnwatchedBehind after group next
-        by None none = λ place below is. elim (cases_lt place at) [
-          | inl before ↦ absurd (none place before (sym (ap (λ (x : Watch). x.group) (still place (omega arith))) ∙ is))
-          | inr from ↦ unwatched_from place from below is
-        ]
-        by (Some k) (lt', its', none) = (
-          omega (arith, lt', lt, grown),
-          ap (λ (x : Watch). x.group) (still k (omega (arith, lt', lt))) ∙ its',
-          λ place above below is. elim (cases_lt place at) [
-            | inl before ↦ absurd (none place above before (sym (ap (λ (x : Watch). x.group) (still place (omega arith))) ∙ is))
-            | inr from ↦ unwatched_from place from below is
-          ],
-        )
 
   -- where no operator is looked at, nothing changes
   pub unwatched_if_over : (w : Watches) (group at : ℕ) (next : Option ℕ) → at < length w.made
       → ((place : ℕ) → at < place → place < length w.made → (watch_at w.made place).group ≡ group → IsOver w place)
       → IsOver w at → IsLastBelow w.made at group next → IsUnwatchedBehind w group next
-  unwatched_if_over w group at next lt behind here link = by next link
-    where
-      unwatched_from : (place : ℕ) → at ≤ place → place < length w.made → (watch_at w.made place).group ≡ group → IsOver w place
-      unwatched_from place from below is = elim (cases_eq place at) [
+  unwatched_if_over w group at next lt behind here link = linked_on w group at next lt
+      (λ place from below is. elim (cases_eq place at) [
         | inl e ↦ subst (IsOver w) (sym e) here
         | inr ne ↦ behind place (omega arith) below is
-      ]
-
-      by : (next : Option ℕ) → IsLastBelow w.made at group next → IsUnwatchedBehind w group next
-      by None none = λ place below is. elim (cases_lt place at) [
-        | inl before ↦ absurd (none place before is)
-        | inr from ↦ unwatched_from place from below is
-      ]
-      by (Some k) (lt', its', none) = (
-        omega (arith, lt', lt),
-        its',
-        λ place above below is. elim (cases_lt place at) [
-          | inl before ↦ absurd (none place above before is)
-          | inr from ↦ unwatched_from place from below is
-        ],
-      )
+      ]) link
 
   -- those who watch groups that aren't in the family stay unwatched
   pub unwatched_more : (xs : List ℕ) (count : ℕ) (kept : List Bool) (w after : Watches) → ((place : ℕ) → place < count → family_of kept (get_or xs place 0) ≡ true → ⊥)

@@ -55,10 +55,6 @@ pub record RemovesByNotes (notes : Notes) (fact : Fact) (e : Effect) : Type 0 wh
 abbrev pub SetsOtherValue : Fact → Change → Type 0
 SetsOtherValue fact change = (change.var ≡ fact.var) × (change.new ≢ fact.value)
 
--- one of the changes does so
-abbrev pub SomeOther : List Change → Fact → Type 0
-SomeOther changes fact = (change : Change) × Contains changes change × SetsOtherValue fact change
-
 -- some effect of the operator removes the fact
 abbrev pub SomeRemoves : Operator → Notes → Fact → Type 0
 SomeRemoves o notes fact = (effect : ℕ)
@@ -115,10 +111,6 @@ BothClashAt f kept other = Clash (IsKept f.task kept) (known (operator_of f)
 abbrev pub ClashesAt : EffectPlace → List Bool → Fact → Type 0
 ClashesAt f kept fact =
     Clash (IsKept f.task kept) (known (operator_of f) (effect_of f).conditions (fact ∷ []))
-
--- one of these facts does so
-abbrev pub SomeClashesAt : EffectPlace → List Bool → List Fact → Type 0
-SomeClashesAt f kept facts = (fact : Fact) × Contains facts fact × ClashesAt f kept fact
 
 -- a group of the family contains both this fact and a known fact other than the one set apart
 abbrev pub SharesBesideAt : EffectPlace → List Bool → Fact → Option Fact → Type 0

@@ -1,9 +1,9 @@
 // Which groups an effect preserves.
-ghost use Rattle.std.specs.Prelude.{◌≡◌, ◌<◌, ◌≤◌, ◌^◌, ◌↔◌, ℕ, Bool, List, length, IsTrue, IsFalse, All, Contains};
+ghost use Rattle.std.specs.Prelude.{◌≡◌, ◌<◌, ◌↔◌, ℕ, Bool, List, length, IsTrue, IsFalse, All, Contains};
+ghost use Rattle.std.specs.List.{Any};
 ghost use Rattle.sas_core.specs.Grounded.{operator_at, effect_at};
 ghost use Rattle.sas_core.specs.Changes.{plain_effects};
 ghost use Rattle.sas_core.specs.Variables.{FactExists};
-ghost use Rattle.sas_groups.specs.Checks.{Tells};
 ghost use Rattle.sas_groups.specs.Clashes.{sets};
 ghost use Rattle.sas_groups.specs.Families.{IsIn};
 ghost use Rattle.sas_groups.specs.Index.{HasFact, groups_of};
@@ -11,12 +11,12 @@ ghost use Rattle.sas_groups.specs.ByVariable.{AreOn};
 ghost use Rattle.sas_groups.specs.Runs.{AreOnOne};
 ghost use Rattle.sas_groups.specs.Kept.{family_of};
 ghost use Rattle.sas_mutex.specs.Firing.{operator_of, effect_of};
-ghost use Rattle.sas_groups.specs.Notes.{IsWide, IsGroupNote, value_note};
-ghost use Rattle.sas_groups.specs.Noting.{AreBelow, IsReadable};
+ghost use Rattle.sas_groups.specs.Notes.{IsWide, IsGroupNote};
+ghost use Rattle.sas_groups.specs.Noting.{IsReadable};
 ghost use Rattle.sas_mutex.specs.ByNotes.{IsMet, SomeRemoves, RemovesByNotes, known_at};
 ghost use Rattle.sas_mutex.specs.ByNotes.{IsNotedAt, EffectKeepsGroup, EffectKeepsGroupWithItself, BothClashAt, NotBothAt};
-ghost use Rattle.sas_mutex.specs.ByNotes.{ClashesAt, SomeClashesAt, SharesBesideAt};
-ghost use Rattle.sas_mutex.specs.ByNotes.{HasNoPartnerAt, IsApartAt, IsSingleOn, IsOnVariableBefore, SetsBeside, SomeOther, SetsOtherValue};
+ghost use Rattle.sas_mutex.specs.ByNotes.{ClashesAt, SharesBesideAt};
+ghost use Rattle.sas_mutex.specs.ByNotes.{HasNoPartnerAt, IsApartAt, IsSingleOn, IsOnVariableBefore, SetsBeside, SetsOtherValue};
 ghost use Rattle.sas_mutex.specs.ByNotes.{IsGoneAt, AreGoneAt, IsUnknownAt, IsDecidedByFirst, NeverFires};
 ghost use Rattle.sas_mutex.specs.Basis.{SetsNone};
 ghost use Rattle.sas_mutex.specs.Marks.{IsClean, IsNotedFrom};
@@ -75,7 +75,12 @@ impl<'a, 'b, T: Grounded> Firing<'a, 'b, T> {
         ensures { let f = self.now in
             IsFalse result → SetsNone f.task kept.now f.operator f.effect }
     {
-        some_kept(self.groups(), kept)
+        for group in self.groups() {
+            if kept[*group as usize] {
+                return true;
+            }
+        }
+        false
     }
 
     /// Records the known facts and returns whether they clash, so that the effect never fires. If they do, not all of them are recorded.
@@ -117,8 +122,7 @@ impl<'a, 'b, T: Grounded> Firing<'a, 'b, T> {
         requires notes { IsNotedAt self.now kept.now marks.old }
         requires group { IsIn self.now.task (family_of kept.now) group }
         ensures notes { IsNotedAt self.now kept.now marks.new }
-        ensures yes { IsTrue result → EffectKeepsGroup self.now kept.now group }
-        ensures no { IsFalse result → EffectKeepsGroup self.now kept.now group → ⊥ }
+        ensures is { IsTrue result ↔ EffectKeepsGroup self.now kept.now group }
     {
         self.is_single(kept, group, marks) && self.removes_others(kept, group, marks)
     }
@@ -129,8 +133,7 @@ impl<'a, 'b, T: Grounded> Firing<'a, 'b, T> {
     pub fn keeps_with_itself(&self, group: u32, kept: &mut Items<bool>, marks: &mut Marks) -> bool
         requires notes { IsNotedAt self.now kept.old marks.old }
         requires group { group < length self.now.task.groups }
-        ensures yes { IsTrue result → EffectKeepsGroupWithItself self.now kept.old group }
-        ensures no { IsFalse result → EffectKeepsGroupWithItself self.now kept.old group → ⊥ }
+        ensures is { IsTrue result ↔ EffectKeepsGroupWithItself self.now kept.old group }
         ensures kept { kept.new ≡ kept.old }
         ensures notes { IsNotedAt self.now kept.old marks.new }
     {
@@ -163,8 +166,7 @@ impl<'a, 'b, T: Grounded> Firing<'a, 'b, T> {
         requires notes { IsNotedAt self.now kept.now marks.old }
         requires group { IsIn self.now.task (family_of kept.now) group }
         ensures notes { IsNotedAt self.now kept.now marks.new }
-        ensures yes { IsTrue result → HasNoPartnerAt self.now kept.now group }
-        ensures no { IsFalse result → HasNoPartnerAt self.now kept.now group → ⊥ }
+        ensures is { IsTrue result ↔ HasNoPartnerAt self.now kept.now group }
     {
         if self.has_more_effects(group) {
             return self.is_single_by_facts(kept, group, marks);
@@ -187,7 +189,7 @@ impl<'a, 'b, T: Grounded> Firing<'a, 'b, T> {
         requires notes { IsNotedAt self.now kept.now marks.now }
         requires group { IsIn self.now.task (family_of kept.now) group }
         requires plain { (operator_of self.now).effects ≡ plain_effects changes.now }
-        ensures { Tells result (HasNoPartnerAt self.now kept.now group) }
+        ensures { IsTrue result ↔ HasNoPartnerAt self.now kept.now group }
     {
         let var = self.task.effect_change(self.operator, self.effect).var;
         for change in changes {
@@ -217,8 +219,7 @@ impl<'a, 'b, T: Grounded> Firing<'a, 'b, T> {
         requires notes { IsNotedAt self.now kept.now marks.old }
         requires group { IsIn self.now.task (family_of kept.now) group }
         ensures notes { IsNotedAt self.now kept.now marks.new }
-        ensures yes { IsTrue result → HasNoPartnerAt self.now kept.now group }
-        ensures no { IsFalse result → HasNoPartnerAt self.now kept.now group → ⊥ }
+        ensures is { IsTrue result ↔ HasNoPartnerAt self.now kept.now group }
     {
         let var = self.task.effect_change(self.operator, self.effect).var;
         for other in 0..self.task.effects(self.operator) {
@@ -236,8 +237,7 @@ impl<'a, 'b, T: Grounded> Firing<'a, 'b, T> {
         requires notes { IsNotedAt self.now kept.now marks.old }
         requires group { IsIn self.now.task (family_of kept.now) group }
         ensures notes { IsNotedAt self.now kept.now marks.new }
-        ensures yes { IsTrue result → HasNoPartnerAt self.now kept.now group }
-        ensures no { IsFalse result → HasNoPartnerAt self.now kept.now group → ⊥ }
+        ensures is { IsTrue result ↔ HasNoPartnerAt self.now kept.now group }
     {
         let facts = self.index.facts_of(self.task, group);
         for place in 0..facts.len() {
@@ -289,8 +289,7 @@ impl<'a, 'b, T: Grounded> Firing<'a, 'b, T> {
         requires other { other < length (operator_of self.now).effects }
         requires group { IsIn self.now.task (family_of kept.now) group }
         ensures notes { IsNotedAt self.now kept.now marks.new }
-        ensures yes { IsTrue result → NotBothAt self.now kept.now other group }
-        ensures no { IsFalse result → NotBothAt self.now kept.now other group → ⊥ }
+        ensures is { IsTrue result ↔ NotBothAt self.now kept.now other group }
     {
         let var = self.task.effect_change(self.operator, self.effect).var;
         self.is_apart(kept, var, other, group, marks)
@@ -304,8 +303,7 @@ impl<'a, 'b, T: Grounded> Firing<'a, 'b, T> {
         requires other { other < length (operator_of self.now).effects }
         requires group { IsIn self.now.task (family_of kept.now) group }
         ensures notes { IsNotedAt self.now kept.now marks.new }
-        ensures yes { IsTrue result → NotBothAt self.now kept.now other group }
-        ensures no { IsFalse result → NotBothAt self.now kept.now other group → ⊥ }
+        ensures is { IsTrue result ↔ NotBothAt self.now kept.now other group }
     {
         let change = self.task.effect_change(self.operator, other);
         if var == change.var {
@@ -323,8 +321,7 @@ impl<'a, 'b, T: Grounded> Firing<'a, 'b, T> {
         requires notes { IsNotedAt self.now kept.now marks.old }
         requires other { other < length (operator_of self.now).effects }
         ensures notes { IsNotedAt self.now kept.now marks.new }
-        ensures yes { IsTrue result → BothClashAt self.now kept.now other }
-        ensures no { IsFalse result → BothClashAt self.now kept.now other → ⊥ }
+        ensures is { IsTrue result ↔ BothClashAt self.now kept.now other }
     {
         let second = self.task.effect_conditions(self.operator, other);
         if self.some_clashes(kept, second, marks) {
@@ -341,7 +338,7 @@ impl<'a, 'b, T: Grounded> Firing<'a, 'b, T> {
     fn some_clashes(&self, kept: &[bool], facts: &[Fact], marks: &Marks) -> bool
         requires notes { IsNotedAt self.now kept.now marks.now }
         requires exist { All (FactExists self.now.task.variables) facts.now }
-        ensures { Tells result (SomeClashesAt self.now kept.now facts.now) }
+        ensures { IsTrue result ↔ Any (ClashesAt self.now kept.now) facts.now }
     {
         // For the proof: accessing a field makes the invariant of the effect available.
         let _ = &self.task;
@@ -358,29 +355,17 @@ impl<'a, 'b, T: Grounded> Firing<'a, 'b, T> {
     fn clashes(&self, kept: &[bool], fact: Fact, marks: &Marks) -> bool
         requires notes { IsNotedAt self.now kept.now marks.now }
         requires fact { FactExists self.now.task.variables fact }
-        ensures { Tells result (ClashesAt self.now kept.now fact) }
+        ensures { IsTrue result ↔ ClashesAt self.now kept.now fact }
     {
         // For the proof: accessing a field makes the invariant of the effect available.
         let _ = &self.task;
         match marks.known.values.as_slice()[fact.var as usize] {
             Some(value) => value != fact.value,
-            None => self.shares_known(kept, fact, marks),
+            None => {
+                self.shares_beside(kept, fact, marks)
+                    || shares_apart(self.index, kept, fact, marks.known.apart, &marks.deciding)
+            }
         }
-    }
-
-    /// Returns whether a group of the family contains both the fact and a known fact. No fact on its variable may be known.
-    fn shares_known(&self, kept: &[bool], fact: Fact, marks: &Marks) -> bool
-        requires notes { IsNotedAt self.now kept.now marks.now }
-        requires fact { FactExists self.now.task.variables fact }
-        requires none { value_note marks.now.known.values fact.var ≡ None }
-        ensures { Tells result (ClashesAt self.now kept.now fact) }
-    {
-        // For the proof: accessing a field makes the invariant of the effect available.
-        let _ = &self.task;
-        if self.shares_beside(kept, fact, marks) {
-            return true;
-        }
-        shares_apart(self.index, kept, fact, marks.known.apart, &marks.deciding)
     }
 
     /// Returns whether a group of the family contains both the fact and a known fact other than the one set apart. Searches the groups of
@@ -388,21 +373,13 @@ impl<'a, 'b, T: Grounded> Firing<'a, 'b, T> {
     fn shares_beside(&self, kept: &[bool], fact: Fact, marks: &Marks) -> bool
         requires notes { IsNotedAt self.now kept.now marks.now }
         requires fact { FactExists self.now.task.variables fact }
-        ensures { Tells result (SharesBesideAt self.now kept.now fact marks.now.known.apart) }
+        ensures { IsTrue result ↔ SharesBesideAt self.now kept.now fact marks.now.known.apart }
     {
         let groups = self.index.groups_of(fact);
         if groups.len() <= marks.known.spread {
             let noted = marks.known.groups.as_slice();
             return has_noted(groups, kept, noted, &marks.deciding);
         }
-        self.known_share(kept, fact, marks)
-    }
-
-    /// `shares_beside`, searching the groups of the known facts.
-    fn known_share(&self, kept: &[bool], fact: Fact, marks: &Marks) -> bool
-        requires fact { FactExists self.now.task.variables fact }
-        ensures { Tells result (SharesBesideAt self.now kept.now fact marks.now.known.apart) }
-    {
         let premises = Premises {
             operator: self.operator,
             first: self.task.effect_conditions(self.operator, self.effect),
@@ -423,15 +400,15 @@ impl<'a, 'b, T: Grounded> Firing<'a, 'b, T> {
     pub fn removes_others(&self, kept: &[bool], group: u32, marks: &Marks) -> bool
         requires notes { IsNotedAt self.now kept.now marks.now }
         requires group { IsIn self.now.task (family_of kept.now) group }
-        ensures { Tells result (AreGoneAt self.now kept.now group) }
+        ensures { IsTrue result ↔ AreGoneAt self.now kept.now group }
     {
-        self.asks_one_of(group) || self.none_stays(kept, group, marks)
+        self.requires_one_of(group) || self.none_stays(kept, group, marks)
     }
 
     /// Returns whether the effect requires an old value that is a fact of the group. Then no fact of the group on another variable can have
     /// held before.
     #[inline(always)]
-    fn asks_one_of(&self, group: u32) -> bool
+    fn requires_one_of(&self, group: u32) -> bool
         ensures { IsTrue result
             → (kept : List Bool) → IsIn self.now.task (family_of kept) group
             → AreGoneAt self.now kept group }
@@ -453,7 +430,7 @@ impl<'a, 'b, T: Grounded> Firing<'a, 'b, T> {
     fn none_stays(&self, kept: &[bool], group: u32, marks: &Marks) -> bool
         requires notes { IsNotedAt self.now kept.now marks.now }
         requires group { IsIn self.now.task (family_of kept.now) group }
-        ensures { Tells result (AreGoneAt self.now kept.now group) }
+        ensures { IsTrue result ↔ AreGoneAt self.now kept.now group }
     {
         // For the proof: accessing a field makes the invariant of the effect available.
         let _ = &self.task;
@@ -481,7 +458,7 @@ impl<'a, 'b, T: Grounded> Firing<'a, 'b, T> {
         requires exist { All (FactExists self.now.task.variables) run.now }
         requires one { AreOnOne run.now }
         requires unknown { All (IsUnknownAt self.now) run.now }
-        ensures { Tells result (All (IsGoneAt self.now kept.now) run.now) }
+        ensures { IsTrue result ↔ All (IsGoneAt self.now kept.now) run.now }
     {
         // For the proof: accessing a field makes the invariant of the effect available.
         let _ = &self.index;
@@ -516,7 +493,7 @@ impl<'a, 'b, T: Grounded> Firing<'a, 'b, T> {
     pub fn is_gone(&self, kept: &[bool], fact: Fact, marks: &Marks) -> bool
         requires notes { IsNotedAt self.now kept.now marks.now }
         requires fact { FactExists self.now.task.variables fact }
-        ensures { Tells result (IsGoneAt self.now kept.now fact) }
+        ensures { IsTrue result ↔ IsGoneAt self.now kept.now fact }
     {
         let var = self.task.effect_change(self.operator, self.effect).var;
         self.goes(kept, var, fact, marks)
@@ -528,7 +505,7 @@ impl<'a, 'b, T: Grounded> Firing<'a, 'b, T> {
         requires notes { IsNotedAt self.now kept.now marks.now }
         requires var { var ≡ (effect_of self.now).var }
         requires fact { FactExists self.now.task.variables fact }
-        ensures { Tells result (IsGoneAt self.now kept.now fact) }
+        ensures { IsTrue result ↔ IsGoneAt self.now kept.now fact }
     {
         // For the proof: accessing a field makes the invariant of the effect available.
         let _ = &self.task;
@@ -543,10 +520,13 @@ impl<'a, 'b, T: Grounded> Firing<'a, 'b, T> {
     #[inline(always)]
     fn is_removed(&self, fact: Fact, notes: &Notes) -> bool
         requires wide { IsWide self.now.task notes.now }
-        ensures { Tells result (SomeRemoves (operator_of self.now) notes.now fact) }
+        ensures { IsTrue result ↔ SomeRemoves (operator_of self.now) notes.now fact }
     {
-        match self.index.effects_on(self.task, self.operator, fact.var) {
-            Some(effects) => one_removes(self.task, self.operator, effects, fact, notes),
+        if let Some(effects) = self.index.effects_on(self.task, self.operator, fact.var) {
+            return one_removes(self.task, self.operator, effects, fact, notes);
+        }
+        match self.task.plain_changes(self.operator) {
+            Some(changes) => one_changes(changes, fact),
             None => some_removes(self.task, self.operator, fact, notes),
         }
     }
@@ -564,31 +544,15 @@ fn begins_run(facts: &[Fact], place: usize) -> bool
 #[inline(always)]
 fn sets_beside(index: &Index, change: Change, var: u32, group: u32) -> bool
     requires { IsReadable index.now }
-    ensures { Tells result (SetsBeside index.now change var group) }
+    ensures { IsTrue result ↔ SetsBeside index.now change var group }
 {
     change.var != var && index.has(group, change.fact())
-}
-
-/// Returns whether some effect of the operator removes the fact: it sets the variable of the fact to another value, and each of its
-/// conditions is this fact or is recorded.
-#[inline(always)]
-fn some_removes<T: Grounded>(task: &Layered<T>, operator: u32, fact: Fact, notes: &Notes) -> bool
-    requires wide { IsWide task.now notes.now }
-    requires operator { operator < length task.now.operators }
-    ensures yes { IsTrue result → SomeRemoves (operator_at task.now operator) notes.now fact }
-    ensures no { IsFalse result → SomeRemoves (operator_at task.now operator) notes.now fact → ⊥ }
-{
-    match task.plain_changes(operator) {
-        Some(changes) => one_changes(changes, fact),
-        None => some_of_all_removes(task, operator, fact, notes),
-    }
 }
 
 /// Returns whether one of the changes sets the variable of the fact to another value.
 #[inline(always)]
 fn one_changes(changes: &[Change], fact: Fact) -> bool
-    ensures yes { IsTrue result → SomeOther changes.now fact }
-    ensures no { IsFalse result → All (λ change. SetsOtherValue fact change → ⊥) changes.now }
+    ensures { IsTrue result ↔ Any (SetsOtherValue fact) changes.now }
 {
     for change in changes {
         if change.var == fact.var && change.new != fact.value {
@@ -598,17 +562,12 @@ fn one_changes(changes: &[Change], fact: Fact) -> bool
     false
 }
 
-/// `some_removes` by checking all effects.
+/// `is_removed` by checking all effects of the operator.
 #[inline(always)]
-fn some_of_all_removes<T: Grounded>(
-    task: &Layered<T>,
-    operator: u32,
-    fact: Fact,
-    notes: &Notes,
-) -> bool
+fn some_removes<T: Grounded>(task: &Layered<T>, operator: u32, fact: Fact, notes: &Notes) -> bool
     requires wide { IsWide task.now notes.now }
     requires operator { operator < length task.now.operators }
-    ensures { Tells result (SomeRemoves (operator_at task.now operator) notes.now fact) }
+    ensures { IsTrue result ↔ SomeRemoves (operator_at task.now operator) notes.now fact }
 {
     for effect in 0..task.effects(operator) {
         if removes(task, operator, effect, fact, notes) {
@@ -618,7 +577,7 @@ fn some_of_all_removes<T: Grounded>(
     false
 }
 
-/// `some_removes` by checking `effects`, which must contain all effects of the operator on the fact's variable.
+/// `is_removed` by checking `effects`, which must contain all effects of the operator on the fact's variable.
 fn one_removes<T: Grounded>(
     task: &Layered<T>,
     operator: u32,
@@ -629,7 +588,7 @@ fn one_removes<T: Grounded>(
     requires wide { IsWide task.now notes.now }
     requires operator { operator < length task.now.operators }
     requires all { AreOn task.now operator fact.var effects.now }
-    ensures { Tells result (SomeRemoves (operator_at task.now operator) notes.now fact) }
+    ensures { IsTrue result ↔ SomeRemoves (operator_at task.now operator) notes.now fact }
 {
     for effect in effects {
         if *effect < task.effects(operator) && removes(task, operator, *effect, fact, notes) {
@@ -652,8 +611,8 @@ fn removes<T: Grounded>(
     requires wide { IsWide task.now notes.now }
     requires operator { operator < length task.now.operators }
     requires effect { effect < length (operator_at task.now operator).effects }
-    ensures { Tells result
-        (RemovesByNotes notes.now fact (effect_at (operator_at task.now operator) effect)) }
+    ensures { IsTrue result
+        ↔ RemovesByNotes notes.now fact (effect_at (operator_at task.now operator) effect) }
 {
     // The contract of `task` ensures that the task is well ranged.
     let _ = task.task();
@@ -668,7 +627,7 @@ fn removes<T: Grounded>(
 #[inline(always)]
 fn all_met(conditions: &[Fact], fact: Fact, notes: &Notes) -> bool
     requires { All (λ (c : Fact). c.var < length notes.now.values) conditions.now }
-    ensures { Tells result (All (IsMet notes.now fact) conditions.now) }
+    ensures { IsTrue result ↔ All (IsMet notes.now fact) conditions.now }
 {
     for condition in conditions {
         if !is_met(*condition, fact, notes) {
@@ -682,21 +641,7 @@ fn all_met(conditions: &[Fact], fact: Fact, notes: &Notes) -> bool
 #[inline(always)]
 fn is_met(condition: Fact, fact: Fact, notes: &Notes) -> bool
     requires { condition.var < length notes.now.values }
-    ensures { Tells result (IsMet notes.now fact condition) }
+    ensures { IsTrue result ↔ IsMet notes.now fact condition }
 {
     condition == fact || notes.values.as_slice()[condition.var as usize] == Some(condition.value)
-}
-
-/// Returns whether one of these groups is in the family.
-#[inline(always)]
-fn some_kept(groups: &[u32], kept: &[bool]) -> bool
-    requires { AreBelow (length kept.now) groups.now }
-    ensures { IsFalse result → All (λ (place : ℕ). IsFalse (family_of kept.now place)) groups.now }
-{
-    for group in groups {
-        if kept[*group as usize] {
-            return true;
-        }
-    }
-    false
 }

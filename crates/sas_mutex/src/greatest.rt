@@ -1,6 +1,6 @@
 // Finds the greatest family of groups that is preserved jointly.
-ghost use Rattle.std.specs.Prelude.{◌≡◌, ◌<◌, ◌≤◌, ℕ, [], length, All, Contains, IsTrue};
-ghost use Rattle.sas_groups.specs.Families.{IsIn, IsGreatest};
+ghost use Rattle.std.specs.Prelude.{◌≡◌, ◌<◌, ◌≤◌, [], length, IsTrue};
+ghost use Rattle.sas_groups.specs.Families.{IsGreatest};
 ghost use Rattle.sas_groups.specs.Kept.{family_of};
 ghost use Rattle.sas_mutex.specs.Marks.{IsClean};
 ghost use Rattle.sas_mutex.specs.Falling.{FamilyHasRoom, AreCandidates, newly, Falls, IsAtRest, RestsOn};

@@ -1,13 +1,10 @@
 // The joint verdicts on groups.
-ghost use Rattle.std.specs.Prelude.{◌≡◌, ◌≢◌, ℕ, ◌+◌, ◌<◌, ◌≤◌, ◌↔◌, [], length, All, IfOk, None, IsTrue, IsFalse, vec_capacity};
-ghost use Rattle.sas_groups.specs.Checks.{Tells};
+ghost use Rattle.std.specs.Prelude.{◌≡◌, ◌≢◌, ℕ, ◌+◌, ◌<◌, ◌≤◌, ◌↔◌, [], length, All, IfOk, IsTrue, IsFalse, vec_capacity};
 ghost use Rattle.sas_groups.specs.Clashes.{sets};
 ghost use Rattle.sas_groups.specs.Families.{IsGreatest};
 ghost use Rattle.sas_groups.specs.declared.verdict.Verdict.{Verdict};
 ghost use Rattle.sas_groups.specs.declared.verdict.Verdict.TheVariants.{Exclusive};
 ghost use Rattle.sas_groups.specs.Kept.{family_of};
-ghost use Rattle.sas_mutex.specs.Falling.{AreCandidates, FamilyHasRoom};
-ghost use Rattle.sas_mutex.specs.Watching.{AreUnwatched};
 ghost use Rattle.sas_mutex.specs.Firing.{effect_of};
 ghost use Rattle.sas_groups.specs.Index.{HasFact};
 ghost use Rattle.sas_mutex.specs.Marks.{IsClean};
@@ -55,7 +52,8 @@ pub fn check_groups<T: Grounded>(
     Ok(verdicts.into_vec())
 }
 
-/// Allocates the memory for the check of the operators, and completes the verdicts.
+/// Allocates the memory for the check of the operators, and completes the verdicts. What is called then takes no allocator, so it can't
+/// allocate memory.
 fn judge_indexed<T: Grounded>(
     alloc: Global,
     indexed: &IndexedTask<'_, '_, T>,
@@ -67,32 +65,12 @@ fn judge_indexed<T: Grounded>(
     let mut family = candidates(alloc, verdicts.as_slice())?;
     let mut marks = Marks::new(alloc, indexed.task, indexed.index)?;
     let mut watches = Watches::new(alloc, indexed.task.groups(), indexed.task.operators())?;
-    judge_by_operators(indexed, verdicts, &mut watches, &mut family, &mut marks);
+    find_greatest(indexed, &mut watches, &mut family, &mut marks);
+    find_breaking(indexed, &mut family.kept, verdicts, &mut marks);
     drop(watches);
     drop(marks);
     drop(family);
     Ok(())
-}
-
-/// Completes the verdicts by checking the operators. Without an allocator it can't allocate memory.
-fn judge_by_operators<T: Grounded>(
-    indexed: &IndexedTask<'_, '_, T>,
-    verdicts: &mut Items<Verdict>,
-    watches: &mut Watches,
-    family: &mut Family,
-    marks: &mut Marks,
-)
-    requires first { AreFirstVerdicts indexed.now verdicts.old }
-    requires unwatched { let p = indexed.now in
-        AreUnwatched (length p.groups) (length p.operators) watches.old }
-    requires candidates { AreCandidates indexed.now family.old.kept }
-    requires none { family.old.fallen.items ≡ [] }
-    requires room { FamilyHasRoom indexed.now family.old }
-    requires clean { IsClean indexed.now marks.old }
-    ensures { AreJointVerdicts indexed.now verdicts.new }
-{
-    find_greatest(indexed, watches, family, marks);
-    find_breaking(indexed, &mut family.kept, verdicts, marks);
 }
 
 /// Returns the verdict on each group before operators are checked.
@@ -282,7 +260,7 @@ fn some_undecided(groups: &[u32], kept: &[bool], verdicts: &[Verdict]) -> bool
 fn is_undecided(group: u32, kept: &[bool], verdicts: &[Verdict]) -> bool
     requires kept { group < length kept.now }
     requires verdicts { group < length verdicts.now }
-    ensures { Tells result (IsUndecided kept.now verdicts.now group) }
+    ensures { IsTrue result ↔ IsUndecided kept.now verdicts.now group }
 {
     is_exclusive(verdicts[group as usize]) && !kept[group as usize]
 }

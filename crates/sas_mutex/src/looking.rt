@@ -1,5 +1,5 @@
 // Removes the groups from the family that an operator doesn't preserve.
-ghost use Rattle.std.specs.Prelude.{◌≡◌, ◌<◌, ℕ, None, length, Contains, IsTrue, IsFalse, IfSome};
+ghost use Rattle.std.specs.Prelude.{◌≡◌, ◌<◌, ◌↔◌, ℕ, None, length, Contains, IsTrue, IfSome};
 ghost use Rattle.sas_core.specs.Grounded.{operator_at, group_at};
 ghost use Rattle.sas_groups.specs.Clashes.{sets};
 ghost use Rattle.sas_groups.specs.Families.{IsIn};
@@ -43,7 +43,10 @@ pub fn look_at<T: Grounded>(
                 operator,
                 effect,
             };
-            alone &= look_at_setting(&firing, family, marks);
+            // If no group of the family contains the fact that the effect sets, nothing is recorded.
+            if firing.sets_one_of(family.kept.as_slice()) {
+                alone &= look_at_alike(&firing, family, marks);
+            }
         }
     }
     alone
@@ -109,33 +112,13 @@ fn plain_setting<T: Grounded>(
 fn is_plain<T: Grounded>(task: &Layered<T>, operator: u32, effect: u32) -> bool
     requires operator { operator < length task.now.operators }
     requires effect { effect < length (operator_at task.now operator).effects }
-    ensures yes { IsTrue result → IsUnconditional task.now operator effect }
-    ensures no { IsFalse result → IsUnconditional task.now operator effect → ⊥ }
+    ensures { IsTrue result ↔ IsUnconditional task.now operator effect }
 {
     task.effect_conditions(operator, effect).is_empty()
 }
 
-/// Removes the groups from the family that the effect doesn't preserve. Returns true only if it preserves each remaining group, assuming
-/// only the basis and that group. If no group of the family contains the fact that the effect sets, nothing is recorded.
-#[inline(always)]
-fn look_at_setting<T: Grounded>(
-    firing: &Firing<'_, '_, T>,
-    family: &mut Family,
-    marks: &mut Marks,
-) -> bool
-    requires room { FamilyHasRoom firing.now.task family.old }
-    requires clean { IsClean firing.now.task marks.old }
-    ensures looked { let f = firing.now in
-        Looked f.task f.operator (IsOfEffect f.effect) family.old family.new result }
-    ensures clean { IsClean firing.now.task marks.new }
-{
-    if !firing.sets_one_of(family.kept.as_slice()) {
-        return true;
-    }
-    look_at_alike(firing, family, marks)
-}
-
-/// `look_at_setting`, or, if the effect has no conditions, the same for all such effects of its operator.
+/// Removes the groups from the family that the effect doesn't preserve, or, if the effect has no conditions, those that any such effect of
+/// its operator doesn't preserve. Returns true only if these effects preserve each remaining group, assuming only the basis and that group.
 fn look_at_alike<T: Grounded>(
     firing: &Firing<'_, '_, T>,
     family: &mut Family,
@@ -210,7 +193,7 @@ fn look_at_noted<T: Grounded>(
     alone
 }
 
-/// `look_at_setting` after the known facts were recorded. They must not clash.
+/// `look_where_they_fire` for this effect alone, after the known facts were recorded. They must not clash.
 fn look_at_groups<T: Grounded>(
     firing: &Firing<'_, '_, T>,
     family: &mut Family,

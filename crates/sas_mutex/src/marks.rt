@@ -1,5 +1,5 @@
 // Records facts while effects are checked, and decides whether facts clash.
-ghost use Rattle.std.specs.Prelude.{◌≡◌, ◌<◌, length, IsTrue, IsFalse, IfOk, IfSome, All, Contains};
+ghost use Rattle.std.specs.Prelude.{◌≡◌, ◌<◌, ◌↔◌, length, IsTrue, IsFalse, IfOk, IfSome, All, Contains};
 ghost use Rattle.sas_core.specs.Variables.{FactExists};
 ghost use Rattle.sas_groups.specs.Clashes.{Clash};
 ghost use Rattle.sas_groups.specs.Lists.{known_on};
@@ -142,8 +142,7 @@ pub fn facts_clash<T: Grounded>(
 ) -> bool
     requires exist { All (FactExists indexed.now.variables) facts.now }
     requires blank { AreBlank indexed.now notes.old }
-    ensures yes { IsTrue result → Clash (IsKept indexed.now kept.now) facts.now }
-    ensures no { IsFalse result → Clash (IsKept indexed.now kept.now) facts.now → ⊥ }
+    ensures is { IsTrue result ↔ Clash (IsKept indexed.now kept.now) facts.now }
     ensures blank { AreBlank indexed.now notes.new }
 {
     // A fact doesn't clash with itself.
@@ -165,8 +164,7 @@ fn note_facts<T: Grounded>(
 ) -> bool
     requires exist { All (FactExists indexed.now.variables) facts.now }
     requires blank { AreBlank indexed.now notes.old }
-    ensures yes { IsTrue result → Clash (IsKept indexed.now kept.now) facts.now }
-    ensures no { IsFalse result → Clash (IsKept indexed.now kept.now) facts.now → ⊥ }
+    ensures is { IsTrue result ↔ Clash (IsKept indexed.now kept.now) facts.now }
     ensures from { AreFrom indexed.now facts.now notes.new }
 {
     let widest = widest_of(indexed.index, facts, notes.some_wide);

@@ -1,5 +1,5 @@
 // Which operators must be checked again when a group is removed.
-ghost use Rattle.std.specs.Prelude.{◌≡◌, ◌≢◌, ◌<◌, ◌≤◌, ◌++◌, ◌∷◌, ◌^◌, ℕ, [], length, IsTrue, IsFalse, IfOk, All, Some, None, slice_index_or, slice_set};
+ghost use Rattle.std.specs.Prelude.{◌≡◌, ◌<◌, ◌≤◌, ◌++◌, ◌∷◌, ◌^◌, ℕ, [], length, IsTrue, IsFalse, IfOk, All, Some, None, slice_index_or, slice_set};
 ghost use Rattle.sas_mutex.specs.Watching.{AreChained, AreUnwatched, HasWatchFrom, WatchesMore, since_of};
 
 use crate::family::Family;

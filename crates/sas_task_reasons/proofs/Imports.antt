@@ -28,6 +28,7 @@ pub use Rattle.sas_groups.proofs.GreatestFamily.{clash_more, keeps_more, all_kee
 pub use Rattle.sas_groups.proofs.Invariance.{fact_same}
 pub use Rattle.sas_groups.proofs.JointLists.{one_list, some_list}
 pub use Rattle.sas_groups.proofs.JointVerdicts.{same_or_itself}
+pub use Rattle.sas_groups.proofs.Iff.{iff_not}
 pub use Rattle.sas_groups.specs.Checks.{NotBoth, IsGone, EffectKeeps}
 pub use Rattle.sas_groups.specs.Clashes.{Keeps, sets}
 pub use Rattle.sas_groups.specs.Distinct.{AreDistinct}

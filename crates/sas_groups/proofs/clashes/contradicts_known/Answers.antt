@@ -1,15 +1,15 @@
 -- One more fact is processed.
-use Rattle.sas_groups.proofs.Imports.{All-contains, Fact, Contradict, Alone, known_on}
-use Rattle.sas_groups.proofs.Telling.{tells_yes, tells_no}
+use Rattle.sas_groups.proofs.Iff.{iff_yes, iff_no, iff_not}
 use Rattle.sas_groups.proofs.Turns.{turn_has, turn_more, turns_end}
 use Rattle.sas_groups.proofs.clashes.contradicts_known.Goals as goal
 
 pub returns-then-contradict : goal.returns-then-contradict
-returns-then-contradict g c = tells_yes (c.in-Some.g, turn_has c.loop-g.invariant c.in-Some.ensures.steps, c.contradict.ensures.yes c.if-contradict.true)
+returns-then-contradict g c =
+    let (place, below, is) = turn_has c.loop-g.invariant c.in-Some.ensures.steps in
+    iff_yes (place, c.in-Some.g, below, is, c.contradict.ensures.0 c.if-contradict.true)
 
 pub loop-g-preserved : goal.loop-g-preserved
-loop-g-preserved g c = turn_more c.loop-g.invariant c.in-Some.ensures.steps (c.contradict.ensures.no c.if-contradict.false)
+loop-g-preserved g c = turn_more c.loop-g.invariant c.in-Some.ensures.steps (iff_not c.contradict.ensures c.if-contradict.false)
 
 pub returns : goal.returns
-returns g c = tells_no (λ (other, within, why). All-contains (λ (x : Fact). Contradict (Alone c.args.group.now) c.args.f x → ⊥)
-    (known_on c.args.task.now c.args.premises.now) other (turns_end c.loop-g.invariant c.in-None.ensures.steps.0) within why)
+returns g c = iff_no (λ (place, other, below, is, why). turns_end c.loop-g.invariant c.in-None.ensures.steps.0 place other below (rw is why))

@@ -3,7 +3,7 @@ use Rattle.sas_groups.proofs.Imports.{[], below_more, arith, All-from_get_or, Op
 use Rattle.sas_groups.proofs.group.first_breaking.Goals as goal
 
 pub loop-operator-preserved : goal.loop-operator-preserved
-loop-operator-preserved g c = below_more _ _ c.loop-operator.invariant (c.keeps.ensures.yes c.if-not-keeps.false)
+loop-operator-preserved g c = below_more _ _ c.loop-operator.invariant (c.keeps.ensures.0 c.if-not-keeps.false)
 
 pub returns-clause-none : goal.returns-clause-none
 returns-clause-none g c =

@@ -1,6 +1,6 @@
 -- The facts are checked one by one.
 use Rattle.sas_groups.proofs.Imports.{sym, ◌∙◌, Fact, IsBasic, each_more}
-use Rattle.sas_groups.proofs.Telling.{tells_no}
+use Rattle.sas_groups.proofs.Iff.{iff_no}
 use Rattle.sas_groups.proofs.group.is_on_basic.Goals as goal
 
 pub loop-fact-preserved : goal.loop-fact-preserved
@@ -8,4 +8,4 @@ loop-fact-preserved g c = each_more (λ (f : Fact). IsBasic c.args.task.now f.va
     (sym c.layer.ensures ∙ c.in_default.is)
 
 pub returns-in-Some : goal.returns-in-Some
-returns-in-Some g c = tells_no (λ basic. (let none = c.layer.ensures ∙ basic c.loop-fact.fact-index _ c.loop-fact-test.true in let some = c.in-Some.is in absurd cc))
+returns-in-Some g c = iff_no (λ basic. (let none = c.layer.ensures ∙ basic c.loop-fact.fact-index _ c.loop-fact-test.true in let some = c.in-Some.is in absurd cc))

@@ -1,6 +1,6 @@
 -- A group of the one fact that is in the family contains the other fact, or doesn't.
 use Rattle.sas_groups.proofs.Imports.{ℕ, List, length, get_or, sym, ap, subst, ◌∙◌, below_more, arith, IsTrue, Contains, true≢false, get_or_default, Contains-get_or, groups_of, family_of}
-use Rattle.sas_groups.proofs.Telling.{tells_yes, tells_no}
+use Rattle.sas_groups.proofs.Iff.{iff_yes, iff_no}
 use Rattle.sas_groups.proofs.notes.some_has.Goals as goal
 use Rattle.sas_groups.proofs.notes.some_has.Goals.{else-is_kept-via-then-is_kept+else-has, else-is_kept-via-else-is_kept}
 
@@ -8,7 +8,7 @@ pub returns-then-has : goal.returns-then-has
 returns-then-has c =
     let groups = c.groups_of-group-items.result.now in
     let group = get_or groups c.loop-group.group-index 0 in
-    tells_yes (record {
+    iff_yes (record {
       place = group;
       first = subst (λ (xs : List ℕ). Contains xs group) c.groups_of-group-items.ensures (Contains-get_or groups c.loop-group.group-index 0 c.loop-group-test.true);
       second = c.has.ensures.0 c.if-has.true;
@@ -33,6 +33,6 @@ loop-group-preserved c =
 
 pub returns : goal.returns
 returns c =
-    tells_no (λ shared. c.loop-group.invariant shared.first.0 shared.place (omega (arith, shared.first.1, ap length c.groups_of-group-items.ensures, c.loop-group-test.false))
+    iff_no (λ shared. c.loop-group.invariant shared.first.0 shared.place (omega (arith, shared.first.1, ap length c.groups_of-group-items.ensures, c.loop-group-test.false))
     (subst (λ n. IsTrue (family_of c.args.kept.now n)) (sym shared.first.2) shared.kept_there)
     (subst (λ n. Contains (groups_of c.args.index.now c.args.other) n) (sym shared.first.2) shared.second))

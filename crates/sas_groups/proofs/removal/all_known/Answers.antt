@@ -6,4 +6,4 @@ pub loop-condition-preserved : goal.loop-condition-preserved
 loop-condition-preserved g c =
     let all = known_on c.args.task.now c.args.premises.now in
     each_more (Contains all) c.args.conditions.now c.loop-condition.condition-index _ c.loop-condition-test.true c.loop-condition.invariant
-    (c.is_known.ensures.yes c.if-not-is_known.false)
+    (c.is_known.ensures.0 c.if-not-is_known.false)

@@ -1,13 +1,13 @@
 -- One more fact is processed.
 use Rattle.sas_groups.proofs.Imports.{◌≡◌, refl, ◌∙◌, ap, subst, Contains, All-contains, Fact, arith, common_steps, known_on, known_left}
-use Rattle.sas_groups.proofs.Telling.{tells_yes, tells_no}
+use Rattle.sas_groups.proofs.Iff.{iff_yes, iff_no}
 use Rattle.sas_groups.proofs.Turns.{turn_has, turns_begin, turn_more, turns_end}
 use Rattle.sas_groups.proofs.removal.is_known.Goals as goal
 
 pub returns-then-eq : goal.returns-then-eq
 returns-then-eq g c =
     let same : c.in-Some.g ≡ c.args.fact = grind (arith, common_steps) in
-    tells_yes (subst (Contains (known_on c.args.task.now c.args.premises.now)) same (turn_has c.loop-g.invariant c.in-Some.ensures.steps))
+    iff_yes (subst (Contains (known_on c.args.task.now c.args.premises.now)) same (turn_has c.loop-g.invariant c.in-Some.ensures.steps))
 
 pub loop-g-preserved : goal.loop-g-preserved
 loop-g-preserved g c =
@@ -15,7 +15,7 @@ loop-g-preserved g c =
     turn_more c.loop-g.invariant c.in-Some.ensures.steps differ
 
 pub returns : goal.returns
-returns g c = tells_no (λ w. All-contains (λ (x : Fact). x ≡ c.args.fact → ⊥) (known_on c.args.task.now c.args.premises.now) c.args.fact
+returns g c = iff_no (λ w. All-contains (λ (x : Fact). x ≡ c.args.fact → ⊥) (known_on c.args.task.now c.args.premises.now) c.args.fact
     (turns_end c.loop-g.invariant c.in-None.ensures.steps.0) w refl)
 
 pub loop-g-init : goal.loop-g-init

@@ -6,8 +6,8 @@ use Rattle.sas_mutex.proofs.VerdictsSoFar.{candidates_from}
 use Rattle.sas_mutex.proofs.Supporting.{none_are}
 use Rattle.sas_mutex.proofs.joint.judge_indexed.Goals as goal
 
-pub judge_by_operators-requires-clause-room : goal.judge_by_operators-requires-clause-room
-judge_by_operators-requires-clause-room g c =
+pub find_greatest-requires-clause-room : goal.find_greatest-requires-clause-room
+find_greatest-requires-clause-room g c =
     let family = c.in_ok-family in
     let given = ap length c.as_slice.ensures ∙ c.requires.one_each in
     let same = family.ensures.one_each ∙ given in
@@ -21,8 +21,8 @@ judge_by_operators-requires-clause-room g c =
           (subst (λ (count : ℕ). IsOfNone count family.family.basis) given family.ensures.of_none) family.ensures.free;
     }
 
-pub judge_by_operators-requires-clause-candidates : goal.judge_by_operators-requires-clause-candidates
-judge_by_operators-requires-clause-candidates g c =
+pub find_greatest-requires-clause-candidates : goal.find_greatest-requires-clause-candidates
+find_greatest-requires-clause-candidates g c =
     let family = c.in_ok-family in
     let kept = family.family.kept in
     candidates_from _ c.args.verdicts.now kept c.requires

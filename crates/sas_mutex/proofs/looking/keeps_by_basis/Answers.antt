@@ -22,4 +22,4 @@ returns-then-has_basis-clause-kept g c t in_family =
     let family = c.args.family.now in
     let within = c.has_basis.ensures c.if-has_basis.true (length p.groups) c.requires.room.basis in
     basis_keeps family.basis family.kept c.args.firing.now.operator c.args.firing.now.effect c.args.group
-    (λ n w. record { exists = w.exists; chosen = within n w.chosen }) in_family (c.keeps_with_itself.ensures.yes t)
+    (λ n w. record { exists = w.exists; chosen = within n w.chosen }) in_family (c.keeps_with_itself.ensures.is.0 t)

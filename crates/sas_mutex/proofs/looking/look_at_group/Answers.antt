@@ -1,6 +1,6 @@
 -- A group that the effect doesn't preserve is removed. One that it preserves assuming the basis
 -- isn't.
-use Rattle.sas_mutex.proofs.Imports.{◌<◌, Bool, true, false, List, length, sym, ap, subst, arith, both_ways, IsIn, family_of, common_steps, Family, EffectPlace, operator_of, IsPair, Looked, FamilyHasRoom, IsNotedAt, EffectKeepsGroup}
+use Rattle.sas_mutex.proofs.Imports.{iff_not, ◌<◌, Bool, true, false, List, length, sym, ap, subst, arith, both_ways, IsIn, family_of, common_steps, Family, EffectPlace, operator_of, IsPair, Looked, FamilyHasRoom, IsNotedAt, EffectKeepsGroup}
 use Rattle.sas_mutex.proofs.LookedAt.{looked_none, looked_pair, looked_removed}
 use Rattle.sas_mutex.proofs.Supporting.{same_grown}
 use Rattle.sas_mutex.proofs.FromNotes.{noted_fewer}
@@ -50,7 +50,7 @@ returns-then-keeps_by_notes-clause-looked g c =
     subst (λ (family : Family). Looked f.task f.operator (IsPair f.effect c.args.group) family after c.keeps_by_more.result) c.keeps_by_basis.ensures.same
     (looked_pair f.effect c.args.group c.keeps_by_more.ensures.grown
     (room g (goal.at.returns-then-keeps_by_notes-clause-looked g c).After-as_slice-2)
-    (λ _. subst (λ (kept : List Bool). EffectKeepsGroup f kept c.args.group) c.as_slice-2.ensures (c.keeps_by_notes.ensures.yes c.if-keeps_by_notes.true))
+    (λ _. subst (λ (kept : List Bool). EffectKeepsGroup f kept c.args.group) c.as_slice-2.ensures (c.keeps_by_notes.ensures.is.0 c.if-keeps_by_notes.true))
     c.keeps_by_more.ensures.basis)
 
 pub returns-then-keeps_by_notes-clause-notes : goal.returns-then-keeps_by_notes-clause-notes
@@ -76,7 +76,7 @@ removed g c =
     (subst (λ (s : EffectPlace). s.operator < length s.task.operators) c.firing.view_is c.firing.invariant.2)
     (subst (λ (s : EffectPlace). s.effect < length (operator_of s).effects) c.firing.view_is c.firing.invariant.3)
     c.requires.has
-    (λ keeps. c.keeps_by_notes.ensures.no c.if-keeps_by_notes.false (subst (λ (kept : List Bool). EffectKeepsGroup f kept c.args.group) (sym c.as_slice-2.ensures) keeps))
+    (λ keeps. iff_not c.keeps_by_notes.ensures.is c.if-keeps_by_notes.false (subst (λ (kept : List Bool). EffectKeepsGroup f kept c.args.group) (sym c.as_slice-2.ensures) keeps))
 
 pub returns-clause-looked : goal.returns-clause-looked
 returns-clause-looked g c =

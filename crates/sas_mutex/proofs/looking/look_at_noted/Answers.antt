@@ -1,5 +1,5 @@
 -- One more effect without conditions was checked. Its known facts are the recorded ones.
-use Rattle.sas_mutex.proofs.Imports.{◌≡◌, length, sym, subst, inl, inr, arith, and_parts, cases_eq, ◌<◌, IsUnconditional, EffectPlace, operator_of, IsNotedFor, Looked, IsOfEffect}
+use Rattle.sas_mutex.proofs.Imports.{iff_not, ◌≡◌, length, sym, subst, inl, inr, arith, and_parts, cases_eq, ◌<◌, IsUnconditional, EffectPlace, operator_of, IsNotedFor, Looked, IsOfEffect}
 use Rattle.sas_mutex.proofs.LookedAt.{looked_then, looked_by, alike_notes}
 use Rattle.sas_mutex.proofs.looking.look_at_noted.Goals as goal
 use Rattle.sas_mutex.proofs.looking.look_at_noted.Goals.{then-is_plain, else-is_plain}
@@ -28,13 +28,13 @@ loop-effect-preserved g c =
               one_each = subst (λ (s : EffectPlace). length turn.new.family.kept ≡ length s.task.groups) is turn.ensures.notes.one_each;
               noted = subst (λ (s : EffectPlace). IsNotedFor s.task turn.new.family.kept s.operator s.effect turn.new.marks) is
                   (alike_notes q c.firing.inside.operator at of turn.new.family.kept turn.new.marks
-                  (c.is_plain-in-loop-effect.ensures.yes w.if-is_plain.true) (c.is_plain.ensures.yes c.if-not-is_plain.false) turn.ensures.notes.noted);
+                  (c.is_plain-in-loop-effect.ensures.0 w.if-is_plain.true) (c.is_plain.ensures.0 c.if-not-is_plain.false) turn.ensures.notes.noted);
             };
           })
       | else-is_plain w ↦ rw (w.family-is, w.marks-is, w.alone-is) record {
         looked = looked_by inv.looked
             (λ effect place (lt, plain). elim (cases_eq effect at) [
-              | inl same ↦ absurd (c.is_plain-in-loop-effect.ensures.no w.if-is_plain.false
+              | inl same ↦ absurd (iff_not c.is_plain-in-loop-effect.ensures w.if-is_plain.false
                   (subst (λ (s : EffectPlace). IsUnconditional s.task s.operator at) (sym is) (subst (IsUnconditional f.task f.operator) same plain)))
               | inr ne ↦ (omega arith, plain)
             ]) (λ t. inl t);
@@ -45,13 +45,13 @@ loop-effect-preserved g c =
 pub returns-then-not-is_plain-clause-looked : goal.returns-then-not-is_plain-clause-looked
 returns-then-not-is_plain-clause-looked g c = looked_by c.look_at_groups.ensures.looked (λ effect place pair. elim pair [
   | inl is ↦ is
-  | inr w ↦ absurd (c.is_plain.ensures.no c.if-not-is_plain.true (subst (λ (s : EffectPlace). IsUnconditional s.task s.operator s.effect) (sym c.firing.view_is) w.0))
+  | inr w ↦ absurd (iff_not c.is_plain.ensures c.if-not-is_plain.true (subst (λ (s : EffectPlace). IsUnconditional s.task s.operator s.effect) (sym c.firing.view_is) w.0))
 ]) (λ t. inl t)
 
 pub returns-clause-looked : goal.returns-clause-looked
 returns-clause-looked g c =
     let below = subst (λ (s : EffectPlace). s.effect < length (operator_of s).effects) c.firing.view_is c.firing.invariant.3 in
-    let plain = subst (λ (s : EffectPlace). IsUnconditional s.task s.operator s.effect) c.firing.view_is (c.is_plain.ensures.yes c.if-not-is_plain.false) in
+    let plain = subst (λ (s : EffectPlace). IsUnconditional s.task s.operator s.effect) c.firing.view_is (c.is_plain.ensures.0 c.if-not-is_plain.false) in
     let count = subst (λ (s : EffectPlace). c.effects-effect-end.result ≡ length (operator_of s).effects) c.firing.view_is c.effects-effect-end.ensures in
     looked_by c.loop-effect.invariant.looked (λ effect place pair. elim pair [
       | inl is ↦ rw is (omega (arith, below, count, c.loop-effect-test.false), plain)

@@ -1,5 +1,5 @@
 -- One more effect sets no fact of a group in the family, or has conditions.
-use Rattle.sas_mutex.proofs.Imports.{◌≡◌, ◌<◌, length, sym, subst, below_more, arith, Parts, SetsNone, IsUnconditional}
+use Rattle.sas_mutex.proofs.Imports.{iff_not, ◌≡◌, ◌<◌, length, sym, subst, below_more, arith, Parts, SetsNone, IsUnconditional}
 use Rattle.sas_mutex.proofs.looking.plain_setting.Goals as goal
 use Rattle.sas_mutex.proofs.looking.plain_setting.Goals.{then-is_plain+else-sets_one_of, else-is_plain}
 
@@ -25,7 +25,7 @@ loop-effect-preserved g c =
     let effect = c.loop-effect.effect in
     let here : IsUnconditional c.args.indexed.now operator effect → SetsNone c.args.indexed.now kept operator effect = elim c.if-is_plain.branch [
       | then-is_plain+else-sets_one_of w ↦ λ plain. subst (λ (q : Parts). SetsNone q kept operator effect) c.indexed.view_is (w.sets_one_of.ensures w.if-sets_one_of.false)
-      | else-is_plain w ↦ λ plain. absurd (subst (λ (q : Parts). IsUnconditional q operator effect → ⊥) c.indexed.view_is (c.is_plain.ensures.no w.if-is_plain.false) plain)
+      | else-is_plain w ↦ λ plain. absurd (subst (λ (q : Parts). IsUnconditional q operator effect → ⊥) c.indexed.view_is (iff_not c.is_plain.ensures w.if-is_plain.false) plain)
     ] in
     record { none = below_more _ _ c.loop-effect.invariant.none here }
 

@@ -1,5 +1,5 @@
 -- One more fact is recorded.
-use Rattle.sas_mutex.proofs.Imports.{length, sym, subst, take_more, take_all, Contains-get_or, Parts, IsIndexOf, variable_below, groups_below, arith, common_steps}
+use Rattle.sas_mutex.proofs.Imports.{iff_yes, iff_no, length, sym, subst, take_more, take_all, Contains-get_or, Parts, IsIndexOf, variable_below, groups_below, arith, common_steps}
 use Rattle.sas_mutex.proofs.KnownFacts.{none_so_far, one_so_far, refused_so_far, from_still, all_known}
 use Rattle.sas_mutex.proofs.marks.note_facts.Goals as goal
 
@@ -11,10 +11,10 @@ note-requires-clause-groups g c =
     let indexed = subst (λ (q : Parts). IsIndexOf q c.indexed.inside.index.now) c.indexed.view_is c.indexed.invariant.1 in
     groups_below c.args.indexed.now c.indexed.inside.index.now _ (length c.loop-fact.notes.groups) indexed (c.requires.exist c.loop-fact.fact-index _ c.loop-fact-test.true) c.loop-fact.invariant.from.wide.groups
 
-pub returns-then-not-note-clause-yes : goal.returns-then-not-note-clause-yes
-returns-then-not-note-clause-yes g c t =
+pub returns-then-not-note-clause-is : goal.returns-then-not-note-clause-is
+returns-then-not-note-clause-is g c =
     let indexed = subst (λ (q : Parts). IsIndexOf q c.indexed.inside.index.now) c.indexed.view_is c.indexed.invariant.1 in
-    refused_so_far c.requires.exist indexed c.loop-fact.invariant _ (Contains-get_or c.args.facts.now c.loop-fact.fact-index _ c.loop-fact-test.true) (c.note.ensures.no c.if-not-note.true)
+    iff_yes (refused_so_far c.requires.exist indexed c.loop-fact.invariant _ (Contains-get_or c.args.facts.now c.loop-fact.fact-index _ c.loop-fact-test.true) (c.note.ensures.no c.if-not-note.true))
 
 pub returns-then-not-note-clause-from : goal.returns-then-not-note-clause-from
 returns-then-not-note-clause-from g c =
@@ -24,8 +24,8 @@ returns-then-not-note-clause-from g c =
 pub loop-fact-preserved : goal.loop-fact-preserved
 loop-fact-preserved g c = grind (arith, common_steps, take_more, one_so_far, Contains-get_or)
 
-pub returns-clause-no : goal.returns-clause-no
-returns-clause-no g c t = (all_known c.requires.exist (sym (take_all c.loop-fact.fact-index c.args.facts.now c.loop-fact-test.false)) c.loop-fact.invariant).apart
+pub returns-clause-is : goal.returns-clause-is
+returns-clause-is g c = iff_no (all_known c.requires.exist (sym (take_all c.loop-fact.fact-index c.args.facts.now c.loop-fact-test.false)) c.loop-fact.invariant).apart
 
 pub note-requires-clause-value : goal.note-requires-clause-value
 note-requires-clause-value g c = grind (arith, common_steps, variable_below)

@@ -1,5 +1,5 @@
 -- One more effect, which is the lowest that may set another fact, or isn't.
-use Rattle.sas_task_reasons.proofs.Imports.{arith, take_all}
+use Rattle.sas_task_reasons.proofs.Imports.{iff_not, arith, take_all}
 use Rattle.sas_task_reasons.proofs.LowestEffects.{lower_found, none_lower}
 use Rattle.sas_task_reasons.proofs.lowest.lowest_among.Goals as goal
 use Rattle.sas_task_reasons.proofs.lowest.lowest_among.Goals.{then-other-lowest+then-not-not_both, else-other-lowest, else-other-lowest-via-then-other-lowest+else-not-not_both, else-other-lowest-via-else-other-lowest}
@@ -10,12 +10,12 @@ loop-other-preserved g c =
     elim c.if-other-lowest.branch [
       | then-other-lowest+then-not-not_both w ↦ rw w.marks-is (rw w.lowest-is (record {
         notes = w.not_both.ensures.notes;
-        lowest = lower_found _ _ _ _ _ _ inv.lowest c.loop-other-test.true w.if-other-lowest.true (w.not_both.ensures.no w.if-not-not_both.true);
+        lowest = lower_found _ _ _ _ _ _ inv.lowest c.loop-other-test.true w.if-other-lowest.true (iff_not w.not_both.ensures.is w.if-not-not_both.true);
       }))
       | else-other-lowest w ↦ elim w.else-other-lowest.branch [
         | else-other-lowest-via-then-other-lowest+else-not-not_both w' ↦ rw w.marks-is (rw w.lowest-is (rw w'.marks-is (record {
           notes = w'.not_both.ensures.notes;
-          lowest = none_lower _ _ _ _ _ _ inv.lowest c.loop-other-test.true (λ lt. w'.not_both.ensures.yes w'.if-not-not_both.false);
+          lowest = none_lower _ _ _ _ _ _ inv.lowest c.loop-other-test.true (λ lt. w'.not_both.ensures.is.0 w'.if-not-not_both.false);
         })))
         | else-other-lowest-via-else-other-lowest w' ↦ rw w.marks-is (rw w.lowest-is (rw w'.marks-is (record {
           notes = inv.notes;

@@ -1,5 +1,5 @@
 -- One more effect.
-use Rattle.sas_task_reasons.proofs.Imports.{◌≡◌, ◌<◌, length, ap, subst, ◌∙◌, below_more, arith, EffectPlace, operator_of}
+use Rattle.sas_task_reasons.proofs.Imports.{iff_not, ◌≡◌, ◌<◌, length, ap, subst, ◌∙◌, below_more, arith, EffectPlace, operator_of}
 use Rattle.sas_task_reasons.proofs.lowest.lowest_of_all.Goals as goal
 use Rattle.sas_task_reasons.proofs.lowest.lowest_of_all.Given.{Over}
 use Rattle.sas_task_reasons.proofs.lowest.lowest_of_all.Goals.{After-effects-effects}
@@ -7,7 +7,7 @@ use Rattle.sas_task_reasons.proofs.lowest.lowest_of_all.Goals.{After-effects-eff
 pub loop-other-preserved : goal.loop-other-preserved
 loop-other-preserved g c = record {
   notes = c.not_both.ensures.notes;
-  below = below_more _ _ c.loop-other.invariant.below (c.not_both.ensures.yes c.if-not-not_both.false);
+  below = below_more _ _ c.loop-other.invariant.below (c.not_both.ensures.is.0 c.if-not-not_both.false);
 }
 
 -- the number of effects
@@ -20,7 +20,7 @@ not_both-requires-clause-other g c = subst (λ n. c.loop-other.other < n) (count
 pub returns-then-not-not_both-clause-lowest : goal.returns-then-not-not_both-clause-lowest
 returns-then-not-not_both-clause-lowest g c = record {
   within = let all = count g (goal.at.returns-then-not-not_both-clause-lowest g c).After-effects-effects in omega (arith, all, c.loop-other-test.true);
-  may = λ lt. c.not_both.ensures.no c.if-not-not_both.true;
+  may = λ lt. iff_not c.not_both.ensures.is c.if-not-not_both.true;
   below = λ other lt looked. c.loop-other.invariant.below other lt;
 }
 

@@ -1,34 +1,35 @@
 -- A condition of the other effect clashes with the known facts, or its conditions clash with each
 -- other.
-use Rattle.sas_mutex.proofs.Imports.{◌<◌, List, length, sym, subst, inl, inr, Contains, Fact, operator_at, effect_at, Clash, AreBlank, EffectPlace, operator_of, IsKept}
+use Rattle.sas_mutex.proofs.Imports.{iff_yes, iff_other, iff_not, ◌<◌, List, length, sym, subst, inl, inr, Contains, Fact, operator_at, effect_at, AreBlank, EffectPlace, operator_of, IsKept}
 use Rattle.sas_mutex.proofs.TaskFacts.{conditions_exist}
 use Rattle.sas_mutex.proofs.FromNotes.{one_clashes, themselves_clash, one_or_themselves}
 use Rattle.sas_mutex.proofs.effects.Firing.both_clash.Goals as goal
 
-pub returns-then-some_clashes-clause-yes : goal.returns-then-some_clashes-clause-yes
-returns-then-some_clashes-clause-yes g c =
-    let some = rw (← c.self.view_is) at c.some_clashes.ensures.yes in
+pub returns-then-some_clashes-clause-is : goal.returns-then-some_clashes-clause-is
+returns-then-some_clashes-clause-is g c =
+    let some = rw (← c.self.view_is) at c.some_clashes.ensures in
     let p = c.self.inside.task.now in
     let o = operator_at p c.self.inside.operator in
-    let w = some c.if-some_clashes.true in
-    rw (← c.self.view_is) (λ t. one_clashes (IsKept p c.args.kept.now) o (effect_at o c.self.inside.effect).conditions (effect_at o c.args.other).conditions w.0
-    (subst (λ (facts : List Fact). Contains facts w.0) c.effect_conditions-second.ensures w.1) w.2)
+    let (place, fact, below, is, clash) = some.0 c.if-some_clashes.true in
+    rw (← c.self.view_is) (iff_yes (one_clashes (IsKept p c.args.kept.now) o (effect_at o c.self.inside.effect).conditions (effect_at o c.args.other).conditions fact
+    (subst (λ (facts : List Fact). Contains facts fact) c.effect_conditions-second.ensures (place, below, is)) clash))
 
 pub returns : goal.returns
 returns g c =
     let notes = rw (← c.self.view_is) at c.requires.notes in
-    let none = rw (← c.self.view_is) at c.some_clashes.ensures.no in
+    let some = rw (← c.self.view_is) at c.some_clashes.ensures in
     let p = c.self.inside.task.now in
     let o = operator_at p c.self.inside.operator in
     let Counts = IsKept p c.args.kept.now in
+    let first = (effect_at o c.self.inside.effect).conditions in
+    let second = (effect_at o c.args.other).conditions in
     let same = c.effect_conditions-second.ensures in
     record {
-      yes = rw (← c.self.view_is) (λ t. themselves_clash Counts o (effect_at o c.self.inside.effect).conditions (effect_at o c.args.other).conditions
-          (subst (λ (facts : List Fact). Clash Counts facts) same (c.facts_clash.ensures.yes t)));
-      no = rw (← c.self.view_is) (λ t clash. elim (one_or_themselves Counts o (effect_at o c.self.inside.effect).conditions (effect_at o c.args.other).conditions notes.noted.are.apart clash) [
-        | inl w ↦ none c.if-some_clashes.false (w.0, subst (λ (facts : List Fact). Contains facts w.0) (sym same) w.1, w.2)
-        | inr w ↦ c.facts_clash.ensures.no t (subst (λ (facts : List Fact). Clash Counts facts) (sym same) w)
-      ]);
+      is = rw (← c.self.view_is) (iff_other (rw same at c.facts_clash.ensures.is) (themselves_clash Counts o first second)
+          (λ clash. elim (one_or_themselves Counts o first second notes.noted.are.apart clash) [
+            | inl one ↦ absurd (iff_not (rw same at some) c.if-some_clashes.false one)
+            | inr themselves ↦ themselves
+          ]));
       notes = record {
         one_each = c.requires.notes.one_each;
         noted = record {

@@ -10,7 +10,7 @@ loop-other-preserved g c =
     elim c.else-other-effects.branch [
       | else-other-effects-via-then-other-effects+else-not-not_both w ↦ rw w.marks-is (record {
         notes = w.not_both.ensures.notes;
-        apart = below_more _ _ inv.apart (λ lt. w.not_both.ensures.yes w.if-not-not_both.false);
+        apart = below_more _ _ inv.apart (λ lt. w.not_both.ensures.is.0 w.if-not-not_both.false);
       })
       | else-other-effects-via-else-other-effects w ↦ rw w.marks-is (record {
         notes = inv.notes;

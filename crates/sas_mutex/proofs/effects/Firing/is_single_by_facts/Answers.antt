@@ -1,6 +1,6 @@
 -- One more fact, which may be the first on its variable. An effect that sets a fact of the group is
 -- on the variable of one of them.
-use Rattle.sas_mutex.proofs.Imports.{List, sym, subst, ap, arith, Fact, effect_at, group_at, sets, AreDistinct, each_more, EffectPlace, operator_of, IsSingleOn}
+use Rattle.sas_mutex.proofs.Imports.{iff_yes, List, sym, subst, ap, arith, Fact, effect_at, group_at, sets, AreDistinct, each_more, EffectPlace, operator_of, IsSingleOn}
 use Rattle.sas_mutex.proofs.effects.Firing.is_single_by_facts.Goals as goal
 use Rattle.sas_mutex.proofs.effects.Firing.is_single_by_facts.Goals.{else-begins_run-via-then-begins_run+else-not-is_single_on, else-begins_run-via-else-begins_run}
 
@@ -25,9 +25,9 @@ loop-place-preserved g c =
       })
     ]
 
-pub returns-clause-yes : goal.returns-clause-yes
-returns-clause-yes g c t other lt has =
-    let group = rw (← c.self.view_is) at c.requires.group in
+pub returns-clause-is : goal.returns-clause-is
+returns-clause-is g c = iff_yes (λ other lt has.
+    (let group = rw (← c.self.view_is) at c.requires.group in
     let p = c.self.inside.task.now in
     let facts = c.facts_of-facts.result.now in
     let fact : Fact = sets (effect_at (operator_of c.args.self.now) other) in
@@ -35,4 +35,4 @@ returns-clause-yes g c t other lt has =
     let same = subst (λ (s : EffectPlace). AreDistinct facts (group_at s.task c.args.group)) c.self.view_is distinct in
     let among = (same.same fact).1 has in
     c.loop-place.invariant.single among.0 fact (let within = among.1 in let end = c.loop-place-test.false in omega arith) other
-    (sym (ap (λ (x : Fact). x.var) among.2)) lt has
+    (sym (ap (λ (x : Fact). x.var) among.2)) lt has))

@@ -1,18 +1,15 @@
 -- The family with the group consists of the groups of the family and this one.
-use Rattle.sas_mutex.proofs.Imports.{Bool, true, false, List, get_or, set, sym, ap, ◌∙◌, subst, true≢false, both_ways, length-set, IsGroupNote, arith, common_steps, known_at}
+use Rattle.sas_mutex.proofs.Imports.{Bool, true, false, List, get_or, set, sym, ap, ◌∙◌, subst, iff_yes, iff_other, both_ways, length-set, IsGroupNote, arith, common_steps, known_at}
 use Rattle.sas_mutex.proofs.VerdictsSoFar.{keeps_then, keeps_itself, put_back, several_never_fire, noted_with, is_more}
 use Rattle.sas_mutex.proofs.FromNotes.{noted_fewer}
 use Rattle.sas_mutex.proofs.effects.Firing.keeps_with_itself.Goals as goal
 
-pub returns-then-is_several-clause-yes : goal.returns-then-is_several-clause-yes
-returns-then-is_several-clause-yes g c =
+pub returns-then-is_several-clause-is : goal.returns-then-is_several-clause-is
+returns-then-is_several-clause-is g c =
     let p = c.args.self.now.task in
     let several = subst (IsGroupNote p (known_at p c.args.self.now.operator c.args.self.now.effect) c.args.group) (c.is_several.ensures.0 c.if-is_several.true)
     (c.noted.ensures c.args.kept.now c.requires.notes) in
-    λ _. several_never_fire p c.args.kept.now c.args.group c.requires.group c.requires.notes.one_each c.args.self.now.operator c.args.self.now.effect c.args.marks.now c.requires.notes.noted several
-
-pub returns-then-is_several-clause-no : goal.returns-then-is_several-clause-no
-returns-then-is_several-clause-no g c f = absurd (true≢false f)
+    iff_yes (several_never_fire p c.args.kept.now c.args.group c.requires.group c.requires.notes.one_each c.args.self.now.operator c.args.self.now.effect c.args.marks.now c.requires.notes.noted several)
 
 pub keeps_by_notes-keeps-requires-clause-notes : goal.keeps_by_notes-keeps-requires-clause-notes
 keeps_by_notes-keeps-requires-clause-notes g c = grind (arith, common_steps, both_ways, length-set, noted_with)
@@ -27,8 +24,7 @@ returns g c =
     let now = c.as_slice-2.ensures ∙ c.set.ensures in
     let turn = c.keeps_by_notes-keeps.ensures in
     record {
-      yes = λ t. keeps_itself f.task kept place c.requires.group each f.operator f.effect (rw now at (turn.yes t));
-      no = λ t keeps. turn.no t (rw now (keeps_then f.task kept place c.requires.group each f.operator f.effect keeps));
+      is = iff_other (rw now at turn.is) (keeps_itself f.task kept place c.requires.group each f.operator f.effect) (keeps_then f.task kept place c.requires.group each f.operator f.effect);
       kept = c.set-2.ensures ∙ (ap (λ (xs : List Bool). set xs place was) c.set.ensures
           ∙ put_back kept place was (ap (λ (xs : List Bool). get_or xs place false) (sym c.as_slice.ensures)));
       notes = record {

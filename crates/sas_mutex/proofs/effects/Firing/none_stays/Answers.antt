@@ -1,5 +1,5 @@
 -- One more run can't remain, or a fact of the group is known.
-use Rattle.sas_mutex.proofs.Imports.{◌≡◌, [], drop, subst, arith, refl, get_or_default, drop_all, operator_at, effect_at, FactExists, known, WellRanged, group_fact_exists, one_note_shows, tells_yes, tells_no, tells_other, common_steps, EffectPlace, IsKept, IsUnknown, IsGoneAt}
+use Rattle.sas_mutex.proofs.Imports.{iff_not, ◌≡◌, [], drop, subst, arith, refl, get_or_default, drop_all, operator_at, effect_at, FactExists, known, WellRanged, group_fact_exists, one_note_shows, iff_yes, iff_no, iff_other, common_steps, EffectPlace, IsKept, IsUnknown, IsGoneAt}
 use Rattle.sas_mutex.proofs.GoneRuns.{such_none, such_all, next_within, next_on_one, next_too, such_more}
 use Rattle.sas_mutex.proofs.KnownFacts.{none_if_not_one}
 use Rattle.sas_mutex.proofs.FromNotes.{known_one_is_all}
@@ -16,7 +16,7 @@ returns-in-Some g c =
     let place = c.args.group in
     let of = (one_note_shows p (known o e.conditions []) place c.in-Some.fact c.noted.result
     (c.noted.ensures c.args.kept.now c.requires.notes) (c.only.ensures.some c.in-Some.fact c.in-Some.is)).0 in
-    tells_other c.is_gone.ensures (known_one_is_all p c.args.kept.now o place e c.in-Some.fact c.requires.group of.among of.has.among) (λ all. all c.in-Some.fact of.has.among)
+    iff_other c.is_gone.ensures (known_one_is_all p c.args.kept.now o place e c.in-Some.fact c.requires.group of.among of.has.among) (λ all. all c.in-Some.fact of.has.among)
 
 pub loop-length-init : goal.loop-length-init
 loop-length-init g c = grind (arith, common_steps, get_or_default, such_none)
@@ -45,15 +45,15 @@ run_is_gone-requires-clause-unknown g c =
     f (record { among = in_known; has = record { exists = c.requires.group.exists; among = among } }))
 
 pub returns-then-not-run_is_gone : goal.returns-then-not-run_is_gone
-returns-then-not-run_is_gone g c = tells_no (λ gone. c.run_is_gone.ensures.no c.if-not-run_is_gone.true
+returns-then-not-run_is_gone g c = iff_no (λ gone. iff_not c.run_is_gone.ensures c.if-not-run_is_gone.true
     (next_too c.as_slice-length-items.result.now c.loop-length.length-index c.loop-length-test.true c.loop-length.invariant (IsGoneAt c.args.self.now c.args.kept.now) c.split_at.result.0.now c.split_at.ensures.front gone))
 
 pub loop-length-preserved : goal.loop-length-preserved
 loop-length-preserved g c = such_more c.as_slice-length-items.result.now c.loop-length.length-index c.loop-length-test.true c.loop-length.invariant c.split_at.result.0.now c.split_at.result.1.now
-    c.split_at.ensures.front c.split_at.ensures.back (c.run_is_gone.ensures.yes c.if-not-run_is_gone.false)
+    c.split_at.ensures.front c.split_at.ensures.back (c.run_is_gone.ensures.0 c.if-not-run_is_gone.false)
 
 pub returns : goal.returns
 returns g c =
     let items = c.as_slice-length-items.result.now in
     let end : drop c.loop-length.length-index items ≡ [] = drop_all c.loop-length.length-index items c.loop-length-test.false in
-    tells_yes (such_all _ _ c.loop-length.left.now (rw end at c.loop-length.invariant))
+    iff_yes (such_all _ _ c.loop-length.left.now (rw end at c.loop-length.invariant))

@@ -1,13 +1,14 @@
 -- The index contains all groups with the fact that the effect sets.
-use Rattle.sas_mutex.proofs.Imports.{◌≡◌, ℕ, true, false, sym, ◌∙◌, arith, IsFalse, Contains-get_or, All-contains, family_of}
+use Rattle.sas_mutex.proofs.Imports.{get_or, ◌∙◌, ap, arith, Contains-get_or, both_ways, family_of}
 use Rattle.sas_mutex.proofs.effects.Firing.sets_one_of.Goals as goal
 
-pub some_kept-requires : goal.some_kept-requires
-some_kept-requires g c k d lt =
-    let below = ((c.groups.ensures _).0 (Contains-get_or c.groups.result.now k d lt)).exists in let as_many = c.requires in omega arith
+pub bounds-kept-group : goal.bounds-kept-group
+bounds-kept-group g c =
+    let place = get_or c.groups-group-items.result.now c.loop-group.group-index 0 in
+    let below = ((c.groups-group-items.ensures place).0 (Contains-get_or c.groups-group-items.result.now c.loop-group.group-index 0 c.loop-group-test.true)).exists in
+    let as_many = c.requires in omega arith
 
 pub returns : goal.returns
 returns g c none place in_family has =
-    let out = All-contains (λ (n : ℕ). IsFalse (family_of c.args.kept.now n)) c.groups.result.now place (c.some_kept.ensures none)
-    ((c.groups.ensures place).1 (record { exists = in_family.exists; among = has })) in
-    let both : true ≡ false = sym in_family.chosen ∙ out in absurd cc
+    let (k, lt, is) = (c.groups-group-items.ensures place).1 (record { exists = in_family.exists; among = has }) in
+    both_ways _ (c.loop-group.invariant k place (let end = c.loop-group-test.false in omega arith)) (ap (λ n. family_of c.args.kept.now n) is ∙ in_family.chosen)
