@@ -54,7 +54,7 @@ fn check_list<T: Checked>(variables: &Items<Variable>, items: &Items<T>) -> Resu
     ensures { result_err result ≡ first_fault
         (listed TooMany (T.checks_of variables.now) items.now) }
 {
-    check_count(items)?;
+    check(is_number(items.len()), PartsFault::TooMany)?;
     for item in items.as_slice() {
         item.check_among(variables)?;
     }
@@ -90,7 +90,7 @@ fn check_layer(layer: Option<u32>) -> Result<(), PartsFault>
     ensures { result_err result ≡ first_fault (signed_checks layer) }
 {
     match layer {
-        Some(layer) => check_number(layer),
+        Some(layer) => check(is_number(layer as usize), PartsFault::BadNumber),
         None => Ok(()),
     }
 }
@@ -146,7 +146,7 @@ impl Checked for Operator {
         self.name.check_among(variables)?;
         check_list(variables, &self.prevail)?;
         check_list(variables, &self.effects)?;
-        check_number(self.cost)
+        check(is_number(self.cost as usize), PartsFault::BadNumber)
     }
 }
 
@@ -193,23 +193,11 @@ pub fn has_value(variables: &Items<Variable>, var: u32, value: u32) -> bool
     }
 }
 
-fn check_number(n: u32) -> Result<(), PartsFault>
-    ensures { result_err result ≡ first_fault (check (is_number n) PartsFault.BadNumber) }
-{
-    check(is_number(n as usize), PartsFault::BadNumber)
-}
-
 /// Returns the fault if the list is empty.
 fn check_some<T>(items: &Items<T>, fault: PartsFault) -> Result<(), PartsFault>
     ensures { result_err result ≡ first_fault (check (not (length items.now == 0)) fault) }
 {
     check(!items.is_empty(), fault)
-}
-
-fn check_count<T>(items: &Items<T>) -> Result<(), PartsFault>
-    ensures { result_err result ≡ first_fault (check (is_number (length items.now)) TooMany) }
-{
-    check(is_number(items.len()), PartsFault::TooMany)
 }
 
 /// Returns whether a file may contain this number: at most 2,147,483,647.

@@ -1,5 +1,5 @@
 -- Appending a list to a block of lists.
-use Rattle.sas_flat.proofs.Imports.{◌≡◌, ℕ, zero, suc, ◌+◌, ◌-◌, ◌<◌, ◌≤◌, ◌⊎◌, inl, inr, List, [], ◌∷◌, ◌++◌, length, get_or, take, drop, replicate, refl, sym, ap, map, subst, ◌∙◌, arith, append-nil, append_assoc, length-append, length-drop, slice_index, slice_range, take-append-le, drop-append-le, take-append-drop, length-take-le, length-map, get_or-take, get_or-drop, get_or-map, table, start_of, list_at, lists_of, AreEnds, get_or-append-add, leb_tells, eq-or-lt_of_le, get_or-append, get_or-append_seam, drop-append_seam, drop-append-add, take-length}
+use Rattle.sas_flat.proofs.Imports.{◌≡◌, ℕ, zero, suc, ◌+◌, ◌-◌, ◌<◌, ◌≤◌, ◌⊎◌, inl, inr, List, [], ◌∷◌, ◌++◌, length, get_or, take, drop, replicate, refl, sym, ap, map, subst, ◌∙◌, arith, append-nil, append_assoc, length-append, length-drop, slice_index, slice_range, take-append-le, drop-append-le, take-append-drop, length-take-le, length-map, get_or-take, get_or-drop, get_or-map, table, start_of, list_at, lists_of, AreEnds, get_or-append-add, leb_tells, eq-or-lt_of_le, get_or-append, get_or-append_seam, drop-append_seam, drop-append-add, take-length, take-append_seam, items_after, AreOpen, Kept}
 use Rattle.sas_flat.proofs.Tables.{length-table, table_same, table_more, table_append, get_or-table, take-table}
 
 start_same : (ends more : List ℕ) (k : ℕ) → k ≤ length ends → start_of (ends ++ more) k ≡ start_of ends k
@@ -18,12 +18,17 @@ range_last items list a b start end =
     ∙ ap (λ n. take n list) (omega arith)
     ∙ take-length list
 
--- a list is where it was
+-- a list is where it was, whatever ends came
+pub list_first : {X : Type 0} (items : List X) (ends behind : List ℕ) (k : ℕ) → k < length ends → list_at items (ends ++ behind) k ≡ list_at items ends k
+list_first items ends behind k h =
+    ap (λ a. slice_range items a (slice_index (ends ++ behind) k)) (start_same ends behind k (omega arith))
+    ∙ ap (λ b. slice_range items (start_of ends k) b) (get_or-append ends behind 0 k h)
+
+-- and whatever items came
 list_same : {X : Type 0} (items more : List X) (ends behind : List ℕ) → AreEnds ends (length items) → (k : ℕ) → k < length ends
     → list_at (items ++ more) (ends ++ behind) k ≡ list_at items ends k
 list_same items more ends behind are k h =
-    ap (λ a. slice_range (items ++ more) a (slice_index (ends ++ behind) k)) (start_same ends behind k (omega arith))
-    ∙ ap (λ b. slice_range (items ++ more) (start_of ends k) b) (get_or-append ends behind 0 k h)
+    list_first (items ++ more) ends behind k h
     ∙ range_same items more (start_of ends k) (slice_index ends k) (are.ascending k h) (are.within k h)
 
 -- no list
@@ -39,14 +44,15 @@ module _ {X : Type 0} (items : List X) (ends : List ℕ) (lists : List (List X))
   pub list_of : (k : ℕ) → k < length lists → list_at items ends k ≡ get_or lists k []
   list_of k h = sym (get_or-table (length ends) (list_at items ends) k [] (omega (arith, count_of))) ∙ ap (λ l. get_or l k []) is
 
-module _ {X : Type 0} (items list : List X) (ends : List ℕ) (end : ℕ) (are : AreEnds ends (length items)) (is : end ≡ length items + length list) where
+-- one end more
+module _ (ends : List ℕ) (count end : ℕ) (are : AreEnds ends count) (fits : count ≤ end) where
   more_end : length (ends ++ end ∷ []) ≡ length ends + 1
   more_end = omega (arith, length-append ends (end ∷ []))
 
   more_suc : length (ends ++ end ∷ []) ≡ suc (length ends)
   more_suc = omega (arith, more_end)
 
-  last_start : start_of (ends ++ end ∷ []) (length ends) ≡ length items
+  last_start : start_of (ends ++ end ∷ []) (length ends) ≡ count
   last_start = start_same ends (end ∷ []) (length ends) (omega arith) ∙ are.closed
 
   last_end : slice_index (ends ++ end ∷ []) (length ends) ≡ end
@@ -55,25 +61,29 @@ module _ {X : Type 0} (items list : List X) (ends : List ℕ) (end : ℕ) (are :
   old_end : (k : ℕ) → k < length ends → slice_index (ends ++ end ∷ []) k ≡ slice_index ends k
   old_end k h = get_or-append ends (end ∷ []) 0 k h
 
-  pub lists_more : lists_of (items ++ list) (ends ++ end ∷ []) ≡ lists_of items ends ++ list ∷ []
-  lists_more = table_more (length ends) (length (ends ++ end ∷ [])) (list_at items ends) (list_at (items ++ list) (ends ++ end ∷ [])) list
-      more_end (list_same items list ends (end ∷ []) are) (range_last items list _ _ last_start (last_end ∙ is))
-
   each_end : (P : ℕ → Type 0) → ((k : ℕ) → k < length ends → P k) → P (length ends) → (k : ℕ) → k < length (ends ++ end ∷ []) → P k
   each_end P old last k h =
       let small : (k ≡ length ends) ⊎ (k < length ends) = eq-or-lt_of_le (omega (arith, more_end)) in
       elim small [ inl e ↦ subst P (sym e) last | inr below ↦ old k below ]
 
-  pub ends_more : AreEnds (ends ++ end ∷ []) (length (items ++ list))
+  pub ends_more : AreEnds (ends ++ end ∷ []) end
   ends_more = record {
     ascending = each_end (λ k. start_of (ends ++ end ∷ []) k ≤ slice_index (ends ++ end ∷ []) k)
         (λ k h. rw (start_same ends (end ∷ []) k (omega arith), old_end k h) (are.ascending k h))
-        (omega (arith, last_start, last_end));
-    within = each_end (λ k. slice_index (ends ++ end ∷ []) k ≤ length (items ++ list))
-        (λ k h. omega (arith, old_end k h, are.within k h, length-append items list))
-        (omega (arith, last_end, length-append items list));
-    closed = ap (λ k. start_of (ends ++ end ∷ []) k) more_suc ∙ last_end ∙ is ∙ sym (length-append items list);
+        (omega (arith, last_start, last_end, fits));
+    within = each_end (λ k. slice_index (ends ++ end ∷ []) k ≤ end)
+        (λ k h. omega (arith, old_end k h, are.within k h, fits))
+        (omega (arith, last_end));
+    closed = ap (λ k. start_of (ends ++ end ∷ []) k) more_suc ∙ last_end;
   }
+
+-- one list more
+pub lists_more : {X : Type 0} (items list : List X) (ends : List ℕ) (end : ℕ) → AreEnds ends (length items) → end ≡ length items + length list
+    → lists_of (items ++ list) (ends ++ end ∷ []) ≡ lists_of items ends ++ list ∷ []
+lists_more items list ends end are is =
+    table_more (length ends) (length (ends ++ end ∷ [])) (list_at items ends) (list_at (items ++ list) (ends ++ end ∷ [])) list
+    (omega (arith, length-append ends (end ∷ []))) (list_same items list ends (end ∷ []) are)
+    (range_last items list _ _ (start_same ends (end ∷ []) (length ends) (omega arith) ∙ are.closed) (get_or-append_seam ends end [] 0 ∙ is))
 
 -- ---- empty lists behind the others
 
@@ -83,18 +93,13 @@ module _ {X : Type 0} (items : List X) where
       ap (λ (l : List X). lists_of l (ends ++ length items ∷ [])) (sym (append-nil items))
       ∙ lists_more items [] ends (length items) are (omega arith)
 
-  ends_one_empty : (ends : List ℕ) → AreEnds ends (length items) → AreEnds (ends ++ length items ∷ []) (length items)
-  ends_one_empty ends are =
-      subst (λ (l : List X). AreEnds (ends ++ length items ∷ []) (length l)) (append-nil items)
-      (ends_more items [] ends (length items) are (omega arith))
-
   -- so many of them
   pub empty_more : (n : ℕ) (ends : List ℕ) → AreEnds ends (length items)
       → lists_of items (ends ++ replicate n (length items)) ≡ lists_of items ends ++ replicate n []
   empty_more zero ends are = ap (λ e. lists_of items e) (append-nil ends) ∙ sym (append-nil (lists_of items ends))
   empty_more (suc n) ends are =
       ap (λ e. lists_of items e) (sym (append_assoc ends (length items ∷ []) (replicate n (length items))))
-      ∙ empty_more n (ends ++ length items ∷ []) (ends_one_empty ends are)
+      ∙ empty_more n (ends ++ length items ∷ []) (ends_more ends (length items) (length items) are (omega arith))
       ∙ ap (λ l. l ++ replicate n []) (one_empty ends are)
       ∙ append_assoc (lists_of items ends) ([] ∷ []) (replicate n [])
 
@@ -220,6 +225,50 @@ module _ {X : Type 0} (items : List X) (ends : List ℕ) (n : ℕ) (are : AreEnd
       ap (λ m. table m (list_at (take (start_of ends n) items) (take n ends))) taken_length
       ∙ table_same n _ _ list_taken
       ∙ sym (take-table (length ends) (list_at items ends) n fewer)
+
+-- ---- lists after which more items may follow
+
+module _ {X : Type 0} (items : List X) (ends : List ℕ) (are : AreOpen ends (length items)) where
+  pub ends_done : AreEnds ends (length (take (start_of ends (length ends)) items))
+  ends_done = subst (λ (n : ℕ). AreEnds ends n) (sym (length-take-le _ items are.within)) are.done
+
+  pub list_done : (k : ℕ) → k < length ends → list_at (take (start_of ends (length ends)) items) ends k ≡ list_at items ends k
+  list_done k h = range_taken items _ _ _ (are.done.ascending k h) (are.done.within k h) are.within
+
+  pub lists_done : lists_of (take (start_of ends (length ends)) items) ends ≡ lists_of items ends
+  lists_done = table_same (length ends) _ _ list_done
+
+  pub ends_closed : AreEnds (ends ++ length items ∷ []) (length items)
+  ends_closed = ends_more ends _ (length items) are.done are.within
+
+  pub list_last : list_at items (ends ++ length items ∷ []) (length ends) ≡ items_after items ends
+  list_last =
+      ap (λ a. slice_range items a (slice_index (ends ++ length items ∷ []) (length ends))) (start_same ends (length items ∷ []) (length ends) (omega arith))
+      ∙ ap (λ b. slice_range items (start_of ends (length ends)) b) (get_or-append_seam ends (length items) [] 0)
+      ∙ ap (λ n. take n (items_after items ends)) (sym (length-drop (start_of ends (length ends)) items))
+      ∙ take-length (items_after items ends)
+
+  pub lists_closed : lists_of items (ends ++ length items ∷ []) ≡ lists_of items ends ++ items_after items ends ∷ []
+  lists_closed = table_more (length ends) _ _ _ _ (omega (arith, length-append ends (length items ∷ []))) (list_first items ends (length items ∷ [])) list_last
+
+-- items came after the last list
+module _ {X : Type 0} (old new : List X) (ends : List ℕ) (are : AreEnds ends (length old)) (kept : Kept old new) where
+  pub ends_opened : AreOpen ends (length new)
+  ends_opened = record {
+    done = subst (λ (n : ℕ). AreEnds ends n) (sym are.closed) are;
+    within = omega (arith, are.closed, ap length kept.is, length-append old kept.more);
+  }
+
+  pub list_opened : (k : ℕ) → k < length ends → list_at new ends k ≡ list_at old ends k
+  list_opened k h =
+      sym (list_done new ends ends_opened k h)
+      ∙ ap (λ l. list_at l ends k) (ap (λ n. take n new) are.closed ∙ ap (take (length old)) kept.is ∙ take-append_seam old kept.more)
+
+  pub lists_opened : lists_of new ends ≡ lists_of old ends
+  lists_opened = table_same (length ends) _ _ list_opened
+
+  pub after_opened : items_after new ends ≡ kept.more
+  after_opened = ap (λ n. drop n new) are.closed ∙ ap (drop (length old)) kept.is ∙ drop-append_seam old kept.more
 
 -- ---- a list and its items
 

@@ -1,5 +1,5 @@
 -- Effects in columns: the effect at an index, appending an effect, and truncating.
-use Rattle.sas_flat.proofs.Imports.{◌≡◌, ℕ, zero, suc, ◌+◌, ◌-◌, ◌<◌, ◌≤◌, List, [], ◌∷◌, ◌++◌, length, take, replicate, get_or, Result, Ok, Err, OnErr, refl, sym, ap, ◌∙◌, arith, append-nil, append_assoc, length-append, slice_range, drop, length-take-le, length-replicate, get_or-take, get_or-append-add, take-append-drop, take-map, get_or-append, get_or-append_seam, drop-append_seam, Change, Fact, table, effect, change_in_list, effects_of, effect_in_list, Effect, plain_effect, plain_effects}
+use Rattle.sas_flat.proofs.Imports.{◌≡◌, ℕ, zero, suc, ◌+◌, ◌-◌, ◌<◌, ◌≤◌, List, [], ◌∷◌, ◌++◌, length, take, replicate, get_or, refl, sym, ap, ◌∙◌, arith, append-nil, append_assoc, length-append, slice_range, drop, length-take-le, length-replicate, get_or-take, get_or-append-add, take-append-drop, take-map, get_or-append, get_or-append_seam, drop-append_seam, Change, Fact, table, effect, change_in_list, effects_of, effect_in_list, Effect, plain_effect, plain_effects}
 use Rattle.sas_flat.proofs.Tables.{length-table, table_same, table_none, table_more, table_append, get_or-table, take-table}
 
 pub no_effect : (cs : List Change) (ds : List (List Fact)) → cs ≡ [] → effects_of cs ds ≡ []
@@ -122,11 +122,6 @@ effects_cut cs ds n h =
     ap (λ m. table m (λ i. effect (change_in_list (take n cs) i) (get_or ds i []))) (length-take-le n cs h)
     ∙ table_same n _ _ (λ i b. same_effect _ _ _ _ (get_or-take n cs i _ b) refl)
     ∙ sym (take-table (length cs) _ n h)
-
--- what holds, holds after an error too
-pub on_any_error : {T E P : Type 0} (r : Result T E) → P → OnErr r P
-on_any_error (Ok x) p = tt
-on_any_error (Err e) p = p
 
 -- behind the last item is none
 pub none_behind : {X : Type 0} (l : List X) (i : ℕ) (d : X) → length l ≤ i → d ≡ get_or l i d

@@ -1,8 +1,8 @@
 -- The variable at an index of the columns.
-use Rattle.sas_flat.proofs.Imports.{◌≡◌, ℕ, ◌+◌, ◌<◌, ◌≤◌, List, [], ◌∷◌, ◌++◌, length, get_or, sym, ap, ◌∙◌, arith, slice_index, slice_get, None, Some, option_map, slice_get-get_or, Variable, range_of, layer_of, value_name, VariableColumns, start_of, list_at, lists_of, variables_in, variables_from, AreAligned, OneMore}
+use Rattle.sas_flat.proofs.Imports.{◌≡◌, ℕ, ◌+◌, ◌<◌, ◌≤◌, List, [], length, get_or, sym, ap, ◌∙◌, arith, slice_index, slice_get, None, Some, option_map, slice_get-get_or, Variable, range_of, layer_of, value_name, VariableColumns, start_of, list_at, lists_of, variables_in, AreEnds, VariableColumnsAlign}
 use Rattle.sas_flat.proofs.Tables.{length-table, get_or-table}
-use Rattle.sas_flat.proofs.Blocks.{lists_more, list_length, item_of_list}
-use Rattle.sas_flat.proofs.Rows.{variable_count, name_is, range_is, layer_is, value_is, variables_more}
+use Rattle.sas_flat.proofs.Blocks.{list_length, item_of_list}
+use Rattle.sas_flat.proofs.Rows.{variable_count, name_is, range_is, layer_is, value_is}
 
 module _ (c : VariableColumns) (vs : List Variable) (is : variables_in c ≡ vs) where
   pub as_many : length c.ends ≡ length vs
@@ -14,7 +14,7 @@ module _ (c : VariableColumns) (vs : List Variable) (is : variables_in c ≡ vs)
   pub layer_found : (k : ℕ) → k < length vs → layer_of vs k ≡ get_or c.layers.items k None
   layer_found k h = layer_is c.names c.layers.items (lists_of c.values c.ends) vs is k h
 
-  module _ (aligned : AreAligned c) (k : ℕ) (h : k < length vs) where
+  module _ (aligned : VariableColumnsAlign AreEnds c) (k : ℕ) (h : k < length vs) where
     there : k < length c.ends
     there = omega (arith, h, as_many)
 
@@ -28,10 +28,6 @@ module _ (c : VariableColumns) (vs : List Variable) (is : variables_in c ≡ vs)
         ∙ list_length c.values c.ends aligned.values k there
 
     module _ (i : ℕ) (of : i < range_of vs k) where
-      -- it stands so far behind the first one
-      pub value_within : start_of c.ends k + i < length c.values
-      value_within = omega (arith, of, value_number, aligned.values.within k there)
-
       list_is : get_or (lists_of c.values c.ends) k [] ≡ list_at c.values c.ends k
       list_is = get_or-table (length c.ends) (list_at c.values c.ends) k [] there
 
@@ -44,16 +40,3 @@ module _ (c : VariableColumns) (vs : List Variable) (is : variables_in c ≡ vs)
           ∙ ap (λ l. slice_get l i) list_is
           ∙ slice_get-get_or (list_at c.values c.ends k) i [] below
           ∙ ap (λ x. Some x) (item_of_list c.values c.ends aligned.values k there i [] below)
-
--- ---- one more
-
-pub one_more : (old new : VariableColumns) (v : Variable) → AreAligned old → OneMore old new v → variables_in new ≡ variables_in old ++ v ∷ []
-one_more old new v aligned more =
-    let many = length-table (length old.ends) (list_at old.values old.ends) in
-    ap (λ l. variables_from l new.layers.items (lists_of new.values new.ends)) more.names
-    ∙ ap (λ l. variables_from (old.names ++ v.name ∷ []) l (lists_of new.values new.ends)) more.layers
-    ∙ ap (λ l. variables_from (old.names ++ v.name ∷ []) (old.layers.items ++ v.layer ∷ []) l)
-    (ap (λ l. lists_of l new.ends) more.values ∙ ap (λ l. lists_of (old.values ++ v.values) l) more.ends
-    ∙ lists_more old.values v.values old.ends _ aligned.values (omega arith))
-    ∙ variables_more old.names old.layers.items (lists_of old.values old.ends) v.name v.layer v.values
-    (aligned.names ∙ sym many) (aligned.layers ∙ sym many)

@@ -1,115 +1,193 @@
--- Columns to which items were only appended, and truncating them to what they were.
-use Rattle.sas_flat.proofs.Imports.{◌≡◌, ℕ, ◌≤◌, List, length, take, sym, ap, ◌∙◌, ◌+◌, refl, arith, length-append, slice_index, take-append_seam, Effect, Fact, Operator, Variable, map, length-map, start_of, list_at, lists_of, AreEnds, table, Kept, Head, VariableColumns, AreAligned, OneMore, IsBegun, IsCut, variables_in, variables_from}
-use Rattle.sas_flat.proofs.Blocks.{ends_more}
-use Rattle.sas_flat.specs.declared.operators.OperatorColumns as in_operators
-use Rattle.sas_flat.specs.Operators as operators
+-- Columns to which an item was appended, or only a part of one.
+use Rattle.sas_flat.proofs.Imports.{◌≡◌, ℕ, ◌+◌, ◌<◌, Option, List, [], ◌∷◌, ◌++◌, length, take, map, refl, sym, ap, ◌∙◌, arith, length-append, slice_index, length-map, map-append, get_or-append, Fact, Effect, Operator, Head, table, start_of, list_at, lists_of, items_after, AreEnds, AreOpen, Kept, Hold, OperatorColumns, operator, name_ends, prevail_ends, effect_ends, costs, operators_in, end_head, next_operator, OperatorColumnsAlign, VariableColumns, variable, variables_in, variables_from, VariableColumnsAlign}
+use Rattle.sas_flat.proofs.Tables.{length-table, table_none, table_same, table_more}
+use Rattle.sas_flat.proofs.Blocks.{list_first, list_last, ends_done, list_done, lists_done, ends_closed, lists_closed, ends_opened, list_opened, lists_opened, after_opened}
+use Rattle.sas_flat.proofs.Rows.{no_variable, last_item, rows_more}
 
--- ---- one list
-
--- it is at least as long as it was
-pub kept_long : {X : Type 0} (n : ℕ) (old new : List X) → n ≡ length old → Kept old new → n ≤ length new
-kept_long n old new e k = omega (arith, e, ap length k.is, length-append old k.more)
-
--- its first items are those that were there
-pub kept_front : {X : Type 0} (n : ℕ) (old mid new : List X) → n ≡ length old → Kept old mid → new ≡ take n mid → new ≡ old
-kept_front n old mid new e k is = is ∙ ap (λ i. take i mid) e ∙ ap (take (length old)) k.is ∙ take-append_seam old k.more
+no_ends : AreEnds [] 0
+no_ends = record { ascending = λ i h. omega (arith, h); within = λ i h. omega (arith, h); closed = refl }
 
 -- ---- variables
 
--- with one variable more they are aligned
-pub more_aligned : (old new : VariableColumns) (v : Variable) → AreAligned old → OneMore old new v → AreAligned new
-more_aligned old new v a more =
-    let ends = ap length more.ends ∙ length-append old.ends _ in
+pub no_variables : (c : VariableColumns) → c.names ≡ [] → c.layers.items ≡ [] → c.values ≡ [] → c.ends ≡ [] → Hold (VariableColumnsAlign AreEnds) variables_in c []
+no_variables c names layers values ends = record {
+  align = record { names = rw (names, ends) refl; layers = rw (layers, ends) refl; values = rw (values, ends) no_ends };
+  is = no_variable _ _ _ (length-table _ _ ∙ ap length ends);
+}
+
+same_variables : (old new : VariableColumns) → new.names ≡ old.names → new.layers.items ≡ old.layers.items → lists_of new.values new.ends ≡ lists_of old.values old.ends
+    → variables_in new ≡ variables_in old
+same_variables old new names layers lists =
+    ap (λ l. variables_from l new.layers.items (lists_of new.values new.ends)) names
+    ∙ ap (λ l. variables_from old.names l (lists_of new.values new.ends)) layers
+    ∙ ap (λ l. variables_from old.names old.layers.items l) lists
+
+module _ (old new : VariableColumns) (names : new.names ≡ old.names) (layers : new.layers.items ≡ old.layers.items) (ends : new.ends ≡ old.ends) where
+  -- value names came after those of the last variable
+  pub variables_opened : VariableColumnsAlign AreEnds old → Kept old.values new.values → Hold (VariableColumnsAlign AreOpen) variables_in new (variables_in old)
+  variables_opened align values = record {
+    align = record { names = rw (names, ends) align.names; layers = rw (layers, ends) align.layers; values = rw ends (ends_opened _ _ _ align.values values) };
+    is = same_variables old new names layers (ap (λ e. lists_of new.values e) ends ∙ lists_opened _ _ _ align.values values);
+  }
+
+  -- a variable with them is appended
+  pub variables_more : (align : VariableColumnsAlign AreEnds old) (values : Kept old.values new.values) (name : List ℕ) (layer : Option ℕ) (end : VariableColumns)
+      → Hold (VariableColumnsAlign AreEnds) variables_in end (variables_in new ++ variable name layer (items_after new.values new.ends) ∷ [])
+      → Hold (VariableColumnsAlign AreEnds) variables_in end (variables_in old ++ variable name layer values.more ∷ [])
+  variables_more align values name layer end closed = record {
+    align = closed.align;
+    is = closed.is
+        ∙ ap (λ l. l ++ variable name layer (items_after new.values new.ends) ∷ []) (variables_opened align values).is
+        ∙ ap (λ v. variables_in old ++ variable name layer v ∷ []) (ap (λ e. items_after new.values e) ends ∙ after_opened _ _ _ align.values values);
+  }
+
+  -- they are removed
+  pub variables_cut : VariableColumnsAlign AreOpen old → new.values ≡ take (start_of old.ends (length old.ends)) old.values
+      → Hold (VariableColumnsAlign AreEnds) variables_in new (variables_in old)
+  variables_cut align values = record {
+    align = record { names = rw (names, ends) align.names; layers = rw (layers, ends) align.layers; values = rw (ends, values) (ends_done _ _ align.values) };
+    is = same_variables old new names layers (ap (λ e. lists_of new.values e) ends ∙ ap (λ l. lists_of l old.ends) values ∙ lists_done _ _ align.values);
+  }
+
+pub variables_closed : (old new : VariableColumns) (name : List ℕ) (layer : Option ℕ) → VariableColumnsAlign AreOpen old → new.names ≡ old.names ++ name ∷ []
+    → new.layers.items ≡ old.layers.items ++ layer ∷ [] → new.values ≡ old.values → new.ends ≡ old.ends ++ length old.values ∷ []
+    → Hold (VariableColumnsAlign AreEnds) variables_in new (variables_in old ++ variable name layer (items_after old.values old.ends) ∷ [])
+variables_closed old new name layer align names layers values ends =
+    let many = length-table (length old.ends) (list_at old.values old.ends) in
+    let more = ap length ends ∙ length-append old.ends _ in
     record {
-      names = ap length more.names ∙ length-append old.names _ ∙ ap (λ n. n + 1) a.names ∙ sym ends;
-      layers = ap length more.layers ∙ length-append old.layers.items _ ∙ ap (λ n. n + 1) a.layers ∙ sym ends;
-      values = rw (more.ends, more.values) (ends_more old.values v.values old.ends _ a.values refl);
+      align = record {
+        names = ap length names ∙ length-append old.names _ ∙ ap (λ n. n + 1) align.names ∙ sym more;
+        layers = ap length layers ∙ length-append old.layers.items _ ∙ ap (λ n. n + 1) align.layers ∙ sym more;
+        values = rw (ends, values) (ends_closed _ _ align.values);
+      };
+      is = ap (λ l. variables_from l new.layers.items (lists_of new.values new.ends)) names
+          ∙ ap (λ l. variables_from (old.names ++ name ∷ []) l (lists_of new.values new.ends)) layers
+          ∙ ap (λ l. variables_from (old.names ++ name ∷ []) (old.layers.items ++ layer ∷ []) l)
+          (ap (λ l. lists_of l new.ends) values ∙ ap (λ e. lists_of old.values e) ends ∙ lists_closed _ _ align.values)
+          ∙ rows_more old.names old.layers.items (lists_of old.values old.ends) name layer _ (align.names ∙ sym many) (align.layers ∙ sym many);
     }
-
--- where each column is as it was, so are the variables
-module _ (old new : VariableColumns) (names : new.names ≡ old.names) (layers : new.layers.items ≡ old.layers.items) (values : new.values ≡ old.values) (ends : new.ends ≡ old.ends) where
-  pub same_aligned : AreAligned old → AreAligned new
-  same_aligned a = record { names = rw (names, ends) a.names; layers = rw (layers, ends) a.layers; values = rw (values, ends) a.values }
-
-  pub same_variables : variables_in new ≡ variables_in old
-  same_variables =
-      ap (λ l. variables_from l new.layers.items (lists_of new.values new.ends)) names
-      ∙ ap (λ l. variables_from old.names l (lists_of new.values new.ends)) layers
-      ∙ ap (λ l. variables_from old.names old.layers.items (lists_of l new.ends)) values
-      ∙ ap (λ l. variables_from old.names old.layers.items (lists_of old.values l)) ends
-
--- what was appended behind the variables is cut off again
-module _ (old mid : VariableColumns) (aligned : AreAligned old) (begun : IsBegun old mid) where
-  ends_in_values : start_of mid.ends (length mid.ends) ≡ length old.values
-  ends_in_values = ap (λ ends. start_of ends (length ends)) begun.ends ∙ aligned.values.closed
-
-  pub names_fit : length mid.ends ≤ length mid.names
-  names_fit = kept_long _ old.names mid.names (ap length begun.ends ∙ sym aligned.names) begun.names
-
-  pub values_fit : start_of mid.ends (length mid.ends) ≤ length mid.values
-  values_fit = kept_long _ old.values mid.values ends_in_values begun.values
-
-  module _ (new : VariableColumns) (cut : IsCut mid new) where
-    names_again : new.names ≡ old.names
-    names_again = kept_front _ _ _ _ (ap length begun.ends ∙ sym aligned.names) begun.names cut.names
-
-    layers_again : new.layers.items ≡ old.layers.items
-    layers_again = kept_front _ _ _ _ (ap length begun.ends ∙ sym aligned.layers) begun.layers cut.layers
-
-    values_again : new.values ≡ old.values
-    values_again = kept_front _ _ _ _ ends_in_values begun.values cut.values
-
-    pub all_aligned_again : AreAligned new
-    all_aligned_again = same_aligned old new names_again layers_again values_again (cut.ends ∙ begun.ends) aligned
-
-    pub variables_again : variables_in new ≡ variables_in old
-    variables_again = same_variables old new names_again layers_again values_again (cut.ends ∙ begun.ends)
 
 -- ---- operators
 
-abbrev pub operators_of : List ℕ → List Fact → List Effect → List Head → List Operator
-operators_of names prevail effects heads = table (length heads) (λ index. operators.operator
-    (list_at names (operators.name_ends heads) index)
-    (list_at prevail (operators.prevail_ends heads) index)
-    (list_at effects (operators.effect_ends heads) index)
-    (slice_index (operators.costs heads) index))
+pub no_operators : (c : OperatorColumns) → c.names.items ≡ [] → c.prevail.items ≡ [] → c.effects ≡ [] → c.heads.items ≡ [] → Hold (OperatorColumnsAlign AreEnds) operators_in c []
+no_operators c names prevail effects heads = record {
+  align = record { names = rw (names, heads) no_ends; prevail = rw (prevail, heads) no_ends; effects = rw (effects, heads) no_ends };
+  is = table_none _ _ (ap length heads);
+}
 
--- where the last operator ends, each column ends
-closed_at : (end : Head → ℕ) (heads : List Head) (count : ℕ) → AreEnds (map end heads) count → start_of (map end heads) (length heads) ≡ count
-closed_at end heads count are = ap (λ n. start_of (map end heads) n) (sym (length-map heads end)) ∙ are.closed
+same_operator : (n m : List ℕ) (p q : List Fact) (e f : List Effect) (c d : ℕ) → n ≡ m → p ≡ q → e ≡ f → c ≡ d → operator n p e c ≡ operator m q f d
+same_operator n m p q e f c d names prevails effects costs =
+    ap (λ x. operator x p e c) names ∙ ap (λ x. operator m x e c) prevails ∙ ap (λ x. operator m q x c) effects ∙ ap (λ x. operator m q f x) costs
 
--- where each column is as it was, so are the operators
-module _ (old new : in_operators.OperatorColumns) (names : new.names.items ≡ old.names.items) (prevail : new.prevail.items ≡ old.prevail.items) (effects : new.effects ≡ old.effects) (heads : new.heads.items ≡ old.heads.items) where
-  pub still_aligned : operators.OperatorColumnsAlign old → operators.OperatorColumnsAlign new
-  still_aligned a = record { names = rw (names, heads) a.names; prevail = rw (prevail, heads) a.prevail; effects = rw (effects, heads) a.effects }
+abbrev operators_of : List ℕ → List Fact → List Effect → List Head → List Operator
+operators_of names prevail effects heads = table (length heads) (λ index. operator
+    (list_at names (name_ends heads) index)
+    (list_at prevail (prevail_ends heads) index)
+    (list_at effects (effect_ends heads) index)
+    (slice_index (costs heads) index))
 
-  pub same_operators : operators.operators_in new ≡ operators.operators_in old
-  same_operators =
+module _ (old new : OperatorColumns) (names : new.names.items ≡ old.names.items) (heads : new.heads.items ≡ old.heads.items) where
+  same_operators : ((k : ℕ) → k < length old.heads.items → list_at new.prevail.items (prevail_ends old.heads.items) k ≡ list_at old.prevail.items (prevail_ends old.heads.items) k)
+      → ((k : ℕ) → k < length old.heads.items → list_at new.effects (effect_ends old.heads.items) k ≡ list_at old.effects (effect_ends old.heads.items) k)
+      → operators_in new ≡ operators_in old
+  same_operators prevail effects =
       ap (λ l. operators_of l new.prevail.items new.effects new.heads.items) names
-      ∙ ap (λ l. operators_of old.names.items l new.effects new.heads.items) prevail
-      ∙ ap (λ l. operators_of old.names.items old.prevail.items l new.heads.items) effects
-      ∙ ap (λ l. operators_of old.names.items old.prevail.items old.effects l) heads
+      ∙ ap (λ l. operators_of old.names.items new.prevail.items new.effects l) heads
+      ∙ table_same (length old.heads.items) _ _ (λ k h. same_operator _ _ _ _ _ _ _ _ refl (prevail k h) (effects k h) refl)
 
--- what was appended behind the operators is cut off again
-module _ (old mid : in_operators.OperatorColumns) (aligned : operators.OperatorColumnsAlign old) (begun : operators.IsBegun old mid) where
-  ends_at : {X : Type 0} (end : Head → ℕ) (items : List X) → AreEnds (map end old.heads.items) (length items) → operators.last_end end mid ≡ length items
-  ends_at end items are = ap (λ heads. start_of (map end heads) (length heads)) begun.heads ∙ closed_at end old.heads.items (length items) are
+  there : (end : Head → ℕ) (k : ℕ) → k < length old.heads.items → k < length (map end old.heads.items)
+  there end k h = omega (arith, h, length-map old.heads.items end)
 
-  pub cut_fits : operators.last_end (λ (h : Head). h.effects) mid ≤ length mid.effects
-  cut_fits = kept_long _ old.effects mid.effects (ends_at _ old.effects aligned.effects) begun.effects
+  -- prevail conditions and effects came after those of the last operator
+  pub operators_opened : OperatorColumnsAlign AreEnds old → Kept old.prevail.items new.prevail.items → Kept old.effects new.effects
+      → Hold (OperatorColumnsAlign AreOpen) operators_in new (operators_in old)
+  operators_opened align prevail effects = record {
+    align = record {
+      names = rw (names, heads) align.names;
+      prevail = rw heads (ends_opened _ _ _ align.prevail prevail);
+      effects = rw heads (ends_opened _ _ _ align.effects effects);
+    };
+    is = same_operators (λ k h. list_opened _ _ _ align.prevail prevail k (there _ k h)) (λ k h. list_opened _ _ _ align.effects effects k (there _ k h));
+  }
 
-  module _ (new : in_operators.OperatorColumns) (cut : operators.IsCut mid new) where
-    same_names : new.names.items ≡ old.names.items
-    same_names = kept_front _ _ _ _ (ends_at _ old.names.items aligned.names) begun.names cut.names
+  -- an operator with them is appended
+  pub operators_more : (align : OperatorColumnsAlign AreEnds old) (prevail : Kept old.prevail.items new.prevail.items) (effects : Kept old.effects new.effects)
+      (name : List ℕ) (cost : ℕ) (end : OperatorColumns)
+      → Hold (OperatorColumnsAlign AreEnds) operators_in end (operators_in new ++ next_operator new name cost ∷ [])
+      → Hold (OperatorColumnsAlign AreEnds) operators_in end (operators_in old ++ operator name prevail.more effects.more cost ∷ [])
+  operators_more align prevail effects name cost end closed = record {
+    align = closed.align;
+    is = closed.is
+        ∙ ap (λ l. l ++ next_operator new name cost ∷ []) (operators_opened align prevail effects).is
+        ∙ ap (λ o. operators_in old ++ o ∷ [])
+        (ap (λ hs. operator name (items_after new.prevail.items (prevail_ends hs)) (items_after new.effects (effect_ends hs)) cost) heads
+        ∙ same_operator _ _ _ _ _ _ _ _ refl (after_opened _ _ _ align.prevail prevail) (after_opened _ _ _ align.effects effects) refl);
+  }
 
-    same_prevail : new.prevail.items ≡ old.prevail.items
-    same_prevail = kept_front _ _ _ _ (ends_at _ old.prevail.items aligned.prevail) begun.prevail cut.prevail
+  -- they are removed
+  pub operators_cut : OperatorColumnsAlign AreOpen old
+      → new.prevail.items ≡ take (start_of (prevail_ends old.heads.items) (length (prevail_ends old.heads.items))) old.prevail.items
+      → new.effects ≡ take (start_of (effect_ends old.heads.items) (length (effect_ends old.heads.items))) old.effects
+      → Hold (OperatorColumnsAlign AreEnds) operators_in new (operators_in old)
+  operators_cut align prevail effects = record {
+    align = record {
+      names = rw (names, heads) align.names;
+      prevail = rw (heads, prevail) (ends_done _ _ align.prevail);
+      effects = rw (heads, effects) (ends_done _ _ align.effects);
+    };
+    is = same_operators
+        (λ k h. ap (λ l. list_at l (prevail_ends old.heads.items) k) prevail ∙ list_done _ _ align.prevail k (there _ k h))
+        (λ k h. ap (λ l. list_at l (effect_ends old.heads.items) k) effects ∙ list_done _ _ align.effects k (there _ k h));
+  }
 
-    effects_again : new.effects ≡ old.effects
-    effects_again = kept_front _ _ _ _ (ends_at _ old.effects aligned.effects) begun.effects cut.effects
+-- a column has the items of one operator more, which end where the last head says
+record Grows {X : Type 0} (end : Head → ℕ) (old new list : List X) (heads more : List Head) : Type 0 where
+  ends : AreEnds (map end more) (length new)
+  same : (k : ℕ) → k < length heads → list_at new (map end more) k ≡ list_at old (map end heads) k
+  last : list_at new (map end more) (length heads) ≡ list
 
-    pub aligned_again : operators.OperatorColumnsAlign new
-    aligned_again = still_aligned old new same_names same_prevail effects_again (cut.heads ∙ begun.heads) aligned
+module _ {X : Type 0} (end : Head → ℕ) (old new list : List X) (heads more : List Head) (head : Head) (are : AreOpen (map end heads) (length new))
+    (grown : more ≡ heads ++ head ∷ []) (is : end head ≡ length new)
+    (same : (k : ℕ) → k < length (map end heads) → list_at new (map end heads) k ≡ list_at old (map end heads) k) (last : items_after new (map end heads) ≡ list) where
+  ends_grown : map end more ≡ map end heads ++ length new ∷ []
+  ends_grown = ap (λ l. map end l) grown ∙ map-append end heads (head ∷ []) ∙ ap (λ n. map end heads ++ n ∷ []) is
 
-    pub operators_again : operators.operators_in new ≡ operators.operators_in old
-    operators_again = same_operators old new same_names same_prevail effects_again (cut.heads ∙ begun.heads)
+  grows : Grows end old new list heads more
+  grows = record {
+    ends = rw ends_grown (ends_closed new (map end heads) are);
+    same = λ k h. ap (λ e. list_at new e k) ends_grown ∙ list_first new (map end heads) (length new ∷ []) k (omega (arith, h, length-map heads end))
+        ∙ same k (omega (arith, h, length-map heads end));
+    last = ap (λ e. list_at new e (length heads)) ends_grown ∙ ap (λ n. list_at new (map end heads ++ length new ∷ []) n) (sym (length-map heads end))
+        ∙ list_last new (map end heads) are ∙ last;
+  }
+
+module _ (old new : OperatorColumns) (name : List ℕ) (cost : ℕ) (align : OperatorColumnsAlign AreOpen old) (names : new.names.items ≡ old.names.items ++ name)
+    (prevail : new.prevail.items ≡ old.prevail.items) (effects : new.effects ≡ old.effects) (heads : new.heads.items ≡ old.heads.items ++ end_head new cost ∷ []) where
+  names_kept : Kept old.names.items new.names.items
+  names_kept = record { more = name; is = names }
+
+  name_grows : Grows (λ (h : Head). h.name) old.names.items new.names.items name old.heads.items new.heads.items
+  unfolding names_kept
+  name_grows = grows _ _ _ _ _ _ (end_head new cost) (ends_opened _ _ _ align.names names_kept) heads refl (list_opened _ _ _ align.names names_kept) (after_opened _ _ _ align.names names_kept)
+
+  prevail_grows : Grows (λ (h : Head). h.prevail) old.prevail.items new.prevail.items (items_after old.prevail.items (prevail_ends old.heads.items)) old.heads.items new.heads.items
+  prevail_grows = grows _ _ _ _ _ _ (end_head new cost) (rw prevail align.prevail) heads refl
+      (λ k h. ap (λ l. list_at l (prevail_ends old.heads.items) k) prevail) (ap (λ l. items_after l (prevail_ends old.heads.items)) prevail)
+
+  effects_grow : Grows (λ (h : Head). h.effects) old.effects new.effects (items_after old.effects (effect_ends old.heads.items)) old.heads.items new.heads.items
+  effects_grow = grows _ _ _ _ _ _ (end_head new cost) (rw effects align.effects) heads refl
+      (λ k h. ap (λ l. list_at l (effect_ends old.heads.items) k) effects) (ap (λ l. items_after l (effect_ends old.heads.items)) effects)
+
+  cost_at : costs new.heads.items ≡ costs old.heads.items ++ cost ∷ []
+  cost_at = ap costs heads ∙ map-append (λ (h : Head). h.cost) old.heads.items (end_head new cost ∷ [])
+
+  pub operators_closed : Hold (OperatorColumnsAlign AreEnds) operators_in new (operators_in old ++ next_operator old name cost ∷ [])
+  operators_closed = record {
+    align = record { names = name_grows.ends; prevail = prevail_grows.ends; effects = effects_grow.ends };
+    is = table_more (length old.heads.items) (length new.heads.items) _ _ (next_operator old name cost) (ap length heads ∙ length-append old.heads.items (end_head new cost ∷ []))
+        (λ k h. same_operator _ _ _ _ _ _ _ _ (name_grows.same k h) (prevail_grows.same k h) (effects_grow.same k h)
+        (ap (λ l. slice_index l k) cost_at ∙ get_or-append (costs old.heads.items) (cost ∷ []) 0 k (omega (arith, h, length-map old.heads.items (λ (h : Head). h.cost)))))
+        (same_operator _ _ _ _ _ _ _ _ name_grows.last prevail_grows.last effects_grow.last
+        (ap (λ l. slice_index l (length old.heads.items)) cost_at ∙ last_item (costs old.heads.items) cost 0 (length old.heads.items) (length-map old.heads.items (λ (h : Head). h.cost))));
+  }

@@ -16,9 +16,9 @@ same_variable n m l k v w names layers values =
     ap (λ x. variable x l v) names ∙ ap (λ x. variable m x v) layers ∙ ap (λ x. variable m k x) values
 
 module _ (ns : List (List ℕ)) (ls : List (Option ℕ)) (vs : List (List (List ℕ))) where
-  pub variables_more : (n : List ℕ) (l : Option ℕ) (v : List (List ℕ)) → length ns ≡ length vs → length ls ≡ length vs
+  pub rows_more : (n : List ℕ) (l : Option ℕ) (v : List (List ℕ)) → length ns ≡ length vs → length ls ≡ length vs
       → variables_from (ns ++ n ∷ []) (ls ++ l ∷ []) (vs ++ v ∷ []) ≡ variables_from ns ls vs ++ variable n l v ∷ []
-  variables_more n l v names layers = table_more (length vs) (length (vs ++ v ∷ [])) _ _ (variable n l v) (omega (arith, length-append vs (v ∷ [])))
+  rows_more n l v names layers = table_more (length vs) (length (vs ++ v ∷ [])) _ _ (variable n l v) (omega (arith, length-append vs (v ∷ [])))
       (λ i h. same_variable _ _ _ _ _ _ (get_or-append ns (n ∷ []) [] i (omega (arith, names))) (get_or-append ls (l ∷ []) None i (omega (arith, layers)))
       (get_or-append vs (v ∷ []) [] i h))
       (same_variable _ _ _ _ _ _ (last_item ns n [] (length vs) names) (last_item ls l None (length vs) layers) (get_or-append_seam vs v [] []))

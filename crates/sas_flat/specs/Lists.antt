@@ -1,5 +1,5 @@
 -- Lists that are stored one after another, each given by its end.
-use Rattle.std.specs.Prelude.{◌≡◌, ℕ, zero, suc, ◌<◌, ◌≤◌, List, length, slice_index, slice_range}
+use Rattle.std.specs.Prelude.{◌≡◌, ℕ, zero, suc, ◌<◌, ◌≤◌, List, length, drop, slice_index, slice_range}
 use Rattle.sas_flat.specs.Table.{table}
 
 -- a list starts at the end of the previous list
@@ -18,3 +18,12 @@ pub record AreEnds (ends : List ℕ) (count : ℕ) : Type 0 where
   pub ascending : (index : ℕ) → index < length ends → start_of ends index ≤ slice_index ends index
   pub within : (index : ℕ) → index < length ends → slice_index ends index ≤ count
   pub closed : start_of ends (length ends) ≡ count
+
+-- the ends of lists with `count` items in total or fewer; the items after them begin the next list
+pub record AreOpen (ends : List ℕ) (count : ℕ) : Type 0 where
+  pub done : AreEnds ends (start_of ends (length ends))
+  pub within : start_of ends (length ends) ≤ count
+
+-- the items after the last list
+abbrev pub items_after : {X : Type 0} → List X → List ℕ → List X
+items_after items ends = drop (start_of ends (length ends)) items

@@ -1,13 +1,12 @@
 -- Operators in columns: the names, prevail conditions and effects of all operators, one after
 -- another, and the head of each operator.
-use Rattle.std.specs.Prelude.{◌≡◌, ℕ, List, [], ◌∷◌, ◌++◌, length, map, take, slice_index, slice_index_or}
+use Rattle.std.specs.Prelude.{ℕ, List, [], length, map, slice_index, slice_index_or}
 use Rattle.sas_core.specs.declared.parts.Fact.{Fact}
 use Rattle.sas_core.specs.declared.parts.Effect.{Effect}
 use Rattle.sas_core.specs.declared.parts.Operator.{Operator}
 use Rattle.sas_flat.specs.declared.operators.Head.{Head}
 use Rattle.sas_flat.specs.declared.operators.OperatorColumns.{OperatorColumns}
-use Rattle.sas_flat.specs.Growing.{Kept}
-use Rattle.sas_flat.specs.Lists.{start_of, list_at, AreEnds}
+use Rattle.sas_flat.specs.Lists.{list_at, items_after, AreEnds}
 use Rattle.sas_flat.specs.Table.{table}
 
 abbrev pub operator : List ℕ → List Fact → List Effect → ℕ → Operator
@@ -35,11 +34,11 @@ operators_in c = table (length c.heads.items) (λ index. operator
     (list_at c.effects (effect_ends c.heads.items) index)
     (slice_index (costs c.heads.items) index))
 
--- the ends in the heads ascend, and the last ones are the ends of the columns
-pub record OperatorColumnsAlign (c : OperatorColumns) : Type 0 where
+-- the heads have the ends of all columns; the last columns may be open
+pub record OperatorColumnsAlign (Ends : List ℕ → ℕ → Type 0) (c : OperatorColumns) : Type 0 where
   pub names : AreEnds (name_ends c.heads.items) (length c.names.items)
-  pub prevail : AreEnds (prevail_ends c.heads.items) (length c.prevail.items)
-  pub effects : AreEnds (effect_ends c.heads.items) (length c.effects)
+  pub prevail : Ends (prevail_ends c.heads.items) (length c.prevail.items)
+  pub effects : Ends (effect_ends c.heads.items) (length c.effects)
 
 -- the head of an operator with this cost that ends at the current ends of all columns
 abbrev pub end_head : OperatorColumns → ℕ → Head
@@ -50,30 +49,11 @@ end_head c cost = record {
   cost = cost;
 }
 
--- each column got the items of one more operator
-pub record OneMore (old new : OperatorColumns) (o : Operator) : Type 0 where
-  pub names : new.names.items ≡ old.names.items ++ o.name
-  pub prevail : new.prevail.items ≡ old.prevail.items ++ o.prevail
-  pub effects : new.effects ≡ old.effects ++ o.effects
-  pub heads : new.heads.items ≡ old.heads.items ++ end_head new o.cost ∷ []
-
--- columns of items may have got more items, but there is no operator more
-pub record IsBegun (old new : OperatorColumns) : Type 0 where
-  pub names : Kept old.names.items new.names.items
-  pub prevail : Kept old.prevail.items new.prevail.items
-  pub effects : Kept old.effects new.effects
-  pub heads : new.heads.items ≡ old.heads.items
-
--- where the last operator ends in a column
-abbrev pub last_end : (Head → ℕ) → OperatorColumns → ℕ
-last_end end c = start_of (map end c.heads.items) (length c.heads.items)
-
--- each column ends where the last operator ends
-pub record IsCut (old new : OperatorColumns) : Type 0 where
-  pub names : new.names.items ≡ take (last_end (λ (h : Head). h.name) old) old.names.items
-  pub prevail : new.prevail.items ≡ take (last_end (λ (h : Head). h.prevail) old) old.prevail.items
-  pub effects : new.effects ≡ take (last_end (λ (h : Head). h.effects) old) old.effects
-  pub heads : new.heads.items ≡ old.heads.items
+-- the operator with the prevail conditions and effects after those of the last operator
+abbrev pub next_operator : OperatorColumns → List ℕ → ℕ → Operator
+next_operator c name cost =
+    operator name (items_after c.prevail.items (prevail_ends c.heads.items))
+    (items_after c.effects (effect_ends c.heads.items)) cost
 
 -- the operator at this index; past the last operator, one without name and effects
 abbrev pub operator_in : List Operator → ℕ → Operator

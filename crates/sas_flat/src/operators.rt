@@ -4,10 +4,10 @@ ghost use Rattle.sas_core.specs.Grounded as grounded;
 ghost use Rattle.sas_core.specs.Changes as changes;
 ghost use Rattle.sas_core.specs.Changes.{plain_effects};
 ghost use Rattle.sas_flat.specs.Effects.{effect_in_list};
-ghost use Rattle.sas_flat.specs.Growing.{Kept};
-ghost use Rattle.sas_flat.specs.Lists.{start_of};
-ghost use Rattle.sas_flat.specs.Operators.{operator, operators_in, operator_in, name_ends, prevail_ends, effect_ends, end_head, last_end};
-ghost use Rattle.sas_flat.specs.Operators.{OperatorColumnsAlign, OneMore, IsBegun, IsCut};
+ghost use Rattle.sas_flat.specs.Growing.{Hold};
+ghost use Rattle.sas_flat.specs.Lists.{start_of, AreEnds, AreOpen};
+ghost use Rattle.sas_flat.specs.Operators.{operator, operators_in, operator_in, name_ends, prevail_ends, effect_ends, end_head};
+ghost use Rattle.sas_flat.specs.Operators.{next_operator, OperatorColumnsAlign};
 
 use crate::effects::Effects;
 use sas_core::{Change, Fact};
@@ -58,20 +58,20 @@ pub struct Operators {
 impl Model for Operators {
     ghost use Rattle.std.specs.Prelude.{List};
     ghost use Rattle.sas_core.specs.declared.parts.Operator.{Operator};
+    ghost use Rattle.sas_flat.specs.Lists.{AreEnds};
     ghost use Rattle.sas_flat.specs.Operators.{operators_in, OperatorColumnsAlign};
 
     ghost Value = { List Operator };
 
     ghost view = { λ o. operators_in o.columns };
 
-    ghost invariant = { λ o. OperatorColumnsAlign o.columns };
+    ghost invariant = { λ o. OperatorColumnsAlign AreEnds o.columns };
 }
 
 impl OperatorColumns {
     /// Returns the columns of no operators. Allocates no memory.
     pub fn new(alloc: Global) -> Self
-        ensures aligned { OperatorColumnsAlign result }
-        ensures none { operators_in result ≡ [] }
+        ensures { Hold (OperatorColumnsAlign AreEnds) operators_in result [] }
     {
         OperatorColumns {
             names: Vec::new(alloc),
@@ -114,25 +114,23 @@ impl OperatorColumns {
         }
     }
 
-    /// Appends the name and the head of an operator. Its prevail conditions and effects must already be appended. On `Err` (out of memory)
-    /// its name may have been appended, but no head.
+    /// Completes an operator whose prevail conditions and effects are appended. On `Err` (out of memory) the operators are unchanged.
     #[inline(always)]
     pub fn push(&mut self, name: &[u8], cost: u32) -> Result<(), AllocError>
-        ensures names { Kept self.old.names.items self.new.names.items }
-        ensures prevail { self.new.prevail.items ≡ self.old.prevail.items }
-        ensures effects { self.new.effects ≡ self.old.effects }
-        ensures name_ok { OnOk result (self.new.names.items ≡ self.old.names.items ++ name.now) }
-        ensures head_ok { OnOk result
-            (self.new.heads.items ≡ self.old.heads.items ++ end_head self.new cost ∷ []) }
-        ensures head_err { OnErr result (self.new.heads.items ≡ self.old.heads.items) }
+        requires { OperatorColumnsAlign AreOpen self.old }
+        ensures ok { OnOk result (Hold (OperatorColumnsAlign AreEnds) operators_in self.new
+            (operators_in self.old ++ next_operator self.old name.now cost ∷ [])) }
+        ensures err { OnErr result
+            (Hold (OperatorColumnsAlign AreOpen) operators_in self.new (operators_in self.old)) }
     {
+        self.heads.reserve(1)?;
         self.names.extend_from_slice(name)?;
         let head = self.end(cost);
         self.heads.push(head)?;
         Ok(())
     }
 
-    /// Appends an operator. On `Err` (out of memory) parts of it may have been appended, but no head.
+    /// Appends an operator. On `Err` (out of memory) its prevail conditions and effects may have been appended.
     pub fn append(
         &mut self,
         name: &[u8],
@@ -140,9 +138,11 @@ impl OperatorColumns {
         effects: &Effects,
         cost: u32,
     ) -> Result<(), AllocError>
-        ensures ok { OnOk result
-            (OneMore self.old self.new (operator name.now prevail.now effects.now cost)) }
-        ensures err { OnErr result (IsBegun self.old self.new) }
+        requires { OperatorColumnsAlign AreEnds self.old }
+        ensures ok { OnOk result (Hold (OperatorColumnsAlign AreEnds) operators_in self.new
+            (operators_in self.old ++ operator name.now prevail.now effects.now cost ∷ [])) }
+        ensures err { OnErr result
+            (Hold (OperatorColumnsAlign AreOpen) operators_in self.new (operators_in self.old)) }
     {
         self.prevail.extend_from_slice(prevail)?;
         self.effects.append(effects)?;
@@ -150,13 +150,13 @@ impl OperatorColumns {
         Ok(())
     }
 
-    /// Removes what was appended after the last operator.
+    /// Removes the prevail conditions and effects after those of the last operator.
     pub fn cut(&mut self)
-        requires { last_end (λ head. head.effects) self.old ≤ length self.old.effects }
-        ensures { IsCut self.old self.new }
+        requires { OperatorColumnsAlign AreOpen self.old }
+        ensures { Hold (OperatorColumnsAlign AreEnds) operators_in self.new
+            (operators_in self.old) }
     {
         let end = self.before(self.heads.len());
-        self.names.truncate(end.name);
         self.prevail.truncate(end.prevail);
         self.effects.truncate(end.effects);
     }
@@ -165,7 +165,7 @@ impl OperatorColumns {
 impl Operators {
     /// Returns the operators in these columns. Allocates no memory.
     pub fn of_columns(columns: OperatorColumns) -> Self
-        requires { OperatorColumnsAlign columns }
+        requires { OperatorColumnsAlign AreEnds columns }
         ensures { result ≡ operators_in columns }
     {
         Operators { columns }

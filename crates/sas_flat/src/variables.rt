@@ -2,9 +2,9 @@
 ghost use Rattle.std.specs.Prelude.{◌≡◌, ◌<◌, ◌≤◌, [], ◌∷◌, ◌++◌, length, slice_get, option_map, OnOk, OnErr};
 ghost use Rattle.sas_core.specs.declared.parts.Variable.{Variable};
 ghost use Rattle.sas_core.specs.Variables as spec;
-ghost use Rattle.sas_flat.specs.Growing.{Kept};
-ghost use Rattle.sas_flat.specs.Lists.{start_of, AreEnds};
-ghost use Rattle.sas_flat.specs.Variables.{variable, variables_in, AreAligned, OneMore, IsBegun, IsCut};
+ghost use Rattle.sas_flat.specs.Growing.{Hold};
+ghost use Rattle.sas_flat.specs.Lists.{items_after, AreEnds, AreOpen};
+ghost use Rattle.sas_flat.specs.Variables.{variable, variables_in, VariableColumnsAlign};
 
 use crate::ends::Ends;
 use crate::lists::Lists;
@@ -45,20 +45,20 @@ pub struct Variables {
 impl Model for Variables {
     ghost use Rattle.std.specs.Prelude.{List};
     ghost use Rattle.sas_core.specs.declared.parts.Variable.{Variable};
-    ghost use Rattle.sas_flat.specs.Variables.{variables_in, AreAligned};
+    ghost use Rattle.sas_flat.specs.Lists.{AreEnds};
+    ghost use Rattle.sas_flat.specs.Variables.{variables_in, VariableColumnsAlign};
 
     ghost Value = { List Variable };
 
     ghost view = { λ v. variables_in v.columns };
 
-    ghost invariant = { λ v. AreAligned v.columns };
+    ghost invariant = { λ v. VariableColumnsAlign AreEnds v.columns };
 }
 
 impl VariableColumns {
     /// Returns the columns of no variables. Allocates no memory.
     pub fn new(alloc: Global) -> Self
-        ensures aligned { AreAligned result }
-        ensures none { variables_in result ≡ [] }
+        ensures { Hold (VariableColumnsAlign AreEnds) variables_in result [] }
     {
         VariableColumns {
             names: Lists::new(alloc),
@@ -68,60 +68,58 @@ impl VariableColumns {
         }
     }
 
-    /// Completes a variable whose value names are already appended. On `Err` (out of memory) its name and layer may have been appended, but
-    /// no end.
+    /// Completes a variable whose value names are appended. On `Err` (out of memory) the variables are unchanged.
     #[inline(always)]
     pub fn push(&mut self, name: &[u8], layer: Option<u32>) -> Result<(), AllocError>
-        requires { start_of self.old.ends (length self.old.ends) ≤ length self.old.values }
-        ensures names { Kept self.old.names self.new.names }
-        ensures layers { Kept self.old.layers.items self.new.layers.items }
-        ensures values { self.new.values ≡ self.old.values }
-        ensures name_ok { OnOk result (self.new.names ≡ self.old.names ++ name.now ∷ []) }
-        ensures layer_ok { OnOk result
-            (self.new.layers.items ≡ self.old.layers.items ++ layer ∷ []) }
-        ensures end_ok { OnOk result
-            (self.new.ends ≡ self.old.ends ++ length self.old.values ∷ []) }
-        ensures end_err { OnErr result (self.new.ends ≡ self.old.ends) }
+        requires { VariableColumnsAlign AreOpen self.old }
+        ensures ok { OnOk result (Hold (VariableColumnsAlign AreEnds) variables_in self.new
+            (variables_in self.old
+            ++ variable name.now layer (items_after self.old.values self.old.ends) ∷ [])) }
+        ensures err { OnErr result
+            (Hold (VariableColumnsAlign AreOpen) variables_in self.new (variables_in self.old)) }
     {
+        self.layers.reserve(1)?;
         self.names.push(name)?;
+        if let Err(error) = self.ends.push(self.values.len()) {
+            self.names.truncate(self.ends.len());
+            return Err(error);
+        }
         self.layers.push(layer)?;
-        self.ends.push(self.values.len())?;
         Ok(())
     }
 
-    /// Appends a variable whose values have these names. On `Err` (out of memory) parts of it may have been appended, but no end.
+    /// Appends a variable whose values have these names. On `Err` (out of memory) these names may have been appended.
     pub fn append(
         &mut self,
         name: &[u8],
         layer: Option<u32>,
         values: &Lists<u8>,
     ) -> Result<(), AllocError>
-        requires { AreEnds self.old.ends (length self.old.values) }
-        ensures ok { OnOk result (OneMore self.old self.new (variable name.now layer values.now)) }
-        ensures err { OnErr result (IsBegun self.old self.new) }
+        requires { VariableColumnsAlign AreEnds self.old }
+        ensures ok { OnOk result (Hold (VariableColumnsAlign AreEnds) variables_in self.new
+            (variables_in self.old ++ variable name.now layer values.now ∷ [])) }
+        ensures err { OnErr result
+            (Hold (VariableColumnsAlign AreOpen) variables_in self.new (variables_in self.old)) }
     {
         self.values.append(values)?;
         self.push(name, layer)?;
         Ok(())
     }
 
-    /// Removes what was appended after the last variable.
+    /// Removes the value names after those of the last variable.
     pub fn cut(&mut self)
-        requires names { length self.old.ends ≤ length self.old.names }
-        requires values { start_of self.old.ends (length self.old.ends) ≤ length self.old.values }
-        ensures { IsCut self.old self.new }
+        requires { VariableColumnsAlign AreOpen self.old }
+        ensures { Hold (VariableColumnsAlign AreEnds) variables_in self.new
+            (variables_in self.old) }
     {
-        let variables = self.ends.len();
-        self.names.truncate(variables);
-        self.layers.truncate(variables);
-        self.values.truncate(self.ends.start(variables));
+        self.values.truncate(self.ends.start(self.ends.len()));
     }
 }
 
 impl Variables {
     /// Returns the variables in these columns. Allocates no memory.
     pub fn of_columns(columns: VariableColumns) -> Self
-        requires { AreAligned columns }
+        requires { VariableColumnsAlign AreEnds columns }
         ensures { result ≡ variables_in columns }
     {
         Variables { columns }

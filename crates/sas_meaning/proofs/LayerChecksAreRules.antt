@@ -1,5 +1,5 @@
 -- All layer checks pass if and only if the task is layered: each check is equivalent to its rule.
-use Rattle.sas_meaning.proofs.Imports.{◌≡◌, ℕ, zero, suc, ◌+◌, ◌<◌, ◌≤◌, ◌==◌, ◌↔◌, Bool, true, false, nat_lt, nat_le, if◌then◌else◌, List, [], ◌∷◌, ◌++◌, length, take, flat_map, get_or, ◌⊎◌, inl, inr, not, Option, Some, None, refl, sym, ap, ◌∙◌, subst, arith, eqb-true, eq-eqb, ltb-true, lt-ltb, leb-true, le-leb, get_or_default, nat_tests, enumerate_from, option_map_or, is_some, Effect, Operator, LayerFault, EffectOnDerived, RuleOnBasic, OldValue, TwoValues, LayerOrder, IsBasic, default_of, CanFire, can_fire, LooksDown, IsLayeredRule, IsLayered, numbered_checks, effect_layer_checks, operator_layer_checks, agrees_with, looks_down, firing_checks, rule_layer_checks, layer_checks, LayerChecksAreTheRules, Rule, Parts, Pass, by_test, split_row, join_row, and_then, Check, first_fault, check, rule_at, layer_of, IsDerived}
+use Rattle.sas_meaning.proofs.Imports.{◌≡◌, ℕ, zero, suc, ◌+◌, ◌<◌, ◌≤◌, ◌==◌, ◌↔◌, Bool, true, false, nat_lt, nat_le, if◌then◌else◌, List, [], ◌∷◌, ◌++◌, length, take, flat_map, get_or, ◌⊎◌, inl, inr, not, Option, Some, None, refl, sym, ap, ◌∙◌, subst, arith, eqb-true, eq-eqb, ltb-true, lt-ltb, leb-true, le-leb, get_or_default, cases_lt, enumerate_from, option_map_or, is_some, Effect, Operator, LayerFault, EffectOnDerived, RuleOnBasic, OldValue, TwoValues, LayerOrder, IsBasic, default_of, CanFire, can_fire, LooksDown, IsLayeredRule, IsLayered, numbered_checks, effect_layer_checks, operator_layer_checks, agrees_with, looks_down, firing_checks, rule_layer_checks, layer_checks, LayerChecksAreTheRules, Rule, Parts, Pass, by_test, split_row, join_row, and_then, Check, first_fault, check, rule_at, layer_of, IsDerived}
 use Rattle.std.proofs.Common.{All}
 use Rattle.sas_meaning.proofs.RuleTests.{fires, agrees_with_earlier}
 
@@ -145,12 +145,7 @@ module _ (p : Parts) where
   one_value each place below can k k_below k_can same (inr (inr here)) = ap (λ n. (rule_at p n).new) here
 
   order : (a b : ℕ) → (a < b) ⊎ ((b < a) ⊎ (a ≡ b))
-  order a b = by_tests (nat_lt a b) (nat_lt b a) refl refl
-    where
-      by_tests : (first second : Bool) → nat_lt a b ≡ first → nat_lt b a ≡ second → (a < b) ⊎ ((b < a) ⊎ (a ≡ b))
-      by_tests true second is other = inl (ltb-true a b is)
-      by_tests false true is other = inr (inl (ltb-true b a other))
-      by_tests false false is other = inr (inr (grind (arith, nat_tests)))
+  order a b = elim (cases_lt a b) [ inl before ↦ inl before | inr here ↦ elim (cases_lt b a) [ inl behind ↦ inr (inl behind) | inr there ↦ inr (inr (omega (arith, here, there))) ] ]
 
   layered_rule : Followed → (place : ℕ) → place < length p.rules → CanFire p (rule_at p place) → IsLayeredRule p (rule_at p place)
   layered_rule each place below can =

@@ -1,12 +1,14 @@
 // Stores the content of a task file in a few blocks of memory while it is read.
-ghost use Rattle.std.specs.Prelude.{◌≡◌, ◌<◌, List, [], length, OnOk, OnErr, IfOk, IfSome, IfNone};
+ghost use Rattle.std.specs.Prelude.{◌≡◌, ◌<◌, List, [], ◌∷◌, ◌++◌, length, OnOk, OnErr, IfOk, IfSome, IfNone};
 ghost use Rattle.sas_core.specs.declared.parts.Fact.{Fact};
 ghost use Rattle.sas_core.specs.declared.parts.Variable.{Variable};
 ghost use Rattle.sas_core.specs.declared.parts.Operator.{Operator};
 ghost use Rattle.sas_core.specs.declared.parts.Rule.{Rule};
 ghost use Rattle.sas_core.specs.WellRanged.{WellRanged};
-ghost use Rattle.sas_flat.specs.Operators.{OneMore, IsBegun};
-ghost use Rattle.sas_flat.specs.Variables as variables;
+ghost use Rattle.sas_flat.specs.Growing.{Hold};
+ghost use Rattle.sas_flat.specs.Lists.{AreEnds, AreOpen};
+ghost use Rattle.sas_flat.specs.Operators.{operators_in, OperatorColumnsAlign};
+ghost use Rattle.sas_flat.specs.Variables.{variables_in, VariableColumnsAlign};
 ghost use Rattle.sas_task_line.specs.declared.task_events.Event.TheVariants as event;
 ghost use Rattle.sas_task_line.specs.declared.task_events.Said.{Said};
 ghost use Rattle.sas_task_line.specs.Sections.{VariableAhead, GroupAhead, OperatorAhead, RuleAhead};
@@ -57,19 +59,21 @@ struct Begun {
 }
 
 /// Appends a whole variable at the beginning of the bytes, if `variable_found` finds one, and returns what it found. After `None` or `Err`
-/// parts of a variable may have been appended, but no end.
+/// some names of its values may have been appended.
 #[inline(always)]
 fn append_variable<'a>(
     bytes: &'a [u8],
     columns: &mut VariableColumns,
 ) -> Result<Option<VariableFound<'a>>, AllocError>
-    requires { variables.AreAligned columns.old }
+    requires { VariableColumnsAlign AreEnds columns.old }
     ensures some { IfOk result (λ found. IfSome found (λ f. (v : Variable)
         × VariableAhead bytes.now v f.front × (v.layer ≡ f.layer) × (length v.values ≡ f.range)
-        × variables.OneMore columns.old columns.new v)) }
+        × Hold (VariableColumnsAlign AreEnds) variables_in columns.new
+        (variables_in columns.old ++ v ∷ []))) }
     ensures none { IfOk result (λ found. IfNone found
-        (variables.IsBegun columns.old columns.new)) }
-    ensures err { OnErr result (variables.IsBegun columns.old columns.new) }
+        (Hold (VariableColumnsAlign AreOpen) variables_in columns.new (variables_in columns.old))) }
+    ensures err { OnErr result
+        (Hold (VariableColumnsAlign AreOpen) variables_in columns.new (variables_in columns.old)) }
 {
     let found = variable_found(bytes, &mut columns.values)?;
     let Some(found) = found else {
@@ -80,7 +84,7 @@ fn append_variable<'a>(
 }
 
 /// Appends a whole operator at the beginning of the bytes, if `operator_found` finds one, and returns the extent of its lines. After `None`
-/// or `Err` parts of an operator may have been appended, but no head. The content of `conditions` is unspecified afterwards.
+/// or `Err` some of its prevail conditions and effects may have been appended. The content of `conditions` is unspecified afterwards.
 #[inline(always)]
 fn append_operator(
     ranges: &Items<u32>,
@@ -88,11 +92,15 @@ fn append_operator(
     columns: &mut OperatorColumns,
     conditions: &mut Vec<Fact>,
 ) -> Result<Option<Front>, AllocError>
+    requires { OperatorColumnsAlign AreEnds columns.old }
     ensures some { IfOk result (λ found. IfSome found (λ front.
         (o : Operator) × OperatorAhead ranges.now bytes.now o front
-        × OneMore columns.old columns.new o)) }
-    ensures none { IfOk result (λ found. IfNone found (IsBegun columns.old columns.new)) }
-    ensures err { OnErr result (IsBegun columns.old columns.new) }
+        × Hold (OperatorColumnsAlign AreEnds) operators_in columns.new
+        (operators_in columns.old ++ o ∷ []))) }
+    ensures none { IfOk result (λ found. IfNone found
+        (Hold (OperatorColumnsAlign AreOpen) operators_in columns.new (operators_in columns.old))) }
+    ensures err { OnErr result
+        (Hold (OperatorColumnsAlign AreOpen) operators_in columns.new (operators_in columns.old)) }
 {
     let found = operator_found(
         ranges,
@@ -109,8 +117,9 @@ fn append_operator(
 }
 
 impl Model for FlatSoFar {
+    ghost use Rattle.sas_flat.specs.Lists.{AreEnds};
     ghost use Rattle.sas_flat.specs.Operators.{operators_in, OperatorColumnsAlign};
-    ghost use Rattle.sas_flat.specs.Variables.{variables_in, AreAligned};
+    ghost use Rattle.sas_flat.specs.Variables.{variables_in, VariableColumnsAlign};
     ghost use Rattle.sas_task_line.specs.declared.so_far.SoFar.{SoFar};
 
     ghost Value = { SoFar };
@@ -133,7 +142,8 @@ impl Model for FlatSoFar {
       effects = s.begun.effects;
     } };
 
-    ghost invariant = { λ s. AreAligned s.variables × OperatorColumnsAlign s.operators };
+    ghost invariant = { λ s. VariableColumnsAlign AreEnds s.variables
+      × OperatorColumnsAlign AreEnds s.operators };
 }
 
 impl FlatSoFar {

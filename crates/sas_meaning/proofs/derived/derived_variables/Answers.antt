@@ -1,5 +1,5 @@
 -- Each iteration appends a derived variable, or skips a basic one.
-use Rattle.sas_meaning.proofs.Imports.{◌≡◌, ◌++◌, ◌∷◌, [], true, false, sym, ap, ◌∙◌, arith, is_some, IfOk-from_err, IsDerived}
+use Rattle.sas_meaning.proofs.Imports.{◌≡◌, ◌++◌, ◌∷◌, [], true, false, sym, ap, ◌∙◌, arith, is_some, IsDerived}
 use Rattle.sas_meaning.proofs.DerivedVariables.{derived_none, derived_more, derived_skip, derived_all}
 use Rattle.sas_meaning.proofs.derived.derived_variables.Goals as goal
 use Rattle.sas_meaning.proofs.derived.derived_variables.Goals.{then-is_some+in_ok-push, else-is_some}
@@ -23,9 +23,3 @@ loop-var-preserved g c =
 
 pub returns : goal.returns
 returns g c = derived_all c.args.task.now c.loop-var.var c.loop-var.variables.items (omega arith) c.loop-var.invariant
-
-pub layer-requires : goal.layer-requires
-layer-requires g c = omega arith
-
-pub returns-in_err-push : goal.returns-in_err-push
-returns-in_err-push g c = IfOk-from_err c.from_residual.result _ c.from_residual.ensures.0

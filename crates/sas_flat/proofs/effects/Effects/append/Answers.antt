@@ -1,5 +1,6 @@
 use Rattle.sas_flat.proofs.Imports.{◌-◌, ◌++◌, length, ap, ◌∙◌, arith, nil_from_length, effects_of}
-use Rattle.sas_flat.proofs.EffectRows.{effects_filled, filled_append, bare_append, on_any_error}
+use Rattle.sas_flat.proofs.EffectRows.{effects_filled, filled_append, bare_append}
+use Rattle.sas_flat.proofs.Kept.{on_any_error}
 use Rattle.sas_flat.proofs.effects.Effects.append.Goals as goal
 use Rattle.sas_flat.proofs.effects.Effects.append.Goals.{then-len-gt0+in_ok-fill+in_ok-append, else-len-gt0}
 

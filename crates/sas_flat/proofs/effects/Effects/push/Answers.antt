@@ -1,5 +1,6 @@
 use Rattle.sas_flat.proofs.Imports.{eqb-true, nil_from_length, ◌≡◌, ◌-◌, [], ◌∷◌, ◌++◌, length, sym, ap, ◌∙◌, effect, effects_of}
-use Rattle.sas_flat.proofs.EffectRows.{effects_filled, filled_more, plain_more, on_any_error}
+use Rattle.sas_flat.proofs.EffectRows.{effects_filled, filled_more, plain_more}
+use Rattle.sas_flat.proofs.Kept.{on_any_error}
 use Rattle.sas_flat.proofs.effects.Effects.push.Goals as goal
 use Rattle.sas_flat.proofs.effects.Effects.push.Goals.{then-not-is_empty+in_ok-fill+in_ok-push, else-not-is_empty}
 

@@ -1,4 +1,4 @@
-use Rattle.sas_flat.proofs.Imports.{◌∷◌, [], ◌++◌, ap, ◌∙◌, arith}
+use Rattle.sas_flat.proofs.Imports.{◌≡◌, ◌∷◌, [], ◌++◌, length, ap, ◌∙◌, arith}
 use Rattle.sas_flat.proofs.Blocks.{lists_more, ends_more}
 use Rattle.sas_flat.proofs.Kept.{cut_back, same_lists}
 use Rattle.sas_flat.proofs.lists.Lists.push.Goals as goal
@@ -17,6 +17,6 @@ returns-in-Err-clause-err g c =
 
 pub invariant_of-self-in-Ok : goal.invariant_of-self-in-Ok
 invariant_of-self-in-Ok g c =
-    rw (c.in-Ok.ensures.ok, c.in_ok-extend_from_slice.ensures.items)
-    (ends_more c.self.inside.items.items c.args.list.now c.self.inside.ends _ c.self.invariant
-    (c.len.ensures ∙ omega (arith, c.in_ok-extend_from_slice.ensures.len, c.self.inside.items.ok.0)))
+    let long : length c.extend_from_slice.new.self.items ≡ c.len.result = omega (arith, c.len.ensures, c.extend_from_slice.new.self.ok.0) in
+    rw (c.in-Ok.ensures.ok, long)
+    (ends_more c.self.inside.ends _ _ c.self.invariant (omega (arith, c.len.ensures, c.in_ok-extend_from_slice.ensures.len, c.self.inside.items.ok.0)))

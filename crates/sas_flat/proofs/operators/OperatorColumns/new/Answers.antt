@@ -1,6 +1,5 @@
-use Rattle.sas_flat.proofs.Imports.{length, ap}
-use Rattle.sas_flat.proofs.Tables.{table_none}
+use Rattle.sas_flat.proofs.Grown.{no_operators}
 use Rattle.sas_flat.proofs.operators.OperatorColumns.new.Goals as goal
 
-pub returns-clause-none : goal.returns-clause-none
-returns-clause-none c = table_none _ _ (ap length c.new-4.ensures.items)
+pub returns : goal.returns
+returns c = no_operators _ c.new.ensures.items c.new-2.ensures.items c.new-3.ensures c.new-4.ensures.items

@@ -1,7 +1,5 @@
-use Rattle.sas_flat.proofs.Imports.{length, ap, ◌∙◌}
-use Rattle.sas_flat.proofs.Tables.{length-table}
-use Rattle.sas_flat.proofs.Rows.{no_variable}
+use Rattle.sas_flat.proofs.Grown.{no_variables}
 use Rattle.sas_flat.proofs.variables.VariableColumns.new.Goals as goal
 
-pub returns-clause-none : goal.returns-clause-none
-returns-clause-none c = no_variable _ _ _ (length-table _ _ ∙ ap length c.new-4.ensures)
+pub returns : goal.returns
+returns c = no_variables _ c.new.ensures c.new-2.ensures.items c.new-3.ensures c.new-4.ensures

@@ -1,5 +1,5 @@
 -- If all layer checks pass, the task is layered.
-use Rattle.sas_meaning.proofs.Imports.{sym, rules}
+use Rattle.sas_meaning.proofs.Imports.{sym}
 use Rattle.sas_meaning.proofs.LayerChecksAreRules.{checks_are_rules}
 use Rattle.sas_meaning.proofs.layered.Layered.new.Goals as goal
 
@@ -12,6 +12,3 @@ pub returns-in-Ok-clause-layered : goal.returns-in-Ok-clause-layered
 returns-in-Ok-clause-layered g c =
     let none = c.in-Ok.ensures.first (λ same. absurd (cc)) in
     (checks_are_rules (g.T.Grounded.says c.args.task)).0 (sym none)
-
-pub returns-in-Err : goal.returns-in-Err
-returns-in-Err g c = search rules
