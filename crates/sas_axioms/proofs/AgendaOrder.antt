@@ -59,14 +59,6 @@ notes_more p layer rule a a' is notes = record {
   ready = notes.ready;
 }
 
-pub notes_paid : (layer rule price : ℕ) (a b a' : Agenda) → heap_items b.noted ≡ heap_items a.noted → b.ready ≡ a.ready → b.left + price ≡ a.left → AddsToAgenda layer rule b a' → AddsToAgenda layer rule a a'
-notes_paid layer rule price a b a' noted ready left notes = record {
-  noted = subst (λ (es : List (Reverse LayerRule)). IsPermutation (entry_for layer rule ∷ es) (heap_items a'.noted)) noted notes.noted;
-  ordered = notes.ordered;
-  ready = notes.ready ∙ ready;
-  left = let l = notes.left in omega arith;
-}
-
 pub notes_left : (layer rule : ℕ) (a a' : Agenda) → AddsToAgenda layer rule a a' → work_left a' ≤ work_left a + 2
 notes_left layer rule a a' notes =
     let n = length_permutation (entry_for layer rule ∷ heap_items a.noted) (heap_items a'.noted) notes.noted in

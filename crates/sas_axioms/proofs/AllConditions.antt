@@ -1,5 +1,5 @@
 -- The index of all conditions, and how the counters change with the value of a variable.
-use Rattle.sas_axioms.proofs.Imports.{◌≡◌, ◌≢◌, ℕ, ◌+◌, ◌<◌, ◌≤◌, ◌==◌, ◌&&◌, ◌^◌, Bool, true, false, cond, List, [], ◌∷◌, ◌++◌, length, get_or, set, None, refl, sym, ◌∙◌, ap, subst, inl, inr, arith, All, get_or-set_same, get_or-set_other, length-set, cases_eq, eq-eqb, eqb_tells, All-nil, All-cons, All-tail, All-append, All-weaker, Fact, Parts, rule_at, WellRanged, RuleFits, holds_at, Entry, Waiting, IsRuleOn, asking, waiting_entry, waits, waiting_at, released, occurrences, open_conditions, IsOfRule, IsCondition, entries, AreAllConditions, IsFullIndex, AreCounted, AreCountedBy, items_of, by_key, length-table, items_none, items_cons, under_key, all_items, condition_within}
+use Rattle.sas_axioms.proofs.Imports.{◌≡◌, ◌≢◌, ℕ, ◌+◌, ◌<◌, ◌≤◌, ◌==◌, ◌&&◌, ◌^◌, Bool, true, false, cond, List, [], ◌∷◌, ◌++◌, length, get_or, set, None, refl, sym, ◌∙◌, ap, subst, inl, inr, arith, All, get_or-set_same, get_or-set_other, length-set, cases_eq, eq-eqb, eqb_tells, All-nil, All-cons, All-tail, All-append, All-weaker, Fact, Parts, rule_at, WellRanged, RuleFits, holds_at, Entry, Moved, Waiting, CanRecount, IsRuleOn, asking, waiting_entry, waits, waiting_at, released, occurrences, open_conditions, IsOfRule, IsCondition, entries, AreAllConditions, IsFullIndex, AreCounted, AreCountedBy, items_of, by_key, length-table, items_none, items_cons, under_key, all_items, condition_within}
 
 -- ---- building the index
 
@@ -166,34 +166,33 @@ few_conditions p k ranged lt = (holds_at (RuleFits p.variables) (record { condit
 
 -- ---- counting anew what waits for a variable that gets another value
 
-module _ (p : Parts) (index : List (List Waiting)) (var : ℕ) (is_index : IsFullIndex p index) (seen : ℕ → ℕ) (counters : List ℕ) (counts : AreCountedBy p seen counters) where
-  pub small : WellRanged p → All (λ (w : Waiting). get_or counters w.rule 0 + occurrences w.rule (released (seen var) (waiting_at index var)) < 2 ^ 32) (waiting_at index var)
-  small ranged k d lt = bound (get_or (waiting_at index var) k d).rule (is_index.only var k d lt)
-    where
-      bound : (rule : ℕ) → (layer : ℕ) × IsRuleOn p layer rule → get_or counters rule 0 + occurrences rule (released (seen var) (waiting_at index var)) < 2 ^ 32
-      bound rule is =
-          let few = few_conditions p rule ranged is.1.exists in
-          let a = asking_length var (seen var) (rule_at p rule).conditions in
-          let b = open_length seen (rule_at p rule).conditions in
-          let e = counts is.0 rule is.1 in
-          let f = is_index.each is.0 var (seen var) rule is.1 in
-          omega arith
+pub can_recount : (p : Parts) (index : List (List Waiting)) (var : ℕ) → IsFullIndex p index → (seen : ℕ → ℕ) (counters : List ℕ) → length counters ≡ length p.rules → AreCountedBy p seen counters
+    → WellRanged p → (moved : Moved) → seen var ≡ moved.former → moved.former ≢ moved.value → CanRecount moved (waiting_at index var) counters
+can_recount p index var is_index seen counters one_each counts ranged moved was differ = record {
+  differ = differ;
+  exist = λ k d lt. omega (arith, (is_index.only var k d lt).1.exists, one_each);
+  small = λ k d lt. small (get_or (waiting_at index var) k d).rule (is_index.only var k d lt);
+  enough = λ k d lt. enough (get_or (waiting_at index var) k d).rule (is_index.only var k d lt);
+}
+  where
+    small : (rule : ℕ) → (layer : ℕ) × IsRuleOn p layer rule → get_or counters rule 0 + occurrences rule (released moved.former (waiting_at index var)) < 2 ^ 32
+    small rule is =
+        let few = few_conditions p rule ranged is.1.exists in
+        let a = asking_length var moved.former (rule_at p rule).conditions in
+        let b = open_length seen (rule_at p rule).conditions in
+        let e = counts is.0 rule is.1 in
+        let f = is_index.each is.0 var moved.former rule is.1 in
+        omega arith
 
-  pub enough : (value : ℕ) → seen var ≢ value → All (λ (w : Waiting). occurrences w.rule (released value (waiting_at index var)) ≤ get_or counters w.rule 0) (waiting_at index var)
-  enough value ne k d lt = bound (get_or (waiting_at index var) k d).rule (is_index.only var k d lt)
-    where
-      bound : (rule : ℕ) → (layer : ℕ) × IsRuleOn p layer rule → occurrences rule (released value (waiting_at index var)) ≤ get_or counters rule 0
-      bound rule is =
-          let a = asking_open seen var value (rule_at p rule).conditions ne in
-          let e = counts is.0 rule is.1 in
-          let h = is_index.each is.0 var value rule is.1 in
-          omega arith
+    enough : (rule : ℕ) → (layer : ℕ) × IsRuleOn p layer rule → occurrences rule (released moved.value (waiting_at index var)) ≤ get_or counters rule 0
+    enough rule is =
+        let a = asking_open seen var moved.value (rule_at p rule).conditions (λ e. differ (sym was ∙ e)) in
+        let e = counts is.0 rule is.1 in
+        let h = is_index.each is.0 var moved.value rule is.1 in
+        omega arith
 
 module _ (p : Parts) (index : List (List Waiting)) (var : ℕ) (is_index : IsFullIndex p index) (exists : var < length p.variables)
     (counted counters : List ℕ) (counts : AreCounted p counted counters) where
-  pub counters_exist : All (λ (w : Waiting). w.rule < length counters) (waiting_at index var)
-  counters_exist k d lt = omega (arith, (is_index.only var k d lt).1.exists, counts.one_each)
-
   module _ (value : ℕ) where
     changed : (rule : ℕ) → open_conditions (λ v. get_or (set counted var value) v 0) (rule_at p rule).conditions + asking var value (rule_at p rule).conditions
         ≡ open_conditions (λ v. get_or counted v 0) (rule_at p rule).conditions + asking var (get_or counted var 0) (rule_at p rule).conditions

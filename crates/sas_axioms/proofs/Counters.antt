@@ -1,7 +1,7 @@
 -- The counters of a worklist.
-use Rattle.sas_axioms.proofs.Imports.{◌≡◌, ◌≢◌, ℕ, ◌+◌, ◌<◌, ◌≤◌, ◌==◌, ◌⊎◌, true, cond, List, [], ◌∷◌, ◌++◌, length, get_or, set, refl, sym, ◌∙◌, ap, subst, inl, inr, arith, cases_eq, eqb_tells, get_or-set_same, get_or-set_other, length-set, get_or_default, length-append, vec_capacity, Fact, Rule, Parts, rule_at, IsState, WellRanged, Holds, AllHold, IsOnLayer, default_of, IsRuleOn, AreGiven, open_conditions, occurrences, asking, Waiting, Work, value_seen, IsRunning, AreCountedBy, HaveFired, HasRoom, IsAtWork, IsPopped, WorkGoesOn, FiresRule, IsLayered, differs, IsSettledAt, OnlyForced, HasFired, SameOff, AtDefault, equal_places, All, All-nil, All-cons, All-head, All-tail, Fired, fired_there, rule_new, differs_true, differs_not, fact_within, new_value_is, forced_at_default, settled_when_fired, differs_decides}
+use Rattle.sas_axioms.proofs.Imports.{◌≡◌, ◌≢◌, ℕ, ◌+◌, ◌<◌, ◌≤◌, ◌==◌, ◌⊎◌, true, cond, List, [], ◌∷◌, ◌++◌, length, get_or, set, refl, sym, ◌∙◌, ap, subst, inl, inr, arith, cases_eq, eqb_tells, get_or-set_same, get_or-set_other, length-set, get_or_default, length-append, vec_capacity, Fact, Rule, Parts, rule_at, IsState, WellRanged, Holds, AllHold, IsOnLayer, default_of, IsRuleOn, AreGiven, open_conditions, occurrences, asking, Moved, Waiting, Work, value_seen, IsRunning, AreCountedBy, HaveFired, HasRoom, IsAtWork, IsPopped, WorkGoesOn, FiresRule, IsLayered, differs, IsSettledAt, OnlyForced, HasFired, SameOff, AtDefault, equal_places, All, All-nil, All-cons, All-head, All-tail, Fired, fired_there, rule_new, differs_true, differs_not, fact_within, new_value_is, forced_at_default, settled_when_fired, differs_decides}
 use Rattle.sas_axioms.proofs.AllConditions.{open_changed}
-use Rattle.sas_axioms.proofs.CountingEntries.{CountersSoFar, counters_after}
+use Rattle.sas_axioms.proofs.CountingEntries.{CountersSoFar, counters_after, left_over}
 use Rattle.sas_axioms.proofs.Sources.{no_rule}
 
 pub occurrences-append : (n : ℕ) (xs ys : List ℕ) → occurrences n (xs ++ ys) ≡ occurrences n xs + occurrences n ys
@@ -301,8 +301,8 @@ fires_nothing t s w k running fired = record {
 -- ---- the entries of a popped variable
 
 -- the first i entries are counted, and the rules of the layer without open conditions have fired
-pub record Releasing (t : Parts) (fact : Fact) (waiting : List Waiting) (i : ℕ) (s0 : List ℕ) (w0 : Work) (s : List ℕ) (w : Work) : Type 0 where
-  pub counters : CountersSoFar (default_of t fact.var) fact.value waiting i w0.counters w.counters
+pub record Releasing (t : Parts) (moved : Moved) (waiting : List Waiting) (i : ℕ) (s0 : List ℕ) (w0 : Work) (s : List ℕ) (w : Work) : Type 0 where
+  pub counters : CountersSoFar moved waiting i w0.counters w.counters
   pub goes_on : WorkGoesOn t s0 w0 s w
   pub room : HasRoom t w
   pub running : IsRunning t w0.layer s w.stack.items
@@ -311,23 +311,23 @@ pub record Releasing (t : Parts) (fact : Fact) (waiting : List Waiting) (i : ℕ
   pub seen : (v : ℕ) → value_seen t s w.stack.items v ≡ value_seen t s0 w0.stack.items v
 
 -- a rule of the layer whose counter is at zero has conditions that hold
-pub ready_so_far : (t : Parts) (fact : Fact) (waiting : List Waiting) (i : ℕ) (s0 : List ℕ) (w0 : Work) (s : List ℕ) (w : Work) (counters : List ℕ) (k : ℕ)
-    → IsLayered t → IsPopped t fact waiting s0 w0 → Releasing t fact waiting i s0 w0 s w → CountersSoFar (default_of t fact.var) fact.value waiting (i + 1) w0.counters counters
+pub ready_so_far : (t : Parts) (moved : Moved) (waiting : List Waiting) (i : ℕ) (s0 : List ℕ) (w0 : Work) (s : List ℕ) (w : Work) (counters : List ℕ) (k : ℕ)
+    → IsLayered t → IsPopped t moved waiting s0 w0 → Releasing t moved waiting i s0 w0 s w → CountersSoFar moved waiting (i + 1) w0.counters counters
     → IsRuleOn t w0.layer k → get_or counters k 0 ≡ 0 → AllHold (λ v. get_or s v 0) (rule_at t k).conditions
-ready_so_far t fact waiting i s0 w0 s w counters k layered popped so_far next on none =
+ready_so_far t moved waiting i s0 w0 s w counters k layered popped so_far next on none =
     ready t w0.layer s w.stack.items k layered so_far.running on
     (let a = next.so_far k (let l = popped.room.one_each in omega (arith, on.exists)) in
-    let b = next.former_left k in
+    let b = left_over k moved.former (i + 1) waiting in
     let d = popped.counts w0.layer k on in
     let e = popped.own k on in
     let f = open_same (value_seen t s w.stack.items) (value_seen t s0 w0.stack.items) (rule_at t k).conditions so_far.seen in
     omega arith)
 
 -- the counter of a rule is set, and isn't zero
-pub released_on : (t : Parts) (fact : Fact) (waiting : List Waiting) (i : ℕ) (s0 : List ℕ) (w0 : Work) (s : List ℕ) (w : Work) (counters : List ℕ) (k n : ℕ)
-    → Releasing t fact waiting i s0 w0 s w → CountersSoFar (default_of t fact.var) fact.value waiting (i + 1) w0.counters counters → k < length w.counters → counters ≡ set w.counters k n → n ≢ 0
-    → Releasing t fact waiting (i + 1) s0 w0 s (record { layer = w.layer; counters = counters; stack = w.stack; sources = w.sources; agenda = w.agenda })
-released_on t fact waiting i s0 w0 s w counters k n so_far next within is some = record {
+pub released_on : (t : Parts) (moved : Moved) (waiting : List Waiting) (i : ℕ) (s0 : List ℕ) (w0 : Work) (s : List ℕ) (w : Work) (counters : List ℕ) (k n : ℕ)
+    → Releasing t moved waiting i s0 w0 s w → CountersSoFar moved waiting (i + 1) w0.counters counters → k < length w.counters → counters ≡ set w.counters k n → n ≢ 0
+    → Releasing t moved waiting (i + 1) s0 w0 s (record { layer = w.layer; counters = counters; stack = w.stack; sources = w.sources; agenda = w.agenda })
+released_on t moved waiting i s0 w0 s w counters k n so_far next within is some = record {
   counters = next;
   goes_on = record { layer = so_far.goes_on.layer; off = so_far.goes_on.off; sources = so_far.goes_on.sources; left = so_far.goes_on.left };
   room = record { one_each = ap length is ∙ (length-set w.counters k n ∙ so_far.room.one_each); variables = so_far.room.variables; sources = so_far.room.sources };
@@ -338,11 +338,11 @@ released_on t fact waiting i s0 w0 s w counters k n so_far next within is some =
 }
 
 -- the counter of a rule is zero, and the rule has fired
-pub released_fired : (t : Parts) (fact : Fact) (waiting : List Waiting) (i : ℕ) (s0 : List ℕ) (w0 : Work) (s : List ℕ) (w : Work) (counters : List ℕ) (k n : ℕ) (s' : List ℕ) (w' : Work)
-    → Releasing t fact waiting i s0 w0 s w → CountersSoFar (default_of t fact.var) fact.value waiting (i + 1) w0.counters counters → k < length w.counters → counters ≡ set w.counters k n
+pub released_fired : (t : Parts) (moved : Moved) (waiting : List Waiting) (i : ℕ) (s0 : List ℕ) (w0 : Work) (s : List ℕ) (w : Work) (counters : List ℕ) (k n : ℕ) (s' : List ℕ) (w' : Work)
+    → Releasing t moved waiting i s0 w0 s w → CountersSoFar moved waiting (i + 1) w0.counters counters → k < length w.counters → counters ≡ set w.counters k n
     → FiresRule t k s (record { layer = w.layer; counters = counters; stack = w.stack; sources = w.sources; agenda = w.agenda }) s' w'
-    → Releasing t fact waiting (i + 1) s0 w0 s' w'
-released_fired t fact waiting i s0 w0 s w counters k n s' w' so_far next within is f = record {
+    → Releasing t moved waiting (i + 1) s0 w0 s' w'
+released_fired t moved waiting i s0 w0 s w counters k n s' w' so_far next within is f = record {
   counters = rw f.counters next;
   goes_on = goes_on_more t s0 w0 s (record { layer = w.layer; counters = counters; stack = w.stack; sources = w.sources; agenda = w.agenda }) s' w'
       (record { layer = so_far.goes_on.layer; off = so_far.goes_on.off; sources = so_far.goes_on.sources; left = so_far.goes_on.left }) f.goes_on;
@@ -372,13 +372,13 @@ released_fired t fact waiting i s0 w0 s w counters k n s' w' so_far next within 
         ]
 
 -- all entries are counted
-pub at_work_again : (t : Parts) (fact : Fact) (waiting : List Waiting) (i : ℕ) (s0 : List ℕ) (w0 : Work) (s : List ℕ) (w : Work)
-    → IsPopped t fact waiting s0 w0 → Releasing t fact waiting i s0 w0 s w → i ≡ length waiting → IsAtWork t s w
-at_work_again t fact waiting i s0 w0 s w popped so_far all = record {
+pub at_work_again : (t : Parts) (moved : Moved) (waiting : List Waiting) (i : ℕ) (s0 : List ℕ) (w0 : Work) (s : List ℕ) (w : Work)
+    → IsPopped t moved waiting s0 w0 → Releasing t moved waiting i s0 w0 s w → i ≡ length waiting → IsAtWork t s w
+at_work_again t moved waiting i s0 w0 s w popped so_far all = record {
   room = so_far.room;
   running = rw so_far.goes_on.layer so_far.running;
   counts = λ m k on.
-      (let a = counters_after (default_of t fact.var) fact.value waiting i w0.counters w.counters all so_far.counters k (let l = popped.room.one_each in omega (arith, on.exists)) in
+      (let a = counters_after moved waiting i w0.counters w.counters all so_far.counters k (let l = popped.room.one_each in omega (arith, on.exists)) in
       let b = popped.counts m k on in
       let e = open_same (value_seen t s w.stack.items) (value_seen t s0 w0.stack.items) (rule_at t k).conditions so_far.seen in
       omega arith);

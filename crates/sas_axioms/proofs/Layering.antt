@@ -1,7 +1,6 @@
 -- From a settled layer to the next one on which a rule can fire.
 use Rattle.sas_axioms.proofs.Imports.{ℕ, ◌+◌, ◌<◌, ◌≤◌, List, length, sym, subst, inl, inr, arith, cases_eq, cases_lt, get_or_default, Rule, Parts, rule_at, IsLayered, IsSettledAt, IsSettled, AtDefault, HasFired, Occurs, default_off, settled_off, forced_at_default, settled_when_fired, IsIdle, SettlesNext, IsRuleOn}
-use Rattle.sas_axioms.proofs.LayerStart.{late_waits}
-use Rattle.sas_axioms.proofs.Sources.{no_rule}
+use Rattle.sas_axioms.proofs.Sources.{no_rule, late_waits}
 
 -- a layer without a variable is idle
 pub idle_where_empty : (p : Parts) (layer : ℕ) → (Occurs p layer → ⊥) → IsIdle p layer

@@ -5,7 +5,6 @@ pub mod Groups
 pub mod Standing
 pub mod AllConditions
 pub mod Spans
-pub mod LayerStart
 pub mod Sources
 pub mod Tracking
 pub mod RuleChanges

@@ -1,5 +1,5 @@
 -- When the value of a variable changes: which counters change, and which rules are noted.
-use Rattle.sas_axioms.proofs.Imports.{◌≡◌, ℕ, zero, suc, ◌+◌, ◌<◌, ◌≤◌, List, [], ◌∷◌, length, get_or, set, refl, sym, subst, inl, inr, arith, Contains, heap_items, eq-eqb, eqb_tells, Fact, Parts, rule_at, Work, Waiting, IsFullIndex, AreCounted, asking, occurrences, released, waiting_at, AsksAbout, SameWork, Recounts, CountsChange, IsRuleOn}
+use Rattle.sas_axioms.proofs.Imports.{◌≡◌, ℕ, zero, suc, ◌+◌, ◌<◌, ◌≤◌, List, [], ◌∷◌, length, get_or, set, refl, sym, subst, inl, inr, arith, Contains, heap_items, eq-eqb, eqb_tells, Fact, Parts, rule_at, Work, Moved, Waiting, IsFullIndex, AreCounted, asking, occurrences, released, waiting_at, AsksAbout, SameWork, Recounts, CountsChange, IsRuleOn}
 use Rattle.sas_axioms.proofs.AllConditions.{recounted}
 use Rattle.sas_axioms.proofs.Tracking.{holding_when_zero, zero_when_holding}
 
@@ -30,16 +30,16 @@ waiting_asks p index var w layer is_index there is =
     let le = released_there (waiting_at index var) w there in
     asked_there var w.value (rule_at p w.rule).conditions (omega arith)
 
-pub moved_when_recounted : (p : Parts) (index : List (List Waiting)) (var former value : ℕ) → IsFullIndex p index → var < length p.variables
-    → (s : List ℕ) (w w' : Work) → AreCounted p s w.counters → get_or s var 0 ≡ former → SameWork w w'
-    → Recounts p (waiting_at index var) former value w w' → CountsChange p var s w (set s var value) w'
-moved_when_recounted p index var former value is_index exists s w w' counts is same recounts = record {
+pub moved_when_recounted : (p : Parts) (index : List (List Waiting)) (var : ℕ) (moved : Moved) → IsFullIndex p index → var < length p.variables
+    → (s : List ℕ) (w w' : Work) → AreCounted p s w.counters → get_or s var 0 ≡ moved.former → SameWork w w'
+    → Recounts p (waiting_at index var) moved w w' → CountsChange p var s w (set s var moved.value) w'
+moved_when_recounted p index var moved is_index exists s w w' counts is same recounts = record {
   counts = after;
   crossed = λ layer rule le on. elim (recounts.crossed layer rule on) [
     | inl noted ↦ inl noted
     | inr alike ↦ inr (
-      (λ hold. holding_when_zero p layer rule (set s var value) w'.counters after on (alike.0 (zero_when_holding p layer rule s w.counters counts on hold))),
-      (λ hold. holding_when_zero p layer rule s w.counters counts on (alike.1 (zero_when_holding p layer rule (set s var value) w'.counters after on hold))),
+      (λ hold. holding_when_zero p layer rule (set s var moved.value) w'.counters after on (alike.0 (zero_when_holding p layer rule s w.counters counts on hold))),
+      (λ hold. holding_when_zero p layer rule s w.counters counts on (alike.1 (zero_when_holding p layer rule (set s var moved.value) w'.counters after on hold))),
     )
   ];
   notes = record {
@@ -54,5 +54,5 @@ moved_when_recounted p index var former value is_index exists s w w' counts is s
   left = recounts.left;
 }
   where
-    after : AreCounted p (set s var value) w'.counters
-    after = recounted p index var is_index exists s w.counters counts value w'.counters same.one_each (rw (sym is) at recounts.counts)
+    after : AreCounted p (set s var moved.value) w'.counters
+    after = recounted p index var is_index exists s w.counters counts moved.value w'.counters same.one_each (rw (sym is) at recounts.counts)

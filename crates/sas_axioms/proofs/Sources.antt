@@ -1,5 +1,5 @@
 -- Variables set by sources are forced, and a rule that fires is a source.
-use Rattle.sas_axioms.proofs.Imports.{◌≡◌, ◌≢◌, ℕ, zero, suc, ◌+◌, ◌<◌, ◌==◌, Bool, true, cond, List, [], ◌∷◌, length, get_or, set, None, refl, sym, ◌∙◌, ap, subst, inl, inr, arith, cases_eq, eq-eqb, eqb_tells, get_or_default, get_or-set_same, get_or-set_other, Fact, Rule, Parts, rule_at, IsOnLayer, default_of, IsLayered, new_value_of, value_with, IsClosed, differs, IsSettledAt, OnlyForced, IsRuleOn, IsHolding, IsSourceOf, HaveSources, AreGiven, HasFired, AtDefault, SameOff, differs_true, differs_not, layer_decides, given_on, looks_down, new_value_is, settled_when_fired, differs_decides}
+use Rattle.sas_axioms.proofs.Imports.{◌≡◌, ◌≢◌, ℕ, zero, suc, ◌+◌, ◌<◌, ◌==◌, Bool, true, cond, List, [], ◌∷◌, length, get_or, set, None, refl, sym, ◌∙◌, ap, subst, inl, inr, arith, cases_eq, eq-eqb, eqb_tells, get_or_default, get_or-set_same, get_or-set_other, Fact, Rule, Parts, rule_at, IsOnLayer, default_of, IsLayered, new_value_of, value_with, IsClosed, differs, IsSettledAt, OnlyForced, IsRuleOn, IsLate, AllHold, IsHolding, IsSourceOf, HaveSources, AreGiven, HasFired, AtDefault, SameOff, differs_true, differs_not, layer_decides, given_on, looks_down, new_value_is, settled_when_fired, differs_decides}
 use Rattle.sas_meaning.proofs.Layers.{given_off as value_off}
 
 abbrev pub no_rule : Rule
@@ -225,3 +225,12 @@ settled_when_given p layer s sources layered given fired = settled_when_fired p 
 
     done : (k : ℕ) (d : Rule) → k < length p.rules → HasFired p layer s (get_or p.rules k d)
     done k d lt = subst (λ (r : Rule). HasFired p layer s r) (get_or_default p.rules k no_rule d lt) (done_at k lt)
+
+-- a late rule doesn't hold while the variables of its layer have their defaults
+pub late_waits : (p : Parts) (layer k : ℕ) (s : List ℕ) → IsLayered p → IsRuleOn p layer k → IsLate p layer k → AtDefault p layer s → AllHold (λ v. get_or s v 0) (rule_at p k).conditions → ⊥
+late_waits p layer k s layered is late at hold =
+    let c = late.waits.0 in
+    let there = late.waits.1 in
+    let on : IsOnLayer p layer (get_or (rule_at p k).conditions there.0 c).var = subst (λ (f : Fact). IsOnLayer p layer f.var) (sym there.2) late.waits.2 in
+    differs_not p s (get_or (rule_at p k).conditions there.0 c).var (condition_differs p layer k s layered is there.0 c there.1 on (hold there.0 c there.1))
+    (at (get_or (rule_at p k).conditions there.0 c).var on)

@@ -1,11 +1,12 @@
 -- The conditions of the rules that can fire: an index of them, their variables, and the number of
 -- open conditions.
-use Rattle.std.specs.Prelude.{◌≡◌, ℕ, ◌+◌, ◌<◌, ◌==◌, ◌&&◌, if◌then◌else◌, List, [], ◌∷◌, length, All, slice_index, slice_index_or}
+use Rattle.std.specs.Prelude.{◌≡◌, ◌≢◌, ℕ, ◌+◌, ◌<◌, ◌≤◌, ◌^◌, ◌==◌, ◌&&◌, if◌then◌else◌, List, [], ◌∷◌, length, All, slice_index, slice_index_or}
 use Rattle.sas_core.specs.declared.parts.Fact.{Fact}
 use Rattle.sas_core.specs.declared.parts.Parts.{Parts}
 use Rattle.sas_core.specs.Grounded.{rule_at}
 use Rattle.sas_core.specs.WellRanged.{WellRanged}
 use Rattle.sas_flat.specs.declared.by_key.Entry.{Entry}
+use Rattle.sas_axioms.specs.declared.conditions.Moved.{Moved}
 use Rattle.sas_axioms.specs.declared.conditions.Waiting.{Waiting}
 use Rattle.sas_axioms.specs.declared.counting.Counted.{Counted}
 use Rattle.sas_axioms.specs.LayerRules.{IsRuleOn}
@@ -53,6 +54,10 @@ abbrev pub released : ℕ → List Waiting → List ℕ
 released value [] = []
 released value (w ∷ ws) = if w.value == value then w.rule ∷ released value ws else released value ws
 
+-- 1 if the condition is on the value, else 0
+abbrev pub waits_for : ℕ → Waiting → ℕ
+waits_for value w = if w.value == value then 1 else 0
+
 -- how often a number occurs in a list
 abbrev pub occurrences : ℕ → List ℕ → ℕ
 occurrences n [] = 0
@@ -90,3 +95,12 @@ pub record IsCounted (p : Parts) (c : Counted) : Type 0 where
   pub ranged : WellRanged p
   pub index : IsFullIndex p c.index
   pub counts : AreCounted p c.values c.counters
+
+-- a variable moved, and the counters of the rules with these conditions on it can be updated
+pub record CanRecount (moved : Moved) (waiting : List Waiting) (counters : List ℕ) : Type 0 where
+  pub differ : moved.former ≢ moved.value
+  pub exist : All (λ (w : Waiting). w.rule < length counters) waiting
+  pub small : All (λ (w : Waiting). slice_index counters w.rule
+      + occurrences w.rule (released moved.former waiting) < 2 ^ 32) waiting
+  pub enough : All (λ (w : Waiting). occurrences w.rule (released moved.value waiting)
+      ≤ slice_index counters w.rule) waiting

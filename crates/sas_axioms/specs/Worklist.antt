@@ -1,6 +1,5 @@
 -- How far a worklist has come on a layer, and what it needs.
 use Rattle.std.specs.Prelude.{◌≡◌, ℕ, ◌+◌, ◌*◌, ◌<◌, ◌≤◌, ◌==◌, if◌then◌else◌, IsTrue, IsFalse, List, [], length, slice_index, slice_index_or, vec_capacity, drop}
-use Rattle.sas_core.specs.declared.parts.Fact.{Fact}
 use Rattle.sas_core.specs.declared.parts.Parts.{Parts}
 use Rattle.sas_core.specs.Grounded.{rule_at}
 use Rattle.sas_core.specs.Variables.{IsState}
@@ -8,6 +7,7 @@ use Rattle.sas_meaning.specs.Layers.{IsOnLayer, default_of}
 use Rattle.sas_meaning.specs.DerivedVariables.{AreDerived}
 use Rattle.sas_meaning.specs.Settled.{differs}
 use Rattle.sas_meaning.specs.Forced.{OnlyForced, equal_places, SameOff}
+use Rattle.sas_axioms.specs.declared.conditions.Moved.{Moved}
 use Rattle.sas_axioms.specs.declared.conditions.Waiting.{Waiting}
 use Rattle.sas_axioms.specs.declared.firing.Firing.{Firing}
 use Rattle.sas_axioms.specs.declared.firing.Work.{Work}
@@ -61,18 +61,18 @@ pub record IsAtWork (p : Parts) (s : List ℕ) (w : Work) : Type 0 where
   pub fired : HaveFired p w.layer s w.counters
   pub given : AreGiven p w.layer s w.sources
 
--- a variable that was set to a value other than its default was popped from the stack; the rules
--- that wait for it are still to be counted; none on its layer waits for the default
-pub record IsPopped (p : Parts) (fact : Fact) (waiting : List Waiting) (s : List ℕ) (w : Work)
+-- a variable that moved from its default was popped from the stack; these conditions on it are still
+-- to be counted; no rule on its layer waits for the default
+pub record IsPopped (p : Parts) (moved : Moved) (waiting : List Waiting) (s : List ℕ) (w : Work)
     : Type 0 where
   pub room : HasRoom p w
   pub running : IsRunning p w.layer s w.stack.items
   pub counts : (layer rule : ℕ) → IsRuleOn p layer rule
-      → slice_index w.counters rule + occurrences rule (released (default_of p fact.var) waiting)
+      → slice_index w.counters rule + occurrences rule (released moved.former waiting)
       ≡ open_conditions (value_seen p s w.stack.items) (rule_at p rule).conditions
-      + occurrences rule (released fact.value waiting)
+      + occurrences rule (released moved.value waiting)
   pub own : (rule : ℕ) → IsRuleOn p w.layer rule
-      → occurrences rule (released (default_of p fact.var) waiting) ≡ 0
+      → occurrences rule (released moved.former waiting) ≡ 0
   pub fired : HaveFired p w.layer s w.counters
   pub given : AreGiven p w.layer s w.sources
 

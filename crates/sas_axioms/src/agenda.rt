@@ -13,6 +13,7 @@ use std::collections::BinaryHeap;
 pub struct TooMuch;
 
 /// The rules that an update still has to evaluate, layer by layer, and how much work it may still do.
+#[derive(Drop)]
 pub struct Agenda {
     /// The noted rules. Each began to hold or ceased to hold, and hasn't been evaluated since. (A rule holds if all its conditions are
     /// true.) Rules of the lowest layer come first.
@@ -27,21 +28,6 @@ pub struct Agenda {
     pub passes: usize,
     /// What `passes` is set to when the next update fails.
     pub next_passes: usize,
-}
-
-impl Drop for Agenda {
-    fn drop(self) {
-        let Agenda {
-            noted,
-            ready,
-            left: _,
-            share: _,
-            passes: _,
-            next_passes: _,
-        } = self;
-        drop(noted);
-        drop(ready);
-    }
 }
 
 /// Noting a rule, removing it and setting its variable takes about as long as updating this many counters.
@@ -110,18 +96,10 @@ impl Agenda {
         requires { IsOrdered self.old }
         ensures { OnOk result (AddsToAgenda entry.layer entry.rule self.old self.new) }
     {
-        self.pay(NOTING)?;
-        self.push(entry)
-    }
-
-    /// Notes the rule. The work for it has been taken from what is left. Returns an error if there is no room.
-    fn push(&mut self, entry: LayerRule) -> Result<(), TooMuch>
-        requires { IsOrdered self.old }
-        ensures { OnOk result (AddsToAgenda entry.layer entry.rule self.old self.new) }
-    {
         if self.noted.len() == self.noted.capacity() {
             return Err(TooMuch);
         }
+        self.pay(NOTING)?;
         match self.noted.push(Reverse(entry)) {
             Ok(()) => Ok(()),
             Err(_) => Err(TooMuch),

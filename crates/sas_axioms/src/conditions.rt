@@ -1,8 +1,7 @@
 // An index from each variable to the conditions of rules on it.
-ghost use Rattle.std.specs.Prelude.{◌≡◌, ◌<◌, ◌++◌, IfOk, OnOk, length};
+ghost use Rattle.std.specs.Prelude.{◌≡◌, ◌≢◌, ◌+◌, ◌<◌, ◌≤◌, ◌^◌, ◌++◌, IfOk, OnOk, length};
 ghost use Rattle.sas_core.specs.Grounded.{rule_at};
-ghost use Rattle.sas_axioms.specs.LayerRules.{IsRuleOn};
-ghost use Rattle.sas_axioms.specs.Conditions.{IsFullIndex, AreAllConditions, waiting_entry, entries};
+ghost use Rattle.sas_axioms.specs.Conditions.{IsFullIndex, AreAllConditions, waiting_entry, entries, waits_for};
 
 use crate::layer_rules::firing_layer;
 use sas_core::{Fact, Grounded};
@@ -15,6 +14,31 @@ use std::alloc::{AllocError, Global};
 pub struct Waiting {
     pub value: u32,
     pub rule: u32,
+}
+
+/// The former and the new value of a variable.
+#[derive(Clone, Copy, Debug)]
+pub struct Moved {
+    pub former: u32,
+    pub value: u32,
+}
+
+/// Evaluates one condition of a rule again after its variable moved. Before, `count` conditions of the rule were open. Returns how many
+/// are open now.
+#[inline(always)]
+pub fn count_after(condition: Waiting, moved: Moved, count: u32) -> u32
+    requires differ { moved.former ≢ moved.value }
+    requires small { count + waits_for moved.former condition < 2 ^ 32 }
+    requires enough { waits_for moved.value condition ≤ count }
+    ensures { result + waits_for moved.value condition ≡ count + waits_for moved.former condition }
+{
+    if condition.value == moved.value {
+        count - 1
+    } else if condition.value == moved.former {
+        count + 1
+    } else {
+        count
+    }
 }
 
 /// Returns the index of all conditions of rules that can fire. `Err` means out of memory.

@@ -1,10 +1,9 @@
 // Counters of open (false) conditions, which are updated when a variable changes.
-ghost use Rattle.std.specs.Prelude.{◌≡◌, ◌≢◌, ◌+◌, ◌<◌, ◌≤◌, ◌^◌, ℕ, IfOk, IsFalse, length, All, slice_index, slice_set};
+ghost use Rattle.std.specs.Prelude.{◌≡◌, ◌+◌, ◌<◌, ◌≤◌, ℕ, IfOk, IsFalse, length, slice_index, slice_set};
 ghost use Rattle.sas_core.specs.declared.parts.Parts.{Parts};
-ghost use Rattle.sas_axioms.specs.declared.conditions.Waiting.{Waiting};
-ghost use Rattle.sas_axioms.specs.Conditions.{AreCounted, IsCounted, IsFullIndex, occurrences, released};
+ghost use Rattle.sas_axioms.specs.Conditions.{AreCounted, IsCounted, CanRecount, occurrences, released};
 
-use crate::conditions::{Waiting, index_of_all};
+use crate::conditions::{Moved, Waiting, count_after, index_of_all};
 use crate::firing::open_of;
 use sas_core::{Fact, Grounded, Items};
 use sas_flat::Lists;
@@ -12,6 +11,7 @@ use sas_meaning::{Layered, State};
 use std::alloc::{AllocError, Global};
 
 /// Values of the variables, and for each rule the number of its conditions that are open (false) under these values.
+#[derive(Drop)]
 pub struct Counted {
     /// For each variable, the conditions on it. Includes conditions on basic variables and on lower layers.
     pub index: Lists<Waiting>,
@@ -19,19 +19,6 @@ pub struct Counted {
     pub values: State,
     /// For each rule, the number of its open conditions.
     pub counters: Items<u32>,
-}
-
-impl Drop for Counted {
-    fn drop(self) {
-        let Counted {
-            index,
-            values,
-            counters,
-        } = self;
-        drop(index);
-        drop(values);
-        drop(counters);
-    }
 }
 
 impl Counted {
@@ -42,18 +29,14 @@ impl Counted {
     {
         // The contract of `task` ensures that the task is well ranged and layered.
         let _ = task.task();
+        let index = index_of_all(alloc, task)?;
         let values = State::of_section(alloc, task)?;
-        match index_and_counters(alloc, task, &values) {
-            Ok((index, counters)) => Ok(Counted {
-                index,
-                values,
-                counters,
-            }),
-            Err(error) => {
-                drop(values);
-                Err(error)
-            }
-        }
+        let counters = open_counters(alloc, task, &values)?;
+        Ok(Counted {
+            index,
+            values,
+            counters,
+        })
     }
 
     /// Sets all variables to their values in the state, and updates the counters. Few variables change in a step of a plan, so it first
@@ -111,7 +94,11 @@ impl Counted {
         let former = self.values.value(fact.var);
         if former != fact.value {
             let waiting = self.index.get(fact.var as usize);
-            count_change(waiting, former, fact.value, &mut self.counters);
+            let moved = Moved {
+                former,
+                value: fact.value,
+            };
+            count_change(waiting, moved, &mut self.counters);
         }
         self.values.set(fact);
     }
@@ -149,26 +136,6 @@ fn are_changed(former: &[u32], values: &[u32], start: usize, end: usize) -> bool
     changed
 }
 
-/// Returns the index of all conditions and, for each rule, the number of conditions that are open under these values.
-fn index_and_counters<T: Grounded>(
-    alloc: Global,
-    task: &Layered<T>,
-    values: &State,
-) -> Result<(Lists<Waiting>, Items<u32>), AllocError>
-    requires known { length values.now ≡ length task.now.variables }
-    ensures index { IfOk result (λ r. IsFullIndex task.now r.0) }
-    ensures counters { IfOk result (λ r. AreCounted task.now values.now r.1) }
-{
-    let counters = open_counters(alloc, task, values)?;
-    match index_of_all(alloc, task) {
-        Ok(index) => Ok((index, counters)),
-        Err(error) => {
-            drop(counters);
-            Err(error)
-        }
-    }
-}
-
 /// Returns for each rule the number of its conditions that are open under these values.
 fn open_counters<T: Grounded>(
     alloc: Global,
@@ -189,26 +156,16 @@ fn open_counters<T: Grounded>(
 
 /// Updates the counters after a variable changed: each condition on the former value becomes open, and each condition on the new value is
 /// no longer open.
-fn count_change(waiting: &[Waiting], former: u32, value: u32, counters: &mut Items<u32>)
-    requires differ { former ≢ value }
-    requires exist { All (λ (w : Waiting). w.rule < length counters.old) waiting.now }
-    requires small { All (λ (w : Waiting). slice_index counters.old w.rule
-        + occurrences w.rule (released former waiting.now) < 2 ^ 32) waiting.now }
-    requires enough { All (λ (w : Waiting). occurrences w.rule (released value waiting.now)
-        ≤ slice_index counters.old w.rule) waiting.now }
+fn count_change(waiting: &[Waiting], moved: Moved, counters: &mut Items<u32>)
+    requires { CanRecount moved waiting.now counters.old }
     ensures one_each { length counters.new ≡ length counters.old }
     ensures counts { (rule : ℕ) → rule < length counters.old
-        → slice_index counters.new rule + occurrences rule (released value waiting.now)
-        ≡ slice_index counters.old rule + occurrences rule (released former waiting.now) }
+        → slice_index counters.new rule + occurrences rule (released moved.value waiting.now)
+        ≡ slice_index counters.old rule + occurrences rule (released moved.former waiting.now) }
 {
-    for entry in waiting {
-        let rule = entry.rule as usize;
-        if entry.value == former {
-            let more = counters.as_slice()[rule] + 1;
-            counters.set(rule, more);
-        } else if entry.value == value {
-            let fewer = counters.as_slice()[rule] - 1;
-            counters.set(rule, fewer);
-        }
+    for condition in waiting {
+        let rule = condition.rule as usize;
+        let count = count_after(*condition, moved, counters.as_slice()[rule]);
+        counters.set(rule, count);
     }
 }

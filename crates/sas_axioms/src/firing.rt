@@ -1,24 +1,22 @@
 // Settles one layer by counters: each rule counts its open conditions, and fires when none is left.
-ghost use Rattle.std.specs.Prelude.{◌≡◌, ◌≢◌, ℕ, ◌+◌, ◌<◌, ◌≤◌, ◌^◌, [], List, length, All, IfOk, OnOk, slice_index};
+ghost use Rattle.std.specs.Prelude.{◌≡◌, ℕ, ◌<◌, ◌^◌, [], List, length, All, IfOk, OnOk, slice_index};
 ghost use Rattle.sas_core.specs.Grounded.{rule_at};
 ghost use Rattle.sas_core.specs.Variables.{IsState};
 ghost use Rattle.sas_meaning.specs.States.{AllHold};
-ghost use Rattle.sas_meaning.specs.Layers.{default_of};
 ghost use Rattle.sas_meaning.specs.Forced.{AtDefault};
 ghost use Rattle.sas_meaning.specs.Following.{HaveGone};
 ghost use Rattle.sas_meaning.specs.Settled.{SameBasic};
 ghost use Rattle.sas_meaning.specs.Touched.{StillCovers};
-ghost use Rattle.sas_axioms.specs.declared.conditions.Waiting.{Waiting};
 ghost use Rattle.sas_axioms.specs.ByLayers.{SettlesLayer};
 ghost use Rattle.sas_axioms.specs.LayerRules.{IsRuleOn, AreRulesOn};
-ghost use Rattle.sas_axioms.specs.Conditions.{AreCounted, IsFullIndex, IsOfRule, open_conditions, released, occurrences};
+ghost use Rattle.sas_axioms.specs.Conditions.{AreCounted, IsFullIndex, IsOfRule, CanRecount, open_conditions};
 ghost use Rattle.sas_axioms.specs.Agenda.{IsEmpty};
 ghost use Rattle.sas_axioms.specs.Sources.{AreGiven, SameSourcesOff};
 ghost use Rattle.sas_axioms.specs.Following.{IsFollowed};
 ghost use Rattle.sas_axioms.specs.Worklist.{IsRunning, HasRoom, IsAtWork, IsPopped, WorkGoesOn, FiresRule, IsFiringReady};
 
 use crate::agenda::{Agenda, TooMuch};
-use crate::conditions::Waiting;
+use crate::conditions::{Moved, Waiting, count_after};
 use crate::counting::Counted;
 use crate::following::{count_gone, settle_noted};
 use crate::layer_rules::{LayerRule, rules_of_variables};
@@ -76,6 +74,7 @@ impl Work {
 }
 
 /// Settles the layers of a task, one at a time.
+#[derive(Drop)]
 pub struct Firing {
     /// Makes the empty list that takes the place of the counters while they are set.
     alloc: Global,
@@ -85,20 +84,6 @@ pub struct Firing {
     rules_of: Lists<u32>,
     /// The data for settling a layer.
     work: Work,
-}
-
-impl Drop for Firing {
-    fn drop(self) {
-        let Firing {
-            alloc: _,
-            counted,
-            rules_of,
-            work,
-        } = self;
-        drop(counted);
-        drop(rules_of);
-        drop(work);
-    }
 }
 
 impl Firing {
@@ -292,48 +277,40 @@ fn empty_stack<T: Grounded>(
     // The contract of `task` ensures that the task is well ranged and layered.
     let _ = task.task();
     while let Some(var) = work.stack.pop() {
-        let fact = Fact {
-            var,
+        let moved = Moved {
+            former: task.initial_value(var),
             value: state.value(var),
         };
-        release(task, fact, index.get(var as usize), work, state);
+        release(task, moved, index.get(var as usize), work, state);
     }
 }
 
-/// Updates the counters of the rules with conditions on a variable, which was set to a value other than its default: this fact. Fires the
-/// rules of the layer whose counter becomes 0.
+/// Updates the counters of the rules with conditions on a variable, which was set to a value other than its default. Fires the rules of
+/// the layer whose counter becomes 0.
 fn release<T: Grounded>(
     task: &Layered<T>,
-    fact: Fact,
+    moved: Moved,
     waiting: &[Waiting],
     work: &mut Work,
     state: &mut State,
 )
-    requires exists { fact.var < length task.now.variables }
-    requires differ { default_of task.now fact.var ≢ fact.value }
+    requires can { CanRecount moved waiting.now work.old.counters }
     requires waiting { All (IsOfRule task.now) waiting.now }
-    requires small { All (λ (w : Waiting). slice_index work.old.counters w.rule
-        + occurrences w.rule (released (default_of task.now fact.var) waiting.now)
-        < 2 ^ 32) waiting.now }
-    requires enough { All (λ (w : Waiting). occurrences w.rule (released fact.value waiting.now)
-        ≤ slice_index work.old.counters w.rule) waiting.now }
-    requires popped { IsPopped task.now fact waiting.now state.old work.old }
+    requires popped { IsPopped task.now moved waiting.now state.old work.old }
     ensures at_work { IsAtWork task.now state.new work.new }
     ensures goes_on { WorkGoesOn task.now state.old work.old state.new work.new }
 {
     // The contract of `task` ensures that the task is well ranged and layered.
     let _ = task.task();
-    for entry in waiting {
-        let rule = entry.rule as usize;
-        if entry.value == fact.value {
-            let fewer = work.counters.as_slice()[rule] - 1;
-            work.counters.set(rule, fewer);
-            if fewer == 0 {
-                fire(task, entry.rule, work, state);
+    for condition in waiting {
+        let rule = condition.rule as usize;
+        let open = work.counters.as_slice()[rule];
+        let count = count_after(*condition, moved, open);
+        if count != open {
+            work.counters.set(rule, count);
+            if count == 0 {
+                fire(task, condition.rule, work, state);
             }
-        } else if entry.value == task.initial_value(fact.var) {
-            let more = work.counters.as_slice()[rule] + 1;
-            work.counters.set(rule, more);
         }
     }
 }

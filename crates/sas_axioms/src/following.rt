@@ -4,36 +4,27 @@
 // its default, then each variable whose source depended on that one, and so on. The remaining variables have sources that hold, and no
 // source depends on its own variable, so no two rules support only each other. Then the rules that hold set their variables, including
 // those that were reset.
-ghost use Rattle.std.specs.Prelude.{◌≡◌, ◌≢◌, ◌+◌, ◌<◌, ◌≤◌, ◌^◌, ℕ, List, length, All, OnOk, IsTrue, IsFalse, slice_index, slice_set};
-ghost use Rattle.sas_core.specs.declared.parts.Parts.{Parts};
+ghost use Rattle.std.specs.Prelude.{◌≡◌, ◌≢◌, ◌+◌, ◌<◌, ◌≤◌, ℕ, List, length, OnOk, IsTrue, IsFalse, slice_index, slice_set};
 ghost use Rattle.sas_core.specs.Grounded.{rule_at};
 ghost use Rattle.sas_core.specs.Variables.{IsDerived, IsState};
 ghost use Rattle.sas_meaning.specs.Following.{HaveGone};
 ghost use Rattle.sas_meaning.specs.Forced.{SameOff};
 ghost use Rattle.sas_meaning.specs.Settled.{SameBasic, differs};
 ghost use Rattle.sas_meaning.specs.Touched.{AddsTouched, StillCovers};
-ghost use Rattle.sas_axioms.specs.declared.conditions.Waiting.{Waiting};
 ghost use Rattle.sas_axioms.specs.Agenda.{IsEmpty, IsOnAgenda, IsOrdered, AreMadeReady, work_left};
-ghost use Rattle.sas_axioms.specs.Conditions.{AreCounted, IsFullIndex, occurrences, released};
+ghost use Rattle.sas_axioms.specs.Conditions.{AreCounted, IsFullIndex, CanRecount};
 ghost use Rattle.sas_axioms.specs.LayerRules.{IsRuleOn, AreRulesOf};
 ghost use Rattle.sas_axioms.specs.Sources.{SameSourcesOff};
 ghost use Rattle.sas_axioms.specs.Following.{SameWork, KeepsRoom, NotesMore, CountsTo, Recounts, CountsChange};
 ghost use Rattle.sas_axioms.specs.Following.{IsBetween, IsFalling, IsRising, HasRisen, IsFollowed};
 
 use crate::agenda::{Agenda, TooMuch};
-use crate::conditions::Waiting;
+use crate::conditions::{Moved, Waiting, count_after};
 use crate::firing::Work;
 use crate::layer_rules::{LayerRule, firing_layer};
 use sas_core::{Fact, Grounded};
 use sas_flat::Lists;
 use sas_meaning::{Layered, State, Touched};
-
-/// The former and the new value of a variable.
-#[derive(Clone, Copy, Debug)]
-pub struct Moved {
-    pub former: u32,
-    pub value: u32,
-}
 
 /// Updates the counters of the rules with conditions on the variables of `gone`, which are facts that may have become false.
 pub fn count_gone<T: Grounded>(
@@ -278,25 +269,18 @@ fn recount_waiting<T: Grounded>(
     moved: Moved,
     work: &mut Work,
 ) -> Result<(), TooMuch>
-    requires differ { moved.former ≢ moved.value }
+    requires can { CanRecount moved waiting.now work.old.counters }
     requires counters { length work.old.counters ≡ length task.now.rules }
-    requires exist { All (λ (w : Waiting). w.rule < length work.old.counters) waiting.now }
-    requires small { All (λ (w : Waiting). slice_index work.old.counters w.rule
-        + occurrences w.rule (released moved.former waiting.now) < 2 ^ 32) waiting.now }
-    requires enough { All (λ (w : Waiting). occurrences w.rule (released moved.value waiting.now)
-        ≤ slice_index work.old.counters w.rule) waiting.now }
     requires ordered { IsOrdered work.old.agenda }
     ensures same { SameWork work.old work.new }
-    ensures recounts { OnOk result
-        (Recounts task.now waiting.now moved.former moved.value work.old work.new) }
+    ensures recounts { OnOk result (Recounts task.now waiting.now moved work.old work.new) }
 {
     work.agenda.pay(waiting.len())?;
-    for entry in waiting {
-        let open = work.counters.as_slice()[entry.rule as usize];
-        if entry.value == moved.former {
-            count_to(task, entry.rule, open + 1, work)?;
-        } else if entry.value == moved.value {
-            count_to(task, entry.rule, open - 1, work)?;
+    for condition in waiting {
+        let open = work.counters.as_slice()[condition.rule as usize];
+        let count = count_after(*condition, moved, open);
+        if count != open {
+            count_to(task, condition.rule, count, work)?;
         }
     }
     Ok(())

@@ -1,5 +1,5 @@
 // The rules that can fire, layer by layer.
-ghost use Rattle.std.specs.Prelude.{◌≡◌, ◌<◌, ◌≤◌, ◌^◌, ℕ, length, IfOk, IfSome, IfNone, IsTrue, IsFalse};
+ghost use Rattle.std.specs.Prelude.{◌<◌, ◌≤◌, ℕ, length, IfOk, IfSome, IfNone, IsTrue, IsFalse};
 ghost use Rattle.sas_axioms.specs.LayerRules.{IsRuleOn, IsLate, AreFirstRules, AreLayerRules, IsLayerEnd, IsLayerSpan, AreSpans, AreRulesOf};
 
 use sas_core::Grounded;

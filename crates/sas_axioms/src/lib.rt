@@ -12,6 +12,7 @@ mod layer_rules;
 mod rounds;
 mod worklist;
 
+pub use conditions::{Waiting, index_of_all};
 pub use layer_rules::rules_of_variables;
 pub use rounds::Rounds;
 pub use sas_meaning::{LayerFault, Layered, Settle, State, StateFault, Touched, meaning_laws};

@@ -1,8 +1,7 @@
 // Settles states in rounds: the rules of a layer are evaluated repeatedly until no value changes.
-ghost use Rattle.std.specs.Prelude.{ℕ, ◌<◌, ◌≤◌, ◌↔◌, length, All, IsTrue, IsFalse, IfSome, IfNone, slice_index};
+ghost use Rattle.std.specs.Prelude.{ℕ, ◌<◌, ◌≤◌, length, All, IsTrue, IsFalse, IfSome, IfNone};
 ghost use Rattle.sas_core.specs.Grounded.{rule_at};
 ghost use Rattle.sas_core.specs.Variables.{IsState};
-ghost use Rattle.sas_meaning.specs.States.{AllHold};
 ghost use Rattle.sas_meaning.specs.Settled.{SameBasic};
 ghost use Rattle.sas_meaning.specs.Forced.{OnlyForced, equal_places, HasFired, Changes, SameOff, AtDefault, Occurs};
 ghost use Rattle.sas_axioms.specs.ByLayers.{SettlesLayer};

@@ -10,7 +10,7 @@ pub use Rattle.std.proofs.lemmas.Fn.{always_returns_same}
 pub use Rattle.std.proofs.lemmas.Grind.{flat_map-append, common_steps}
 pub use Rattle.std.proofs.lemmas.List.{get_or-set_same, get_or-set_other, length-set, append-nil, map-append, take_more, take_all, take-take, length-take-le, get_or-take, length-append, same_lists, get_or_default, length-replicate, get_or_append_left, get_or-map, length-map, get_or-append-add, get_or-replicate, get_or_past, take_at, drop_at, drop_all, length-drop}
 pub use Rattle.std.proofs.lemmas.List.Concat.{flat_map-cons}
-pub use Rattle.std.proofs.lemmas.List.Elements.{Contains-append_left, Contains-append_right, Contains-append_cases, filter-append, All-contains, All-weaker, All-nil, All-cons, All-append, Contains-get_or, All-push, Contains-push, Contains-push_cases, All-from_recursion, All-head, All-rest}
+pub use Rattle.std.proofs.lemmas.List.Elements.{Contains-append_left, Contains-append_right, Contains-append_cases, filter-append, All-contains, All-weaker, All-nil, All-cons, All-append, Contains-get_or, All-push, Contains-push, Contains-push_cases, All-from_recursion, All-head, All-rest, All-tail}
 pub use Rattle.std.proofs.lemmas.List.Folds.{Any-from_list_any, list_any_at}
 pub use Rattle.std.proofs.lemmas.List.Kept.{AllPairs-filter, AllPairs-cons}
 pub use Rattle.std.proofs.lemmas.List.Sorted.{All-permutation, Contains-permutation, IsPermutation-sym, length_permutation, sorted_far, ranks_by}
@@ -27,6 +27,9 @@ pub use Rattle.std.specs.declared.cmp.Ordering.TheVariants.{Equal}
 pub use Rattle.sas_answers.proofs.WordedLines.{worded}
 pub use Rattle.sas_answers.specs.PlanWords.{fault_words, invalid_line}
 pub use Rattle.sas_axioms.proofs.RulesOf.{of_variable, can_of}
+pub use Rattle.sas_axioms.specs.Conditions.{IsFullIndex, IsOfRule, waiting_at, asking, occurrences, released}
+pub use Rattle.sas_axioms.specs.LayerRules.{IsRuleOn}
+pub use Rattle.sas_axioms.specs.declared.conditions.Waiting.{Waiting}
 pub use Rattle.sas_core.proofs.Places.{holds_at}
 pub use Rattle.sas_core.specs.Changes.{rule_change}
 pub use Rattle.sas_core.specs.Grounded.{rule_at, operator_at, effect_at}
@@ -38,10 +41,6 @@ pub use Rattle.sas_core.specs.declared.parts.Fact.{Fact}
 pub use Rattle.sas_core.specs.declared.parts.Operator.{Operator}
 pub use Rattle.sas_core.specs.declared.parts.Parts.{Parts}
 pub use Rattle.sas_core.specs.declared.parts.Rule.{Rule}
-pub use Rattle.sas_flat.proofs.ByKey.{under_key, all_items, holds}
-pub use Rattle.sas_flat.proofs.Tables.{length-table}
-pub use Rattle.sas_flat.specs.ByKey.{items_of, by_key}
-pub use Rattle.sas_flat.specs.declared.by_key.Entry.{Entry}
 pub use Rattle.sas_meaning.proofs.DerivedVariables.{derived_within}
 pub use Rattle.sas_meaning.proofs.Forced.{condition_within, fact_within}
 pub use Rattle.sas_meaning.proofs.Layers.{layer_decides, given_on, given_off, one_layer, layer_cases, on_layer_within}
@@ -94,9 +93,8 @@ pub use Rattle.sas_why.specs.Explained.{IsExplained}
 pub use Rattle.sas_why.specs.Noting.{HavePlaces, NotedAt, LeftAt, NotesSome, NotesChanges, looked_at, CoverChanges, AreFirstChanges, AddsOther, NotesStep}
 pub use Rattle.sas_why.specs.Origins.{is_reported, AreOrigins, ReportsDerivation, nowhere, place_cmp, place_at, ArePlaces, AreInOrder, AddsDerivation, OriginsMatchState, HasRule, HasRuleBelow, IsReportedOf, AreReportedBelow, SameOrigins, unreported, AddsRules}
 pub use Rattle.sas_why.specs.Report.{lines_of_keepers, is_kept, IsReport, IsBehind, ReportsOnce, IsReportOf, Adds}
-pub use Rattle.sas_why.specs.Requiring.{entry_of, HasConditionOn, IsEntryOfTask, AddsRequiring, requiring_at, IsRequiringIndex}
 pub use Rattle.sas_why.specs.Retracing.{IsOtherIfAny, Retraces, first_steps, HaveSince, AreNotes}
-pub use Rattle.sas_why.specs.Rounds.{origin_at, origin_now, origin_with_rule, unreached, HaveOrigins, IsReached, OriginsUpToRound, value_in_round, HasOrigin, IsOrigin, HavePassed, ReachesNow, InRound, ContinuesRound, AreAllRules, AreBefore, IsFirstOpen, HasLower, AreAwaited, added, Reaches, HoldFrom}
+pub use Rattle.sas_why.specs.Rounds.{origin_at, origin_now, origin_with_rule, unreached, HaveOrigins, IsReached, OriginsUpToRound, value_in_round, HasOrigin, IsOrigin, HavePassed, ReachesNow, InRound, ContinuesRound, AreAllRules, AreBefore, IsFirstOpen, HasLower, rules_of, requiring_at, AreAwaited, added, Reaches, HoldFrom}
 pub use Rattle.sas_why.specs.Verdict.{WhyVerdict}
 pub use Rattle.sas_why.specs.declared.changes.Changes.{Changes}
 pub use Rattle.sas_why.specs.declared.origins.Origins.{Origins}

@@ -10,7 +10,7 @@ pub mod Composing
 pub mod Within
 pub mod Faulty
 pub mod Behind
-pub mod RequiringEntries
+pub mod Requiring
 pub mod Reaching
 pub mod Origined
 pub mod RoundSteps

@@ -1,7 +1,8 @@
 -- How a round ends, how the first one begins, and what is known when no rule is left to look at.
 use Rattle.std.proofs.lemmas.Grind.{common_steps}
-use Rattle.sas_why.proofs.Imports.{All, IsFalse, ◌≡◌, ℕ, suc, ◌+◌, ◌<◌, ◌≤◌, true, false, List, [], ◌∷◌, length, get_or, None, Some, refl, sym, ◌∙◌, ap, subst, inl, inr, arith, is_some, Contains, cases_lt, cases_Bool, false≢true, and_parts, get_or-replicate, length-replicate, get_or_default, get_or_past, All-nil, All-contains, Parts, rule_at, IsOnLayer, IsLayered, IsSettled, IsClosed, Origin, Rounds, requiring_at, origin_at, IsOrigin, HasOrigin, HaveOrigins, IsReached, OriginsUpToRound, HavePassed, ReachesNow, InRound, unreached, ContinuesRound, AreAllRules, AreBefore, differs, layer_cases, contains_none, reached, HasLayerAndRank, FiresNext, is_given, Fires, ReachedBy, reached_by}
+use Rattle.sas_why.proofs.Imports.{All, IsFalse, ◌≡◌, ℕ, suc, ◌+◌, ◌<◌, ◌≤◌, true, false, List, [], ◌∷◌, length, get_or, None, Some, refl, sym, ◌∙◌, ap, subst, inl, inr, arith, Contains, cases_lt, cases_Bool, false≢true, and_parts, get_or-replicate, length-replicate, get_or_default, get_or_past, All-nil, All-contains, Parts, rule_at, IsRuleOn, IsOnLayer, IsLayered, IsSettled, IsClosed, Origin, Rounds, requiring_at, origin_at, IsOrigin, HasOrigin, HaveOrigins, IsReached, OriginsUpToRound, HavePassed, ReachesNow, InRound, unreached, ContinuesRound, AreAllRules, AreBefore, differs, layer_cases, contains_none, reached, HasLayerAndRank, FiresNext, is_given, Fires, ReachedBy, reached_by}
 use Rattle.sas_why.proofs.Reaching.{reached_up, reached_in, holds_on, Begins, all_or_begins}
+use Rattle.sas_why.proofs.Requiring.{requires_it}
 use Rattle.sas_why.proofs.Origined.{unreached_none}
 use Rattle.sas_why.proofs.RoundSteps.{fires_now, fires_next, reached_next, same_at}
 
@@ -85,15 +86,15 @@ module _ (p : Parts) (s : List ℕ) (layered : IsLayered p) (settled : IsSettled
     due_next : AreDue p s (suc r.over) r.next.items
     due_next = record { exist = inside.exist; whole = whole }
       where
-        awaited : (m rule : ℕ) → rule < length p.rules → (b : Begins p s layered settled r.over m (rule_at p rule).conditions) → Contains r.next.items rule
-        awaited m rule lt b =
+        awaited : (m rule : ℕ) → IsRuleOn p m rule → (b : Begins p s layered settled r.over m (rule_at p rule).conditions) → Contains r.next.items rule
+        awaited m rule is b =
             let w = known_next.whole m b.condition.var b.on b.now in
             elim (inside.each b.condition.var w.origin w.at) [
               | inl early ↦ absurd (false≢true (sym b.not_yet
                   ∙ reached_in p s layered r.over r.origins.items inside.at.known m b.condition.var b.on (record { origin = w.origin; at = w.at; earlier = early })))
               | inr now ↦ All-contains (Contains r.next.items) (requiring_at r.requiring b.condition.var) rule
                   (inside.next b.condition.var w.origin w.at now.rank)
-                  (inside.at.requiring.each rule b.condition.var lt (record { condition = b.condition; among = b.among; on = refl; derived = ap is_some b.on }))
+                  (requires_it p r.requiring m rule b.condition inside.at.requiring is b.among)
             ]
 
         whole : (m v rule : ℕ) → IsOnLayer p m v → FiresNext p s v m (suc r.over) rule → reached p m s (suc r.over) v ≡ false → Contains r.next.items rule
@@ -102,7 +103,7 @@ module _ (p : Parts) (s : List ℕ) (layered : IsLayered p) (settled : IsSettled
             elim (all_or_begins p s layered settled r.over m (rule_at p rule).conditions its.hold) [
               | inl all ↦ absurd (false≢true (sym not ∙ reached_next p s v m r.over rule on
                   (fires_next p s v m r.over rule f.exists (record { on = its.on; can = its.can; hold = all }))))
-              | inr b ↦ awaited m rule f.exists b
+              | inr b ↦ awaited m rule (record { exists = f.exists; on = subst (λ v. IsOnLayer p m v) (sym its.on) on; can = its.can }) b
             ]
 
     -- so the next round begins

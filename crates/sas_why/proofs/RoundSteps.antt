@@ -1,6 +1,7 @@
 -- How a round goes on when a rule is looked at, and how it ends.
 use Rattle.std.proofs.lemmas.Grind.{common_steps}
-use Rattle.sas_why.proofs.Imports.{◌≡◌, ◌≢◌, ℕ, suc, ◌<◌, ◌≤◌, ◌⊎◌, true, false, List, [], ◌∷◌, ◌++◌, length, get_or, set, Option, None, Some, refl, sym, ◌∙◌, ap, subst, inl, inr, arith, All, Contains, cases_eq, cases_lt, cases_Bool, get_or-set_same, get_or-set_other, length-set, append-nil, All-nil, All-append, All-weaker, Contains-push_cases, Contains-append_left, Contains-append_right, Origin, Rounds, requiring_at, origin_at, OriginsUpToRound, IsFirstOpen, HavePassed, ReachesNow, HasLower, AreAwaited, InRound, unreached, ContinuesRound, origin_now, origin_with_rule, added, Reaches, value_in_round, Contains-get_or, Change, Fact, Parts, rule_change, rule_at, IsOnLayer, default_of, CanFire, one_layer, reached, FiresNext, Fires, fires_decides, reach}
+use Rattle.sas_why.proofs.Imports.{◌≡◌, ◌≢◌, ℕ, suc, ◌<◌, ◌≤◌, ◌⊎◌, true, false, List, [], ◌∷◌, ◌++◌, length, get_or, set, Option, None, Some, refl, sym, ◌∙◌, ap, subst, inl, inr, arith, All, Contains, cases_eq, cases_lt, cases_Bool, get_or-set_same, get_or-set_other, length-set, append-nil, All-nil, All-append, All-weaker, Contains-push_cases, Contains-append_left, Contains-append_right, Origin, Rounds, Waiting, requiring_at, origin_at, OriginsUpToRound, IsFirstOpen, HavePassed, ReachesNow, HasLower, AreAwaited, InRound, unreached, ContinuesRound, origin_now, origin_with_rule, added, Reaches, value_in_round, Contains-get_or, Change, Fact, Parts, rule_change, rule_at, IsOnLayer, default_of, CanFire, one_layer, reached, FiresNext, Fires, fires_decides, reach}
+use Rattle.sas_why.proofs.Requiring.{requiring_exist}
 use Rattle.sas_why.proofs.Origined.{some_same, NotEarlier, with_rule_cases, unreached_fewer, unreached_same}
 
 -- what follows where a rule fires in a round
@@ -131,7 +132,7 @@ module _ (p : Parts) (s : List ℕ) (over var rule layer : ℕ) (origins : List 
   set_itself : HasLower over after var rule
   set_itself = grind (arith, common_steps, with_rule_cases, at_var)
 
-  module _ (requiring : List (List ℕ)) (next : List ℕ) where
+  module _ (requiring : List (List Waiting)) (next : List ℕ) where
     abbrev next_after : List ℕ
     next_after = next ++ added its (requiring_at requiring var)
 
@@ -173,7 +174,7 @@ reach_round p s r r' rules layer var rule lt on fires now inside = record {
   each = rw (now.over, now.origins) (set_each p s r.over var rule layer r.origins.items lt on fires inside.at.known inside.each);
   looked = rw (now.over, now.origins) looked;
   next = rw (now.over, now.origins, now.requiring, now.next) (set_awaited p s r.over var rule layer r.origins.items lt on fires r.requiring r.next.items inside.next);
-  exist = rw now.next (set_exist p s r.over var rule layer r.origins.items lt on fires r.requiring r.next.items (length p.rules) inside.exist (inside.at.requiring.only var));
+  exist = rw now.next (set_exist p s r.over var rule layer r.origins.items lt on fires r.requiring r.next.items (length p.rules) inside.exist (requiring_exist p r.requiring var inside.at.requiring));
 }
   where
     looked : (m v k : ℕ) → Contains (rules ++ rule ∷ []) k → IsOnLayer p m v → FiresNext p s v m r.over k

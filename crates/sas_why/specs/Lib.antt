@@ -1,4 +1,3 @@
-pub mod Requiring
 pub mod Origins
 pub mod Retracing
 pub mod Noting

@@ -1,5 +1,5 @@
 // Which effects of an operator conflict.
-ghost use Rattle.std.specs.Prelude.{◌≡◌, ◌<◌, ◌+◌, length, IfOk, IfSome, IfNone};
+ghost use Rattle.std.specs.Prelude.{◌<◌, ◌+◌, length, IfOk, IfSome, IfNone};
 ghost use Rattle.sas_core.specs.Grounded.{operator_at};
 ghost use Rattle.sas_core.specs.Variables.{IsState};
 ghost use Rattle.sas_meaning.specs.Steps.{Agree};

@@ -1,5 +1,5 @@
 // Why a plan isn't valid.
-ghost use Rattle.std.specs.Prelude.{◌≡◌, ◌<◌, ◌-◌, ◌∷◌, ℕ, [], length, All, IfOk, OnOk, Some};
+ghost use Rattle.std.specs.Prelude.{◌≡◌, ◌<◌, ◌-◌, ◌∷◌, ℕ, length, All, IfOk, OnOk, Some};
 ghost use Rattle.sas_core.specs.Grounded.{operator_at};
 ghost use Rattle.sas_core.specs.Variables.{IsState};
 ghost use Rattle.sas_meaning.specs.Steps.{Agree};

@@ -9,7 +9,6 @@ mod faults;
 mod likeness;
 mod origins;
 mod report;
-mod requiring;
 mod retraced;
 mod rounds;
 mod second_pass;

@@ -3,9 +3,9 @@ ghost use Rattle.std.specs.Prelude.{◌≡◌, ℕ, ◌+◌, ◌^◌, ◌<◌, �
 ghost use Rattle.sas_core.specs.Grounded.{rule_at};
 ghost use Rattle.sas_core.specs.Variables.{IsState};
 ghost use Rattle.sas_meaning.specs.Settled.{IsSettled};
-ghost use Rattle.sas_why.specs.Rounds.{HaveOrigins, value_in_round, IsReached, OriginsUpToRound, IsFirstOpen, AtRound, InRound, ContinuesRound, Reaches, AreAllRules, AreBefore};
+ghost use Rattle.sas_why.specs.Rounds.{HaveOrigins, value_in_round, IsReached, OriginsUpToRound, IsFirstOpen, AtRound, InRound, ContinuesRound, Reaches, AreAllRules, AreBefore, rules_of};
 
-use crate::requiring::requiring_rules;
+use sas_axioms::{Waiting, index_of_all};
 use sas_core::Grounded;
 use sas_flat::Lists;
 use sas_meaning::{Layered, State};
@@ -29,8 +29,8 @@ struct Rounds {
     origins: Vec<Option<Origin>>,
     /// For each rule, how many of its first conditions are known to hold.
     passed: Vec<usize>,
-    /// For each derived variable, the rules that require its values.
-    requiring: Lists<u32>,
+    /// For each variable, the conditions on it.
+    requiring: Lists<Waiting>,
     /// The rules that are to be looked at in the next round.
     next: Vec<u32>,
 }
@@ -45,18 +45,14 @@ pub fn origins_of<T: Grounded>(
     requires settled { IsSettled task.now state.now }
     ensures { IfOk result (λ origins. HaveOrigins task.now state.now origins.items) }
 {
-    // By its contract the task is well ranged and layered.
-    let _ = task.task();
+    let rules = all_rules(alloc, task)?;
     let mut rounds = Rounds::new(alloc, task)?;
-    let mut rules = all_rules(alloc, task)?;
-    while !rules.is_empty() {
-        rounds.look_at_all(task, state, rules.as_slice())?;
-        rounds.over += 1;
-        mem::swap(&mut rules, &mut rounds.next);
-        rounds.next.clear();
-    }
+    let finished = rounds.finish(task, state, rules);
     let Rounds { origins, .. } = rounds;
-    Ok(origins)
+    match finished {
+        Ok(()) => Ok(origins),
+        Err(error) => Err(error),
+    }
 }
 
 /// Returns all rules of the task.
@@ -81,9 +77,33 @@ impl Rounds {
             over: 0,
             origins: vec![in alloc; None; task.variables() as usize]?,
             passed: vec![in alloc; 0; task.rules() as usize]?,
-            requiring: requiring_rules(alloc, task)?,
+            requiring: index_of_all(alloc, task)?,
             next: Vec::new(alloc),
         })
+    }
+
+    /// Goes through the rounds until no rule is left to look at. In the first one, it looks at these rules.
+    fn finish<T: Grounded>(
+        &mut self,
+        task: &Layered<T>,
+        state: &State,
+        mut rules: Vec<u32>,
+    ) -> Result<(), AllocError>
+        requires state { IsState task.now.variables state.now }
+        requires settled { IsSettled task.now state.now }
+        requires before { AreBefore task.now self.old }
+        requires rules { AreAllRules task.now rules.items }
+        ensures { OnOk result (HaveOrigins task.now state.now self.new.origins.items) }
+    {
+        // By its contract the task is well ranged and layered.
+        let _ = task.task();
+        while !rules.is_empty() {
+            self.look_at_all(task, state, rules.as_slice())?;
+            self.over += 1;
+            mem::swap(&mut rules, &mut self.next);
+            self.next.clear();
+        }
+        Ok(())
     }
 
     /// Looks at these rules, one after another.
@@ -210,8 +230,7 @@ impl Rounds {
         };
         match self.origins.as_slice()[var as usize] {
             None => {
-                self.next
-                    .extend_from_slice(self.requiring.get(var as usize))?;
+                push_rules(self.requiring.get(var as usize), &mut self.next)?;
                 self.origins[var as usize] = Some(origin);
             }
             Some(earlier) => {
@@ -222,4 +241,14 @@ impl Rounds {
         }
         Ok(())
     }
+}
+
+/// Adds the rules of these conditions.
+fn push_rules(waiting: &[Waiting], rules: &mut Vec<u32>) -> Result<(), AllocError>
+    ensures { OnOk result (rules.new.items ≡ rules.old.items ++ rules_of waiting.now) }
+{
+    for condition in waiting {
+        rules.push(condition.rule)?;
+    }
+    Ok(())
 }

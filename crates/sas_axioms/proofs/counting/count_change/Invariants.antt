@@ -2,5 +2,5 @@
 use Rattle.sas_axioms.proofs.CountingEntries.{CountersSoFar}
 use Rattle.sas_axioms.proofs.counting.count_change.Given as goal
 
-abbrev pub invariant-loop-entry : goal.invariant-loop-entry
-invariant-loop-entry l = CountersSoFar l.former l.value l.waiting l.entry-index l.fn.counters l.counters
+abbrev pub invariant-loop-condition : goal.invariant-loop-condition
+invariant-loop-condition l = CountersSoFar l.moved l.waiting l.condition-index l.fn.counters l.counters

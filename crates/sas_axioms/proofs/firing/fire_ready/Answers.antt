@@ -1,7 +1,7 @@
 -- One more rule without open conditions has fired.
 use Rattle.sas_axioms.proofs.Imports.{◌≡◌, ℕ, List, length, get_or, refl, sym, subst, ap, ◌∙◌, inl, inr, arith, cases_eq, get_or_default, rule_at, differs_true, LayerRule, IsRuleOn, value_seen, AreCountedBy}
-use Rattle.sas_axioms.proofs.LayerStart.{late_waits}
 use Rattle.sas_axioms.proofs.Counters.{ready, counts_seen, goes_on_still, goes_on_more}
+use Rattle.sas_axioms.proofs.Sources.{late_waits}
 use Rattle.sas_axioms.proofs.firing.fire_ready.Goals as goal
 use Rattle.sas_axioms.proofs.firing.fire_ready.Goals.{then-as_slice-entry-eq0, else-as_slice-entry-eq0}
 

@@ -2,5 +2,5 @@
 use Rattle.sas_axioms.proofs.Counters.{Releasing}
 use Rattle.sas_axioms.proofs.firing.release.Given as goal
 
-abbrev pub invariant-loop-entry : goal.invariant-loop-entry
-invariant-loop-entry g l = Releasing l.task l.fact l.waiting l.entry-index l.fn.state l.fn.work l.state l.work
+abbrev pub invariant-loop-condition : goal.invariant-loop-condition
+invariant-loop-condition g l = Releasing l.task l.moved l.waiting l.condition-index l.fn.state l.fn.work l.state l.work

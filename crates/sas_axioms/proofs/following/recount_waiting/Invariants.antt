@@ -2,5 +2,5 @@
 use Rattle.sas_axioms.proofs.CountingEntries.{CountedEntries}
 use Rattle.sas_axioms.proofs.following.recount_waiting.Given as goal
 
-abbrev pub invariant-loop-entry : goal.invariant-loop-entry
-invariant-loop-entry g l = CountedEntries l.task l.moved.former l.moved.value l.waiting l.entry-index l.fn.work l.work
+abbrev pub invariant-loop-condition : goal.invariant-loop-condition
+invariant-loop-condition g l = CountedEntries l.task l.moved l.waiting l.condition-index l.fn.work l.work

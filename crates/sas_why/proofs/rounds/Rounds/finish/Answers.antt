@@ -1,7 +1,7 @@
 -- Each round leads to the next one, and none is left when no rule is.
 use Rattle.sas_why.proofs.Imports.{◌≡◌, ℕ, ◌<◌, ◌==◌, Bool, true, false, Vec, Global, vec_len, [], length, refl, sym, ap, subst, ◌∙◌, inl, inr, arith, cases_lt, false≢true, eqb_tells, InRound}
 use Rattle.sas_why.proofs.RoundEnds.{AreDue, first_round, first_due, first_unreached, found_all, begins_next, due_then, few_then, more_then, nil_of}
-use Rattle.sas_why.proofs.rounds.origins_of.Goals as goal
+use Rattle.sas_why.proofs.rounds.Rounds.finish.Goals as goal
 
 some_rule : (rules : Vec ℕ Global) (empty : Bool) → empty ≡ (vec_len rules == 0) → empty ≡ false → 0 < length rules.items
 some_rule rules empty tested is = elim (eqb_tells (vec_len rules) 0) [
@@ -15,24 +15,24 @@ no_rule rules empty tested is = elim (eqb_tells (vec_len rules) 0) [
   | inr w ↦ absurd (false≢true (sym w.0 ∙ (sym tested ∙ is)))
 ]
 
-pub loop-rounds-init : goal.loop-rounds-init
-loop-rounds-init g c =
-    let before = c.in_ok-rounds.ensures in
+pub loop-self-init : goal.loop-self-init
+loop-self-init g c =
+    let before = c.requires.before in
     let over = before.over in
     let all = first_unreached _ _ before in
     record {
       round = first_round _ _ _ before;
       none = before.next;
-      due = first_due _ _ _ _ c.in_ok-rules.ensures;
+      due = first_due _ _ _ _ c.requires.rules;
       few = omega arith;
       more = λ _. omega arith;
     }
 
-pub loop-rounds-smaller : goal.loop-rounds-smaller
-loop-rounds-smaller g c =
-    let some = some_rule c.loop-rounds.rules c.is_empty.result c.is_empty.ensures c.loop-rounds-test.true in
+pub loop-self-smaller : goal.loop-self-smaller
+loop-self-smaller g c =
+    let some = some_rule c.loop-self.rules c.is_empty.result c.is_empty.ensures c.loop-self-test.true in
     let goes = c.in_ok-look_at_all.ensures.goes_on in
-    let none = ap length c.loop-rounds.invariant.none in
+    let none = ap length c.loop-self.invariant.none in
     let is = ap (λ v. length v.items) c.swap.ensures.x_after in
     let fewer = goes.fewer in
     elim (cases_lt 0 (length c.swap.new.x.items)) [
@@ -40,14 +40,14 @@ loop-rounds-smaller g c =
       | inr le ↦ omega arith
     ]
 
-pub loop-rounds-preserved : goal.loop-rounds-preserved
-loop-rounds-preserved g c =
+pub loop-self-preserved : goal.loop-self-preserved
+loop-self-preserved g c =
     let p = c.args.task.now in
     let s = c.args.state.now in
-    let inv = c.loop-rounds.invariant in
+    let inv = c.loop-self.invariant in
     let r' = c.look_at_all.new.self in
-    let rules = c.loop-rounds.rules.items in
-    let some : 0 < length rules = some_rule c.loop-rounds.rules c.is_empty.result c.is_empty.ensures c.loop-rounds-test.true in
+    let rules = c.loop-self.rules.items in
+    let some : 0 < length rules = some_rule c.loop-self.rules c.is_empty.result c.is_empty.ensures c.loop-self-test.true in
     let inside : InRound p s r' rules = subst (λ xs. InRound p s r' xs) c.as_slice.ensures.value c.in_ok-look_at_all.ensures.looked in
     let goes = c.in_ok-look_at_all.ensures.goes_on in
     let is = ap (λ v. v.items) c.swap.ensures.x_after in
@@ -62,6 +62,6 @@ loop-rounds-preserved g c =
 
 pub returns : goal.returns
 returns g c =
-    let empty = no_rule c.loop-rounds.rules c.is_empty.result c.is_empty.ensures c.loop-rounds-test.false in
-    found_all c.args.task.now c.args.state.now c.task.ensures.layered c.requires.settled c.loop-rounds.rounds c.loop-rounds.invariant.round
-    (subst (λ xs. AreDue c.args.task.now c.args.state.now c.loop-rounds.rounds.over xs) empty c.loop-rounds.invariant.due)
+    let empty = no_rule c.loop-self.rules c.is_empty.result c.is_empty.ensures c.loop-self-test.false in
+    found_all c.args.task.now c.args.state.now c.task.ensures.layered c.requires.settled c.loop-self.self c.loop-self.invariant.round
+    (subst (λ xs. AreDue c.args.task.now c.args.state.now c.loop-self.self.over xs) empty c.loop-self.invariant.due)
