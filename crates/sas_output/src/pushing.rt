@@ -1,8 +1,6 @@
 // How lines of reasons go out: names are looked up here.
-ghost use Rattle.std.specs.Prelude.{◌≡◌, ◌↔◌, ◌⊎◌, false, [], ◌∷◌, ◌++◌, map, Some};
-ghost use Rattle.std.specs.Prelude.{IfErr, IsErr, IsErrAnd, IsTrue, OnOk, decimal, if◌then◌else◌};
-ghost use Rattle.std.specs.Io.KnownBytes.{Appends};
-ghost use Rattle.sas_output.specs.Ending.{EndsCounting, IsWrite};
+ghost use Rattle.std.specs.Prelude.{◌≡◌, false, [], ◌∷◌, ◌++◌, map, Some, decimal};
+ghost use Rattle.sas_output.specs.Ending.{EndsCounting, Writes};
 ghost use Rattle.sas_output.specs.Sink.{Pushes};
 ghost use Rattle.sas_output.specs.Words.{word_bytes};
 ghost use Rattle.sas_output.specs.Line.{words_of, line_bytes, reasons_text};
@@ -33,14 +31,11 @@ pub fn write_reasons<W: Write>(
     lines: &[Line],
 ) -> Result<Status, ToolFault>
     requires { out.old.failed ≡ false }
-    ensures ends { EndsCounting (λ output. output ≡ Some (record {
+    ensures { Writes W.contents (EndsCounting (λ output. output ≡ Some (record {
       text = verdict.now.text.items
           ++ reasons_text named.now.task.now (steps_of named.now.plan) lines.now;
       status = verdict.now.status;
-    })) (Appends (W.contents out.old.device) (W.contents out.new.device)) result }
-    ensures nothing { IfErr result (λ e. IsWrite e
-        ⊎ ((e ≡ ToolFault.Memory) × (out.new ≡ out.old))) }
-    ensures writes { IsErrAnd result IsWrite ↔ IsTrue out.new.failed }
+    }))) out.old out.new result }
 {
     // What takes memory comes first.
     let mut pieces = Pieces::new(alloc)?;
