@@ -73,25 +73,16 @@ fn push_rest<W: Write>(sink: &mut Sink<'_, W>, named: &Named<'_>, start: Start, 
     let task = named.task;
     match rest {
         Rest::Nothing => push_words(sink, start, &[]),
-        Rest::Number(number) => push_words(sink, start, &[Word::Number(number)]),
-        Rest::Sum(sum) => {
-            let mut buffer = Buffer::new();
-            push_words(sink, start, &[Word::Text(buffer.format(sum).as_bytes())])
-        }
-        Rest::Metric => push_words(sink, start, &[Word::Number(u64::from(task.metric()))]),
+        Rest::Number(number) => push_number(sink, start, number),
+        Rest::Sum(sum) => push_sum(sink, start, sum),
+        Rest::Metric => push_number(sink, start, u64::from(task.metric())),
         Rest::Step(step) => push_named(sink, start, step as u64, named.step_name(step)),
         Rest::Operator(operator) => {
             let name = operator_name(task, operator);
             push_named(sink, start, u64::from(operator), name)
         }
         Rest::CouldBe(step, operator) => {
-            let could_be = Word::Text(b"could also be operator");
-            let words = [
-                Word::Number(step as u64),
-                could_be,
-                Word::Number(operator as u64),
-            ];
-            push_words(sink, start, &words)
+            push_could_be(sink, start, step as u64, u64::from(operator))
         }
         Rest::OfFact(fact) => push_fact(sink, task, start, fact),
         Rest::OfPart(part) => push_part(sink, task, start, part),
@@ -109,6 +100,33 @@ fn push_words<W: Write>(sink: &mut Sink<'_, W>, start: Start, words: &[Word<'_>]
         rest: words,
     };
     sink.push_line(line);
+}
+
+/// Adds the line of a number, and its end.
+fn push_number<W: Write>(sink: &mut Sink<'_, W>, start: Start, number: u64)
+    ensures { Pushes W.contents sink.old sink.new
+        (line_with start (decimal number ∷ []) ++ 10 ∷ []) }
+{
+    push_words(sink, start, &[Word::Number(number)])
+}
+
+/// Adds the line of a number that may be larger than a `u64`, and its end.
+fn push_sum<W: Write>(sink: &mut Sink<'_, W>, start: Start, sum: u128)
+    ensures { Pushes W.contents sink.old sink.new
+        (line_with start (decimal sum ∷ []) ++ 10 ∷ []) }
+{
+    let mut buffer = Buffer::new();
+    push_words(sink, start, &[Word::Text(buffer.format(sum).as_bytes())])
+}
+
+/// Adds the line of a step and an operator that it could also be, and its end.
+fn push_could_be<W: Write>(sink: &mut Sink<'_, W>, start: Start, step: u64, operator: u64)
+    ensures { Pushes W.contents sink.old sink.new
+        (line_with start (could_be_words step operator) ++ 10 ∷ []) }
+{
+    let could_be = Word::Text(b"could also be operator");
+    let words = [Word::Number(step), could_be, Word::Number(operator)];
+    push_words(sink, start, &words)
 }
 
 /// Adds the line of a number and a name, and its end.

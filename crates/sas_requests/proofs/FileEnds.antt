@@ -76,18 +76,15 @@ module _ {D V I S A W : Type 0} (left : D → Option (List ℕ)) (F : Format V I
     value_out b given (Some o) is = let (v, reads, answer) = gives b given o is in value_by F Reports name detail IsAnswer b v o reads answer
     value_out b given None is = absurd is
 
-    ends_value : (r : Result Status ToolFault) → ReadsAll left F Gives old new (Ok a) → (Sent : List ℕ → Type 0) → (IsErrOf r tool_fault.Read → ⊥) → EndsCounting (λ o. IsSomeAnd o Is) Sent r → EndsFile left FileOutput old new Sent r
-    ends_value r read Sent never ends = record {
+    -- what was read is answered
+    pub answers_value : (r : Result Status ToolFault) → ReadsAll left F Gives old new (Ok a) → Writes contents (EndsCounting (λ o. IsSomeAnd o Is)) out_old out_new r → Answers contents (EndsFile left FileOutput old new) out_old out_new r
+    answers_value r read = writes_answers contents out_old out_new r (EndsCounting (λ o. IsSomeAnd o Is)) (EndsFile left FileOutput old new) (λ Sent never ends. record {
       output = λ b known. ends_by Sent (λ o. IsSomeAnd o Is) (FileOutput b) r (value_out b (known_answer left F Gives old new a b read known)) ends;
       taken = λ decided.
           let (b, consumed, given) = read.read in
           (b, consumed.0, ends_by Sent (λ o. IsSomeAnd o Is) (FileOutput b) r (value_out b given) ends);
       reads = (λ e. absurd (never e), λ t. absurd (read.note.1 t));
-    }
-
-    -- what was read is answered
-    pub answers_value : (r : Result Status ToolFault) → ReadsAll left F Gives old new (Ok a) → Writes contents (EndsCounting (λ o. IsSomeAnd o Is)) out_old out_new r → Answers contents (EndsFile left FileOutput old new) out_old out_new r
-    answers_value r read = writes_answers contents out_old out_new r (EndsCounting (λ o. IsSomeAnd o Is)) (EndsFile left FileOutput old new) (ends_value r read)
+    })
 
   -- so it is where the answer is this output
   pub answers_text : (a : A) (x : Output) (r : Result Status ToolFault) → ReadsAll left F Gives old new (Ok a) → ((b : List ℕ) → Gives b a → (v : V) × ReadsAs F most_bytes b (Ok v) × IsAnswer v x)
@@ -101,19 +98,16 @@ module _ {D V I S A W : Type 0} (left : D → Option (List ℕ)) (F : Format V I
       → Writes contents (Ends (λ o. o ≡ Some x)) out_old out_new r → Answers contents (EndsFile left FileOutput old new) out_old out_new r
   answers_exactly a x r read gives writes = answers_text a x r read gives (writes_counting contents out_old out_new r (λ o. o ≡ Some x) writes)
 
-  ends_more : (Other : V → Output → Type 0) → ((v : V) (o : Output) → IsAnswer v o → Other v o) → (r : Result Status ToolFault) (Sent : List ℕ → Type 0) → EndsFile left FileOutput old new Sent r → EndsFile left (FileBy F Reports name detail Other) old new Sent r
-  ends_more Other to r Sent one = record {
+  -- and where the answers are others that follow
+  pub answers_more : (Other : V → Output → Type 0) → ((v : V) (o : Output) → IsAnswer v o → Other v o) → (r : Result Status ToolFault)
+      → Answers contents (EndsFile left FileOutput old new) out_old out_new r → Answers contents (EndsFile left (FileBy F Reports name detail Other) old new) out_old out_new r
+  answers_more Other to r = answers_by contents out_old out_new r (EndsFile left FileOutput old new) (EndsFile left (FileBy F Reports name detail Other) old new) (λ Sent one. record {
     output = λ b known. ends_by Sent (FileOutput b) (FileBy F Reports name detail Other b) r (more_by F Reports name detail IsAnswer Other to b) (one.output b known);
     taken = λ decided.
         let (b, consumed, ends) = one.taken decided in
         (b, consumed, ends_by Sent (FileOutput b) (FileBy F Reports name detail Other b) r (more_by F Reports name detail IsAnswer Other to b) ends);
     reads = one.reads;
-  }
-
-  -- and where the answers are others that follow
-  pub answers_more : (Other : V → Output → Type 0) → ((v : V) (o : Output) → IsAnswer v o → Other v o) → (r : Result Status ToolFault)
-      → Answers contents (EndsFile left FileOutput old new) out_old out_new r → Answers contents (EndsFile left (FileBy F Reports name detail Other) old new) out_old out_new r
-  answers_more Other to r = answers_by contents out_old out_new r (EndsFile left FileOutput old new) (EndsFile left (FileBy F Reports name detail Other) old new) (ends_more Other to r)
+  })
 
   module _ {R : Type 0} (reporting : AboutLaws F) (fault : R → Fault) (found : R → Found) (Answer : List (List ℕ) → List ℕ → R → Type 0)
       (r : R) (reasons : List FileLine) (reports : (accepted : List (List ℕ)) (text : List ℕ) → IsFoundOf text (found r) → Answer accepted text r → Reports (fault r).kind accepted text reasons)
@@ -168,17 +162,14 @@ module _ {D V I S A W : Type 0} (left : D → Option (List ℕ)) (F : Format V I
     taken_ends Sent (Err tool_fault.Memory) is long decided = absurd decided
     taken_ends Sent (Err tool_fault.Read) is long decided = absurd decided
 
-    ends_refused : (result : Result Status ToolFault) → (IsErrOf result tool_fault.TooLong → (fault r).kind ≡ TooLong) → IsErrOf result tool_fault.Read ↔ ((fault r).kind ≡ Read) → (Sent : List ℕ → Type 0) → ReportsFault Sent result → EndsFile left FileOutput old new Sent result
-    ends_refused result long reads Sent ends = record {
-      output = λ b known. known_ends Sent result ends long b known;
-      taken = λ decided. taken_ends Sent result ends long decided;
-      reads = (λ e. plain.note.0 (reads.0 e), λ t. reads.1 (plain.note.1 t));
-    }
-
     -- a fault is refused, or the run ends at it
     pub answers_refused : (result : Result Status ToolFault) → (IsErrOf result tool_fault.TooLong → (fault r).kind ≡ TooLong) → IsErrOf result tool_fault.Read ↔ ((fault r).kind ≡ Read)
         → Answers contents ReportsFault out_old out_new result → Answers contents (EndsFile left FileOutput old new) out_old out_new result
-    answers_refused result long reads = answers_by contents out_old out_new result ReportsFault (EndsFile left FileOutput old new) (ends_refused result long reads)
+    answers_refused result long reads = answers_by contents out_old out_new result ReportsFault (EndsFile left FileOutput old new) (λ Sent ends. record {
+      output = λ b known. known_ends Sent result ends long b known;
+      taken = λ decided. taken_ends Sent result ends long decided;
+      reads = (λ e. plain.note.0 (reads.0 e), λ t. reads.1 (plain.note.1 t));
+    })
 
 -- ---- what is kept of what was found
 
