@@ -70,7 +70,7 @@ EndsCounting = EndsBy StopsCounting
 -- written to it, where these are known. `Ended` says what the result reports about these bytes.
 module _ {W : Type 0} (contents : W → Option (List ℕ))
     (Ended : (List ℕ → Type 0) → Result Status ToolFault → Type 0) where
-  -- No input is read: if an error isn't a failed write, memory was refused, and nothing was written.
+  -- No input is read: if an error isn't a failed write, it is `Memory`, and nothing was written.
   pub record Writes (old new : Device W) (result : Result Status ToolFault) : Type 0 where
     pub ends : Ended (Appends (contents old.device) (contents new.device)) result
     pub nothing : IfErr result (λ e. IsWrite e ⊎ ((e ≡ Memory) × (new ≡ old)))
