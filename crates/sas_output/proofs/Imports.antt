@@ -13,7 +13,7 @@ pub use Rattle.std.specs.Fmt.{decimal}
 pub use Rattle.std.specs.Io.KnownBytes.{Appends}
 pub use Rattle.std.specs.List.{AllByRecursion, list_all}
 pub use Rattle.std.specs.Option.{unwrap_or}
-pub use Rattle.std.specs.Prelude.{⊤}
+pub use Rattle.std.specs.Prelude.{⊤, IfErr, IsErrOf}
 pub use Rattle.itoa.proofs.Decimal.{decimal_pair, pair}
 pub use Rattle.sas_core.specs.Grounded.{operator_at, effect_at, rule_at}
 pub use Rattle.sas_core.specs.Names.{is_plain, IsName}
@@ -24,12 +24,13 @@ pub use Rattle.sas_core.specs.declared.parts.Operator.{Operator}
 pub use Rattle.sas_core.specs.declared.parts.Parts.{Parts}
 pub use Rattle.sas_core.specs.declared.parts.Variable.{Variable}
 pub use Rattle.sas_lines.proofs.Words.{Without-decimal, NoSpace, words-first, same_first, NoSpace-decimal, own_decimal}
+pub use Rattle.sas_lines.specs.Device.{Device}
 pub use Rattle.sas_lines.specs.Lines.{text}
 pub use Rattle.sas_lines.specs.Parts.{Without}
 unfoldable pub use Rattle.sas_lines.specs.Parts.{parts}
 pub use Rattle.sas_lines.specs.Spelling.{joined}
 pub use Rattle.sas_lines.specs.declared.devices.Short.{Short}
-pub use Rattle.sas_output.specs.Ending.{Output, StopsAt, Ends, EndsCounting}
+pub use Rattle.sas_output.specs.Ending.{Output, StopsAt, Ends, EndsCounting, IsWrite, Writes, Answers}
 pub use Rattle.sas_output.specs.Facts.{fact_of_effect, fact_of_rule}
 pub use Rattle.sas_output.specs.Laws.{IsReasonLine, LinesAreReasons, RuleLinesDiffer}
 pub use Rattle.sas_output.specs.Line.{line_bytes, reasons_text, words_of, effect_words, rule_words, rule_numbers, is_rule_line, is_same_rule_line}

@@ -1,5 +1,6 @@
 -- What went out of a text that was put in pieces.
-use Rattle.sas_output.proofs.Imports.{◌≡◌, ℕ, ◌+◌, ◌^◌, ◌<◌, List, [], ◌++◌, length, take, append-nil, length-append, take_at, arith, refl, sym, ap, subst, ◌∙◌, Option, Some, Result, Ok, Err, Appends, none-some, Short, Status, ToolFault, Memory, Read, TooLong, Write, Output, StopsAt, Ends, EndsCounting, Piece, Puts, Breaks}
+use Rattle.std.proofs.lemmas.Grind.{common_steps}
+use Rattle.sas_output.proofs.Imports.{◌≡◌, ◌⊎◌, inr, ℕ, ◌+◌, ◌^◌, ◌<◌, List, [], ◌++◌, length, take, append-nil, length-append, take_at, arith, refl, sym, ap, subst, ◌∙◌, Option, Some, None, Result, Ok, Err, IfErr, IsErrOf, Appends, Device, Short, Status, ToolFault, Memory, Read, TooLong, Write, Output, StopsAt, Ends, EndsCounting, IsWrite, Writes, Answers, Piece, Puts, Breaks}
 
 -- what was put where nothing is held in the end went out
 pub all_sent : (a b : Option (List ℕ)) (p q : Piece) (bytes whole : List ℕ) → p ≡ record { held = []; written = 0 } → q.held ≡ [] → bytes ≡ whole → Puts a b p q bytes → Appends a b whole
@@ -41,11 +42,44 @@ module _ (Out : Option Output → Type 0) (Sent : List ℕ → Type 0) where
   exact_ends short (Err Memory) is = tt
   exact_ends short (Err Read) is = tt
 
--- what ends with one output ends with an output that is right
+-- what ends with one output ends with another that follows from it
+pub ends_by : (Sent : List ℕ → Type 0) (A B : Option Output → Type 0) (r : Result Status ToolFault) → ((o : Option Output) → A o → B o) → EndsCounting A Sent r → EndsCounting B Sent r
+ends_by Sent A B (Ok status) to (output, is, same, sent) = (output, to (Some output) is, same, sent)
+ends_by Sent A B (Err (Write written)) to (number, counts, (output, is, less, sent)) = (number, counts, (output, to (Some output) is, less, sent))
+ends_by Sent A B (Err TooLong) to is = to None is
+ends_by Sent A B (Err Memory) to is = tt
+ends_by Sent A B (Err Read) to is = tt
+
+-- and with an output that is right
 pub ends_counting_as : (o : Output) (Sent : List ℕ → Type 0) (Out : Option Output → Type 0) (r : Result Status ToolFault) → Out (Some o)
     → EndsCounting (λ output. output ≡ Some o) Sent r → EndsCounting Out Sent r
-ends_counting_as o Sent Out (Ok status) right (output, is, same, sent) = (output, subst Out (sym is) right, same, sent)
-ends_counting_as o Sent Out (Err (Write written)) right (number, counts, (output, is, less, sent)) = (number, counts, (output, subst Out (sym is) right, less, sent))
-ends_counting_as o Sent Out (Err TooLong) right is = absurd (none-some o is)
-ends_counting_as o Sent Out (Err Memory) right is = tt
-ends_counting_as o Sent Out (Err Read) right is = tt
+ends_counting_as o Sent Out r right = ends_by Sent (λ output. output ≡ Some o) Out r (λ output is. subst Out (sym is) right)
+
+-- ---- what a call promises that writes
+
+unread : (Q : Type 0) (r : Result Status ToolFault) → IfErr r (λ e. IsWrite e ⊎ ((e ≡ Memory) × Q)) → IsErrOf r Read → ⊥
+unread Q r starved is = grind (arith, common_steps)
+
+unwritten : (Q : Type 0) (r : Result Status ToolFault) → IfErr r (λ e. IsWrite e ⊎ ((e ≡ Memory) × Q)) → IfErr r (λ e. IsWrite e ⊎ Q)
+unwritten Q r starved = grind (arith, common_steps)
+
+module _ {W : Type 0} (contents : W → Option (List ℕ)) (old new : Device W) (r : Result Status ToolFault) where
+  -- it writes an output that follows from the one that it wrote
+  pub writes_by : (A B : Option Output → Type 0) → ((o : Option Output) → A o → B o) → Writes contents (EndsCounting A) old new r → Writes contents (EndsCounting B) old new r
+  writes_by A B to w = record { ends = ends_by _ A B r to w.ends; nothing = w.nothing; writes = w.writes }
+
+  -- one that is right
+  pub writes_as : (o : Output) (Out : Option Output → Type 0) → Out (Some o) → Writes contents (EndsCounting (λ output. output ≡ Some o)) old new r → Writes contents (EndsCounting Out) old new r
+  writes_as o Out right = writes_by (λ output. output ≡ Some o) Out (λ output is. subst Out (sym is) right)
+
+  -- whose bytes may be counted exactly
+  pub writes_counting : (Out : Option Output → Type 0) → Writes contents (Ends Out) old new r → Writes contents (EndsCounting Out) old new r
+  writes_counting Out w = record { ends = counting_ends Out _ r w.ends; nothing = w.nothing; writes = w.writes }
+
+  -- it answers about inputs where what it wrote does, and didn't end at a failed read
+  pub writes_answers : (A B : (List ℕ → Type 0) → Result Status ToolFault → Type 0) → ((Sent : List ℕ → Type 0) → (IsErrOf r Read → ⊥) → A Sent r → B Sent r) → Writes contents A old new r → Answers contents B old new r
+  writes_answers A B to w = record { ends = to _ (unread (new ≡ old) r w.nothing) w.ends; nothing = unwritten (new ≡ old) r w.nothing; writes = w.writes }
+
+  -- and where another answer does
+  pub answers_by : (A B : (List ℕ → Type 0) → Result Status ToolFault → Type 0) → ((Sent : List ℕ → Type 0) → A Sent r → B Sent r) → Answers contents A old new r → Answers contents B old new r
+  answers_by A B to w = record { ends = to _ w.ends; nothing = w.nothing; writes = w.writes }

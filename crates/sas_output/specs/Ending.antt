@@ -1,5 +1,7 @@
 -- How a run ends.
-use Rattle.std.specs.Prelude.{◌≡◌, ℕ, ◌<◌, ◌^◌, List, length, take, Option, Some, None, Result, Ok, Err, ⊤}
+use Rattle.std.specs.Prelude.{◌≡◌, ◌⊎◌, ◌↔◌, ℕ, ◌<◌, ◌^◌, List, length, take, Option, Some, None, Result, Ok, Err, IfErr, IsErrAnd, IsTrue, ⊤}
+use Rattle.std.specs.Io.KnownBytes.{Appends}
+use Rattle.sas_lines.specs.Device.{Device}
 use Rattle.sas_output.specs.declared.ending.Status.{Status}
 use Rattle.sas_output.specs.declared.ending.ToolFault.{ToolFault}
 use Rattle.sas_output.specs.declared.ending.ToolFault.TheVariants.{Memory, Read, TooLong, Write}
@@ -63,3 +65,19 @@ Ends = EndsBy StopsAt
 abbrev pub EndsCounting : (Option Output → Type 0) → (List ℕ → Type 0) → Result Status ToolFault
     → Type 0
 EndsCounting = EndsBy StopsCounting
+
+-- What a call promises that writes an output. `contents` maps a device to the bytes that were
+-- written to it, where these are known. `Ended` says what the result reports about these bytes.
+module _ {W : Type 0} (contents : W → Option (List ℕ))
+    (Ended : (List ℕ → Type 0) → Result Status ToolFault → Type 0) where
+  -- No input is read: if an error isn't a failed write, it is `Memory`, and nothing was written.
+  pub record Writes (old new : Device W) (result : Result Status ToolFault) : Type 0 where
+    pub ends : Ended (Appends (contents old.device) (contents new.device)) result
+    pub nothing : IfErr result (λ e. IsWrite e ⊎ ((e ≡ Memory) × (new ≡ old)))
+    pub writes : IsErrAnd result IsWrite ↔ IsTrue new.failed
+
+  -- The answer is about inputs: if an error isn't a failed write, nothing was written.
+  pub record Answers (old new : Device W) (result : Result Status ToolFault) : Type 0 where
+    pub ends : Ended (Appends (contents old.device) (contents new.device)) result
+    pub nothing : IfErr result (λ e. IsWrite e ⊎ (new ≡ old))
+    pub writes : IsErrAnd result IsWrite ↔ IsTrue new.failed

@@ -1,8 +1,6 @@
 // How lines of reasons go out: names are looked up here.
-ghost use Rattle.std.specs.Prelude.{◌≡◌, ◌↔◌, ◌⊎◌, false, [], ◌∷◌, ◌++◌, map, Some};
-ghost use Rattle.std.specs.Prelude.{IfErr, IsErr, IsErrAnd, IsTrue, OnOk, decimal, if◌then◌else◌};
-ghost use Rattle.std.specs.Io.KnownBytes.{Appends};
-ghost use Rattle.sas_output.specs.Ending.{EndsCounting, IsWrite};
+ghost use Rattle.std.specs.Prelude.{◌≡◌, false, [], ◌∷◌, ◌++◌, map, Some, decimal};
+ghost use Rattle.sas_output.specs.Ending.{EndsCounting, Writes};
 ghost use Rattle.sas_output.specs.Sink.{Pushes};
 ghost use Rattle.sas_output.specs.Words.{word_bytes};
 ghost use Rattle.sas_output.specs.Line.{words_of, line_bytes, reasons_text};
@@ -33,14 +31,11 @@ pub fn write_reasons<W: Write>(
     lines: &[Line],
 ) -> Result<Status, ToolFault>
     requires { out.old.failed ≡ false }
-    ensures ends { EndsCounting (λ output. output ≡ Some (record {
+    ensures { Writes W.contents (EndsCounting (λ output. output ≡ Some (record {
       text = verdict.now.text.items
           ++ reasons_text named.now.task.now (steps_of named.now.plan) lines.now;
       status = verdict.now.status;
-    })) (Appends (W.contents out.old.device) (W.contents out.new.device)) result }
-    ensures nothing { IfErr result (λ e. IsWrite e
-        ⊎ ((e ≡ ToolFault.Memory) × (out.new ≡ out.old))) }
-    ensures writes { IsErrAnd result IsWrite ↔ IsTrue out.new.failed }
+    }))) out.old out.new result }
 {
     // What takes memory comes first.
     let mut pieces = Pieces::new(alloc)?;
@@ -78,25 +73,16 @@ fn push_rest<W: Write>(sink: &mut Sink<'_, W>, named: &Named<'_>, start: Start, 
     let task = named.task;
     match rest {
         Rest::Nothing => push_words(sink, start, &[]),
-        Rest::Number(number) => push_words(sink, start, &[Word::Number(number)]),
-        Rest::Sum(sum) => {
-            let mut buffer = Buffer::new();
-            push_words(sink, start, &[Word::Text(buffer.format(sum).as_bytes())])
-        }
-        Rest::Metric => push_words(sink, start, &[Word::Number(u64::from(task.metric()))]),
+        Rest::Number(number) => push_number(sink, start, number),
+        Rest::Sum(sum) => push_sum(sink, start, sum),
+        Rest::Metric => push_number(sink, start, u64::from(task.metric())),
         Rest::Step(step) => push_named(sink, start, step as u64, named.step_name(step)),
         Rest::Operator(operator) => {
             let name = operator_name(task, operator);
             push_named(sink, start, u64::from(operator), name)
         }
         Rest::CouldBe(step, operator) => {
-            let could_be = Word::Text(b"could also be operator");
-            let words = [
-                Word::Number(step as u64),
-                could_be,
-                Word::Number(operator as u64),
-            ];
-            push_words(sink, start, &words)
+            push_could_be(sink, start, step as u64, u64::from(operator))
         }
         Rest::OfFact(fact) => push_fact(sink, task, start, fact),
         Rest::OfPart(part) => push_part(sink, task, start, part),
@@ -114,6 +100,33 @@ fn push_words<W: Write>(sink: &mut Sink<'_, W>, start: Start, words: &[Word<'_>]
         rest: words,
     };
     sink.push_line(line);
+}
+
+/// Adds the line of a number, and its end.
+fn push_number<W: Write>(sink: &mut Sink<'_, W>, start: Start, number: u64)
+    ensures { Pushes W.contents sink.old sink.new
+        (line_with start (decimal number ∷ []) ++ 10 ∷ []) }
+{
+    push_words(sink, start, &[Word::Number(number)])
+}
+
+/// Adds the line of a number that may be larger than a `u64`, and its end.
+fn push_sum<W: Write>(sink: &mut Sink<'_, W>, start: Start, sum: u128)
+    ensures { Pushes W.contents sink.old sink.new
+        (line_with start (decimal sum ∷ []) ++ 10 ∷ []) }
+{
+    let mut buffer = Buffer::new();
+    push_words(sink, start, &[Word::Text(buffer.format(sum).as_bytes())])
+}
+
+/// Adds the line of a step and an operator that it could also be, and its end.
+fn push_could_be<W: Write>(sink: &mut Sink<'_, W>, start: Start, step: u64, operator: u64)
+    ensures { Pushes W.contents sink.old sink.new
+        (line_with start (could_be_words step operator) ++ 10 ∷ []) }
+{
+    let could_be = Word::Text(b"could also be operator");
+    let words = [Word::Number(step), could_be, Word::Number(operator)];
+    push_words(sink, start, &words)
 }
 
 /// Adds the line of a number and a name, and its end.

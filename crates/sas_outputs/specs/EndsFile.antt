@@ -11,8 +11,8 @@ use Rattle.sas_output.specs.Ending.{Output, EndsCounting, IsDecided}
 -- these are known. `FileOutput` is the output about the bytes of a file. `Sent` holds of the bytes
 -- that were written.
 module _ {D : Type 0} (left : D → Option (List ℕ))
-    (FileOutput : List ℕ → Option Output → Type 0) (Sent : List ℕ → Type 0) where
-  pub record EndsFile (old new : Device D) (result : Result Status ToolFault) : Type 0 where
+    (FileOutput : List ℕ → Option Output → Type 0) (old new : Device D) where
+  pub record EndsFile (Sent : List ℕ → Type 0) (result : Result Status ToolFault) : Type 0 where
     -- of a file whose bytes are known, its output went out
     pub output : (bytes : List ℕ) → left old.device ≡ Some bytes
         → EndsCounting (FileOutput bytes) Sent result

@@ -13,7 +13,7 @@ mod summary;
 pub use file_reasons::{push_plan_reasons, push_task_reasons};
 pub use laws::file_reason_laws;
 pub use refusals::refuse_file;
-pub use summary::Summary;
+pub use summary::write_summary;
 
 /// A request.
 #[derive(Clone, Copy, Debug, PartialEq, Eq)]

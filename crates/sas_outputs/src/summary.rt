@@ -1,8 +1,7 @@
 // The summary of a task, written as it is made: it may be far longer than the task.
-ghost use Rattle.std.specs.Prelude.{◌≡◌, ◌⊎◌, ◌↔◌, [], ◌∷◌, ◌++◌, false, Some, IfErr, IfOk, IsErrAnd, IsTrue, OnOk};
-ghost use Rattle.std.specs.Io.KnownBytes.{Appends};
+ghost use Rattle.std.specs.Prelude.{◌≡◌, [], ◌∷◌, ◌++◌, false, Some, IfOk, OnOk};
 ghost use Rattle.sas_lines.specs.Lines.{text};
-ghost use Rattle.sas_output.specs.Ending.{EndsCounting, IsWrite};
+ghost use Rattle.sas_output.specs.Ending.{EndsCounting, Writes};
 ghost use Rattle.sas_output.specs.Sink.{Pushes};
 ghost use Rattle.sas_outputs.specs.Summary as spec;
 ghost use Rattle.sas_outputs.specs.Summary.{summary_lines};
@@ -12,51 +11,27 @@ use sas_lines::{Watched, push_number};
 use sas_output::{Indent, Pieces, Sink, Status, ToolFault, Word, Words};
 use std::alloc::{AllocError, Global};
 use std::io::Write;
-use std::marker::Model;
 
-/// The summary of a task with this outline.
-#[derive(Drop)]
-pub struct Summary {
-    outline: Outline,
-}
-
-impl Model for Summary {
-    ghost use Rattle.sas_flat.specs.declared.outline.Outline.{Outline};
-
-    ghost Value = { Outline };
-
-    ghost view = { λ s. s.outline };
-}
-
-impl Summary {
-    /// Returns the summary of a task with this outline.
-    pub fn new(outline: Outline) -> Summary
-        ensures { result ≡ outline }
-    {
-        Summary { outline }
-    }
-
-    /// Writes the lines of the summary, in pieces. Returns `Write` if a write fails, or `Memory` if out of memory. In the latter case
-    /// nothing was written. The device must not have failed before.
-    pub fn write<W: Write>(&self, alloc: Global, out: &mut Watched<W>) -> Result<Status, ToolFault>
-        requires { out.old.failed ≡ false }
-        ensures ends { EndsCounting
-            (λ output. output
-            ≡ Some (record { text = text (summary_lines self.now); status = Status.Yes }))
-            (Appends (W.contents out.old.device) (W.contents out.new.device)) result }
-        ensures nothing { IfErr result (λ e. IsWrite e
-            ⊎ ((e ≡ ToolFault.Memory) × (out.new ≡ out.old))) }
-        ensures writes { IsErrAnd result IsWrite ↔ IsTrue out.new.failed }
-    {
-        // What takes memory comes first.
-        let numbers = numbers_text(alloc, &self.outline)?;
-        let mut pieces = Pieces::new(alloc)?;
-        let mut sink = Sink::new(&mut pieces, out);
-        sink.push(numbers.as_slice());
-        push_state(&mut sink, &self.outline);
-        push_goal(&mut sink, &self.outline);
-        sink.finish(Status::Yes)
-    }
+/// Writes the summary of a task with this outline, in pieces. Returns `Write` if a write fails, or `Memory` if out of memory. In the
+/// latter case nothing was written. Not to be called after a failure.
+pub fn write_summary<W: Write>(
+    alloc: Global,
+    outline: &Outline,
+    out: &mut Watched<W>,
+) -> Result<Status, ToolFault>
+    requires { out.old.failed ≡ false }
+    ensures { Writes W.contents (EndsCounting (λ output. output
+        ≡ Some (record { text = text (summary_lines outline.now); status = Status.Yes })))
+        out.old out.new result }
+{
+    // What takes memory comes first.
+    let numbers = numbers_text(alloc, outline)?;
+    let mut pieces = Pieces::new(alloc)?;
+    let mut sink = Sink::new(&mut pieces, out);
+    sink.push(numbers.as_slice());
+    push_state(&mut sink, outline);
+    push_goal(&mut sink, outline);
+    sink.finish(Status::Yes)
 }
 
 /// Returns the lines with the task's numbers, each ended by LF.

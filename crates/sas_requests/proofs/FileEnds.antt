@@ -1,30 +1,32 @@
 -- How the output about one file goes out.
 use Rattle.std.proofs.Common.{arith}
 use Rattle.std.proofs.lemmas.Grind.{common_steps}
-use Rattle.sas_requests.proofs.Imports.{◌≡◌, ◌≢◌, ℕ, ◌<◌, Bool, true, false, IsTrue, List, [], refl, sym, subst, ◌⊎◌, codes, Option, Some, None, Result, Ok, Err, nat_lt, IfErr, IsErrOf, IsSomeAnd, ◌↔◌, Consumes, IsAtEnd, Parts, PlanParts, first_fault, LayerFault, layer_checks, Device, Fault, Kind, TooLong, Read, Memory, Found, ReadsAll, ValueOf, Format, ReadsAs, Detail, Reasons, Trace, FileBy, TaskBy, PlanBy, UnlayeredBy, layers_by, refusal_by, task_refusal_lines, plan_refusal_lines, FaultReasons, reported, past_limit, FileReasons, AreTaskReasons, ArePlanReasons, IsFoundOf, most_bytes, ConcernsText, AboutLaws, ExplainsRefusal, ReadsOrExplains, known_answer, known_fault, known_explained, PlanRefusal, plan_format, fault_of, found_of, nothing_else, ReadsPlan, less, is_less, task_format, IsTaskReason, TaskRefusal, fault_in, found_in, HasReason, ReadsTask, FileLine, file_text, Status, ToolFault, Output, Ends, EndsCounting, IsDecided, IsWrite, counting_ends, ends_counting_as, not_memory, refusal, IsAnswerOrRefusal, FileOut, ends_counting_by, refused_kind, too_long_else, reading_of_refusal, reported_fault, EndsFile}
+use Rattle.sas_requests.proofs.Imports.{◌≡◌, ◌≢◌, ℕ, ◌<◌, Bool, true, false, IsTrue, List, [], refl, sym, subst, ◌∙◌, inr, codes, Option, Some, None, Result, Ok, Err, nat_lt, IsErrOf, IsSomeAnd, ◌↔◌, Consumes, IsAtEnd, Parts, PlanParts, first_fault, LayerFault, layer_checks, Device, Fault, Kind, TooLong, Read, Memory, Found, ReadsAll, ValueOf, Format, ReadsAs, Detail, Reasons, Trace, FileBy, TaskBy, PlanBy, UnlayeredBy, layers_by, refusal_by, task_refusal_lines, plan_refusal_lines, FaultReasons, reported, past_limit, FileReasons, AreTaskReasons, ArePlanReasons, IsFoundOf, most_bytes, ConcernsText, AboutLaws, ExplainsRefusal, ReadsOrExplains, known_answer, known_fault, known_explained, PlanRefusal, plan_format, fault_of, found_of, nothing_else, ReadsPlan, less, is_less, task_format, IsTaskReason, TaskRefusal, fault_in, found_in, HasReason, ReadsTask, FileLine, file_text, Status, ToolFault, Output, Ends, EndsCounting, IsDecided, Writes, Answers, ends_by, writes_as, writes_counting, writes_answers, answers_by, not_memory, refusal, IsAnswerOrRefusal, FileOut, refused_kind, too_long_else, reading_of_refusal, reported_fault, EndsFile}
 use Rattle.sas_meaning.specs.declared.layered.LayerFault.TheVariants as layer_fault
 use Rattle.sas_output.specs.declared.ending.ToolFault.TheVariants as tool_fault
 use Rattle.sas_requests.specs.declared.detail.Detail.TheVariants.{Plain}
 use Rattle.sas_requests.proofs.RefusalLaws.{task_reporting, plan_reporting}
 use Rattle.sas_requests.proofs.RefusalReasons.{some_of, reasoned_by, more_reasoned, reported_alone}
 
--- ---- outputs that went out
+-- ---- what is written
 
--- what doesn't end at a failed read
-pub written_unread : (r : Result Status ToolFault) → IfErr r IsWrite → IsErrOf r tool_fault.Read → ⊥
-written_unread r write is = subst (λ (x : Result Status ToolFault). IfErr x IsWrite) is write
+module _ {W : Type 0} (contents : W → Option (List ℕ)) (old new : Device W) (r : Result Status ToolFault) where
+  -- what is written with this output is written with one that is such an answer
+  pub writes_some : (P : Output → Type 0) (o : Output) → P o → Writes contents (Ends (λ output. output ≡ Some o)) old new r → Writes contents (EndsCounting (λ output. IsSomeAnd output P)) old new r
+  writes_some P o right writes = writes_as contents old new r o (λ output. IsSomeAnd output P) right (writes_counting contents old new r (λ output. output ≡ Some o) writes)
 
-pub unread : (Q : Type 0) (r : Result Status ToolFault) → IfErr r (λ e. IsWrite e ⊎ ((e ≡ tool_fault.Memory) × Q)) → IsErrOf r tool_fault.Read → ⊥
-unread Q r starved is = grind (arith, common_steps)
+  -- it is the answer, too
+  pub writes_plainly : (o : Option Output) → Writes contents (Ends (λ output. output ≡ o)) old new r → Answers contents (Ends (λ output. output ≡ o)) old new r
+  writes_plainly o = writes_answers contents old new r (Ends (λ output. output ≡ o)) (Ends (λ output. output ≡ o)) (λ Sent never ends. ends)
 
-module _ (Sent : List ℕ → Type 0) where
-  -- what ends with one output ends with another that follows from it
-  pub ends_by : (A B : Option Output → Type 0) (r : Result Status ToolFault) → ((o : Option Output) → A o → B o) → EndsCounting A Sent r → EndsCounting B Sent r
-  ends_by A B r to = ends_counting_by Sent A B r (λ decided. to)
+  -- and one about a file is right for its bytes
+  pub answers_known : {D : Type 0} (left : D → Option (List ℕ)) (FileOutput : List ℕ → Option Output → Type 0) (file_old file_new : Device D) (b : List ℕ) → left file_old.device ≡ Some b
+      → Answers contents (EndsFile left FileOutput file_old file_new) old new r → Answers contents (EndsCounting (FileOutput b)) old new r
+  answers_known left FileOutput file_old file_new b known = answers_by contents old new r (EndsFile left FileOutput file_old file_new) (EndsCounting (FileOutput b)) (λ Sent one. one.output b known)
 
-  -- what ends with this output ends with one that is such an answer
-  pub ends_some : (P : Output → Type 0) (o : Output) (r : Result Status ToolFault) → P o → Ends (λ output. output ≡ Some o) Sent r → EndsCounting (λ output. IsSomeAnd output P) Sent r
-  ends_some P o r right ends = ends_counting_as o Sent (λ output. IsSomeAnd output P) r right (counting_ends (λ output. output ≡ Some o) Sent r ends)
+-- memory is refused before anything is written
+pub starved : {W : Type 0} (contents : W → Option (List ℕ)) (old : Device W) (o : Option Output) → old.failed ≡ false → Writes contents (Ends (λ output. output ≡ o)) old old (Err tool_fault.Memory)
+starved contents old o working = record { ends = tt; nothing = inr (refl, refl); writes = (λ e. absurd e, λ t. let apart : true ≡ false = sym t ∙ working in absurd cc) }
 
 -- ---- the output about the bytes of a file
 
@@ -64,8 +66,8 @@ module _ {V I S : Type 0} (F : Format V I S) (Reports : Kind → List (List ℕ)
 
 -- ---- how it goes out
 
-module _ {D V I S A : Type 0} (left : D → Option (List ℕ)) (F : Format V I S) (Reports : Kind → List (List ℕ) → List ℕ → List FileLine → Type 0) (Gives : List ℕ → A → Type 0) (name : List ℕ)
-    (Sent : List ℕ → Type 0) (detail : Detail) (IsAnswer : V → Output → Type 0) (old new : Device D) where
+module _ {D V I S A W : Type 0} (left : D → Option (List ℕ)) (F : Format V I S) (Reports : Kind → List (List ℕ) → List ℕ → List FileLine → Type 0) (Gives : List ℕ → A → Type 0) (name : List ℕ)
+    (detail : Detail) (IsAnswer : V → Output → Type 0) (old new : Device D) (contents : W → Option (List ℕ)) (out_old out_new : Device W) where
   abbrev FileOutput : List ℕ → Option Output → Type 0
   FileOutput = FileBy F Reports name detail IsAnswer
 
@@ -75,36 +77,37 @@ module _ {D V I S A : Type 0} (left : D → Option (List ℕ)) (F : Format V I S
     value_out b given None is = absurd is
 
     -- what was read is answered
-    pub ends_value : (r : Result Status ToolFault) → ReadsAll left F Gives old new (Ok a) → EndsCounting (λ o. IsSomeAnd o Is) Sent r → (IsErrOf r tool_fault.Read → ⊥) → EndsFile left FileOutput Sent old new r
-    ends_value r read ends never = record {
+    pub answers_value : (r : Result Status ToolFault) → ReadsAll left F Gives old new (Ok a) → Writes contents (EndsCounting (λ o. IsSomeAnd o Is)) out_old out_new r → Answers contents (EndsFile left FileOutput old new) out_old out_new r
+    answers_value r read = writes_answers contents out_old out_new r (EndsCounting (λ o. IsSomeAnd o Is)) (EndsFile left FileOutput old new) (λ Sent never ends. record {
       output = λ b known. ends_by Sent (λ o. IsSomeAnd o Is) (FileOutput b) r (value_out b (known_answer left F Gives old new a b read known)) ends;
       taken = λ decided.
           let (b, consumed, given) = read.read in
           (b, consumed.0, ends_by Sent (λ o. IsSomeAnd o Is) (FileOutput b) r (value_out b given) ends);
       reads = (λ e. absurd (never e), λ t. absurd (read.note.1 t));
-    }
+    })
 
   -- so it is where the answer is this output
-  pub ends_text : (a : A) (x : Output) (r : Result Status ToolFault) → ReadsAll left F Gives old new (Ok a) → ((b : List ℕ) → Gives b a → (v : V) × ReadsAs F most_bytes b (Ok v) × IsAnswer v x)
-      → EndsCounting (λ o. o ≡ Some x) Sent r → (IsErrOf r tool_fault.Read → ⊥) → EndsFile left FileOutput Sent old new r
-  ends_text a x r read gives ends never =
-      ends_value a (λ o. o ≡ x) (λ b given o is. let (v, reads, answer) = gives b given in (v, reads, subst (IsAnswer v) (sym is) answer)) r read
-      (ends_counting_as x Sent (λ output. IsSomeAnd output (λ o. o ≡ x)) r refl ends) never
+  pub answers_text : (a : A) (x : Output) (r : Result Status ToolFault) → ReadsAll left F Gives old new (Ok a) → ((b : List ℕ) → Gives b a → (v : V) × ReadsAs F most_bytes b (Ok v) × IsAnswer v x)
+      → Writes contents (EndsCounting (λ o. o ≡ Some x)) out_old out_new r → Answers contents (EndsFile left FileOutput old new) out_old out_new r
+  answers_text a x r read gives writes =
+      answers_value a (λ o. o ≡ x) (λ b given o is. let (v, reads, answer) = gives b given in (v, reads, subst (IsAnswer v) (sym is) answer)) r read
+      (writes_as contents out_old out_new r x (λ output. IsSomeAnd output (λ o. o ≡ x)) refl writes)
 
   -- and where its bytes are counted exactly
-  pub ends_exactly : (a : A) (x : Output) (r : Result Status ToolFault) → ReadsAll left F Gives old new (Ok a) → ((b : List ℕ) → Gives b a → (v : V) × ReadsAs F most_bytes b (Ok v) × IsAnswer v x)
-      → Ends (λ o. o ≡ Some x) Sent r → (IsErrOf r tool_fault.Read → ⊥) → EndsFile left FileOutput Sent old new r
-  ends_exactly a x r read gives ends never = ends_text a x r read gives (counting_ends (λ o. o ≡ Some x) Sent r ends) never
+  pub answers_exactly : (a : A) (x : Output) (r : Result Status ToolFault) → ReadsAll left F Gives old new (Ok a) → ((b : List ℕ) → Gives b a → (v : V) × ReadsAs F most_bytes b (Ok v) × IsAnswer v x)
+      → Writes contents (Ends (λ o. o ≡ Some x)) out_old out_new r → Answers contents (EndsFile left FileOutput old new) out_old out_new r
+  answers_exactly a x r read gives writes = answers_text a x r read gives (writes_counting contents out_old out_new r (λ o. o ≡ Some x) writes)
 
   -- and where the answers are others that follow
-  pub ends_more : (Other : V → Output → Type 0) → ((v : V) (o : Output) → IsAnswer v o → Other v o) → (r : Result Status ToolFault) → EndsFile left FileOutput Sent old new r → EndsFile left (FileBy F Reports name detail Other) Sent old new r
-  ends_more Other to r one = record {
+  pub answers_more : (Other : V → Output → Type 0) → ((v : V) (o : Output) → IsAnswer v o → Other v o) → (r : Result Status ToolFault)
+      → Answers contents (EndsFile left FileOutput old new) out_old out_new r → Answers contents (EndsFile left (FileBy F Reports name detail Other) old new) out_old out_new r
+  answers_more Other to r = answers_by contents out_old out_new r (EndsFile left FileOutput old new) (EndsFile left (FileBy F Reports name detail Other) old new) (λ Sent one. record {
     output = λ b known. ends_by Sent (FileOutput b) (FileBy F Reports name detail Other b) r (more_by F Reports name detail IsAnswer Other to b) (one.output b known);
     taken = λ decided.
         let (b, consumed, ends) = one.taken decided in
         (b, consumed, ends_by Sent (FileOutput b) (FileBy F Reports name detail Other b) r (more_by F Reports name detail IsAnswer Other to b) ends);
     reads = one.reads;
-  }
+  })
 
   module _ {R : Type 0} (reporting : AboutLaws F) (fault : R → Fault) (found : R → Found) (Answer : List (List ℕ) → List ℕ → R → Type 0)
       (r : R) (reasons : List FileLine) (reports : (accepted : List (List ℕ)) (text : List ℕ) → IsFoundOf text (found r) → Answer accepted text r → Reports (fault r).kind accepted text reasons)
@@ -141,31 +144,32 @@ module _ {D V I S A : Type 0} (left : D → Option (List ℕ)) (F : Format V I S
         let x = plain.fault (long_memory long) in
         (x.0, x.1, long_by F Reports name (fault r) reasons detail IsAnswer x.0 (reading_of_refusal F x.0 (IsAtEnd (left new.device)) (fault r) x.2 (long_read long)) long)
 
-    abbrev ReportsFault : Result Status ToolFault → Type 0
-    ReportsFault result = Ends (λ o. o ≡ refusal_by detail name (fault r) reasons) Sent result
+    abbrev ReportsFault : (List ℕ → Type 0) → Result Status ToolFault → Type 0
+    ReportsFault = Ends (λ o. o ≡ refusal_by detail name (fault r) reasons)
 
-    known_ends : (result : Result Status ToolFault) → ReportsFault result → (IsErrOf result tool_fault.TooLong → (fault r).kind ≡ TooLong) → (b : List ℕ) → left old.device ≡ Some b → EndsCounting (FileOutput b) Sent result
-    known_ends (Ok status) (o, is, same, sent) long b known = (o, known_out b known o is, same, sent)
-    known_ends (Err (tool_fault.Write written)) (o, is, less, sent) long b known = (written, λ _. refl, (o, known_out b known o is, less, sent))
-    known_ends (Err tool_fault.TooLong) is long b known = known_long b known (long refl)
-    known_ends (Err tool_fault.Memory) is long b known = tt
-    known_ends (Err tool_fault.Read) is long b known = tt
+    known_ends : (Sent : List ℕ → Type 0) (result : Result Status ToolFault) → ReportsFault Sent result → (IsErrOf result tool_fault.TooLong → (fault r).kind ≡ TooLong) → (b : List ℕ) → left old.device ≡ Some b → EndsCounting (FileOutput b) Sent result
+    known_ends Sent (Ok status) (o, is, same, sent) long b known = (o, known_out b known o is, same, sent)
+    known_ends Sent (Err (tool_fault.Write written)) (o, is, less, sent) long b known = (written, λ _. refl, (o, known_out b known o is, less, sent))
+    known_ends Sent (Err tool_fault.TooLong) is long b known = known_long b known (long refl)
+    known_ends Sent (Err tool_fault.Memory) is long b known = tt
+    known_ends Sent (Err tool_fault.Read) is long b known = tt
 
-    taken_ends : (result : Result Status ToolFault) → ReportsFault result → (IsErrOf result tool_fault.TooLong → (fault r).kind ≡ TooLong) → IsDecided result
+    taken_ends : (Sent : List ℕ → Type 0) (result : Result Status ToolFault) → ReportsFault Sent result → (IsErrOf result tool_fault.TooLong → (fault r).kind ≡ TooLong) → IsDecided result
         → (b : List ℕ) × Consumes (left old.device) (left new.device) b × EndsCounting (FileOutput b) Sent result
-    taken_ends (Ok status) (o, is, same, sent) long decided = let (b, consumed, out) = taken_out o is in (b, consumed, (o, out, same, sent))
-    taken_ends (Err (tool_fault.Write written)) (o, is, less, sent) long decided = let (b, consumed, out) = taken_out o is in (b, consumed, (written, λ _. refl, (o, out, less, sent)))
-    taken_ends (Err tool_fault.TooLong) is long decided = let (b, consumed, out) = taken_long (long refl) in (b, consumed, out)
-    taken_ends (Err tool_fault.Memory) is long decided = absurd decided
-    taken_ends (Err tool_fault.Read) is long decided = absurd decided
+    taken_ends Sent (Ok status) (o, is, same, sent) long decided = let (b, consumed, out) = taken_out o is in (b, consumed, (o, out, same, sent))
+    taken_ends Sent (Err (tool_fault.Write written)) (o, is, less, sent) long decided = let (b, consumed, out) = taken_out o is in (b, consumed, (written, λ _. refl, (o, out, less, sent)))
+    taken_ends Sent (Err tool_fault.TooLong) is long decided = let (b, consumed, out) = taken_long (long refl) in (b, consumed, out)
+    taken_ends Sent (Err tool_fault.Memory) is long decided = absurd decided
+    taken_ends Sent (Err tool_fault.Read) is long decided = absurd decided
 
     -- a fault is refused, or the run ends at it
-    pub ends_refused : (result : Result Status ToolFault) → ReportsFault result → (IsErrOf result tool_fault.TooLong → (fault r).kind ≡ TooLong) → IsErrOf result tool_fault.Read ↔ ((fault r).kind ≡ Read) → EndsFile left FileOutput Sent old new result
-    ends_refused result ends long reads = record {
-      output = λ b known. known_ends result ends long b known;
-      taken = λ decided. taken_ends result ends long decided;
+    pub answers_refused : (result : Result Status ToolFault) → (IsErrOf result tool_fault.TooLong → (fault r).kind ≡ TooLong) → IsErrOf result tool_fault.Read ↔ ((fault r).kind ≡ Read)
+        → Answers contents ReportsFault out_old out_new result → Answers contents (EndsFile left FileOutput old new) out_old out_new result
+    answers_refused result long reads = answers_by contents out_old out_new result ReportsFault (EndsFile left FileOutput old new) (λ Sent ends. record {
+      output = λ b known. known_ends Sent result ends long b known;
+      taken = λ decided. taken_ends Sent result ends long decided;
       reads = (λ e. plain.note.0 (reads.0 e), λ t. reads.1 (plain.note.1 t));
-    }
+    })
 
 -- ---- what is kept of what was found
 
@@ -186,20 +190,20 @@ plan_refusal_shows r accepted text is = grind (arith, common_steps, more_is)
 
 -- ---- task files and plan files
 
-module _ {D A : Type 0} (left : D → Option (List ℕ)) (Gives : List ℕ → A → Type 0) (Sent : List ℕ → Type 0) (detail : Detail) (old new : Device D) where
+module _ {D A W : Type 0} (left : D → Option (List ℕ)) (Gives : List ℕ → A → Type 0) (detail : Detail) (old new : Device D) (contents : W → Option (List ℕ)) (out_old out_new : Device W) where
   -- a task file is refused
   pub task_refused : (IsAnswer : Parts → Output → Type 0) (r : TaskRefusal) (result : Result Status ToolFault) → ReadsTask left Gives old new (Err r)
-      → Ends (λ o. o ≡ refusal_by detail (codes "task") r.fault (task_refusal_lines r)) Sent result → IsErrOf result tool_fault.TooLong ↔ ((r.fault).kind ≡ TooLong) → IsErrOf result tool_fault.Read ↔ ((r.fault).kind ≡ Read)
-      → EndsFile left (TaskBy detail IsAnswer) Sent old new result
-  task_refused IsAnswer r result h ends long reads =
-      ends_refused left task_format AreTaskReasons Gives (codes "task") Sent detail IsAnswer old new task_reporting fault_in found_in HasReason r (task_refusal_lines r) (task_refusal_shows r) h result ends long.0 reads
+      → Answers contents (Ends (λ o. o ≡ refusal_by detail (codes "task") r.fault (task_refusal_lines r))) out_old out_new result → IsErrOf result tool_fault.TooLong ↔ ((r.fault).kind ≡ TooLong) → IsErrOf result tool_fault.Read ↔ ((r.fault).kind ≡ Read)
+      → Answers contents (EndsFile left (TaskBy detail IsAnswer) old new) out_old out_new result
+  task_refused IsAnswer r result h refused long reads =
+      answers_refused left task_format AreTaskReasons Gives (codes "task") detail IsAnswer old new contents out_old out_new task_reporting fault_in found_in HasReason r (task_refusal_lines r) (task_refusal_shows r) h result long.0 reads refused
 
   -- and a plan file
   pub plan_refused : (IsAnswer : PlanParts → Output → Type 0) (r : PlanRefusal) (result : Result Status ToolFault) → ReadsPlan left Gives old new (Err r)
-      → Ends (λ o. o ≡ refusal_by detail (codes "plan") r.fault (plan_refusal_lines r)) Sent result → IsErrOf result tool_fault.TooLong ↔ ((r.fault).kind ≡ TooLong) → IsErrOf result tool_fault.Read ↔ ((r.fault).kind ≡ Read)
-      → EndsFile left (PlanBy detail IsAnswer) Sent old new result
-  plan_refused IsAnswer r result h ends long reads =
-      ends_refused left plan_format ArePlanReasons Gives (codes "plan") Sent detail IsAnswer old new plan_reporting fault_of found_of nothing_else r (plan_refusal_lines r) (λ accepted text is other. plan_refusal_shows r accepted text is) h result ends long.0 reads
+      → Answers contents (Ends (λ o. o ≡ refusal_by detail (codes "plan") r.fault (plan_refusal_lines r))) out_old out_new result → IsErrOf result tool_fault.TooLong ↔ ((r.fault).kind ≡ TooLong) → IsErrOf result tool_fault.Read ↔ ((r.fault).kind ≡ Read)
+      → Answers contents (EndsFile left (PlanBy detail IsAnswer) old new) out_old out_new result
+  plan_refused IsAnswer r result h refused long reads =
+      answers_refused left plan_format ArePlanReasons Gives (codes "plan") detail IsAnswer old new contents out_old out_new plan_reporting fault_of found_of nothing_else r (plan_refusal_lines r) (λ accepted text is other. plan_refusal_shows r accepted text is) h result long.0 reads refused
 
 -- a task that isn't layered is refused for its first fault
 not_memory_by : (detail : Detail) (p : Parts) (fault : LayerFault) (o : Output) → layers_by detail p fault ≡ Some o → fault ≢ layer_fault.Memory
@@ -207,9 +211,9 @@ not_memory_by Plain p fault o is = reported_fault fault o is
 not_memory_by Trace p fault o is = reported_fault fault o is
 not_memory_by Reasons p fault o is = not_memory p o fault is
 
-module _ {D : Type 0} (left : D → Option (List ℕ)) (Sent : List ℕ → Type 0) (detail : Detail) (old new : Device D) (p : Parts) where
-  pub task_unlayered : (fault : LayerFault) (r : Result Status ToolFault) (Q : Type 0) → ReadsAll left task_format (ValueOf task_format) old new (Ok p) → (fault ≢ layer_fault.Memory → first_fault (layer_checks p) ≡ Some fault)
-      → EndsCounting (λ output. IsSomeAnd output (λ o. layers_by detail p fault ≡ Some o)) Sent r → IfErr r (λ e. IsWrite e ⊎ ((e ≡ tool_fault.Memory) × Q)) → EndsFile left (TaskBy detail (UnlayeredBy detail)) Sent old new r
-  task_unlayered fault r Q read first ends starved =
-      ends_value left task_format AreTaskReasons (ValueOf task_format) (codes "task") Sent detail (UnlayeredBy detail) old new p (λ o. layers_by detail p fault ≡ Some o)
-      (λ b value o is. (p, value, (fault, first (not_memory_by detail p fault o is), is))) r read ends (unread Q r starved)
+module _ {D W : Type 0} (left : D → Option (List ℕ)) (detail : Detail) (old new : Device D) (contents : W → Option (List ℕ)) (out_old out_new : Device W) (p : Parts) where
+  pub task_unlayered : (fault : LayerFault) (r : Result Status ToolFault) → ReadsAll left task_format (ValueOf task_format) old new (Ok p) → (fault ≢ layer_fault.Memory → first_fault (layer_checks p) ≡ Some fault)
+      → Writes contents (EndsCounting (λ output. IsSomeAnd output (λ o. layers_by detail p fault ≡ Some o))) out_old out_new r → Answers contents (EndsFile left (TaskBy detail (UnlayeredBy detail)) old new) out_old out_new r
+  task_unlayered fault r read first =
+      answers_value left task_format AreTaskReasons (ValueOf task_format) (codes "task") detail (UnlayeredBy detail) old new contents out_old out_new p (λ o. layers_by detail p fault ≡ Some o)
+      (λ b value o is. (p, value, (fault, first (not_memory_by detail p fault o is), is))) r read

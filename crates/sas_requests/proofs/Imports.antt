@@ -48,15 +48,14 @@ pub use Rattle.sas_meaning.specs.LayerChecks.{layer_checks}
 pub use Rattle.sas_meaning.specs.Layers.{IsLayered}
 pub use Rattle.sas_meaning.specs.declared.layered.LayerFault.{LayerFault}
 pub use Rattle.sas_output.proofs.PlainLines.{lines_are_reasons}
-pub use Rattle.sas_output.proofs.Sent.{counting_ends, ends_counting_as, exact_ends}
-pub use Rattle.sas_output.specs.Ending.{Output, Ends, EndsCounting, IsDecided, IsWrite, output_of}
+pub use Rattle.sas_output.proofs.Sent.{ends_by, exact_ends, writes_by, writes_as, writes_counting, writes_answers, answers_by}
+pub use Rattle.sas_output.specs.Ending.{Output, Ends, EndsCounting, IsDecided, Writes, Answers, output_of}
 pub use Rattle.sas_output.specs.Laws.{IsReasonLine}
 pub use Rattle.sas_output.specs.Line.{line_bytes, reasons_text}
 pub use Rattle.sas_output.specs.declared.ending.Status.{Status}
 pub use Rattle.sas_output.specs.declared.ending.Status.TheVariants.{Yes, No}
 pub use Rattle.sas_output.specs.declared.ending.ToolFault.{ToolFault}
 pub use Rattle.sas_output.specs.declared.line.Line.{Line}
-pub use Rattle.sas_outputs.proofs.Endings.{ends_counting_by}
 pub use Rattle.sas_outputs.proofs.Headlines.{sent_same, IsSolved, IsOther, headline_by, out_reported, out_solved, ReportsValid, reports_valid, headline_of}
 pub use Rattle.sas_outputs.proofs.Lengths.{text_short}
 pub use Rattle.sas_outputs.proofs.Outputs.{refused_kind, too_long_else, reading_of_refusal, Worded, plan_worded, task_worded, same_output}

@@ -1,10 +1,7 @@
 -- How the output of a request goes out.
-use Rattle.std.proofs.Common.{arith}
-use Rattle.std.proofs.lemmas.Grind.{common_steps}
-use Rattle.sas_requests.proofs.Imports.{◌≡◌, ℕ, false, true, List, [], codes, inl, inr, refl, sym, ap, subst, ◌∙◌, Option, Some, None, Result, Ok, Err, IsTrue, IfOk, IsSomeAnd, Appends, Parts, PlanParts, LayerFault, IsLayered, Device, ValueOf, ReadsAll, ReadsAs, most_bytes, known_answer, plan_format, task_format, Status, Yes, ToolFault, Output, EndsCounting, layers_verdict, LayeredGroupsAnswer, Consumes-nil, Detail, Reasons, Trace, CheckBy, MutexBy, VerdictBy, UnlayeredBy, layers_by, TaskBy, PlanBy, OutBy, EndsRequest, TaskFileReasons, PlanFileReasons, RefusalReasons, layered_answer, WhyGroupsAnswer, WhyMutexAnswer, check_layered, check_refused, groups_layered, groups_refused, IsTraced, TraceVerdict, Request, Headline, Invariants, TaskOut, VerdictOut, PlanOutBy, PrintAnswer, AreInputs, reads_task, first_alone, second_alone, not_refused, EndsFile}
+use Rattle.sas_requests.proofs.Imports.{◌≡◌, ℕ, false, true, List, [], codes, inl, inr, refl, sym, ap, subst, ◌∙◌, Option, Some, None, Result, Ok, Err, IsTrue, IfOk, IsSomeAnd, Appends, Parts, PlanParts, LayerFault, IsLayered, Device, ValueOf, ReadsAll, ReadsAs, most_bytes, known_answer, plan_format, task_format, Status, Yes, ToolFault, Output, EndsCounting, Answers, ends_by, answers_by, layers_verdict, LayeredGroupsAnswer, Consumes-nil, Detail, Reasons, Trace, CheckBy, MutexBy, VerdictBy, UnlayeredBy, layers_by, TaskBy, PlanBy, OutBy, EndsRequest, TaskFileReasons, PlanFileReasons, RefusalReasons, layered_answer, WhyGroupsAnswer, WhyMutexAnswer, check_layered, check_refused, groups_layered, groups_refused, IsTraced, TraceVerdict, Request, Headline, Invariants, TaskOut, VerdictOut, PlanOutBy, PrintAnswer, AreInputs, reads_task, first_alone, second_alone, not_refused, EndsFile}
 use Rattle.sas_outputs.specs.declared.Request.TheVariants as request
 use Rattle.sas_requests.specs.declared.detail.Detail.TheVariants.{Plain}
-use Rattle.sas_requests.proofs.FileEnds.{ends_by}
 use Rattle.sas_requests.proofs.RefusalReasons.{more_reasoned}
 
 -- ---- answers about a task
@@ -55,18 +52,30 @@ module _ (detail : Detail) (b c : List ℕ) (o : Option Output) where
 -- ---- how they go out
 
 -- what a run that ends so promises follows from what another promises
-pub ends_as : {T P : Type 0} (left_task : T → Option (List ℕ)) (left_plan : P → Option (List ℕ)) (A B : List ℕ → List ℕ → Type 0) (asked : Request) (old new : Device T) (plan_old plan_new : Device P) (r : Result Status ToolFault)
-    → ((b c : List ℕ) → A b c → B b c) → EndsRequest left_task left_plan A asked old new plan_old plan_new r → EndsRequest left_task left_plan B asked old new plan_old plan_new r
-ends_as left_task left_plan A B asked old new plan_old plan_new r to h = grind (arith, common_steps)
+module _ {T P W : Type 0} (left_task : T → Option (List ℕ)) (left_plan : P → Option (List ℕ)) (contents : W → Option (List ℕ)) (out_old out_new : Device W) where
+  pub ends_as : (A B : List ℕ → List ℕ → (List ℕ → Type 0) → Result Status ToolFault → Type 0) (asked : Request) (old new : Device T) (plan_old plan_new : Device P) (r : Result Status ToolFault)
+      → ((b c : List ℕ) (Sent : List ℕ → Type 0) → A b c Sent r → B b c Sent r)
+      → Answers contents (EndsRequest left_task left_plan A asked old new plan_old plan_new) out_old out_new r → Answers contents (EndsRequest left_task left_plan B asked old new plan_old plan_new) out_old out_new r
+  ends_as A B asked old new plan_old plan_new r to =
+      answers_by contents out_old out_new r (EndsRequest left_task left_plan A asked old new plan_old plan_new) (EndsRequest left_task left_plan B asked old new plan_old plan_new) (λ Sent one. record {
+        output = λ b c inputs. to b c Sent (one.output b c inputs);
+        taken = λ decided.
+            let (b, c, consumed, consumed_plan, ends) = one.taken decided in
+            (b, c, consumed, consumed_plan, to b c Sent ends);
+        task_spared = one.task_spared;
+        plan_spared = one.plan_spared;
+        plan_waits = one.plan_waits;
+        reads = one.reads;
+      })
 
-module _ {T P : Type 0} (left_task : T → Option (List ℕ)) (left_plan : P → Option (List ℕ)) (Sent : List ℕ → Type 0) (detail : Detail) where
-  abbrev EndsAsked : Request → Device T → Device T → Device P → Device P → Result Status ToolFault → Type 0
-  EndsAsked asked old new plan_old plan_new r = EndsRequest left_task left_plan (λ b c. EndsCounting (OutBy detail asked b c) Sent r) asked old new plan_old plan_new r
+module _ {T P W : Type 0} (left_task : T → Option (List ℕ)) (left_plan : P → Option (List ℕ)) (contents : W → Option (List ℕ)) (out_old out_new : Device W) (detail : Detail) where
+  abbrev EndsAsked : Request → Device T → Device T → Device P → Device P → (List ℕ → Type 0) → Result Status ToolFault → Type 0
+  EndsAsked asked = EndsRequest left_task left_plan (λ b c. EndsCounting (OutBy detail asked b c)) asked
 
   -- a request that read the task alone
   pub of_task : (asked : Request) → IsTrue (reads_task asked) → (FileOutput : List ℕ → Option Output → Type 0) → ((b c : List ℕ) (o : Option Output) → FileOutput b o → OutBy detail asked b c o)
-      → (old new : Device T) (plan : Device P) (r : Result Status ToolFault) → plan.failed ≡ false → EndsFile left_task FileOutput Sent old new r → EndsAsked asked old new plan plan r
-  of_task asked reading FileOutput to old new plan r working one = record {
+      → (old new : Device T) (plan : Device P) (r : Result Status ToolFault) → plan.failed ≡ false → Answers contents (EndsFile left_task FileOutput old new) out_old out_new r → Answers contents (EndsAsked asked old new plan plan) out_old out_new r
+  of_task asked reading FileOutput to old new plan r working = answers_by contents out_old out_new r (EndsFile left_task FileOutput old new) (EndsAsked asked old new plan plan) (λ Sent one. record {
     output = λ b c inputs. ends_by Sent (FileOutput b) (OutBy detail asked b c) r (to b c) (one.output b (inputs.0 reading));
     taken = λ decided.
         let (b, consumed, ends) = one.taken decided in
@@ -75,14 +84,14 @@ module _ {T P : Type 0} (left_task : T → Option (List ℕ)) (left_plan : P →
     plan_spared = λ _. refl;
     plan_waits = λ _ b known none. refl;
     reads = (λ e. (first_alone new.failed plan.failed working).1 (one.reads.0 e), λ t. one.reads.1 ((first_alone new.failed plan.failed working).0 t));
-  }
+  })
 
   -- `steps`, which reads the plan alone
-  pub of_steps : (task : Device T) (old new : Device P) (r : Result Status ToolFault) → task.failed ≡ false → EndsFile left_plan (PlanBy detail (PrintAnswer plan_format)) Sent old new r → EndsAsked request.Steps task task old new r
-  of_steps task old new r working one =
+  pub of_steps : (task : Device T) (old new : Device P) (r : Result Status ToolFault) → task.failed ≡ false → Answers contents (EndsFile left_plan (PlanBy detail (PrintAnswer plan_format)) old new) out_old out_new r → Answers contents (EndsAsked request.Steps task task old new) out_old out_new r
+  of_steps task old new r working =
       let Answer = PlanBy detail (PrintAnswer plan_format) in
       let alone = second_alone task.failed new.failed (λ t. let apart : true ≡ false = sym t ∙ working in cc) in
-      record {
+      answers_by contents out_old out_new r (EndsFile left_plan Answer old new) (EndsAsked request.Steps task task old new) (λ Sent one. record {
         output = λ b c inputs. ends_by Sent (Answer c) (OutBy detail request.Steps b c) r (λ o out. out) (one.output c (inputs.1 refl));
         taken = λ decided.
             let (c, consumed, ends) = one.taken decided in
@@ -91,15 +100,15 @@ module _ {T P : Type 0} (left_task : T → Option (List ℕ)) (left_plan : P →
         plan_spared = λ spared. absurd cc;
         plan_waits = λ is. absurd cc;
         reads = (λ e. alone.1 (one.reads.0 e), λ t. one.reads.1 (alone.0 t));
-      }
+      })
 
   -- `plan` of a layered task, which reads both
   pub of_both : (p : Parts) (old new : Device T) → ReadsAll left_task task_format (ValueOf task_format) old new (Ok p) → IsLayered p
-      → (plan_old plan_new : Device P) (r : Result Status ToolFault) → EndsFile left_plan (PlanBy detail (VerdictBy detail p)) Sent plan_old plan_new r → EndsAsked request.Plan old new plan_old plan_new r
-  of_both p old new read layered plan_old plan_new r one =
+      → (plan_old plan_new : Device P) (r : Result Status ToolFault) → Answers contents (EndsFile left_plan (PlanBy detail (VerdictBy detail p)) plan_old plan_new) out_old out_new r → Answers contents (EndsAsked request.Plan old new plan_old plan_new) out_old out_new r
+  of_both p old new read layered plan_old plan_new r =
       let Answer = PlanBy detail (VerdictBy detail p) in
       let alone = second_alone new.failed plan_new.failed (λ t. read.note.1 t) in
-      record {
+      answers_by contents out_old out_new r (EndsFile left_plan Answer plan_old plan_new) (EndsAsked request.Plan old new plan_old plan_new) (λ Sent one. record {
         output = λ b c inputs.
             let value = known_answer left_task task_format (ValueOf task_format) old new p b read (inputs.0 refl) in
             ends_by Sent (Answer c) (OutBy detail request.Plan b c) r (λ o. judged_by detail b c o p layered value) (one.output c (inputs.1 refl));
@@ -111,7 +120,7 @@ module _ {T P : Type 0} (left_task : T → Option (List ℕ)) (left_plan : P →
         plan_spared = λ spared. absurd cc;
         plan_waits = λ _ b known none. absurd (none (p, known_answer left_task task_format (ValueOf task_format) old new p b read known, layered));
         reads = (λ e. alone.1 (one.reads.0 e), λ t. one.reads.1 (alone.0 t));
-      }
+      })
 
 -- ---- what a planner relies on
 

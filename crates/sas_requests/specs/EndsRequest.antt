@@ -12,20 +12,20 @@ use Rattle.sas_outputs.specs.Output.{AreInputs, IsLayeredText, reads_plan, reads
 
 -- How a run ends that answers a request. `left_task` and `left_plan` map the devices to the bytes
 -- that they have left, where these are known. `Ended` says how it ends for bytes of the task and of
--- the plan.
+-- the plan. `Sent` holds of the bytes that were written.
 module _ {T P : Type 0} (left_task : T → Option (List ℕ)) (left_plan : P → Option (List ℕ))
-    (Ended : List ℕ → List ℕ → Type 0) where
-  pub record EndsRequest (request : Request) (old_task new_task : Device T)
-      (old_plan new_plan : Device P) (result : Result Status ToolFault) : Type 0 where
+    (Ended : List ℕ → List ℕ → (List ℕ → Type 0) → Result Status ToolFault → Type 0)
+    (request : Request) (old_task new_task : Device T) (old_plan new_plan : Device P) where
+  pub record EndsRequest (Sent : List ℕ → Type 0) (result : Result Status ToolFault) : Type 0 where
     -- of inputs whose bytes are known, it ends so for these
     pub output : (b c : List ℕ)
         → AreInputs request (left_task old_task.device) (left_plan old_plan.device) b c
-        → Ended b c
+        → Ended b c Sent result
     -- and of any inputs, for the bytes that were read of them
     pub taken : IsDecided result → (b c : List ℕ)
         × Consumes (left_task old_task.device) (left_task new_task.device) b
         × Consumes (left_plan old_plan.device) (left_plan new_plan.device) c
-        × Ended b c
+        × Ended b c Sent result
     -- a device that the request doesn't read stays as it was
     pub task_spared : IsFalse (reads_task request) → new_task ≡ old_task
     pub plan_spared : IsFalse (reads_plan request) → new_plan ≡ old_plan

@@ -1,8 +1,7 @@
 // The answer to each request: its inputs are read, and then it goes out.
-ghost use Rattle.std.specs.Prelude.{◌≡◌, ◌⊎◌, ◌↔◌, false, IfErr, IsErrAnd, IsSomeAnd, IsTrue};
-ghost use Rattle.std.specs.Io.KnownBytes.{Appends};
+ghost use Rattle.std.specs.Prelude.{◌≡◌, false, IsSomeAnd};
 ghost use Rattle.sas_meaning.specs.Layers.{IsLayered};
-ghost use Rattle.sas_output.specs.Ending.{EndsCounting, IsWrite};
+ghost use Rattle.sas_output.specs.Ending.{Answers, EndsCounting, Writes};
 ghost use Rattle.sas_outputs.specs.Output.{PrintAnswer, ShowAnswer};
 ghost use Rattle.sas_plan_file.specs.PlanFormat.{plan_format};
 ghost use Rattle.sas_task_format.specs.TaskFormat.{task_format};
@@ -20,7 +19,7 @@ use sas_flat::FlatTask;
 use sas_lines::Watched;
 use sas_meaning::Layered;
 use sas_output::Answer;
-use sas_outputs::Summary;
+use sas_outputs::write_summary;
 use sas_plan_file::read_plan_text;
 use sas_task_reader::{read_outline, read_task_text};
 use sas_task_reasons::{groups_answer, write_groups};
@@ -38,12 +37,11 @@ pub fn answer<T: Read, P: Read, W: Write>(
     requires task { task.old.failed ≡ false }
     requires plan { plan.old.failed ≡ false }
     requires out { out.old.failed ≡ false }
-    ensures ends { EndsRequest T.remaining P.remaining
-        (λ b c. EndsCounting (OutBy asked.detail asked.request b c)
-        (Appends (W.contents out.old.device) (W.contents out.new.device)) result)
-        asked.request task.old task.new plan.old plan.new result }
-    ensures nothing { IfErr result (λ e. IsWrite e ⊎ (out.new ≡ out.old)) }
-    ensures writes { IsErrAnd result IsWrite ↔ IsTrue out.new.failed }
+    ensures { Answers W.contents
+        (EndsRequest T.remaining P.remaining
+        (λ b c. EndsCounting (OutBy asked.detail asked.request b c))
+        asked.request task.old task.new plan.old plan.new)
+        out.old out.new result }
 {
     let detail = asked.detail;
     match asked.request {
@@ -65,17 +63,14 @@ fn show<R: Read, W: Write>(
 ) -> Result<Status, ToolFault>
     requires task { task.old.failed ≡ false }
     requires out { out.old.failed ≡ false }
-    ensures ends { EndsFile R.remaining (TaskBy detail ShowAnswer)
-        (Appends (W.contents out.old.device) (W.contents out.new.device))
-        task.old task.new result }
-    ensures nothing { IfErr result (λ e. IsWrite e ⊎ (out.new ≡ out.old)) }
-    ensures writes { IsErrAnd result IsWrite ↔ IsTrue out.new.failed }
+    ensures { Answers W.contents
+        (EndsFile R.remaining (TaskBy detail ShowAnswer) task.old task.new)
+        out.old out.new result }
 {
     match read_outline(alloc, task) {
         Ok(outline) => {
-            let summary = Summary::new(outline);
-            let ended = summary.write(alloc, out);
-            drop(summary);
+            let ended = write_summary(alloc, &outline, out);
+            drop(outline);
             ended
         }
         Err(refusal) => refuse_task(alloc, detail, refusal, out),
@@ -91,11 +86,9 @@ fn print<R: Read, W: Write>(
 ) -> Result<Status, ToolFault>
     requires task { task.old.failed ≡ false }
     requires out { out.old.failed ≡ false }
-    ensures ends { EndsFile R.remaining (TaskBy detail (PrintAnswer task_format))
-        (Appends (W.contents out.old.device) (W.contents out.new.device))
-        task.old task.new result }
-    ensures nothing { IfErr result (λ e. IsWrite e ⊎ (out.new ≡ out.old)) }
-    ensures writes { IsErrAnd result IsWrite ↔ IsTrue out.new.failed }
+    ensures { Answers W.contents
+        (EndsFile R.remaining (TaskBy detail (PrintAnswer task_format)) task.old task.new)
+        out.old out.new result }
 {
     match read_task_text(alloc, task) {
         Ok(text) => {
@@ -115,11 +108,9 @@ fn steps<R: Read, W: Write>(
 ) -> Result<Status, ToolFault>
     requires plan { plan.old.failed ≡ false }
     requires out { out.old.failed ≡ false }
-    ensures ends { EndsFile R.remaining (PlanBy detail (PrintAnswer plan_format))
-        (Appends (W.contents out.old.device) (W.contents out.new.device))
-        plan.old plan.new result }
-    ensures nothing { IfErr result (λ e. IsWrite e ⊎ (out.new ≡ out.old)) }
-    ensures writes { IsErrAnd result IsWrite ↔ IsTrue out.new.failed }
+    ensures { Answers W.contents
+        (EndsFile R.remaining (PlanBy detail (PrintAnswer plan_format)) plan.old plan.new)
+        out.old out.new result }
 {
     match read_plan_text(alloc, plan) {
         Ok(text) => {
@@ -139,11 +130,9 @@ fn check<R: Read, W: Write>(
 ) -> Result<Status, ToolFault>
     requires task { task.old.failed ≡ false }
     requires out { out.old.failed ≡ false }
-    ensures ends { EndsFile R.remaining (TaskBy detail (CheckBy detail))
-        (Appends (W.contents out.old.device) (W.contents out.new.device))
-        task.old task.new result }
-    ensures nothing { IfErr result (λ e. IsWrite e ⊎ (out.new ≡ out.old)) }
-    ensures writes { IsErrAnd result IsWrite ↔ IsTrue out.new.failed }
+    ensures { Answers W.contents
+        (EndsFile R.remaining (TaskBy detail (CheckBy detail)) task.old task.new)
+        out.old out.new result }
 {
     match read_layered(alloc, detail, task, out) {
         Ok(layered) => {
@@ -163,11 +152,9 @@ fn mutex<R: Read, W: Write>(
 ) -> Result<Status, ToolFault>
     requires task { task.old.failed ≡ false }
     requires out { out.old.failed ≡ false }
-    ensures ends { EndsFile R.remaining (TaskBy detail (MutexBy detail))
-        (Appends (W.contents out.old.device) (W.contents out.new.device))
-        task.old task.new result }
-    ensures nothing { IfErr result (λ e. IsWrite e ⊎ (out.new ≡ out.old)) }
-    ensures writes { IsErrAnd result IsWrite ↔ IsTrue out.new.failed }
+    ensures { Answers W.contents
+        (EndsFile R.remaining (TaskBy detail (MutexBy detail)) task.old task.new)
+        out.old out.new result }
 {
     match read_layered(alloc, detail, task, out) {
         Ok(layered) => {
@@ -188,11 +175,9 @@ fn answer_groups<W: Write>(
 ) -> Result<Status, ToolFault>
     requires layered { IsLayered layered.now }
     requires out { out.old.failed ≡ false }
-    ensures ends { EndsCounting (λ output. IsSomeAnd output (MutexBy detail layered.now))
-        (Appends (W.contents out.old.device) (W.contents out.new.device)) result }
-    ensures nothing { IfErr result (λ e. IsWrite e
-        ⊎ ((e ≡ ToolFault.Memory) × (out.new ≡ out.old))) }
-    ensures writes { IsErrAnd result IsWrite ↔ IsTrue out.new.failed }
+    ensures { Writes W.contents (EndsCounting
+        (λ output. IsSomeAnd output (MutexBy detail layered.now)))
+        out.old out.new result }
 {
     match detail {
         Detail::Plain | Detail::Trace => groups_answer(alloc, layered)?.write(out),

@@ -8,14 +8,14 @@ mod plans;
 mod refusals;
 mod tasks;
 
-ghost use Rattle.std.specs.Prelude.{◌≡◌, ◌⊎◌, ◌↔◌, false, List, ℕ, Some, IfErr, IfOk, IsErrAnd, IsTrue};
+ghost use Rattle.std.specs.Prelude.{◌≡◌, false, List, ℕ, Some, IfOk};
 ghost use Rattle.std.specs.Io.KnownBytes.{Appends};
 ghost use Rattle.sas_outputs.specs.Output.{Out, AreInputs};
 ghost use Rattle.sas_outputs.specs.Headline.{Headline, Invariants};
 ghost use Rattle.sas_requests.specs.EndsRequest.{EndsRequest};
 ghost use Rattle.sas_requests.specs.Why.{OutWhy, HasNoReasons};
 ghost use Rattle.sas_requests.specs.TraceOut.{TraceOut};
-ghost use Rattle.sas_output.specs.Ending.{Ends, EndsCounting, IsWrite};
+ghost use Rattle.sas_output.specs.Ending.{Answers, Ends, EndsCounting};
 
 pub use answers::answer;
 pub use detail::{Asked, Detail};
@@ -34,7 +34,7 @@ use std::io::{Read, Write};
 /// `Plan` or `Mutex` finds that the task isn't layered, where the plan isn't valid, and where a group isn't shown to be
 /// exclusive. Not to be called with a device that has failed.
 ///
-/// The theorem, `ends`, holds by `EndsRequest.output` for every reader whose bytes are known, such as one over memory. The code is
+/// The theorem, `answers`, holds by `EndsRequest.output` for every reader whose bytes are known, such as one over memory. The code is
 /// generic, and so the same for a file, whose bytes aren't; that a file gives what the disk holds is trusted.
 pub fn run<T: Read, P: Read, W: Write>(
     alloc: Global,
@@ -47,13 +47,11 @@ pub fn run<T: Read, P: Read, W: Write>(
     requires plan { plan.old.failed ≡ false }
     requires out { out.old.failed ≡ false }
     // For inputs whose bytes are known, and else for the bytes that were read: their output went out, or its first bytes, or
-    // there is none. What isn't needed isn't read.
-    ensures ends { EndsRequest T.remaining P.remaining
-        (λ b c. Ends (Out request b c)
-        (Appends (W.contents out.old.device) (W.contents out.new.device)) result)
-        request task.old task.new plan.old plan.new result }
-    // Before the answer is known nothing is written.
-    ensures nothing { IfErr result (λ e. IsWrite e ⊎ (out.new ≡ out.old)) }
+    // there is none. What isn't needed isn't read. Before the answer is known nothing is written.
+    ensures answers { Answers W.contents
+        (EndsRequest T.remaining P.remaining (λ b c. Ends (Out request b c))
+        request task.old task.new plan.old plan.new)
+        out.old out.new result }
     // `plan valid` is printed exactly if the plan solves the task at the printed cost.
     ensures headline { IfOk result (λ status. request ≡ Request.Plan → (b c before : List ℕ)
         → T.remaining task.old.device ≡ Some b → P.remaining plan.old.device ≡ Some c
@@ -63,7 +61,6 @@ pub fn run<T: Read, P: Read, W: Write>(
     ensures invariants { IfOk result (λ status. request ≡ Request.Mutex → (b before : List ℕ)
         → T.remaining task.old.device ≡ Some b → W.contents out.old.device ≡ Some before
         → Invariants b (Appends (W.contents out.old.device) (W.contents out.new.device))) }
-    ensures writes { IsErrAnd result IsWrite ↔ IsTrue out.new.failed }
 {
     let detail = Detail::Plain;
     answer(alloc, Asked { request, detail }, task, plan, out)
@@ -86,19 +83,17 @@ pub fn explain<T: Read, P: Read, W: Write>(
     requires plan { plan.old.failed ≡ false }
     requires out { out.old.failed ≡ false }
     // For inputs whose bytes are known, and else for the bytes that were read: their output went out, or its first bytes, or
-    // there is none. What isn't needed isn't read.
-    ensures ends { EndsRequest T.remaining P.remaining
-        (λ b c. EndsCounting (OutWhy request b c)
-        (Appends (W.contents out.old.device) (W.contents out.new.device)) result)
-        request task.old task.new plan.old plan.new result }
+    // there is none. What isn't needed isn't read. Before the answer is known nothing is written.
+    ensures answers { Answers W.contents
+        (EndsRequest T.remaining P.remaining (λ b c. EndsCounting (OutWhy request b c))
+        request task.old task.new plan.old plan.new)
+        out.old out.new result }
     // An answer without reasons goes out as that of `run` does.
     ensures plain { (b c : List ℕ)
         → AreInputs request (T.remaining task.old.device) (P.remaining plan.old.device) b c
         → HasNoReasons request b c
         → Ends (Out request b c)
         (Appends (W.contents out.old.device) (W.contents out.new.device)) result }
-    // Before the answer is known nothing is written.
-    ensures nothing { IfErr result (λ e. IsWrite e ⊎ (out.new ≡ out.old)) }
     // `plan valid` is printed exactly if the plan solves the task at the printed cost.
     ensures headline { IfOk result (λ status. request ≡ Request.Plan → (b c before : List ℕ)
         → T.remaining task.old.device ≡ Some b → P.remaining plan.old.device ≡ Some c
@@ -108,7 +103,6 @@ pub fn explain<T: Read, P: Read, W: Write>(
     ensures invariants { IfOk result (λ status. request ≡ Request.Mutex → (b before : List ℕ)
         → T.remaining task.old.device ≡ Some b → W.contents out.old.device ≡ Some before
         → Invariants b (Appends (W.contents out.old.device) (W.contents out.new.device))) }
-    ensures writes { IsErrAnd result IsWrite ↔ IsTrue out.new.failed }
 {
     let detail = Detail::Reasons;
     answer(alloc, Asked { request, detail }, task, plan, out)
@@ -120,7 +114,7 @@ pub fn explain<T: Read, P: Read, W: Write>(
 /// before. At `Write` the first bytes of the answer were written, and `written` is their number where that is less than 2^64; at
 /// any other fault nothing was. Not to be called with a device that has failed.
 ///
-/// The theorem, `ends`, is like that of `run`.
+/// The theorem, `answers`, is like that of `run`.
 pub fn trace<T: Read, P: Read, W: Write>(
     alloc: Global,
     task: &mut Watched<T>,
@@ -131,14 +125,11 @@ pub fn trace<T: Read, P: Read, W: Write>(
     requires plan { plan.old.failed ≡ false }
     requires out { out.old.failed ≡ false }
     // For inputs whose bytes are known, and else for the bytes that were read: their output went out, or its first bytes, or
-    // there is none. What isn't needed isn't read.
-    ensures ends { EndsRequest T.remaining P.remaining
-        (λ b c. EndsCounting (TraceOut b c)
-        (Appends (W.contents out.old.device) (W.contents out.new.device)) result)
-        Request.Plan task.old task.new plan.old plan.new result }
-    // Before the answer is known nothing is written.
-    ensures nothing { IfErr result (λ e. IsWrite e ⊎ (out.new ≡ out.old)) }
-    ensures writes { IsErrAnd result IsWrite ↔ IsTrue out.new.failed }
+    // there is none. What isn't needed isn't read. Before the answer is known nothing is written.
+    ensures answers { Answers W.contents
+        (EndsRequest T.remaining P.remaining (λ b c. EndsCounting (TraceOut b c))
+        Request.Plan task.old task.new plan.old plan.new)
+        out.old out.new result }
 {
     let (request, detail) = (Request::Plan, Detail::Trace);
     answer(alloc, Asked { request, detail }, task, plan, out)

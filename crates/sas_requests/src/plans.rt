@@ -1,7 +1,6 @@
 // Whether a plan solves a task. Both are read, the plan only if it is needed.
-ghost use Rattle.std.specs.Prelude.{◌≡◌, ◌⊎◌, ◌↔◌, false, IfErr, IsErrAnd, IsSomeAnd, IsTrue};
-ghost use Rattle.std.specs.Io.KnownBytes.{Appends};
-ghost use Rattle.sas_output.specs.Ending.{EndsCounting, IsWrite};
+ghost use Rattle.std.specs.Prelude.{◌≡◌, false, IsSomeAnd};
+ghost use Rattle.sas_output.specs.Ending.{Answers, EndsCounting, Writes};
 ghost use Rattle.sas_outputs.specs.EndsFile.{EndsFile};
 ghost use Rattle.sas_requests.specs.Answering.{OutBy, PlanBy, VerdictBy};
 ghost use Rattle.sas_requests.specs.EndsRequest.{EndsRequest};
@@ -31,12 +30,10 @@ pub fn judge_files<T: Read, P: Read, W: Write>(
     requires task { task.old.failed ≡ false }
     requires plan { plan.old.failed ≡ false }
     requires out { out.old.failed ≡ false }
-    ensures ends { EndsRequest T.remaining P.remaining
-        (λ b c. EndsCounting (OutBy detail Request.Plan b c)
-        (Appends (W.contents out.old.device) (W.contents out.new.device)) result)
-        Request.Plan task.old task.new plan.old plan.new result }
-    ensures nothing { IfErr result (λ e. IsWrite e ⊎ (out.new ≡ out.old)) }
-    ensures writes { IsErrAnd result IsWrite ↔ IsTrue out.new.failed }
+    ensures { Answers W.contents
+        (EndsRequest T.remaining P.remaining (λ b c. EndsCounting (OutBy detail Request.Plan b c))
+        Request.Plan task.old task.new plan.old plan.new)
+        out.old out.new result }
 {
     match read_layered(alloc, detail, task, out) {
         Ok(layered) => {
@@ -58,10 +55,9 @@ pub fn answer_bytes<W: Write>(
     out: &mut Watched<W>,
 ) -> Result<Status, ToolFault>
     requires { out.old.failed ≡ false }
-    ensures ends { EndsCounting (PlanBy detail (VerdictBy detail layered.now) plan.now)
-        (Appends (W.contents out.old.device) (W.contents out.new.device)) result }
-    ensures nothing { IfErr result (λ e. IsWrite e ⊎ (out.new ≡ out.old)) }
-    ensures writes { IsErrAnd result IsWrite ↔ IsTrue out.new.failed }
+    ensures { Answers W.contents
+        (EndsCounting (PlanBy detail (VerdictBy detail layered.now) plan.now))
+        out.old out.new result }
 {
     let mut device = Watched::new(plan);
     judge_plan_file(alloc, detail, layered, &mut device, out)
@@ -79,11 +75,9 @@ fn judge_plan_file<P: Read, W: Write>(
 ) -> Result<Status, ToolFault>
     requires plan { plan.old.failed ≡ false }
     requires out { out.old.failed ≡ false }
-    ensures ends { EndsFile P.remaining (PlanBy detail (VerdictBy detail layered.now))
-        (Appends (W.contents out.old.device) (W.contents out.new.device))
-        plan.old plan.new result }
-    ensures nothing { IfErr result (λ e. IsWrite e ⊎ (out.new ≡ out.old)) }
-    ensures writes { IsErrAnd result IsWrite ↔ IsTrue out.new.failed }
+    ensures { Answers W.contents
+        (EndsFile P.remaining (PlanBy detail (VerdictBy detail layered.now)) plan.old plan.new)
+        out.old out.new result }
 {
     match read_flat_plan(alloc, plan) {
         Ok(read) => {
@@ -104,12 +98,9 @@ fn answer_plan<W: Write>(
     out: &mut Watched<W>,
 ) -> Result<Status, ToolFault>
     requires { out.old.failed ≡ false }
-    ensures ends { EndsCounting
-        (λ output. IsSomeAnd output (VerdictBy detail layered.now plan.now))
-        (Appends (W.contents out.old.device) (W.contents out.new.device)) result }
-    ensures nothing { IfErr result (λ e. IsWrite e
-        ⊎ ((e ≡ ToolFault.Memory) × (out.new ≡ out.old))) }
-    ensures writes { IsErrAnd result IsWrite ↔ IsTrue out.new.failed }
+    ensures { Writes W.contents (EndsCounting
+        (λ output. IsSomeAnd output (VerdictBy detail layered.now plan.now)))
+        out.old out.new result }
 {
     match detail {
         Detail::Plain => verdict_answer(alloc, layered, plan)?.write(out),

@@ -1,7 +1,6 @@
 // Refusals of files, as they go out.
-ghost use Rattle.std.specs.Prelude.{◌≡◌, ◌⊎◌, ◌↔◌, codes, false, IfErr, IsErrAnd, IsErrOf, IsTrue};
-ghost use Rattle.std.specs.Io.KnownBytes.{Appends};
-ghost use Rattle.sas_output.specs.Ending.{Ends, IsWrite};
+ghost use Rattle.std.specs.Prelude.{◌≡◌, ◌↔◌, codes, false, IsErrOf};
+ghost use Rattle.sas_output.specs.Ending.{Answers, Ends};
 ghost use Rattle.sas_requests.specs.Answering.{plan_refusal_lines, refusal_by, task_refusal_lines};
 
 use crate::detail::Detail;
@@ -22,13 +21,11 @@ pub fn refuse_task<W: Write>(
     out: &mut Watched<W>,
 ) -> Result<Status, ToolFault>
     requires { out.old.failed ≡ false }
-    ensures ends { Ends (λ output.
-        output ≡ refusal_by detail (codes "task") refused.fault (task_refusal_lines refused))
-        (Appends (W.contents out.old.device) (W.contents out.new.device)) result }
-    ensures nothing { IfErr result (λ e. IsWrite e ⊎ (out.new ≡ out.old)) }
+    ensures answers { Answers W.contents (Ends (λ output.
+        output ≡ refusal_by detail (codes "task") refused.fault (task_refusal_lines refused)))
+        out.old out.new result }
     ensures long { IsErrOf result ToolFault.TooLong ↔ (refused.fault.kind ≡ Kind.TooLong) }
     ensures reads { IsErrOf result ToolFault.Read ↔ (refused.fault.kind ≡ Kind.Read) }
-    ensures writes { IsErrAnd result IsWrite ↔ IsTrue out.new.failed }
 {
     let TaskRefusal {
         fault,
@@ -54,13 +51,11 @@ pub fn refuse_plan<W: Write>(
     out: &mut Watched<W>,
 ) -> Result<Status, ToolFault>
     requires { out.old.failed ≡ false }
-    ensures ends { Ends (λ output.
-        output ≡ refusal_by detail (codes "plan") refused.fault (plan_refusal_lines refused))
-        (Appends (W.contents out.old.device) (W.contents out.new.device)) result }
-    ensures nothing { IfErr result (λ e. IsWrite e ⊎ (out.new ≡ out.old)) }
+    ensures answers { Answers W.contents (Ends (λ output.
+        output ≡ refusal_by detail (codes "plan") refused.fault (plan_refusal_lines refused)))
+        out.old out.new result }
     ensures long { IsErrOf result ToolFault.TooLong ↔ (refused.fault.kind ≡ Kind.TooLong) }
     ensures reads { IsErrOf result ToolFault.Read ↔ (refused.fault.kind ≡ Kind.Read) }
-    ensures writes { IsErrAnd result IsWrite ↔ IsTrue out.new.failed }
 {
     let PlanRefusal { fault, found } = refused;
     let mut answer = refuse_file(alloc, "plan", fault)?;

@@ -1,8 +1,7 @@
 // Tasks that are read and are layered. Others are refused.
-ghost use Rattle.std.specs.Prelude.{◌≡◌, ◌⊎◌, ◌↔◌, false, Ok, Some, IfErr, IfOk, IsErrAnd, IsSomeAnd, IsTrue};
-ghost use Rattle.std.specs.Io.KnownBytes.{Appends};
+ghost use Rattle.std.specs.Prelude.{◌≡◌, false, Ok, Some, IfErr, IfOk, IsSomeAnd};
 ghost use Rattle.sas_meaning.specs.Layers.{IsLayered};
-ghost use Rattle.sas_output.specs.Ending.{EndsCounting, IsWrite};
+ghost use Rattle.sas_output.specs.Ending.{Answers, EndsCounting, Writes};
 ghost use Rattle.sas_reader.specs.Devices.{ReadsAll, ValueOf};
 ghost use Rattle.sas_task_format.specs.TaskFormat.{task_format};
 ghost use Rattle.sas_outputs.specs.EndsFile.{EndsFile};
@@ -34,14 +33,9 @@ pub fn read_layered<R: Read, W: Write>(
         ReadsAll R.remaining task_format (ValueOf task_format) task.old task.new (Ok p)) }
     ensures layered { IfOk result (λ p. IsLayered p) }
     ensures silent { IfOk result (λ p. out.new ≡ out.old) }
-    ensures refused { IfErr result (λ ended. EndsFile R.remaining
-        (TaskBy detail (UnlayeredBy detail))
-        (Appends (W.contents out.old.device) (W.contents out.new.device))
-        task.old task.new ended) }
-    ensures nothing { IfErr result (λ ended.
-        IfErr ended (λ e. IsWrite e ⊎ (out.new ≡ out.old))) }
-    ensures writes { IfErr result (λ ended.
-        IsErrAnd ended IsWrite ↔ IsTrue out.new.failed) }
+    ensures refused { IfErr result (Answers W.contents
+        (EndsFile R.remaining (TaskBy detail (UnlayeredBy detail)) task.old task.new)
+        out.old out.new) }
 {
     let read = match read_flat_task(alloc, task) {
         Ok(read) => read,
@@ -66,12 +60,9 @@ fn refuse_unlayered<W: Write>(
     out: &mut Watched<W>,
 ) -> Result<Status, ToolFault>
     requires { out.old.failed ≡ false }
-    ensures ends { EndsCounting
-        (λ output. IsSomeAnd output (λ reported. layers_by detail task.now fault ≡ Some reported))
-        (Appends (W.contents out.old.device) (W.contents out.new.device)) result }
-    ensures nothing { IfErr result (λ e. IsWrite e
-        ⊎ ((e ≡ ToolFault.Memory) × (out.new ≡ out.old))) }
-    ensures writes { IsErrAnd result IsWrite ↔ IsTrue out.new.failed }
+    ensures { Writes W.contents (EndsCounting
+        (λ output. IsSomeAnd output (λ reported. layers_by detail task.now fault ≡ Some reported)))
+        out.old out.new result }
 {
     match detail {
         Detail::Plain | Detail::Trace => refuse_layers(alloc, fault)?.write(out),

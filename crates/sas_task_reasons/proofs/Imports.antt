@@ -60,7 +60,7 @@ pub use Rattle.sas_mutex.specs.Effects.{IsKept, KeepsWithItself}
 pub use Rattle.sas_mutex.specs.Firing.{EffectPlace, operator_of}
 pub use Rattle.sas_mutex.specs.Marks.{IsClean}
 pub use Rattle.sas_output.proofs.Pushed.{pushes_then}
-pub use Rattle.sas_output.proofs.Sent.{ends_counting_as}
+pub use Rattle.sas_output.proofs.Sent.{ends_counting_as, writes_as}
 pub use Rattle.sas_output.proofs.Texts.{text_of_both}
 pub use Rattle.sas_output.specs.Ending.{Output, output_of}
 pub use Rattle.sas_output.specs.Line.{reasons_text}

@@ -1,10 +1,9 @@
 // The answer about the mutex groups of a layered task, with the reasons why groups aren't exclusive, as it goes out.
-ghost use Rattle.std.specs.Prelude.{◌≡◌, ◌⊎◌, ◌↔◌, [], ◌∷◌, ◌++◌, false, IfErr, IsErr, IsErrAnd, IsSomeAnd, IsTrue, OnOk, codes, map};
-ghost use Rattle.std.specs.Io.KnownBytes.{Appends};
+ghost use Rattle.std.specs.Prelude.{◌≡◌, [], ◌∷◌, ◌++◌, false, IsSomeAnd, codes, map};
 ghost use Rattle.sas_lines.specs.Lines.{text};
 ghost use Rattle.sas_answers.specs.GroupWords.{group_line};
 ghost use Rattle.sas_task_reasons.specs.GroupReasons.{reason_at};
-ghost use Rattle.sas_output.specs.Ending.{EndsCounting, IsWrite};
+ghost use Rattle.sas_output.specs.Ending.{EndsCounting, Writes};
 ghost use Rattle.sas_output.specs.Sink.{Pushes};
 ghost use Rattle.sas_output.specs.Words.{line, word_bytes};
 ghost use Rattle.sas_output.specs.Line.{reasons_text};
@@ -33,11 +32,9 @@ pub fn write_groups<W: Write>(
     out: &mut Watched<W>,
 ) -> Result<Status, ToolFault>
     requires { out.old.failed ≡ false }
-    ensures ends { EndsCounting (λ output. IsSomeAnd output (WhyGroupsAnswer task.now))
-        (Appends (W.contents out.old.device) (W.contents out.new.device)) result }
-    ensures nothing { IfErr result (λ e. IsWrite e
-        ⊎ ((e ≡ ToolFault.Memory) × (out.new ≡ out.old))) }
-    ensures writes { IsErrAnd result IsWrite ↔ IsTrue out.new.failed }
+    ensures { Writes W.contents
+        (EndsCounting (λ output. IsSomeAnd output (WhyGroupsAnswer task.now)))
+        out.old out.new result }
 {
     let verdicts = check_groups(alloc, task)?;
     let all = verdicts.as_slice();

@@ -1,7 +1,6 @@
 // The refusal of a task that isn't layered, with the reasons, as it goes out.
-ghost use Rattle.std.specs.Prelude.{◌≡◌, ◌⊎◌, ◌↔◌, false, Some, IfErr, IsErrAnd, IsSomeAnd, IsTrue};
-ghost use Rattle.std.specs.Io.KnownBytes.{Appends};
-ghost use Rattle.sas_output.specs.Ending.{EndsCounting, IsWrite};
+ghost use Rattle.std.specs.Prelude.{◌≡◌, false, Some, IsSomeAnd};
+ghost use Rattle.sas_output.specs.Ending.{EndsCounting, Writes};
 ghost use Rattle.sas_task_reasons.specs.WhyLayers.{why_refusal};
 
 use crate::layers::layer_reasons;
@@ -23,12 +22,9 @@ pub fn write_unlayered<W: Write>(
     out: &mut Watched<W>,
 ) -> Result<Status, ToolFault>
     requires { out.old.failed ≡ false }
-    ensures ends { EndsCounting
-        (λ output. IsSomeAnd output (λ refusal. why_refusal task.now fault ≡ Some refusal))
-        (Appends (W.contents out.old.device) (W.contents out.new.device)) result }
-    ensures nothing { IfErr result (λ e. IsWrite e
-        ⊎ ((e ≡ ToolFault.Memory) × (out.new ≡ out.old))) }
-    ensures writes { IsErrAnd result IsWrite ↔ IsTrue out.new.failed }
+    ensures { Writes W.contents (EndsCounting
+        (λ output. IsSomeAnd output (λ refusal. why_refusal task.now fault ≡ Some refusal)))
+        out.old out.new result }
 {
     let refusal = refuse_layers(alloc, fault)?;
     let reasons = layer_reasons(alloc, task, fault)?;

@@ -1,7 +1,6 @@
 // The trace of a plan, as it goes out.
-ghost use Rattle.std.specs.Prelude.{◌≡◌, ◌⊎◌, ◌↔◌, false, IfOk, IfErr, IsErrAnd, IsTrue};
-ghost use Rattle.std.specs.Io.KnownBytes.{Appends};
-ghost use Rattle.sas_output.specs.Ending.{EndsCounting, IsWrite};
+ghost use Rattle.std.specs.Prelude.{◌≡◌, false, IfOk};
+ghost use Rattle.sas_output.specs.Ending.{EndsCounting, Writes};
 ghost use Rattle.sas_run.specs.Executions.{IsNew};
 ghost use Rattle.sas_run.specs.Runs.{Run};
 ghost use Rattle.sas_trace.specs.Traced.{IsTraced};
@@ -29,11 +28,7 @@ pub fn write_trace<W: Write>(
     out: &mut Watched<W>,
 ) -> Result<Status, ToolFault>
     requires out { out.old.failed ≡ false }
-    ensures ends { EndsCounting (IsTraced task.now plan.now)
-        (Appends (W.contents out.old.device) (W.contents out.new.device)) result }
-    ensures nothing { IfErr result (λ e. IsWrite e
-        ⊎ ((e ≡ ToolFault.Memory) × (out.new ≡ out.old))) }
-    ensures writes { IsErrAnd result IsWrite ↔ IsTrue out.new.failed }
+    ensures { Writes W.contents (EndsCounting (IsTraced task.now plan.now)) out.old out.new result }
 {
     let worklist = Worklist::new(alloc, task)?;
     let mut execution = Execution::new(alloc, task, worklist, plan)?;
@@ -52,11 +47,7 @@ fn write_execution<W: Write, E: Settle<FlatTask> + Drop>(
 ) -> Result<Status, ToolFault>
     requires execution { IsNew task.now plan.now execution.old }
     requires out { out.old.failed ≡ false }
-    ensures ends { EndsCounting (IsTraced task.now plan.now)
-        (Appends (W.contents out.old.device) (W.contents out.new.device)) result }
-    ensures nothing { IfErr result (λ e. IsWrite e
-        ⊎ ((e ≡ ToolFault.Memory) × (out.new ≡ out.old))) }
-    ensures writes { IsErrAnd result IsWrite ↔ IsTrue out.new.failed }
+    ensures { Writes W.contents (EndsCounting (IsTraced task.now plan.now)) out.old out.new result }
 {
     // What takes memory comes first.
     let verdict = plan_verdict(alloc, plan, execution)?;

@@ -56,7 +56,7 @@ pub use Rattle.sas_meaning.specs.Touched.{MayHaveChanged}
 pub use Rattle.sas_meaning.specs.declared.touched.Touched.{Touched}
 pub use Rattle.sas_names.specs.Named.{IsNamed}
 pub use Rattle.sas_output.proofs.RuleLines.{same_is}
-pub use Rattle.sas_output.proofs.Sent.{ends_counting_as}
+pub use Rattle.sas_output.proofs.Sent.{writes_as}
 pub use Rattle.sas_output.specs.Ending.{output_of, Output}
 pub use Rattle.sas_output.specs.Line.{rule_numbers, is_rule_line, is_same_rule_line, reasons_text}
 pub use Rattle.sas_output.specs.declared.line.Line.{Line}

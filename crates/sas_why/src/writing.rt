@@ -1,7 +1,6 @@
 // The answer about a plan with the reasons why it isn't valid, as it goes out.
-ghost use Rattle.std.specs.Prelude.{◌≡◌, ◌⊎◌, ◌↔◌, false, Some, IfErr, IfOk, IsErrAnd, IsTrue};
-ghost use Rattle.std.specs.Io.KnownBytes.{Appends};
-ghost use Rattle.sas_output.specs.Ending.{EndsCounting, IsWrite};
+ghost use Rattle.std.specs.Prelude.{◌≡◌, false, Some, IfOk};
+ghost use Rattle.sas_output.specs.Ending.{EndsCounting, Writes};
 ghost use Rattle.sas_run.specs.Verdicts.{IsFaultOf};
 ghost use Rattle.sas_why.specs.Explained.{IsExplained, MakeAnswer};
 ghost use Rattle.sas_why.specs.Retracing.{IsRetraced};
@@ -31,11 +30,8 @@ pub fn write_explained<W: Write>(
     out: &mut Watched<W>,
 ) -> Result<Status, ToolFault>
     requires { out.old.failed ≡ false }
-    ensures ends { EndsCounting (IsExplained task.now plan.now)
-        (Appends (W.contents out.old.device) (W.contents out.new.device)) result }
-    ensures nothing { IfErr result (λ e. IsWrite e
-        ⊎ ((e ≡ ToolFault.Memory) × (out.new ≡ out.old))) }
-    ensures writes { IsErrAnd result IsWrite ↔ IsTrue out.new.failed }
+    ensures { Writes W.contents (EndsCounting (IsExplained task.now plan.now))
+        out.old out.new result }
 {
     let (verdict, reasons) = explain_plan(alloc, task, plan)?;
     let named = Named {

@@ -1,12 +1,11 @@
-use Rattle.sas_requests.proofs.Imports.{Out, exact_ends, OutWhy}
-use Rattle.sas_requests.proofs.FileEnds.{ends_by}
+use Rattle.sas_requests.proofs.Imports.{Out, ends_by, exact_ends, OutWhy}
 use Rattle.sas_requests.proofs.RequestEnds.{headline_reported, invariants_reported}
 use Rattle.sas_requests.proofs.ReasonedOutputs.{headline_why, invariants_why}
 use Rattle.sas_requests.proofs.ShortOutputs.{short_output}
 use Rattle.sas_requests.proofs.explain.Goals as goal
 
-pub returns-clause-ends : goal.returns-clause-ends
-returns-clause-ends g c = c.answer.ensures.ends
+pub returns-clause-answers : goal.returns-clause-answers
+returns-clause-answers g c = c.answer.ensures
 
 pub returns-clause-plain : goal.returns-clause-plain
 returns-clause-plain g c = λ b c' inputs plain.

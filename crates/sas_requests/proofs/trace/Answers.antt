@@ -1,4 +1,4 @@
 use Rattle.sas_requests.proofs.trace.Goals as goal
 
-pub returns-clause-ends : goal.returns-clause-ends
-returns-clause-ends g c = c.answer.ensures.ends
+pub returns : goal.returns
+returns g c = record { answers = c.answer.ensures }

@@ -1,15 +1,10 @@
 use Rattle.sas_output.proofs.Imports.{rules, ◌∙◌}
 use Rattle.sas_output.proofs.pushing.write_reasons.Goals as goal
 
-pub returns-clause-ends : goal.returns-clause-ends
-returns-clause-ends g c =
+pub returns : goal.returns
+returns g c =
     let name = c.push_lines.ensures.same ∙ (c.push.ensures.same ∙ c.new-sink.ensures.same) in
     let verdict = rw c.as_slice.ensures.value at c.push.ensures in
     let ends = c.finish.ensures.ends _ _ (c.push_lines.ensures.text _ _ (verdict.text _ _ c.new-sink.ensures.text)) in
-    search rules
-
-pub returns-clause-writes : goal.returns-clause-writes
-returns-clause-writes g c =
-    let name = c.push_lines.ensures.same ∙ (c.push.ensures.same ∙ c.new-sink.ensures.same) in
     let note = c.finish.ensures.note in
-    search rules
+    record { ends = search rules; nothing = search rules; writes = search rules }

@@ -1,12 +1,12 @@
 use Rattle.sas_requests.proofs.Imports.{inl, inr}
+use Rattle.sas_requests.proofs.FileEnds.{writes_plainly}
 use Rattle.sas_requests.proofs.refusals.refuse_task.Goals as goal
 
-pub returns-in-Plain-clause-ends : goal.returns-in-Plain-clause-ends
-returns-in-Plain-clause-ends g c = elim c.in-Plain.is [
-  | inl is ↦ rw is (rw c.in_ok-answer.ensures.ok c.write.ensures.ends)
-  | inr is ↦ rw is (rw c.in_ok-answer.ensures.ok c.write.ensures.ends)
-]
+pub returns-in-Plain-clause-answers : goal.returns-in-Plain-clause-answers
+returns-in-Plain-clause-answers g c =
+    let answers = writes_plainly g.W.Write.contents _ _ c.write.result _ c.write.ensures.writes in
+    elim c.in-Plain.is [ inl is ↦ rw (is, c.in_ok-answer.ensures.ok) answers | inr is ↦ rw (is, c.in_ok-answer.ensures.ok) answers ]
 
-pub returns-clause-ends : goal.returns-clause-ends
-returns-clause-ends g c =
-    rw (c.in-Reasons.is, c.in_ok-answer.ensures.ok, ← c.in_ok-push_task_reasons-in-Reasons.ensures) c.write-in-Reasons.ensures.ends
+pub returns-clause-answers : goal.returns-clause-answers
+returns-clause-answers g c =
+    rw (c.in-Reasons.is, c.in_ok-answer.ensures.ok, ← c.in_ok-push_task_reasons-in-Reasons.ensures) (writes_plainly g.W.Write.contents _ _ c.write-in-Reasons.result _ c.write-in-Reasons.ensures.writes)

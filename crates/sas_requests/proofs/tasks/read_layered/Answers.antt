@@ -4,12 +4,12 @@ use Rattle.sas_requests.proofs.tasks.read_layered.Goals as goal
 
 pub returns-in-Err-clause-refused : goal.returns-in-Err-clause-refused
 returns-in-Err-clause-refused g c =
-    task_refused g.R.Read.remaining (ValueOf task_format) _ c.args.detail _ _ (UnlayeredBy c.args.detail) c.in-Err.refusal c.refuse_task.result c.in-Err.ensures c.refuse_task.ensures.ends c.refuse_task.ensures.long c.refuse_task.ensures.reads
+    task_refused g.R.Read.remaining (ValueOf task_format) c.args.detail _ _ g.W.Write.contents _ _ (UnlayeredBy c.args.detail) c.in-Err.refusal c.refuse_task.result c.in-Err.ensures c.refuse_task.ensures.answers c.refuse_task.ensures.long c.refuse_task.ensures.reads
 
 pub returns-in-Ok-new-clause-read : goal.returns-in-Ok-new-clause-read
 returns-in-Ok-new-clause-read g c = rw c.in-Ok-new.ensures.task c.in-Ok.ensures.plain
 
 pub returns-in-Err-new-clause-refused : goal.returns-in-Err-new-clause-refused
 returns-in-Err-new-clause-refused g c =
-    let ends = rw c.in-Err-new.ensures.handed_back at c.refuse_unlayered-ended.ensures.ends in
-    task_unlayered g.R.Read.remaining _ c.args.detail _ _ c.in-Ok.read c.in-Err-new.fault c.refuse_unlayered-ended.result _ c.in-Ok.ensures.plain c.in-Err-new.ensures.first ends c.refuse_unlayered-ended.ensures.nothing
+    let writes = rw c.in-Err-new.ensures.handed_back at c.refuse_unlayered-ended.ensures in
+    task_unlayered g.R.Read.remaining c.args.detail _ _ g.W.Write.contents _ _ c.in-Ok.read c.in-Err-new.fault c.refuse_unlayered-ended.result c.in-Ok.ensures.plain c.in-Err-new.ensures.first writes

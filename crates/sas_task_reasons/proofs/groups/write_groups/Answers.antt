@@ -1,8 +1,8 @@
 use Rattle.sas_task_reasons.proofs.Imports.{ℕ, rules, List, sym, subst, ap, ◌∙◌, Option, IsSomeAnd, Parts, text, AreJointVerdicts, Status, Output, ends_counting_as, Reason, WhyGroupsAnswer, why_lines}
 use Rattle.sas_task_reasons.proofs.groups.write_groups.Goals as goal
 
-pub returns-clause-ends : goal.returns-clause-ends
-returns-clause-ends g c =
+pub returns : goal.returns
+returns g c =
     let p = c.args.task.now in
     let all = c.as_slice-all.result.now in
     let joint = subst (AreJointVerdicts p) (sym c.as_slice-all.ensures.value) c.in_ok-verdicts.ensures.verdicts in
@@ -15,10 +15,5 @@ returns-clause-ends g c =
     let name = c.push_groups.ensures.same ∙ c.new-sink.ensures.same in
     let ends = ends_counting_as pushed _ (λ (output : Option Output). IsSomeAnd output (WhyGroupsAnswer p)) _ (all, reasons, joint, c.in_ok-reasons.ensures, whole)
     (c.finish.ensures.ends _ _ (c.push_groups.ensures.text _ _ c.new-sink.ensures.text)) in
-    search rules
-
-pub returns-clause-writes : goal.returns-clause-writes
-returns-clause-writes g c =
-    let name = c.push_groups.ensures.same ∙ c.new-sink.ensures.same in
     let note = c.finish.ensures.note in
-    search rules
+    record { ends = search rules; nothing = search rules; writes = search rules }
