@@ -3,7 +3,7 @@ use Rattle.std.specs.Prelude.{ℕ, List, ◌++◌, codes, decimal, Option, Some,
 use Rattle.sas_run.specs.declared.plan_check.PlanFault.{PlanFault}
 use Rattle.sas_run.specs.declared.plan_check.PlanFault.TheVariants.{Memory, NoOperator, NotApplicable, Conflict, GoalMissed, CostDiffers}
 
--- `plan valid: S steps, cost C`, with the LF behind it
+-- `plan valid: S steps, cost C`, with the LF after it
 abbrev pub valid_line : ℕ → ℕ → List ℕ
 valid_line steps cost =
     codes "plan valid: " ++ decimal steps ++ codes " steps, cost " ++ decimal cost ++ codes "\n"

@@ -1,4 +1,4 @@
-//! The answers about a task or a plan that is at hand. No file is read.
+//! The answers about a task or a plan in memory. No file is read.
 #![tactic(auto)]
 
 mod layers;

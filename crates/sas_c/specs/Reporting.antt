@@ -36,7 +36,7 @@ pub record Returns (Out : Option Output → Type 0) (before room : List ℕ) (si
   -- 4: there is none, as an input is too long; 3, refused memory, says nothing of the output
   pub none : number ≡ 4 → Out None
   pub known : number < 5
-  -- the room behind a text is as it was; from 2 on all of it is; its length never changes
+  -- the room after a text is as it was; from 2 on all of it is; its length never changes
   pub behind : number < 2 → drop size room ≡ drop size before
   pub same : 2 ≤ number → room ≡ before
   pub as_long : length room ≡ length before
@@ -47,11 +47,11 @@ abbrev pub ReturnsHeadline : List ℕ → List ℕ → List ℕ → ℕ → ℕ 
 ReturnsHeadline b c room size number = (status : Status) → number ≡ number_of_status status
     → Headline b c (λ line. take size room ≡ line) status
 
--- the bytes are some lines, each ended by LF, and behind them this one
+-- the bytes are some lines, each ended by LF, and after them this one
 abbrev pub EndsInLine : List ℕ → List ℕ → Type 0
 EndsInLine bytes line = (front : List (List ℕ)) × (bytes ≡ text front ++ line)
 
--- If an answer is written behind a trace, the same holds of the last line in the room.
+-- If an answer is written after a trace, the same holds of the last line in the room.
 abbrev pub ReturnsLastLine : List ℕ → List ℕ → List ℕ → ℕ → ℕ → Type 0
 ReturnsLastLine b c room size number = (status : Status) → number ≡ number_of_status status
     → Headline b c (EndsInLine (take size room)) status

@@ -77,7 +77,7 @@ pub extern "C" fn sas_task_plan_why(
     }
 }
 
-/// Answers whether the plan solves the task that is held, with what its steps do in front, as `sas_trace` does. It stays held.
+/// Answers whether the plan solves the task that is held, after a trace of its steps, as `sas_trace` does. It stays held.
 #[unsafe(no_mangle)]
 pub extern "C" fn sas_task_trace(
     alloc: Global,

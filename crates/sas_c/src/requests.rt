@@ -118,7 +118,7 @@ pub extern "C" fn sas_mutex_why(
     answer_call(alloc, call, room, size)
 }
 
-/// Answers whether the plan solves the task, with what its steps do in front.
+/// Answers whether the plan solves the task, after a trace of its steps.
 #[unsafe(no_mangle)]
 pub extern "C" fn sas_trace(
     alloc: Global,

@@ -12,7 +12,7 @@ pub record Output : Type 0 where
   pub text : List ℕ
   pub status : Status
 
--- a text that is at hand, as such an output
+-- a text in memory, as such an output
 abbrev pub output_of : Answer → Output
 output_of answer = record { text = answer.text.items; status = answer.status }
 

@@ -13,7 +13,7 @@ pub record Piece : Type 0 where
 abbrev pub CountsOn : ℕ → List ℕ → ℕ → Type 0
 CountsOn before gone after = before + length gone < 2 ^ 64 → after ≡ before + length gone
 
--- The bytes were added behind those that were held. The first of all these were written, and the
+-- The bytes were added after those that were held. The first of all these were written, and the
 -- rest are held now.
 pub record Puts (old new : Option (List ℕ)) (before after : Piece) (bytes : List ℕ) : Type 0 where
   pub gone : List ℕ
@@ -21,7 +21,7 @@ pub record Puts (old new : Option (List ℕ)) (before after : Piece) (bytes : Li
   pub whole : before.held ++ bytes ≡ gone ++ after.held
   pub counted : CountsOn before.written gone after.written
 
--- A write failed: of the bytes that were held, and these behind them, the first were written, and
+-- A write failed: of the bytes that were held, and these after them, the first were written, and
 -- not all.
 pub record Breaks (old new : Option (List ℕ)) (before : Piece) (bytes : List ℕ) (short : Short)
     : Type 0 where
@@ -32,7 +32,7 @@ pub record Breaks (old new : Option (List ℕ)) (before : Piece) (bytes : List �
   pub some : 0 < length rest
   pub counted : CountsOn before.written gone short.written
 
--- what a call returns that adds these bytes behind those that are held
+-- what a call returns that adds these bytes after those that are held
 abbrev pub PutsOrBreaks : Option (List ℕ) → Option (List ℕ) → Piece → Piece → List ℕ
     → Result ⊤ Short → Type 0
 PutsOrBreaks old new before after bytes result =

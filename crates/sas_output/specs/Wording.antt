@@ -53,7 +53,7 @@ rest_words p steps (rest.CouldBe step operator) = could_be_words step operator
 rest_words p steps (rest.OfFact fact) = words_of p fact
 rest_words p steps (rest.OfPart its) = part_words p its
 
--- the line that begins so, with these words behind
+-- the line that begins so, and continues with these words
 abbrev pub line_with : Start → List (List ℕ) → List ℕ
 line_with start words = line (spaces_of start.indent) (start.words.now ∷ words)
 

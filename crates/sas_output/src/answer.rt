@@ -1,4 +1,4 @@
-// A text that is at hand, and how it is written.
+// A text in memory, and how it is written.
 ghost use Rattle.std.specs.Prelude.{◌≡◌, false, Some, IfErr};
 ghost use Rattle.sas_output.specs.Ending.{output_of, Ends, IsWrite, Writes};
 

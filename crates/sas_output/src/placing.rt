@@ -181,7 +181,7 @@ fn place_rest(piece: &mut [u8], at: usize, words: &[Word<'_>]) -> Option<usize>
     Some(end)
 }
 
-/// Places the spaces in front of a line in the same way.
+/// Places the leading spaces of a line in the same way.
 #[inline(always)]
 fn place_spaces(piece: &mut [u8], at: usize, indent: Indent) -> Option<usize>
     requires { at ≤ length piece.old }

@@ -8,7 +8,7 @@ use crate::line::Line;
 use crate::words::Indent;
 use sas_core::Fact;
 
-/// How a line begins: the spaces in front, and the first words.
+/// How a line begins: the leading spaces, and the first words.
 #[derive(Clone, Copy, Debug)]
 pub struct Start {
     pub indent: Indent,

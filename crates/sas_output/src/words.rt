@@ -38,7 +38,7 @@ impl Indent {
     }
 }
 
-/// A line of words: spaces in front, and one between each two words.
+/// A line of words: leading spaces, and one between each two words.
 #[derive(Clone, Copy, Debug)]
 pub struct Words<'w> {
     pub indent: Indent,
@@ -124,7 +124,7 @@ impl Pieces {
         self.push(out, b"\n")
     }
 
-    /// Adds these words, with a space in front of each.
+    /// Adds these words, each after a space.
     fn push_rest<W: Write>(&mut self, out: &mut Watched<W>, words: &[Word<'_>]) -> Result<(), Short>
         requires { out.old.failed ≡ false }
         ensures { Adds W.contents out.old out.new self.old self.new

@@ -1,4 +1,4 @@
--- Which plans a run opens: in order, each once, and none behind the one at whose fault it ends.
+-- Which plans a run opens: in order, each once, and none after the one at whose fault it ends.
 use Rattle.std.specs.Prelude.{◌≡◌, ◌⊎◌, ℕ, zero, suc, ◌<◌, ◌≤◌, List, length, ⊤, Option, Some, None, Result, Ok, Err}
 use Rattle.sas_output.specs.declared.ending.ToolFault.TheVariants as tool
 use Rattle.sas_outputs.specs.Output.{IsLayeredText}

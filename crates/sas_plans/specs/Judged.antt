@@ -13,7 +13,7 @@ use Rattle.sas_output.specs.Ending.{Output}
 use Rattle.sas_answers.specs.Answers.{VerdictAnswer}
 use Rattle.sas_outputs.specs.Output.{LayeredOut, VerdictOut, plain_refusal}
 
--- what is said of a plan: its label, the line that `plan` prints of it, with its end, and its cost
+-- the report on a plan: its label, the line that `plan` prints of it, with its end, and its cost
 -- if it is valid
 pub record Judged : Type 0 where
   pub label : List ℕ
@@ -25,7 +25,7 @@ abbrev pub HasCost : List ℕ → Status → Option ℕ → Type 0
 HasCost c Yes cost = (plan : PlanParts) × Reads plan_texts c plan × (cost ≡ Some plan.cost)
 HasCost c No cost = cost ≡ None
 
--- this is said of the plan with this label and these bytes, for a layered task
+-- this is the report on the plan with this label and these bytes, for a layered task
 abbrev pub IsJudged : Parts → List ℕ × List ℕ → Judged → Type 0
 IsJudged p (label, c) judged = (output : Output)
     × VerdictOut VerdictAnswer p c (Some output)

@@ -72,7 +72,7 @@ pub record Judges (p : Parts) (known : Option (List ℕ)) (result : Result Verdi
   pub taken : IsDecided result → (c : List ℕ) × KnownBeginsWith known c × GivesVerdict p c result
   pub writes : IfErr result (λ e. IsWrite e → ⊥)
 
--- what is said of a plan is right for its bytes where they are known, and for those that were read
+-- the report on a plan is right for its bytes where they are known, and for those that were read
 pub record IsSaid (p : Parts) (known : Option (List ℕ)) (label : List ℕ) (judged : Judged)
     : Type 0 where
   pub output : (c : List ℕ) → known ≡ Some c → IsJudged p (label, c) judged
@@ -83,7 +83,7 @@ abbrev pub IsOfPlan : ℕ → JudgeFault → Type 0
 IsOfPlan number (judge_fault.Plan other what) = other ≡ number
 IsOfPlan number (judge_fault.Tool why) = ⊤
 
--- why nothing is said of the plan with this number: where it is too long, that is right for its
+-- why nothing is reported of the plan with this number: where it is too long, that is right for its
 -- bytes
 pub record IsUnsaid (p : Parts) (number : ℕ) (known : Option (List ℕ)) (why : JudgeFault)
     : Type 0 where
@@ -158,14 +158,14 @@ abbrev pub IsLower : ℕ → Option Best → Type 0
 IsLower cost None = Unit {0}
 IsLower cost (Some best) = cost < best.cost
 
--- this text is what is said of so many first plans, and this their tally
+-- this text is the reports on so many first plans, and this their tally
 abbrev pub AreReported : Parts → (ℕ → Option (List ℕ)) → List (List ℕ) → ℕ → List ℕ → Tally → Type 0
 AreReported p known labels count text tally = (all : List Judged)
     × AreSaid p known labels count all
     × (text ≡ flat_map labelled all)
     × Tallies tally all
 
--- why nothing is said of one of so many first plans
+-- why nothing is reported of one of so many first plans
 abbrev pub IsOneUnsaid : Parts → (ℕ → Option (List ℕ)) → ℕ → JudgeFault → Type 0
 IsOneUnsaid p known count why = (number : ℕ)
     × (number < count)
@@ -197,7 +197,7 @@ abbrev pub IsOutputFor : (Option Output → Type 0) → Result Output JudgeFault
 IsOutputFor Out (Ok output) = Out (Some output)
 IsOutputFor Out (Err why) = tool_fault why ≡ fault.TooLong → Out None
 
--- the answer that is at hand
+-- the answer that was made
 abbrev pub answer_reported : Result Answer JudgeFault → Result Output JudgeFault
 answer_reported (Ok reported) = Ok (output_of reported)
 answer_reported (Err why) = Err why

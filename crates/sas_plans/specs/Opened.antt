@@ -1,4 +1,4 @@
--- What is said of a task that is read once, for plans to come.
+-- What is reported of a task that is read once, for plans to come.
 use Rattle.std.specs.Prelude.{◌≡◌, ◌↔◌, List, ℕ, Option, Some, None, Result, Ok, Err, IfErr, IsErrOf, IsTrue}
 use Rattle.std.specs.Io.KnownBytes.{Consumes}
 use Rattle.sas_lines.specs.Device.{Device}
@@ -19,7 +19,7 @@ abbrev pub Opens : List ℕ → Opening → Type 0
 Opens b (Ready p) = ReadsAs task_format most_bytes b (Ok p) × IsLayered p
 Opens b (Refused reported) = CheckOut b (Some (output_of reported)) × (reported.status ≡ No)
 
--- this comes of opening the task with these bytes: where they pass the limit, nothing is said of it
+-- the result of opening the task with these bytes: where they pass the limit, nothing is reported
 abbrev pub OpensAs : List ℕ → Result Opening ToolFault → Type 0
 OpensAs b (Ok opening) = Opens b opening
 OpensAs b (Err why) = why ≡ fault.TooLong → CheckOut b None

@@ -15,7 +15,7 @@ line_of bytes number = slice_index_or (lines bytes) number [] ++ codes "\n"
 abbrev pub labelled_valid : List ℕ → ℕ → ℕ → List ℕ
 labelled_valid label steps cost = label ++ codes ": " ++ valid_line steps cost
 
--- What a run says that judged the bytes cs, with these labels, as plans for the task b, and ended
+-- What a run prints that judged the bytes cs, with these labels, as plans for the task b, and ended
 -- with this status. `Sent` holds of the written bytes.
 pub record PlansHeadline (labels : List (List ℕ)) (b : List ℕ) (cs : List (List ℕ))
     (Sent : List ℕ → Type 0) (status : Status) : Type 0 where

@@ -18,7 +18,7 @@ use sas_task_reader::read_flat_task;
 use std::alloc::{AllocError, Global};
 use std::io::Read;
 
-/// What comes of opening a task.
+/// The result of opening a task.
 #[derive(Drop)]
 pub enum Opening {
     /// The task, which is layered.

@@ -16,7 +16,7 @@ pub trait PlanInputs {
     /// The bytes of the plan with a number, where they are known.
     ghost bytes: { Self → ℕ → Option (List ℕ) };
 
-    /// Holds of the plans before a call of `open`, the number that is given, what is returned, and the plans behind the call.
+    /// Holds of the plans before a call of `open`, the number that is given, what is returned, and the plans after the call.
     ghost open_gives: { Self → ℕ → Option Self.Input → Self → Type 0 };
 
     /// Returns how many plans there are.

@@ -20,7 +20,7 @@ use sas_run::Held;
 use std::alloc::Global;
 use std::io::{Read, Write};
 
-/// Judges many plans of one task, and answers with a line for each, its label in front, and a last line that says how
+/// Judges many plans of one task, and answers with a line for each, its label first, and a last line that says how
 /// many are valid, and which of these cost least. A task that is refused has its line alone, and then no plan is opened. The
 /// task is read once, its layers are checked once, its names are looked up in one table, and one evaluator serves all plans.
 /// The status is `Yes` if all plans are valid. A plan file that is refused is one line, and no fault of the run. Nothing is
@@ -59,7 +59,7 @@ pub fn judge<T: Read, S: PlanInputs, W: Write>(
         → W.contents out.old.device ≡ Some before
         → PlansHeadline (S.labels plans.old) b cs
         (Appends (W.contents out.old.device) (W.contents out.new.device)) status) }
-    // The plans are opened in order, each once, and none behind the one at whose fault the run ends.
+    // The plans are opened in order, each once, and none after the one at whose fault the run ends.
     ensures opens { OpensInTurn S.open_gives (T.remaining task.old.device)
         (length (S.labels plans.old)) plans.old plans.new result }
     // A plan that is reported to be too long is, where its bytes are known.

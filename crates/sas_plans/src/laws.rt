@@ -4,7 +4,7 @@ ghost use Rattle.sas_outputs.specs.Output.{HasOneOutput};
 ghost use Rattle.sas_plans.specs.Judged.{JudgeOut};
 ghost use Rattle.sas_plans.specs.Laws.{EachIsThatOfPlan, IsOneLong, RefusesAsPlan};
 
-/// What holds of what is printed of many plans: of each it is what `plan` prints, with its label in front; a task is refused as
+/// What holds of what is printed of many plans: of each it is its label, and then what `plan` prints; a task is refused as
 /// by `plan`; there is one output over the same inputs, and it can't have nothing; there is none only where an input passes the
 /// limit.
 pub fn judge_laws()

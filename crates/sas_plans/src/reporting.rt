@@ -1,4 +1,4 @@
-// What is said of one plan after another, and of all of them.
+// The reports on plans, one after another, and on all of them.
 ghost use Rattle.std.specs.Prelude.{◌≡◌, ◌<◌, ◌++◌, ℕ, [], length, codes, decimal, IfOk, IfErr, OnOk, slice_index_or};
 ghost use Rattle.sas_plans.specs.Judged.{Judged, labelled};
 ghost use Rattle.sas_plans.specs.InTurn.{OpensFirst};

@@ -18,7 +18,7 @@ use sas_run::Held;
 use std::alloc::{AllocError, Global};
 use std::io::Read;
 
-/// What is said of a plan: the line that `plan` prints of it, with its end, and the plan's cost if it is valid.
+/// The report on a plan: the line that `plan` prints of it, with its end, and the plan's cost if it is valid.
 #[derive(Drop)]
 pub struct Verdict {
     pub line: Vec<u8>,

@@ -43,7 +43,7 @@ module _ {V I S : Type 0} (F : Format V I S) where
     pub slot : F.slot_of item ≡ s
 
   -- why the byte is a fault after these live bytes: it exceeds the limit; or it follows a whole
-  -- text; or it completes a line that may not stand there
+  -- text; or it completes a line that is not allowed there
   pub data KindAt (limit : ℕ) (bytes : List ℕ) (byte : ℕ) (kind : Kind) : Type 0 where
     too_long : limit < length bytes + 1 → kind ≡ TooLong → KindAt limit bytes byte kind
     trailing : length bytes + 1 ≤ limit → (v : V) → Reads F.texts bytes v → kind ≡ Trailing

@@ -18,13 +18,13 @@ IsPlain line = AllByRecursion (λ b. (b ≢ 10) × (b ≢ 13)) line
 
 -- `Fits` holds for a line whose numbers can all be spelled in the format.
 module _ {V I S : Type 0} (F : Format V I S) (Fits : I → Type 0) where
-  -- the line may stand at a slot under a test
+  -- the line is allowed at a slot under a test
   pub record IsAllowed (s : S) (ok : I → Bool) (i : I) : Type 0 where
     pub slot : F.slot_of i ≡ s
     pub fits : Fits i
     pub good : IsTrue (ok i)
 
-  -- no such line may stand here, and this is the kind of its fault
+  -- no such line is allowed here, and this is the kind of its fault
   pub record IsRejected (s : S) (ok : I → Bool) (line : List ℕ) (k : Kind) : Type 0 where
     pub none : (i : I) → IsAllowed s ok i → F.texts.spelled i ≡ line → ⊥
     pub kind : F.KindOf s line k

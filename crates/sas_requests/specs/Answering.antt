@@ -52,7 +52,7 @@ layers_by detail = plain_refusal
 abbrev pub UnlayeredBy : Detail → Parts → Output → Type 0
 UnlayeredBy detail = UnlayeredAnswer (layers_by detail)
 
--- an output, behind which these reasons may stand
+-- an output, which these reasons may follow
 abbrev pub reported_by : Detail → List FileLine → Option Output → Option Output
 reported_by Reasons reasons output = option_map (with_reasons (file_text reasons)) output
 reported_by detail reasons output = output
@@ -71,7 +71,7 @@ plan_refusal_lines r = plan_reasons (r.fault).kind (kept_bytes r.found) (r.found
 
 -- ---- outputs, by how much is reported
 
--- `IsOut` holds of the output, and `AreReasons` of the reasons that may stand behind it
+-- `IsOut` holds of the output, and `AreReasons` of the reasons that may follow it
 abbrev pub ReasonedBy : Detail → (Option Output → Type 0) → (List FileLine → Type 0) → Option Output
     → Type 0
 ReasonedBy Reasons IsOut AreReasons output = WithReasons IsOut AreReasons output

@@ -40,8 +40,8 @@ module _ {V I S : Type 0} (F : Format V I S)
   FileReasons bytes reasons = (read : Result V Fault) × ReadsAs F most_bytes bytes read
       × ReadReasons bytes read reasons
 
--- a task: where the line stands, what is expected there, its first number that may not stand there,
--- and the first 64 bytes of what was found
+-- a task: where the line stands, what is expected there, its first number that isn't allowed
+-- there, and the first 64 bytes of what was found
 pub record AreTaskReasons (kind : Kind) (begun : List (List ℕ)) (found : List ℕ)
     (reasons : List FileLine) : Type 0 where
   pub mark : Mark

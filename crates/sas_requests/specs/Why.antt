@@ -1,4 +1,4 @@
--- What the program prints with `--why`: the output without it, and reasons behind a no.
+-- What the program prints with `--why`: the output without it, and reasons after a no.
 use Rattle.std.specs.Prelude.{◌≡◌, ℕ, Bool, not, List, take, filter, bytes_eq, codes, Option, Some, option_map}
 use Rattle.sas_lines.specs.Lines.{text, lines}
 use Rattle.sas_output.specs.declared.ending.Status.TheVariants.{Yes, No}
@@ -16,7 +16,7 @@ use Rattle.sas_outputs.specs.Output.{Out, OutOf}
 abbrev pub OutOfRead : Request → List ℕ → List ℕ → Option Output → Type 0
 OutOfRead = OutOf WhyCheckAnswer WhyMutexAnswer WhyVerdict why_refusal
 
--- an output with reasons behind it: `IsOut` holds of the output, `AreReasons` of the reasons
+-- an output with reasons after it: `IsOut` holds of the output, `AreReasons` of the reasons
 pub record WithReasons (IsOut : Option Output → Type 0) (AreReasons : List FileLine → Type 0)
     (output : Option Output) : Type 0 where
   pub of_read : Option Output
@@ -25,7 +25,7 @@ pub record WithReasons (IsOut : Option Output → Type 0) (AreReasons : List Fil
   pub are_reasons : AreReasons reasons
   pub whole : output ≡ option_map (with_reasons (file_text reasons)) of_read
 
--- the output with reasons: this, and behind the refusal of a file why it is refused
+-- the output with reasons: this, and after the refusal of a file why it is refused
 abbrev pub OutWhy : Request → List ℕ → List ℕ → Option Output → Type 0
 OutWhy request b c = WithReasons (OutOfRead request b c) (RefusalReasons request b c)
 

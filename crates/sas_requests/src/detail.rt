@@ -9,7 +9,7 @@ pub enum Detail {
     Plain,
     /// The answer, and after a no the reasons for it.
     Reasons,
-    /// The answer, with what the steps of a plan do in front.
+    /// The answer, after a trace of the steps of a plan.
     Trace,
 }
 

@@ -177,7 +177,7 @@ JudgesLine j line k (Err kind) =
     × (kind ≢ kinds.Memory → RejectsLine j line kind)
     × (kind ≢ kinds.Memory → StandsAsBefore j k)
 
--- a line with this content moves the judge, if it may stand under the test
+-- a line with this content moves the judge, if it is allowed under the test
 abbrev pub MovesBy : TaskJudge → (TaskLine → Bool) → TaskLine → TaskJudge → Event → Type 0
 MovesBy j test i k event = (line : List ℕ)
     → IsAllowed task_format TaskLineFits (task_slot i) test i × (task_line_bytes i ≡ line)

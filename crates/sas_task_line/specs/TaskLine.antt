@@ -10,8 +10,8 @@ use Rattle.sas_task_format.specs.TaskFormat.{TaskLine, TaskSlot, task_line_bytes
 abbrev pub IsOfLine : Kind → Type 0
 IsOfLine kind = IsOfBytes kind × (kind ≢ kinds.Memory)
 
--- The result is the content of the line, which may stand at the slot under the test. Or no such
--- line may stand there, and the result is the kind of its fault.
+-- The result is the content of the line, which is allowed at the slot under the test. Or no such
+-- line is allowed there, and the result is the kind of its fault.
 abbrev pub ParsesLine : {A : Type 0} → TaskSlot → (TaskLine → Bool) → (A → TaskLine) → List ℕ
     → Result A Kind → Type 0
 ParsesLine slot test said line (Ok a) =

@@ -143,7 +143,7 @@ impl Model for FlatSoFar {
     } };
 
     ghost invariant = { λ s. VariableColumnsAlign AreEnds s.variables
-      × OperatorColumnsAlign AreEnds s.operators };
+        × OperatorColumnsAlign AreEnds s.operators };
 }
 
 impl FlatSoFar {

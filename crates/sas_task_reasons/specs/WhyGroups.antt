@@ -1,4 +1,4 @@
--- Why mutex groups aren't shown to be exclusive: the lines behind `group K ..`.
+-- Why mutex groups aren't shown to be exclusive: the lines after `group K ..`.
 use Rattle.std.specs.Prelude.{◌≡◌, ℕ, ◌+◌, List, [], ◌∷◌, ◌++◌, map, Option, slice_index_or}
 use Rattle.std.specs.Option.{option_map_or}
 use Rattle.sas_core.specs.declared.parts.Fact.{Fact}
@@ -18,7 +18,7 @@ use Rattle.sas_output.specs.declared.line.Line.{Line}
 use Rattle.sas_output.specs.declared.line.Line.TheVariants as line
 use Rattle.sas_output.specs.Line.{line_bytes}
 
--- the fact at this place of a list; behind the last one, that variable 0 has value 0
+-- the fact at this place of a list; after the last one, that variable 0 has value 0
 abbrev pub fact_at : List Fact → ℕ → Fact
 fact_at facts place = slice_index_or facts place (record { var = 0; value = 0 })
 
@@ -36,7 +36,7 @@ reason_lines p group (HoldsTwo first second) = line.Holds first ∷ line.Holds s
 reason_lines p group (Breaks operator failure) =
     line.NamedOperator operator ∷ failure_lines p group operator failure
 
--- the verdict on the group at this place, and behind it the reason, if there is one
+-- the verdict on the group at this place, and after it the reason, if there is one
 abbrev pub explained_group_lines : Parts → ℕ → Verdict → Option Reason → List (List ℕ)
 explained_group_lines p group verdict reason = group_line group verdict
     ∷ map (line_bytes p []) (option_map_or (reason_lines p group) reason [])
@@ -53,7 +53,7 @@ abbrev pub why_lines : Parts → List Verdict → List (Option Reason) → List 
 why_lines p verdicts reasons = why_lines_from p reasons 0 verdicts
 
 -- The answer about the mutex groups of a layered task: the joint verdict on each, and the reason
--- behind it where the group isn't shown to be exclusive. It is yes if all are.
+-- after it where the group isn't shown to be exclusive. It is yes if all are.
 abbrev pub WhyGroupsAnswer : Parts → Output → Type 0
 WhyGroupsAnswer p output = (verdicts : List Verdict)
     × (reasons : List (Option Reason))

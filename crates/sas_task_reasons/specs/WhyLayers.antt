@@ -50,11 +50,11 @@ layer_reasons p Memory = []
 
 -- ---- the answers
 
--- an answer with the text of some reasons behind
+-- an answer with the text of some reasons after it
 abbrev pub with_reasons : List ℕ → Output → Output
 with_reasons reasons plain = record { text = plain.text ++ reasons; status = plain.status }
 
--- the refusal of a task for a fault of its layers, with the reasons behind
+-- the refusal of a task for a fault of its layers, and the reasons after it
 abbrev pub why_refusal : Parts → LayerFault → Option Output
 why_refusal p fault =
     option_map (with_reasons (reasons_text p [] (layer_reasons p fault))) (layers_refusal fault)

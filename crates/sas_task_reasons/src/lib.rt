@@ -1,4 +1,4 @@
-//! The answer about the mutex groups of a task that is at hand, and the reasons why a task is refused or groups aren't exclusive. No
+//! The answer about the mutex groups of a task in memory, and the reasons why a task is refused or groups aren't exclusive. No
 //! file is read.
 #![tactic(auto)]
 

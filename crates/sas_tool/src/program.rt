@@ -151,7 +151,7 @@ fn judge_plans<R: AllocGlobal + Files + Input + Print + Eprint>(
     }
 }
 
-/// Ends as the result says.
+/// Ends with the status of the result.
 fn end<R: Eprint>(rt: &R, outcome: &Result<Status, ToolFault>) -> ExitCode {
     match outcome {
         Ok(Status::Yes) => ExitCode::from(YES),

@@ -1,4 +1,4 @@
-// An input that isn't kept open behind its end.
+// An input that isn't kept open after its end.
 use std::io::{Read, Result};
 
 /// An input that is let go where it ends, so that it isn't open while others are read. Behind the end each read returns 0 bytes.

@@ -18,14 +18,14 @@ abbrev pub facts_printed : Parts → Run → ℕ → List Fact
 facts_printed p run k = map (λ var. record { var = var; value = slice_index (state_at run (k + 1)) var })
     (changed p (state_at run k) (state_at run (k + 1)))
 
--- the values that a reader of a trace has behind the first k steps: those of the initial lines,
+-- the values that a reader of a trace has after the first k steps: those of the initial lines,
 -- with the changes written over them in turn
 abbrev pub replayed : Parts → Run → ℕ → List ℕ
 replayed p run zero = map (slice_index (state_at run 0)) (variables_of p)
 replayed p run (suc k) =
     fold (λ s (f : Fact). slice_set s f.var f.value) (replayed p run k) (facts_printed p run k)
 
--- these are the state behind the first k steps
+-- these are the state after the first k steps
 abbrev pub Replays : Type 0
 Replays = (p : Parts) (run : Run) (k : ℕ) → WellRanged p → StepsSucceed p run → k ≤ length run.steps
     → replayed p run k ≡ state_at run k

@@ -9,14 +9,14 @@ use Rattle.sas_output.specs.Ending.{Output}
 use Rattle.sas_answers.specs.Answers.{valid_answer, invalid_answer}
 use Rattle.sas_trace.specs.Trace.{run_lines}
 
--- how a plan ends behind the steps of a run, and the answer about it
+-- how a plan ends after the steps of a run, and the answer about it
 abbrev pub EndsWith : Parts → PlanParts → Run → Output → Type 0
 EndsWith p plan run verdict = (RunEndsWith p plan run None × (verdict ≡ valid_answer plan))
     ⊎ ((fault : PlanFault) × RunEndsWith p plan run (Some fault)
     × (invalid_answer plan.cost fault ≡ Some verdict))
 
 -- the answer about a plan with its trace: the lines of the run of its steps that succeed, and
--- behind them the answer about it
+-- after them the answer about it
 pub record TraceVerdict (p : Parts) (plan : PlanParts) (output : Output) : Type 0 where
   pub run : Run
   pub through : StepsSucceed p run

@@ -1,4 +1,4 @@
-//! What the steps of a plan do, as lines: the answer about a plan with its trace in front. No file is read.
+//! What the steps of a plan do, as lines: the trace of a plan, and the answer about it. No file is read.
 #![tactic(auto)]
 
 mod changes;

@@ -18,7 +18,7 @@ use sas_run::Execution;
 use std::alloc::{AllocError, Global};
 use std::io::Write;
 
-/// Writes the answer about a plan of the task with its trace in front, in pieces, and returns its status. The plan is judged first;
+/// Writes the trace of a plan of the task, and the answer about it, in pieces, and returns its status. The plan is judged first;
 /// then its steps are gone through once more. If an `Err` isn't a failed write, it is `Memory`, and nothing was written: all memory
 /// is allocated before the first byte. Not to be called after a failure.
 pub fn write_trace<W: Write>(

@@ -12,7 +12,7 @@ use Rattle.sas_why.specs.Verdict.{WhyVerdict}
 abbrev pub IsExplained : Parts → PlanParts → Option Output → Type 0
 IsExplained p plan output = IsSomeAnd output (WhyVerdict p plan)
 
--- the verdict and, behind it, these lines of reasons are this answer
+-- the verdict and, after it, these lines of reasons are this answer
 abbrev pub MakeAnswer : Parts → PlanParts → Answer → List Line → Type 0
 MakeAnswer p plan verdict lines = WhyVerdict p plan (record {
   text = verdict.text.items ++ reasons_text p plan.steps lines;

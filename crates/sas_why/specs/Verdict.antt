@@ -12,7 +12,7 @@ use Rattle.sas_output.specs.declared.line.Line.{Line}
 use Rattle.sas_output.specs.Line.{reasons_text}
 use Rattle.sas_reasons.specs.WhyPlan.{IsWhy}
 
--- the text of the answer about a plan with this fault: its verdict, and behind it the reasons
+-- the text of the answer about a plan with this fault: its verdict, and after it the reasons
 pub record Explains (p : Parts) (plan : PlanParts) (fault : PlanFault) (bytes : List ℕ)
     : Type 0 where
   pub verdict : Output

@@ -126,7 +126,7 @@ impl Rounds {
         Ok(())
     }
 
-    /// Looks at the rule: where it fires in the round at hand, its variable is reached.
+    /// Looks at the rule: where it fires in this round, its variable is reached.
     fn look_at<T: Grounded>(
         &mut self,
         task: &Layered<T>,
@@ -158,7 +158,7 @@ impl Rounds {
         self.reach(change.var, rule)
     }
 
-    /// Returns the place of the rule's first condition that doesn't hold in the round at hand. Where all hold, returns the
+    /// Returns the place of the rule's first condition that doesn't hold in this round. Where all hold, returns the
     /// number of its conditions. Those that are known to hold aren't looked at again.
     fn first_open<T: Grounded>(
         &self,
@@ -186,7 +186,7 @@ impl Rounds {
         place
     }
 
-    /// Returns the value of the variable for the rules of the layer in the round at hand. It is the default where the variable
+    /// Returns the value of the variable for the rules of the layer in this round. It is the default where the variable
     /// is on this layer and wasn't reached in the rounds before.
     fn value<T: Grounded>(&self, task: &Layered<T>, state: &State, layer: u32, var: u32) -> u32
         requires state { IsState task.now.variables state.now }
@@ -216,7 +216,7 @@ impl Rounds {
         }
     }
 
-    /// Notes that the rule fires in the round at hand. It gives the variable its value, unless an earlier round or a lower rule
+    /// Notes that the rule fires in this round. It gives the variable its value, unless an earlier round or a lower rule
     /// does.
     fn reach(&mut self, var: u32, rule: u32) -> Result<(), AllocError>
         requires few { self.old.over + 1 < 2 ^ 32 }

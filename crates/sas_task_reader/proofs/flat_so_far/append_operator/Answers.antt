@@ -11,13 +11,13 @@ returns-in_default-clause-none c = operators_opened c.args.columns.now _ refl re
 pub push-requires : goal.push-requires
 push-requires c =
     let begun = operators_opened c.args.columns.now (record c.args.columns.now { prevail = c.operator_found.new.prevail; effects = c.operator_found.new.effects }) refl refl c.requires
-        c.in_ok-found.ensures.prevail c.in_ok-found.ensures.effects in
+    c.in_ok-found.ensures.prevail c.in_ok-found.ensures.effects in
     begun.align
 
 pub returns-in_err-push-clause-err : goal.returns-in_err-push-clause-err
 returns-in_err-push-clause-err c =
     let begun = operators_opened c.args.columns.now (record c.args.columns.now { prevail = c.operator_found.new.prevail; effects = c.operator_found.new.effects }) refl refl c.requires
-        c.in_ok-found.ensures.prevail c.in_ok-found.ensures.effects in
+    c.in_ok-found.ensures.prevail c.in_ok-found.ensures.effects in
     on_any_error c.from_residual-in_err-push.result
     (subst (λ (os : List Operator). Hold (OperatorColumnsAlign AreOpen) operators_in c.push.new.self os) begun.is c.in_err-push.ensures.err)
 

@@ -11,7 +11,7 @@ returns-in_err-append-clause-err c = on_any_error c.from_residual-in_err-append.
 pub returns-in_err-push-clause-err : goal.returns-in_err-push-clause-err
 returns-in_err-push-clause-err c =
     let begun = operators_opened c.args.self.now (record { names = c.args.self.now.names; prevail = c.extend_from_slice.new.self; effects = c.append.new.self; heads = c.args.self.now.heads }) refl refl c.requires
-        (record { more = c.args.prevail.now; is = c.in_ok-extend_from_slice.ensures.items }) (record { more = c.args.effects.now; is = c.in_ok-append.ensures.ok }) in
+    (record { more = c.args.prevail.now; is = c.in_ok-extend_from_slice.ensures.items }) (record { more = c.args.effects.now; is = c.in_ok-append.ensures.ok }) in
     on_any_error c.from_residual-in_err-push.result
     (subst (λ (os : List Operator). Hold (OperatorColumnsAlign AreOpen) operators_in c.push.new.self os) begun.is c.in_err-push.ensures.err)
 
