@@ -194,7 +194,7 @@ def device_cases(ways, requests, name, held):
             yield case(REQUESTS, f"run {request}", over(request, script), "Err(Read)\n\n", name)
 
 
-def cut_cases():
+def script_cases():
     """Yields files of devices that end, and go on then. They could show a read that is made after the end."""
     plan = b"(go )\n(open door)\n; cost = 2 (unit cost)\n"
     for what, ways, requests, held in (("task", TASK_WAYS, TASK_REQUESTS, MINIMAL), ("plan", PLAN_WAYS, PLAN_REQUESTS, plan)):
@@ -371,7 +371,7 @@ def layer_cases():
 def cases():
     """Returns all calls."""
     files = (*task_cases(), *line_cases(), *plan_cases(), *verdict_cases(), *why_cases())
-    devices = (*cut_cases(), *cut_plan_cases(), *wide_cases())
+    devices = (*script_cases(), *cut_plan_cases(), *wide_cases())
     random = (*settled_cases(), *layer_cases(), *step_cases(), *following_cases(), *group_cases())
     return [*written_cases(), *files, *devices, *random]
 

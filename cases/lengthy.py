@@ -277,7 +277,7 @@ def long_text(name, task, steps, reasons):
     files = {"t.sas": text_of(task), "p.txt": plan_text(steps, 0)}
     reasons = [[part, 1] for part in ("plan invalid: goal fact 0 not reached\n", *reasons)]
     words = ["plan", "--why", "t.sas", "p.txt"]
-    return case(f"{name} in a long text, plan --why", words, "", 1, files=files, reasons=reasons, memory=MEMORY)
+    return case(f"{name} in a long text, plan --why", words, "", 1, files=files, front=reasons, memory=MEMORY)
 
 
 def limited_cases():

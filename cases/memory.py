@@ -41,7 +41,7 @@ from traces import traced
 MOST = 1000
 # the byte that ends an answer
 END = b"\x1e"
-OUT_OF_MEMORY = re.compile(rb"(.*?)(out of memory\n)+", re.DOTALL)
+NO_MEMORY = re.compile(rb"(.*?)(out of memory\n)+", re.DOTALL)
 NOT_MADE = re.compile(rb"(.*?)not made\n", re.DOTALL)
 OUT_OF_MEMORY = (3, b"", b"sas: out of memory\n")
 # how many of everything a task has that is refused memory for
@@ -228,7 +228,7 @@ def letter(end, was_refused, answer):
     said = end[1].removesuffix(END)
     if said == answer:
         return "A" if was_refused else "a"
-    for word, form in (("n", NOT_MADE), ("w", OUT_OF_MEMORY)):
+    for word, form in (("n", NOT_MADE), ("w", NO_MEMORY)):
         found = form.fullmatch(said)
         if found and answer.startswith(found[1]):
             return word
