@@ -1,7 +1,6 @@
 -- What the proofs use of other crates, and of the definitions of this one.
-pub use Rattle.std.proofs.Common.{◌≡◌, ℕ, ◌+◌, Bool, true, false, if◌then◌else◌, List, [], ◌∷◌, ◌++◌, flat_map, codes, refl, ap, Option, Some, ◌<◌, length, take, get_or, sym, subst, ◌∙◌, arith, append-nil, None, inl, inr, option_map, rules}
-pub use Rattle.std.proofs.lemmas.Grind.{flat_map-append, common_steps}
-pub use Rattle.std.proofs.lemmas.List.{take_more, length-take}
+pub use Rattle.std.proofs.Common.{◌≡◌, ℕ, ◌+◌, Bool, true, false, if◌then◌else◌, List, [], ◌∷◌, ◌++◌, flat_map, codes, refl, ap, Option, Some, sym, subst, ◌∙◌, arith, None, inl, inr, option_map, rules}
+pub use Rattle.std.proofs.lemmas.Grind.{common_steps}
 pub use Rattle.std.proofs.lemmas.Option.{none-some}
 pub use Rattle.std.specs.List.{enumerate_from}
 pub use Rattle.sas_core.specs.FirstFault.{Check, first_fault, check}
@@ -24,4 +23,4 @@ pub use Rattle.sas_run.specs.Verdicts.{IsFaultOf}
 pub use Rattle.sas_run.specs.declared.plan_check.PlanFault.{PlanFault}
 pub use Rattle.sas_run.specs.declared.plan_check.PlanFault.TheVariants.{Memory, NoOperator, NotApplicable, Conflict, GoalMissed, CostDiffers}
 pub use Rattle.sas_answers.specs.Answers.{layers_refusal, layers_verdict, CheckAnswer, GroupsAnswer, LayeredGroupsAnswer, MutexAnswer, valid_answer, invalid_answer, VerdictAnswer}
-pub use Rattle.sas_answers.specs.GroupWords.{group_line, verdict_lines_from, verdict_lines, groups_status}
+pub use Rattle.sas_answers.specs.GroupWords.{verdict_lines, groups_status}

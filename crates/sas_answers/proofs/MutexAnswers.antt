@@ -1,29 +1,7 @@
 -- A task has an answer about its mutex groups, and only one; and how the answer comes about.
-use Rattle.sas_answers.proofs.Imports.{◌≡◌, ℕ, ◌+◌, ◌<◌, List, [], ◌∷◌, ◌++◌, length, take, get_or, refl, sym, ap, subst, ◌∙◌, arith, append-nil, Option, Some, None, take_more, length-take, flat_map-append, Parts, first_fault, LayerFault, IsLayered, layer_checks, checks_are_rules, text, Verdict, one_list, some_list, Output, group_line, verdict_lines_from, verdict_lines, groups_status, GroupsAnswer, LayeredGroupsAnswer, MutexAnswer}
+use Rattle.sas_answers.proofs.Imports.{◌≡◌, List, refl, sym, ap, subst, ◌∙◌, Option, Some, None, Parts, first_fault, LayerFault, IsLayered, layer_checks, checks_are_rules, text, Verdict, one_list, some_list, Output, verdict_lines, groups_status, GroupsAnswer, LayeredGroupsAnswer, MutexAnswer}
 use Rattle.sas_answers.proofs.AnswerLaws.{OneAnswer, SomeAnswer}
 use Rattle.sas_answers.proofs.CheckAnswers.{some_check_answer}
-
--- ---- the lines of more verdicts
-
-lines_more : (n : ℕ) (verdicts : List Verdict) (verdict : Verdict) → verdict_lines_from n (verdicts ++ verdict ∷ []) ≡ verdict_lines_from n verdicts ++ group_line (n + length verdicts) verdict ∷ []
-lines_more n [] verdict = ap (λ (k : ℕ). group_line k verdict ∷ []) (omega arith)
-lines_more n (v ∷ verdicts) verdict =
-    let index : (n + 1) + length verdicts ≡ n + length (v ∷ verdicts) = omega arith in
-    ap (λ (l : List (List ℕ)). group_line n v ∷ l) (lines_more (n + 1) verdicts verdict ∙ ap (λ (k : ℕ). verdict_lines_from (n + 1) verdicts ++ group_line k verdict ∷ []) index)
-
-lines_next : (verdicts : List Verdict) (place : ℕ) (otherwise : Verdict) → place < length verdicts
-    → verdict_lines (take (place + 1) verdicts) ≡ verdict_lines (take place verdicts) ++ group_line place (get_or verdicts place otherwise) ∷ []
-lines_next verdicts place otherwise h =
-    let taken : 0 + length (take place verdicts) ≡ place = simp length-take (omega arith) in
-    ap verdict_lines (take_more verdicts place otherwise h) ∙ lines_more 0 (take place verdicts) (get_or verdicts place otherwise) ∙ ap (λ (k : ℕ). verdict_lines (take place verdicts) ++ group_line k (get_or verdicts place otherwise) ∷ []) taken
-
-pub lines_behind : (before after : List ℕ) (verdicts : List Verdict) (place : ℕ) (otherwise : Verdict) → place < length verdicts
-    → before ≡ text (verdict_lines (take place verdicts)) → after ≡ before ++ (group_line place (get_or verdicts place otherwise) ++ 10 ∷ [])
-    → after ≡ text (verdict_lines (take (place + 1) verdicts))
-lines_behind before after verdicts place otherwise h e f =
-    f ∙ ap (λ (x : List ℕ). x ++ (group_line place (get_or verdicts place otherwise) ++ 10 ∷ [])) e
-    ∙ sym (ap text (lines_next verdicts place otherwise h) ∙ flat_map-append (λ (line : List ℕ). line ++ 10 ∷ []) (verdict_lines (take place verdicts)) (group_line place (get_or verdicts place otherwise) ∷ [])
-    ∙ ap (λ (x : List ℕ). text (verdict_lines (take place verdicts)) ++ x) (append-nil (group_line place (get_or verdicts place otherwise) ++ 10 ∷ [])))
 
 -- ---- one answer, and some
 

@@ -69,9 +69,11 @@ pub extern "C" fn sas_task_plan_why(
 {
     match task.take(alloc) {
         Some(prepared) => {
-            let number = explain(alloc, &prepared, plan, room, size);
+            let mut text = Watched::new(Vec::new(alloc));
+            let layered = prepared.held.layered();
+            let ended = answer_bytes(alloc, Detail::Reasons, layered, plan, &mut text);
             task.put(prepared);
-            number
+            report_ended(ended, text, room, size)
         }
         None => NO_TASK,
     }
@@ -98,9 +100,11 @@ pub extern "C" fn sas_task_trace(
 {
     match task.take(alloc) {
         Some(prepared) => {
-            let number = trace(alloc, &prepared, plan, room, size);
+            let mut text = Watched::new(Vec::new(alloc));
+            let layered = prepared.held.layered();
+            let ended = answer_bytes(alloc, Detail::Trace, layered, plan, &mut text);
             task.put(prepared);
-            number
+            report_ended(ended, text, room, size)
         }
         None => NO_TASK,
     }
@@ -122,33 +126,4 @@ fn judge(
         Ok(answer) => return_answer(answer, room, size),
         Err(fault) => number_without(fault),
     }
-}
-
-/// Writes whether the plan solves the task, with the reasons for a no.
-fn explain(
-    alloc: Global,
-    prepared: &Prepared,
-    plan: &[u8],
-    room: &mut [u8],
-    size: &mut usize,
-) -> u32
-    ensures { Returns
-        (WithReasons (VerdictOut WhyVerdict prepared.now.held plan.now) (PlanFileReasons plan.now))
-        room.old room.new size.new result }
-{
-    let mut text = Watched::new(Vec::new(alloc));
-    let detail = Detail::Reasons;
-    let ended = answer_bytes(alloc, detail, prepared.held.layered(), plan, &mut text);
-    report_ended(ended, text, room, size)
-}
-
-/// Writes the trace of the plan, and then whether it solves the task.
-fn trace(alloc: Global, prepared: &Prepared, plan: &[u8], room: &mut [u8], size: &mut usize) -> u32
-    ensures { Returns (VerdictOut TraceVerdict prepared.now.held plan.now)
-        room.old room.new size.new result }
-{
-    let mut text = Watched::new(Vec::new(alloc));
-    let detail = Detail::Trace;
-    let ended = answer_bytes(alloc, detail, prepared.held.layered(), plan, &mut text);
-    report_ended(ended, text, room, size)
 }

@@ -1,6 +1,6 @@
 -- What the proofs use of other crates, and of the definitions of this one.
 pub use Rattle.std.proofs.KnownBytes.{Consumes-nil}
-pub use Rattle.std.proofs.Common.{◌≡◌, ◌≢◌, ℕ, ◌<◌, Bool, true, false, IsTrue, List, [], length, refl, sym, ap, subst, ◌∙◌, inl, inr, ◌⊎◌, codes, Option, Some, None, Result, Ok, Err, nat_lt, IfErr, IsErrOf, IsSomeAnd, ◌↔◌, map, suc, ◌+◌, ◌∷◌, ◌++◌, get_or, arith, not, filter, if◌then◌else◌, ◌^◌, drop, append_assoc, append-nil, decimal, option_map, IfOk, zero, ◌*◌, ◌≤◌, length-append, ◌==◌, ◌/◌, ◌%◌, slice_get, is_some, Bor}
+pub use Rattle.std.proofs.Common.{◌≡◌, ◌≢◌, ℕ, ◌<◌, Bool, true, false, IsTrue, List, [], length, refl, sym, ap, subst, ◌∙◌, inl, inr, ◌⊎◌, codes, Option, Some, None, Result, Ok, Err, nat_lt, IsErrOf, IsSomeAnd, ◌↔◌, map, suc, ◌+◌, ◌∷◌, ◌++◌, get_or, arith, not, filter, if◌then◌else◌, ◌^◌, drop, append_assoc, append-nil, decimal, option_map, IfOk, zero, ◌*◌, ◌≤◌, length-append, ◌==◌, ◌/◌, ◌%◌, slice_get, is_some, Bor}
 pub use Rattle.std.proofs.Math.Nat.{mul-le-mul_left}
 pub use Rattle.std.proofs.lemmas.Bool.{cases_lt}
 pub use Rattle.std.proofs.lemmas.Fmt.{length-decimal-le}

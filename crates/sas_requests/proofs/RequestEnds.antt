@@ -1,5 +1,5 @@
 -- How the output of a request goes out.
-use Rattle.sas_requests.proofs.Imports.{◌≡◌, ℕ, false, true, List, [], codes, inl, inr, refl, sym, ap, subst, ◌∙◌, Option, Some, None, Result, Ok, Err, IsTrue, IfOk, IsSomeAnd, Appends, Parts, PlanParts, LayerFault, IsLayered, Device, ValueOf, ReadsAll, ReadsAs, most_bytes, known_answer, plan_format, task_format, Status, Yes, ToolFault, Output, EndsCounting, Answers, ends_by, answers_by, layers_verdict, LayeredGroupsAnswer, Consumes-nil, Detail, Reasons, Trace, CheckBy, MutexBy, VerdictBy, UnlayeredBy, layers_by, TaskBy, PlanBy, OutBy, EndsRequest, TaskFileReasons, PlanFileReasons, RefusalReasons, layered_answer, WhyGroupsAnswer, WhyMutexAnswer, check_layered, check_refused, groups_layered, groups_refused, IsTraced, TraceVerdict, Request, Headline, Invariants, TaskOut, VerdictOut, PlanOutBy, PrintAnswer, AreInputs, reads_task, first_alone, second_alone, not_refused, EndsFile}
+use Rattle.sas_requests.proofs.Imports.{◌≡◌, ℕ, false, true, List, [], codes, inl, inr, refl, sym, ap, subst, ◌∙◌, Option, Some, None, Result, Ok, Err, IsTrue, IfOk, IsSomeAnd, Appends, Parts, PlanParts, LayerFault, IsLayered, Device, ValueOf, ReadsAll, ReadsAs, most_bytes, known_answer, plan_format, task_format, Status, Yes, ToolFault, Output, EndsCounting, Answers, ends_by, answers_by, layers_verdict, LayeredGroupsAnswer, Consumes-nil, Detail, Reasons, Trace, CheckBy, MutexBy, VerdictBy, UnlayeredBy, layers_by, TaskBy, PlanBy, OutBy, EndsRequest, TaskFileReasons, PlanFileReasons, RefusalReasons, layered_answer, check_layered, check_refused, groups_refused, IsTraced, TraceVerdict, Request, Headline, Invariants, TaskOut, VerdictOut, PlanOutBy, PrintAnswer, AreInputs, reads_task, first_alone, second_alone, not_refused, EndsFile}
 use Rattle.sas_outputs.specs.declared.Request.TheVariants as request
 use Rattle.sas_requests.specs.declared.detail.Detail.TheVariants.{Plain}
 use Rattle.sas_requests.proofs.RefusalReasons.{more_reasoned}
@@ -16,10 +16,10 @@ check_no Plain p o (fault, first, is) = ap layers_verdict first ∙ is
 check_no Trace p o (fault, first, is) = ap layers_verdict first ∙ is
 check_no Reasons p o (fault, first, is) = check_refused p o fault is first
 
--- of the groups of a layered task
-pub mutex_yes : (p : Parts) → IsLayered p → (o : Option Output) → IsSomeAnd o (WhyGroupsAnswer p) → IsSomeAnd o (WhyMutexAnswer p)
-mutex_yes p layered (Some o) reported = groups_layered p o layered reported
-mutex_yes p layered None reported = reported
+-- of the groups of a task: of what holds of an output follows another
+pub some_as : (A B : Output → Type 0) → ((o : Output) → A o → B o) → (o : Option Output) → IsSomeAnd o A → IsSomeAnd o B
+some_as A B to (Some o) holds = to o holds
+some_as A B to None holds = holds
 
 pub mutex_no : (detail : Detail) (p : Parts) (o : Output) → UnlayeredBy detail p o → MutexBy detail p o
 mutex_no Plain p o (fault, first, is) = subst (λ (f : Option LayerFault). LayeredGroupsAnswer p f o) (sym first) is

@@ -22,7 +22,7 @@ use sas_output::Answer;
 use sas_outputs::write_summary;
 use sas_plan_file::read_plan_text;
 use sas_task_reader::{read_outline, read_task_text};
-use sas_task_reasons::{groups_answer, write_groups};
+use sas_task_reasons::write_groups;
 use std::alloc::Global;
 use std::io::{Read, Write};
 
@@ -180,7 +180,7 @@ fn answer_groups<W: Write>(
         out.old out.new result }
 {
     match detail {
-        Detail::Plain | Detail::Trace => groups_answer(alloc, layered)?.write(out),
-        Detail::Reasons => write_groups(alloc, layered, out),
+        Detail::Plain | Detail::Trace => write_groups(alloc, false, layered, out),
+        Detail::Reasons => write_groups(alloc, true, layered, out),
     }
 }

@@ -1,6 +1,6 @@
--- The text of groups with reasons, group by group.
+-- The text of groups with reasons, group by group; and without reasons.
 use Rattle.std.proofs.lemmas.Grind.{common_steps}
-use Rattle.sas_task_reasons.proofs.Imports.{◌≡◌, ℕ, ◌+◌, ◌<◌, ◌≤◌, List, [], ◌∷◌, ◌++◌, length, take, get_or, append_assoc, append-nil, ap, ◌∙◌, arith, Option, take_more, take_all, length-take, Parts, text, Verdict, text_of_both, Reason, reason_at, explained_group_lines, why_lines_from, why_lines}
+use Rattle.sas_task_reasons.proofs.Imports.{◌≡◌, ℕ, ◌+◌, ◌<◌, ◌≤◌, List, [], ◌∷◌, ◌++◌, length, take, get_or, append_assoc, append-nil, refl, ap, ◌∙◌, arith, Option, take_more, take_all, length-take, Parts, text, Verdict, text_of_both, group_line, verdict_lines_from, Reason, reason_at, explained_group_lines, why_lines_from, why_lines}
 
 -- ---- group after group
 
@@ -25,3 +25,9 @@ module _ (p : Parts) (reasons : List (Option Reason)) where
   -- all groups, so that the text is whole
   pub all_groups : (verdicts : List Verdict) (n : ℕ) → length verdicts ≤ n → text (why_lines p (take n verdicts) reasons) ≡ text (why_lines p verdicts reasons)
   all_groups verdicts n h = ap (λ (vs : List Verdict). text (why_lines p vs reasons)) (take_all n verdicts h)
+
+-- ---- without reasons
+
+pub plain_lines : (p : Parts) (place : ℕ) (verdicts : List Verdict) → why_lines_from p [] place verdicts ≡ verdict_lines_from place verdicts
+plain_lines p place [] = refl
+plain_lines p place (verdict ∷ verdicts) = ap (λ (lines : List (List ℕ)). group_line place verdict ∷ lines) (plain_lines p (place + 1) verdicts)

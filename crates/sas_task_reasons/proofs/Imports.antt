@@ -1,5 +1,5 @@
 -- What the proofs use of other crates, and of the definitions of this one.
-pub use Rattle.std.proofs.Common.{◌≡◌, ℕ, ◌<◌, ◌≤◌, ◌⊎◌, List, [], ◌∷◌, length, Some, refl, sym, ◌∙◌, ap, subst, inl, inr, arith, slice_get, suc, ◌+◌, Bool, true, false, ◌++◌, get_or, flat_map, Option, None, if◌then◌else◌, IfSome, IfNone, ◌↔◌, IsTrue, zero, ◌==◌, eqb-true, eq-eqb, find, ◌&&◌, not, is_some, slice_index, take, append_assoc, append-nil, min, ◌≢◌, cond, position, nat_lt, set, option_map, IsSome, below_more, codes, decimal, rules, IsSomeAnd, drop}
+pub use Rattle.std.proofs.Common.{◌≡◌, ℕ, ◌<◌, ◌≤◌, ◌⊎◌, List, [], ◌∷◌, length, Some, refl, sym, ◌∙◌, ap, subst, inl, inr, arith, slice_get, suc, ◌+◌, Bool, true, false, ◌++◌, get_or, flat_map, Option, None, if◌then◌else◌, IfSome, IfNone, ◌↔◌, IsTrue, IsFalse, zero, ◌==◌, eqb-true, eq-eqb, find, ◌&&◌, not, is_some, slice_index, take, append_assoc, append-nil, min, ◌≢◌, cond, position, nat_lt, set, option_map, IsSome, below_more, codes, decimal, rules, IsSomeAnd, drop}
 pub use Rattle.std.proofs.lemmas.Bool.{cases_eq, cases_lt, cases_order, true≢false, lt-ltb, cases_Bool, ltb-true, both_ways}
 pub use Rattle.std.proofs.lemmas.List.{ext_get_or, length_push, get_or_push, get_or_append_left, take_more, take_all, length-take, length-set, get_or-set_same, get_or-set_other, get_or-take, get_or_default}
 pub use Rattle.std.proofs.lemmas.List.Elements.{All-contains, Contains-get_or, All-from_get_or, Contains-push_cases}
@@ -10,9 +10,8 @@ pub use Rattle.std.specs.List.{Contains, enumerate_from, All, position_or_len}
 pub use Rattle.std.specs.Option.{option_map_or}
 pub use Rattle.sas_answers.proofs.AnswerLaws.{OneAnswer, SomeAnswer}
 pub use Rattle.sas_answers.proofs.CheckAnswers.{some_check_answer}
-pub use Rattle.sas_answers.proofs.MutexAnswers.{lines_behind}
 pub use Rattle.sas_answers.specs.Answers.{layers_refusal, layers_verdict}
-pub use Rattle.sas_answers.specs.GroupWords.{groups_status, verdict_lines}
+pub use Rattle.sas_answers.specs.GroupWords.{group_line, groups_status, verdict_lines_from}
 pub use Rattle.sas_core.proofs.Places.{each_more}
 pub use Rattle.sas_core.specs.FirstFault.{Check, first_fault, check}
 pub use Rattle.sas_core.specs.Grounded.{effect_at, group_at, operator_at, rule_at}
@@ -72,7 +71,7 @@ pub use Rattle.sas_task_reasons.specs.GroupLaws.{NotKeptIfFails, FailsIfNotKept,
 pub use Rattle.sas_task_reasons.specs.GroupReasons.{verdict_of, IsReasonIfAny, reason_at, AreReasons, holds, TrueOfGroup, IsReason}
 pub use Rattle.sas_task_reasons.specs.LayerLaws.{IsOtherGiver, IsReportedOther, IsReportedOld, IsWhole, LayerReasonsAreWhole}
 pub use Rattle.sas_task_reasons.specs.Lowest.{effect_of_failure, IsFirstOfEffect, IsLowestPartner, IsAny, IsFirstStaying, SetsVariable, FollowsOnVariable}
-pub use Rattle.sas_task_reasons.specs.Reporting.{KeptBelow, IsPending, IsReasonSoFar, AreReasonsSoFar, LacksReason, IsBroken}
+pub use Rattle.sas_task_reasons.specs.Reporting.{GroupsAnswerWith, KeptBelow, IsPending, IsReasonSoFar, AreReasonsSoFar, LacksReason, IsBroken}
 pub use Rattle.sas_task_reasons.specs.WhyGroups.{why_lines, WhyGroupsAnswer, explained_group_lines, why_lines_from}
 pub use Rattle.sas_task_reasons.specs.WhyLayers.{layer_reasons, with_reasons, why_refusal, WhyAnswer, WhyCheckAnswer, WhyMutexAnswer}
 pub use Rattle.sas_task_reasons.specs.declared.broken.Greatest.{Greatest}

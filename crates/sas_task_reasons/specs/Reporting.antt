@@ -1,5 +1,5 @@
--- How the reasons of all groups are found, operator by operator.
-use Rattle.std.specs.Prelude.{◌≡◌, ℕ, ◌<◌, ◌≤◌, Bool, IsTrue, List, length, Option, None, Some, Contains}
+-- How the answer about groups is made: the reasons are found operator by operator.
+use Rattle.std.specs.Prelude.{◌≡◌, ℕ, ◌<◌, ◌≤◌, Bool, true, false, IsTrue, List, length, Option, None, Some, Contains}
 use Rattle.sas_core.specs.declared.parts.Parts.{Parts}
 use Rattle.sas_core.specs.Grounded.{operator_at, effect_at, group_at}
 use Rattle.sas_groups.specs.declared.verdict.Verdict.{Verdict}
@@ -8,8 +8,11 @@ use Rattle.sas_groups.specs.Clashes.{sets}
 use Rattle.sas_groups.specs.Kept.{family_of}
 use Rattle.sas_mutex.specs.Effects.{KeepsWithItself}
 use Rattle.sas_groups.specs.Joint.{verdict_at}
+use Rattle.sas_output.specs.Ending.{Output}
+use Rattle.sas_answers.specs.Answers.{GroupsAnswer}
 use Rattle.sas_task_reasons.specs.declared.reason.Reason.{Reason}
 use Rattle.sas_task_reasons.specs.GroupReasons.{IsReason, reason_at}
+use Rattle.sas_task_reasons.specs.WhyGroups.{WhyGroupsAnswer}
 
 -- the effects of the operator before `effect` preserve the group, assuming the family and the group
 -- itself
@@ -55,3 +58,8 @@ pub record IsBroken (verdict : Verdict) : Type 0 where
 pub record AreMarked (verdicts : List Verdict) (marked : List Bool) : Type 0 where
   pub all : (place operator : ℕ) → place < length verdicts → operator < length marked
       → verdict_at verdicts place ≡ Broken operator → IsTrue (family_of marked operator)
+
+-- the answer about the groups of a layered task, with reasons or without
+abbrev pub GroupsAnswerWith : Bool → Parts → Output → Type 0
+GroupsAnswerWith true = WhyGroupsAnswer
+GroupsAnswerWith false = GroupsAnswer

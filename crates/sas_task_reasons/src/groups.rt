@@ -1,48 +1,82 @@
-// The answer about the mutex groups of a layered task, with the reasons why groups aren't exclusive, as it goes out.
-ghost use Rattle.std.specs.Prelude.{◌≡◌, [], ◌∷◌, ◌++◌, false, IsSomeAnd, codes, map};
+// The answer about the mutex groups of a layered task as it goes out, with or without the reasons why groups aren't exclusive.
+ghost use Rattle.std.specs.Prelude.{◌≡◌, [], ◌∷◌, ◌++◌, false, IfOk, IsFalse, IsSomeAnd, IsTrue, codes, map};
 ghost use Rattle.sas_lines.specs.Lines.{text};
+ghost use Rattle.sas_answers.specs.GroupWords as words;
 ghost use Rattle.sas_answers.specs.GroupWords.{group_line};
-ghost use Rattle.sas_task_reasons.specs.GroupReasons.{reason_at};
+ghost use Rattle.sas_groups.specs.Joint.{AreJointVerdicts};
+ghost use Rattle.sas_task_reasons.specs.GroupReasons.{AreReasons, reason_at};
 ghost use Rattle.sas_output.specs.Ending.{EndsCounting, Writes};
 ghost use Rattle.sas_output.specs.Sink.{Pushes};
 ghost use Rattle.sas_output.specs.Words.{line, word_bytes};
 ghost use Rattle.sas_output.specs.Line.{reasons_text};
 ghost use Rattle.sas_task_reasons.specs.WhyGroups as spec;
-ghost use Rattle.sas_task_reasons.specs.WhyGroups.{WhyGroupsAnswer, why_lines};
+ghost use Rattle.sas_task_reasons.specs.WhyGroups.{why_lines};
+ghost use Rattle.sas_task_reasons.specs.Reporting.{GroupsAnswerWith};
 
 use crate::facts::member_of;
 use crate::reason::{Failure, Reason};
 use crate::reasons::group_reasons;
-use crate::verdicts::groups_status;
 use sas_flat::FlatTask;
 use sas_lines::Watched;
 use sas_meaning::Layered;
 use sas_mutex::{Verdict, check_groups};
 use sas_output::{Indent, Line, Named, Pieces, Sink, Status, ToolFault, Word, Words, push_lines};
-use std::alloc::Global;
+use std::alloc::{AllocError, Global};
 use std::io::Write;
 
-/// Writes the answer about the mutex groups of a layered task: the verdict on each, followed by the reason where the group isn't
+/// Writes the answer about the mutex groups of a layered task: the verdict on each, and if wanted, after it the reason where the group isn't
 /// exclusive. Returns `Yes` if all are. The names in the reasons are looked up as they go out, in pieces: they may make the answer far
 /// longer than the task. If an `Err` isn't a failed write, it is `Memory`, and nothing was written: all memory is allocated before the
 /// first byte. Not to be called after a failure.
 pub fn write_groups<W: Write>(
     alloc: Global,
+    with_reasons: bool,
     task: &Layered<FlatTask>,
     out: &mut Watched<W>,
 ) -> Result<Status, ToolFault>
     requires { out.old.failed ≡ false }
     ensures { Writes W.contents
-        (EndsCounting (λ output. IsSomeAnd output (WhyGroupsAnswer task.now)))
+        (EndsCounting (λ output. IsSomeAnd output (GroupsAnswerWith with_reasons task.now)))
         out.old out.new result }
 {
     let verdicts = check_groups(alloc, task)?;
     let all = verdicts.as_slice();
-    let reasons = group_reasons(alloc, task, all)?;
+    let reasons = wanted_reasons(alloc, with_reasons, task, all)?;
     let mut pieces = Pieces::new(alloc)?;
     let mut sink = Sink::new(&mut pieces, out);
     push_groups(&mut sink, task.task(), all, reasons.as_slice());
     sink.finish(groups_status(all))
+}
+
+/// Returns the reasons for the verdicts if they are wanted, and otherwise none.
+fn wanted_reasons(
+    alloc: Global,
+    with_reasons: bool,
+    task: &Layered<FlatTask>,
+    verdicts: &[Verdict],
+) -> Result<Vec<Option<Reason>>, AllocError>
+    requires { AreJointVerdicts task.now verdicts.now }
+    ensures none { IsFalse with_reasons → IfOk result (λ reasons. reasons.items ≡ []) }
+    ensures wanted { IsTrue with_reasons
+        → IfOk result (λ reasons. AreReasons task.now verdicts.now reasons.items) }
+{
+    if with_reasons {
+        group_reasons(alloc, task, verdicts)
+    } else {
+        Ok(Vec::new(alloc))
+    }
+}
+
+/// Returns `Yes` if all groups are exclusive, else `No`.
+fn groups_status(verdicts: &[Verdict]) -> Status
+    ensures { result ≡ words.groups_status verdicts.now }
+{
+    for verdict in verdicts {
+        if *verdict != Verdict::Exclusive {
+            return Status::No;
+        }
+    }
+    Status::Yes
 }
 
 /// Adds the lines of all groups, each with its end, to the text.

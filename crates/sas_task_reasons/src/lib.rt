@@ -14,11 +14,9 @@ mod lowest;
 mod reason;
 mod reasons;
 mod unlayered;
-mod verdicts;
 
 pub use groups::write_groups;
 pub use laws::{layer_reasons_law, reason_laws};
 pub use reason::{Failure, Reason};
 pub use reasons::group_reasons;
 pub use unlayered::write_unlayered;
-pub use verdicts::groups_answer;

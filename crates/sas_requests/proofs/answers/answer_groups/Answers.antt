@@ -1,15 +1,16 @@
-use Rattle.sas_requests.proofs.Imports.{inl, inr, output_of, MutexAnswer, groups_answered, writes_by}
-use Rattle.sas_requests.proofs.FileEnds.{writes_some}
-use Rattle.sas_requests.proofs.RequestEnds.{mutex_yes}
+use Rattle.sas_requests.proofs.Imports.{inl, inr, Output, GroupsAnswer, MutexAnswer, WhyGroupsAnswer, WhyMutexAnswer, groups_answered, groups_layered, writes_by}
+use Rattle.sas_requests.proofs.RequestEnds.{some_as}
 use Rattle.sas_requests.proofs.answers.answer_groups.Goals as goal
 
-pub returns-in_ok-groups_answer-in-Plain : goal.returns-in_ok-groups_answer-in-Plain
-returns-in_ok-groups_answer-in-Plain g c =
+pub returns-in-Plain : goal.returns-in-Plain
+returns-in-Plain g c =
     let p = c.args.layered.now in
-    let reported = output_of c.in_ok-groups_answer-in-Plain.field-0 in
-    let writes = writes_some g.W.Write.contents _ _ c.write.result (MutexAnswer p) reported (groups_answered p reported c.requires.layered c.in_ok-groups_answer-in-Plain.ensures) c.write.ensures.writes in
+    let plain = some_as (GroupsAnswer p) (MutexAnswer p) (λ (o : Output). groups_answered p o c.requires.layered) in
+    let writes = writes_by g.W.Write.contents _ _ c.write_groups.result _ _ plain c.write_groups.ensures in
     elim c.in-Plain.is [ inl is ↦ rw is writes | inr is ↦ rw is writes ]
 
 pub returns-in-Reasons : goal.returns-in-Reasons
 returns-in-Reasons g c =
-    rw c.in-Reasons.is (writes_by g.W.Write.contents _ _ c.write_groups.result _ _ (mutex_yes c.args.layered.now c.requires.layered) c.write_groups.ensures)
+    let p = c.args.layered.now in
+    let why = some_as (WhyGroupsAnswer p) (WhyMutexAnswer p) (λ (o : Output). groups_layered p o c.requires.layered) in
+    rw c.in-Reasons.is (writes_by g.W.Write.contents _ _ c.write_groups-in-Reasons.result _ _ why c.write_groups-in-Reasons.ensures)

@@ -1,4 +1,5 @@
-use Rattle.sas_task_reasons.proofs.Imports.{ℕ, rules, List, sym, subst, ap, ◌∙◌, Option, IsSomeAnd, Parts, text, AreJointVerdicts, Status, Output, ends_counting_as, Reason, WhyGroupsAnswer, why_lines}
+use Rattle.sas_task_reasons.proofs.Imports.{ℕ, rules, List, sym, subst, ap, ◌∙◌, Option, IsSomeAnd, Parts, text, AreJointVerdicts, Status, Output, ends_counting_as, Reason, GroupsAnswerWith, why_lines}
+use Rattle.sas_task_reasons.proofs.GroupAnswers.{answers_with}
 use Rattle.sas_task_reasons.proofs.groups.write_groups.Goals as goal
 
 pub returns : goal.returns
@@ -13,7 +14,8 @@ returns g c =
     let pushed = made (text (why_lines c.task.result.now all c.as_slice.result.now)) c.groups_status.result in
     let whole = ap (λ (lines : List ℕ). made lines c.groups_status.result) is ∙ ap (made (text (why_lines p all reasons))) c.groups_status.ensures in
     let name = c.push_groups.ensures.same ∙ c.new-sink.ensures.same in
-    let ends = ends_counting_as pushed _ (λ (output : Option Output). IsSomeAnd output (WhyGroupsAnswer p)) _ (all, reasons, joint, c.in_ok-reasons.ensures, whole)
+    let answer = answers_with c.args.with_reasons p all reasons joint c.in_ok-reasons.ensures.none c.in_ok-reasons.ensures.wanted in
+    let ends = ends_counting_as pushed _ (λ (output : Option Output). IsSomeAnd output (GroupsAnswerWith c.args.with_reasons p)) _ (subst (GroupsAnswerWith c.args.with_reasons p) (sym whole) answer)
     (c.finish.ensures.ends _ _ (c.push_groups.ensures.text _ _ c.new-sink.ensures.text)) in
     let note = c.finish.ensures.note in
     record { ends = search rules; nothing = search rules; writes = search rules }
