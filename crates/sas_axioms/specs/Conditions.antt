@@ -96,6 +96,13 @@ pub record IsCounted (p : Parts) (c : Counted) : Type 0 where
   pub index : IsFullIndex p c.index
   pub counts : AreCounted p c.values c.counters
 
+-- a variable moved, and the counter of the rule with this condition on it can be updated
+pub record CanCount (moved : Moved) (w : Waiting) (counters : List ℕ) : Type 0 where
+  pub differ : moved.former ≢ moved.value
+  pub exists : w.rule < length counters
+  pub small : slice_index counters w.rule + waits_for moved.former w < 2 ^ 32
+  pub enough : waits_for moved.value w ≤ slice_index counters w.rule
+
 -- a variable moved, and the counters of the rules with these conditions on it can be updated
 pub record CanRecount (moved : Moved) (waiting : List Waiting) (counters : List ℕ) : Type 0 where
   pub differ : moved.former ≢ moved.value

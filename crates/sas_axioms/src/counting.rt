@@ -164,8 +164,8 @@ fn count_change(waiting: &[Waiting], moved: Moved, counters: &mut Items<u32>)
         ≡ slice_index counters.old rule + occurrences rule (released moved.former waiting.now) }
 {
     for condition in waiting {
-        let rule = condition.rule as usize;
-        let count = count_after(*condition, moved, counters.as_slice()[rule]);
-        counters.set(rule, count);
+        if let Some(count) = count_after(*condition, moved, counters) {
+            counters.set(condition.rule as usize, count);
+        }
     }
 }

@@ -303,11 +303,8 @@ fn release<T: Grounded>(
     // The contract of `task` ensures that the task is well ranged and layered.
     let _ = task.task();
     for condition in waiting {
-        let rule = condition.rule as usize;
-        let open = work.counters.as_slice()[rule];
-        let count = count_after(*condition, moved, open);
-        if count != open {
-            work.counters.set(rule, count);
+        if let Some(count) = count_after(*condition, moved, &work.counters) {
+            work.counters.set(condition.rule as usize, count);
             if count == 0 {
                 fire(task, condition.rule, work, state);
             }

@@ -277,9 +277,7 @@ fn recount_waiting<T: Grounded>(
 {
     work.agenda.pay(waiting.len())?;
     for condition in waiting {
-        let open = work.counters.as_slice()[condition.rule as usize];
-        let count = count_after(*condition, moved, open);
-        if count != open {
+        if let Some(count) = count_after(*condition, moved, &work.counters) {
             count_to(task, condition.rule, count, work)?;
         }
     }

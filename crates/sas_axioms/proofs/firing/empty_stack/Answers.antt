@@ -1,5 +1,5 @@
 -- A variable is popped, and the rules that wait for it are counted.
-use Rattle.sas_axioms.proofs.Imports.{rules, ◌≡◌, ℕ, ◌<◌, List, [], ◌∷◌, ◌++◌, length, get_or, refl, sym, subst, ap, ◌∙◌, arith, All, rule_at, IsOnLayer, default_of, on_layer_within, Waiting, IsOfRule, released, occurrences, asking, IsRuleOn, value_seen, IsRunning, AreCountedBy}
+use Rattle.sas_axioms.proofs.Imports.{rules, ◌≡◌, ℕ, ◌<◌, List, [], ◌∷◌, ◌++◌, length, get_or, sym, subst, ap, ◌∙◌, arith, All, rule_at, IsOnLayer, default_of, on_layer_within, Waiting, IsOfRule, released, occurrences, asking, IsRuleOn, value_seen, IsRunning, AreCountedBy}
 use Rattle.sas_axioms.proofs.AllConditions.{can_recount}
 use Rattle.sas_axioms.proofs.Counters.{popped_running, popped_counts, popped_differs, none_own, seen_before, top_is, settled_when_empty}
 use Rattle.sas_axioms.proofs.firing.empty_stack.Goals as goal

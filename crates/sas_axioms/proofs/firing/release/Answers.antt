@@ -1,9 +1,9 @@
 -- One more entry is counted.
-use Rattle.sas_axioms.proofs.Imports.{ℕ, ◌+◌, ◌<◌, List, length, get_or, refl, sym, ap, ◌∙◌, arith, get_or-set_same}
+use Rattle.sas_axioms.proofs.Imports.{◌+◌, ◌<◌, length, get_or, refl, sym, ◌∙◌, arith}
 use Rattle.sas_axioms.proofs.Counters.{goes_on_still, ready_so_far, released_on, released_fired, at_work_again}
-use Rattle.sas_axioms.proofs.CountingEntries.{CountersSoFar, no_entry, counters_before, counters_passed, counters_set, may_grow, may_shrink}
+use Rattle.sas_axioms.proofs.CountingEntries.{CountersSoFar, no_entry, counters_before, counters_passed, counters_set, its_count, can_count}
 use Rattle.sas_axioms.proofs.firing.release.Goals as goal
-use Rattle.sas_axioms.proofs.firing.release.Goals.{then-count-open+then-count-eq0, then-count-open+else-count-eq0, else-count-open}
+use Rattle.sas_axioms.proofs.firing.release.Goals.{in-Some+then-count-eq0, in-Some+else-count-eq0, in_default}
 
 pub loop-condition-init : goal.loop-condition-init
 loop-condition-init g c =
@@ -18,19 +18,10 @@ loop-condition-init g c =
       seen = λ v. refl;
     }
 
-pub bounds-as_slice-rule : goal.bounds-as_slice-rule
-bounds-as_slice-rule g c =
-    omega (arith, (c.requires.waiting c.loop-condition.condition-index no_entry c.loop-condition-test.true).1.exists, c.loop-condition.invariant.room.one_each, ap length c.as_slice.ensures)
-
-pub count_after-count-requires-clause-small : goal.count_after-count-requires-clause-small
-count_after-count-requires-clause-small g c =
-    rw c.as_slice.ensures (may_grow c.args.moved c.args.waiting.now c.loop-condition.condition-index c.args.work.now.counters c.loop-condition.work.counters c.loop-condition-test.true
-    c.loop-condition.invariant.counters c.requires.can)
-
-pub count_after-count-requires-clause-enough : goal.count_after-count-requires-clause-enough
-count_after-count-requires-clause-enough g c =
-    rw c.as_slice.ensures (may_shrink c.args.moved c.args.waiting.now c.loop-condition.condition-index c.args.work.now.counters c.loop-condition.work.counters c.loop-condition-test.true
-    c.loop-condition.invariant.counters c.requires.can)
+pub count_after-requires : goal.count_after-requires
+count_after-requires g c =
+    can_count c.args.moved c.args.waiting.now c.loop-condition.condition-index c.args.work.now.counters c.loop-condition.work.counters c.loop-condition-test.true
+    c.loop-condition.invariant.counters c.requires.can
 
 pub set-requires : goal.set-requires
 set-requires g c =
@@ -48,12 +39,10 @@ fire-requires-clause-hold g c on =
     let inv = c.loop-condition.invariant in
     let rule = (get_or ws i no_entry).rule in
     let exists : rule < length w0.counters = c.requires.can.exist i no_entry lt in
-    let read = ap (λ (xs : List ℕ). get_or xs rule 0) c.as_slice.ensures in
-    let moves = c.count_after-count.ensures in
     let next : CountersSoFar moved ws (i + 1) w0.counters c.set.new.self =
-    counters_set moved ws i w0.counters work.counters lt inv.counters _ c.set.new.self exists c.set.ensures (omega arith) in
+    counters_set moved ws i w0.counters work.counters lt inv.counters c.in-Some.count c.set.new.self exists c.set.ensures c.in-Some.ensures.some in
     ready_so_far p moved ws i c.args.state.now w0 c.loop-condition.state work c.set.new.self rule c.task.ensures.layered c.requires.popped inv next (rw (sym inv.goes_on.layer) on)
-    (ap (λ (xs : List ℕ). get_or xs rule 0) c.set.ensures ∙ (get_or-set_same work.counters rule _ 0 (omega (arith, exists, inv.counters.one_each)) ∙ c.if-count-eq0.true))
+    (its_count moved ws i w0.counters work.counters lt inv.counters c.in-Some.count c.set.new.self exists c.set.ensures ∙ c.if-count-eq0.true)
 
 pub loop-condition-preserved : goal.loop-condition-preserved
 loop-condition-preserved g c =
@@ -70,26 +59,24 @@ loop-condition-preserved g c =
     let rule = (get_or ws i no_entry).rule in
     let exists : rule < length w0.counters = c.requires.can.exist i no_entry lt in
     let within : rule < length work.counters = omega (arith, exists, inv.counters.one_each) in
-    let read = ap (λ (xs : List ℕ). get_or xs rule 0) c.as_slice.ensures in
-    let moves = c.count_after-count.ensures in
-    elim c.if-count-open.branch [
-      | then-count-open+then-count-eq0 w ↦ rw (w.work-is, w.state-is)
+    elim c.match-count_after.branch [
+      | in-Some+then-count-eq0 w ↦ rw (w.work-is, w.state-is)
           (released_fired p moved ws i s0 w0 s work w.set.new.self rule _ w.fire.new.state w.fire.new.work inv
-          (counters_set moved ws i w0.counters work.counters lt inv.counters _ w.set.new.self exists w.set.ensures (omega arith))
+          (counters_set moved ws i w0.counters work.counters lt inv.counters w.in-Some.count w.set.new.self exists w.set.ensures w.in-Some.ensures.some)
           within w.set.ensures w.fire.ensures)
-      | then-count-open+else-count-eq0 w ↦ rw (w.work-is, w.state-is)
+      | in-Some+else-count-eq0 w ↦ rw (w.work-is, w.state-is)
           (released_on p moved ws i s0 w0 s work w.set.new.self rule _ inv
-          (counters_set moved ws i w0.counters work.counters lt inv.counters _ w.set.new.self exists w.set.ensures (omega arith))
+          (counters_set moved ws i w0.counters work.counters lt inv.counters w.in-Some.count w.set.new.self exists w.set.ensures w.in-Some.ensures.some)
           within w.set.ensures w.if-count-eq0.false)
-      | else-count-open w ↦ rw (w.work-is, w.state-is) (let same = w.if-count-open.false in record {
-        counters = counters_passed moved ws i w0.counters work.counters lt inv.counters (omega arith);
+      | in_default w ↦ rw (w.work-is, w.state-is) record {
+        counters = counters_passed moved ws i w0.counters work.counters lt inv.counters w.in_default.ensures.none;
         goes_on = inv.goes_on;
         room = inv.room;
         running = inv.running;
         given = inv.given;
         fired = inv.fired;
         seen = inv.seen;
-      })
+      }
     ]
 
 pub returns-clause-at_work : goal.returns-clause-at_work
