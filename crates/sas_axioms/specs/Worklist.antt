@@ -1,5 +1,5 @@
 -- How far a worklist has come on a layer, and what it needs.
-use Rattle.std.specs.Prelude.{◌≡◌, ℕ, ◌+◌, ◌*◌, ◌<◌, ◌≤◌, ◌==◌, if◌then◌else◌, IsTrue, IsFalse, List, [], length, slice_index, slice_index_or, vec_capacity, drop}
+use Rattle.std.specs.Prelude.{◌≡◌, ℕ, ◌+◌, ◌*◌, ◌<◌, ◌≤◌, ◌==◌, if◌then◌else◌, IsTrue, List, [], length, slice_index, slice_index_or, vec_capacity, drop}
 use Rattle.sas_core.specs.declared.parts.Parts.{Parts}
 use Rattle.sas_core.specs.Grounded.{rule_at}
 use Rattle.sas_core.specs.Variables.{IsState}
@@ -13,7 +13,7 @@ use Rattle.sas_axioms.specs.declared.firing.Firing.{Firing}
 use Rattle.sas_axioms.specs.declared.firing.Work.{Work}
 use Rattle.sas_axioms.specs.declared.layer_rules.LayerRule.{LayerRule}
 use Rattle.sas_axioms.specs.declared.worklist.Worklist.{Worklist}
-use Rattle.sas_axioms.specs.LayerRules.{IsRuleOn, AreLayerRules, AreSpans, AreRulesOf}
+use Rattle.sas_axioms.specs.LayerRules.{IsRuleOn, AreFirstRules, AreSpans, AreRulesOf}
 use Rattle.sas_axioms.specs.Sources.{AreGiven, SameSourcesOff}
 use Rattle.sas_axioms.specs.Conditions.{AreCounted, IsCounted, open_conditions, released, occurrences}
 
@@ -105,9 +105,8 @@ pub record IsFiringReady (p : Parts) (f : Firing) : Type 0 where
 
 -- what a worklist holds fits the task
 pub record IsReadyFor (p : Parts) (w : Worklist) : Type 0 where
-  pub fires : IsFalse w.fires → (layer rule : ℕ) → IsRuleOn p layer rule → ⊥
   pub variables : AreDerived p w.derived.items
-  pub rules : AreLayerRules p w.rules.items
+  pub rules : AreFirstRules p w.rules.items
   pub spans : AreSpans w.rules.items 0 w.spans.items (length w.rules.items)
   pub firing : IsFiringReady p w.firing
 

@@ -50,7 +50,6 @@ returns-clause-stands g c =
     record {
       ready = record {
         variables = ready.variables;
-        fires = ready.fires;
         rules = ready.rules;
         spans = ready.spans;
         firing = c.settle_layer.ensures.prepared;
