@@ -1,5 +1,5 @@
 -- The counters of a worklist.
-use Rattle.sas_axioms.proofs.Imports.{◌≡◌, ◌≢◌, ℕ, ◌+◌, ◌<◌, ◌≤◌, ◌==◌, ◌⊎◌, true, cond, List, [], ◌∷◌, ◌++◌, length, get_or, set, refl, sym, ◌∙◌, ap, subst, inl, inr, arith, cases_eq, eqb_tells, get_or-set_same, get_or-set_other, length-set, get_or_default, length-append, vec_capacity, Fact, Rule, Parts, rule_at, IsState, WellRanged, Holds, AllHold, IsOnLayer, default_of, IsRuleOn, AreGiven, open_conditions, occurrences, asking, Moved, Waiting, waiting_at, IsFullIndex, CanRecount, Work, value_seen, IsRunning, AreCountedBy, HaveFired, HasRoom, IsAtWork, WorkGoesOn, FiresRule, IsLayered, differs, IsSettledAt, OnlyForced, HasFired, SameOff, AtDefault, equal_places, All, All-nil, All-cons, All-head, All-tail, Fired, fired_there, rule_new, differs_true, differs_not, fact_within, new_value_is, forced_at_default, settled_when_fired, differs_decides}
+use Rattle.sas_axioms.proofs.Imports.{◌≡◌, ◌≢◌, ℕ, ◌+◌, ◌<◌, ◌≤◌, ◌==◌, ◌⊎◌, true, cond, List, [], ◌∷◌, ◌++◌, length, get_or, set, refl, sym, ◌∙◌, ap, subst, inl, inr, arith, cases_eq, eqb_tells, get_or-set_same, get_or-set_other, length-set, get_or_default, length-append, vec_capacity, Fact, Rule, Parts, rule_at, IsState, WellRanged, Holds, AllHold, IsOnLayer, on_layer_within, default_of, IsRuleOn, AreGiven, open_conditions, occurrences, asking, Moved, Waiting, waiting_at, IsFullIndex, CanRecount, Work, value_seen, IsRunning, AreCountedBy, HaveFired, HasRoom, IsAtWork, WorkGoesOn, FiresRule, IsLayered, differs, IsSettledAt, OnlyForced, HasFired, SameOff, AtDefault, equal_places, All, All-nil, All-cons, All-head, All-tail, Fired, fired_there, rule_new, differs_true, differs_not, fact_within, new_value_is, forced_at_default, settled_when_fired, differs_decides}
 use Rattle.sas_axioms.proofs.AllConditions.{can_recount, open_changed}
 use Rattle.sas_axioms.proofs.CountingEntries.{CountersSoFar, counters_after, left_over}
 use Rattle.sas_axioms.proofs.Sources.{no_rule}
@@ -208,6 +208,9 @@ top_is t layer s rest v run = elim (occurrences_pushed v v rest) [
   | inl w ↦ run.fired v (let e = w.1 in omega arith)
   | inr w ↦ absurd (w.0 refl)
 ]
+
+pub top_within : (t : Parts) (layer : ℕ) (s rest : List ℕ) (v : ℕ) → IsRunning t layer s (rest ++ v ∷ []) → v < length t.variables
+top_within t layer s rest v run = on_layer_within t layer v (top_is t layer s rest v run).0
 
 -- conditions that ask for no such value
 asking_none : (v x : ℕ) (cs : List Fact) → All (λ (c : Fact). c.var ≡ v → c.value ≢ x) cs → asking v x cs ≡ 0

@@ -1,5 +1,5 @@
 -- Updating the counters for the conditions on a variable, one entry at a time.
-use Rattle.sas_axioms.proofs.Imports.{◌≡◌, ◌≢◌, ◌⊎◌, ◌↔◌, ℕ, ◌+◌, ◌*◌, ◌<◌, ◌≤◌, ◌^◌, Vec, Global, zero, suc, List, [], ◌∷◌, length, get_or, set, drop, refl, sym, ◌∙◌, ap, subst, inl, inr, arith, Contains, heap_items, cases_eq, eq-eqb, eqb_tells, drop_all, drop_more, get_or-set_same, get_or-set_other, length-set, Contains-get_or, All-contains, Reverse, Parts, Agenda, Work, LayerRule, Moved, Waiting, waits_for, CanCount, CanRecount, IsOnAgenda, IsOrdered, work_left, SameWork, NotesMore, CountsTo, Recounts, IsRuleOn, occurrences, released}
+use Rattle.sas_axioms.proofs.Imports.{◌≡◌, ◌≢◌, ◌⊎◌, ◌↔◌, ℕ, ◌+◌, ◌*◌, ◌<◌, ◌≤◌, ◌^◌, Vec, Global, zero, suc, List, [], ◌∷◌, length, get_or, set, drop, refl, sym, ◌∙◌, ap, subst, inl, inr, arith, Contains, heap_items, cases_eq, eq-eqb, eqb_tells, drop_all, drop_more, get_or-set_same, get_or-set_other, length-set, Contains-get_or, All-contains, Reverse, Parts, Agenda, Work, LayerRule, Moved, Waiting, waits_for, CanCount, CanRecount, IsOnAgenda, IsOrdered, work_left, SameWork, NotesMore, CountsTo, IsRuleOn, occurrences, released}
 
 abbrev pub no_entry : Waiting
 no_entry = record { value = 0; rule = 0 }
@@ -133,15 +133,6 @@ counted_none p moved waiting w a' ordered noted ready left = record {
     ready = ready;
   };
   left = (let n = ap (λ h. length (heap_items h)) noted in let r = ap (λ (v : Vec ℕ Global). length v.items) ready in omega arith);
-}
-
--- all are counted
-pub counted_all : (p : Parts) (moved : Moved) (waiting : List Waiting) (i : ℕ) (w0 w : Work) → i ≡ length waiting → CountedEntries p moved waiting i w0 w → Recounts p waiting moved w0 w
-counted_all p moved waiting i w0 w all counted = record {
-  counts = counters_after moved waiting i w0.counters w.counters all counted.counters;
-  crossed = counted.crossed;
-  notes = counted.notes;
-  left = let le = counted.left in omega arith;
 }
 
 module _ (p : Parts) (moved : Moved) (waiting : List Waiting) (i : ℕ) (w0 w : Work) (lt : i < length waiting) (counted : CountedEntries p moved waiting i w0 w) where

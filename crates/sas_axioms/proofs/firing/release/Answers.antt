@@ -1,23 +1,21 @@
 -- One more entry is counted.
-use Rattle.sas_axioms.proofs.Imports.{◌≡◌, ◌<◌, length, get_or, refl, sym, ap, subst, ◌∙◌, arith, All, IsOfRule, on_layer_within, CanRecount, waiting_at}
-use Rattle.sas_axioms.proofs.Counters.{goes_on_still, popped_running, top_is, moved_to, can_release, ready_so_far, released_on, released_fired, at_work_again}
+use Rattle.sas_axioms.proofs.Imports.{◌≡◌, ◌<◌, length, get_or, refl, sym, ap, subst, ◌∙◌, arith, All, IsOfRule, CanRecount, waiting_at}
+use Rattle.sas_axioms.proofs.Counters.{goes_on_still, popped_running, top_within, moved_to, can_release, ready_so_far, released_on, released_fired, at_work_again}
 use Rattle.sas_axioms.proofs.CountingEntries.{no_entry, counters_before, counters_passed, counters_set, its_count, can_count}
 use Rattle.sas_axioms.proofs.firing.release.Goals as goal
 use Rattle.sas_axioms.proofs.firing.release.Goals.{in-Some+then-count-eq0, in-Some+else-count-eq0, in_default}
 
 pub initial_value-requires : goal.initial_value-requires
 initial_value-requires g c =
-    on_layer_within c.args.task.now c.args.work.now.layer c.args.var (top_is c.args.task.now c.args.work.now.layer c.args.state.now c.args.work.now.stack.items c.args.var c.requires.popped.running).0
+    top_within c.args.task.now c.args.work.now.layer c.args.state.now c.args.work.now.stack.items c.args.var c.requires.popped.running
 
 pub value-requires : goal.value-requires
 value-requires g c =
-    let within = on_layer_within c.args.task.now c.args.work.now.layer c.args.var (top_is c.args.task.now c.args.work.now.layer c.args.state.now c.args.work.now.stack.items c.args.var c.requires.popped.running).0 in
-    omega (arith, within, c.requires.popped.running.state.one_each)
+    omega (arith, top_within c.args.task.now c.args.work.now.layer c.args.state.now c.args.work.now.stack.items c.args.var c.requires.popped.running, c.requires.popped.running.state.one_each)
 
 pub get-condition-items-requires : goal.get-condition-items-requires
 get-condition-items-requires g c =
-    let within = on_layer_within c.args.task.now c.args.work.now.layer c.args.var (top_is c.args.task.now c.args.work.now.layer c.args.state.now c.args.work.now.stack.items c.args.var c.requires.popped.running).0 in
-    omega (arith, within, c.requires.index.one_each)
+    omega (arith, top_within c.args.task.now c.args.work.now.layer c.args.state.now c.args.work.now.stack.items c.args.var c.requires.popped.running, c.requires.index.one_each)
 
 pub loop-condition-init : goal.loop-condition-init
 loop-condition-init g c =
