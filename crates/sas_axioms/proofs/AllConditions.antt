@@ -1,5 +1,6 @@
 -- The index of all conditions, and how the counters change with the value of a variable.
-use Rattle.sas_axioms.proofs.Imports.{◌≡◌, ◌≢◌, ℕ, ◌+◌, ◌<◌, ◌≤◌, ◌==◌, ◌&&◌, ◌^◌, Bool, true, false, cond, List, [], ◌∷◌, ◌++◌, length, get_or, set, None, refl, sym, ◌∙◌, ap, subst, inl, inr, arith, All, get_or-set_same, get_or-set_other, length-set, cases_eq, eq-eqb, eqb_tells, All-nil, All-cons, All-tail, All-append, All-weaker, Fact, Parts, rule_at, WellRanged, RuleFits, holds_at, Entry, Moved, Waiting, CanRecount, IsRuleOn, asking, waiting_entry, waiting_at, released, occurrences, open_conditions, IsOfRule, entries, IsFullIndex, AreCounted, AreCountedBy, items_of, by_key, length-table, items_none, items_cons, under_key, all_items, condition_within}
+use Rattle.sas_axioms.proofs.Imports.{◌≡◌, ◌≢◌, ℕ, ◌+◌, ◌<◌, ◌≤◌, ◌==◌, ◌&&◌, ◌^◌, Bool, true, false, cond, List, [], ◌∷◌, ◌++◌, length, get_or, set, None, refl, sym, ◌∙◌, ap, subst, inl, inr, arith, All, get_or-set_same, get_or-set_other, length-set, cases_eq, eq-eqb, eqb_tells, All-nil, All-cons, All-tail, All-append, All-weaker, Fact, Parts, rule_at, WellRanged, RuleFits, holds_at, Entry, Moved, Waiting, IsRuleOn, asking, waiting_entry, waiting_at, released, occurrences, open_conditions, IsOfRule, entries, IsFullIndex, AreCounted, AreCountedBy, items_of, by_key, length-table, items_none, items_cons, under_key, all_items, condition_within}
+use Rattle.sas_axioms.proofs.CountingEntries.{CanRecount}
 
 -- ---- building the index
 
@@ -220,6 +221,3 @@ module _ (p : Parts) (index : List (List Waiting)) (var : ℕ) (is_index : IsFul
           let h = is_index.each layer var value rule is in
           omega arith);
     }
-
-    pub same_counts : get_or counted var 0 ≡ value → AreCounted p (set counted var value) counters
-    same_counts same = recounted counters refl (λ rule lt. ap (λ v. get_or counters rule 0 + occurrences rule (released v (waiting_at index var))) (sym same))

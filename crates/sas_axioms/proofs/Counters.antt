@@ -1,7 +1,7 @@
 -- The counters of a worklist.
-use Rattle.sas_axioms.proofs.Imports.{◌≡◌, ◌≢◌, ℕ, ◌+◌, ◌<◌, ◌≤◌, ◌==◌, ◌⊎◌, true, cond, List, [], ◌∷◌, ◌++◌, length, get_or, set, refl, sym, ◌∙◌, ap, subst, inl, inr, arith, cases_eq, eqb_tells, get_or-set_same, get_or-set_other, length-set, get_or_default, length-append, vec_capacity, Fact, Rule, Parts, rule_at, IsState, WellRanged, Holds, AllHold, IsOnLayer, on_layer_within, default_of, IsRuleOn, AreGiven, open_conditions, occurrences, asking, Moved, Waiting, waiting_at, IsFullIndex, CanRecount, Work, value_seen, IsRunning, AreCountedBy, HaveFired, HasRoom, IsAtWork, WorkGoesOn, FiresRule, IsLayered, differs, IsSettledAt, OnlyForced, HasFired, SameOff, AtDefault, equal_places, All, All-nil, All-cons, All-head, All-tail, Fired, fired_there, rule_new, differs_true, differs_not, fact_within, new_value_is, forced_at_default, settled_when_fired, differs_decides}
+use Rattle.sas_axioms.proofs.Imports.{◌≡◌, ◌≢◌, ℕ, ◌+◌, ◌<◌, ◌≤◌, ◌==◌, ◌⊎◌, true, cond, List, [], ◌∷◌, ◌++◌, length, get_or, set, refl, sym, ◌∙◌, ap, subst, inl, inr, arith, cases_eq, eqb_tells, get_or-set_same, get_or-set_other, length-set, get_or_default, length-append, vec_capacity, Fact, Rule, Parts, rule_at, IsState, WellRanged, Holds, AllHold, IsOnLayer, on_layer_within, default_of, IsRuleOn, AreGiven, open_conditions, occurrences, asking, Moved, Waiting, waiting_at, IsFullIndex, Work, value_seen, IsRunning, AreCountedBy, HaveFired, HasRoom, IsAtWork, WorkGoesOn, FiresRule, IsLayered, differs, IsSettledAt, OnlyForced, HasFired, SameOff, AtDefault, equal_places, All, All-nil, All-cons, All-head, All-tail, Fired, fired_there, rule_new, differs_true, differs_not, fact_within, new_value_is, forced_at_default, settled_when_fired, differs_decides}
 use Rattle.sas_axioms.proofs.AllConditions.{can_recount, open_changed}
-use Rattle.sas_axioms.proofs.CountingEntries.{CountersSoFar, counters_after, left_over}
+use Rattle.sas_axioms.proofs.CountingEntries.{CanRecount, CountersSoFar, counters_after, left_over}
 use Rattle.sas_axioms.proofs.Sources.{no_rule}
 
 pub occurrences-append : (n : ℕ) (xs ys : List ℕ) → occurrences n (xs ++ ys) ≡ occurrences n xs + occurrences n ys

@@ -1,5 +1,5 @@
 -- Updating the counters for the conditions on a variable, one entry at a time.
-use Rattle.sas_axioms.proofs.Imports.{◌≡◌, ◌≢◌, ◌⊎◌, ◌↔◌, ℕ, ◌+◌, ◌*◌, ◌<◌, ◌≤◌, ◌^◌, Vec, Global, zero, suc, List, [], ◌∷◌, length, get_or, set, drop, refl, sym, ◌∙◌, ap, subst, inl, inr, arith, Contains, heap_items, cases_eq, eq-eqb, eqb_tells, drop_all, drop_more, get_or-set_same, get_or-set_other, length-set, Contains-get_or, All-contains, Reverse, Parts, Agenda, Work, LayerRule, Moved, Waiting, waits_for, CanCount, CanRecount, IsOnAgenda, IsOrdered, work_left, SameWork, NotesMore, CountsTo, IsRuleOn, occurrences, released}
+use Rattle.sas_axioms.proofs.Imports.{◌≡◌, ◌≢◌, ◌⊎◌, ◌↔◌, ℕ, ◌+◌, ◌*◌, ◌<◌, ◌≤◌, ◌^◌, Vec, Global, zero, suc, List, [], ◌∷◌, length, get_or, set, drop, refl, sym, ◌∙◌, ap, subst, inl, inr, arith, All, Contains, heap_items, cases_eq, eq-eqb, eqb_tells, drop_all, drop_more, get_or-set_same, get_or-set_other, length-set, Contains-get_or, All-contains, Reverse, Parts, Agenda, Work, LayerRule, Moved, Waiting, waits_for, CanCount, IsOnAgenda, IsOrdered, work_left, SameWork, NotesMore, CountsTo, IsRuleOn, occurrences, released}
 
 abbrev pub no_entry : Waiting
 no_entry = record { value = 0; rule = 0 }
@@ -7,6 +7,13 @@ no_entry = record { value = 0; rule = 0 }
 -- the rule waits for a value of the variable
 abbrev pub Waits : List Waiting → ℕ → Type 0
 Waits waiting rule = (w : Waiting) × Contains waiting w × (w.rule ≡ rule)
+
+-- a variable moved, and the counters of the rules with these conditions on it can be updated
+pub record CanRecount (moved : Moved) (waiting : List Waiting) (counters : List ℕ) : Type 0 where
+  pub differ : moved.former ≢ moved.value
+  pub exist : All (λ (w : Waiting). w.rule < length counters) waiting
+  pub small : All (λ (w : Waiting). get_or counters w.rule 0 + occurrences w.rule (released moved.former waiting) < 2 ^ 32) waiting
+  pub enough : All (λ (w : Waiting). occurrences w.rule (released moved.value waiting) ≤ get_or counters w.rule 0) waiting
 
 -- the first i entries are counted
 pub record CountersSoFar (moved : Moved) (waiting : List Waiting) (i : ℕ) (cs0 cs : List ℕ) : Type 0 where

@@ -46,7 +46,7 @@ pub use Rattle.sas_meaning.specs.Touched.{AddsTouched, StillCovers}
 pub use Rattle.sas_meaning.specs.declared.touched.Touched.{Touched}
 pub use Rattle.sas_axioms.specs.Agenda.{layer_cmp, entry_for, IsOnAgenda, AddsToAgenda, work_left, IsOrdered, IsAwaited, AreBehind, RemovesFromAgenda, IsMadeReady, AreMadeReady, IsEmpty, NoLowerLayer, Lowest}
 pub use Rattle.sas_axioms.specs.ByLayers.{IsIdle, SettlesNext, SettlesLayer}
-pub use Rattle.sas_axioms.specs.Conditions.{asking, waiting_entry, waiting_at, released, occurrences, open_conditions, IsOfRule, entries, IsFullIndex, AreCounted, IsCounted, waits_for, CanCount, CanRecount}
+pub use Rattle.sas_axioms.specs.Conditions.{asking, waiting_entry, waiting_at, released, occurrences, open_conditions, IsOfRule, entries, IsFullIndex, AreCounted, IsCounted, waits_for, CanCount}
 pub use Rattle.sas_axioms.specs.Following.{NotesMore, IsFollowed, SameWork, CountsTo, SameFrom, ChangesAreNoted, CountsChange, IsOnTrack, IsFalling, IsRising, CountedSoFar, IsBetween, AsksAbout, HasRisen, KeepsRoom}
 pub use Rattle.sas_axioms.specs.LayerRules.{IsRuleOn, AreRulesOn, IsLate, AreFirstRules, AreRulesOf, IsLayerSpan, AreSpans}
 pub use Rattle.sas_axioms.specs.Sources.{AreGiven, SameSourcesOff, IsHolding, HaveSources, SourcesHold, IsSourceOf}

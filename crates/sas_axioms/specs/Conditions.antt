@@ -84,12 +84,3 @@ pub record CanCount (moved : Moved) (w : Waiting) (counters : List ℕ) : Type 0
   pub exists : w.rule < length counters
   pub small : slice_index counters w.rule + waits_for moved.former w < 2 ^ 32
   pub enough : waits_for moved.value w ≤ slice_index counters w.rule
-
--- a variable moved, and the counters of the rules with these conditions on it can be updated
-pub record CanRecount (moved : Moved) (waiting : List Waiting) (counters : List ℕ) : Type 0 where
-  pub differ : moved.former ≢ moved.value
-  pub exist : All (λ (w : Waiting). w.rule < length counters) waiting
-  pub small : All (λ (w : Waiting). slice_index counters w.rule
-      + occurrences w.rule (released moved.former waiting) < 2 ^ 32) waiting
-  pub enough : All (λ (w : Waiting). occurrences w.rule (released moved.value waiting)
-      ≤ slice_index counters w.rule) waiting

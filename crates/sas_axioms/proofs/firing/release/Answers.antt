@@ -1,7 +1,7 @@
 -- One more entry is counted.
-use Rattle.sas_axioms.proofs.Imports.{◌≡◌, ◌<◌, length, get_or, refl, sym, ap, subst, ◌∙◌, arith, All, IsOfRule, CanRecount, waiting_at}
+use Rattle.sas_axioms.proofs.Imports.{◌≡◌, ◌<◌, length, get_or, refl, sym, ap, subst, ◌∙◌, arith, All, IsOfRule, waiting_at}
 use Rattle.sas_axioms.proofs.Counters.{goes_on_still, popped_running, top_within, moved_to, can_release, ready_so_far, released_on, released_fired, at_work_again}
-use Rattle.sas_axioms.proofs.CountingEntries.{no_entry, counters_before, counters_passed, counters_set, its_count, can_count}
+use Rattle.sas_axioms.proofs.CountingEntries.{CanRecount, no_entry, counters_before, counters_passed, counters_set, its_count, can_count}
 use Rattle.sas_axioms.proofs.firing.release.Goals as goal
 use Rattle.sas_axioms.proofs.firing.release.Goals.{in-Some+then-count-eq0, in-Some+else-count-eq0, in_default}
 

@@ -1,7 +1,7 @@
 -- One more entry is counted.
-use Rattle.sas_axioms.proofs.Imports.{◌≡◌, ◌<◌, length, get_or, sym, ap, subst, arith, All, CanRecount, IsOfRule, waiting_at}
+use Rattle.sas_axioms.proofs.Imports.{◌≡◌, ◌<◌, length, get_or, sym, ap, subst, arith, All, IsOfRule, waiting_at}
 use Rattle.sas_axioms.proofs.AllConditions.{can_recount}
-use Rattle.sas_axioms.proofs.CountingEntries.{no_entry, counted_none, can_count, entry_counted, entry_passed}
+use Rattle.sas_axioms.proofs.CountingEntries.{CanRecount, no_entry, counted_none, can_count, entry_counted, entry_passed}
 use Rattle.sas_axioms.proofs.Recounting.{moved_when_recounted}
 use Rattle.sas_axioms.proofs.following.recount.Goals as goal
 use Rattle.sas_axioms.proofs.following.recount.Goals.{in-Some+in_ok-count_to, in_default}
