@@ -1,13 +1,10 @@
 -- Collecting the rules that can fire, without late ones.
-use Rattle.sas_axioms.proofs.Imports.{◌≡◌, ◌⊎◌, ℕ, ◌+◌, ◌<◌, List, [], ◌∷◌, ◌++◌, length, sym, subst, inl, inr, arith, All, Contains, cases_eq, All-nil, All-push, Contains-append_left, Contains-push, All-permutation, Contains-permutation, IsPermutation, IsNonDecreasingBy, Parts, LayerRule, IsRuleOn, IsLate, AreFirstRules}
+use Rattle.sas_axioms.proofs.Imports.{◌≡◌, ◌⊎◌, ℕ, ◌+◌, ◌<◌, List, [], ◌∷◌, ◌++◌, length, sym, subst, inl, inr, arith, All, Contains, cases_eq, All-push, Contains-append_left, Contains-push, All-permutation, Contains-permutation, IsPermutation, IsNonDecreasingBy, Parts, LayerRule, IsRuleOn, IsLate, AreFirstRules}
 
 -- those of the first `k` rules that can fire, without late ones
 pub record FirstUpTo (p : Parts) (k : ℕ) (rules : List LayerRule) : Type 0 where
   pub only : All (λ (r : LayerRule). IsRuleOn p r.layer r.rule) rules
   pub each : (layer rule : ℕ) → rule < k → IsRuleOn p layer rule → Contains rules (record { layer = layer; rule = rule }) ⊎ IsLate p layer rule
-
-pub first_none : (p : Parts) → FirstUpTo p 0 []
-first_none p = record { only = All-nil (λ (r : LayerRule). IsRuleOn p r.layer r.rule); each = λ layer rule lt is. absurd (omega arith) }
 
 -- a rule is on one layer only
 pub one_layer : (p : Parts) (m layer rule : ℕ) → IsRuleOn p m rule → IsRuleOn p layer rule → m ≡ layer

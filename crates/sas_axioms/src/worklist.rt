@@ -124,9 +124,7 @@ impl<T: Grounded> ByLayers<T> for Worklist {
         // The contract of `task` ensures that the task is well ranged and layered.
         let _ = layered.task();
         let rules = self.rules.as_slice();
-        let Some(span) = self.spans.as_slice().get(self.next) else {
-            return None;
-        };
+        let span = self.spans.as_slice().get(self.next)?;
         self.firing
             .settle_layer(layered, span.layer, &rules[self.start..span.end], state);
         self.next += 1;
