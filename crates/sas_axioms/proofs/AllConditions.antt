@@ -1,7 +1,13 @@
 -- The index of all conditions, and how the counters change with the value of a variable.
-use Rattle.sas_axioms.proofs.Imports.{◌≡◌, ◌≢◌, ℕ, ◌+◌, ◌<◌, ◌≤◌, ◌==◌, ◌&&◌, ◌^◌, Bool, true, false, cond, List, [], ◌∷◌, ◌++◌, length, get_or, set, None, refl, sym, ◌∙◌, ap, subst, inl, inr, arith, All, get_or-set_same, get_or-set_other, length-set, cases_eq, eq-eqb, eqb_tells, All-nil, All-cons, All-tail, All-append, All-weaker, Fact, Parts, rule_at, WellRanged, RuleFits, holds_at, Entry, Moved, Waiting, CanRecount, IsRuleOn, asking, waiting_entry, waits, waiting_at, released, occurrences, open_conditions, IsOfRule, IsCondition, entries, AreAllConditions, IsFullIndex, AreCounted, AreCountedBy, items_of, by_key, length-table, items_none, items_cons, under_key, all_items, condition_within}
+use Rattle.sas_axioms.proofs.Imports.{◌≡◌, ◌≢◌, ℕ, ◌+◌, ◌<◌, ◌≤◌, ◌==◌, ◌&&◌, ◌^◌, Bool, true, false, cond, List, [], ◌∷◌, ◌++◌, length, get_or, set, None, refl, sym, ◌∙◌, ap, subst, inl, inr, arith, All, get_or-set_same, get_or-set_other, length-set, cases_eq, eq-eqb, eqb_tells, All-nil, All-cons, All-tail, All-append, All-weaker, Fact, Parts, rule_at, WellRanged, RuleFits, holds_at, Entry, Moved, Waiting, IsRuleOn, asking, waiting_entry, waiting_at, released, occurrences, open_conditions, IsOfRule, entries, IsFullIndex, AreCounted, AreCountedBy, items_of, by_key, length-table, items_none, items_cons, under_key, all_items, condition_within}
+use Rattle.sas_axioms.proofs.CountingEntries.{CanRecount}
 
 -- ---- building the index
+
+-- the entry belongs to a rule that can fire, and its variable exists
+pub record IsCondition (p : Parts) (e : Entry Waiting) : Type 0 where
+  pub of_rule : IsOfRule p e.item
+  pub exists : e.key < length p.variables
 
 -- whether an entry is the rule's, and for the fact
 abbrev counted : ℕ → ℕ → ℕ → Entry Waiting → ℕ
@@ -10,6 +16,11 @@ counted rule var value e = cond ((e.item.rule == rule) && ((e.key == var) && (e.
 -- whether a condition is the fact
 abbrev asked : ℕ → ℕ → Fact → ℕ
 asked var value c = cond ((c.var == var) && (c.value == value)) 1 0
+
+-- how many entries the rule has for the fact
+abbrev pub waits : ℕ → ℕ → ℕ → List (Entry Waiting) → ℕ
+waits rule var value [] = 0
+waits rule var value (e ∷ es) = cond ((e.item.rule == rule) && ((e.key == var) && (e.item.value == value))) 1 0 + waits rule var value es
 
 waits_append : (rule var value : ℕ) (ws ws' : List (Entry Waiting)) → waits rule var value (ws ++ ws') ≡ waits rule var value ws + waits rule var value ws'
 waits_append rule var value [] ws' = omega arith
@@ -87,27 +98,21 @@ conditions_more p k layer ws ranged here up = record {
       let before = up.later var value rule (omega arith) in omega arith);
 }
 
-pub conditions_all : (p : Parts) (k : ℕ) (ws : List (Entry Waiting)) → k ≡ length p.rules → ConditionsUpTo p k ws → AreAllConditions p ws
-conditions_all p k ws e up = record {
-  only = up.only;
-  each = λ layer var value rule is. up.each layer var value rule (let lt = is.exists in omega arith) is;
-}
-
-pub conditions_exist : (p : Parts) (ws : List (Entry Waiting)) → AreAllConditions p ws → All (λ (e : Entry Waiting). e.key < length p.variables) ws
-conditions_exist p ws is = All-weaker (IsCondition p) (λ (e : Entry Waiting). e.key < length p.variables) (λ w h. h.exists) ws is.only
+pub conditions_exist : (p : Parts) (k : ℕ) (ws : List (Entry Waiting)) → ConditionsUpTo p k ws → All (λ (e : Entry Waiting). e.key < length p.variables) ws
+conditions_exist p k ws is = All-weaker (IsCondition p) (λ (e : Entry Waiting). e.key < length p.variables) (λ w h. h.exists) ws is.only
 
 -- by key, the conditions are an index of all
-pub conditions_index : (p : Parts) (es : List (Entry Waiting)) → AreAllConditions p es → IsFullIndex p (by_key es (length p.variables))
-conditions_index p es is = record {
+pub conditions_index : (p : Parts) (k : ℕ) (es : List (Entry Waiting)) → k ≡ length p.rules → ConditionsUpTo p k es → IsFullIndex p (by_key es (length p.variables))
+conditions_index p k es all is = record {
   one_each = length-table (length p.variables) (λ var. items_of var es);
   only = λ var. subst (All (IsOfRule p)) (sym (under var))
       (all_items (λ (var : ℕ) (w : Waiting). IsOfRule p w) es var (All-weaker (IsCondition p) (λ (e : Entry Waiting). IsOfRule p e.item) (λ e h. h.of_rule) es is.only));
   each = λ layer var value rule here. ap (λ ws. occurrences rule (released value ws)) (under var)
-      ∙ released_counts rule var value es ∙ is.each layer var value rule here;
+      ∙ released_counts rule var value es ∙ is.each layer var value rule (let lt = here.exists in omega arith) here;
 }
   where
     under : (var : ℕ) → get_or (by_key es (length p.variables)) var [] ≡ items_of var es
-    under var = under_key es (length p.variables) var (conditions_exist p es is)
+    under var = under_key es (length p.variables) var (conditions_exist p k es is)
 
 -- ---- counts
 
@@ -216,6 +221,3 @@ module _ (p : Parts) (index : List (List Waiting)) (var : ℕ) (is_index : IsFul
           let h = is_index.each layer var value rule is in
           omega arith);
     }
-
-    pub same_counts : get_or counted var 0 ≡ value → AreCounted p (set counted var value) counters
-    same_counts same = recounted counters refl (λ rule lt. ap (λ v. get_or counters rule 0 + occurrences rule (released v (waiting_at index var))) (sym same))

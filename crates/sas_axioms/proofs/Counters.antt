@@ -1,7 +1,7 @@
 -- The counters of a worklist.
-use Rattle.sas_axioms.proofs.Imports.{◌≡◌, ◌≢◌, ℕ, ◌+◌, ◌<◌, ◌≤◌, ◌==◌, ◌⊎◌, true, cond, List, [], ◌∷◌, ◌++◌, length, get_or, set, refl, sym, ◌∙◌, ap, subst, inl, inr, arith, cases_eq, eqb_tells, get_or-set_same, get_or-set_other, length-set, get_or_default, length-append, vec_capacity, Fact, Rule, Parts, rule_at, IsState, WellRanged, Holds, AllHold, IsOnLayer, default_of, IsRuleOn, AreGiven, open_conditions, occurrences, asking, Moved, Waiting, Work, value_seen, IsRunning, AreCountedBy, HaveFired, HasRoom, IsAtWork, IsPopped, WorkGoesOn, FiresRule, IsLayered, differs, IsSettledAt, OnlyForced, HasFired, SameOff, AtDefault, equal_places, All, All-nil, All-cons, All-head, All-tail, Fired, fired_there, rule_new, differs_true, differs_not, fact_within, new_value_is, forced_at_default, settled_when_fired, differs_decides}
-use Rattle.sas_axioms.proofs.AllConditions.{open_changed}
-use Rattle.sas_axioms.proofs.CountingEntries.{CountersSoFar, counters_after, left_over}
+use Rattle.sas_axioms.proofs.Imports.{◌≡◌, ◌≢◌, ℕ, ◌+◌, ◌<◌, ◌≤◌, ◌==◌, ◌⊎◌, true, cond, List, [], ◌∷◌, ◌++◌, length, get_or, set, refl, sym, ◌∙◌, ap, subst, inl, inr, arith, cases_eq, eqb_tells, get_or-set_same, get_or-set_other, length-set, get_or_default, length-append, vec_capacity, Fact, Rule, Parts, rule_at, IsState, WellRanged, Holds, AllHold, IsOnLayer, on_layer_within, default_of, IsRuleOn, AreGiven, open_conditions, occurrences, asking, Moved, Waiting, waiting_at, IsFullIndex, Work, value_seen, IsRunning, AreCountedBy, HaveFired, HasRoom, IsAtWork, WorkGoesOn, FiresRule, IsLayered, differs, IsSettledAt, OnlyForced, HasFired, SameOff, AtDefault, equal_places, All, All-nil, All-cons, All-head, All-tail, Fired, fired_there, rule_new, differs_true, differs_not, fact_within, new_value_is, forced_at_default, settled_when_fired, differs_decides}
+use Rattle.sas_axioms.proofs.AllConditions.{can_recount, open_changed}
+use Rattle.sas_axioms.proofs.CountingEntries.{CanRecount, CountersSoFar, counters_after, left_over}
 use Rattle.sas_axioms.proofs.Sources.{no_rule}
 
 pub occurrences-append : (n : ℕ) (xs ys : List ℕ) → occurrences n (xs ++ ys) ≡ occurrences n xs + occurrences n ys
@@ -209,6 +209,9 @@ top_is t layer s rest v run = elim (occurrences_pushed v v rest) [
   | inr w ↦ absurd (w.0 refl)
 ]
 
+pub top_within : (t : Parts) (layer : ℕ) (s rest : List ℕ) (v : ℕ) → IsRunning t layer s (rest ++ v ∷ []) → v < length t.variables
+top_within t layer s rest v run = on_layer_within t layer v (top_is t layer s rest v run).0
+
 -- conditions that ask for no such value
 asking_none : (v x : ℕ) (cs : List Fact) → All (λ (c : Fact). c.var ≡ v → c.value ≢ x) cs → asking v x cs ≡ 0
 asking_none v x [] none = refl
@@ -310,19 +313,6 @@ pub record Releasing (t : Parts) (moved : Moved) (waiting : List Waiting) (i : �
   pub fired : HaveFired t w0.layer s w.counters
   pub seen : (v : ℕ) → value_seen t s w.stack.items v ≡ value_seen t s0 w0.stack.items v
 
--- a rule of the layer whose counter is at zero has conditions that hold
-pub ready_so_far : (t : Parts) (moved : Moved) (waiting : List Waiting) (i : ℕ) (s0 : List ℕ) (w0 : Work) (s : List ℕ) (w : Work) (counters : List ℕ) (k : ℕ)
-    → IsLayered t → IsPopped t moved waiting s0 w0 → Releasing t moved waiting i s0 w0 s w → CountersSoFar moved waiting (i + 1) w0.counters counters
-    → IsRuleOn t w0.layer k → get_or counters k 0 ≡ 0 → AllHold (λ v. get_or s v 0) (rule_at t k).conditions
-ready_so_far t moved waiting i s0 w0 s w counters k layered popped so_far next on none =
-    ready t w0.layer s w.stack.items k layered so_far.running on
-    (let a = next.so_far k (let l = popped.room.one_each in omega (arith, on.exists)) in
-    let b = left_over k moved.former (i + 1) waiting in
-    let d = popped.counts w0.layer k on in
-    let e = popped.own k on in
-    let f = open_same (value_seen t s w.stack.items) (value_seen t s0 w0.stack.items) (rule_at t k).conditions so_far.seen in
-    omega arith)
-
 -- the counter of a rule is set, and isn't zero
 pub released_on : (t : Parts) (moved : Moved) (waiting : List Waiting) (i : ℕ) (s0 : List ℕ) (w0 : Work) (s : List ℕ) (w : Work) (counters : List ℕ) (k n : ℕ)
     → Releasing t moved waiting i s0 w0 s w → CountersSoFar moved waiting (i + 1) w0.counters counters → k < length w.counters → counters ≡ set w.counters k n → n ≢ 0
@@ -371,17 +361,43 @@ released_fired t moved waiting i s0 w0 s w counters k n s' w' so_far next within
           | inr ne ↦ kept j on (sym (get_or-set_other w.counters k j n 0 ne) ∙ none)
         ]
 
--- all entries are counted
-pub at_work_again : (t : Parts) (moved : Moved) (waiting : List Waiting) (i : ℕ) (s0 : List ℕ) (w0 : Work) (s : List ℕ) (w : Work)
-    → IsPopped t moved waiting s0 w0 → Releasing t moved waiting i s0 w0 s w → i ≡ length waiting → IsAtWork t s w
-at_work_again t moved waiting i s0 w0 s w popped so_far all = record {
-  room = so_far.room;
-  running = rw so_far.goes_on.layer so_far.running;
-  counts = λ m k on.
-      (let a = counters_after moved waiting i w0.counters w.counters all so_far.counters k (let l = popped.room.one_each in omega (arith, on.exists)) in
-      let b = popped.counts m k on in
-      let e = open_same (value_seen t s w.stack.items) (value_seen t s0 w0.stack.items) (rule_at t k).conditions so_far.seen in
-      omega arith);
-  fired = rw so_far.goes_on.layer so_far.fired;
-  given = rw so_far.goes_on.layer so_far.given;
-}
+-- the popped variable moved from its default
+abbrev pub moved_to : Parts → List ℕ → ℕ → Moved
+moved_to t s v = record { former = default_of t v; value = get_or s v 0 }
+
+module _ (t : Parts) (index : List (List Waiting)) (v : ℕ) (s0 : List ℕ) (w0 : Work) (layered : IsLayered t) (is_index : IsFullIndex t index) (popped : IsAtWork t s0 (w0.stack.items ++ v ∷ []) w0) where
+  pub can_release : WellRanged t → CanRecount (moved_to t s0 v) (waiting_at index v) w0.counters
+  can_release ranged =
+      can_recount t index v is_index (value_seen t s0 (w0.stack.items ++ v ∷ [])) w0.counters popped.room.one_each popped.counts ranged
+      (moved_to t s0 v) (seen_before t w0.layer s0 w0.stack.items v popped.running) (popped_differs t w0.layer s0 w0.stack.items v popped.running)
+
+  -- a rule of the layer whose counter is at zero has conditions that hold
+  pub ready_so_far : (i : ℕ) (s : List ℕ) (w : Work) (counters : List ℕ) (k : ℕ)
+      → Releasing t (moved_to t s0 v) (waiting_at index v) i s0 w0 s w → CountersSoFar (moved_to t s0 v) (waiting_at index v) (i + 1) w0.counters counters
+      → IsRuleOn t w0.layer k → get_or counters k 0 ≡ 0 → AllHold (λ u. get_or s u 0) (rule_at t k).conditions
+  ready_so_far i s w counters k so_far next on none =
+      ready t w0.layer s w.stack.items k layered so_far.running on
+      (let a = next.so_far k (let l = popped.room.one_each in omega (arith, on.exists)) in
+      let b = left_over k (default_of t v) (i + 1) (waiting_at index v) in
+      let d = popped_counts t w0.layer s0 w0.stack.items v popped.running w0.counters popped.counts w0.layer k on in
+      let e = none_own t w0.layer s0 w0.stack.items v popped.running layered k on in
+      let f = open_same (value_seen t s w.stack.items) (value_seen t s0 w0.stack.items) (rule_at t k).conditions so_far.seen in
+      let x = is_index.each w0.layer v (default_of t v) k on in
+      let y = is_index.each w0.layer v (get_or s0 v 0) k on in
+      omega arith)
+
+  -- all entries are counted
+  pub at_work_again : (i : ℕ) (s : List ℕ) (w : Work) → Releasing t (moved_to t s0 v) (waiting_at index v) i s0 w0 s w → i ≡ length (waiting_at index v) → IsAtWork t s w.stack.items w
+  at_work_again i s w so_far all = record {
+    room = so_far.room;
+    running = rw so_far.goes_on.layer so_far.running;
+    counts = λ m k on.
+        (let a = counters_after (moved_to t s0 v) (waiting_at index v) i w0.counters w.counters all so_far.counters k (let l = popped.room.one_each in omega (arith, on.exists)) in
+        let b = popped_counts t w0.layer s0 w0.stack.items v popped.running w0.counters popped.counts m k on in
+        let e = open_same (value_seen t s w.stack.items) (value_seen t s0 w0.stack.items) (rule_at t k).conditions so_far.seen in
+        let x = is_index.each m v (default_of t v) k on in
+        let y = is_index.each m v (get_or s0 v 0) k on in
+        omega arith);
+    fired = rw so_far.goes_on.layer so_far.fired;
+    given = rw so_far.goes_on.layer so_far.given;
+  }

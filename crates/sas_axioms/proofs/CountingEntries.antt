@@ -1,5 +1,5 @@
 -- Updating the counters for the conditions on a variable, one entry at a time.
-use Rattle.sas_axioms.proofs.Imports.{◌≡◌, ◌≢◌, ◌⊎◌, ◌↔◌, ℕ, ◌+◌, ◌*◌, ◌<◌, ◌≤◌, ◌^◌, Vec, Global, zero, suc, List, [], ◌∷◌, length, get_or, set, drop, refl, sym, ◌∙◌, ap, subst, inl, inr, arith, Contains, heap_items, cases_eq, eq-eqb, eqb_tells, drop_all, drop_more, get_or-set_same, get_or-set_other, length-set, Contains-get_or, All-contains, Reverse, Parts, Agenda, Work, LayerRule, Moved, Waiting, waits_for, CanRecount, IsOnAgenda, IsOrdered, work_left, SameWork, NotesMore, CountsTo, Recounts, IsRuleOn, occurrences, released}
+use Rattle.sas_axioms.proofs.Imports.{◌≡◌, ◌≢◌, ◌⊎◌, ◌↔◌, ℕ, ◌+◌, ◌*◌, ◌<◌, ◌≤◌, ◌^◌, Vec, Global, zero, suc, List, [], ◌∷◌, length, get_or, set, drop, refl, sym, ◌∙◌, ap, subst, inl, inr, arith, All, Contains, heap_items, cases_eq, eq-eqb, eqb_tells, drop_all, drop_more, get_or-set_same, get_or-set_other, length-set, Contains-get_or, All-contains, Reverse, Parts, Agenda, Work, LayerRule, Moved, Waiting, waits_for, CanCount, IsOnAgenda, IsOrdered, work_left, SameWork, NotesMore, CountsTo, IsRuleOn, occurrences, released}
 
 abbrev pub no_entry : Waiting
 no_entry = record { value = 0; rule = 0 }
@@ -7,6 +7,13 @@ no_entry = record { value = 0; rule = 0 }
 -- the rule waits for a value of the variable
 abbrev pub Waits : List Waiting → ℕ → Type 0
 Waits waiting rule = (w : Waiting) × Contains waiting w × (w.rule ≡ rule)
+
+-- a variable moved, and the counters of the rules with these conditions on it can be updated
+pub record CanRecount (moved : Moved) (waiting : List Waiting) (counters : List ℕ) : Type 0 where
+  pub differ : moved.former ≢ moved.value
+  pub exist : All (λ (w : Waiting). w.rule < length counters) waiting
+  pub small : All (λ (w : Waiting). get_or counters w.rule 0 + occurrences w.rule (released moved.former waiting) < 2 ^ 32) waiting
+  pub enough : All (λ (w : Waiting). occurrences w.rule (released moved.value waiting) ≤ get_or counters w.rule 0) waiting
 
 -- the first i entries are counted
 pub record CountersSoFar (moved : Moved) (waiting : List Waiting) (i : ℕ) (cs0 cs : List ℕ) : Type 0 where
@@ -59,21 +66,16 @@ module _ (moved : Moved) (waiting : List Waiting) (i : ℕ) (cs0 cs : List ℕ) 
   other_left value rule ne = ap (λ ws. occurrences rule (released value ws)) (drop_more waiting i no_entry lt) ∙ other_entry value rule this (drop (i + 1) waiting) ne
 
   -- its counter neither overflows nor falls below 0
-  pub may_grow : CanRecount moved waiting cs0 → get_or cs this.rule 0 + waits_for moved.former this < 2 ^ 32
-  may_grow can =
+  pub can_count : CanRecount moved waiting cs0 → CanCount moved this cs
+  can_count can =
       let before = counted.so_far this.rule (can.exist i no_entry lt) in
       let small : get_or cs0 this.rule 0 + occurrences this.rule (released moved.former waiting) < 2 ^ 32 = can.small i no_entry lt in
-      let a = own_left moved.former in
-      let le = left_over this.rule moved.value i waiting in
-      omega arith
-
-  pub may_shrink : CanRecount moved waiting cs0 → waits_for moved.value this ≤ get_or cs this.rule 0
-  may_shrink can =
-      let before = counted.so_far this.rule (can.exist i no_entry lt) in
       let enough : occurrences this.rule (released moved.value waiting) ≤ get_or cs0 this.rule 0 = can.enough i no_entry lt in
-      let a = own_left moved.value in
-      let le = left_over this.rule moved.former i waiting in
-      omega arith
+      let a = own_left moved.former in
+      let b = own_left moved.value in
+      let c = left_over this.rule moved.value i waiting in
+      let d = left_over this.rule moved.former i waiting in
+      record { differ = can.differ; exists = omega (arith, can.exist i no_entry lt, counted.one_each); small = omega arith; enough = omega arith }
 
   module _ (cs' : List ℕ) (one_each : length cs' ≡ length cs) (moves : get_or cs' this.rule 0 + waits_for moved.value this ≡ get_or cs this.rule 0 + waits_for moved.former this)
       (others : (rule : ℕ) → this.rule ≢ rule → get_or cs' rule 0 ≡ get_or cs rule 0) where
@@ -101,8 +103,8 @@ module _ (moved : Moved) (waiting : List Waiting) (i : ℕ) (cs0 cs : List ℕ) 
     }
 
   -- its count is what it was
-  pub counters_passed : get_or cs this.rule 0 + waits_for moved.value this ≡ get_or cs this.rule 0 + waits_for moved.former this → CountersSoFar moved waiting (i + 1) cs0 cs
-  counters_passed moves = counters_next cs refl moves (λ rule ne. refl)
+  pub counters_passed : waits_for moved.value this ≡ waits_for moved.former this → CountersSoFar moved waiting (i + 1) cs0 cs
+  counters_passed same = counters_next cs refl (ap (λ n. get_or cs this.rule 0 + n) same) (λ rule ne. refl)
 
   module _ (n : ℕ) (cs' : List ℕ) (exists : this.rule < length cs0) (set_to : cs' ≡ set cs this.rule n) where
     pub its_count : get_or cs' this.rule 0 ≡ n
@@ -140,23 +142,12 @@ counted_none p moved waiting w a' ordered noted ready left = record {
   left = (let n = ap (λ h. length (heap_items h)) noted in let r = ap (λ (v : Vec ℕ Global). length v.items) ready in omega arith);
 }
 
--- all are counted
-pub counted_all : (p : Parts) (moved : Moved) (waiting : List Waiting) (i : ℕ) (w0 w : Work) → i ≡ length waiting → CountedEntries p moved waiting i w0 w → Recounts p waiting moved w0 w
-counted_all p moved waiting i w0 w all counted = record {
-  counts = counters_after moved waiting i w0.counters w.counters all counted.counters;
-  crossed = counted.crossed;
-  notes = counted.notes;
-  left = let le = counted.left in omega arith;
-}
-
 module _ (p : Parts) (moved : Moved) (waiting : List Waiting) (i : ℕ) (w0 w : Work) (lt : i < length waiting) (counted : CountedEntries p moved waiting i w0 w) where
   -- an entry whose rule keeps its count
-  pub entry_passed : get_or w.counters (get_or waiting i no_entry).rule 0 + waits_for moved.value (get_or waiting i no_entry)
-      ≡ get_or w.counters (get_or waiting i no_entry).rule 0 + waits_for moved.former (get_or waiting i no_entry)
-      → CountedEntries p moved waiting (i + 1) w0 w
-  entry_passed moves = record {
+  pub entry_passed : waits_for moved.value (get_or waiting i no_entry) ≡ waits_for moved.former (get_or waiting i no_entry) → CountedEntries p moved waiting (i + 1) w0 w
+  entry_passed same = record {
     same = counted.same;
-    counters = counters_passed moved waiting i w0.counters w.counters lt counted.counters moves;
+    counters = counters_passed moved waiting i w0.counters w.counters lt counted.counters same;
     crossed = counted.crossed;
     notes = counted.notes;
     left = let le = counted.left in omega arith;

@@ -1,5 +1,5 @@
 -- The rules of one layer, among all rules.
-use Rattle.sas_axioms.proofs.Imports.{◌≡◌, ℕ, ◌+◌, ◌-◌, ◌<◌, ◌≤◌, List, length, get_or, take, drop, sym, ◌∙◌, ap, subst, inl, inr, arith, All, Contains, slice_index_or, cases_lt, get_or-take, get_or-drop, length-take, length-drop, Parts, LayerRule, IsRuleOn, AreLayerRules, IsLayerEnd, AreRulesOn}
+use Rattle.sas_axioms.proofs.Imports.{◌≡◌, ℕ, ◌+◌, ◌-◌, ◌<◌, ◌≤◌, List, length, get_or, take, drop, sym, ◌∙◌, ap, subst, inl, inr, arith, All, Contains, slice_index_or, cases_lt, get_or-take, get_or-drop, length-take, length-drop, Parts, LayerRule, IsRuleOn, AreFirstRules, IsLayerSpan, AreRulesOn}
 
 -- what is said of each item from one place up to another is said of the part of the list there
 pub all_part : {X : Type 0} (P : X → Type 0) (xs : List X) (from to : ℕ) → ((place : ℕ) (d : X) → from ≤ place → place < to → place < length xs → P (get_or xs place d))
@@ -23,14 +23,13 @@ contains_part xs from to place x low high within is =
     (place - from, omega arith, same)
 
 -- where a layer's rules begin and end among all, they are those between
-pub layer_group : (p : Parts) (rules : List LayerRule) (start end layer : ℕ) → AreLayerRules p rules
+pub layer_group : (p : Parts) (rules : List LayerRule) (start end layer : ℕ) → AreFirstRules p rules
     → ((place : ℕ) (d : LayerRule) → place < start → (slice_index_or rules place d).layer < layer)
-    → ((d : LayerRule) → start < length rules → layer ≤ (slice_index_or rules start d).layer)
-    → IsLayerEnd rules start layer end → AreRulesOn p layer (take (end - start) (drop start rules))
-layer_group p rules start end layer are below here ends = record {
+    → IsLayerSpan rules start layer end → AreRulesOn p layer (take (end - start) (drop start rules))
+layer_group p rules start end layer are below span = record {
   only = all_part (λ (r : LayerRule). IsRuleOn p layer r.rule) rules start end
-      (λ place d low high within. subst (λ m. IsRuleOn p m (get_or rules place d).rule) (ends.on place d low high) (are.first.only place d within));
-  each = λ rule is. elim (are.first.each layer rule is) [ inl found ↦ inl (there rule found) | inr late ↦ inr late ];
+      (λ place d low high within. subst (λ m. IsRuleOn p m (get_or rules place d).rule) (span.on place d low high) (are.only place d within));
+  each = λ rule is. elim (are.each layer rule is) [ inl found ↦ inl (there rule found) | inr late ↦ inr late ];
 }
   where
     there : (rule : ℕ) → Contains rules (record { layer = layer; rule = rule }) → Contains (take (end - start) (drop start rules)) (record { layer = layer; rule = rule })
@@ -52,10 +51,11 @@ layer_group p rules start end layer are below here ends = record {
         high = elim (cases_lt found.0 end) [
           | inl less ↦ less
           | inr le ↦ (let e = its in
+              let some = span.some in
               let within = found.1 in
               let inside : end < length rules = omega arith in
-              let first : layer ≤ (get_or rules start d).layer = here d (let s = ends.from_start in omega arith) in
-              let from_start : (get_or rules start d).layer ≤ (get_or rules end d).layer = are.ascending start end d ends.from_start inside in
+              let first : (get_or rules start d).layer ≡ layer = span.on start d (omega arith) some in
+              let from_start : (get_or rules start d).layer ≤ (get_or rules end d).layer = are.ascending start end d (omega arith) inside in
               let to_place : (get_or rules end d).layer ≤ (get_or rules found.0 d).layer = are.ascending end found.0 d le within in
-              absurd (ends.last d inside (omega arith)))
+              absurd (span.last d inside (omega arith)))
         ]

@@ -10,7 +10,7 @@ pub use Rattle.std.proofs.lemmas.List.Sorted.{Contains-permutation, IsPermutatio
 pub use Rattle.std.proofs.lemmas.Result.{on_ok_weaker, IfOk-weaker}
 pub use Rattle.std.specs.BinaryHeap.{heap_items, IsUpperBound}
 pub use Rattle.std.specs.List.{All, Contains, AllPairs}
-pub use Rattle.std.specs.List.Sorted.{IsPermutation}
+pub use Rattle.std.specs.List.Sorted.{IsPermutation, IsNonDecreasingBy}
 pub use Rattle.std.specs.Option.{option_eq}
 pub use Rattle.std.specs.Ordering.{is_lt}
 pub use Rattle.std.specs.Result.{is_ok}
@@ -46,11 +46,11 @@ pub use Rattle.sas_meaning.specs.Touched.{AddsTouched, StillCovers}
 pub use Rattle.sas_meaning.specs.declared.touched.Touched.{Touched}
 pub use Rattle.sas_axioms.specs.Agenda.{layer_cmp, entry_for, IsOnAgenda, AddsToAgenda, work_left, IsOrdered, IsAwaited, AreBehind, RemovesFromAgenda, IsMadeReady, AreMadeReady, IsEmpty, NoLowerLayer, Lowest}
 pub use Rattle.sas_axioms.specs.ByLayers.{IsIdle, SettlesNext, SettlesLayer}
-pub use Rattle.sas_axioms.specs.Conditions.{asking, waiting_entry, waits, waiting_at, released, occurrences, open_conditions, IsOfRule, IsCondition, entries, AreAllConditions, IsFullIndex, AreCounted, IsCounted, waits_for, CanRecount}
-pub use Rattle.sas_axioms.specs.Following.{NotesMore, IsFollowed, SameWork, CountsTo, Recounts, SameFrom, ChangesAreNoted, CountsChange, IsOnTrack, IsFalling, IsRising, CountedSoFar, IsBetween, AsksAbout, HasRisen, KeepsRoom}
-pub use Rattle.sas_axioms.specs.LayerRules.{IsRuleOn, AreLayerRules, IsLayerEnd, AreRulesOn, IsLate, AreFirstRules, AreRulesOf, IsLayerSpan, AreSpans}
+pub use Rattle.sas_axioms.specs.Conditions.{asking, waiting_entry, waiting_at, released, occurrences, open_conditions, IsOfRule, entries, IsFullIndex, AreCounted, IsCounted, waits_for, CanCount}
+pub use Rattle.sas_axioms.specs.Following.{NotesMore, IsFollowed, SameWork, CountsTo, SameFrom, ChangesAreNoted, CountsChange, IsOnTrack, IsFalling, IsRising, CountedSoFar, IsBetween, AsksAbout, HasRisen, KeepsRoom}
+pub use Rattle.sas_axioms.specs.LayerRules.{IsRuleOn, AreRulesOn, IsLate, AreFirstRules, AreRulesOf, IsLayerSpan, AreSpans}
 pub use Rattle.sas_axioms.specs.Sources.{AreGiven, SameSourcesOff, IsHolding, HaveSources, SourcesHold, IsSourceOf}
-pub use Rattle.sas_axioms.specs.Worklist.{AreCountedBy, value_seen, IsRunning, HaveFired, HasRoom, IsAtWork, IsPopped, WorkGoesOn, FiresRule, LayerBeginsAt, left_to_do}
+pub use Rattle.sas_axioms.specs.Worklist.{AreCountedBy, value_seen, IsRunning, HaveFired, HasRoom, IsAtWork, WorkGoesOn, FiresRule, LayerBeginsAt, left_to_do}
 pub use Rattle.sas_axioms.specs.declared.agenda.Agenda.{Agenda}
 pub use Rattle.sas_axioms.specs.declared.conditions.Moved.{Moved}
 pub use Rattle.sas_axioms.specs.declared.conditions.Waiting.{Waiting}

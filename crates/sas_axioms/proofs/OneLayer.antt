@@ -1,13 +1,10 @@
 -- Collecting the rules that can fire, without late ones.
-use Rattle.sas_axioms.proofs.Imports.{◌≡◌, ◌⊎◌, ℕ, ◌+◌, ◌<◌, List, [], ◌∷◌, ◌++◌, length, sym, subst, inl, inr, arith, All, Contains, cases_eq, All-nil, All-push, Contains-append_left, Contains-push, Parts, LayerRule, IsRuleOn, IsLate, AreFirstRules}
+use Rattle.sas_axioms.proofs.Imports.{◌≡◌, ◌⊎◌, ℕ, ◌+◌, ◌<◌, List, [], ◌∷◌, ◌++◌, length, sym, subst, inl, inr, arith, All, Contains, cases_eq, All-push, Contains-append_left, Contains-push, All-permutation, Contains-permutation, IsPermutation, IsNonDecreasingBy, Parts, LayerRule, IsRuleOn, IsLate, AreFirstRules}
 
 -- those of the first `k` rules that can fire, without late ones
 pub record FirstUpTo (p : Parts) (k : ℕ) (rules : List LayerRule) : Type 0 where
   pub only : All (λ (r : LayerRule). IsRuleOn p r.layer r.rule) rules
   pub each : (layer rule : ℕ) → rule < k → IsRuleOn p layer rule → Contains rules (record { layer = layer; rule = rule }) ⊎ IsLate p layer rule
-
-pub first_none : (p : Parts) → FirstUpTo p 0 []
-first_none p = record { only = All-nil (λ (r : LayerRule). IsRuleOn p r.layer r.rule); each = λ layer rule lt is. absurd (omega arith) }
 
 -- a rule is on one layer only
 pub one_layer : (p : Parts) (m layer rule : ℕ) → IsRuleOn p m rule → IsRuleOn p layer rule → m ≡ layer
@@ -39,5 +36,13 @@ first_skip p k rules late up = record {
   ];
 }
 
-pub first_all : (p : Parts) (k : ℕ) (rules : List LayerRule) → k ≡ length p.rules → FirstUpTo p k rules → AreFirstRules p rules
-first_all p k rules e up = record { only = up.only; each = λ layer rule is. up.each layer rule (let lt = is.exists in omega arith) is }
+-- all of them, in ascending order of their layers
+pub first_all : (p : Parts) (rules sorted : List LayerRule) → FirstUpTo p (length p.rules) rules → IsPermutation rules sorted → IsNonDecreasingBy (λ (r : LayerRule). r.layer) sorted → AreFirstRules p sorted
+first_all p rules sorted up moved ascending = record {
+  only = All-permutation (λ (r : LayerRule). IsRuleOn p r.layer r.rule) rules sorted moved up.only;
+  each = λ layer rule is. elim (up.each layer rule is.exists is) [
+    | inl there ↦ inl (Contains-permutation rules sorted (record { layer = layer; rule = rule }) moved there)
+    | inr late ↦ inr late
+  ];
+  ascending = ascending;
+}

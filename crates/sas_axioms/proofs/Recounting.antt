@@ -1,6 +1,7 @@
 -- When the value of a variable changes: which counters change, and which rules are noted.
-use Rattle.sas_axioms.proofs.Imports.{◌≡◌, ℕ, zero, suc, ◌+◌, ◌<◌, ◌≤◌, List, [], ◌∷◌, length, get_or, set, refl, sym, subst, inl, inr, arith, Contains, heap_items, eq-eqb, eqb_tells, Fact, Parts, rule_at, Work, Moved, Waiting, IsFullIndex, AreCounted, asking, occurrences, released, waiting_at, AsksAbout, SameWork, Recounts, CountsChange, IsRuleOn}
+use Rattle.sas_axioms.proofs.Imports.{◌≡◌, ℕ, zero, suc, ◌+◌, ◌<◌, ◌≤◌, List, [], ◌∷◌, length, get_or, set, refl, sym, subst, inl, inr, arith, Contains, heap_items, eq-eqb, eqb_tells, Fact, Parts, rule_at, Work, Moved, Waiting, IsFullIndex, AreCounted, asking, occurrences, released, waiting_at, AsksAbout, CountsChange, IsRuleOn}
 use Rattle.sas_axioms.proofs.AllConditions.{recounted}
+use Rattle.sas_axioms.proofs.CountingEntries.{CountedEntries, counters_after}
 use Rattle.sas_axioms.proofs.Tracking.{holding_when_zero, zero_when_holding}
 
 -- a rule that waits for a value is among those that are released by it
@@ -31,11 +32,11 @@ waiting_asks p index var w layer is_index there is =
     asked_there var w.value (rule_at p w.rule).conditions (omega arith)
 
 pub moved_when_recounted : (p : Parts) (index : List (List Waiting)) (var : ℕ) (moved : Moved) → IsFullIndex p index → var < length p.variables
-    → (s : List ℕ) (w w' : Work) → AreCounted p s w.counters → get_or s var 0 ≡ moved.former → SameWork w w'
-    → Recounts p (waiting_at index var) moved w w' → CountsChange p var s w (set s var moved.value) w'
-moved_when_recounted p index var moved is_index exists s w w' counts is same recounts = record {
+    → (s : List ℕ) (w w' : Work) (i : ℕ) → AreCounted p s w.counters → get_or s var 0 ≡ moved.former → i ≡ length (waiting_at index var)
+    → CountedEntries p moved (waiting_at index var) i w w' → CountsChange p var s w (set s var moved.value) w'
+moved_when_recounted p index var moved is_index exists s w w' i counts is all counted = record {
   counts = after;
-  crossed = λ layer rule le on. elim (recounts.crossed layer rule on) [
+  crossed = λ layer rule le on. elim (counted.crossed layer rule on) [
     | inl noted ↦ inl noted
     | inr alike ↦ inr (
       (λ hold. holding_when_zero p layer rule (set s var moved.value) w'.counters after on (alike.0 (zero_when_holding p layer rule s w.counters counts on hold))),
@@ -43,16 +44,17 @@ moved_when_recounted p index var moved is_index exists s w w' counts is same rec
     )
   ];
   notes = record {
-    keeps = recounts.notes.keeps;
-    only = λ k d lt. elim (recounts.notes.only k d lt) [
+    keeps = counted.notes.keeps;
+    only = λ k d lt. elim (counted.notes.only k d lt) [
       | inl there ↦ inl there
       | inr new ↦ inr (new.0, subst (λ r. AsksAbout p var r) new.1.2 (waiting_asks p index var new.1.0 (get_or (heap_items w'.agenda.noted) k d).0.layer is_index new.1.1 (rw (sym new.1.2) at new.0)))
     ];
-    ordered = recounts.notes.ordered;
-    ready = recounts.notes.ready;
+    ordered = counted.notes.ordered;
+    ready = counted.notes.ready;
   };
-  left = recounts.left;
+  left = let le = counted.left in omega arith;
 }
   where
     after : AreCounted p (set s var moved.value) w'.counters
-    after = recounted p index var is_index exists s w.counters counts moved.value w'.counters same.one_each (rw (sym is) at recounts.counts)
+    after = recounted p index var is_index exists s w.counters counts moved.value w'.counters counted.same.one_each
+        (rw (sym is) at (counters_after moved (waiting_at index var) i w.counters w'.counters all counted.counters))

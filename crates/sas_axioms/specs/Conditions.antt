@@ -22,32 +22,14 @@ abbrev pub waiting_entry : Fact → ℕ → Entry Waiting
 waiting_entry condition rule =
     record { key = condition.var; item = record { value = condition.value; rule = rule } }
 
--- how many entries the rule has for this fact
-abbrev pub waits : ℕ → ℕ → ℕ → List (Entry Waiting) → ℕ
-waits rule var value [] = 0
-waits rule var value (e ∷ es) =
-    (if (e.item.rule == rule) && ((e.key == var) && (e.item.value == value)) then 1 else 0)
-    + waits rule var value es
-
 -- the entry belongs to a rule that can fire
 abbrev pub IsOfRule : Parts → Waiting → Type 0
 IsOfRule p w = (layer : ℕ) × IsRuleOn p layer w.rule
-
--- the entry belongs to a rule that can fire, and its variable exists
-pub record IsCondition (p : Parts) (e : Entry Waiting) : Type 0 where
-  pub of_rule : IsOfRule p e.item
-  pub exists : e.key < length p.variables
 
 -- the conditions of a rule as entries
 abbrev pub entries : ℕ → List Fact → List (Entry Waiting)
 entries rule [] = []
 entries rule (c ∷ cs) = waiting_entry c rule ∷ entries rule cs
-
--- for each rule that can fire, each fact has as many entries as it occurs in the rule's conditions
-pub record AreAllConditions (p : Parts) (es : List (Entry Waiting)) : Type 0 where
-  pub only : All (IsCondition p) es
-  pub each : (layer var value rule : ℕ) → IsRuleOn p layer rule
-      → waits rule var value es ≡ asking var value (rule_at p rule).conditions
 
 -- the rules of the entries with this value, in order
 abbrev pub released : ℕ → List Waiting → List ℕ
@@ -96,11 +78,9 @@ pub record IsCounted (p : Parts) (c : Counted) : Type 0 where
   pub index : IsFullIndex p c.index
   pub counts : AreCounted p c.values c.counters
 
--- a variable moved, and the counters of the rules with these conditions on it can be updated
-pub record CanRecount (moved : Moved) (waiting : List Waiting) (counters : List ℕ) : Type 0 where
+-- a variable moved, and the counter of the rule with this condition on it can be updated
+pub record CanCount (moved : Moved) (w : Waiting) (counters : List ℕ) : Type 0 where
   pub differ : moved.former ≢ moved.value
-  pub exist : All (λ (w : Waiting). w.rule < length counters) waiting
-  pub small : All (λ (w : Waiting). slice_index counters w.rule
-      + occurrences w.rule (released moved.former waiting) < 2 ^ 32) waiting
-  pub enough : All (λ (w : Waiting). occurrences w.rule (released moved.value waiting)
-      ≤ slice_index counters w.rule) waiting
+  pub exists : w.rule < length counters
+  pub small : slice_index counters w.rule + waits_for moved.former w < 2 ^ 32
+  pub enough : waits_for moved.value w ≤ slice_index counters w.rule

@@ -10,11 +10,9 @@ use Rattle.sas_meaning.specs.Layers.{IsOnLayer}
 use Rattle.sas_meaning.specs.Settled.{differs, IsSettledAt, IsSettled}
 use Rattle.sas_axioms.specs.declared.agenda.Agenda.{Agenda}
 use Rattle.sas_axioms.specs.declared.firing.Work.{Work}
-use Rattle.sas_axioms.specs.declared.conditions.Moved.{Moved}
-use Rattle.sas_axioms.specs.declared.conditions.Waiting.{Waiting}
 use Rattle.sas_axioms.specs.declared.layer_rules.LayerRule.{LayerRule}
 use Rattle.sas_axioms.specs.Agenda.{IsOnAgenda, IsAwaited, IsOrdered, NoLowerLayer, AreBehind, work_left}
-use Rattle.sas_axioms.specs.Conditions.{AreCounted, occurrences, released}
+use Rattle.sas_axioms.specs.Conditions.{AreCounted}
 use Rattle.sas_axioms.specs.LayerRules.{IsRuleOn}
 use Rattle.sas_axioms.specs.Sources.{IsHolding, HaveSources, SourcesHold, AreGiven}
 
@@ -63,19 +61,6 @@ pub record CountsTo (p : Parts) (rule n : ℕ) (w w' : Work) : Type 0 where
       → IsOnAgenda w'.agenda layer rule ⊎ ((slice_index w.counters rule ≡ 0) ↔ (n ≡ 0))
   pub notes : NotesMore p (λ r. r ≡ rule) w.agenda w'.agenda
   pub left : work_left w'.agenda ≤ work_left w.agenda + 2
-
--- a variable moved, and the counters of the rules with these conditions on it are updated
-pub record Recounts (p : Parts) (waiting : List Waiting) (moved : Moved) (w w' : Work)
-    : Type 0 where
-  pub counts : (rule : ℕ) → rule < length w.counters
-      → slice_index w'.counters rule + occurrences rule (released moved.value waiting)
-      ≡ slice_index w.counters rule + occurrences rule (released moved.former waiting)
-  pub crossed : (layer rule : ℕ) → IsRuleOn p layer rule
-      → IsOnAgenda w'.agenda layer rule
-      ⊎ ((slice_index w.counters rule ≡ 0) ↔ (slice_index w'.counters rule ≡ 0))
-  pub notes : NotesMore p
-      (λ rule. (w : Waiting) × Contains waiting w × (w.rule ≡ rule)) w.agenda w'.agenda
-  pub left : work_left w'.agenda ≤ work_left w.agenda
 
 -- a variable changed: the counters are those of the new state, and rules that hold in exactly one
 -- of the states are noted

@@ -26,32 +26,22 @@ pub record IsLate (p : Parts) (layer rule : ℕ) : Type 0 where
   pub stays : StaysOn p layer rule
   pub waits : (c : Fact) × Contains (rule_at p rule).conditions c × IsOnLayer p layer c.var
 
--- rules that can fire, each with its layer, among them all that aren't late
+-- rules that can fire, each with its layer, among them all that aren't late, in ascending order of
+-- their layers
 pub record AreFirstRules (p : Parts) (rules : List LayerRule) : Type 0 where
   pub only : All (λ (r : LayerRule). IsRuleOn p r.layer r.rule) rules
   pub each : (layer rule : ℕ) → IsRuleOn p layer rule
       → Contains rules (record { layer = layer; rule = rule }) ⊎ IsLate p layer rule
-
--- rules that can fire, among them all that aren't late, in ascending order of their layers
-pub record AreLayerRules (p : Parts) (rules : List LayerRule) : Type 0 where
-  pub first : AreFirstRules p rules
   pub ascending : IsNonDecreasingBy (λ (r : LayerRule). r.layer) rules
-
--- the rules from index `start` up to but not including `end` are on the layer, and the rule at
--- `end` isn't
-pub record IsLayerEnd (rules : List LayerRule) (start layer end : ℕ) : Type 0 where
-  pub from_start : start ≤ end
-  pub within : end ≤ length rules
-  pub on : (place : ℕ) (d : LayerRule) → start ≤ place → place < end
-      → (slice_index_or rules place d).layer ≡ layer
-  pub last : (d : LayerRule) → end < length rules → (slice_index_or rules end d).layer ≡ layer → ⊥
 
 -- the rules from index `start` up to but not including `end` are those of the layer; there is at
 -- least one
 pub record IsLayerSpan (rules : List LayerRule) (start layer end : ℕ) : Type 0 where
-  pub some : start < length rules
-  pub first : (d : LayerRule) → (slice_index_or rules start d).layer ≡ layer
-  pub ends : IsLayerEnd rules start layer end
+  pub some : start < end
+  pub within : end ≤ length rules
+  pub on : (place : ℕ) (d : LayerRule) → start ≤ place → place < end
+      → (slice_index_or rules place d).layer ≡ layer
+  pub last : (d : LayerRule) → end < length rules → (slice_index_or rules end d).layer ≡ layer → ⊥
 
 -- the spans of the layers between two indexes, in order
 abbrev pub AreSpans : List LayerRule → ℕ → List LayerSpan → ℕ → Type 0

@@ -1,5 +1,5 @@
 -- How far a worklist has come on a layer, and what it needs.
-use Rattle.std.specs.Prelude.{◌≡◌, ℕ, ◌+◌, ◌*◌, ◌<◌, ◌≤◌, ◌==◌, if◌then◌else◌, IsTrue, IsFalse, List, [], length, slice_index, slice_index_or, vec_capacity, drop}
+use Rattle.std.specs.Prelude.{◌≡◌, ℕ, ◌+◌, ◌*◌, ◌<◌, ◌≤◌, ◌==◌, if◌then◌else◌, IsTrue, List, [], length, slice_index, slice_index_or, vec_capacity, drop}
 use Rattle.sas_core.specs.declared.parts.Parts.{Parts}
 use Rattle.sas_core.specs.Grounded.{rule_at}
 use Rattle.sas_core.specs.Variables.{IsState}
@@ -7,15 +7,13 @@ use Rattle.sas_meaning.specs.Layers.{IsOnLayer, default_of}
 use Rattle.sas_meaning.specs.DerivedVariables.{AreDerived}
 use Rattle.sas_meaning.specs.Settled.{differs}
 use Rattle.sas_meaning.specs.Forced.{OnlyForced, equal_places, SameOff}
-use Rattle.sas_axioms.specs.declared.conditions.Moved.{Moved}
-use Rattle.sas_axioms.specs.declared.conditions.Waiting.{Waiting}
 use Rattle.sas_axioms.specs.declared.firing.Firing.{Firing}
 use Rattle.sas_axioms.specs.declared.firing.Work.{Work}
 use Rattle.sas_axioms.specs.declared.layer_rules.LayerRule.{LayerRule}
 use Rattle.sas_axioms.specs.declared.worklist.Worklist.{Worklist}
-use Rattle.sas_axioms.specs.LayerRules.{IsRuleOn, AreLayerRules, AreSpans, AreRulesOf}
+use Rattle.sas_axioms.specs.LayerRules.{IsRuleOn, AreFirstRules, AreSpans, AreRulesOf}
 use Rattle.sas_axioms.specs.Sources.{AreGiven, SameSourcesOff}
-use Rattle.sas_axioms.specs.Conditions.{AreCounted, IsCounted, open_conditions, released, occurrences}
+use Rattle.sas_axioms.specs.Conditions.{AreCounted, IsCounted, open_conditions, occurrences}
 
 -- the value that the counters use: the default for a variable on the stack, else its value
 abbrev pub value_seen : Parts → List ℕ → List ℕ → ℕ → ℕ
@@ -53,26 +51,12 @@ pub record HasRoom (p : Parts) (w : Work) : Type 0 where
   pub variables : length p.variables ≤ vec_capacity w.stack
   pub sources : length w.sources ≡ length p.variables
 
--- the rules of the current layer are being fired
-pub record IsAtWork (p : Parts) (s : List ℕ) (w : Work) : Type 0 where
+-- the rules of the current layer are being fired; the conditions on the variables on the stack are
+-- still to be counted
+pub record IsAtWork (p : Parts) (s stack : List ℕ) (w : Work) : Type 0 where
   pub room : HasRoom p w
-  pub running : IsRunning p w.layer s w.stack.items
-  pub counts : AreCountedBy p (value_seen p s w.stack.items) w.counters
-  pub fired : HaveFired p w.layer s w.counters
-  pub given : AreGiven p w.layer s w.sources
-
--- a variable that moved from its default was popped from the stack; these conditions on it are still
--- to be counted; no rule on its layer waits for the default
-pub record IsPopped (p : Parts) (moved : Moved) (waiting : List Waiting) (s : List ℕ) (w : Work)
-    : Type 0 where
-  pub room : HasRoom p w
-  pub running : IsRunning p w.layer s w.stack.items
-  pub counts : (layer rule : ℕ) → IsRuleOn p layer rule
-      → slice_index w.counters rule + occurrences rule (released moved.former waiting)
-      ≡ open_conditions (value_seen p s w.stack.items) (rule_at p rule).conditions
-      + occurrences rule (released moved.value waiting)
-  pub own : (rule : ℕ) → IsRuleOn p w.layer rule
-      → occurrences rule (released moved.former waiting) ≡ 0
+  pub running : IsRunning p w.layer s stack
+  pub counts : AreCountedBy p (value_seen p s stack) w.counters
   pub fired : HaveFired p w.layer s w.counters
   pub given : AreGiven p w.layer s w.sources
 
@@ -105,9 +89,8 @@ pub record IsFiringReady (p : Parts) (f : Firing) : Type 0 where
 
 -- what a worklist holds fits the task
 pub record IsReadyFor (p : Parts) (w : Worklist) : Type 0 where
-  pub fires : IsFalse w.fires → (layer rule : ℕ) → IsRuleOn p layer rule → ⊥
   pub variables : AreDerived p w.derived.items
-  pub rules : AreLayerRules p w.rules.items
+  pub rules : AreFirstRules p w.rules.items
   pub spans : AreSpans w.rules.items 0 w.spans.items (length w.rules.items)
   pub firing : IsFiringReady p w.firing
 

@@ -112,10 +112,7 @@ impl Agenda {
         ensures some { IfSome result (λ layer. Lowest self.now layer) }
         ensures none { IfNone result (heap_items self.now.noted ≡ []) }
     {
-        match self.noted.peek() {
-            Some(first) => Some(first.0.layer),
-            None => None,
-        }
+        Some(self.noted.peek()?.0.layer)
     }
 
     /// Removes a noted rule of this layer and returns it, or `None` if there is none. Lower layers must have no noted rules.
@@ -130,10 +127,8 @@ impl Agenda {
         if self.lowest() != Some(layer) {
             return None;
         }
-        match self.noted.pop() {
-            Some(first) => Some(first.0.rule),
-            None => None,
-        }
+        let first = self.noted.pop()?;
+        Some(first.0.rule)
     }
 
     /// Removes a ready or noted rule of this layer and returns it, or `None` if there is none. Lower layers must have no noted rules.

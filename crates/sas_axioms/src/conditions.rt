@@ -1,10 +1,10 @@
 // An index from each variable to the conditions of rules on it.
-ghost use Rattle.std.specs.Prelude.{◌≡◌, ◌≢◌, ◌+◌, ◌<◌, ◌≤◌, ◌^◌, ◌++◌, IfOk, OnOk, length};
+ghost use Rattle.std.specs.Prelude.{◌≡◌, ◌+◌, ◌<◌, ◌++◌, IfOk, OnOk, IfSome, IfNone, length, slice_index};
 ghost use Rattle.sas_core.specs.Grounded.{rule_at};
-ghost use Rattle.sas_axioms.specs.Conditions.{IsFullIndex, AreAllConditions, waiting_entry, entries, waits_for};
+ghost use Rattle.sas_axioms.specs.Conditions.{IsFullIndex, CanCount, entries, waits_for};
 
 use crate::layer_rules::firing_layer;
-use sas_core::{Fact, Grounded};
+use sas_core::{Grounded, Items};
 use sas_flat::{Entry, Lists};
 use sas_meaning::Layered;
 use std::alloc::{AllocError, Global};
@@ -23,21 +23,23 @@ pub struct Moved {
     pub value: u32,
 }
 
-/// Evaluates one condition of a rule again after its variable moved. Before, `count` conditions of the rule were open. Returns how many
-/// are open now.
+/// Evaluates one condition of a rule again after its variable moved. Returns how many conditions of the rule are open now, or `None` if the
+/// number doesn't change. `counters` has the former number for each rule.
 #[inline(always)]
-pub fn count_after(condition: Waiting, moved: Moved, count: u32) -> u32
-    requires differ { moved.former ≢ moved.value }
-    requires small { count + waits_for moved.former condition < 2 ^ 32 }
-    requires enough { waits_for moved.value condition ≤ count }
-    ensures { result + waits_for moved.value condition ≡ count + waits_for moved.former condition }
+pub fn count_after(condition: Waiting, moved: Moved, counters: &Items<u32>) -> Option<u32>
+    requires { CanCount moved condition counters.now }
+    ensures some { IfSome result (λ count. count + waits_for moved.value condition
+        ≡ slice_index counters.now condition.rule + waits_for moved.former condition) }
+    ensures none { IfNone result
+        (waits_for moved.value condition ≡ waits_for moved.former condition) }
 {
+    let rule = condition.rule as usize;
     if condition.value == moved.value {
-        count - 1
+        Some(counters.as_slice()[rule] - 1)
     } else if condition.value == moved.former {
-        count + 1
+        Some(counters.as_slice()[rule] + 1)
     } else {
-        count
+        None
     }
 }
 
@@ -48,17 +50,6 @@ pub fn index_of_all<T: Grounded>(
 ) -> Result<Lists<Waiting>, AllocError>
     ensures { IfOk result (λ index. IsFullIndex task.now index) }
 {
-    let waiting = all_conditions(alloc, task)?;
-    Lists::by_key(alloc, waiting.as_slice(), task.variables() as usize)
-}
-
-/// Returns the conditions of the rules that can fire, rule by rule.
-fn all_conditions<T: Grounded>(
-    alloc: Global,
-    task: &Layered<T>,
-) -> Result<Vec<Entry<Waiting>>, AllocError>
-    ensures { IfOk result (λ waiting. AreAllConditions task.now waiting.items) }
-{
     // The contract of `task` ensures that the task is well ranged and layered.
     let _ = task.task();
     let mut waiting = Vec::new(alloc);
@@ -67,10 +58,10 @@ fn all_conditions<T: Grounded>(
             push_conditions(task, rule, &mut waiting)?;
         }
     }
-    Ok(waiting)
+    Lists::by_key(alloc, waiting.as_slice(), task.variables() as usize)
 }
 
-/// Appends the conditions of the rule.
+/// Appends an entry for each condition of the rule. Its key is the variable of the condition.
 fn push_conditions<T: Grounded>(
     task: &Layered<T>,
     rule: u32,
@@ -81,20 +72,13 @@ fn push_conditions<T: Grounded>(
         ≡ waiting.old.items ++ entries rule (rule_at task.now rule).conditions) }
 {
     for condition in task.rule_conditions(rule) {
-        waiting.push(entry_of(*condition, rule))?;
+        waiting.push(Entry {
+            key: condition.var as usize,
+            item: Waiting {
+                value: condition.value,
+                rule,
+            },
+        })?;
     }
     Ok(())
-}
-
-/// Returns the entry for this condition of the rule. Its key is the variable of the condition.
-pub fn entry_of(condition: Fact, rule: u32) -> Entry<Waiting>
-    ensures { result ≡ waiting_entry condition rule }
-{
-    Entry {
-        key: condition.var as usize,
-        item: Waiting {
-            value: condition.value,
-            rule,
-        },
-    }
 }

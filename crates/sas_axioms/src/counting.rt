@@ -1,7 +1,7 @@
 // Counters of open (false) conditions, which are updated when a variable changes.
-ghost use Rattle.std.specs.Prelude.{◌≡◌, ◌+◌, ◌<◌, ◌≤◌, ℕ, IfOk, IsFalse, length, slice_index, slice_set};
+ghost use Rattle.std.specs.Prelude.{◌≡◌, ◌<◌, ◌≤◌, ℕ, IfOk, IsFalse, length, slice_index, slice_set};
 ghost use Rattle.sas_core.specs.declared.parts.Parts.{Parts};
-ghost use Rattle.sas_axioms.specs.Conditions.{AreCounted, IsCounted, CanRecount, occurrences, released};
+ghost use Rattle.sas_axioms.specs.Conditions.{AreCounted, IsCounted};
 
 use crate::conditions::{Moved, Waiting, count_after, index_of_all};
 use crate::firing::open_of;
@@ -91,16 +91,20 @@ impl Counted {
         ensures values { self.new.values ≡ slice_set self.old.values fact.var fact.value }
         ensures counts { (p : Parts) → IsCounted p self.old → IsCounted p self.new }
     {
-        let former = self.values.value(fact.var);
-        if former != fact.value {
-            let waiting = self.index.get(fact.var as usize);
-            let moved = Moved {
-                former,
-                value: fact.value,
-            };
-            count_change(waiting, moved, &mut self.counters);
-        }
+        let moved = Moved {
+            former: self.values.value(fact.var),
+            value: fact.value,
+        };
         self.values.set(fact);
+        if moved.former == moved.value {
+            return;
+        }
+        let counters = &mut self.counters;
+        for condition in self.index.get(fact.var as usize) {
+            if let Some(count) = count_after(*condition, moved, counters) {
+                counters.set(condition.rule as usize, count);
+            }
+        }
     }
 }
 
@@ -152,20 +156,4 @@ fn open_counters<T: Grounded>(
         counters.push(open_of(values, task.rule_conditions(rule)))?;
     }
     Ok(counters)
-}
-
-/// Updates the counters after a variable changed: each condition on the former value becomes open, and each condition on the new value is
-/// no longer open.
-fn count_change(waiting: &[Waiting], moved: Moved, counters: &mut Items<u32>)
-    requires { CanRecount moved waiting.now counters.old }
-    ensures one_each { length counters.new ≡ length counters.old }
-    ensures counts { (rule : ℕ) → rule < length counters.old
-        → slice_index counters.new rule + occurrences rule (released moved.value waiting.now)
-        ≡ slice_index counters.old rule + occurrences rule (released moved.former waiting.now) }
-{
-    for condition in waiting {
-        let rule = condition.rule as usize;
-        let count = count_after(*condition, moved, counters.as_slice()[rule]);
-        counters.set(rule, count);
-    }
 }

@@ -1,5 +1,5 @@
 // Settles one layer by counters: each rule counts its open conditions, and fires when none is left.
-ghost use Rattle.std.specs.Prelude.{◌≡◌, ℕ, ◌<◌, ◌^◌, [], List, length, All, IfOk, OnOk, slice_index};
+ghost use Rattle.std.specs.Prelude.{◌≡◌, ℕ, ◌<◌, ◌^◌, [], ◌∷◌, ◌++◌, List, length, All, IfOk, OnOk, slice_index};
 ghost use Rattle.sas_core.specs.Grounded.{rule_at};
 ghost use Rattle.sas_core.specs.Variables.{IsState};
 ghost use Rattle.sas_meaning.specs.States.{AllHold};
@@ -9,11 +9,11 @@ ghost use Rattle.sas_meaning.specs.Settled.{SameBasic};
 ghost use Rattle.sas_meaning.specs.Touched.{StillCovers};
 ghost use Rattle.sas_axioms.specs.ByLayers.{SettlesLayer};
 ghost use Rattle.sas_axioms.specs.LayerRules.{IsRuleOn, AreRulesOn};
-ghost use Rattle.sas_axioms.specs.Conditions.{AreCounted, IsFullIndex, IsOfRule, CanRecount, open_conditions};
+ghost use Rattle.sas_axioms.specs.Conditions.{AreCounted, IsFullIndex, open_conditions};
 ghost use Rattle.sas_axioms.specs.Agenda.{IsEmpty};
 ghost use Rattle.sas_axioms.specs.Sources.{AreGiven, SameSourcesOff};
 ghost use Rattle.sas_axioms.specs.Following.{IsFollowed};
-ghost use Rattle.sas_axioms.specs.Worklist.{IsRunning, HasRoom, IsAtWork, IsPopped, WorkGoesOn, FiresRule, IsFiringReady};
+ghost use Rattle.sas_axioms.specs.Worklist.{IsRunning, HasRoom, IsAtWork, WorkGoesOn, FiresRule, IsFiringReady};
 
 use crate::agenda::{Agenda, TooMuch};
 use crate::conditions::{Moved, Waiting, count_after};
@@ -223,7 +223,7 @@ fn fire_ready<T: Grounded>(
     requires counts { AreCounted task.now state.old work.old.counters }
     requires given { AreGiven task.now work.old.layer state.old work.old.sources }
     requires default { AtDefault task.now work.old.layer state.old }
-    ensures at_work { IsAtWork task.now state.new work.new }
+    ensures at_work { IsAtWork task.now state.new work.new.stack.items work.new }
     ensures goes_on { WorkGoesOn task.now state.old work.old state.new work.new }
 {
     // The contract of `task` ensures that the task is well ranged and layered.
@@ -266,7 +266,7 @@ fn empty_stack<T: Grounded>(
     state: &mut State,
 )
     requires index { IsFullIndex task.now index.now }
-    requires at_work { IsAtWork task.now state.old work.old }
+    requires at_work { IsAtWork task.now state.old work.old.stack.items work.old }
     ensures settles { SettlesLayer task.now work.old.layer state.old state.new }
     ensures room { HasRoom task.now work.new }
     ensures empty { work.new.stack.items ≡ [] }
@@ -277,37 +277,33 @@ fn empty_stack<T: Grounded>(
     // The contract of `task` ensures that the task is well ranged and layered.
     let _ = task.task();
     while let Some(var) = work.stack.pop() {
-        let moved = Moved {
-            former: task.initial_value(var),
-            value: state.value(var),
-        };
-        release(task, moved, index.get(var as usize), work, state);
+        release(task, index, var, work, state);
     }
 }
 
-/// Updates the counters of the rules with conditions on a variable, which was set to a value other than its default. Fires the rules of
-/// the layer whose counter becomes 0.
+/// Updates the counters of the rules with conditions on the variable, which was the last on the stack. Fires the rules of the layer whose
+/// counter becomes 0.
 fn release<T: Grounded>(
     task: &Layered<T>,
-    moved: Moved,
-    waiting: &[Waiting],
+    index: &Lists<Waiting>,
+    var: u32,
     work: &mut Work,
     state: &mut State,
 )
-    requires can { CanRecount moved waiting.now work.old.counters }
-    requires waiting { All (IsOfRule task.now) waiting.now }
-    requires popped { IsPopped task.now moved waiting.now state.old work.old }
-    ensures at_work { IsAtWork task.now state.new work.new }
+    requires index { IsFullIndex task.now index.now }
+    requires popped { IsAtWork task.now state.old (work.old.stack.items ++ var ∷ []) work.old }
+    ensures at_work { IsAtWork task.now state.new work.new.stack.items work.new }
     ensures goes_on { WorkGoesOn task.now state.old work.old state.new work.new }
 {
     // The contract of `task` ensures that the task is well ranged and layered.
     let _ = task.task();
-    for condition in waiting {
-        let rule = condition.rule as usize;
-        let open = work.counters.as_slice()[rule];
-        let count = count_after(*condition, moved, open);
-        if count != open {
-            work.counters.set(rule, count);
+    let moved = Moved {
+        former: task.initial_value(var),
+        value: state.value(var),
+    };
+    for condition in index.get(var as usize) {
+        if let Some(count) = count_after(*condition, moved, &work.counters) {
+            work.counters.set(condition.rule as usize, count);
             if count == 0 {
                 fire(task, condition.rule, work, state);
             }

@@ -12,10 +12,10 @@ ghost use Rattle.sas_meaning.specs.Forced.{SameOff};
 ghost use Rattle.sas_meaning.specs.Settled.{SameBasic, differs};
 ghost use Rattle.sas_meaning.specs.Touched.{AddsTouched, StillCovers};
 ghost use Rattle.sas_axioms.specs.Agenda.{IsEmpty, IsOnAgenda, IsOrdered, AreMadeReady, work_left};
-ghost use Rattle.sas_axioms.specs.Conditions.{AreCounted, IsFullIndex, CanRecount};
+ghost use Rattle.sas_axioms.specs.Conditions.{AreCounted, IsFullIndex};
 ghost use Rattle.sas_axioms.specs.LayerRules.{IsRuleOn, AreRulesOf};
 ghost use Rattle.sas_axioms.specs.Sources.{SameSourcesOff};
-ghost use Rattle.sas_axioms.specs.Following.{SameWork, KeepsRoom, NotesMore, CountsTo, Recounts, CountsChange};
+ghost use Rattle.sas_axioms.specs.Following.{SameWork, KeepsRoom, NotesMore, CountsTo, CountsChange};
 ghost use Rattle.sas_axioms.specs.Following.{IsBetween, IsFalling, IsRising, HasRisen, IsFollowed};
 
 use crate::agenda::{Agenda, TooMuch};
@@ -259,27 +259,10 @@ fn recount<T: Grounded>(
 {
     // The contract of `task` ensures that the task is well ranged and layered.
     let _ = task.task();
-    recount_waiting(task, index.get(var as usize), moved, work)
-}
-
-/// Updates the counters of these rules, which have conditions on one variable. Notes the rules that begin or cease to hold.
-fn recount_waiting<T: Grounded>(
-    task: &Layered<T>,
-    waiting: &[Waiting],
-    moved: Moved,
-    work: &mut Work,
-) -> Result<(), TooMuch>
-    requires can { CanRecount moved waiting.now work.old.counters }
-    requires counters { length work.old.counters ≡ length task.now.rules }
-    requires ordered { IsOrdered work.old.agenda }
-    ensures same { SameWork work.old work.new }
-    ensures recounts { OnOk result (Recounts task.now waiting.now moved work.old work.new) }
-{
+    let waiting = index.get(var as usize);
     work.agenda.pay(waiting.len())?;
     for condition in waiting {
-        let open = work.counters.as_slice()[condition.rule as usize];
-        let count = count_after(*condition, moved, open);
-        if count != open {
+        if let Some(count) = count_after(*condition, moved, &work.counters) {
             count_to(task, condition.rule, count, work)?;
         }
     }

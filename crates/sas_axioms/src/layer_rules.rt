@@ -1,6 +1,6 @@
 // The rules that can fire, layer by layer.
-ghost use Rattle.std.specs.Prelude.{◌<◌, ◌≤◌, ℕ, length, IfOk, IfSome, IfNone, IsTrue, IsFalse};
-ghost use Rattle.sas_axioms.specs.LayerRules.{IsRuleOn, IsLate, AreFirstRules, AreLayerRules, IsLayerEnd, IsLayerSpan, AreSpans, AreRulesOf};
+ghost use Rattle.std.specs.Prelude.{◌<◌, ℕ, length, IfOk, IfSome, IfNone, IsTrue};
+ghost use Rattle.sas_axioms.specs.LayerRules.{IsRuleOn, IsLate, AreFirstRules, AreSpans, AreRulesOf};
 
 use sas_core::Grounded;
 use sas_flat::{Entry, Lists};
@@ -16,19 +16,10 @@ pub struct LayerRule {
 
 /// Returns the rules that can fire, without those that never fire first on their layer, in ascending order of their layers. `Err` means
 /// out of memory.
-pub fn ranked_rules<T: Grounded>(
+pub fn first_rules<T: Grounded>(
     alloc: Global,
     task: &Layered<T>,
 ) -> Result<Vec<LayerRule>, AllocError>
-    ensures { IfOk result (λ rules. AreLayerRules task.now rules.items) }
-{
-    let mut rules = first_rules(alloc, task)?;
-    rules.sort_by_key(|entry| entry.layer)?;
-    Ok(rules)
-}
-
-/// Returns the rules that can fire, without those that never fire first on their layer, in the order of the task.
-fn first_rules<T: Grounded>(alloc: Global, task: &Layered<T>) -> Result<Vec<LayerRule>, AllocError>
     ensures { IfOk result (λ rules. AreFirstRules task.now rules.items) }
 {
     let mut rules = Vec::new(alloc);
@@ -39,6 +30,7 @@ fn first_rules<T: Grounded>(alloc: Global, task: &Layered<T>) -> Result<Vec<Laye
             }
         }
     }
+    rules.sort_by_key(|entry| entry.layer)?;
     Ok(rules)
 }
 
@@ -60,18 +52,6 @@ fn is_late<T: Grounded>(task: &Layered<T>, layer: u32, rule: u32) -> bool
         }
     }
     waits
-}
-
-/// Returns whether any rule can fire.
-pub fn any_fires<T: Grounded>(task: &Layered<T>) -> bool
-    ensures { IsFalse result → (layer rule : ℕ) → IsRuleOn task.now layer rule → ⊥ }
-{
-    for rule in 0..task.rules() {
-        if firing_layer(task, rule).is_some() {
-            return true;
-        }
-    }
-    false
 }
 
 /// Returns the rules of each variable that can fire, in the order of the task.
@@ -118,41 +98,17 @@ pub struct LayerSpan {
     pub end: usize,
 }
 
-/// Returns the layer whose rules begin at index `start`, or `None` at the end of the list.
-pub fn layer_at(rules: &[LayerRule], start: usize) -> Option<LayerSpan>
-    ensures some { IfSome result (λ span. IsLayerSpan rules.now start span.layer span.end) }
-    ensures none { IfNone result (length rules.now ≤ start) }
-{
-    match rules.get(start) {
-        Some(first) => Some(LayerSpan {
-            layer: first.layer,
-            end: layer_end(rules, start, first.layer),
-        }),
-        None => None,
-    }
-}
-
-/// Returns the index after the last rule of the layer whose rules begin at `start`.
-fn layer_end(rules: &[LayerRule], start: usize, layer: u32) -> usize
-    requires { start ≤ length rules.now }
-    ensures { IsLayerEnd rules.now start layer result }
-{
-    let mut end = start;
-    while end < rules.len() && rules[end].layer == layer {
-        end += 1;
-    }
-    end
-}
-
 /// Returns the layers of the rules, from the lowest to the highest. `Err` means out of memory.
 pub fn spans_of(alloc: Global, rules: &[LayerRule]) -> Result<Vec<LayerSpan>, AllocError>
     ensures { IfOk result (λ spans. AreSpans rules.now 0 spans.items (length rules.now)) }
 {
     let mut spans = Vec::new(alloc);
-    let mut start = 0;
-    while let Some(span) = layer_at(rules, start) {
-        spans.push(span)?;
-        start = span.end;
+    for index in 0..rules.len() {
+        let layer = rules[index].layer;
+        let end = index + 1;
+        if end == rules.len() || rules[end].layer != layer {
+            spans.push(LayerSpan { layer, end })?;
+        }
     }
     Ok(spans)
 }

@@ -8,7 +8,7 @@ ghost use Rattle.sas_axioms.specs.Worklist.{IsReadyFor};
 
 use crate::by_layers::{ByLayers, settle_by_layers};
 use crate::firing::Firing;
-use crate::layer_rules::{LayerRule, LayerSpan, any_fires, ranked_rules, spans_of};
+use crate::layer_rules::{LayerRule, LayerSpan, first_rules, spans_of};
 use sas_core::{Fact, Grounded};
 use sas_meaning::{Layered, Settle, State, Touched, derived_variables};
 use std::alloc::{AllocError, Global};
@@ -19,8 +19,6 @@ use std::alloc::{AllocError, Global};
 pub struct Worklist {
     /// The derived variables.
     derived: Vec<u32>,
-    /// Whether any rule can fire.
-    fires: bool,
     /// The rules that can fire, without those that never fire first on their layer, in ascending order of their layers.
     rules: Vec<LayerRule>,
     /// The layers in `rules`, in ascending order.
@@ -37,7 +35,6 @@ impl Drop for Worklist {
     fn drop(self) {
         let Worklist {
             derived,
-            fires: _,
             rules,
             spans,
             next: _,
@@ -56,7 +53,7 @@ impl Worklist {
     pub fn new<T: Grounded>(alloc: Global, layered: &Layered<T>) -> Result<Worklist, AllocError>
         ensures { IfOk result (λ w. IsReadyFor layered.now w) }
     {
-        let rules = ranked_rules(alloc, layered)?;
+        let rules = first_rules(alloc, layered)?;
         let spans = spans_of(alloc, rules.as_slice())?;
         let derived = derived_variables(alloc, layered)?;
         // Settling a state from scratch goes through the derived variables and the rules, mostly in order. An update jumps between them, so
@@ -64,7 +61,6 @@ impl Worklist {
         let share = derived.len().saturating_add(layered.rules() as usize) / 2;
         Ok(Worklist {
             derived,
-            fires: any_fires(layered),
             rules,
             spans,
             next: 0,
@@ -96,7 +92,7 @@ impl<T: Grounded> Settle<T> for Worklist {
         // The contract of `task` ensures that the task is well ranged and layered.
         let _ = layered.task();
         touched.clear();
-        if !self.fires {
+        if self.derived.is_empty() {
             // No rule can fire, so the state is already settled.
             return;
         }
@@ -128,9 +124,7 @@ impl<T: Grounded> ByLayers<T> for Worklist {
         // The contract of `task` ensures that the task is well ranged and layered.
         let _ = layered.task();
         let rules = self.rules.as_slice();
-        let Some(span) = self.spans.as_slice().get(self.next) else {
-            return None;
-        };
+        let span = self.spans.as_slice().get(self.next)?;
         self.firing
             .settle_layer(layered, span.layer, &rules[self.start..span.end], state);
         self.next += 1;

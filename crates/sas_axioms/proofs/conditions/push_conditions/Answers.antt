@@ -14,9 +14,10 @@ loop-condition-preserved g c =
     let i = c.loop-condition.condition-index in
     let none : Fact = record { var = 0; value = 0 } in
     let lt : i < length cs = omega (arith, ap length c.rule_conditions-condition-items.ensures) in
-    let entry : c.entry_of.result ≡ waiting_entry (get_or cs i none) c.args.rule =
-    c.entry_of.ensures ∙ ap (λ (fs : List Fact). waiting_entry (get_or fs i none) c.args.rule) c.rule_conditions-condition-items.ensures in
-    rw (c.in_ok-push.ensures.items, entry) (one_more c.args.rule cs i none lt c.loop-condition.waiting.items ∙ c.loop-condition.invariant)
+    let es = c.loop-condition.waiting.items in
+    let pushed : c.push.new.self.items ≡ es ++ waiting_entry (get_or cs i none) c.args.rule ∷ [] =
+    c.in_ok-push.ensures.items ∙ ap (λ (fs : List Fact). es ++ waiting_entry (get_or fs i none) c.args.rule ∷ []) c.rule_conditions-condition-items.ensures in
+    rw pushed (one_more c.args.rule cs i none lt es ∙ c.loop-condition.invariant)
 
 pub returns : goal.returns
 returns g c =

@@ -1,98 +1,111 @@
 -- One more entry is counted.
-use Rattle.sas_axioms.proofs.Imports.{ℕ, ◌+◌, ◌<◌, List, length, get_or, refl, sym, ap, ◌∙◌, arith, get_or-set_same}
-use Rattle.sas_axioms.proofs.Counters.{goes_on_still, ready_so_far, released_on, released_fired, at_work_again}
-use Rattle.sas_axioms.proofs.CountingEntries.{CountersSoFar, no_entry, counters_before, counters_passed, counters_set, may_grow, may_shrink}
+use Rattle.sas_axioms.proofs.Imports.{◌+◌, ◌<◌, length, get_or, refl, ap, ◌∙◌, arith, All, Moved, IsOfRule}
+use Rattle.sas_axioms.proofs.Counters.{goes_on_still, popped_running, top_within, can_release, ready_so_far, released_on, released_fired, at_work_again}
+use Rattle.sas_axioms.proofs.CountingEntries.{CanRecount, CountersSoFar, no_entry, counters_before, counters_passed, counters_set, its_count, can_count}
 use Rattle.sas_axioms.proofs.firing.release.Goals as goal
-use Rattle.sas_axioms.proofs.firing.release.Goals.{then-count-open+then-count-eq0, then-count-open+else-count-eq0, else-count-open}
+use Rattle.sas_axioms.proofs.firing.release.Goals.{in-Some+then-count-eq0, in-Some+else-count-eq0, in_default}
+
+pub initial_value-requires : goal.initial_value-requires
+initial_value-requires g c =
+    top_within c.args.task.now c.args.work.now.layer c.args.state.now c.args.work.now.stack.items c.args.var c.requires.popped.running
+
+pub value-requires : goal.value-requires
+value-requires g c =
+    omega (arith, top_within c.args.task.now c.args.work.now.layer c.args.state.now c.args.work.now.stack.items c.args.var c.requires.popped.running, c.requires.popped.running.state.one_each)
+
+pub get-condition-items-requires : goal.get-condition-items-requires
+get-condition-items-requires g c =
+    omega (arith, top_within c.args.task.now c.args.work.now.layer c.args.state.now c.args.work.now.stack.items c.args.var c.requires.popped.running, c.requires.index.one_each)
 
 pub loop-condition-init : goal.loop-condition-init
 loop-condition-init g c =
     let popped = c.requires.popped in
     record {
-      counters = counters_before c.args.moved c.args.waiting.now c.args.work.now.counters;
+      counters = counters_before _ _ c.args.work.now.counters;
       goes_on = goes_on_still c.args.task.now c.args.state.now c.args.work.now;
       room = popped.room;
-      running = popped.running;
+      running = popped_running c.args.task.now c.args.work.now.layer c.args.state.now c.args.work.now.stack.items c.args.var popped.running;
       given = popped.given;
       fired = popped.fired;
       seen = λ v. refl;
     }
 
-pub bounds-as_slice-rule : goal.bounds-as_slice-rule
-bounds-as_slice-rule g c =
-    omega (arith, (c.requires.waiting c.loop-condition.condition-index no_entry c.loop-condition-test.true).1.exists, c.loop-condition.invariant.room.one_each, ap length c.as_slice.ensures)
-
-pub count_after-count-requires-clause-small : goal.count_after-count-requires-clause-small
-count_after-count-requires-clause-small g c =
-    rw c.as_slice.ensures (may_grow c.args.moved c.args.waiting.now c.loop-condition.condition-index c.args.work.now.counters c.loop-condition.work.counters c.loop-condition-test.true
-    c.loop-condition.invariant.counters c.requires.can)
-
-pub count_after-count-requires-clause-enough : goal.count_after-count-requires-clause-enough
-count_after-count-requires-clause-enough g c =
-    rw c.as_slice.ensures (may_shrink c.args.moved c.args.waiting.now c.loop-condition.condition-index c.args.work.now.counters c.loop-condition.work.counters c.loop-condition-test.true
-    c.loop-condition.invariant.counters c.requires.can)
+pub count_after-requires : goal.count_after-requires
+count_after-requires g c =
+    let moved : Moved = record { former = c.initial_value.result; value = c.value.result } in
+    let ws = c.get-condition-items.result.now in
+    let w0 = c.args.work.now in
+    let can : CanRecount moved ws w0.counters = rw (c.get-condition-items.ensures, c.initial_value.ensures, c.value.ensures)
+    (can_release c.args.task.now c.args.index.now c.args.var c.args.state.now w0 c.task.ensures.layered c.requires.index c.requires.popped c.task.ensures.well_ranged) in
+    can_count moved ws c.loop-condition.condition-index w0.counters c.loop-condition.work.counters c.loop-condition-test.true c.loop-condition.invariant.counters can
 
 pub set-requires : goal.set-requires
 set-requires g c =
-    omega (arith, (c.requires.waiting c.loop-condition.condition-index no_entry c.loop-condition-test.true).1.exists, c.loop-condition.invariant.room.one_each)
+    let of_rule : All (IsOfRule c.args.task.now) c.get-condition-items.result.now = rw c.get-condition-items.ensures (c.requires.index.only c.args.var) in
+    omega (arith, (of_rule c.loop-condition.condition-index no_entry c.loop-condition-test.true).1.exists, c.loop-condition.invariant.room.one_each)
+
+pub fire-requires-clause-rule : goal.fire-requires-clause-rule
+fire-requires-clause-rule g c =
+    let of_rule : All (IsOfRule c.args.task.now) c.get-condition-items.result.now = rw c.get-condition-items.ensures (c.requires.index.only c.args.var) in
+    of_rule c.loop-condition.condition-index no_entry c.loop-condition-test.true
 
 pub fire-requires-clause-hold : goal.fire-requires-clause-hold
 fire-requires-clause-hold g c on =
     let p = c.args.task.now in
-    let moved = c.args.moved in
-    let ws = c.args.waiting.now in
-    let i = c.loop-condition.condition-index in
     let w0 = c.args.work.now in
+    let moved : Moved = record { former = c.initial_value.result; value = c.value.result } in
+    let ws = c.get-condition-items.result.now in
+    let i = c.loop-condition.condition-index in
     let work = c.loop-condition.work in
     let lt = c.loop-condition-test.true in
     let inv = c.loop-condition.invariant in
-    let rule = (get_or ws i no_entry).rule in
-    let exists : rule < length w0.counters = c.requires.can.exist i no_entry lt in
-    let read = ap (λ (xs : List ℕ). get_or xs rule 0) c.as_slice.ensures in
-    let moves = c.count_after-count.ensures in
+    let of_rule : All (IsOfRule p) ws = rw c.get-condition-items.ensures (c.requires.index.only c.args.var) in
+    let exists : (get_or ws i no_entry).rule < length w0.counters = omega (arith, (of_rule i no_entry lt).1.exists, c.requires.popped.room.one_each) in
     let next : CountersSoFar moved ws (i + 1) w0.counters c.set.new.self =
-    counters_set moved ws i w0.counters work.counters lt inv.counters _ c.set.new.self exists c.set.ensures (omega arith) in
-    ready_so_far p moved ws i c.args.state.now w0 c.loop-condition.state work c.set.new.self rule c.task.ensures.layered c.requires.popped inv next (rw (sym inv.goes_on.layer) on)
-    (ap (λ (xs : List ℕ). get_or xs rule 0) c.set.ensures ∙ (get_or-set_same work.counters rule _ 0 (omega (arith, exists, inv.counters.one_each)) ∙ c.if-count-eq0.true))
+    counters_set moved ws i w0.counters work.counters lt inv.counters c.in-Some.count c.set.new.self exists c.set.ensures c.in-Some.ensures.some in
+    ready_so_far p c.args.index.now c.args.var c.args.state.now w0 c.task.ensures.layered c.requires.index c.requires.popped i c.loop-condition.state work c.set.new.self (get_or ws i no_entry).rule
+    (rw (c.get-condition-items.ensures, c.initial_value.ensures, c.value.ensures) at inv) (rw (c.get-condition-items.ensures, c.initial_value.ensures, c.value.ensures) at next)
+    (rw inv.goes_on.layer at on) (its_count moved ws i w0.counters work.counters lt inv.counters c.in-Some.count c.set.new.self exists c.set.ensures ∙ c.if-count-eq0.true)
 
 pub loop-condition-preserved : goal.loop-condition-preserved
 loop-condition-preserved g c =
     let p = c.args.task.now in
-    let moved = c.args.moved in
-    let ws = c.args.waiting.now in
-    let i = c.loop-condition.condition-index in
     let s0 = c.args.state.now in
     let w0 = c.args.work.now in
+    let moved : Moved = record { former = c.initial_value.result; value = c.value.result } in
+    let ws = c.get-condition-items.result.now in
+    let i = c.loop-condition.condition-index in
     let s = c.loop-condition.state in
     let work = c.loop-condition.work in
     let lt = c.loop-condition-test.true in
     let inv = c.loop-condition.invariant in
     let rule = (get_or ws i no_entry).rule in
-    let exists : rule < length w0.counters = c.requires.can.exist i no_entry lt in
+    let of_rule : All (IsOfRule p) ws = rw c.get-condition-items.ensures (c.requires.index.only c.args.var) in
+    let exists : rule < length w0.counters = omega (arith, (of_rule i no_entry lt).1.exists, c.requires.popped.room.one_each) in
     let within : rule < length work.counters = omega (arith, exists, inv.counters.one_each) in
-    let read = ap (λ (xs : List ℕ). get_or xs rule 0) c.as_slice.ensures in
-    let moves = c.count_after-count.ensures in
-    elim c.if-count-open.branch [
-      | then-count-open+then-count-eq0 w ↦ rw (w.work-is, w.state-is)
-          (released_fired p moved ws i s0 w0 s work w.set.new.self rule _ w.fire.new.state w.fire.new.work inv
-          (counters_set moved ws i w0.counters work.counters lt inv.counters _ w.set.new.self exists w.set.ensures (omega arith))
+    elim c.match-count_after.branch [
+      | in-Some+then-count-eq0 w ↦ rw (w.work-is, w.state-is)
+          (released_fired p moved ws i s0 w0 s work w.set.new.self rule w.in-Some.count w.fire.new.state w.fire.new.work inv
+          (counters_set moved ws i w0.counters work.counters lt inv.counters w.in-Some.count w.set.new.self exists w.set.ensures w.in-Some.ensures.some)
           within w.set.ensures w.fire.ensures)
-      | then-count-open+else-count-eq0 w ↦ rw (w.work-is, w.state-is)
-          (released_on p moved ws i s0 w0 s work w.set.new.self rule _ inv
-          (counters_set moved ws i w0.counters work.counters lt inv.counters _ w.set.new.self exists w.set.ensures (omega arith))
+      | in-Some+else-count-eq0 w ↦ rw (w.work-is, w.state-is)
+          (released_on p moved ws i s0 w0 s work w.set.new.self rule w.in-Some.count inv
+          (counters_set moved ws i w0.counters work.counters lt inv.counters w.in-Some.count w.set.new.self exists w.set.ensures w.in-Some.ensures.some)
           within w.set.ensures w.if-count-eq0.false)
-      | else-count-open w ↦ rw (w.work-is, w.state-is) (let same = w.if-count-open.false in record {
-        counters = counters_passed moved ws i w0.counters work.counters lt inv.counters (omega arith);
+      | in_default w ↦ rw (w.work-is, w.state-is) record {
+        counters = counters_passed moved ws i w0.counters work.counters lt inv.counters w.in_default.ensures.none;
         goes_on = inv.goes_on;
         room = inv.room;
         running = inv.running;
         given = inv.given;
         fired = inv.fired;
         seen = inv.seen;
-      })
+      }
     ]
 
 pub returns-clause-at_work : goal.returns-clause-at_work
 returns-clause-at_work g c =
-    at_work_again c.args.task.now c.args.moved c.args.waiting.now c.loop-condition.condition-index c.args.state.now c.args.work.now c.loop-condition.state c.loop-condition.work
-    c.requires.popped c.loop-condition.invariant (omega arith)
+    let past = c.loop-condition-test.false in
+    at_work_again c.args.task.now c.args.index.now c.args.var c.args.state.now c.args.work.now c.task.ensures.layered c.requires.index c.requires.popped
+    c.loop-condition.condition-index c.loop-condition.state c.loop-condition.work (rw (c.get-condition-items.ensures, c.initial_value.ensures, c.value.ensures) at c.loop-condition.invariant)
+    (omega (arith, ap length c.get-condition-items.ensures))

@@ -1,6 +1,6 @@
 -- Each iteration appends a rule, or skips one that can't fire or is late.
-use Rattle.sas_axioms.proofs.Imports.{◌≡◌, ◌∷◌, [], ◌++◌, arith}
-use Rattle.sas_axioms.proofs.OneLayer.{one_layer, first_more, first_skip, first_all}
+use Rattle.sas_axioms.proofs.Imports.{rules, ◌≡◌, ◌∷◌, [], ◌++◌, length, subst, arith, IsNonDecreasingBy-from_sort_by_key, LayerRule}
+use Rattle.sas_axioms.proofs.OneLayer.{FirstUpTo, one_layer, first_more, first_skip, first_all}
 use Rattle.sas_axioms.proofs.layer_rules.first_rules.Goals as goal
 use Rattle.sas_axioms.proofs.layer_rules.first_rules.Goals.{in-Some+then-not-is_late+in_ok-push, in-Some+else-not-is_late, in_default}
 
@@ -18,4 +18,10 @@ loop-rule-preserved g c =
     ]
 
 pub returns : goal.returns
-returns g c = first_all c.args.task.now c.loop-rule.rule c.loop-rule.rules.items (omega arith) c.loop-rule.invariant
+returns g c =
+    let p = c.args.task.now in
+    let before = c.loop-rule.rules.items in
+    let after = c.sort_by_key.new.self.items in
+    let all : c.loop-rule.rule ≡ length p.rules = omega arith in
+    first_all p before after (subst (λ k. FirstUpTo p k before) all c.loop-rule.invariant) c.sort_by_key.ensures.permutation
+    (IsNonDecreasingBy-from_sort_by_key (λ (r : LayerRule). r.layer) after c.in_ok-sort_by_key.ensures.sorted (λ a r q k. search rules))

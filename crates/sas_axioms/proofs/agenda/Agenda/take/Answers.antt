@@ -3,14 +3,14 @@ use Rattle.sas_axioms.proofs.Imports.{rules, ◌≡◌, ◌≤◌, ◌∷◌, sy
 use Rattle.sas_axioms.proofs.AgendaOrder.{lowest_first, taken_cases, rest_still, head_there}
 use Rattle.sas_axioms.proofs.agenda.Agenda.take.Goals as goal
 
-pub returns-in-Some-clause-some : goal.returns-in-Some-clause-some
-returns-in-Some-clause-some c =
+pub returns-clause-some : goal.returns-clause-some
+returns-clause-some c =
     let items = heap_items c.args.self.now.noted in
     let rest = heap_items c.pop.new.self in
-    let x = c.in-Some.first in
-    let same : IsPermutation items (x ∷ rest) = c.in-Some.ensures.permutation in
+    let x = c.in_ok-first.first in
+    let same : IsPermutation items (x ∷ rest) = c.in_ok-first.ensures.permutation in
     let lowest : Lowest c.args.self.now c.args.layer = search rules in
-    let up = lowest_first x items (c.in-Some.ensures.heap_order c.requires.ordered).1 in
+    let up = lowest_first x items (c.in_ok-first.ensures.heap_order c.requires.ordered).1 in
     let below : x.0.layer ≤ c.args.layer = All-contains (λ (e : Reverse LayerRule). x.0.layer ≤ e.0.layer) items (entry_for c.args.layer lowest.noted.0) up lowest.noted.1 in
     let above : c.args.layer ≤ x.0.layer = All-contains (λ (e : Reverse LayerRule). c.args.layer ≤ e.0.layer) items x lowest.from (head_there items rest x same) in
     let layer : x.0.layer ≡ c.args.layer = omega arith in
@@ -24,6 +24,6 @@ returns-in-Some-clause-some c =
       ready = λ other there. inl there;
       still_noted = rest_still items rest x same;
       still_ready = λ k d lt. Contains-get_or c.args.self.now.ready.items k d lt;
-      ordered = (c.in-Some.ensures.heap_order c.requires.ordered).0;
+      ordered = (c.in_ok-first.ensures.heap_order c.requires.ordered).0;
       left = let n = length_permutation items (x ∷ rest) same in omega arith;
     }
