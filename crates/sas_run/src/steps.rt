@@ -171,6 +171,7 @@ fn take_back<T: Grounded>(task: &Layered<T>, operator: u32, given: &mut Items<Op
 
 /// Moves the values that are stored for the variables of the effects into the state. If deleted facts are noted, adds those that become
 /// false. `deleted` must be empty.
+#[inline(always)]
 fn write_given<T: Grounded>(
     task: &Layered<T>,
     operator: u32,
