@@ -6,10 +6,6 @@ use Rattle.sas_run.proofs.Ranges.{no_effect}
 pub not_both : (a : ℕ) (given : Option ℕ) → given ≡ None → given ≡ Some a → ⊥
 not_both a given none some = let e : None ≡ Some a = sym none ∙ some in absurd cc
 
--- without effects no value is given
-pub gives_none : (p : Parts) (s : List ℕ) (o : Operator) (given : List (Option ℕ)) → NothingGiven p given → IsGiven p s o 0 given
-gives_none p s o given clean = grind (arith, common_steps, not_both)
-
 module _ (p : Parts) (s : List ℕ) (o : Operator) (n : ℕ) (given : List (Option ℕ)) (is : IsGiven p s o n given) where
   -- each given value is in its variable's range
   pub given_on_effects : n ≤ length o.effects → ((k : ℕ) → k < length o.effects → EffectFits p.variables (effect_at o k)) → IsGivenTo p o given
@@ -18,17 +14,6 @@ module _ (p : Parts) (s : List ℕ) (o : Operator) (n : ℕ) (given : List (Opti
     value = λ var value at. (let (k, lt, fires, on, new) = is.giver var value at in
         subst (λ v. HasValue p.variables v value) on (subst (HasValue p.variables (effect_at o k).var) new (fits k (omega arith)).new));
     effect = λ var value at. (let (k, lt, fires, on, new) = is.giver var value at in (k, omega arith, on));
-  }
-
-  -- one more effect that doesn't fire gives no value
-  pub gives_nothing : (Fires s (effect_at o n) → ⊥) → IsGiven p s o (n + 1) given
-  gives_nothing quiet = record {
-    one_each = is.one_each;
-    gives = λ k lt fires. elim (cases_eq k n) [
-      | inl e ↦ absurd (quiet (subst (λ i. Fires s (effect_at o i)) e fires))
-      | inr ne ↦ is.gives k (omega arith) fires
-    ];
-    giver = λ var value at. (let (k, lt, fires, on, new) = is.giver var value at in (k, omega arith, fires, on, new));
   }
 
   -- one more effect fires that gives another value: it is the first that conflicts

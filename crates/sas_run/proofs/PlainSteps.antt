@@ -1,5 +1,5 @@
 -- Making changes on different variables one after another.
-use Rattle.sas_run.proofs.Imports.{◌≡◌, ◌≢◌, ℕ, ◌+◌, ◌<◌, ◌≤◌, List, [], ◌∷◌, ◌++◌, length, get_or, set, Option, None, Some, refl, sym, ◌∙◌, ap, subst, inl, inr, arith, filter_map, option_map, All, cons_option, cases_eq, get_or-set_same, get_or-set_other, get_or-map, length-map, All-nil, All-cons, All-head, All-tail, All-map, All-append, All-weaker, All-from_recursion, same_Some, Replaces, AreApart, AreMade, IsPlainStep, OldHolds, IsApplied, Change, Effect, Fact, Operator, Parts, plain_effect, plain_effects, operator_at, effect_at, HasValue, IsState, EffectFits, WellRanged, HaveGone, IsBasic, IsLayered, Holds, AllHold, preconditions, old_fact, Fires, fact_within, state_set}
+use Rattle.sas_run.proofs.Imports.{◌≡◌, ◌≢◌, ℕ, ◌+◌, ◌<◌, ◌≤◌, List, [], ◌∷◌, ◌++◌, length, get_or, set, Option, None, Some, refl, sym, ◌∙◌, ap, subst, inl, inr, arith, filter_map, option_map, All, cons_option, cases_eq, get_or-set_same, get_or-set_other, get_or-map, length-map, All-nil, All-cons, All-head, All-tail, All-map, All-append, All-weaker, All-from_recursion, same_Some, Replaces, AreApart, AreMade, IsPlainStep, OldHolds, IsApplied, Change, Effect, Fact, Operator, Parts, plain_effect, plain_effects, effect_change, operator_at, effect_at, HasValue, IsState, EffectFits, WellRanged, HaveGone, IsBasic, IsLayered, Holds, AllHold, preconditions, old_fact, Fires, fact_within, state_set}
 use Rattle.sas_run.proofs.Ranges.{no_effect, operator_fits}
 use Rattle.sas_run.proofs.NextStates.{effects_basic}
 use Rattle.sas_run.proofs.Deleted.{deleted_few, all_front, all_behind, all_replaced, gone_more}
@@ -65,6 +65,10 @@ module _ (p : Parts) (s s' : List ℕ) (changes : List Change) (n : ℕ) (made :
 
 -- ---- making the changes is applying the effects
 
+-- an effect without conditions fires
+fires : (s : List ℕ) (c : Change) → Fires s (plain_effect c)
+fires s c = All-nil (Holds (λ v. get_or s v 0))
+
 module _ (o : Operator) (changes : List Change) (effects : o.effects ≡ plain_effects changes) where
   -- a property of each change as an effect is a property of each effect
   pub of_effects : (P : Effect → Type 0) → All (λ c. P (plain_effect c)) changes → All P o.effects
@@ -74,11 +78,17 @@ module _ (o : Operator) (changes : List Change) (effects : o.effects ≡ plain_e
   of_changes P each k d lt = subst P (get_or-map plain_effect changes k d no_effect lt)
       (subst (All P) effects each k no_effect (omega (arith, lt, length-map changes plain_effect)))
 
-  pub effect_is : (k : ℕ) (d : Change) → k < length changes → effect_at o k ≡ plain_effect (get_or changes k d)
+  effect_is : (k : ℕ) (d : Change) → k < length changes → effect_at o k ≡ plain_effect (get_or changes k d)
   effect_is k d lt = ap (λ (es : List Effect). get_or es k no_effect) effects ∙ get_or-map plain_effect changes k d no_effect lt
 
   pub effect_number : length o.effects ≡ length changes
   effect_number = ap length effects ∙ length-map changes plain_effect
+
+  -- each effect fires, and makes its change
+  pub change_made : (s : List ℕ) (k : ℕ) (d : Change) → k < length o.effects → Fires s (effect_at o k) × (get_or changes k d ≡ effect_change (effect_at o k))
+  change_made s k d lt =
+      let is = effect_is k d (omega (arith, effect_number, lt)) in
+      (subst (Fires s) (sym is) (fires s (get_or changes k d)), ap effect_change (sym is))
 
 -- they exist, and are on basic variables
 module _ (p : Parts) (operator : ℕ) (exists : operator < length p.operators) (changes : List Change) (effects : (operator_at p operator).effects ≡ plain_effects changes) where
@@ -93,10 +103,6 @@ module _ (p : Parts) (operator : ℕ) (exists : operator < length p.operators) (
 
   pub changes_basic : IsLayered p → All (λ (c : Change). IsBasic p c.var) changes
   changes_basic layered = of_changes (operator_at p operator) changes effects (λ (e : Effect). IsBasic p e.var) (effects_basic p operator layered exists)
-
--- an effect without conditions fires
-pub fires : (s : List ℕ) (c : Change) → Fires s (plain_effect c)
-fires s c = All-nil (Holds (λ v. get_or s v 0))
 
 pub applied_plainly : (p : Parts) (s : List ℕ) (o : Operator) (changes : List Change) (s' : List ℕ) → AllHold (λ v. get_or s v 0) (preconditions o)
     → IsPlainStep o changes → AreMade p s changes s' → IsApplied p s o s'

@@ -1,6 +1,6 @@
 // Steps of operators whose effects have no conditions and are on different variables. Such effects can be applied directly, one after
 // another. Most steps of most plans are of this kind.
-ghost use Rattle.std.specs.Prelude.{◌≡◌, ◌≢◌, ◌+◌, ◌<◌, [], length, All, IsTrue, IsFalse, IfSome, slice_index, slice_set};
+ghost use Rattle.std.specs.Prelude.{◌≡◌, ◌≢◌, ◌+◌, ◌<◌, [], length, All, IsTrue, IsFalse, IfSome, slice_set};
 ghost use Rattle.sas_core.specs.declared.grounded.Change.{Change};
 ghost use Rattle.sas_core.specs.Grounded.{operator_at};
 ghost use Rattle.sas_core.specs.Variables.{IsState};

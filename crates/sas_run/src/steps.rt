@@ -1,5 +1,5 @@
 // One step from a state by an operator, before the derived variables are computed.
-ghost use Rattle.std.specs.Prelude.{◌≡◌, ℕ, ◌<◌, List, [], length, IsTrue, IsFalse, IfSome, IfNone, OnOk, OnErr, slice_index};
+ghost use Rattle.std.specs.Prelude.{◌≡◌, ℕ, ◌<◌, [], length, IsTrue, IsFalse, IfSome, IfNone, OnOk, OnErr, slice_index};
 ghost use Rattle.sas_core.specs.Changes.{plain_effects};
 ghost use Rattle.sas_core.specs.Grounded.{operator_at};
 ghost use Rattle.sas_core.specs.Variables.{IsState};
@@ -97,42 +97,45 @@ fn give_effects<T: Grounded>(
         (length (operator_at task.now operator).effects) given.new) }
     ensures given_to { IsGivenTo task.now (operator_at task.now operator) given.new }
 {
-    if let Some(changes) = task.plain_changes(operator) {
-        return give_changes(task, operator, changes, given);
+    // A call for each case: so the compiler makes a loop for each, which doesn't test the case again at each effect.
+    match task.plain_changes(operator) {
+        Some(changes) => give_each(task, operator, Some(changes), state, given),
+        None => give_each(task, operator, None, state, given),
     }
-    // By its contract the task is well ranged and layered.
-    let _ = task.task();
-    for effect in 0..task.effects(operator) {
-        if state.holds_all(task.effect_conditions(operator, effect)) {
-            let change = task.effect_change(operator, effect);
-            if !give(given, change.var, change.new) {
-                return Some(effect);
-            }
-        }
-    }
-    None
 }
 
-/// Does the same as `give_effects` if the operator's effects are these changes, without conditions. So they fire in each state.
-fn give_changes<T: Grounded>(
+/// Does the same as `give_effects`. `plain` has the changes of the effects, if they have no conditions.
+#[inline(always)]
+fn give_each<T: Grounded>(
     task: &Layered<T>,
     operator: u32,
-    changes: &[Change],
+    plain: Option<&[Change]>,
+    state: &State,
     given: &mut Items<Option<u32>>,
 ) -> Option<u32>
     requires operator { operator < length task.now.operators }
-    requires plain { (operator_at task.now operator).effects ≡ plain_effects changes.now }
+    requires plain { IfSome plain (λ changes.
+        (operator_at task.now operator).effects ≡ plain_effects changes.now) }
+    requires state { IsState task.now.variables state.now }
     requires clean { NothingGiven task.now given.old }
-    ensures some { IfSome result (λ effect. (s : List ℕ)
-        → IsFirstConflict s (operator_at task.now operator) effect) }
-    ensures none { IfNone result ((s : List ℕ) → IsGiven task.now s (operator_at task.now operator)
+    ensures some { IfSome result (λ effect.
+        IsFirstConflict state.now (operator_at task.now operator) effect) }
+    ensures none { IfNone result (IsGiven task.now state.now (operator_at task.now operator)
         (length (operator_at task.now operator).effects) given.new) }
     ensures given_to { IsGivenTo task.now (operator_at task.now operator) given.new }
 {
     // By its contract the task is well ranged and layered.
     let _ = task.task();
     for effect in 0..task.effects(operator) {
-        let change = changes[effect as usize];
+        let change = match plain {
+            Some(changes) => changes[effect as usize],
+            None => {
+                if !state.holds_all(task.effect_conditions(operator, effect)) {
+                    continue;
+                }
+                task.effect_change(operator, effect)
+            }
+        };
         if !give(given, change.var, change.new) {
             return Some(effect);
         }
