@@ -1,4 +1,5 @@
 -- It is decidable which operator a name means, and which fact is the first that doesn't hold.
+use Rattle.std.proofs.lemmas.Grind.{common_steps}
 use Rattle.sas_run.proofs.Imports.{◌≡◌, ℕ, zero, suc, ◌<◌, ◌⊎◌, List, [], ◌∷◌, length, slice_index, slice_index_or, bytes_eq, subst, inl, inr, arith, cases_eq, cases_lt, cases_Bool, bytes_eq-Decides, All-nil, All-cons, Fact, Parts, operator_at, Holds, AllHold, preconditions, hold_or_not, IsNamed, IsApplicable, NoneApplicable, IsChosen, IsFirstMissed}
 
 -- whether an operator has the name
@@ -75,13 +76,7 @@ no_fact = record { var = 0; value = 0 }
 
 -- there is at most one first fact that doesn't hold
 pub first_missed_is_one : (value : ℕ → ℕ) (facts : List Fact) (a b : ℕ) → IsFirstMissed value facts a → IsFirstMissed value facts b → a ≡ b
-first_missed_is_one value facts a b x y = elim (cases_lt a b) [
-  | inl lt ↦ absurd (x.missed no_fact (y.before a no_fact lt))
-  | inr ge ↦ elim (cases_lt b a) [
-    | inl lt ↦ absurd (y.missed no_fact (x.before b no_fact lt))
-    | inr le ↦ omega arith
-  ]
-]
+first_missed_is_one value facts a b x y = grind (arith, common_steps, cases_lt, x.missed no_fact, y.missed no_fact)
 
 -- if all facts hold, there is no first that doesn't
 pub none_missed : (value : ℕ → ℕ) (facts : List Fact) (index : ℕ) → AllHold value facts → IsFirstMissed value facts index → ⊥

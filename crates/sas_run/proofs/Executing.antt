@@ -15,15 +15,9 @@ module _ (run : Run) (e : Executed) (executes : Executes run e) where
   pub executed_fits : IsState e.task.variables e.state
   executed_fits = subst (IsState e.task.variables) (sym executes.state) (state_fits e.task run executes.of_plan.through e.made (omega (arith, executes.within, as_many)))
 
-  -- if no step is known to succeed, the state is the initial one
-  module _ (none : e.operators ≡ []) where
-    pub none_made : e.made ≡ 0
-    none_made = omega (arith, executes.within, ap length none)
-
-    pub none_initial : IsInitial e.task e.state
-    none_initial =
-        let leads = executes.of_plan.through.leads 0 (omega arith) in
-        subst (IsInitial e.task) (sym (executes.state ∙ (ap (state_at run) none_made ∙ leads.goes))) leads.starts
+  -- if no step is known to succeed, none has been made
+  none_made : e.operators ≡ [] → e.made ≡ 0
+  none_made none = omega (arith, executes.within, ap length none)
 
   -- ---- the next step
 
@@ -81,25 +75,6 @@ module _ (run : Run) (e : Executed) (executes : Executes run e) where
             next_goes.chosen.of_name.named ∙ sym (firsts.each e.made found_next).of_name.named in
             subst (λ name. IsNextNamed e.task name (other + 1) (get_or nexts other None)) (sym same)
             (chains e.made found_next other (subst (λ name. IsNamed e.task name other) same named))
-
--- ---- the end of the plan
-
--- after making its steps up to the fault, the execution is back at its start
-pub back : (e new : Executed) (fault : Option PlanFault) → IsLayered e.task → new.task ≡ e.task → new.plan ≡ e.plan → e.made ≡ 0 → new.made ≡ e.made
-    → IsInitial e.task new.state → IsEnding e.task e.plan new.operators fault → IsFound e.task e.plan fault new
-back e new fault layered task plan none same starts (run, of_plan, ends, by) = record {
-  task = task;
-  of_plan = plan;
-  made = same ∙ none;
-  run = run;
-  executes = record {
-    of_plan = subst (λ p. IsRunOf p new.plan run) (sym task) (subst (λ its. IsRunOf e.task its run) (sym plan) of_plan);
-    operators = by;
-    within = omega (arith, same, none);
-    state = first_state e.task run of_plan.through new.state layered starts ∙ ap (state_at run) (sym (same ∙ none));
-  };
-  ends = ends;
-}
 
 -- ---- the parts of an execution
 
@@ -164,7 +139,22 @@ module _ {E : Type 0} {Ready : E → Parts → Type 0} {Follows : E → Parts �
   module _ (none : progress.operators.items ≡ []) (stepper' : Stepper E) (progress' : Progress) (fault : Option PlanFault) (starts : IsInitial p progress'.state)
       (ending : IsEnding p plan progress'.operators.items fault) where
     pub goes_back : IsFound p plan fault (executed_of p plan stepper' progress' made)
-    goes_back = back e (executed_of p plan stepper' progress' made) fault layered refl refl (none_made executing.run e executing.executes none) refl starts ending
+    goes_back =
+        let start = none_made executing.run e executing.executes none in
+        let (run, of_plan, ends, by) = ending in
+        record {
+          task = refl;
+          of_plan = refl;
+          made = start;
+          run = run;
+          executes = record {
+            of_plan = of_plan;
+            operators = by;
+            within = omega (arith, start);
+            state = first_state p run of_plan.through progress'.state layered starts ∙ ap (state_at run) (sym start);
+          };
+          ends = ends;
+        }
 
     pub goes_anew : IsPrepared Ready p stepper' → IsTrue stepper'.deleted.noted → Follows stepper'.evaluator p progress'.state → length plan.steps ≤ vec_capacity progress'.operators
         → IsExecuting Ready Follows p plan stepper' found nexts progress' made

@@ -21,19 +21,7 @@ abbrev AgreesWith : List ℕ → Effect → Effect → Type 0
 AgreesWith s e f = Fires s e → Fires s f → e.var ≡ f.var → e.new ≡ f.new
 
 agrees_or_not : (s : List ℕ) (e f : Effect) → AgreesWith s e f ⊎ (AgreesWith s e f → ⊥)
-agrees_or_not s e f = elim (hold_or_not (slice_index s) e.conditions) [
-  | inr n ↦ inl (λ a. absurd (n a))
-  | inl a ↦ elim (hold_or_not (slice_index s) f.conditions) [
-    | inr n ↦ inl (λ _ b. absurd (n b))
-    | inl b ↦ elim (cases_eq e.var f.var) [
-      | inr n ↦ inl (λ _ _ same. absurd (n same))
-      | inl same ↦ elim (cases_eq e.new f.new) [
-        | inl is ↦ inl (λ _ _ _. is)
-        | inr n ↦ inr (λ agrees. n (agrees a b same))
-      ]
-    ]
-  ]
-]
+agrees_or_not s e f = grind (arith, hold_or_not (slice_index s) e.conditions, hold_or_not (slice_index s) f.conditions, cases_eq e.var f.var, cases_eq e.new f.new)
 
 -- whether the effects that fire agree
 pub agree_or_not : (s : List ℕ) (effects : List Effect) → Agree s effects ⊎ (Agree s effects → ⊥)
@@ -114,6 +102,9 @@ settled_if_basic p s basic state = grind (arith, common_steps, settled_where_emp
 pub step_from_applied : (p : Parts) (s : List ℕ) (o : Operator) (s' next : List ℕ) → All (λ (e : Effect). IsBasic p e.var) o.effects
     → IsApplied p s o s' → Settles p s' next → Step p s o next
 step_from_applied p s o s' next basic a settles = grind (arith, common_steps)
+
+-- what a step needs
+pub ruleset stepping = (common_steps, step_from_applied, effects_basic, settled_if_basic)
 
 pub step_exists : (p : Parts) (s : List ℕ) (operator : ℕ) → WellRanged p → IsLayered p → IsState p.variables s → operator < length p.operators
     → IsApplicable s (operator_at p operator) → Agree s (operator_at p operator).effects → (next : List ℕ) × Step p s (operator_at p operator) next

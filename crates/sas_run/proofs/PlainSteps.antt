@@ -1,8 +1,8 @@
 -- Making changes on different variables one after another.
-use Rattle.sas_run.proofs.Imports.{◌≡◌, ◌≢◌, ℕ, ◌+◌, ◌<◌, ◌≤◌, List, [], ◌∷◌, ◌++◌, length, get_or, set, Option, None, Some, refl, sym, ◌∙◌, ap, subst, inl, inr, arith, filter_map, option_map, All, cons_option, cases_eq, get_or-set_same, get_or-set_other, get_or-map, length-map, All-nil, All-cons, All-head, All-tail, All-map, All-append, All-weaker, All-from_recursion, same_Some, Replaces, AreApart, AreMade, IsPlainStep, OldHolds, IsApplied, Change, Effect, Fact, Operator, Parts, plain_effect, plain_effects, effect_change, operator_at, effect_at, HasValue, IsState, EffectFits, WellRanged, HaveGone, IsBasic, IsLayered, Holds, AllHold, preconditions, old_fact, Fires, fact_within, state_set}
-use Rattle.sas_run.proofs.Ranges.{no_effect, operator_fits}
-use Rattle.sas_run.proofs.NextStates.{effects_basic}
-use Rattle.sas_run.proofs.Deleted.{deleted_few, all_front, all_behind, all_replaced, gone_more}
+use Rattle.sas_run.proofs.Imports.{◌≡◌, ◌≢◌, ℕ, ◌+◌, ◌<◌, List, [], ◌∷◌, ◌++◌, length, get_or, set, Option, None, Some, refl, sym, ◌∙◌, ap, subst, inl, inr, arith, filter_map, option_map, All, cons_option, cases_eq, get_or-set_same, get_or-set_other, get_or-map, length-map, All-nil, All-cons, All-head, All-tail, All-map, All-append, All-weaker, same_Some, Replaces, AreApart, AreMade, IsPlainStep, OldHolds, IsApplied, Change, Effect, Fact, Operator, Parts, plain_effect, plain_effects, effect_change, operator_at, effect_at, HasValue, IsState, WellRanged, IsBasic, IsLayered, Holds, AllHold, preconditions, old_fact, Fires, fact_within, state_set}
+use Rattle.sas_run.proofs.Ranges.{no_effect}
+use Rattle.sas_run.proofs.NextStates.{effects_fit, effects_basic}
+use Rattle.sas_run.proofs.Deleted.{all_front, all_behind, DeletedSoFar, deleted_more}
 
 -- a default for indices that are out of range
 abbrev pub no_change : Change
@@ -17,12 +17,6 @@ pub record MadeSoFar (p : Parts) (s : List ℕ) (changes : List Change) (n : ℕ
   pub state : IsState p.variables s'
   pub set : (k : ℕ) (d : Change) → k < n → get_or s' (get_or changes k d).var 0 ≡ (get_or changes k d).new
   pub kept : (var : ℕ) → Untouched changes n var → get_or s' var 0 ≡ get_or s var 0
-
--- these facts are deleted by the first n changes
-pub record LostSoFar (p : Parts) (s : List ℕ) (changes : List Change) (n : ℕ) (deleted : List Fact) (s' : List ℕ) : Type 0 where
-  pub lost : HaveGone p deleted s s'
-  pub among : (var : ℕ) → Untouched changes n var → All (λ (f : Fact). f.var ≢ var) deleted
-  pub few : length deleted ≤ n
 
 -- one more change, on another variable than those before it
 module _ (p : Parts) (s s' : List ℕ) (changes : List Change) (n : ℕ) (made : MadeSoFar p s changes n s') (apart : AreApart changes) (some : n < length changes)
@@ -54,14 +48,10 @@ module _ (p : Parts) (s s' : List ℕ) (changes : List Change) (n : ℕ) (made :
   }
 
   -- what it deletes
-  pub one_more_lost : (deleted : List Fact) → LostSoFar p s changes n deleted s' → IsBasic p change.var → (deleted' : List Fact)
-      → Replaces s' (record { var = change.var; value = change.new }) deleted deleted' → LostSoFar p s changes (n + 1) deleted' (set s' change.var change.new)
-  one_more_lost deleted so_far basic deleted' replaces = record {
-    lost = gone_more p s s' deleted so_far.lost change.var change.new in_state (so_far.among change.var fresh) basic exists deleted' replaces;
-    among = λ var not. all_replaced (λ (f : Fact). f.var ≢ var) s' (record { var = change.var; value = change.new }) deleted deleted' replaces
-        (so_far.among var (fewer var not)) (λ same. another var not (sym same));
-    few = (let few = so_far.few in let more = deleted_few s' (record { var = change.var; value = change.new }) deleted deleted' replaces in omega arith);
-  }
+  pub one_more_deleted : (deleted : List Fact) → DeletedSoFar p (Untouched changes n) n s s' deleted → IsBasic p change.var → (deleted' : List Fact)
+      → Replaces s' (record { var = change.var; value = change.new }) deleted deleted' → DeletedSoFar p (Untouched changes (n + 1)) (n + 1) s (set s' change.var change.new) deleted'
+  one_more_deleted deleted so_far basic = deleted_more p (Untouched changes n) (Untouched changes (n + 1)) n s s' deleted so_far change.var change.new in_state fresh
+      (λ var not. (fewer var not, λ same. another var not (sym same))) basic exists
 
 -- ---- making the changes is applying the effects
 
@@ -81,7 +71,7 @@ module _ (o : Operator) (changes : List Change) (effects : o.effects ≡ plain_e
   effect_is : (k : ℕ) (d : Change) → k < length changes → effect_at o k ≡ plain_effect (get_or changes k d)
   effect_is k d lt = ap (λ (es : List Effect). get_or es k no_effect) effects ∙ get_or-map plain_effect changes k d no_effect lt
 
-  pub effect_number : length o.effects ≡ length changes
+  effect_number : length o.effects ≡ length changes
   effect_number = ap length effects ∙ length-map changes plain_effect
 
   -- each effect fires, and makes its change
@@ -94,8 +84,7 @@ module _ (o : Operator) (changes : List Change) (effects : o.effects ≡ plain_e
 module _ (p : Parts) (operator : ℕ) (exists : operator < length p.operators) (changes : List Change) (effects : (operator_at p operator).effects ≡ plain_effects changes) where
   pub changes_fit : WellRanged p → All (λ (c : Change). HasValue p.variables c.var c.new) changes
   changes_fit ranged = of_changes (operator_at p operator) changes effects (λ (e : Effect). HasValue p.variables e.var e.new)
-      (All-weaker (EffectFits p.variables) (λ (e : Effect). HasValue p.variables e.var e.new) (λ e fits. fits.new) (operator_at p operator).effects
-      (All-from_recursion (EffectFits p.variables) (operator_at p operator).effects (operator_fits p ranged operator exists).effects.each))
+      (effects_fit p operator ranged exists)
 
   pub changes_within : WellRanged p → All (λ (c : Change). c.var < length p.variables) changes
   changes_within ranged = All-weaker (λ (c : Change). HasValue p.variables c.var c.new) (λ (c : Change). c.var < length p.variables)

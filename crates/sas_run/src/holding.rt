@@ -13,10 +13,7 @@ pub fn first_missed(state: &State, facts: &[Fact]) -> Option<usize>
     ensures some { IfSome result (λ index. IsFirstMissed (slice_index state.now) facts.now index) }
     ensures none { IfNone result (AllHold (slice_index state.now) facts.now) }
 {
-    for (index, fact) in facts.iter().enumerate() {
-        if state.value(fact.var) != fact.value {
-            return Some(index);
-        }
-    }
-    None
+    facts
+        .iter()
+        .position(|fact| state.value(fact.var) != fact.value)
 }

@@ -107,6 +107,7 @@ pub fn check_once<E: Settle<T> + Drop, T: Grounded, P: Stepwise>(
 }
 
 /// Checks whether the plan is valid, like `Runner::check_plan`. `found` has the operators of the steps' names.
+#[tactic(auto, using(crate::proofs::Endings::ends_valid, crate::proofs::Endings::ends_faulty))]
 pub fn check_found<E: Settle<T> + Drop, T: Grounded, P: Stepwise>(
     alloc: Global,
     layered: &Layered<T>,
@@ -181,6 +182,7 @@ struct NextStep {
 
 /// Chooses the operator that the next step means in the state, and makes its step from the state that the evaluator settled last. Returns
 /// the operator. `nexts` has, for each operator of the step's name, the next one.
+#[tactic(auto, using(crate::proofs::NextStates::fault_is_conflict))]
 #[inline(always)]
 fn go_on<E: Settle<T> + Drop, T: Grounded>(
     layered: &Layered<T>,

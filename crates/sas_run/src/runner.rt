@@ -200,8 +200,6 @@ pub fn later_applicable<T: Grounded>(
     requires state { IsState task.now.variables state.now }
     ensures { IsLaterIfAny task.now state.now operator result }
 {
-    match next_in(nexts, operator) {
-        Some(next) => first_applicable(task, nexts, state, next),
-        None => None,
-    }
+    let next = next_in(nexts, operator)?;
+    first_applicable(task, nexts, state, next)
 }

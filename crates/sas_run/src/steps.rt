@@ -1,5 +1,5 @@
 // One step from a state by an operator, before the derived variables are computed.
-ghost use Rattle.std.specs.Prelude.{◌≡◌, ℕ, ◌<◌, [], length, IsTrue, IsFalse, IfSome, IfNone, OnOk, OnErr, slice_index};
+ghost use Rattle.std.specs.Prelude.{◌≡◌, ℕ, ◌<◌, length, IsTrue, IsFalse, IfSome, IfNone, OnOk, OnErr, slice_index};
 ghost use Rattle.sas_core.specs.Changes.{plain_effects};
 ghost use Rattle.sas_core.specs.Grounded.{operator_at};
 ghost use Rattle.sas_core.specs.Variables.{IsState};
@@ -67,7 +67,6 @@ pub fn apply<T: Grounded>(
     ensures notes { NotesOn deleted.old deleted.new }
 {
     if let Some(changes) = plain_step(task, operator) {
-        deleted.facts.clear();
         make_changes(task, operator, changes, deleted, state);
         return Ok(());
     }
@@ -75,7 +74,6 @@ pub fn apply<T: Grounded>(
         take_back(task, operator, given);
         return Err(StepFault::Conflict { effect });
     }
-    deleted.facts.clear();
     write_given(task, operator, given, deleted, state);
     Ok(())
 }
@@ -159,6 +157,7 @@ fn give(given: &mut Items<Option<u32>>, var: u32, value: u32) -> bool
 }
 
 /// Removes the values that are stored for the variables of the effects.
+#[tactic(auto, using(crate::proofs::Ranges::change_within, crate::proofs::Giving::all_taken))]
 fn take_back<T: Grounded>(task: &Layered<T>, operator: u32, given: &mut Items<Option<u32>>)
     requires operator { operator < length task.now.operators }
     requires given_to { IsGivenTo task.now (operator_at task.now operator) given.old }
@@ -172,8 +171,9 @@ fn take_back<T: Grounded>(task: &Layered<T>, operator: u32, given: &mut Items<Op
     }
 }
 
-/// Moves the values that are stored for the variables of the effects into the state. If deleted facts are noted, adds those that become
-/// false. `deleted` must be empty.
+/// Moves the values that are stored for the variables of the effects into the state. If deleted facts are noted, `deleted` then contains
+/// those that became false.
+#[tactic(auto, using(crate::proofs::Ranges::change_within, crate::proofs::Giving::all_taken, crate::proofs::Deleted::starting))]
 #[inline(always)]
 fn write_given<T: Grounded>(
     task: &Layered<T>,
@@ -185,7 +185,6 @@ fn write_given<T: Grounded>(
     requires operator { operator < length task.now.operators }
     requires state { IsState task.now.variables state.old }
     requires given_to { IsGivenTo task.now (operator_at task.now operator) given.old }
-    requires empty { deleted.old.facts.items ≡ [] }
     requires room { HasRoom deleted.old (length (operator_at task.now operator).effects) }
     ensures state { IsState task.now.variables state.new }
     ensures written { (var : ℕ) → slice_index state.new var ≡ value_after given.old state.old var }
@@ -195,6 +194,7 @@ fn write_given<T: Grounded>(
 {
     // By its contract the task is well ranged and layered.
     let _ = task.task();
+    deleted.facts.clear();
     for effect in 0..task.effects(operator) {
         let var = task.effect_change(operator, effect).var;
         if let Some(value) = given.as_slice()[var as usize] {

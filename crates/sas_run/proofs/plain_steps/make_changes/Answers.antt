@@ -1,7 +1,7 @@
 -- One more change is made.
 use Rattle.sas_run.proofs.Imports.{IsTrue, ◌+◌, ◌<◌, length, get_or, set, sym, ap, ◌∙◌, subst, arith, get_or_default, Fact, Replaces}
-use Rattle.sas_run.proofs.Deleted.{notes_on}
-use Rattle.sas_run.proofs.PlainSteps.{MadeSoFar, LostSoFar, no_change, one_more_made, one_more_lost, changes_fit, changes_within, changes_basic}
+use Rattle.sas_run.proofs.Deleted.{DeletedSoFar, notes_on}
+use Rattle.sas_run.proofs.PlainSteps.{Untouched, MadeSoFar, no_change, one_more_made, one_more_deleted, changes_fit, changes_within, changes_basic}
 use Rattle.sas_run.proofs.plain_steps.make_changes.Goals as goal
 
 pub replace-requires-clause-exists : goal.replace-requires-clause-exists
@@ -27,12 +27,12 @@ loop-change-preserved g c =
     let now = c.replace.ensures.state ∙ ap (λ (f : Fact). set c.loop-change.state f.var f.value) c.fact.ensures in
     record {
       made = subst (MadeSoFar p c.args.state.now changes (n + 1)) (sym now) more;
-      lost = λ noted.
+      deleted = λ noted.
           (let before : IsTrue c.loop-change.deleted.noted = sym c.replace.ensures.notes.noted ∙ noted in
           let replaces = subst (λ f. Replaces c.loop-change.state f c.loop-change.deleted.facts.items c.replace.new.deleted.facts.items) c.fact.ensures (c.replace.ensures.deleted before) in
-          subst (LostSoFar p c.args.state.now changes (n + 1) c.replace.new.deleted.facts.items) (sym now)
-          (one_more_lost p c.args.state.now c.loop-change.state changes n c.loop-change.invariant.made c.requires.plain.apart some change (λ d. get_or_default changes n d no_change some)
-          (changes_within p c.args.operator c.requires.operator changes effects c.task.ensures.well_ranged n no_change some) c.loop-change.deleted.facts.items (c.loop-change.invariant.lost before)
+          subst (λ s. DeletedSoFar p (Untouched changes (n + 1)) (n + 1) c.args.state.now s c.replace.new.deleted.facts.items) (sym now)
+          (one_more_deleted p c.args.state.now c.loop-change.state changes n c.loop-change.invariant.made c.requires.plain.apart some change (λ d. get_or_default changes n d no_change some)
+          (changes_within p c.args.operator c.requires.operator changes effects c.task.ensures.well_ranged n no_change some) c.loop-change.deleted.facts.items (c.loop-change.invariant.deleted before)
           (changes_basic p c.args.operator c.requires.operator changes effects c.task.ensures.layered n no_change some) c.replace.new.deleted.facts.items replaces));
       notes = notes_on c.args.deleted.now c.loop-change.deleted c.replace.new.deleted c.loop-change.invariant.notes c.replace.ensures.notes;
     }
