@@ -1,6 +1,6 @@
 -- The facts that are deleted while given values are written into a state.
 use Rattle.std.proofs.lemmas.Grind.{common_steps}
-use Rattle.sas_run.proofs.Imports.{◌≡◌, ◌≢◌, ℕ, ◌+◌, ◌<◌, ◌≤◌, List, [], ◌∷◌, ◌++◌, length, get_or, set, refl, sym, ◌∙◌, subst, inl, inr, arith, All, cases_eq, get_or-set_same, get_or-set_other, length-append, All-nil, All-cons, All-head, All-tail, All-push, all_pairs_push, Fact, Parts, Holds, IsBasic, HaveGone, Deleted, HasRoom, NotesOn, Replaces}
+use Rattle.sas_run.proofs.Imports.{get_or_append_left, get_or-append-add, ◌≡◌, ◌≢◌, ℕ, ◌+◌, ◌<◌, ◌≤◌, List, [], ◌∷◌, ◌++◌, length, get_or, set, refl, sym, ◌∙◌, subst, inl, inr, arith, All, cases_eq, get_or-set_same, get_or-set_other, length-append, All-nil, All-head, All-push, all_pairs_push, Fact, Parts, Holds, IsBasic, HaveGone, Deleted, HasRoom, NotesOn, Replaces}
 
 -- facts are still noted or not, as before
 pub notes_on : (a b c : Deleted) → NotesOn a b → NotesOn b c → NotesOn a c
@@ -20,12 +20,10 @@ deleted_few s fact deleted deleted' replaces = grind (arith, common_steps, lengt
 
 -- for a list in two parts
 pub all_front : {X : Type 0} (P : X → Type 0) (xs ys : List X) → All P (xs ++ ys) → All P xs
-all_front P [] ys h = All-nil P
-all_front P (x ∷ xs) ys h = All-cons P x xs (All-head P x (xs ++ ys) h) (all_front P xs ys (All-tail P x (xs ++ ys) h))
+all_front P xs ys h k d lt = subst P (get_or_append_left xs ys d k lt) (h k d (omega (arith, length-append xs ys)))
 
 pub all_behind : {X : Type 0} (P : X → Type 0) (xs ys : List X) → All P (xs ++ ys) → All P ys
-all_behind P [] ys h = h
-all_behind P (x ∷ xs) ys h = all_behind P xs ys (All-tail P x (xs ++ ys) h)
+all_behind P xs ys h k d lt = subst P (get_or-append-add xs ys k d) (h (length xs + k) d (omega (arith, length-append xs ys)))
 
 -- what holds for each deleted fact, and for the one that may be added, holds for all
 pub all_replaced : (P : Fact → Type 0) (s : List ℕ) (fact : Fact) (deleted deleted' : List Fact) → Replaces s fact deleted deleted' → All P deleted

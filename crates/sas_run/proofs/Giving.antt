@@ -13,19 +13,7 @@ module _ (p : Parts) (s : List ℕ) (o : Operator) (n : ℕ) (given : List (Opti
 
   -- one more effect fires that gives another value: it is the first that conflicts
   pub conflicts_first : n < length o.effects → Fires s (effect_at o n) → (given' : List (Option ℕ)) → GivesOther given (effect_at o n).var (effect_at o n).new given' → IsFirstConflict s o n
-  conflicts_first within fires given' gives_other =
-      let (value, at, differs) = gives_other.other in
-      let (k, lt, fires', on, new) = is.giver (effect_at o n).var value at in
-      record {
-        exists = within;
-        fires = fires;
-        earlier = k;
-        before = lt;
-        earlier_fires = fires';
-        contradicts = record { var = on; new = λ same. differs (sym new ∙ same) };
-        first = λ e f before below fires_e fires_f contradicts.
-            contradicts.new (same_Some (effect_at o e).new (effect_at o f).new (sym (is.gives e (omega arith) fires_e) ∙ ap (given_to given) contradicts.var ∙ is.gives f below fires_f));
-      }
+  conflicts_first within fires given' gives_other = grind (arith, is, same_Some)
 
   -- one more effect that fires gives its new value
   pub gives_one_more : (effect_at o n).var < length p.variables → Fires s (effect_at o n) → (given' : List (Option ℕ)) → GivesValue given (effect_at o n).var (effect_at o n).new given'
@@ -46,14 +34,7 @@ module _ (p : Parts) (s : List ℕ) (o : Operator) (n : ℕ) (given : List (Opti
       elsewhere var ne = get_or-set_other given (effect_at o n).var var (Some (effect_at o n).new) None ne
 
       gives : (k : ℕ) → k < n + 1 → Fires s (effect_at o k) → given_to now (effect_at o k).var ≡ Some (effect_at o k).new
-      gives k lt fires' = elim (cases_eq k n) [
-        | inl e ↦ subst (λ i. given_to now (effect_at o i).var ≡ Some (effect_at o i).new) (sym e) at_n
-        | inr ne ↦ (let before : given_to given (effect_at o k).var ≡ Some (effect_at o k).new = is.gives k (omega arith) fires' in
-            elim (cases_eq (effect_at o k).var (effect_at o n).var) [
-              | inl same ↦ ap (given_to now) same ∙ (at_n ∙ ap (λ x. Some x) (sym (new.before (effect_at o k).new (ap (given_to given) (sym same) ∙ before))))
-              | inr other ↦ elsewhere (effect_at o k).var other ∙ before
-            ])
-      ]
+      gives k lt fires' = grind (arith, cases_eq k n, cases_eq (effect_at o k).var (effect_at o n).var, is.gives k, new.before (effect_at o k).new, at_n, elsewhere (effect_at o k).var)
 
       giver : (var value : ℕ) → given_to now var ≡ Some value → (k : ℕ) × (k < n + 1) × Fires s (effect_at o k) × ((effect_at o k).var ≡ var) × ((effect_at o k).new ≡ value)
       giver var value at = elim (cases_eq var (effect_at o n).var) [

@@ -1,5 +1,5 @@
 -- Making changes on different variables one after another.
-use Rattle.sas_run.proofs.Imports.{◌≡◌, ◌≢◌, ℕ, ◌+◌, ◌<◌, List, [], ◌∷◌, ◌++◌, length, get_or, set, Option, None, Some, refl, sym, ◌∙◌, ap, subst, inl, inr, arith, filter_map, option_map, All, cons_option, cases_eq, get_or-set_same, get_or-set_other, get_or-map, length-map, All-nil, All-cons, All-head, All-tail, All-map, All-append, All-weaker, same_Some, Replaces, AreApart, AreMade, IsPlainStep, OldHolds, IsApplied, Change, Effect, Fact, Operator, Parts, plain_effect, plain_effects, effect_change, operator_at, effect_at, HasValue, IsState, WellRanged, IsBasic, IsLayered, Holds, AllHold, preconditions, old_fact, Fires, fact_within, state_set}
+use Rattle.sas_run.proofs.Imports.{◌≡◌, ◌≢◌, ℕ, ◌+◌, ◌<◌, List, [], ◌∷◌, ◌++◌, length, get_or, set, Option, None, Some, sym, ◌∙◌, ap, subst, arith, filter_map, option_map, All, cons_option, cases_eq, get_or-set_same, get_or-set_other, get_or-map, length-map, All-nil, All-cons, All-head, All-tail, All-map, All-append, All-weaker, same_Some, Replaces, AreApart, AreMade, IsPlainStep, OldHolds, IsApplied, Change, Effect, Fact, Operator, Parts, plain_effect, plain_effects, effect_change, operator_at, effect_at, HasValue, IsState, WellRanged, IsBasic, IsLayered, Holds, AllHold, preconditions, old_fact, Fires, fact_within, state_set}
 use Rattle.sas_run.proofs.Ranges.{no_effect}
 use Rattle.sas_run.proofs.NextStates.{effects_fit, effects_basic}
 use Rattle.sas_run.proofs.Deleted.{all_front, all_behind, DeletedSoFar, deleted_more}
@@ -28,10 +28,7 @@ module _ (p : Parts) (s s' : List ℕ) (changes : List Change) (n : ℕ) (made :
   in_state = let one_each = made.state.one_each in omega arith
 
   now_set : (k : ℕ) (d : Change) → k < n + 1 → get_or (set s' change.var change.new) (get_or changes k d).var 0 ≡ (get_or changes k d).new
-  now_set k d lt = elim (cases_eq k n) [
-    | inl e ↦ subst (λ (c : Change). get_or (set s' change.var change.new) c.var 0 ≡ c.new) (sym (ap (λ i. get_or changes i d) e ∙ at d)) (get_or-set_same s' change.var change.new 0 in_state)
-    | inr ne ↦ (let below : k < n = omega arith in get_or-set_other s' change.var (get_or changes k d).var change.new 0 (fresh k d below) ∙ made.set k d below)
-  ]
+  now_set k d lt = grind (arith, cases_eq k n, get_or-set_same s' change.var change.new 0, get_or-set_other s' change.var (get_or changes k d).var change.new 0, made.set k d, at d, in_state, fresh k d)
 
   -- a variable that neither the changes so far nor this one change
   fewer : (var : ℕ) → Untouched changes (n + 1) var → Untouched changes n var
@@ -107,17 +104,13 @@ applied_plainly p s o changes s' applicable plain made =
 
 -- ---- the old values that changes require
 
-none_is_not : (value : ℕ) → None ≡ Some value → ⊥
-none_is_not value is = absurd cc
-
 one_old_holds : (s : List ℕ) (var : ℕ) (old : Option ℕ) (facts : List Fact) → ((value : ℕ) → old ≡ Some value → get_or s var 0 ≡ value)
     → AllHold (λ v. get_or s v 0) facts → AllHold (λ v. get_or s v 0) (cons_option (option_map (λ (value : ℕ). record { var = var; value = value }) old) facts)
-one_old_holds s var None facts holds all = all
-one_old_holds s var (Some value) facts holds all = All-cons (Holds (λ v. get_or s v 0)) (record { var = var; value = value }) facts (holds value refl) all
+one_old_holds s var old facts holds all = grind (arith, All-cons)
 
 one_old_held : (s : List ℕ) (var : ℕ) (old : Option ℕ) (facts : List Fact) → AllHold (λ v. get_or s v 0) (cons_option (option_map (λ (value : ℕ). record { var = var; value = value }) old) facts)
     → ((value : ℕ) → old ≡ Some value → get_or s var 0 ≡ value) × AllHold (λ v. get_or s v 0) facts
-one_old_held s var None facts all = ((λ value is. absurd (none_is_not value is)), all)
+one_old_held s var None facts all = ((λ value is. absurd cc), all)
 one_old_held s var (Some old) facts all = (
   (λ value is. All-head (Holds (λ v. get_or s v 0)) (record { var = var; value = old }) facts all ∙ same_Some old value is),
   All-tail (Holds (λ v. get_or s v 0)) (record { var = var; value = old }) facts all,

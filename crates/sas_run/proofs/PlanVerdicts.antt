@@ -1,6 +1,6 @@
 -- A plan of a layered task is valid in one way, or has exactly one fault.
 use Rattle.std.proofs.Math.Numerals.{add-one}
-use Rattle.sas_run.proofs.Imports.{subst, ◌≡◌, ℕ, zero, suc, ◌+◌, ◌≤◌, ◌⊎◌, List, [], ◌∷◌, ◌++◌, length, take, get_or, slice_index, Option, None, Some, refl, sym, ◌∙◌, ap, inl, inr, arith, cases_eq, cases_lt, take_all, take_more, same_Some, Parts, PlanParts, IsState, WellRanged, IsLayered, initial_exists, PlanFault, Memory, NoOperator, NotApplicable, Conflict, GoalMissed, CostDiffers, SomeVerdict, ValidHasNoFault, ValidIsOne, FaultIsOne, LeadsTo, cost_of_all, IsValid, StepFails, ComesTo, IsFaultOf, ◌≢◌, IsNamed, NoneApplicable, IsChosen, operator_at, AllHold, Agree, IsFirstMissed}
+use Rattle.sas_run.proofs.Imports.{◌≡◌, ℕ, zero, suc, ◌+◌, ◌≤◌, ◌⊎◌, List, [], ◌∷◌, ◌++◌, length, take, get_or, slice_index, Option, None, Some, refl, sym, ◌∙◌, ap, inl, inr, arith, cases_eq, cases_lt, take_all, take_more, same_Some, Parts, PlanParts, IsState, WellRanged, IsLayered, initial_exists, PlanFault, Memory, NoOperator, NotApplicable, Conflict, GoalMissed, CostDiffers, SomeVerdict, ValidHasNoFault, ValidIsOne, FaultIsOne, LeadsTo, cost_of_all, IsValid, StepFails, ComesTo, IsFaultOf, IsFinalVerdict}
 use Rattle.sas_run.proofs.Choosing.{named_or_none, chosen_or_none, hold_or_missed, first_missed_is_one, none_missed}
 use Rattle.sas_run.proofs.Determined.{chosen_is_one, GoesOn, leads_one_way, comes_on, comes_past, comes_one_way}
 use Rattle.sas_run.proofs.Endings.{stops_there, ends_faulty}
@@ -10,51 +10,17 @@ use Rattle.sas_run.proofs.PlanStates.{leads_to_rest}
 
 -- ---- a plan ends in one way
 
--- the step fails with this verdict
-data Hinders (p : Parts) (s name : List ℕ) (step : ℕ) (verdict : Option PlanFault) : Type 0 where
-  nobody : ((operator : ℕ) → IsNamed p name operator → ⊥) → verdict ≡ Some (NoOperator step) → Hinders p s name step verdict
-  blocked : (operator : ℕ) → IsNamed p name operator → NoneApplicable p s name → verdict ≡ Some (NotApplicable step) → Hinders p s name step verdict
-  conflicting : (operator : ℕ) → IsChosen p s name operator → (Agree s (operator_at p operator).effects → ⊥) → verdict ≡ Some (Conflict step operator)
-      → Hinders p s name step verdict
+-- a name whose step fails has no step
+fails_not_on : (p : Parts) (s name : List ℕ) (step : ℕ) (fault : PlanFault) → StepFails p s name step fault → GoesOn p s name → ⊥
+fails_not_on p s name step fault fails on = grind (arith, chosen_is_one p s name)
 
--- in this case the name has no step
-hindered : (p : Parts) (s name : List ℕ) (step : ℕ) (verdict : Option PlanFault) → Hinders p s name step verdict → GoesOn p s name → ⊥
-hindered p s name step verdict (nobody none _) on = none on.operator on.chosen.of_name
-hindered p s name step verdict (blocked operator is none _) on = none on.operator on.chosen.of_name on.chosen.applicable
-hindered p s name step verdict (conflicting operator chosen none _) on =
-    none (subst (λ k. Agree s (operator_at p k).effects) (chosen_is_one p s name on.operator operator on.chosen chosen) on.step.agree)
+-- it fails in one way
+fails_one : (p : Parts) (s name : List ℕ) (step : ℕ) (a b : PlanFault) → StepFails p s name step a → StepFails p s name step b → a ≡ b
+fails_one p s name step a b x y = grind (arith, chosen_is_one p s name)
 
--- and there is at most one such verdict
-hinders_one : (p : Parts) (s name : List ℕ) (step : ℕ) (a b : Option PlanFault) → Hinders p s name step a → Hinders p s name step b → a ≡ b
-hinders_one p s name step a b (nobody none e) (nobody none' f) = e ∙ sym f
-hinders_one p s name step a b (nobody none e) (blocked operator is none' f) = absurd (none operator is)
-hinders_one p s name step a b (nobody none e) (conflicting operator chosen none' f) = absurd (none operator chosen.of_name)
-hinders_one p s name step a b (blocked operator is none e) (nobody none' f) = absurd (none' operator is)
-hinders_one p s name step a b (blocked operator is none e) (blocked operator' is' none' f) = e ∙ sym f
-hinders_one p s name step a b (blocked operator is none e) (conflicting operator' chosen none' f) = absurd (none operator' chosen.of_name chosen.applicable)
-hinders_one p s name step a b (conflicting operator chosen none e) (nobody none' f) = absurd (none' operator chosen.of_name)
-hinders_one p s name step a b (conflicting operator chosen none e) (blocked operator' is none' f) = absurd (none' operator chosen.of_name chosen.applicable)
-hinders_one p s name step a b (conflicting operator chosen none e) (conflicting operator' chosen' none' f) =
-    e ∙ (ap (λ k. Some (Conflict step k)) (chosen_is_one p s name operator operator' chosen chosen') ∙ sym f)
-
--- the steps of a plan are executable, and this is the verdict after the last one
-data Judges (p : Parts) (plan : PlanParts) (operators last : List ℕ) (verdict : Option PlanFault) : Type 0 where
-  passes : AllHold (slice_index last) p.goal → cost_of_all p operators ≡ plan.cost → verdict ≡ None → Judges p plan operators last verdict
-  misses : (index : ℕ) → IsFirstMissed (slice_index last) p.goal index → verdict ≡ Some (GoalMissed index) → Judges p plan operators last verdict
-  differs : AllHold (slice_index last) p.goal → cost_of_all p operators ≢ plan.cost → verdict ≡ Some (CostDiffers (cost_of_all p operators))
-      → Judges p plan operators last verdict
-
-judges_one : (p : Parts) (plan : PlanParts) (operators last : List ℕ) (a b : Option PlanFault) → Judges p plan operators last a → Judges p plan operators last b → a ≡ b
-judges_one p plan operators last a b (passes goal cost e) (passes goal' cost' f) = e ∙ sym f
-judges_one p plan operators last a b (passes goal cost e) (misses index missed f) = absurd (none_missed (slice_index last) p.goal index goal missed)
-judges_one p plan operators last a b (passes goal cost e) (differs goal' other f) = absurd (other cost)
-judges_one p plan operators last a b (misses index missed e) (passes goal cost f) = absurd (none_missed (slice_index last) p.goal index goal missed)
-judges_one p plan operators last a b (misses index missed e) (misses index' missed' f) =
-    e ∙ (ap (λ k. Some (GoalMissed k)) (first_missed_is_one (slice_index last) p.goal index index' missed missed') ∙ sym f)
-judges_one p plan operators last a b (misses index missed e) (differs goal other f) = absurd (none_missed (slice_index last) p.goal index goal missed)
-judges_one p plan operators last a b (differs goal other e) (passes goal' cost f) = absurd (other cost)
-judges_one p plan operators last a b (differs goal other e) (misses index missed f) = absurd (none_missed (slice_index last) p.goal index goal missed)
-judges_one p plan operators last a b (differs goal other e) (differs goal' other' f) = e ∙ sym f
+-- after the last step there is one verdict
+judged_one : (p : Parts) (operators s : List ℕ) (cost : ℕ) (a b : Option PlanFault) → IsFinalVerdict p operators s cost a → IsFinalVerdict p operators s cost b → a ≡ b
+judged_one p operators s cost a b x y = grind (arith, none_missed (slice_index s) p.goal, first_missed_is_one (slice_index s) p.goal)
 
 -- the plan has this fault, or is valid
 abbrev IsVerdict : Parts → PlanParts → Option PlanFault → Type 0
@@ -66,32 +32,33 @@ record StuckAt (p : Parts) (plan : PlanParts) (verdict : Option PlanFault) : Typ
   step : ℕ
   s : List ℕ
   name : List ℕ
+  fault : PlanFault
+  is : verdict ≡ Some fault
   comes : ComesTo p plan.steps step s name
-  hinders : Hinders p s name step verdict
+  fails : StepFails p s name step fault
 
 -- or after its last step
 record EndsAt (p : Parts) (plan : PlanParts) (verdict : Option PlanFault) : Type 0 where
   operators : List ℕ
   last : List ℕ
   leads : LeadsTo p plan.steps operators last
-  judges : Judges p plan operators last verdict
+  judged : IsFinalVerdict p operators last plan.cost verdict
 
 stuck_or_ended : (p : Parts) (plan : PlanParts) (verdict : Option PlanFault) → IsVerdict p plan verdict → StuckAt p plan verdict ⊎ EndsAt p plan verdict
-stuck_or_ended p plan None v = inr (record { operators = v.0; last = v.1.last; leads = v.1.leads; judges = passes v.1.goal v.1.cost refl })
-stuck_or_ended p plan (Some (NoOperator step)) f = inl (record { step = step; s = f.0; name = f.1; comes = f.2; hinders = nobody f.3 refl })
-stuck_or_ended p plan (Some (NotApplicable step)) f = inl (record { step = step; s = f.0; name = f.1; comes = f.2; hinders = blocked f.3.0 f.3.1 f.4 refl })
-stuck_or_ended p plan (Some (Conflict step operator)) f = inl (record { step = step; s = f.0; name = f.1; comes = f.2; hinders = conflicting operator f.3 f.4 refl })
-stuck_or_ended p plan (Some (GoalMissed index)) f = inr (record { operators = f.0; last = f.1; leads = f.2; judges = misses index f.3 refl })
-stuck_or_ended p plan (Some (CostDiffers sum)) f =
-    inr (record { operators = f.0; last = f.1; leads = f.2; judges = differs f.3 (λ same. f.5 (f.4 ∙ same)) (ap (λ n. Some (CostDiffers n)) f.4) })
+stuck_or_ended p plan None v = inr (record { operators = v.0; last = v.1.last; leads = v.1.leads; judged = (v.1.goal, v.1.cost) })
+stuck_or_ended p plan (Some (NoOperator step)) f = inl (record { step = step; s = f.0; name = f.1; fault = NoOperator step; is = refl; comes = f.2; fails = (refl, f.3) })
+stuck_or_ended p plan (Some (NotApplicable step)) f = inl (record { step = step; s = f.0; name = f.1; fault = NotApplicable step; is = refl; comes = f.2; fails = (refl, f.3, f.4) })
+stuck_or_ended p plan (Some (Conflict step operator)) f = inl (record { step = step; s = f.0; name = f.1; fault = Conflict step operator; is = refl; comes = f.2; fails = (refl, f.3, f.4) })
+stuck_or_ended p plan (Some (GoalMissed index)) f = inr (record { operators = f.0; last = f.1; leads = f.2; judged = f.3 })
+stuck_or_ended p plan (Some (CostDiffers sum)) f = inr (record { operators = f.0; last = f.1; leads = f.2; judged = (f.3, f.4, f.5) })
 stuck_or_ended p plan (Some Memory) f = absurd f
 
 module _ (p : Parts) (plan : PlanParts) (layered : IsLayered p) where
   stuck_one : (a b : Option PlanFault) → StuckAt p plan a → StuckAt p plan b → a ≡ b
   stuck_one a b x y = elim (cases_lt x.step y.step) [
-    | inl lt ↦ absurd (hindered p x.s x.name x.step a x.hinders (comes_past p layered plan.steps x.step y.step x.s y.s x.name y.name lt x.comes y.comes))
+    | inl lt ↦ absurd (fails_not_on p x.s x.name x.step x.fault x.fails (comes_past p layered plan.steps x.step y.step x.s y.s x.name y.name lt x.comes y.comes))
     | inr ge ↦ elim (cases_lt y.step x.step) [
-      | inl lt ↦ absurd (hindered p y.s y.name y.step b y.hinders (comes_past p layered plan.steps y.step x.step y.s x.s y.name x.name lt y.comes x.comes))
+      | inl lt ↦ absurd (fails_not_on p y.s y.name y.step y.fault y.fails (comes_past p layered plan.steps y.step x.step y.s x.s y.name x.name lt y.comes x.comes))
       | inr le ↦ at_one (omega arith)
     ]
   ]
@@ -99,16 +66,16 @@ module _ (p : Parts) (plan : PlanParts) (layered : IsLayered p) where
       at_one : x.step ≡ y.step → a ≡ b
       at_one same =
           let r = comes_one_way p layered plan.steps x.step y.step x.s y.s x.name y.name same x.comes y.comes in
-          hinders_one p y.s y.name y.step a b (rw (same, r.0, r.1) at x.hinders) y.hinders
+          x.is ∙ (ap (λ fault. Some fault) (fails_one p y.s y.name y.step x.fault y.fault (rw (same, r.0, r.1) at x.fails) y.fails) ∙ sym y.is)
 
   stuck_not_led : (verdict : Option PlanFault) (operators last : List ℕ) → StuckAt p plan verdict → LeadsTo p plan.steps operators last → ⊥
   stuck_not_led verdict operators last x leads =
-      hindered p x.s x.name x.step verdict x.hinders (comes_on p layered plan.steps x.step x.s x.name operators last leads x.comes)
+      fails_not_on p x.s x.name x.step x.fault x.fails (comes_on p layered plan.steps x.step x.s x.name operators last leads x.comes)
 
   ended_one : (a b : Option PlanFault) → EndsAt p plan a → EndsAt p plan b → a ≡ b
   ended_one a b x y =
       let r = leads_one_way p layered plan.steps x.operators y.operators x.last y.last x.leads y.leads in
-      judges_one p plan y.operators y.last a b (rw (r.0, r.1) at x.judges) y.judges
+      judged_one p y.operators y.last plan.cost a b (rw (r.0, r.1) at x.judged) y.judged
 
   verdict_one : (a b : Option PlanFault) → IsVerdict p plan a → IsVerdict p plan b → a ≡ b
   verdict_one a b f g = elim (stuck_or_ended p plan a f) [

@@ -6,12 +6,14 @@ ghost use Rattle.sas_core.specs.Variables.{IsState};
 ghost use Rattle.sas_run.specs.Deletions.{HasRoom, NotesOn, NotesGone};
 ghost use Rattle.sas_run.specs.Plans.{IsApplicable};
 ghost use Rattle.sas_run.specs.Running.{IsFirstConflict, IsStepFault, Applies};
+ghost use Rattle.sas_run.specs.Stepping.{IsPrepared};
 ghost use Rattle.sas_run.specs.Given.{NothingGiven, IsGiven, IsGivenTo, value_after, GivesValue, GivesOther};
 
 use crate::deletions::Deleted;
 use crate::plain_steps::{make_changes, plain_step, replace};
+use crate::stepper::Stepper;
 use sas_core::{Change, Fact, Grounded, Items};
-use sas_meaning::{Layered, Preconditions, State};
+use sas_meaning::{Layered, Preconditions, Settle, State};
 
 /// Why an operator has no step in a state.
 #[derive(Clone, Copy, Debug, PartialEq, Eq)]
@@ -46,26 +48,28 @@ pub fn missed_precondition<T: Grounded>(
 
 /// Applies the effects that fire to the state. The operator must be applicable. On success `deleted` contains the facts that the effects
 /// made false, if they are noted. If two of the effects conflict, leaves the state and `deleted` unchanged and returns the fault. Unless
-/// the effects are plain, first stores the value that each of them sets in `given`, which has no value before and after.
+/// the effects are plain, first stores the value that each of them sets in `given`.
+#[tactic(auto, using(crate::proofs::Deleted::room_on))]
 #[inline(always)]
-pub fn apply<T: Grounded>(
+pub fn apply<E: Settle<T> + Drop, T: Grounded>(
     task: &Layered<T>,
+    stepper: &mut Stepper<E>,
     operator: u32,
-    given: &mut Items<Option<u32>>,
-    deleted: &mut Deleted,
     state: &mut State,
 ) -> Result<(), StepFault>
+    requires prepared { IsPrepared E.ready task.now stepper.old }
     requires operator { operator < length task.now.operators }
     requires state { IsState task.now.variables state.old }
     requires applicable { IsApplicable state.old (operator_at task.now operator) }
-    requires clean { NothingGiven task.now given.old }
-    requires room { HasRoom deleted.old (length (operator_at task.now operator).effects) }
+    ensures prepared { IsPrepared E.ready task.now stepper.new }
     ensures applies { Applies task.now state.old operator state.new result }
-    ensures gone { OnOk result (NotesGone task.now deleted.new state.old state.new) }
-    ensures same { OnErr result (deleted.new ≡ deleted.old) }
-    ensures clean { NothingGiven task.now given.new }
-    ensures notes { NotesOn deleted.old deleted.new }
+    ensures gone { OnOk result (NotesGone task.now stepper.new.deleted state.old state.new) }
+    ensures same { OnErr result (stepper.new.deleted ≡ stepper.old.deleted) }
+    ensures notes { NotesOn stepper.old.deleted stepper.new.deleted }
+    ensures evaluator { stepper.new.evaluator ≡ stepper.old.evaluator }
 {
+    let given = &mut stepper.given;
+    let deleted = &mut stepper.deleted;
     if let Some(changes) = plain_step(task, operator) {
         make_changes(task, operator, changes, deleted, state);
         return Ok(());

@@ -70,12 +70,6 @@ judge_last-requires-clause-exist g c =
     let progress = c.loop-before.progress in
     leads_by c.args.layered.now (take c.loop-before.before (g.P.Stepwise.says c.args.plan.now).steps) progress.operators.items progress.state c.loop-before.invariant.leads
 
-pub loop-before-init : goal.loop-before-init
-loop-before-init g c = grind (arith, common_steps)
-
-pub go_on-requires-clause-first : goal.go_on-requires-clause-first
-go_on-requires-clause-first g c = grind (arith, common_steps)
-
 pub unwrap-requires : goal.unwrap-requires
 unwrap-requires g c =
     let inv = c.loop-before.invariant in

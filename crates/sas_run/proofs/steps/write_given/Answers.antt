@@ -1,5 +1,5 @@
 -- The given value of one more variable is written and removed.
-use Rattle.sas_run.proofs.Imports.{◌≡◌, ◌<◌, length, set, None, Some, sym, ap, subst, ◌∙◌, inl, inr, arith, IsTrue, cases_eq, Change, operator_at, effect_at, IsBasic, state_set, Deleted, NotesOn, given_to}
+use Rattle.sas_run.proofs.Imports.{◌≡◌, ◌<◌, length, set, None, Some, sym, ap, subst, ◌∙◌, arith, IsTrue, cases_eq, Change, operator_at, effect_at, IsBasic, state_set, Deleted, NotesOn, given_to}
 use Rattle.sas_run.proofs.Ranges.{no_effect, change_within}
 use Rattle.sas_run.proofs.Giving.{HasGiven, others_given, fewer_on_effects, one_more_taken, written_same}
 use Rattle.sas_run.proofs.Deleted.{notes_on, deleted_more}
@@ -46,10 +46,7 @@ loop-effect-preserved g c =
           rw (w.given-is, w.state-is, w.deleted-is) record {
             state = inv.state;
             on_effects = inv.on_effects;
-            taken = λ k lt. elim (cases_eq k n) [
-              | inl e ↦ subst (λ x. given_to given x ≡ None) (on ∙ ap (λ i. (effect_at o i).var) (sym e)) none
-              | inr ne ↦ inv.taken k (omega arith)
-            ];
+            taken = λ k lt. grind (arith, cases_eq k n, on, none, inv.taken k);
             written = inv.written;
             deleted = λ noted.
                 (let so_far = inv.deleted noted in
