@@ -1,6 +1,6 @@
 -- An execution advances along its run.
 use Rattle.std.proofs.lemmas.Grind.{common_steps}
-use Rattle.sas_run.proofs.Imports.{◌≡◌, ℕ, ◌+◌, ◌<◌, ◌≤◌, List, [], length, get_or, Option, None, Result, Ok, Err, refl, sym, ◌∙◌, ap, subst, inl, inr, arith, rules, IsTrue, vec_capacity, IsOk, cases_lt, get_or-take, get_or_default, length-take, Parts, operator_at, PlanParts, IsState, IsLayered, IsInitial, Step, step_is_one, IsChain, HaveChains, IsNamed, AreFirsts, IsNextNamed, PlanFault, Progress, Stepper, StepFault, Executed, next_name, next_operator, Executes, IsFound, Advances, executed_of, IsExecuting, MakesStep, Steps, IsPrepared, ListsChanges, Run, state_at, IsRunOf, IsEnding}
+use Rattle.sas_run.proofs.Imports.{◌≡◌, ℕ, ◌+◌, ◌<◌, ◌≤◌, List, [], length, get_or, Option, None, Result, Ok, Err, refl, sym, ◌∙◌, ap, subst, inl, inr, arith, rules, IsTrue, vec_capacity, IsOk, cases_lt, get_or-take, get_or_default, length-take, Parts, operator_at, PlanParts, IsState, IsLayered, IsInitial, Step, step_is_one, IsChain, HaveChains, IsNamed, AreFirsts, IsNextNamed, PlanFault, Progress, Stepper, StepFault, Executed, next_name, next_operator, Executes, IsFound, Advances, executed_of, IsExecuting, MakesStep, Steps, IsPrepared, ListsChanges, Run, state_at, IsEnding}
 use Rattle.sas_run.proofs.NextStates.{fault_is_conflict}
 use Rattle.sas_run.proofs.Runs.{still, still_goes, state_fits, first_state, run_goes}
 
@@ -31,17 +31,12 @@ module _ (run : Run) (e : Executed) (executes : Executes run e) where
     module _ (layered : IsLayered e.task) where
       -- the next step leads, by its operator, to the next state of the run
       pub next_goes : MakesStep e.task e.state (next_name e) (next_operator e) (state_at run (e.made + 1))
-      next_goes =
-          let next = state_at run (e.made + 1) in
-          subst (λ s. MakesStep e.task s (next_name e) (next_operator e) next) (sym executes.state)
-          (subst (λ name. MakesStep e.task (state_at run e.made) name (next_operator e) next) name_is
-          (subst (λ o. MakesStep e.task (state_at run e.made) (get_or run.steps e.made []) o next) (ap (λ (os : List ℕ). get_or os e.made 0) executes.operators)
-          (run_goes e.task run executes.of_plan.through layered e.made within)))
+      next_goes = rw (executes.state, ← name_is, ← executes.operators) (run_goes e.task run executes.of_plan.through layered e.made within)
 
       -- and so the execution advances
       pub goes_along : (operator : ℕ) (new : Executed) → Advances e operator new → Executes run new
       goes_along operator new advances = record {
-        of_plan = subst (λ p. IsRunOf p new.plan run) (sym advances.task) (subst (λ plan. IsRunOf e.task plan run) (sym advances.of_plan) executes.of_plan);
+        of_plan = rw (advances.task, advances.of_plan) executes.of_plan;
         operators = executes.operators ∙ sym advances.operators;
         within = omega (arith, advances.made, ap length advances.operators);
         state = step_is_one e.task e.state (operator_at e.task (next_operator e)) new.state (state_at run (e.made + 1)) layered
@@ -96,11 +91,10 @@ module _ {E : Type 0} {Ready : E → Parts → Type 0} {Follows : E → Parts �
     is_next = stands ∙ get_or_default progress.operators.items made operator 0 left
 
     pub step_goes : MakesStep p progress.state (next_name e) operator (state_at executing.run (made + 1))
-    step_goes = subst (λ o. MakesStep p progress.state (next_name e) o (state_at executing.run (made + 1))) (sym is_next)
-        (next_goes executing.run e executing.executes left layered)
+    step_goes = rw is_next (next_goes executing.run e executing.executes left layered)
 
     pub step_chain : IsChain p operator nexts
-    step_chain = subst (λ o. IsChain p o nexts) (sym is_next) (chain_next executing.run e executing.executes left layered found nexts executing.operators.firsts executing.operators.chains)
+    step_chain = rw is_next (chain_next executing.run e executing.executes left layered found nexts executing.operators.firsts executing.operators.chains)
 
     -- it was made
     module _ (stepper' : Stepper E) (state : List ℕ) (step : Step p progress.state (operator_at p operator) state)

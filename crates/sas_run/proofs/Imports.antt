@@ -4,7 +4,7 @@ pub use Rattle.std.proofs.Math.Seq.{take-append_seam, get_or-append_seam}
 pub use Rattle.std.proofs.lemmas.Bool.{cases_eq, cases_lt, cases_Bool, ltb-false, true_from_ne_false}
 pub use Rattle.std.proofs.lemmas.Grind.{common_steps}
 pub use Rattle.std.proofs.lemmas.List.{get_or-set_same, get_or-set_other, get_or_append_left, length-append, take_all, get_or-take, get_or_default, length-take, length-set, take-append-drop, drop_more, get_or-append-add, get_or-map, length-map, same_lists, take_more, get_or-drop, length-take-le, length-drop}
-pub use Rattle.std.proofs.lemmas.List.Elements.{All-nil, All-cons, All-push, All-weaker, All-head, All-tail, All-map, All-append, All-from_recursion, Contains-get_or, Contains-append_left, Contains-append_right, Contains-push, All-rest}
+pub use Rattle.std.proofs.lemmas.List.Elements.{All-nil, All-cons, All-push, All-weaker, All-head, All-tail, All-map, All-append, All-from_recursion, Contains-get_or, Contains-append_left, Contains-append_right, Contains-push}
 pub use Rattle.std.proofs.lemmas.List.Quantifiers.{all_pairs_push}
 pub use Rattle.std.proofs.lemmas.List.Sums.{count_by_more_no, count_by_more_yes, sum_by-cons}
 pub use Rattle.std.proofs.lemmas.Option.{slice_get-get_or, same_Some}
@@ -51,7 +51,7 @@ pub use Rattle.sas_run.specs.Laws.{LeadsToReachable, LastIsReachable, SomeVerdic
 pub use Rattle.sas_run.specs.PlainSteps.{AreApart, AreMade, IsPlainStep, OldHolds}
 pub use Rattle.sas_run.specs.Plans.{IsApplicable, NoneApplicable, IsChosen, LeadTo, LeadsTo, IsValid, cost_of_all}
 pub use Rattle.sas_run.specs.Running.{StepFails, IsFinalVerdict, MakesStep, Steps, IsApplied, IsFirstConflict, IsFirstMissedFact, IsFirstChosen, IsStepFault}
-pub use Rattle.sas_run.specs.Runs.{Run, steps_before, RunEndsWith, IsEnding, state_at, IsRunOf, last_state, StepsSucceed}
+pub use Rattle.sas_run.specs.Runs.{Run, steps_before, RunEndsWith, IsEnding, state_at, last_state, StepsSucceed}
 pub use Rattle.sas_run.specs.Stepping.{IsPrepared, ListsChanges, Follows, HasFactOn}
 pub use Rattle.sas_run.specs.Verdicts.{IsFirstMissed, ComesTo, IsFaultOf}
 pub use Rattle.sas_run.specs.declared.deletions.Deleted.{Deleted}

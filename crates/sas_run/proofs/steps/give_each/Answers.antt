@@ -1,5 +1,5 @@
 -- One more effect has given its value, if it fires.
-use Rattle.sas_run.proofs.Imports.{◌≡◌, ◌∙◌, ◌<◌, length, sym, subst, arith, All, Fact, slice_index, Change, operator_at, effect_at, effect_change, AllHold, Fires, IsGiven, IsGivenTo, GivesValue, GivesOther}
+use Rattle.sas_run.proofs.Imports.{◌≡◌, ◌∙◌, length, sym, subst, arith, slice_index, Change, operator_at, effect_at, effect_change, AllHold, Fires, IsGiven, IsGivenTo, GivesValue, GivesOther}
 use Rattle.sas_run.proofs.Ranges.{effect_fits, effect_within, conditions_within, change_within}
 use Rattle.sas_run.proofs.Giving.{given_on_effects, conflicts_first, gives_one_more}
 use Rattle.sas_run.proofs.PlainSteps.{no_change, change_made}
@@ -15,9 +15,7 @@ returns-clause-given_to g c =
 pub holds_all-requires : goal.holds_all-requires
 holds_all-requires g c =
     let p = c.args.task.now in
-    subst (All (λ (f : Fact). f.var < length c.args.state.now)) (sym c.effect_conditions.ensures)
-    (subst (λ n. All (λ (f : Fact). f.var < n) (effect_at (operator_at p c.args.operator) c.loop-effect.effect).conditions) (sym c.requires.state.one_each)
-    (conditions_within p c.task.ensures.well_ranged c.args.operator c.requires.operator c.loop-effect.effect (omega arith)))
+    rw (c.effect_conditions.ensures, c.requires.state.one_each) (conditions_within p c.task.ensures.well_ranged c.args.operator c.requires.operator c.loop-effect.effect (omega arith))
 
 pub give-requires : goal.give-requires
 give-requires g c =
