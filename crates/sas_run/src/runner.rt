@@ -7,8 +7,8 @@ ghost use Rattle.sas_names.specs.Chains.{IsChain};
 ghost use Rattle.sas_run.specs.Plans.{IsApplicable};
 ghost use Rattle.sas_run.specs.Running.{IsChoice, IsFirstChosen, IsLaterIfAny, IsGoalAnswer, Steps};
 
-use crate::holding::first_missed;
 use crate::plain_steps::old_values_hold;
+use crate::progress::first_missed;
 use crate::stepper::{Stepper, initial_of, step_on, stepper_for};
 use crate::steps::{StepFault, missed_precondition};
 use sas_core::{Grounded, Task};
