@@ -47,8 +47,7 @@ pub fn missed_precondition<T: Grounded>(
 }
 
 /// Applies the effects that fire to the state. The operator must be applicable. On success `deleted` contains the facts that the effects
-/// made false, if they are noted. If two of the effects conflict, leaves the state and `deleted` unchanged and returns the fault. Unless
-/// the effects are plain, first stores the value that each of them sets in `given`.
+/// made false, if they are noted. If two of the effects conflict, leaves the state and `deleted` unchanged and returns the fault.
 #[tactic(auto, using(crate::proofs::Deleted::room_on))]
 #[inline(always)]
 pub fn apply<E: Settle<T> + Drop, T: Grounded>(
@@ -74,6 +73,30 @@ pub fn apply<E: Settle<T> + Drop, T: Grounded>(
         make_changes(task, operator, changes, deleted, state);
         return Ok(());
     }
+    apply_given(task, operator, given, deleted, state)
+}
+
+/// Does the same as `apply`, also for effects that aren't plain. First stores the value that each of them sets in `given`, which has no value
+/// before and after. It isn't inlined, so that its loops have all registers.
+#[inline(never)]
+fn apply_given<T: Grounded>(
+    task: &Layered<T>,
+    operator: u32,
+    given: &mut Items<Option<u32>>,
+    deleted: &mut Deleted,
+    state: &mut State,
+) -> Result<(), StepFault>
+    requires operator { operator < length task.now.operators }
+    requires state { IsState task.now.variables state.old }
+    requires applicable { IsApplicable state.old (operator_at task.now operator) }
+    requires clean { NothingGiven task.now given.old }
+    requires room { HasRoom deleted.old (length (operator_at task.now operator).effects) }
+    ensures applies { Applies task.now state.old operator state.new result }
+    ensures gone { OnOk result (NotesGone task.now deleted.new state.old state.new) }
+    ensures same { OnErr result (deleted.new ≡ deleted.old) }
+    ensures clean { NothingGiven task.now given.new }
+    ensures notes { NotesOn deleted.old deleted.new }
+{
     if let Some(effect) = give_effects(task, operator, state, given) {
         take_back(task, operator, given);
         return Err(StepFault::Conflict { effect });
@@ -84,6 +107,7 @@ pub fn apply<E: Settle<T> + Drop, T: Grounded>(
 
 /// Stores, for each variable, the value to which the effects that fire set it. Stops at the first effect that conflicts with an earlier
 /// one, and returns it. Returns `None` if no effects conflict.
+#[inline(always)]
 fn give_effects<T: Grounded>(
     task: &Layered<T>,
     operator: u32,
