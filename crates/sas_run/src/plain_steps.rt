@@ -58,10 +58,14 @@ pub fn old_values_hold(state: &State, changes: &[Change]) -> bool
     ensures yes { IsTrue result → All (OldHolds state.now) changes.now }
     ensures no { IsFalse result → All (OldHolds state.now) changes.now → ⊥ }
 {
-    changes.iter().all(|change| match change.old {
-        Some(old) => state.value(change.var) == old,
-        None => true,
-    })
+    for change in changes {
+        if let Some(old) = change.old {
+            if state.value(change.var) != old {
+                return false;
+            }
+        }
+    }
+    true
 }
 
 /// Makes the changes in the state. They are those of the operator's effects. If deleted facts are noted, `deleted` then contains those
