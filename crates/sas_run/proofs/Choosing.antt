@@ -1,15 +1,10 @@
 -- It is decidable which operator a name means, and which fact is the first that doesn't hold.
+use Rattle.std.proofs.lemmas.Grind.{common_steps}
 use Rattle.sas_run.proofs.Imports.{◌≡◌, ℕ, zero, suc, ◌<◌, ◌⊎◌, List, [], ◌∷◌, length, slice_index, slice_index_or, bytes_eq, subst, inl, inr, arith, cases_eq, cases_lt, cases_Bool, bytes_eq-Decides, All-nil, All-cons, Fact, Parts, operator_at, Holds, AllHold, preconditions, hold_or_not, IsNamed, IsApplicable, NoneApplicable, IsChosen, IsFirstMissed}
 
 -- whether an operator has the name
 pub named_or_not : (p : Parts) (name : List ℕ) (operator : ℕ) → IsNamed p name operator ⊎ (IsNamed p name operator → ⊥)
-named_or_not p name operator = elim (cases_lt operator (length p.operators)) [
-  | inr ge ↦ inr (λ is. let lt = is.exists in omega arith)
-  | inl lt ↦ elim (cases_Bool (bytes_eq (operator_at p operator).name name)) [
-    | inl y ↦ inl (record { exists = lt; named = (bytes_eq-Decides (operator_at p operator).name name).0 y })
-    | inr n ↦ inr (λ is. let e = (bytes_eq-Decides (operator_at p operator).name name).1 is.named in cc)
-  ]
-]
+named_or_not p name operator = grind (arith, cases_lt operator (length p.operators), bytes_eq-Decides (operator_at p operator).name name, cases_Bool (bytes_eq (operator_at p operator).name name))
 
 -- whether an operator is applicable
 pub applicable_or_not : (p : Parts) (s : List ℕ) (operator : ℕ) → IsApplicable s (operator_at p operator) ⊎ (IsApplicable s (operator_at p operator) → ⊥)
@@ -40,13 +35,7 @@ named_or_none p name = elim (least_below (IsNamed p name) (named_or_not p name) 
 -- whether an operator has the name and is applicable
 can_or_not : (p : Parts) (s name : List ℕ) (operator : ℕ) → (IsNamed p name operator × IsApplicable s (operator_at p operator))
     ⊎ ((IsNamed p name operator × IsApplicable s (operator_at p operator)) → ⊥)
-can_or_not p s name operator = elim (named_or_not p name operator) [
-  | inr not_here ↦ inr (λ both. not_here both.0)
-  | inl is ↦ elim (applicable_or_not p s operator) [
-    | inl can ↦ inl (is, can)
-    | inr cannot ↦ inr (λ both. cannot both.1)
-  ]
-]
+can_or_not p s name operator = grind (arith, named_or_not p name operator, applicable_or_not p s operator)
 
 -- an operator is chosen, or none of the name is applicable
 pub chosen_or_none : (p : Parts) (s name : List ℕ) → ((operator : ℕ) × IsChosen p s name operator) ⊎ NoneApplicable p s name
@@ -75,13 +64,7 @@ no_fact = record { var = 0; value = 0 }
 
 -- there is at most one first fact that doesn't hold
 pub first_missed_is_one : (value : ℕ → ℕ) (facts : List Fact) (a b : ℕ) → IsFirstMissed value facts a → IsFirstMissed value facts b → a ≡ b
-first_missed_is_one value facts a b x y = elim (cases_lt a b) [
-  | inl lt ↦ absurd (x.missed no_fact (y.before a no_fact lt))
-  | inr ge ↦ elim (cases_lt b a) [
-    | inl lt ↦ absurd (y.missed no_fact (x.before b no_fact lt))
-    | inr le ↦ omega arith
-  ]
-]
+first_missed_is_one value facts a b x y = grind (arith, common_steps, cases_lt, x.missed no_fact, y.missed no_fact)
 
 -- if all facts hold, there is no first that doesn't
 pub none_missed : (value : ℕ → ℕ) (facts : List Fact) (index : ℕ) → AllHold value facts → IsFirstMissed value facts index → ⊥

@@ -13,23 +13,6 @@ pub record GoesOn (p : Parts) (s name : List ℕ) : Type 0 where
   pub next : List ℕ
   pub step : Step p s (operator_at p operator) next
 
--- the steps before this name lead to a state in which this name has a step
-pub record Passes (p : Parts) (s : List ℕ) (before : List (List ℕ)) (name : List ℕ) : Type 0 where
-  pub operators : List ℕ
-  pub there : List ℕ
-  pub goes : LeadTo p s before operators there
-  pub on : GoesOn p there name
-
--- executable steps have a step at each of their names
-pub passes : (p : Parts) (s : List ℕ) (before : List (List ℕ)) (name : List ℕ) (behind : List (List ℕ)) (operators last : List ℕ)
-    → LeadTo p s (before ++ name ∷ behind) operators last → Passes p s before name
-passes p s [] name behind [] last g = absurd g
-passes p s [] name behind (o ∷ os) last g = grind (arith, common_steps)
-passes p s (b ∷ bs) name behind [] last g = absurd g
-passes p s (b ∷ bs) name behind (o ∷ os) last g =
-    let r = passes p g.0 bs name behind os last g.3 in
-    record { operators = o ∷ r.operators; there = r.there; goes = (g.0, g.1, g.2, r.goes); on = r.on }
-
 -- of two indices of a list the lower one is before the other
 split_earlier : {A : Type 0} (before behind before' behind' : List A) (x x' : A) → before ++ x ∷ behind ≡ before' ++ x' ∷ behind'
     → length before < length before' → (between : List A) × (before' ≡ before ++ x ∷ between)
@@ -53,25 +36,35 @@ split_same (b ∷ bs) behind (y ∷ ys) behind' x x' e same =
     (ap (λ z. z ∷ bs) head ∙ ap (λ zs. y ∷ zs) r.0, r.1)
 
 module _ (p : Parts) (layered : IsLayered p) where
+  -- a name has at most one step in a state
+  makes_one : (s name : List ℕ) (o q : ℕ) (x y : List ℕ) → IsChosen p s name o → IsChosen p s name q → Step p s (operator_at p o) x → Step p s (operator_at p q) y
+      → (o ≡ q) × (x ≡ y)
+  makes_one s name o q x y chosen chosen' step step' =
+      let same = chosen_is_one p s name o q chosen chosen' in
+      (same, step_is_one p s (operator_at p o) x y layered step (subst (λ k. Step p s (operator_at p k) y) (sym same) step'))
+
   -- the same steps from the same state have the same operators and lead to the same state
-  pub goes_one_way : (s : List ℕ) (names : List (List ℕ)) (a b x y : List ℕ) → LeadTo p s names a x → LeadTo p s names b y → (a ≡ b) × (x ≡ y)
+  goes_one_way : (s : List ℕ) (names : List (List ℕ)) (a b x y : List ℕ) → LeadTo p s names a x → LeadTo p s names b y → (a ≡ b) × (x ≡ y)
   goes_one_way s [] [] [] x y g h = (refl, g ∙ sym h)
   goes_one_way s [] [] (q ∷ b) x y g h = absurd h
   goes_one_way s [] (o ∷ a) b x y g h = absurd g
   goes_one_way s (n ∷ ns) [] b x y g h = absurd g
   goes_one_way s (n ∷ ns) (o ∷ a) [] x y g h = absurd h
   goes_one_way s (n ∷ ns) (o ∷ a) (q ∷ b) x y g h =
-      let same : o ≡ q = chosen_is_one p s n o q g.1 h.1 in
-      let next : g.0 ≡ h.0 = step_is_one p s (operator_at p o) g.0 h.0 layered g.2 (subst (λ k. Step p s (operator_at p k) h.0) (sym same) h.2) in
-      let r = goes_one_way g.0 ns a b x y g.3 (subst (λ z. LeadTo p z ns b y) (sym next) h.3) in
-      (ap (λ k. k ∷ a) same ∙ ap (λ ks. q ∷ ks) r.0, r.1)
+      let e = makes_one s n o q g.0 h.0 g.1 h.1 g.2 h.2 in
+      let r = goes_one_way g.0 ns a b x y g.3 (subst (λ z. LeadTo p z ns b y) (sym e.1) h.3) in
+      (ap (λ k. k ∷ a) e.0 ∙ ap (λ ks. q ∷ ks) r.0, r.1)
 
   -- executable steps have a step at each of their names
-  pub goes_on : (s : List ℕ) (before : List (List ℕ)) (name : List ℕ) (behind : List (List ℕ)) (operators last first there : List ℕ)
+  goes_on : (s : List ℕ) (before : List (List ℕ)) (name : List ℕ) (behind : List (List ℕ)) (operators last first there : List ℕ)
       → LeadTo p s (before ++ name ∷ behind) operators last → LeadTo p s before first there → GoesOn p there name
-  goes_on s before name behind operators last first there g h =
-      let r = passes p s before name behind operators last g in
-      subst (λ z. GoesOn p z name) (goes_one_way s before r.operators first r.there there r.goes h).1 r.on
+  goes_on s [] name behind [] last first there g h = absurd g
+  goes_on s [] name behind (o ∷ os) last [] there g h = rw h record { operator = o; chosen = g.1; next = g.0; step = g.2 }
+  goes_on s [] name behind (o ∷ os) last (q ∷ qs) there g h = absurd h
+  goes_on s (b ∷ bs) name behind [] last first there g h = absurd g
+  goes_on s (b ∷ bs) name behind (o ∷ os) last [] there g h = absurd h
+  goes_on s (b ∷ bs) name behind (o ∷ os) last (q ∷ qs) there g h =
+      goes_on g.0 bs name behind os last qs there g.3 (subst (λ z. LeadTo p z bs qs there) (sym (makes_one s b o q g.0 h.0 g.1 h.1 g.2 h.2).1) h.3)
 
   pub initial_is_one : (a b : List ℕ) → IsInitial p a → IsInitial p b → a ≡ b
   initial_is_one a b x y = settled_is_one p p.init a b layered x y

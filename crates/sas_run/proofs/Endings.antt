@@ -18,30 +18,23 @@ module _ (p : Parts) (plan : PlanParts) (k : ℕ) (lt : k < length plan.steps) (
     leads = leads;
   }
 
-  is_fault : (fault : PlanFault) → StepFails p s name (k + 1) fault → IsFaultOf p plan fault
-  is_fault (NoOperator step) stops = (s, name, comes step stops.0, stops.1)
-  is_fault (NotApplicable step) stops = (s, name, comes step stops.0, stops.1, stops.2)
-  is_fault (Conflict step operator) stops = (s, name, comes step stops.0, stops.1, stops.2)
-  is_fault (GoalMissed index) stops = absurd stops
-  is_fault (CostDiffers sum) stops = absurd stops
-  is_fault Memory stops = absurd stops
-
   at_step : (step : ℕ) → step ≡ k + 1 → take k plan.steps ≡ take (step - 1) plan.steps
   at_step step is = ap (λ n. take n plan.steps) (let e : k ≡ step - 1 = omega arith in e)
 
-  before : (fault : PlanFault) → StepFails p s name (k + 1) fault → take k plan.steps ≡ steps_before plan fault
-  before (NoOperator step) stops = at_step step stops.0
-  before (NotApplicable step) stops = at_step step stops.0
-  before (Conflict step operator) stops = at_step step stops.0
-  before (GoalMissed index) stops = absurd stops
-  before (CostDiffers sum) stops = absurd stops
-  before Memory stops = absurd stops
+  stops : (fault : PlanFault) → StepFails p s name (k + 1) fault → IsFaultOf p plan fault × (take k plan.steps ≡ steps_before plan fault)
+  stops (NoOperator step) (is, none) = ((s, name, comes step is, none), at_step step is)
+  stops (NotApplicable step) (is, some, none) = ((s, name, comes step is, some, none), at_step step is)
+  stops (Conflict step operator) (is, chosen, none) = ((s, name, comes step is, chosen, none), at_step step is)
+  stops (GoalMissed index) why = absurd why
+  stops (CostDiffers sum) why = absurd why
+  stops Memory why = absurd why
 
   pub stops_there : (fault : PlanFault) → StepFails p s name (k + 1) fault → IsEnding p plan operators (Some fault)
-  stops_there fault stops =
+  stops_there fault why =
       let w = some_run p (take k plan.steps) operators s leads in
       let made : length w.0.steps ≡ k = ap length w.2 ∙ length_of_take plan.steps k lt in
-      (w.0, record { through = w.1; front = w.2 ∙ ap (λ n. take n plan.steps) (sym made) }, (is_fault fault stops, w.2 ∙ before fault stops), w.3)
+      let (is_fault, before) = stops fault why in
+      (w.0, record { through = w.1; front = w.2 ∙ ap (λ n. take n plan.steps) (sym made) }, (is_fault, w.2 ∙ before), w.3)
 
 -- after the last step the goal and the cost are tested
 module _ (p : Parts) (plan : PlanParts) (operators s : List ℕ) (leads : LeadsTo p plan.steps operators s) where

@@ -1,6 +1,6 @@
 -- An execution advances along its run.
 use Rattle.std.proofs.lemmas.Grind.{common_steps}
-use Rattle.sas_run.proofs.Imports.{◌≡◌, ℕ, ◌+◌, ◌<◌, ◌≤◌, List, [], length, get_or, Option, None, Result, Ok, Err, refl, sym, ◌∙◌, ap, subst, inl, inr, arith, rules, IsTrue, vec_capacity, IsOk, cases_lt, get_or-take, get_or_default, length-take, Parts, operator_at, PlanParts, IsState, IsLayered, IsInitial, Step, step_is_one, IsChain, HaveChains, IsNamed, AreFirsts, IsNextNamed, PlanFault, Progress, Stepper, StepFault, Executed, next_name, next_operator, Executes, IsFound, Advances, executed_of, IsExecuting, MakesStep, Steps, IsPrepared, ListsChanges, Run, state_at, IsRunOf, IsEnding}
+use Rattle.sas_run.proofs.Imports.{◌≡◌, ℕ, ◌+◌, ◌<◌, ◌≤◌, List, [], length, get_or, Option, None, Result, Ok, Err, refl, sym, ◌∙◌, ap, subst, inl, inr, arith, rules, IsTrue, vec_capacity, IsOk, cases_lt, get_or-take, get_or_default, length-take, Parts, operator_at, PlanParts, IsState, IsLayered, IsInitial, Step, step_is_one, IsChain, HaveChains, IsNamed, AreFirsts, IsNextNamed, PlanFault, Progress, Stepper, StepFault, Executed, next_name, next_operator, Executes, IsFound, Advances, executed_of, IsExecuting, MakesStep, Steps, IsPrepared, ListsChanges, Run, state_at, IsEnding}
 use Rattle.sas_run.proofs.NextStates.{fault_is_conflict}
 use Rattle.sas_run.proofs.Runs.{still, still_goes, state_fits, first_state, run_goes}
 
@@ -15,15 +15,9 @@ module _ (run : Run) (e : Executed) (executes : Executes run e) where
   pub executed_fits : IsState e.task.variables e.state
   executed_fits = subst (IsState e.task.variables) (sym executes.state) (state_fits e.task run executes.of_plan.through e.made (omega (arith, executes.within, as_many)))
 
-  -- if no step is known to succeed, the state is the initial one
-  module _ (none : e.operators ≡ []) where
-    pub none_made : e.made ≡ 0
-    none_made = omega (arith, executes.within, ap length none)
-
-    pub none_initial : IsInitial e.task e.state
-    none_initial =
-        let leads = executes.of_plan.through.leads 0 (omega arith) in
-        subst (IsInitial e.task) (sym (executes.state ∙ (ap (state_at run) none_made ∙ leads.goes))) leads.starts
+  -- if no step is known to succeed, none has been made
+  none_made : e.operators ≡ [] → e.made ≡ 0
+  none_made none = omega (arith, executes.within, ap length none)
 
   -- ---- the next step
 
@@ -37,17 +31,12 @@ module _ (run : Run) (e : Executed) (executes : Executes run e) where
     module _ (layered : IsLayered e.task) where
       -- the next step leads, by its operator, to the next state of the run
       pub next_goes : MakesStep e.task e.state (next_name e) (next_operator e) (state_at run (e.made + 1))
-      next_goes =
-          let next = state_at run (e.made + 1) in
-          subst (λ s. MakesStep e.task s (next_name e) (next_operator e) next) (sym executes.state)
-          (subst (λ name. MakesStep e.task (state_at run e.made) name (next_operator e) next) name_is
-          (subst (λ o. MakesStep e.task (state_at run e.made) (get_or run.steps e.made []) o next) (ap (λ (os : List ℕ). get_or os e.made 0) executes.operators)
-          (run_goes e.task run executes.of_plan.through layered e.made within)))
+      next_goes = rw (executes.state, ← name_is, ← executes.operators) (run_goes e.task run executes.of_plan.through layered e.made within)
 
       -- and so the execution advances
       pub goes_along : (operator : ℕ) (new : Executed) → Advances e operator new → Executes run new
       goes_along operator new advances = record {
-        of_plan = subst (λ p. IsRunOf p new.plan run) (sym advances.task) (subst (λ plan. IsRunOf e.task plan run) (sym advances.of_plan) executes.of_plan);
+        of_plan = rw (advances.task, advances.of_plan) executes.of_plan;
         operators = executes.operators ∙ sym advances.operators;
         within = omega (arith, advances.made, ap length advances.operators);
         state = step_is_one e.task e.state (operator_at e.task (next_operator e)) new.state (state_at run (e.made + 1)) layered
@@ -82,25 +71,6 @@ module _ (run : Run) (e : Executed) (executes : Executes run e) where
             subst (λ name. IsNextNamed e.task name (other + 1) (get_or nexts other None)) (sym same)
             (chains e.made found_next other (subst (λ name. IsNamed e.task name other) same named))
 
--- ---- the end of the plan
-
--- after making its steps up to the fault, the execution is back at its start
-pub back : (e new : Executed) (fault : Option PlanFault) → IsLayered e.task → new.task ≡ e.task → new.plan ≡ e.plan → e.made ≡ 0 → new.made ≡ e.made
-    → IsInitial e.task new.state → IsEnding e.task e.plan new.operators fault → IsFound e.task e.plan fault new
-back e new fault layered task plan none same starts (run, of_plan, ends, by) = record {
-  task = task;
-  of_plan = plan;
-  made = same ∙ none;
-  run = run;
-  executes = record {
-    of_plan = subst (λ p. IsRunOf p new.plan run) (sym task) (subst (λ its. IsRunOf e.task its run) (sym plan) of_plan);
-    operators = by;
-    within = omega (arith, same, none);
-    state = first_state e.task run of_plan.through new.state layered starts ∙ ap (state_at run) (sym (same ∙ none));
-  };
-  ends = ends;
-}
-
 -- ---- the parts of an execution
 
 -- an operator that has a step makes it
@@ -121,11 +91,10 @@ module _ {E : Type 0} {Ready : E → Parts → Type 0} {Follows : E → Parts �
     is_next = stands ∙ get_or_default progress.operators.items made operator 0 left
 
     pub step_goes : MakesStep p progress.state (next_name e) operator (state_at executing.run (made + 1))
-    step_goes = subst (λ o. MakesStep p progress.state (next_name e) o (state_at executing.run (made + 1))) (sym is_next)
-        (next_goes executing.run e executing.executes left layered)
+    step_goes = rw is_next (next_goes executing.run e executing.executes left layered)
 
     pub step_chain : IsChain p operator nexts
-    step_chain = subst (λ o. IsChain p o nexts) (sym is_next) (chain_next executing.run e executing.executes left layered found nexts executing.operators.firsts executing.operators.chains)
+    step_chain = rw is_next (chain_next executing.run e executing.executes left layered found nexts executing.operators.firsts executing.operators.chains)
 
     -- it was made
     module _ (stepper' : Stepper E) (state : List ℕ) (step : Step p progress.state (operator_at p operator) state)
@@ -164,7 +133,22 @@ module _ {E : Type 0} {Ready : E → Parts → Type 0} {Follows : E → Parts �
   module _ (none : progress.operators.items ≡ []) (stepper' : Stepper E) (progress' : Progress) (fault : Option PlanFault) (starts : IsInitial p progress'.state)
       (ending : IsEnding p plan progress'.operators.items fault) where
     pub goes_back : IsFound p plan fault (executed_of p plan stepper' progress' made)
-    goes_back = back e (executed_of p plan stepper' progress' made) fault layered refl refl (none_made executing.run e executing.executes none) refl starts ending
+    goes_back =
+        let start = none_made executing.run e executing.executes none in
+        let (run, of_plan, ends, by) = ending in
+        record {
+          task = refl;
+          of_plan = refl;
+          made = start;
+          run = run;
+          executes = record {
+            of_plan = of_plan;
+            operators = by;
+            within = omega (arith, start);
+            state = first_state p run of_plan.through progress'.state layered starts ∙ ap (state_at run) (sym start);
+          };
+          ends = ends;
+        }
 
     pub goes_anew : IsPrepared Ready p stepper' → IsTrue stepper'.deleted.noted → Follows stepper'.evaluator p progress'.state → length plan.steps ≤ vec_capacity progress'.operators
         → IsExecuting Ready Follows p plan stepper' found nexts progress' made

@@ -1,51 +1,19 @@
 -- The values that effects give, for one more effect, and the state after they are written.
 use Rattle.std.proofs.lemmas.Grind.{common_steps}
-use Rattle.sas_run.proofs.Imports.{◌≡◌, ◌≢◌, ℕ, ◌+◌, ◌<◌, ◌≤◌, List, length, get_or, set, Option, None, Some, refl, sym, ◌∙◌, ap, subst, inl, inr, arith, unwrap_or, cases_eq, get_or_default, get_or-set_same, get_or-set_other, length-set, Effect, Operator, Parts, effect_at, HasValue, IsState, EffectFits, AllHold, preconditions, Fires, same_Some, given_to, value_after, NothingGiven, IsGiven, IsGivenTo, GivesValue, GivesOther, IsApplied, IsFirstConflict}
+use Rattle.sas_run.proofs.Imports.{◌≡◌, ◌≢◌, ℕ, ◌+◌, ◌<◌, ◌≤◌, List, length, get_or, set, Option, None, Some, refl, sym, ◌∙◌, ap, subst, inl, inr, arith, unwrap_or, cases_eq, get_or_default, get_or-set_same, get_or-set_other, length-set, Effect, Operator, Parts, effect_at, IsState, EffectFits, AllHold, preconditions, Fires, same_Some, given_to, value_after, NothingGiven, IsGiven, IsGivenTo, GivesValue, GivesOther, IsApplied, IsFirstConflict}
 use Rattle.sas_run.proofs.Ranges.{no_effect}
 
 pub not_both : (a : ℕ) (given : Option ℕ) → given ≡ None → given ≡ Some a → ⊥
 not_both a given none some = let e : None ≡ Some a = sym none ∙ some in absurd cc
 
--- without effects no value is given
-pub gives_none : (p : Parts) (s : List ℕ) (o : Operator) (given : List (Option ℕ)) → NothingGiven p given → IsGiven p s o 0 given
-gives_none p s o given clean = grind (arith, common_steps, not_both)
-
 module _ (p : Parts) (s : List ℕ) (o : Operator) (n : ℕ) (given : List (Option ℕ)) (is : IsGiven p s o n given) where
   -- each given value is in its variable's range
   pub given_on_effects : n ≤ length o.effects → ((k : ℕ) → k < length o.effects → EffectFits p.variables (effect_at o k)) → IsGivenTo p o given
-  given_on_effects within fits = record {
-    one_each = is.one_each;
-    value = λ var value at. (let (k, lt, fires, on, new) = is.giver var value at in
-        subst (λ v. HasValue p.variables v value) on (subst (HasValue p.variables (effect_at o k).var) new (fits k (omega arith)).new));
-    effect = λ var value at. (let (k, lt, fires, on, new) = is.giver var value at in (k, omega arith, on));
-  }
-
-  -- one more effect that doesn't fire gives no value
-  pub gives_nothing : (Fires s (effect_at o n) → ⊥) → IsGiven p s o (n + 1) given
-  gives_nothing quiet = record {
-    one_each = is.one_each;
-    gives = λ k lt fires. elim (cases_eq k n) [
-      | inl e ↦ absurd (quiet (subst (λ i. Fires s (effect_at o i)) e fires))
-      | inr ne ↦ is.gives k (omega arith) fires
-    ];
-    giver = λ var value at. (let (k, lt, fires, on, new) = is.giver var value at in (k, omega arith, fires, on, new));
-  }
+  given_on_effects within fits = grind (arith, common_steps)
 
   -- one more effect fires that gives another value: it is the first that conflicts
   pub conflicts_first : n < length o.effects → Fires s (effect_at o n) → (given' : List (Option ℕ)) → GivesOther given (effect_at o n).var (effect_at o n).new given' → IsFirstConflict s o n
-  conflicts_first within fires given' gives_other =
-      let (value, at, differs) = gives_other.other in
-      let (k, lt, fires', on, new) = is.giver (effect_at o n).var value at in
-      record {
-        exists = within;
-        fires = fires;
-        earlier = k;
-        before = lt;
-        earlier_fires = fires';
-        contradicts = record { var = on; new = λ same. differs (sym new ∙ same) };
-        first = λ e f before below fires_e fires_f contradicts.
-            contradicts.new (same_Some (effect_at o e).new (effect_at o f).new (sym (is.gives e (omega arith) fires_e) ∙ ap (given_to given) contradicts.var ∙ is.gives f below fires_f));
-      }
+  conflicts_first within fires given' gives_other = grind (arith, is, same_Some)
 
   -- one more effect that fires gives its new value
   pub gives_one_more : (effect_at o n).var < length p.variables → Fires s (effect_at o n) → (given' : List (Option ℕ)) → GivesValue given (effect_at o n).var (effect_at o n).new given'
@@ -66,14 +34,7 @@ module _ (p : Parts) (s : List ℕ) (o : Operator) (n : ℕ) (given : List (Opti
       elsewhere var ne = get_or-set_other given (effect_at o n).var var (Some (effect_at o n).new) None ne
 
       gives : (k : ℕ) → k < n + 1 → Fires s (effect_at o k) → given_to now (effect_at o k).var ≡ Some (effect_at o k).new
-      gives k lt fires' = elim (cases_eq k n) [
-        | inl e ↦ subst (λ i. given_to now (effect_at o i).var ≡ Some (effect_at o i).new) (sym e) at_n
-        | inr ne ↦ (let before : given_to given (effect_at o k).var ≡ Some (effect_at o k).new = is.gives k (omega arith) fires' in
-            elim (cases_eq (effect_at o k).var (effect_at o n).var) [
-              | inl same ↦ ap (given_to now) same ∙ (at_n ∙ ap (λ x. Some x) (sym (new.before (effect_at o k).new (ap (given_to given) (sym same) ∙ before))))
-              | inr other ↦ elsewhere (effect_at o k).var other ∙ before
-            ])
-      ]
+      gives k lt fires' = grind (arith, cases_eq k n, cases_eq (effect_at o k).var (effect_at o n).var, is.gives k, new.before (effect_at o k).new, at_n, elsewhere (effect_at o k).var)
 
       giver : (var value : ℕ) → given_to now var ≡ Some value → (k : ℕ) × (k < n + 1) × Fires s (effect_at o k) × ((effect_at o k).var ≡ var) × ((effect_at o k).new ≡ value)
       giver var value at = elim (cases_eq var (effect_at o n).var) [
@@ -81,45 +42,30 @@ module _ (p : Parts) (s : List ℕ) (o : Operator) (n : ℕ) (given : List (Opti
         | inr ne ↦ (let (k, lt, fires', on, same) = is.giver var value (sym (elsewhere var ne) ∙ at) in (k, omega arith, fires', on, same))
       ]
 
+-- a value is given to the variable
+abbrev pub HasGiven : List (Option ℕ) → ℕ → Type 0
+HasGiven given var = (value : ℕ) × (given_to given var ≡ Some value)
+
 -- the given value of one variable is removed
 module _ (given : List (Option ℕ)) (v : ℕ) (within : v < length given) where
-  pub none_there : given_to (set given v None) v ≡ None
-  none_there = get_or-set_same given v None None within
-
-  pub still_none : (w : ℕ) → given_to given w ≡ None → given_to (set given v None) w ≡ None
-  still_none w none = elim (cases_eq w v) [
-    | inl e ↦ ap (given_to (set given v None)) e ∙ none_there
-    | inr ne ↦ get_or-set_other given v w None None ne ∙ none
-  ]
-
   -- so no value is given to the variables of the effects up to one on this variable
   pub one_more_taken : (o : Operator) (n : ℕ) → v ≡ (effect_at o n).var → ((k : ℕ) → k < n → given_to given (effect_at o k).var ≡ None)
       → (k : ℕ) → k < n + 1 → given_to (set given v None) (effect_at o k).var ≡ None
-  one_more_taken o n on taken k lt = elim (cases_eq k n) [
-    | inl e ↦ subst (λ x. given_to (set given v None) x ≡ None) (on ∙ ap (λ i. (effect_at o i).var) (sym e)) none_there
-    | inr ne ↦ still_none (effect_at o k).var (taken k (omega arith))
-  ]
+  one_more_taken o n on taken k lt = grind (arith, common_steps, cases_eq, get_or-set_same, get_or-set_other)
 
   was_given : (w value : ℕ) → given_to (set given v None) w ≡ Some value → given_to given w ≡ Some value
-  was_given w value at = elim (cases_eq w v) [
-    | inl e ↦ absurd (not_both value (given_to (set given v None) w) (ap (given_to (set given v None)) e ∙ none_there) at)
-    | inr ne ↦ sym (get_or-set_other given v w None None ne) ∙ at
-  ]
+  was_given w value at = grind (arith, common_steps, cases_eq, get_or-set_same, get_or-set_other, not_both)
+
+  -- so values are only given to others
+  pub others_given : (w : ℕ) → HasGiven (set given v None) w → HasGiven given w × (v ≢ w)
+  others_given w (value, at) = ((value, was_given w value at), λ same. not_both value (given_to (set given v None) w) (ap (given_to (set given v None)) (sym same) ∙ get_or-set_same given v None None within) at)
 
   pub fewer_on_effects : (p : Parts) (o : Operator) → IsGivenTo p o given → IsGivenTo p o (set given v None)
-  fewer_on_effects p o on = record {
-    one_each = length-set given v None ∙ on.one_each;
-    value = λ w value at. on.value w value (was_given w value at);
-    effect = λ w value at. on.effect w value (was_given w value at);
-  }
+  fewer_on_effects p o on = grind (arith, common_steps, length-set, was_given)
 
   -- the given value is written into the state
   pub written_same : (s : List ℕ) (value : ℕ) → v < length s → given_to given v ≡ Some value → (w : ℕ) → value_after (set given v None) (set s v value) w ≡ value_after given s w
-  written_same s value exists at w = elim (cases_eq w v) [
-    | inl e ↦ subst (λ x. value_after (set given v None) (set s v value) x ≡ value_after given s x) (sym e)
-        (ap (λ x. unwrap_or x (get_or (set s v value) v 0)) none_there ∙ (get_or-set_same s v value 0 exists ∙ sym (ap (λ x. unwrap_or x (get_or s v 0)) at)))
-    | inr ne ↦ ap (λ x. unwrap_or x (get_or (set s v value) w 0)) (get_or-set_other given v w None None ne) ∙ ap (λ x. unwrap_or (given_to given w) x) (get_or-set_other s v w value 0 ne)
-  ]
+  written_same s value exists at w = grind (arith, common_steps, cases_eq, get_or-set_same, get_or-set_other)
 
 -- writing the values that all effects give is applying the effects
 pub applied : (p : Parts) (s : List ℕ) (o : Operator) (given : List (Option ℕ)) (s' : List ℕ) → AllHold (λ v. get_or s v 0) (preconditions o)

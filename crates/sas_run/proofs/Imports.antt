@@ -1,16 +1,16 @@
 -- What the proofs use of other crates, and of the definitions of this one.
-pub use Rattle.std.proofs.Common.{◌≡◌, ℕ, zero, suc, ◌<◌, ◌⊎◌, List, [], ◌∷◌, length, slice_index, slice_index_or, bytes_eq, subst, inl, inr, arith, ◌≢◌, ◌+◌, ◌≤◌, ◌++◌, get_or, set, Option, None, Some, refl, sym, ◌∙◌, ap, ◌-◌, take, drop, Result, Ok, Err, rules, IsTrue, vec_capacity, filter_map, option_map, IfErr, ◌*◌, ◌^◌, true≢false, true, false, is_some, cond, IfNone, append_assoc}
+pub use Rattle.std.proofs.Common.{◌≡◌, ℕ, zero, suc, ◌<◌, ◌⊎◌, List, [], ◌∷◌, length, slice_index, slice_index_or, bytes_eq, subst, inl, inr, arith, ◌≢◌, ◌+◌, ◌≤◌, ◌++◌, get_or, set, Option, None, Some, refl, sym, ◌∙◌, ap, ◌-◌, take, drop, Result, Ok, Err, rules, IsTrue, vec_capacity, filter_map, option_map, ◌*◌, ◌^◌, true≢false, is_some, cond, append_assoc}
 pub use Rattle.std.proofs.Math.Seq.{take-append_seam, get_or-append_seam}
 pub use Rattle.std.proofs.lemmas.Bool.{cases_eq, cases_lt, cases_Bool, ltb-false, true_from_ne_false}
 pub use Rattle.std.proofs.lemmas.Grind.{common_steps}
-pub use Rattle.std.proofs.lemmas.List.{get_or-set_same, get_or-set_other, get_or_append_left, get_or_push, length-append, take_all, get_or-take, get_or_default, length-take, length-set, take-append-drop, drop_more, get_or-append-add, get_or-map, length-map, same_lists, take_more, get_or-drop, length-take-le, length-drop}
-pub use Rattle.std.proofs.lemmas.List.Elements.{All-nil, All-cons, All-push, All-weaker, All-head, All-tail, All-map, All-append, All-from_recursion, Contains-get_or, Contains-append_left, Contains-append_right, Contains-push, All-rest}
+pub use Rattle.std.proofs.lemmas.List.{get_or-set_same, get_or-set_other, get_or_append_left, length-append, take_all, get_or-take, get_or_default, length-take, length-set, take-append-drop, drop_more, get_or-append-add, get_or-map, length-map, same_lists, take_more, get_or-drop, length-take-le, length-drop}
+pub use Rattle.std.proofs.lemmas.List.Elements.{All-nil, All-cons, All-push, All-weaker, All-head, All-tail, All-map, All-append, All-from_recursion, Contains-get_or, Contains-append_left, Contains-append_right, Contains-push}
 pub use Rattle.std.proofs.lemmas.List.Quantifiers.{all_pairs_push}
 pub use Rattle.std.proofs.lemmas.List.Sums.{count_by_more_no, count_by_more_yes, sum_by-cons}
 pub use Rattle.std.proofs.lemmas.Option.{slice_get-get_or, same_Some}
 pub use Rattle.std.proofs.lemmas.Result.{err_from_is_err_and}
 pub use Rattle.std.proofs.lemmas.Slice.Eq.{bytes_eq-Decides}
-pub use Rattle.std.specs.List.{All, AllPairs, cons_option, AllByRecursion, count_by}
+pub use Rattle.std.specs.List.{All, cons_option, AllByRecursion, count_by}
 pub use Rattle.std.specs.Option.{option_and_then}
 pub use Rattle.std.specs.Prelude.{unwrap_or}
 pub use Rattle.std.specs.Result.{IsOk}
@@ -41,7 +41,7 @@ pub use Rattle.sas_meaning.specs.Steps.{preconditions, Step, Fires, Agree, old_f
 pub use Rattle.sas_meaning.specs.Touched.{CoversChanges}
 pub use Rattle.sas_meaning.specs.declared.touched.Touched.{Touched}
 pub use Rattle.sas_names.proofs.Searching.{left}
-pub use Rattle.sas_names.specs.Chains.{IsChain, HaveChains, AreStepOperators}
+pub use Rattle.sas_names.specs.Chains.{IsChain, HaveChains}
 pub use Rattle.sas_names.specs.Named.{IsNamed}
 pub use Rattle.sas_names.specs.Names.{AreFirsts, IsNextNamed}
 pub use Rattle.sas_run.specs.Deletions.{HasRoom, NotesOn}
@@ -51,7 +51,7 @@ pub use Rattle.sas_run.specs.Laws.{LeadsToReachable, LastIsReachable, SomeVerdic
 pub use Rattle.sas_run.specs.PlainSteps.{AreApart, AreMade, IsPlainStep, OldHolds}
 pub use Rattle.sas_run.specs.Plans.{IsApplicable, NoneApplicable, IsChosen, LeadTo, LeadsTo, IsValid, cost_of_all}
 pub use Rattle.sas_run.specs.Running.{StepFails, IsFinalVerdict, MakesStep, Steps, IsApplied, IsFirstConflict, IsFirstMissedFact, IsFirstChosen, IsStepFault}
-pub use Rattle.sas_run.specs.Runs.{Run, steps_before, RunEndsWith, IsEnding, state_at, IsRunOf, last_state, StepsSucceed}
+pub use Rattle.sas_run.specs.Runs.{Run, steps_before, RunEndsWith, IsEnding, state_at, last_state, StepsSucceed}
 pub use Rattle.sas_run.specs.Stepping.{IsPrepared, ListsChanges, Follows, HasFactOn}
 pub use Rattle.sas_run.specs.Verdicts.{IsFirstMissed, ComesTo, IsFaultOf}
 pub use Rattle.sas_run.specs.declared.deletions.Deleted.{Deleted}

@@ -1,6 +1,6 @@
 -- The index of the first fact that doesn't hold, in a list of several parts.
 use Rattle.std.proofs.lemmas.Grind.{common_steps}
-use Rattle.sas_run.proofs.Imports.{◌≡◌, ◌≢◌, ℕ, ◌+◌, ◌-◌, List, ◌∷◌, ◌++◌, length, get_or, sym, ◌∙◌, ap, subst, inl, inr, arith, cases_lt, get_or_append_left, get_or-append-add, length-append, Fact, Holds, AllHold, IsFirstMissedFact}
+use Rattle.sas_run.proofs.Imports.{◌≡◌, ◌≢◌, ℕ, ◌+◌, ◌-◌, List, ◌∷◌, ◌++◌, length, sym, ◌∙◌, ap, subst, arith, cases_lt, get_or_append_left, get_or-append-add, length-append, Fact, Holds, AllHold, IsFirstMissedFact}
 
 -- the first such fact after facts that hold is the first in the whole list
 pub missed_behind : (value : ℕ → ℕ) (xs ys : List Fact) (fact : Fact) → AllHold value xs → IsFirstMissedFact value ys fact → IsFirstMissedFact value (xs ++ ys) fact
@@ -9,12 +9,7 @@ missed_behind value xs ys fact hold (index, first, is) = (
   record {
     exists = let l = length-append xs ys in let e = first.exists in omega arith;
     missed = λ d h. first.missed d (subst (λ f. Holds value f) (get_or-append-add xs ys index d) h);
-    before = λ k d lt. elim (cases_lt k (length xs)) [
-      | inl below ↦ subst (λ f. Holds value f) (sym (get_or_append_left xs ys d k below)) (hold k d below)
-      | inr above ↦ subst (λ f. Holds value f)
-          (sym (get_or-append-add xs ys (k - length xs) d) ∙ ap (λ i. get_or (xs ++ ys) i d) (let e : length xs + (k - length xs) ≡ k = omega arith in e))
-          (first.before (k - length xs) d (omega arith))
-    ];
+    before = λ k d lt. grind (arith, cases_lt k (length xs), get_or_append_left xs ys d k, get_or-append-add xs ys (k - length xs) d, hold k d, first.before (k - length xs) d);
   },
   λ d. get_or-append-add xs ys index d ∙ is d,
 )

@@ -1,9 +1,10 @@
 -- An applicable operator whose effects agree has a step. It is decidable whether an operator has a
 -- step.
 use Rattle.std.proofs.lemmas.Grind.{common_steps}
-use Rattle.sas_run.proofs.Imports.{◌≡◌, ℕ, zero, suc, ◌<◌, ◌⊎◌, List, [], ◌∷◌, length, get_or, set, slice_index, refl, sym, ◌∙◌, subst, inl, inr, arith, All, cases_eq, get_or-set_same, get_or-set_other, All-nil, All-cons, All-head, All-tail, Effect, Operator, Parts, operator_at, HasValue, IsState, WellRanged, holds_at, IsBasic, IsLayered, Settles, Fires, Agree, IsApplicable, StepFault, IsApplied, IsStepFault, Step, hold_or_not, Untouched, state_set, fact_within, settled_exists, settled_where_empty}
+use Rattle.sas_run.proofs.Imports.{err_from_is_err_and, ◌≡◌, ℕ, zero, suc, ◌<◌, ◌⊎◌, List, [], ◌∷◌, length, get_or, set, slice_index, refl, sym, ◌∙◌, inl, inr, arith, All, cases_eq, get_or-set_same, get_or-set_other, All-nil, All-cons, All-head, All-tail, Effect, Operator, Parts, operator_at, HasValue, IsState, WellRanged, holds_at, IsBasic, IsLayered, Settles, Fires, Agree, IsApplicable, StepFault, IsApplied, IsStepFault, Step, hold_or_not, Untouched, state_set, fact_within, settled_exists, settled_where_empty}
 use Rattle.sas_run.specs.declared.steps.StepFault.TheVariants.{NotApplicable, Conflict}
 use Rattle.sas_run.proofs.Choosing.{no_fact}
+use Rattle.sas_run.proofs.Going.{passed_on}
 
 -- if a property is decidable for each item, it is decidable for all items
 all_or_not : {A : Type 0} (P : A → Type 0) → ((x : A) → P x ⊎ (P x → ⊥)) → (xs : List A) → All P xs ⊎ (All P xs → ⊥)
@@ -21,19 +22,7 @@ abbrev AgreesWith : List ℕ → Effect → Effect → Type 0
 AgreesWith s e f = Fires s e → Fires s f → e.var ≡ f.var → e.new ≡ f.new
 
 agrees_or_not : (s : List ℕ) (e f : Effect) → AgreesWith s e f ⊎ (AgreesWith s e f → ⊥)
-agrees_or_not s e f = elim (hold_or_not (slice_index s) e.conditions) [
-  | inr n ↦ inl (λ a. absurd (n a))
-  | inl a ↦ elim (hold_or_not (slice_index s) f.conditions) [
-    | inr n ↦ inl (λ _ b. absurd (n b))
-    | inl b ↦ elim (cases_eq e.var f.var) [
-      | inr n ↦ inl (λ _ _ same. absurd (n same))
-      | inl same ↦ elim (cases_eq e.new f.new) [
-        | inl is ↦ inl (λ _ _ _. is)
-        | inr n ↦ inr (λ agrees. n (agrees a b same))
-      ]
-    ]
-  ]
-]
+agrees_or_not s e f = grind (arith, hold_or_not (slice_index s) e.conditions, hold_or_not (slice_index s) f.conditions, cases_eq e.var f.var, cases_eq e.new f.new)
 
 -- whether the effects that fire agree
 pub agree_or_not : (s : List ℕ) (effects : List Effect) → Agree s effects ⊎ (Agree s effects → ⊥)
@@ -65,12 +54,7 @@ module _ (p : Parts) (s : List ℕ) (state_s : IsState p.variables s) where
       here = get_or-set_same r.result e.var e.new 0 (let within = fact_within p e.var e.new fits in let one_each = r.state.one_each in omega arith)
 
       others : All (Sets s (set r.result e.var e.new)) es
-      others k d lt fires' = elim (cases_eq (get_or es k d).var e.var) [
-        | inr ne ↦ get_or-set_other r.result e.var (get_or es k d).var e.new 0 ne ∙ r.sets k d lt fires'
-        | inl is ↦
-            (let same : e.new ≡ (get_or es k d).new = agree zero e (omega arith) (suc k) d (omega arith) fires fires' (sym is) in
-            subst (λ v. get_or (set r.result e.var e.new) v 0 ≡ (get_or es k d).new) (sym is) (here ∙ same))
-      ]
+      others k d lt fires' = grind (arith, cases_eq (get_or es k d).var e.var, here, get_or-set_other r.result e.var (get_or es k d).var e.new 0, r.sets k d, agree zero e (omega arith) (suc k) d)
 
   write : (effects : List Effect) → All (λ (e : Effect). HasValue p.variables e.var e.new) effects → Agree s effects → Written p s effects
   write [] fits agree = record { result = s; state = state_s; sets = All-nil (Sets s s); kept = λ v _. refl }
@@ -114,6 +98,9 @@ settled_if_basic p s basic state = grind (arith, common_steps, settled_where_emp
 pub step_from_applied : (p : Parts) (s : List ℕ) (o : Operator) (s' next : List ℕ) → All (λ (e : Effect). IsBasic p e.var) o.effects
     → IsApplied p s o s' → Settles p s' next → Step p s o next
 step_from_applied p s o s' next basic a settles = grind (arith, common_steps)
+
+-- what a step needs
+pub ruleset stepping = (common_steps, step_from_applied, effects_basic, settled_if_basic, passed_on, err_from_is_err_and)
 
 pub step_exists : (p : Parts) (s : List ℕ) (operator : ℕ) → WellRanged p → IsLayered p → IsState p.variables s → operator < length p.operators
     → IsApplicable s (operator_at p operator) → Agree s (operator_at p operator).effects → (next : List ℕ) × Step p s (operator_at p operator) next

@@ -1,8 +1,8 @@
 -- Making changes on different variables one after another.
-use Rattle.sas_run.proofs.Imports.{◌≡◌, ◌≢◌, ℕ, ◌+◌, ◌<◌, ◌≤◌, List, [], ◌∷◌, ◌++◌, length, get_or, set, Option, None, Some, refl, sym, ◌∙◌, ap, subst, inl, inr, arith, filter_map, option_map, All, cons_option, cases_eq, get_or-set_same, get_or-set_other, get_or-map, length-map, All-nil, All-cons, All-head, All-tail, All-map, All-append, All-weaker, All-from_recursion, same_Some, Replaces, AreApart, AreMade, IsPlainStep, OldHolds, IsApplied, Change, Effect, Fact, Operator, Parts, plain_effect, plain_effects, operator_at, effect_at, HasValue, IsState, EffectFits, WellRanged, HaveGone, IsBasic, IsLayered, Holds, AllHold, preconditions, old_fact, Fires, fact_within, state_set}
-use Rattle.sas_run.proofs.Ranges.{no_effect, operator_fits}
-use Rattle.sas_run.proofs.NextStates.{effects_basic}
-use Rattle.sas_run.proofs.Deleted.{deleted_few, all_front, all_behind, all_replaced, gone_more}
+use Rattle.sas_run.proofs.Imports.{◌≡◌, ◌≢◌, ℕ, ◌+◌, ◌<◌, List, [], ◌∷◌, ◌++◌, length, get_or, set, Option, None, Some, sym, ◌∙◌, ap, subst, arith, filter_map, option_map, All, cons_option, cases_eq, get_or-set_same, get_or-set_other, get_or-map, length-map, All-nil, All-cons, All-head, All-tail, All-map, All-append, All-weaker, same_Some, Replaces, AreApart, AreMade, IsPlainStep, OldHolds, IsApplied, Change, Effect, Fact, Operator, Parts, plain_effect, plain_effects, effect_change, operator_at, effect_at, HasValue, IsState, WellRanged, IsBasic, IsLayered, Holds, AllHold, preconditions, old_fact, Fires, fact_within, state_set}
+use Rattle.sas_run.proofs.Ranges.{no_effect}
+use Rattle.sas_run.proofs.NextStates.{effects_fit, effects_basic}
+use Rattle.sas_run.proofs.Deleted.{all_front, all_behind, DeletedSoFar, deleted_more}
 
 -- a default for indices that are out of range
 abbrev pub no_change : Change
@@ -18,12 +18,6 @@ pub record MadeSoFar (p : Parts) (s : List ℕ) (changes : List Change) (n : ℕ
   pub set : (k : ℕ) (d : Change) → k < n → get_or s' (get_or changes k d).var 0 ≡ (get_or changes k d).new
   pub kept : (var : ℕ) → Untouched changes n var → get_or s' var 0 ≡ get_or s var 0
 
--- these facts are deleted by the first n changes
-pub record LostSoFar (p : Parts) (s : List ℕ) (changes : List Change) (n : ℕ) (deleted : List Fact) (s' : List ℕ) : Type 0 where
-  pub lost : HaveGone p deleted s s'
-  pub among : (var : ℕ) → Untouched changes n var → All (λ (f : Fact). f.var ≢ var) deleted
-  pub few : length deleted ≤ n
-
 -- one more change, on another variable than those before it
 module _ (p : Parts) (s s' : List ℕ) (changes : List Change) (n : ℕ) (made : MadeSoFar p s changes n s') (apart : AreApart changes) (some : n < length changes)
     (change : Change) (at : (d : Change) → get_or changes n d ≡ change) (exists : change.var < length p.variables) where
@@ -34,10 +28,7 @@ module _ (p : Parts) (s s' : List ℕ) (changes : List Change) (n : ℕ) (made :
   in_state = let one_each = made.state.one_each in omega arith
 
   now_set : (k : ℕ) (d : Change) → k < n + 1 → get_or (set s' change.var change.new) (get_or changes k d).var 0 ≡ (get_or changes k d).new
-  now_set k d lt = elim (cases_eq k n) [
-    | inl e ↦ subst (λ (c : Change). get_or (set s' change.var change.new) c.var 0 ≡ c.new) (sym (ap (λ i. get_or changes i d) e ∙ at d)) (get_or-set_same s' change.var change.new 0 in_state)
-    | inr ne ↦ (let below : k < n = omega arith in get_or-set_other s' change.var (get_or changes k d).var change.new 0 (fresh k d below) ∙ made.set k d below)
-  ]
+  now_set k d lt = grind (arith, cases_eq k n, get_or-set_same s' change.var change.new 0, get_or-set_other s' change.var (get_or changes k d).var change.new 0, made.set k d, at d, in_state, fresh k d)
 
   -- a variable that neither the changes so far nor this one change
   fewer : (var : ℕ) → Untouched changes (n + 1) var → Untouched changes n var
@@ -54,16 +45,16 @@ module _ (p : Parts) (s s' : List ℕ) (changes : List Change) (n : ℕ) (made :
   }
 
   -- what it deletes
-  pub one_more_lost : (deleted : List Fact) → LostSoFar p s changes n deleted s' → IsBasic p change.var → (deleted' : List Fact)
-      → Replaces s' (record { var = change.var; value = change.new }) deleted deleted' → LostSoFar p s changes (n + 1) deleted' (set s' change.var change.new)
-  one_more_lost deleted so_far basic deleted' replaces = record {
-    lost = gone_more p s s' deleted so_far.lost change.var change.new in_state (so_far.among change.var fresh) basic exists deleted' replaces;
-    among = λ var not. all_replaced (λ (f : Fact). f.var ≢ var) s' (record { var = change.var; value = change.new }) deleted deleted' replaces
-        (so_far.among var (fewer var not)) (λ same. another var not (sym same));
-    few = (let few = so_far.few in let more = deleted_few s' (record { var = change.var; value = change.new }) deleted deleted' replaces in omega arith);
-  }
+  pub one_more_deleted : (deleted : List Fact) → DeletedSoFar p (Untouched changes n) n s s' deleted → IsBasic p change.var → (deleted' : List Fact)
+      → Replaces s' (record { var = change.var; value = change.new }) deleted deleted' → DeletedSoFar p (Untouched changes (n + 1)) (n + 1) s (set s' change.var change.new) deleted'
+  one_more_deleted deleted so_far basic = deleted_more p (Untouched changes n) (Untouched changes (n + 1)) n s s' deleted so_far change.var change.new in_state fresh
+      (λ var not. (fewer var not, λ same. another var not (sym same))) basic exists
 
 -- ---- making the changes is applying the effects
+
+-- an effect without conditions fires
+fires : (s : List ℕ) (c : Change) → Fires s (plain_effect c)
+fires s c = All-nil (Holds (λ v. get_or s v 0))
 
 module _ (o : Operator) (changes : List Change) (effects : o.effects ≡ plain_effects changes) where
   -- a property of each change as an effect is a property of each effect
@@ -74,18 +65,23 @@ module _ (o : Operator) (changes : List Change) (effects : o.effects ≡ plain_e
   of_changes P each k d lt = subst P (get_or-map plain_effect changes k d no_effect lt)
       (subst (All P) effects each k no_effect (omega (arith, lt, length-map changes plain_effect)))
 
-  pub effect_is : (k : ℕ) (d : Change) → k < length changes → effect_at o k ≡ plain_effect (get_or changes k d)
+  effect_is : (k : ℕ) (d : Change) → k < length changes → effect_at o k ≡ plain_effect (get_or changes k d)
   effect_is k d lt = ap (λ (es : List Effect). get_or es k no_effect) effects ∙ get_or-map plain_effect changes k d no_effect lt
 
-  pub effect_number : length o.effects ≡ length changes
+  effect_number : length o.effects ≡ length changes
   effect_number = ap length effects ∙ length-map changes plain_effect
+
+  -- each effect fires, and makes its change
+  pub change_made : (s : List ℕ) (k : ℕ) (d : Change) → k < length o.effects → Fires s (effect_at o k) × (get_or changes k d ≡ effect_change (effect_at o k))
+  change_made s k d lt =
+      let is = effect_is k d (omega (arith, effect_number, lt)) in
+      (subst (Fires s) (sym is) (fires s (get_or changes k d)), ap effect_change (sym is))
 
 -- they exist, and are on basic variables
 module _ (p : Parts) (operator : ℕ) (exists : operator < length p.operators) (changes : List Change) (effects : (operator_at p operator).effects ≡ plain_effects changes) where
   pub changes_fit : WellRanged p → All (λ (c : Change). HasValue p.variables c.var c.new) changes
   changes_fit ranged = of_changes (operator_at p operator) changes effects (λ (e : Effect). HasValue p.variables e.var e.new)
-      (All-weaker (EffectFits p.variables) (λ (e : Effect). HasValue p.variables e.var e.new) (λ e fits. fits.new) (operator_at p operator).effects
-      (All-from_recursion (EffectFits p.variables) (operator_at p operator).effects (operator_fits p ranged operator exists).effects.each))
+      (effects_fit p operator ranged exists)
 
   pub changes_within : WellRanged p → All (λ (c : Change). c.var < length p.variables) changes
   changes_within ranged = All-weaker (λ (c : Change). HasValue p.variables c.var c.new) (λ (c : Change). c.var < length p.variables)
@@ -93,10 +89,6 @@ module _ (p : Parts) (operator : ℕ) (exists : operator < length p.operators) (
 
   pub changes_basic : IsLayered p → All (λ (c : Change). IsBasic p c.var) changes
   changes_basic layered = of_changes (operator_at p operator) changes effects (λ (e : Effect). IsBasic p e.var) (effects_basic p operator layered exists)
-
--- an effect without conditions fires
-pub fires : (s : List ℕ) (c : Change) → Fires s (plain_effect c)
-fires s c = All-nil (Holds (λ v. get_or s v 0))
 
 pub applied_plainly : (p : Parts) (s : List ℕ) (o : Operator) (changes : List Change) (s' : List ℕ) → AllHold (λ v. get_or s v 0) (preconditions o)
     → IsPlainStep o changes → AreMade p s changes s' → IsApplied p s o s'
@@ -112,17 +104,13 @@ applied_plainly p s o changes s' applicable plain made =
 
 -- ---- the old values that changes require
 
-none_is_not : (value : ℕ) → None ≡ Some value → ⊥
-none_is_not value is = absurd cc
-
 one_old_holds : (s : List ℕ) (var : ℕ) (old : Option ℕ) (facts : List Fact) → ((value : ℕ) → old ≡ Some value → get_or s var 0 ≡ value)
     → AllHold (λ v. get_or s v 0) facts → AllHold (λ v. get_or s v 0) (cons_option (option_map (λ (value : ℕ). record { var = var; value = value }) old) facts)
-one_old_holds s var None facts holds all = all
-one_old_holds s var (Some value) facts holds all = All-cons (Holds (λ v. get_or s v 0)) (record { var = var; value = value }) facts (holds value refl) all
+one_old_holds s var old facts holds all = grind (arith, All-cons)
 
 one_old_held : (s : List ℕ) (var : ℕ) (old : Option ℕ) (facts : List Fact) → AllHold (λ v. get_or s v 0) (cons_option (option_map (λ (value : ℕ). record { var = var; value = value }) old) facts)
     → ((value : ℕ) → old ≡ Some value → get_or s var 0 ≡ value) × AllHold (λ v. get_or s v 0) facts
-one_old_held s var None facts all = ((λ value is. absurd (none_is_not value is)), all)
+one_old_held s var None facts all = ((λ value is. absurd cc), all)
 one_old_held s var (Some old) facts all = (
   (λ value is. All-head (Holds (λ v. get_or s v 0)) (record { var = var; value = old }) facts all ∙ same_Some old value is),
   All-tail (Holds (λ v. get_or s v 0)) (record { var = var; value = old }) facts all,

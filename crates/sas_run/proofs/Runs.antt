@@ -103,9 +103,8 @@ module _ (p : Parts) (run : Run) (through : StepsSucceed p run) where
   -- all steps lead to the last one
   pub leads_to_last : LeadsTo p run.steps run.operators (last_state run)
   leads_to_last =
-      subst (λ names. LeadsTo p names run.operators (last_state run)) (take_all (length run.steps) run.steps (omega arith))
-      (subst (λ os. LeadsTo p (take (length run.steps) run.steps) os (last_state run)) (take_all (length run.steps) run.operators (omega (arith, through.operators)))
-      (through.leads (length run.steps) (omega arith)))
+      rw (take_all (length run.steps) run.steps (omega arith), take_all (length run.steps) run.operators (omega (arith, through.operators)))
+      at (through.leads (length run.steps) (omega arith))
 
   pub last_rests : IsState p.variables (last_state run) × IsSettled p (last_state run)
   last_rests = leads_to_rest p run.steps run.operators (last_state run) leads_to_last

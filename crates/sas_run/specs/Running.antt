@@ -132,10 +132,7 @@ IsFinalVerdict p operators s cost
     (Some (plan_fault.CostDiffers sum)) = AllHold (slice_index s) p.goal
     × (sum ≡ cost_of_all p operators)
     × (sum ≢ cost)
-IsFinalVerdict p operators s cost (Some (plan_fault.NoOperator step)) = ⊥
-IsFinalVerdict p operators s cost (Some (plan_fault.NotApplicable step)) = ⊥
-IsFinalVerdict p operators s cost (Some (plan_fault.Conflict step operator)) = ⊥
-IsFinalVerdict p operators s cost (Some plan_fault.Memory) = ⊥
+IsFinalVerdict p operators s cost _ = ⊥
 
 -- the plan is valid by these operators, and has this cost
 pub record IsSolution (p : Parts) (plan : PlanParts) (solution : Valid) : Type 0 where

@@ -4,7 +4,6 @@
 mod deletions;
 mod execution;
 mod held;
-mod holding;
 mod laws;
 mod plain_steps;
 mod plan_check;

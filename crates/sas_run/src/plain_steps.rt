@@ -1,6 +1,6 @@
 // Steps of operators whose effects have no conditions and are on different variables. Such effects can be applied directly, one after
 // another. Most steps of most plans are of this kind.
-ghost use Rattle.std.specs.Prelude.{◌≡◌, ◌≢◌, ◌+◌, ◌<◌, [], length, All, IsTrue, IsFalse, IfSome, slice_index, slice_set};
+ghost use Rattle.std.specs.Prelude.{◌≡◌, ◌≢◌, ◌+◌, ◌<◌, length, All, IsTrue, IsFalse, IfSome, slice_set};
 ghost use Rattle.sas_core.specs.declared.grounded.Change.{Change};
 ghost use Rattle.sas_core.specs.Grounded.{operator_at};
 ghost use Rattle.sas_core.specs.Variables.{IsState};
@@ -68,8 +68,8 @@ pub fn old_values_hold(state: &State, changes: &[Change]) -> bool
     true
 }
 
-/// Makes the changes in the state. They are those of the operator's effects. If deleted facts are noted, adds those that become false.
-/// `deleted` must be empty.
+/// Makes the changes in the state. They are those of the operator's effects. If deleted facts are noted, `deleted` then contains those
+/// that became false.
 #[inline(always)]
 pub fn make_changes<T: Grounded>(
     task: &Layered<T>,
@@ -81,7 +81,6 @@ pub fn make_changes<T: Grounded>(
     requires operator { operator < length task.now.operators }
     requires plain { IsPlainStep (operator_at task.now operator) changes.now }
     requires state { IsState task.now.variables state.old }
-    requires empty { deleted.old.facts.items ≡ [] }
     requires room { HasRoom deleted.old (length changes.now) }
     ensures made { AreMade task.now state.old changes.now state.new }
     ensures gone { NotesGone task.now deleted.new state.old state.new }
@@ -89,6 +88,7 @@ pub fn make_changes<T: Grounded>(
 {
     // By its contract the task is well ranged and layered.
     let _ = task.task();
+    deleted.facts.clear();
     for change in changes {
         replace(change.fact(), deleted, state);
     }

@@ -1,5 +1,5 @@
 // Checks whether a plan is valid.
-ghost use Rattle.std.specs.Prelude.{◌≡◌, ◌≤◌, [], length, IfOk, IfErr, vec_capacity};
+ghost use Rattle.std.specs.Prelude.{◌≡◌, ◌+◌, ◌<◌, ◌≤◌, [], length, IfOk, IfErr, slice_index, vec_capacity};
 ghost use Rattle.sas_core.specs.Grounded.{operator_at};
 ghost use Rattle.sas_core.specs.Variables.{IsState};
 ghost use Rattle.sas_meaning.specs.Reachable.{IsInitial};
@@ -107,6 +107,7 @@ pub fn check_once<E: Settle<T> + Drop, T: Grounded, P: Stepwise>(
 }
 
 /// Checks whether the plan is valid, like `Runner::check_plan`. `found` has the operators of the steps' names.
+#[tactic(auto, using(crate::proofs::Endings::ends_valid, crate::proofs::Endings::ends_faulty))]
 pub fn check_found<E: Settle<T> + Drop, T: Grounded, P: Stepwise>(
     alloc: Global,
     layered: &Layered<T>,
@@ -155,11 +156,7 @@ pub fn find_fault<E: Settle<T> + Drop, T: Grounded, P: Stepwise>(
     ensures room { vec_capacity progress.old.operators ≤ vec_capacity progress.new.operators }
 {
     for before in 0..found.firsts.len() {
-        let next = NextStep {
-            first: found.firsts[before],
-            number: before + 1,
-        };
-        match go_on(layered, stepper, found.nexts, next, &mut progress.state) {
+        match go_on(layered, stepper, found, before, &mut progress.state) {
             Ok(operator) => progress.operators.push(operator).unwrap(),
             Err(fault) => return Some(fault),
         }
@@ -172,44 +169,42 @@ pub fn find_fault<E: Settle<T> + Drop, T: Grounded, P: Stepwise>(
     judge_last(layered, progress, plan.cost())
 }
 
-/// The next step of a plan: the lowest operator of its name, and its number, counted from 1.
-#[derive(Clone, Copy)]
-struct NextStep {
-    first: u32,
-    number: usize,
-}
-
-/// Chooses the operator that the next step means in the state, and makes its step from the state that the evaluator settled last. Returns
-/// the operator. `nexts` has, for each operator of the step's name, the next one.
+/// Chooses the operator that the step after the first `before` ones means in the state, and makes its step from the state that the
+/// evaluator settled last. Returns the operator.
+#[tactic(auto, using(crate::proofs::NextStates::fault_is_conflict))]
 #[inline(always)]
 fn go_on<E: Settle<T> + Drop, T: Grounded>(
     layered: &Layered<T>,
     stepper: &mut Stepper<E>,
-    nexts: &[Option<u32>],
-    next: NextStep,
+    found: Found<'_>,
+    before: usize,
     state: &mut State,
 ) -> Result<u32, PlanFault>
     requires prepared { IsPrepared E.ready layered.now stepper.old }
     requires follows { Follows E.follows layered.now stepper.old state.old }
-    requires first { IsFirst layered.now next.first }
-    requires chain { IsChain layered.now next.first nexts.now }
+    requires exists { before < length found.firsts.now }
+    requires first { IsFirst layered.now (slice_index found.firsts.now before) }
+    requires chain { IsChain layered.now (slice_index found.firsts.now before) found.nexts.now }
     requires state { IsState layered.now.variables state.old }
     ensures prepared { IsPrepared E.ready layered.now stepper.new }
     ensures noted { stepper.new.deleted.noted ≡ stepper.old.deleted.noted }
     ensures follows { IfOk result (λ _. Follows E.follows layered.now stepper.new state.new) }
     ensures ok { IfOk result (λ operator. MakesStep layered.now state.old
-        (operator_at layered.now next.first).name operator state.new) }
+        (operator_at layered.now (slice_index found.entry.firsts.now before)).name operator
+        state.new) }
     ensures err { IfErr result (λ fault. StepFails layered.now state.old
-        (operator_at layered.now next.first).name next.number fault) }
+        (operator_at layered.now (slice_index found.entry.firsts.now before)).name (before + 1)
+        fault) }
     ensures state { IsState layered.now.variables state.new }
 {
-    let Some(operator) = first_applicable(layered, nexts, state, next.first) else {
-        return Err(PlanFault::NotApplicable { step: next.number });
+    let first = found.firsts[before];
+    let Some(operator) = first_applicable(layered, found.nexts, state, first) else {
+        return Err(PlanFault::NotApplicable { step: before + 1 });
     };
     match go_on_from(layered, stepper, operator, state) {
         Ok(()) => Ok(operator),
         Err(_) => Err(PlanFault::Conflict {
-            step: next.number,
+            step: before + 1,
             operator,
         }),
     }

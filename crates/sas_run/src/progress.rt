@@ -1,15 +1,17 @@
 // The progress of a plan's execution, and the test of the goal and the cost.
-ghost use Rattle.std.specs.Prelude.{◌≡◌, ◌<◌, ◌≤◌, ℕ, [], length, All, IfOk, vec_capacity};
+ghost use Rattle.std.specs.Prelude.{◌≡◌, ◌<◌, ◌≤◌, ℕ, [], length, All, IfOk, IfSome, IfNone, slice_index, vec_capacity};
+ghost use Rattle.sas_core.specs.declared.parts.Fact.{Fact};
 ghost use Rattle.sas_core.specs.Variables.{IsState};
 ghost use Rattle.sas_meaning.specs.Reachable.{IsInitial};
+ghost use Rattle.sas_meaning.specs.States.{AllHold};
 ghost use Rattle.sas_run.specs.Plans.{cost_of_all};
 ghost use Rattle.sas_run.specs.Running.{IsFinalVerdict};
 ghost use Rattle.sas_run.specs.Stepping.{IsPrepared};
+ghost use Rattle.sas_run.specs.Verdicts.{IsFirstMissed};
 
-use crate::holding::first_missed;
 use crate::plan_check::PlanFault;
 use crate::stepper::{Stepper, initial_of};
-use sas_core::Grounded;
+use sas_core::{Fact, Grounded};
 use sas_meaning::{Layered, Settle, State};
 use std::alloc::{AllocError, Global};
 
@@ -75,4 +77,15 @@ fn cost_of<T: Grounded>(task: &Layered<T>, operators: &[u32]) -> u128
         sum += u128::from(task.cost(*operator));
     }
     sum
+}
+
+/// Returns the index of the first fact that doesn't hold, or `None` if all hold.
+pub fn first_missed(state: &State, facts: &[Fact]) -> Option<usize>
+    requires { All (λ (f : Fact). f.var < length state.now) facts.now }
+    ensures some { IfSome result (λ index. IsFirstMissed (slice_index state.now) facts.now index) }
+    ensures none { IfNone result (AllHold (slice_index state.now) facts.now) }
+{
+    facts
+        .iter()
+        .position(|fact| state.value(fact.var) != fact.value)
 }

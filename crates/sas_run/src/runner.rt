@@ -1,5 +1,5 @@
 // The runner, which makes the steps of plans.
-ghost use Rattle.std.specs.Prelude.{◌≡◌, ◌<◌, ◌↔◌, length, IfOk, IfErr, IfSome, None, IfNone, IsTrue};
+ghost use Rattle.std.specs.Prelude.{◌≡◌, ◌<◌, ◌↔◌, length, IfOk, IfErr, None, IsTrue};
 ghost use Rattle.sas_core.specs.Grounded.{operator_at};
 ghost use Rattle.sas_core.specs.Variables.{IsState};
 ghost use Rattle.sas_meaning.specs.Reachable.{IsInitial};
@@ -7,8 +7,8 @@ ghost use Rattle.sas_names.specs.Chains.{IsChain};
 ghost use Rattle.sas_run.specs.Plans.{IsApplicable};
 ghost use Rattle.sas_run.specs.Running.{IsChoice, IsFirstChosen, IsLaterIfAny, IsGoalAnswer, Steps};
 
-use crate::holding::first_missed;
 use crate::plain_steps::old_values_hold;
+use crate::progress::first_missed;
 use crate::stepper::{Stepper, initial_of, step_on, stepper_for};
 use crate::steps::{StepFault, missed_precondition};
 use sas_core::{Grounded, Task};
@@ -200,8 +200,6 @@ pub fn later_applicable<T: Grounded>(
     requires state { IsState task.now.variables state.now }
     ensures { IsLaterIfAny task.now state.now operator result }
 {
-    match next_in(nexts, operator) {
-        Some(next) => first_applicable(task, nexts, state, next),
-        None => None,
-    }
+    let next = next_in(nexts, operator)?;
+    first_applicable(task, nexts, state, next)
 }

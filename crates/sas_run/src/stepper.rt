@@ -173,13 +173,7 @@ pub fn step_on<E: Settle<T> + Drop, T: Grounded>(
 {
     // By its contract the task is well ranged and layered.
     let _ = layered.task();
-    apply(
-        layered,
-        operator,
-        &mut stepper.given,
-        &mut stepper.deleted,
-        state,
-    )?;
+    apply(layered, stepper, operator, state)?;
     stepper.evaluator.settle(layered, state);
     Ok(())
 }
@@ -187,6 +181,7 @@ pub fn step_on<E: Settle<T> + Drop, T: Grounded>(
 /// Makes the step like `step_on`, but from the state that the evaluator settled last. So the evaluator may reuse what the step doesn't
 /// change. Afterwards the stepper lists what the step changed. If deleted facts aren't noted, no variable is derived. Then each state is
 /// settled, so the evaluator isn't called.
+#[tactic(auto, using(crate::proofs::NextStates::stepping))]
 #[inline(always)]
 pub fn go_on_from<E: Settle<T> + Drop, T: Grounded>(
     layered: &Layered<T>,
@@ -209,13 +204,7 @@ pub fn go_on_from<E: Settle<T> + Drop, T: Grounded>(
 {
     // By its contract the task is well ranged and layered.
     let _ = layered.task();
-    apply(
-        layered,
-        operator,
-        &mut stepper.given,
-        &mut stepper.deleted,
-        state,
-    )?;
+    apply(layered, stepper, operator, state)?;
     if stepper.deleted.noted {
         stepper.evaluator.settle_on(
             layered,

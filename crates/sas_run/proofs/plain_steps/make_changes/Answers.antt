@@ -1,17 +1,16 @@
 -- One more change is made.
-use Rattle.sas_run.proofs.Imports.{IsTrue, ◌+◌, ◌<◌, length, get_or, set, sym, ap, ◌∙◌, subst, arith, get_or_default, Fact, Replaces}
+use Rattle.sas_run.proofs.Imports.{IsTrue, ◌<◌, length, get_or, set, sym, ap, ◌∙◌, arith, get_or_default, Fact}
 use Rattle.sas_run.proofs.Deleted.{notes_on}
-use Rattle.sas_run.proofs.PlainSteps.{MadeSoFar, LostSoFar, no_change, one_more_made, one_more_lost, changes_fit, changes_within, changes_basic}
+use Rattle.sas_run.proofs.PlainSteps.{no_change, one_more_made, one_more_deleted, changes_fit, changes_within, changes_basic}
 use Rattle.sas_run.proofs.plain_steps.make_changes.Goals as goal
 
 pub replace-requires-clause-exists : goal.replace-requires-clause-exists
 replace-requires-clause-exists g c =
     let p = c.args.task.now in
     let n = c.loop-change.change-index in
-    let made = c.loop-change.invariant.made in
-    let one_each = made.state.one_each in
+    let one_each = c.loop-change.invariant.made.state.one_each in
     let within : (get_or c.args.changes.now n no_change).var < length p.variables = changes_within p c.args.operator c.requires.operator c.args.changes.now c.requires.plain.effects c.task.ensures.well_ranged n no_change c.loop-change-test.true in
-    subst (λ (f : Fact). f.var < length c.loop-change.state) (sym c.fact.ensures) (omega (arith, within, one_each))
+    rw c.fact.ensures (omega (arith, within, one_each))
 
 pub loop-change-preserved : goal.loop-change-preserved
 loop-change-preserved g c =
@@ -21,18 +20,15 @@ loop-change-preserved g c =
     let change = get_or changes n no_change in
     let some = c.loop-change-test.true in
     let effects = c.requires.plain.effects in
-    let more = one_more_made p c.args.state.now c.loop-change.state changes n c.loop-change.invariant.made c.requires.plain.apart some change (λ d. get_or_default changes n d no_change some)
-    (changes_within p c.args.operator c.requires.operator changes effects c.task.ensures.well_ranged n no_change some)
-    (changes_fit p c.args.operator c.requires.operator changes effects c.task.ensures.well_ranged n no_change some) in
     let now = c.replace.ensures.state ∙ ap (λ (f : Fact). set c.loop-change.state f.var f.value) c.fact.ensures in
-    record {
-      made = subst (MadeSoFar p c.args.state.now changes (n + 1)) (sym now) more;
-      lost = λ noted.
+    rw now record {
+      made = one_more_made p c.args.state.now c.loop-change.state changes n c.loop-change.invariant.made c.requires.plain.apart some change (λ d. get_or_default changes n d no_change some)
+          (changes_within p c.args.operator c.requires.operator changes effects c.task.ensures.well_ranged n no_change some)
+          (changes_fit p c.args.operator c.requires.operator changes effects c.task.ensures.well_ranged n no_change some);
+      deleted = λ noted.
           (let before : IsTrue c.loop-change.deleted.noted = sym c.replace.ensures.notes.noted ∙ noted in
-          let replaces = subst (λ f. Replaces c.loop-change.state f c.loop-change.deleted.facts.items c.replace.new.deleted.facts.items) c.fact.ensures (c.replace.ensures.deleted before) in
-          subst (LostSoFar p c.args.state.now changes (n + 1) c.replace.new.deleted.facts.items) (sym now)
-          (one_more_lost p c.args.state.now c.loop-change.state changes n c.loop-change.invariant.made c.requires.plain.apart some change (λ d. get_or_default changes n d no_change some)
-          (changes_within p c.args.operator c.requires.operator changes effects c.task.ensures.well_ranged n no_change some) c.loop-change.deleted.facts.items (c.loop-change.invariant.lost before)
-          (changes_basic p c.args.operator c.requires.operator changes effects c.task.ensures.layered n no_change some) c.replace.new.deleted.facts.items replaces));
+          one_more_deleted p c.args.state.now c.loop-change.state changes n c.loop-change.invariant.made c.requires.plain.apart some change (λ d. get_or_default changes n d no_change some)
+          (changes_within p c.args.operator c.requires.operator changes effects c.task.ensures.well_ranged n no_change some) c.loop-change.deleted.facts.items (c.loop-change.invariant.deleted before)
+          (changes_basic p c.args.operator c.requires.operator changes effects c.task.ensures.layered n no_change some) c.replace.new.deleted.facts.items (rw c.fact.ensures at (c.replace.ensures.deleted before)));
       notes = notes_on c.args.deleted.now c.loop-change.deleted c.replace.new.deleted c.loop-change.invariant.notes c.replace.ensures.notes;
     }

@@ -1,6 +1,6 @@
 -- One more step succeeds or fails; after the last step the goal and the cost are tested.
 use Rattle.std.proofs.lemmas.Grind.{common_steps}
-use Rattle.sas_run.proofs.Imports.{◌≡◌, ℕ, ◌+◌, ◌<◌, List, [], ◌∷◌, ◌++◌, length, take, get_or, refl, sym, subst, ◌∙◌, arith, take_all, take_more, operator_at, NoOperator, LeadsTo, MakesStep, StepFails}
+use Rattle.sas_run.proofs.Imports.{◌≡◌, ◌+◌, ◌<◌, [], ◌∷◌, length, take, get_or, refl, ◌∙◌, arith, take_all, take_more, operator_at, NoOperator, LeadsTo}
 use Rattle.std.proofs.Math.ListN.{length-append}
 use Rattle.sas_run.proofs.Endings.{stops_there, judged_there}
 use Rattle.sas_run.proofs.Going.{leads_one_more}
@@ -17,7 +17,7 @@ returns-in-Err-clause-ends g c =
     let below : n < length plan.steps = omega (arith, c.loop-before-test.true, c.requires.found.firsts.within) in
     let named : (operator_at p (get_or c.args.found.firsts.now n 0)).name ≡ get_or plan.steps n [] = (c.requires.found.firsts.each n c.loop-before-test.true).of_name.named in
     stops_there p plan n below progress.operators.items progress.state c.loop-before.invariant.leads fault
-    (subst (λ name. StepFails p progress.state name (n + 1) fault) named c.in-Err.ensures.err)
+    (rw named at c.in-Err.ensures.err)
 
 pub loop-before-preserved : goal.loop-before-preserved
 loop-before-preserved g c =
@@ -31,14 +31,12 @@ loop-before-preserved g c =
     let below : n < length steps = omega (arith, c.loop-before-test.true, c.requires.found.firsts.within) in
     let named : (operator_at p (get_or c.args.found.firsts.now n 0)).name ≡ get_or steps n [] = (c.requires.found.firsts.each n c.loop-before-test.true).of_name.named in
     let items = rw c.unwrap.ensures at c.push.ensures.items in
-    let on : MakesStep p progress.state (get_or steps n []) operator next = subst (λ name. MakesStep p progress.state name operator next) named c.in-Ok.ensures.ok in
     record {
       prepared = c.go_on.ensures.prepared;
       noted = c.go_on.ensures.noted ∙ inv.noted;
       follows = c.in-Ok.ensures.follows;
       state = c.go_on.ensures.state;
-      leads = rw items (subst (λ (names : List (List ℕ)). LeadsTo p names (progress.operators.items ++ operator ∷ []) next) (sym (take_more steps n [] below))
-          (leads_one_more p (take n steps) progress.operators.items progress.state (get_or steps n []) operator next inv.leads on));
+      leads = rw (items, take_more steps n [] below) (leads_one_more p (take n steps) progress.operators.items progress.state (get_or steps n []) operator next inv.leads (rw named at c.in-Ok.ensures.ok));
       one_each = rw items (let len = length-append progress.operators.items (operator ∷ []) in let one = inv.one_each in omega arith);
       room = omega (arith, inv.room, c.push.ensures.capacity);
       kept = omega (arith, inv.kept, c.push.ensures.capacity);
@@ -69,12 +67,6 @@ pub judge_last-requires-clause-exist : goal.judge_last-requires-clause-exist
 judge_last-requires-clause-exist g c =
     let progress = c.loop-before.progress in
     leads_by c.args.layered.now (take c.loop-before.before (g.P.Stepwise.says c.args.plan.now).steps) progress.operators.items progress.state c.loop-before.invariant.leads
-
-pub loop-before-init : goal.loop-before-init
-loop-before-init g c = grind (arith, common_steps)
-
-pub go_on-requires-clause-first : goal.go_on-requires-clause-first
-go_on-requires-clause-first g c = grind (arith, common_steps)
 
 pub unwrap-requires : goal.unwrap-requires
 unwrap-requires g c =

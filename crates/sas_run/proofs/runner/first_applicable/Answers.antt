@@ -8,9 +8,7 @@ loop-next-preserved g c =
     let p = c.args.task.now in
     let s = c.args.state.now in
     let operator = c.in-Some.operator in
-    let searched : SearchedTo p s c.args.first (Some operator) = rw c.in-Some.is at c.loop-next.invariant.searched in
+    let searched : SearchedTo p s c.args.first (Some operator) = rw c.in-Some.is at c.loop-next.invariant in
     let is : c.next_in-next.result ≡ get_or c.args.nexts.now operator None = c.next_in-next.ensures in
-    record {
-      searched = search_goes_on p s c.args.first operator c.args.nexts.now c.next_in-next.result c.requires.chain searched is
-          (λ holds. true≢false (sym (c.is_applicable.ensures.1 holds) ∙ c.if-is_applicable.false));
-    }
+    search_goes_on p s c.args.first operator c.args.nexts.now c.next_in-next.result c.requires.chain searched is
+    (λ holds. true≢false (sym (c.is_applicable.ensures.1 holds) ∙ c.if-is_applicable.false))

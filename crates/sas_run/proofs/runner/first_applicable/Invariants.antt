@@ -4,9 +4,7 @@ use Rattle.sas_run.proofs.NamedAlike.{SearchedTo}
 use Rattle.sas_run.proofs.runner.first_applicable.Given as goal
 
 abbrev pub invariant-loop-next : goal.invariant-loop-next
-invariant-loop-next g l = record {
-  searched : SearchedTo l.task l.state l.first l.next;
-}
+invariant-loop-next g l = SearchedTo l.task l.state l.first l.next
 
 abbrev pub decreases-loop-next : goal.decreases-loop-next
 decreases-loop-next g l = left l.task l.next

@@ -1,5 +1,5 @@
 -- The prevail conditions, and the old values that effects without conditions require, are all preconditions.
-use Rattle.sas_run.proofs.Imports.{◌<◌, length, sym, subst, All, slice_index, Change, Fact, operator_at, AllHold, true_from_ne_false}
+use Rattle.sas_run.proofs.Imports.{length, subst, slice_index, operator_at, AllHold, true_from_ne_false}
 use Rattle.sas_run.proofs.Ranges.{preconditions_within}
 use Rattle.sas_run.proofs.PlainSteps.{changes_within, met, prevail_met, olds_met, prevail_within}
 use Rattle.sas_run.proofs.runner.is_applicable.Goals as goal
@@ -8,16 +8,13 @@ pub holds_all-requires : goal.holds_all-requires
 holds_all-requires g c =
     let p = c.args.task.now in
     let o = operator_at p c.args.operator in
-    subst (λ n. All (λ (f : Fact). f.var < n) c.prevail.result.now) (sym c.requires.state.one_each)
-    (subst (All (λ (f : Fact). f.var < length p.variables)) (sym c.prevail.ensures)
-    (prevail_within c.args.state.now o c.in-Some.changes.now c.in-Some.ensures (length p.variables)
-    (preconditions_within p c.task.ensures.well_ranged c.args.operator c.requires.operator)))
+    rw (c.prevail.ensures, c.requires.state.one_each)
+    (prevail_within c.args.state.now o c.in-Some.changes.now c.in-Some.ensures (length p.variables) (preconditions_within p c.task.ensures.well_ranged c.args.operator c.requires.operator))
 
 pub old_values_hold-requires : goal.old_values_hold-requires
 old_values_hold-requires g c =
     let p = c.args.task.now in
-    subst (λ n. All (λ (x : Change). x.var < n) c.in-Some.changes.now) (sym c.requires.state.one_each)
-    (changes_within p c.args.operator c.requires.operator c.in-Some.changes.now c.in-Some.ensures c.task.ensures.well_ranged)
+    rw c.requires.state.one_each (changes_within p c.args.operator c.requires.operator c.in-Some.changes.now c.in-Some.ensures c.task.ensures.well_ranged)
 
 pub returns-then-holds_all : goal.returns-then-holds_all
 returns-then-holds_all g c =
@@ -36,6 +33,5 @@ returns-else-holds_all g c =
     let o = operator_at p c.args.operator in
     let s = c.args.state.now in (
       (λ yes. (let no = c.if-holds_all.false in absurd cc)),
-      (λ can. c.holds_all.ensures.1 (subst (AllHold (slice_index s)) (sym c.prevail.ensures)
-          (prevail_met s o c.in-Some.changes.now c.in-Some.ensures can))),
+      (λ can. c.holds_all.ensures.1 (rw c.prevail.ensures (prevail_met s o c.in-Some.changes.now c.in-Some.ensures can))),
     )

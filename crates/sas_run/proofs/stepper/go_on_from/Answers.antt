@@ -1,20 +1,6 @@
 -- The effects are applied, and the result is settled from the state before.
-use Rattle.std.proofs.Common.{arith}
-use Rattle.std.proofs.lemmas.Grind.{common_steps}
-use Rattle.sas_run.proofs.Imports.{◌≢◌, ◌⊎◌, ℕ, ◌∷◌, List, [], is_some, sym, ◌∙◌, ap, subst, inl, inr, All, cases_eq, err_from_is_err_and, All-nil, All-cons, Contains-append_left, Contains-append_right, Contains-push, Fact, Parts, Touched, HaveGone, SameBasic, CoversChanges, layer_cases, HasFactOn, ListsChanges}
-use Rattle.sas_run.proofs.Going.{passed_on}
-use Rattle.sas_run.proofs.Deleted.{room_on}
-use Rattle.sas_run.proofs.NextStates.{effects_basic, settled_if_basic, step_from_applied}
+use Rattle.sas_run.proofs.Imports.{◌≢◌, ◌⊎◌, ℕ, ◌∷◌, List, [], is_some, sym, ◌∙◌, ap, subst, inl, inr, All, cases_eq, All-nil, All-cons, Contains-append_left, Contains-append_right, Contains-push, Fact, Parts, Touched, HaveGone, SameBasic, CoversChanges, layer_cases, HasFactOn, ListsChanges}
 use Rattle.sas_run.proofs.stepper.go_on_from.Goals as goal
-
-pub settle_on-requires-clause-follows : goal.settle_on-requires-clause-follows
-settle_on-requires-clause-follows g c = grind (arith, common_steps)
-
-pub returns-then-stepper-clause-steps : goal.returns-then-stepper-clause-steps
-returns-then-stepper-clause-steps g c = grind (arith, common_steps, step_from_applied, effects_basic)
-
-pub returns-else-stepper-clause-steps : goal.returns-else-stepper-clause-steps
-returns-else-stepper-clause-steps g c = grind (arith, common_steps, step_from_applied, effects_basic, settled_if_basic)
 
 -- ---- what is listed
 
@@ -52,23 +38,8 @@ pub returns-then-stepper-clause-lists : goal.returns-then-stepper-clause-lists
 returns-then-stepper-clause-lists g c noted =
     let p = c.args.layered.now in
     let s = c.args.state.now in
-    let deleted = c.apply.new.deleted.facts.items in
+    let deleted = c.apply.new.stepper.deleted.facts.items in
     let gone = c.in_ok-apply.ensures.gone noted in
     lists_step p s c.apply.new.state c.settle_on.new.state deleted c.settle_on.new.touched gone c.settle_on.ensures.settles.basic
-    (c.settle_on.ensures.covered s (c.requires.follows (sym c.apply.ensures.notes.noted ∙ noted))
+    (c.settle_on.ensures.covered s (rw (← c.apply.ensures.evaluator) at (c.requires.follows (sym c.apply.ensures.notes.noted ∙ noted)))
     (subst (λ (facts : List Fact). HaveGone p facts s c.apply.new.state) (sym c.as_slice.ensures.value) gone))
-
-pub returns-in_err-apply-clause-prepared : goal.returns-in_err-apply-clause-prepared
-returns-in_err-apply-clause-prepared g c = grind (arith, common_steps, room_on)
-
-pub returns-in_err-apply-clause-steps : goal.returns-in_err-apply-clause-steps
-returns-in_err-apply-clause-steps g c = grind (arith, common_steps, passed_on, err_from_is_err_and)
-
-pub returns-in_err-apply-clause-follows : goal.returns-in_err-apply-clause-follows
-returns-in_err-apply-clause-follows g c noted = grind (arith, common_steps)
-
-pub returns-then-stepper-clause-prepared : goal.returns-then-stepper-clause-prepared
-returns-then-stepper-clause-prepared g c = grind (arith, common_steps, room_on)
-
-pub returns-else-stepper-clause-prepared : goal.returns-else-stepper-clause-prepared
-returns-else-stepper-clause-prepared g c = grind (arith, common_steps, room_on)

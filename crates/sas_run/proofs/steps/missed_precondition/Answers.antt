@@ -1,26 +1,22 @@
 -- One precondition after another is tested.
-use Rattle.sas_run.proofs.Imports.{◌≡◌, ◌∙◌, ◌<◌, List, [], ◌∷◌, ◌++◌, length, ap, sym, subst, append_assoc, slice_index, All, All-nil, All-append, All-head, All-push, All-rest, Fact, operator_at, Holds, preconditions}
+use Rattle.sas_run.proofs.Imports.{◌∙◌, ◌<◌, List, [], ◌∷◌, ◌++◌, length, ap, sym, subst, append_assoc, slice_index, All, All-nil, All-append, All-head, All-push, Fact, operator_at, Holds, preconditions}
 use Rattle.sas_run.proofs.Ranges.{preconditions_within}
+use Rattle.sas_run.proofs.Deleted.{all_behind}
 use Rattle.sas_run.proofs.Missed.{missed_next}
 use Rattle.sas_run.proofs.steps.missed_precondition.Goals as goal
 
 pub loop-fact-init : goal.loop-fact-init
-loop-fact-init g c =
-    let p = c.args.task.now in
-    let all = preconditions (operator_at p c.args.operator) in
-    let is : c.into_iter-fact-iterator.result ≡ all = c.into_iter-fact-iterator.ensures.into_iter_gives ∙ c.new-fact-items.ensures in
-    record {
-      left = sym is;
-      hold = All-nil (Holds (slice_index c.args.state.now));
-      within = subst (All (λ (f : Fact). f.var < length c.args.state.now)) (sym is)
-          (subst (λ n. All (λ (f : Fact). f.var < n) all) (sym c.requires.state.one_each)
-          (preconditions_within p c.task.ensures.well_ranged c.args.operator c.requires.operator));
-    }
+loop-fact-init g c = record {
+  left = sym (c.into_iter-fact-iterator.ensures.into_iter_gives ∙ c.new-fact-items.ensures);
+  hold = All-nil (Holds (slice_index c.args.state.now));
+}
 
 pub value-requires : goal.value-requires
 value-requires g c =
+    let p = c.args.task.now in
     let Within : Fact → Type 0 = λ f. f.var < length c.args.state.now in
-    All-head Within c.in-Some.fact _ (subst (All Within) c.in-Some.ensures.steps c.loop-fact.invariant.within)
+    let all : All Within (preconditions (operator_at p c.args.operator)) = rw c.requires.state.one_each (preconditions_within p c.task.ensures.well_ranged c.args.operator c.requires.operator) in
+    All-head Within c.in-Some.fact _ (rw c.in-Some.ensures.steps at (all_behind Within c.loop-fact.yielded c.loop-fact.fact-iterator (rw c.loop-fact.invariant.left at all)))
 
 pub returns-then-value-fact-clause-some : goal.returns-then-value-fact-clause-some
 returns-then-value-fact-clause-some g c =
@@ -36,7 +32,6 @@ loop-fact-preserved g c =
     record {
       left = c.loop-fact.invariant.left ∙ (ap (λ (fs : List Fact). before ++ fs) steps ∙ sym (append_assoc before (fact ∷ []) c.next.new.self));
       hold = All-push (Holds (slice_index c.args.state.now)) before fact c.loop-fact.invariant.hold (sym c.value.ensures ∙ c.if-value-fact.false);
-      within = All-rest (λ (f : Fact). f.var < length c.args.state.now) fact c.next.new.self c.loop-fact.fact-iterator steps c.loop-fact.invariant.within;
     }
 
 pub returns-clause-none : goal.returns-clause-none

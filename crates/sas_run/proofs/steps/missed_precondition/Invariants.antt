@@ -1,10 +1,9 @@
--- The preconditions so far hold, and the variables of the remaining ones exist.
-use Rattle.sas_run.proofs.Imports.{◌≡◌, ◌<◌, length, ◌++◌, slice_index, All, Fact, operator_at, AllHold, preconditions}
+-- The preconditions so far hold.
+use Rattle.sas_run.proofs.Imports.{◌≡◌, ◌++◌, slice_index, operator_at, AllHold, preconditions}
 use Rattle.sas_run.proofs.steps.missed_precondition.Given as goal
 
 abbrev pub invariant-loop-fact : goal.invariant-loop-fact
 invariant-loop-fact g l = record {
   left : preconditions (operator_at l.task l.operator) ≡ l.yielded ++ l.fact-iterator;
   hold : AllHold (slice_index l.state) l.yielded;
-  within : All (λ (f : Fact). f.var < length l.state) l.fact-iterator;
 }

@@ -1,21 +1,8 @@
 -- The given value of one more variable is removed.
-use Rattle.std.proofs.lemmas.Grind.{common_steps}
 use Rattle.sas_run.proofs.Imports.{◌≡◌, ◌<◌, length, ap, arith, Change, operator_at, effect_at}
 use Rattle.sas_run.proofs.Ranges.{change_within}
-use Rattle.sas_run.proofs.Giving.{fewer_on_effects, one_more_taken, all_taken}
+use Rattle.sas_run.proofs.Giving.{fewer_on_effects, one_more_taken}
 use Rattle.sas_run.proofs.steps.take_back.Goals as goal
-
-pub set-requires : goal.set-requires
-set-requires g c =
-    omega (
-      arith,
-      change_within c.args.task.now c.task.ensures.well_ranged c.args.operator c.requires.operator c.loop-effect.effect (omega arith)
-          c.effect_change-change.result c.effect_change-change.ensures,
-      c.loop-effect.invariant.on_effects.one_each,
-    )
-
-pub loop-effect-init : goal.loop-effect-init
-loop-effect-init g c = grind (arith, common_steps)
 
 pub loop-effect-preserved : goal.loop-effect-preserved
 loop-effect-preserved g c =
@@ -33,6 +20,3 @@ loop-effect-preserved g c =
       on_effects = fewer_on_effects given v place p o inv.on_effects;
       taken = one_more_taken given v place o n on inv.taken;
     }
-
-pub returns : goal.returns
-returns g c = grind (arith, common_steps, all_taken)

@@ -1,9 +1,8 @@
 -- The given value of one more variable is written and removed.
-use Rattle.std.proofs.lemmas.Grind.{common_steps}
-use Rattle.sas_run.proofs.Imports.{◌≡◌, ◌<◌, length, set, None, Some, sym, ap, subst, ◌∙◌, inl, inr, arith, IsTrue, cases_eq, Change, operator_at, effect_at, IsBasic, state_set, Deleted, NotesOn, given_to}
+use Rattle.sas_run.proofs.Imports.{◌≡◌, ◌<◌, length, set, None, Some, sym, ap, subst, ◌∙◌, arith, IsTrue, cases_eq, Change, operator_at, effect_at, IsBasic, state_set, Deleted, NotesOn, given_to}
 use Rattle.sas_run.proofs.Ranges.{no_effect, change_within}
-use Rattle.sas_run.proofs.Giving.{fewer_on_effects, one_more_taken, written_same, all_taken}
-use Rattle.sas_run.proofs.Deleted.{notes_on, notes_still, nothing_deleted, deleted_more, deleted_few}
+use Rattle.sas_run.proofs.Giving.{HasGiven, others_given, fewer_on_effects, one_more_taken, written_same}
+use Rattle.sas_run.proofs.Deleted.{notes_on, deleted_more}
 use Rattle.sas_run.proofs.NextStates.{effects_basic}
 use Rattle.sas_run.proofs.steps.write_given.Goals as goal
 use Rattle.sas_run.proofs.steps.write_given.Goals.{in-Some, in_default}
@@ -38,12 +37,8 @@ loop-effect-preserved g c =
             written = λ var. written_same given v (omega arith) s value (omega arith) at var ∙ inv.written var;
             deleted = λ noted.
                 (let before = still w.replace.new.deleted w.replace.ensures.notes noted in
-                deleted_more p given c.args.state.now s deleted (inv.deleted before) v value (omega arith) (omega arith) at basic exists w.replace.new.deleted.facts.items (w.replace.ensures.deleted before));
-            few = λ noted.
-                (let before = still w.replace.new.deleted w.replace.ensures.notes noted in
-                let more = deleted_few s (record { var = v; value = value }) deleted w.replace.new.deleted.facts.items (w.replace.ensures.deleted before) in
-                let few = inv.few before in
-                omega arith);
+                deleted_more p (HasGiven given) (HasGiven (set given v None)) n c.args.state.now s deleted (inv.deleted before) v value (omega arith) (value, at) (others_given given v (omega arith)) basic exists w.replace.new.deleted.facts.items
+                (w.replace.ensures.deleted before));
             notes = notes_on c.args.deleted.now c.loop-effect.deleted w.replace.new.deleted inv.notes w.replace.ensures.notes;
           })
       | in_default w ↦
@@ -51,44 +46,15 @@ loop-effect-preserved g c =
           rw (w.given-is, w.state-is, w.deleted-is) record {
             state = inv.state;
             on_effects = inv.on_effects;
-            taken = λ k lt. elim (cases_eq k n) [
-              | inl e ↦ subst (λ x. given_to given x ≡ None) (on ∙ ap (λ i. (effect_at o i).var) (sym e)) none
-              | inr ne ↦ inv.taken k (omega arith)
-            ];
+            taken = λ k lt. grind (arith, cases_eq k n, on, none, inv.taken k);
             written = inv.written;
-            deleted = inv.deleted;
-            few = λ noted. (let few = inv.few noted in omega arith);
+            deleted = λ noted.
+                (let so_far = inv.deleted noted in
+                let few = so_far.few in
+                record { gone = so_far.gone; none_left = so_far.none_left; few = omega arith });
             notes = inv.notes;
           })
     ]
 
-pub loop-effect-init : goal.loop-effect-init
-loop-effect-init g c = grind (arith, common_steps, nothing_deleted, notes_still)
-
 pub returns-clause-gone : goal.returns-clause-gone
 returns-clause-gone g c noted = (c.loop-effect.invariant.deleted noted).gone
-
-pub bounds : goal.bounds
-bounds g c =
-    omega (
-      arith,
-      change_within c.args.task.now c.task.ensures.well_ranged c.args.operator c.requires.operator c.loop-effect.effect (omega arith)
-          c.effect_change-var.result c.effect_change-var.ensures,
-      ap length c.as_slice.ensures,
-      c.loop-effect.invariant.on_effects.one_each,
-    )
-
-pub bounds-as_slice-var : goal.bounds-as_slice-var
-bounds-as_slice-var g c = grind (arith, common_steps)
-
-pub replace-requires-clause-exists : goal.replace-requires-clause-exists
-replace-requires-clause-exists g c = grind (arith, common_steps, change_within)
-
-pub replace-requires-clause-room : goal.replace-requires-clause-room
-replace-requires-clause-room g c noted = grind (arith, common_steps)
-
-pub set-requires : goal.set-requires
-set-requires g c = grind (arith, common_steps, change_within)
-
-pub returns-clause-clean : goal.returns-clause-clean
-returns-clause-clean g c = grind (arith, common_steps, all_taken)

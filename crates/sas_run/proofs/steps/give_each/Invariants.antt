@@ -1,6 +1,6 @@
 -- The given values are exactly those of the effects so far.
 use Rattle.sas_run.proofs.Imports.{operator_at, IsGiven}
-use Rattle.sas_run.proofs.steps.give_effects.Given as goal
+use Rattle.sas_run.proofs.steps.give_each.Given as goal
 
 abbrev pub invariant-loop-effect : goal.invariant-loop-effect
 invariant-loop-effect g l =
