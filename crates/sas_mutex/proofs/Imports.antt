@@ -21,7 +21,7 @@ pub use Rattle.sas_core.specs.declared.parts.Effect.{Effect}
 pub use Rattle.sas_core.specs.declared.parts.Fact.{Fact}
 pub use Rattle.sas_core.specs.declared.parts.Operator.{Operator}
 pub use Rattle.sas_core.specs.declared.parts.Parts.{Parts}
-pub use Rattle.sas_groups.proofs.Effects.{set_is, keeps_from_effects, effect_of_keeps}
+pub use Rattle.sas_groups.proofs.Effects.{keeps_from_effects, effect_of_keeps}
 pub use Rattle.sas_groups.proofs.Entering.{group_fact_exists}
 pub use Rattle.sas_groups.proofs.Existing.{variable_below, groups_below}
 pub use Rattle.sas_groups.proofs.GreatestFamily.{group_of_larger, keeps_more, clash_more, outside_is_broken}
@@ -50,7 +50,7 @@ pub use Rattle.sas_groups.specs.declared.verdict.Verdict.{Verdict}
 pub use Rattle.sas_groups.specs.declared.verdict.Verdict.TheVariants.{Derived, Initial, Broken, Exclusive}
 pub use Rattle.sas_meaning.specs.Steps.{preconditions, old_fact}
 pub use Rattle.sas_mutex.specs.Basis.{Grows, HasGrown, IsBasis, IsOfNone, SetsNone}
-pub use Rattle.sas_mutex.specs.ByNotes.{IsNotedAt, ShareOne, AreKnown, IsMet, RemovesByNotes, SomeRemoves, IsNotedFor, known_at, IsUnknownAt, IsGoneAt, IsDecidedByFirst, NeverFires, HasNoPartnerAt, NotBothAt, SetsBeside, IsApartAt, IsSingleOn, IsSingleOnFirst, IsUnknown, ClashesAt, SetsOtherValue, EffectKeepsGroupWithItself, EffectKeepsGroup}
+pub use Rattle.sas_mutex.specs.ByNotes.{IsNotedAt, ShareOne, AreKnown, IsMet, RemovesByNotes, SomeRemoves, IsNotedFor, known_at, IsUnknownAt, IsGoneAt, IsDecidedByFirst, NeverFires, NotBothAt, BothClashAt, SetsBeside, IsApartAt, IsSingleOn, IsSingleOnFirst, IsUnknown, ClashesAt, SetsOtherValue, EffectKeepsGroupWithItself, EffectKeepsGroup}
 pub use Rattle.sas_mutex.specs.Effects.{IsKept, KeepsAt, KeepsWithItself, IsUnconditional}
 pub use Rattle.sas_mutex.specs.Falling.{count, IsAtRest, AreCandidates, newly, Falls, FamilyHasRoom, RestsOn, IsWithin}
 pub use Rattle.sas_mutex.specs.Firing.{EffectPlace, operator_of, effect_of}

@@ -201,12 +201,7 @@ fn find_broken_by<T: Grounded>(
     ensures clean { IsClean indexed.now marks.new }
 {
     for effect in 0..indexed.task.effects(operator) {
-        let firing = Firing {
-            task: indexed.task,
-            index: indexed.index,
-            operator,
-            effect,
-        };
+        let firing = Firing::new(indexed, operator, effect);
         find_broken_by_effect(&firing, kept, verdicts, marks);
     }
 }

@@ -37,12 +37,7 @@ pub fn look_at<T: Grounded>(
     let mut alone = look_at_plain(indexed, operator, family, marks);
     for effect in 0..indexed.task.effects(operator) {
         if !is_plain(indexed.task, operator, effect) {
-            let firing = Firing {
-                task: indexed.task,
-                index: indexed.index,
-                operator,
-                effect,
-            };
+            let firing = Firing::new(indexed, operator, effect);
             // If no group of the family contains the fact that the effect sets, nothing is recorded.
             if firing.sets_one_of(family.kept.as_slice()) {
                 alone &= look_at_alike(&firing, family, marks);
@@ -69,12 +64,7 @@ fn look_at_plain<T: Grounded>(
     let Some(effect) = plain_setting(indexed, operator, family.kept.as_slice()) else {
         return true;
     };
-    let firing = Firing {
-        task: indexed.task,
-        index: indexed.index,
-        operator,
-        effect,
-    };
+    let firing = Firing::new(indexed, operator, effect);
     look_at_alike(&firing, family, marks)
 }
 
@@ -93,12 +83,7 @@ fn plain_setting<T: Grounded>(
 {
     for effect in 0..indexed.task.effects(operator) {
         if is_plain(indexed.task, operator, effect) {
-            let firing = Firing {
-                task: indexed.task,
-                index: indexed.index,
-                operator,
-                effect,
-            };
+            let firing = Firing::new(indexed, operator, effect);
             if firing.sets_one_of(kept) {
                 return Some(effect);
             }
@@ -178,15 +163,14 @@ fn look_at_noted<T: Grounded>(
     if !is_plain(firing.task, firing.operator, firing.effect) {
         return look_at_groups(firing, family, marks);
     }
+    let indexed = IndexedTask {
+        task: firing.task,
+        index: firing.index,
+    };
     let mut alone = true;
     for effect in 0..firing.task.effects(firing.operator) {
         if is_plain(firing.task, firing.operator, effect) {
-            let alike = Firing {
-                task: firing.task,
-                index: firing.index,
-                operator: firing.operator,
-                effect,
-            };
+            let alike = Firing::new(&indexed, firing.operator, effect);
             alone &= look_at_groups(&alike, family, marks);
         }
     }
