@@ -7,7 +7,6 @@ ghost use Rattle.sas_core.specs.Variables.{FactExists};
 ghost use Rattle.sas_groups.specs.Clashes.{sets};
 ghost use Rattle.sas_groups.specs.Families.{IsIn};
 ghost use Rattle.sas_groups.specs.Index.{HasFact, groups_of};
-ghost use Rattle.sas_groups.specs.ByVariable.{AreOn};
 ghost use Rattle.sas_groups.specs.Runs.{AreOnOne};
 ghost use Rattle.sas_groups.specs.Kept.{family_of};
 ghost use Rattle.sas_mutex.specs.Firing.{operator_of, effect_of};
@@ -15,7 +14,7 @@ ghost use Rattle.sas_groups.specs.Notes.{IsWide, IsGroupNote};
 ghost use Rattle.sas_mutex.specs.ByNotes.{IsMet, SomeRemoves, RemovesByNotes, known_at};
 ghost use Rattle.sas_mutex.specs.ByNotes.{IsNotedAt, EffectKeepsGroup, EffectKeepsGroupWithItself, BothClashAt, NotBothAt};
 ghost use Rattle.sas_mutex.specs.ByNotes.{ClashesAt, SharesBesideAt};
-ghost use Rattle.sas_mutex.specs.ByNotes.{HasNoPartnerAt, IsApartAt, IsSingleOn, IsOnVariableBefore, SetsBeside, SetsOtherValue};
+ghost use Rattle.sas_mutex.specs.ByNotes.{HasNoPartnerAt, IsSingleOn, IsOnVariableBefore, SetsBeside, SetsOtherValue};
 ghost use Rattle.sas_mutex.specs.ByNotes.{IsGoneAt, AreGoneAt, IsUnknownAt, IsDecidedByFirst, NeverFires};
 ghost use Rattle.sas_mutex.specs.Basis.{SetsNone};
 ghost use Rattle.sas_mutex.specs.Marks.{IsClean, IsNotedFrom};
@@ -276,20 +275,9 @@ impl<'a, 'b, T: Grounded> Firing<'a, 'b, T> {
         ensures yes { IsTrue result → IsSingleOn self.now kept.now group var }
         ensures no { IsFalse result → HasNoPartnerAt self.now kept.now group → ⊥ }
     {
-        match self.index.effects_on(self.task, self.operator, var) {
-            Some(effects) => self.is_single_among(kept, group, effects, marks),
-            None => self.is_single_of_all(kept, group, marks),
-        }
-    }
-
-    /// `is_single_on` for these effects.
-    fn is_single_among(&self, kept: &[bool], group: u32, effects: &[u32], marks: &mut Marks) -> bool
-        requires notes { IsNotedAt self.now kept.now marks.old }
-        requires group { IsIn self.now.task (family_of kept.now) group }
-        ensures notes { IsNotedAt self.now kept.now marks.new }
-        ensures yes { IsTrue result → All (IsApartAt self.now kept.now group) effects.now }
-        ensures no { IsFalse result → HasNoPartnerAt self.now kept.now group → ⊥ }
-    {
+        let Some(effects) = self.index.effects_on(self.task, self.operator, var) else {
+            return self.is_single_of_all(kept, group, marks);
+        };
         for other in effects {
             if *other < self.task.effects(self.operator)
                 && !self.not_both(kept, *other, group, marks)
@@ -349,8 +337,6 @@ impl<'a, 'b, T: Grounded> Firing<'a, 'b, T> {
         requires exist { All (FactExists self.now.task.variables) facts.now }
         ensures { IsTrue result ↔ Any (ClashesAt self.now kept.now) facts.now }
     {
-        // For the proof: accessing a field makes the invariant of the effect available.
-        let _ = &self.task;
         for fact in facts {
             if self.clashes(kept, *fact, marks) {
                 return true;
@@ -514,13 +500,45 @@ impl<'a, 'b, T: Grounded> Firing<'a, 'b, T> {
         requires wide { IsWide self.now.task notes.now }
         ensures { IsTrue result ↔ SomeRemoves (operator_of self.now) notes.now fact }
     {
-        if let Some(effects) = self.index.effects_on(self.task, self.operator, fact.var) {
-            return one_removes(self.task, self.operator, effects, fact, notes);
+        let effects = self.task.effects(self.operator);
+        if let Some(on) = self.index.effects_on(self.task, self.operator, fact.var) {
+            return on.iter().any(|effect| *effect < effects && self.removes(*effect, fact, notes));
         }
         match self.task.plain_changes(self.operator) {
             Some(changes) => one_changes(changes, fact),
-            None => some_removes(self.task, self.operator, fact, notes),
+            None => self.some_removes(fact, notes),
         }
+    }
+
+    /// `is_removed` by checking all effects of the operator.
+    #[inline(always)]
+    fn some_removes(&self, fact: Fact, notes: &Notes) -> bool
+        requires wide { IsWide self.now.task notes.now }
+        ensures { IsTrue result ↔ SomeRemoves (operator_of self.now) notes.now fact }
+    {
+        for effect in 0..self.task.effects(self.operator) {
+            if self.removes(effect, fact, notes) {
+                return true;
+            }
+        }
+        false
+    }
+
+    /// Returns whether this effect of the operator removes the fact: it sets the variable of the fact to another value, and each of its
+    /// conditions is this fact or is recorded.
+    #[inline(always)]
+    fn removes(&self, effect: u32, fact: Fact, notes: &Notes) -> bool
+        requires wide { IsWide self.now.task notes.now }
+        requires effect { effect < length (operator_of self.now).effects }
+        ensures { IsTrue result
+            ↔ RemovesByNotes notes.now fact (effect_at (operator_of self.now) effect) }
+    {
+        let change = self.task.effect_change(self.operator, effect);
+        if change.var != fact.var || change.new == fact.value {
+            return false;
+        }
+        let conditions = self.task.effect_conditions(self.operator, effect);
+        all_met(conditions, fact, notes)
     }
 }
 
@@ -537,73 +555,7 @@ fn begins_run(facts: &[Fact], place: usize) -> bool
 fn one_changes(changes: &[Change], fact: Fact) -> bool
     ensures { IsTrue result ↔ Any (SetsOtherValue fact) changes.now }
 {
-    for change in changes {
-        if change.var == fact.var && change.new != fact.value {
-            return true;
-        }
-    }
-    false
-}
-
-/// `is_removed` by checking all effects of the operator.
-#[inline(always)]
-fn some_removes<T: Grounded>(task: &Layered<T>, operator: u32, fact: Fact, notes: &Notes) -> bool
-    requires wide { IsWide task.now notes.now }
-    requires operator { operator < length task.now.operators }
-    ensures { IsTrue result ↔ SomeRemoves (operator_at task.now operator) notes.now fact }
-{
-    for effect in 0..task.effects(operator) {
-        if removes(task, operator, effect, fact, notes) {
-            return true;
-        }
-    }
-    false
-}
-
-/// `is_removed` by checking `effects`, which must contain all effects of the operator on the fact's variable.
-fn one_removes<T: Grounded>(
-    task: &Layered<T>,
-    operator: u32,
-    effects: &[u32],
-    fact: Fact,
-    notes: &Notes,
-) -> bool
-    requires wide { IsWide task.now notes.now }
-    requires operator { operator < length task.now.operators }
-    requires all { AreOn task.now operator fact.var effects.now }
-    ensures { IsTrue result ↔ SomeRemoves (operator_at task.now operator) notes.now fact }
-{
-    for effect in effects {
-        if *effect < task.effects(operator) && removes(task, operator, *effect, fact, notes) {
-            return true;
-        }
-    }
-    false
-}
-
-/// Returns whether the effect removes the fact: it sets the variable of the fact to another value, and each of its conditions is this fact
-/// or is recorded.
-#[inline(always)]
-fn removes<T: Grounded>(
-    task: &Layered<T>,
-    operator: u32,
-    effect: u32,
-    fact: Fact,
-    notes: &Notes,
-) -> bool
-    requires wide { IsWide task.now notes.now }
-    requires operator { operator < length task.now.operators }
-    requires effect { effect < length (operator_at task.now operator).effects }
-    ensures { IsTrue result
-        ↔ RemovesByNotes notes.now fact (effect_at (operator_at task.now operator) effect) }
-{
-    // The contract of `task` ensures that the task is well ranged.
-    let _ = task.task();
-    let change = task.effect_change(operator, effect);
-    if change.var != fact.var || change.new == fact.value {
-        return false;
-    }
-    all_met(task.effect_conditions(operator, effect), fact, notes)
+    changes.iter().any(|change| change.var == fact.var && change.new != fact.value)
 }
 
 /// Returns whether each condition is this fact or is recorded.
@@ -612,12 +564,9 @@ fn all_met(conditions: &[Fact], fact: Fact, notes: &Notes) -> bool
     requires { All (λ (c : Fact). c.var < length notes.now.values) conditions.now }
     ensures { IsTrue result ↔ All (IsMet notes.now fact) conditions.now }
 {
-    for condition in conditions {
-        if !is_met(*condition, fact, notes) {
-            return false;
-        }
-    }
-    true
+    conditions
+        .iter()
+        .all(|condition| is_met(*condition, fact, notes))
 }
 
 /// Returns whether the condition is this fact or is recorded.

@@ -125,12 +125,7 @@ pub fn exclusive_of(alloc: Global, verdicts: &[Verdict]) -> Result<Items<bool>, 
 fn some_exclusive(verdicts: &[Verdict]) -> bool
     ensures { IsFalse result → All (λ (verdict : Verdict). verdict ≢ Exclusive) verdicts.now }
 {
-    for verdict in verdicts {
-        if is_exclusive(*verdict) {
-            return true;
-        }
-    }
-    false
+    verdicts.iter().any(|verdict| is_exclusive(*verdict))
 }
 
 /// Returns whether the verdict is `Exclusive`.
@@ -242,12 +237,9 @@ fn some_undecided(groups: &[u32], kept: &[bool], verdicts: &[Verdict]) -> bool
     ensures { IsFalse result
         → All (λ (place : ℕ). IsUndecided kept.now verdicts.now place → ⊥) groups.now }
 {
-    for group in groups {
-        if is_undecided(*group, kept, verdicts) {
-            return true;
-        }
-    }
-    false
+    groups
+        .iter()
+        .any(|group| is_undecided(*group, kept, verdicts))
 }
 
 /// Returns whether the group was removed and no operator that breaks it was found yet.

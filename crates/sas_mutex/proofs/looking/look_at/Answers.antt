@@ -7,11 +7,9 @@ use Rattle.sas_mutex.proofs.looking.look_at.Goals.{then-not-is_plain+then-sets_o
 pub effects-effect-end-requires : goal.effects-effect-end-requires
 effects-effect-end-requires g c = subst (λ (p : Parts). c.args.operator < length p.operators) (sym c.indexed.view_is) c.requires.operator
 
-pub is_plain-requires-clause-operator : goal.is_plain-requires-clause-operator
-is_plain-requires-clause-operator g c = subst (λ (p : Parts). c.args.operator < length p.operators) (sym c.indexed.view_is) c.requires.operator
-
 pub is_plain-requires-clause-effect : goal.is_plain-requires-clause-effect
-is_plain-requires-clause-effect g c = subst (λ n. c.loop-effect.effect < n) c.effects-effect-end.ensures c.loop-effect-test.true
+is_plain-requires-clause-effect g c = subst (λ (p : Parts). c.loop-effect.effect < length (operator_at p c.args.operator).effects) c.indexed.view_is
+    (subst (λ n. c.loop-effect.effect < n) c.effects-effect-end.ensures c.loop-effect-test.true)
 
 pub look_at_alike-alone-requires-clause-room : goal.look_at_alike-alone-requires-clause-room
 look_at_alike-alone-requires-clause-room g c = subst (λ (f : EffectPlace). FamilyHasRoom f.task c.loop-effect.family) (sym c.new-firing.ensures) c.loop-effect.invariant.looked.room
@@ -59,9 +57,11 @@ loop-effect-preserved g c =
         looked = looked_by inv.looked
             (λ effect place pair. elim pair [
               | inl lt ↦ elim (cases_eq effect at) [
-                | inl same ↦ inr (subst (λ n. IsOfUnconditional p operator n place) (sym same)
-                    (subst (λ (q : Parts). IsOfUnconditional q operator at place) is
-                    (subst (λ n. at < n) c.effects-effect-end.ensures c.loop-effect-test.true, c.is_plain.ensures.0 w.if-not-is_plain.false)))
+                | inl same ↦ inr (subst (λ n. IsOfUnconditional p operator n place) (sym same) (
+                  subst (λ (q : Parts). at < length (operator_at q operator).effects) is
+                      (subst (λ n. at < n) c.effects-effect-end.ensures c.loop-effect-test.true),
+                  c.is_plain.ensures.0 w.if-not-is_plain.false,
+                ))
                 | inr ne ↦ inl (omega arith)
               ]
               | inr plain ↦ inr plain
