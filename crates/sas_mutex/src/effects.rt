@@ -564,16 +564,6 @@ fn all_met(conditions: &[Fact], fact: Fact, notes: &Notes) -> bool
     requires { All (λ (c : Fact). c.var < length notes.now.values) conditions.now }
     ensures { IsTrue result ↔ All (IsMet notes.now fact) conditions.now }
 {
-    conditions
-        .iter()
-        .all(|condition| is_met(*condition, fact, notes))
-}
-
-/// Returns whether the condition is this fact or is recorded.
-#[inline(always)]
-fn is_met(condition: Fact, fact: Fact, notes: &Notes) -> bool
-    requires { condition.var < length notes.now.values }
-    ensures { IsTrue result ↔ IsMet notes.now fact condition }
-{
-    condition == fact || notes.values.as_slice()[condition.var as usize] == Some(condition.value)
+    conditions.iter().all(|condition| *condition == fact
+        || notes.values.as_slice()[condition.var as usize] == Some(condition.value))
 }

@@ -116,7 +116,7 @@ pub fn exclusive_of(alloc: Global, verdicts: &[Verdict]) -> Result<Items<bool>, 
 {
     let mut kept = Items::from_vec(Vec::with_capacity(alloc, verdicts.len())?);
     for verdict in verdicts {
-        kept.push(is_exclusive(*verdict))?;
+        kept.push(*verdict == Verdict::Exclusive)?;
     }
     Ok(kept)
 }
@@ -125,18 +125,9 @@ pub fn exclusive_of(alloc: Global, verdicts: &[Verdict]) -> Result<Items<bool>, 
 fn some_exclusive(verdicts: &[Verdict]) -> bool
     ensures { IsFalse result → All (λ (verdict : Verdict). verdict ≢ Exclusive) verdicts.now }
 {
-    verdicts.iter().any(|verdict| is_exclusive(*verdict))
-}
-
-/// Returns whether the verdict is `Exclusive`.
-#[inline(always)]
-fn is_exclusive(verdict: Verdict) -> bool
-    ensures { IsTrue result ↔ (verdict ≡ Exclusive) }
-{
-    match verdict {
-        Verdict::Exclusive => true,
-        _ => false,
-    }
+    verdicts
+        .iter()
+        .any(|verdict| *verdict == Verdict::Exclusive)
 }
 
 /// Finds, for each removed group, the first operator that doesn't preserve it, assuming the greatest family and the group itself. `kept`
@@ -249,7 +240,7 @@ fn is_undecided(group: u32, kept: &[bool], verdicts: &[Verdict]) -> bool
     requires verdicts { group < length verdicts.now }
     ensures { IsTrue result ↔ IsUndecided kept.now verdicts.now group }
 {
-    is_exclusive(verdicts[group as usize]) && !kept[group as usize]
+    verdicts[group as usize] == Verdict::Exclusive && !kept[group as usize]
 }
 
 /// Checks for each of these groups whether the effect breaks it, if it was removed and no operator that breaks it was found yet. The groups

@@ -1,5 +1,5 @@
 -- The first fact decides for the whole run, or one more fact can't remain.
-use Rattle.sas_mutex.proofs.Imports.{iff_not, subst, arith, operator_at, effect_at, IsGone, each_more, variable_below, iff_yes, iff_no, common_steps, EffectPlace, IsKept}
+use Rattle.sas_mutex.proofs.Imports.{iff_not, subst, arith, IsGoneAt, each_more, variable_below, iff_yes, iff_no, common_steps, EffectPlace}
 use Rattle.sas_mutex.proofs.FromNotes.{IsFiring}
 use Rattle.sas_mutex.proofs.GoneRuns.{settled_are_gone}
 use Rattle.sas_mutex.proofs.effects.Firing.run_is_gone.Goals as goal
@@ -10,10 +10,7 @@ returns-then-is_settled g c = iff_yes (settled_are_gone c.args.self.now c.self.i
     c.requires.exist c.requires.one c.requires.unknown (c.is_settled.ensures c.if-is_settled.true))
 
 pub loop-fact-preserved : goal.loop-fact-preserved
-loop-fact-preserved g c =
-    let p = c.args.self.now.task in
-    let o = operator_at p c.args.self.now.operator in
-    each_more (IsGone (IsKept p c.args.kept.now) o (effect_at o c.args.self.now.effect)) c.args.run.now c.loop-fact.fact-index _ c.loop-fact-test.true c.loop-fact.invariant
+loop-fact-preserved g c = each_more (IsGoneAt c.args.self.now c.args.kept.now) c.args.run.now c.loop-fact.fact-index _ c.loop-fact-test.true c.loop-fact.invariant
     (c.is_gone.ensures.0 c.if-not-is_gone.false)
 
 pub is_settled-requires : goal.is_settled-requires
