@@ -1,16 +1,17 @@
 -- What the notes of facts that don't clash imply for another fact.
-use Rattle.sas_mutex.proofs.Imports.{◌≡◌, ◌≢◌, ◌⊎◌, ℕ, ◌<◌, Bool, [], length, get_or, List, ◌∷◌, ◌++◌, None, Some, subst, refl, sym, ap, ◌∙◌, inl, inr, append-nil, All, Any, Contains, cases_eq, get_or_default, Contains-append_left, Contains-append_right, Contains-append_cases, Contains-push, Contains-push_cases, Contains-get_or, Fact, Effect, Operator, Parts, effect_at, group_at, FactExists, EffectKeeps, AreGone, Marks, IsKept, EffectPlace, operator_of, effect_of, IsNotedAt, ShareOne, AreKnown, IsMet, RemovesByNotes, SomeRemoves, IsNotedFor, known_at, preconditions, Contradict, Clash, IsRemoved, IsIn, known, Index, Notes, IsGone, clash_more, group_of_larger, family_of, IsIndexOf, HasFact, groups_of, value_note, group_note, IsOfGroupBeside, HasOtherValue, HasNotedGroup, ShareKept, SharesApart, WellRanged, variable_below, a_note, apart_or_not, one_or_two, value_note_shows, no_value_note_shows, no_note_shows, some_note_shows, shared_turned}
+use Rattle.sas_mutex.proofs.Imports.{◌≡◌, ◌≢◌, ◌⊎◌, ℕ, ◌<◌, Bool, [], length, get_or, List, ◌∷◌, ◌++◌, None, Some, subst, refl, sym, ap, ◌∙◌, inl, inr, append-nil, All, Any, Contains, cases_eq, get_or_default, Contains-append_left, Contains-append_right, Contains-append_cases, Contains-push, Contains-push_cases, Contains-get_or, Change, Fact, Effect, effect_change, Operator, Parts, effect_at, group_at, FactExists, EffectKeeps, AreGone, Marks, IsKept, EffectPlace, operator_of, effect_of, IsNotedAt, ShareOne, AreKnown, IsMet, RemovesByNotes, SomeRemoves, IsNotedFor, known_at, preconditions, Contradict, Clash, IsRemoved, IsIn, known, Index, Notes, IsGone, clash_more, group_of_larger, family_of, IsIndexOf, HasFact, groups_of, value_note, group_note, IsOfGroupBeside, HasOtherValue, HasNotedGroup, ShareKept, SharesApart, WellRanged, variable_below, a_note, apart_or_not, one_or_two, value_note_shows, no_value_note_shows, no_note_shows, some_note_shows, shared_turned}
 use Rattle.sas_mutex.proofs.TaskFacts.{known_at_exist, conditions_exist}
 use Rattle.sas_mutex.proofs.KnownFacts.{contradict_turned, not_itself, shares_contradicts, contradicts_shares, share_one, share_kept}
 
--- the effect exists, and the index is that of its task
-abbrev pub IsFiring : EffectPlace → Index → Type 0
-IsFiring f index = WellRanged f.task
+-- the effect exists, the index is that of its task, and the change is its change
+abbrev pub IsFiring : EffectPlace → Index → Change → Type 0
+IsFiring f index change = WellRanged f.task
     × IsIndexOf f.task index
     × (f.operator < length f.task.operators)
     × (f.effect < length (operator_of f).effects)
+    × (change ≡ effect_change (effect_of f))
 
-module _ (at : EffectPlace) (index : Index) (fits : IsFiring at index) (kept : List Bool) (marks : Marks) (noted : IsNotedAt at kept marks)
+module _ (at : EffectPlace) (index : Index) {change : Change} (fits : IsFiring at index change) (kept : List Bool) (marks : Marks) (noted : IsNotedAt at kept marks)
     (fact : Fact) (exists : FactExists at.task.variables fact) where
   abbrev p : Parts
   p = at.task

@@ -1,11 +1,11 @@
 -- Facts of a group that can't remain, run by run.
-use Rattle.sas_mutex.proofs.Imports.{◌≡◌, ℕ, ◌+◌, ◌<◌, ◌≤◌, length, get_or, take, drop, Bool, List, [], ◌∷◌, ◌++◌, Some, refl, sym, ap, subst, ◌∙◌, append-nil, inl, inr, arith, All, Contains, cases_eq, take-append-drop, drop_more, All-nil, All-append, All-contains, Contains-append_left, Contains-append_right, Contains-get_or, Fact, FactExists, Index, value_note, AreDistinct, AreOnOne, AreRuns, IsNotedAt, IsUnknownAt, IsGoneAt, IsDecidedByFirst, known_at, Marks, EffectPlace, effect_of, variable_below, a_note, value_note_shows}
+use Rattle.sas_mutex.proofs.Imports.{◌≡◌, ℕ, ◌+◌, ◌<◌, ◌≤◌, length, get_or, take, drop, Bool, List, [], ◌∷◌, ◌++◌, Some, refl, sym, ap, subst, ◌∙◌, append-nil, inl, inr, arith, All, Contains, cases_eq, take-append-drop, drop_more, All-nil, All-append, All-contains, Contains-append_left, Contains-append_right, Contains-get_or, Change, Fact, FactExists, Index, value_note, AreDistinct, AreOnOne, AreRuns, IsNotedAt, IsUnknownAt, IsGoneAt, IsDecidedByFirst, known_at, Marks, EffectPlace, effect_of, variable_below, a_note, value_note_shows}
 use Rattle.std.proofs.Common.{append_assoc}
 use Rattle.sas_mutex.proofs.FromNotes.{IsFiring, other_value_clashes}
 
 -- of the facts of a run that is settled none is known, so that what is noted for their variable is
 -- another value
-pub settled_are_gone : (f : EffectPlace) (index : Index) (fits : IsFiring f index) (kept : List Bool) (marks : Marks) (noted : IsNotedAt f kept marks) (run : List Fact)
+pub settled_are_gone : (f : EffectPlace) (index : Index) {change : Change} (fits : IsFiring f index change) (kept : List Bool) (marks : Marks) (noted : IsNotedAt f kept marks) (run : List Fact)
     → All (FactExists f.task.variables) run → AreOnOne run
     → All (IsUnknownAt f) run → IsDecidedByFirst (effect_of f) run marks.known → All (IsGoneAt f kept) run
 settled_are_gone f index fits kept marks noted run exist (var, on_it) unknown settled k d below on_other =

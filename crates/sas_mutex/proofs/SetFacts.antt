@@ -1,24 +1,34 @@
--- The facts that effects set exist, so the index contains their groups. The facts of groups exist,
--- too.
-use Rattle.sas_mutex.proofs.Imports.{◌≡◌, ℕ, ◌<◌, List, [], length, get_or, None, sym, ◌∙◌, ap, subst, Contains, ◌↔◌, get_or_default, Change, Parts, operator_at, effect_at, effect_change, FactExists, WellRanged, OperatorFits, EffectFits, holds_at, sets, Index, IsIndexOf, HasFact, groups_of}
+-- The facts that changes set exist, so the index contains their groups.
+use Rattle.sas_mutex.proofs.Imports.{◌≡◌, ℕ, ◌<◌, Bool, List, length, get_or, sym, ◌∙◌, ap, subst, Contains, ◌↔◌, get_or_default, Change, Fact, Parts, operator_at, effect_at, group_at, effect_change, FactExists, WellRanged, sets, Index, IsIndexOf, HasFact, groups_of, EffectPlace, operator_of, SetsBeside, NotBothAt, BothClashAt}
+use Rattle.sas_mutex.proofs.TaskFacts.{effect_fits}
 
-module _ (p : Parts) (ranged : WellRanged p) where
-  pub set_exists : (operator effect : ℕ) → operator < length p.operators → effect < length (operator_at p operator).effects
-      → FactExists p.variables (sets (effect_at (operator_at p operator) effect))
-  set_exists operator effect exists lt =
-      let fits = holds_at (OperatorFits p.variables) (record { name = []; prevail = []; effects = []; cost = 0 }) p.operators ranged.operators.each operator exists in
-      (holds_at (EffectFits p.variables) (record { conditions = []; var = 0; old = None; new = 0 }) (operator_at p operator).effects fits.effects.each effect lt).new
+-- the fact that a change sets
+abbrev pub fact_of : Change → Fact
+fact_of change = record { var = change.var; value = change.new }
+
+module _ (p : Parts) (ranged : WellRanged p) (operator effect : ℕ) (exists : operator < length p.operators) (lt : effect < length (operator_at p operator).effects)
+    (change : Change) (is : change ≡ effect_change (effect_at (operator_at p operator) effect)) where
+  pub change_exists : FactExists p.variables (fact_of change)
+  change_exists = subst (λ (c : Change). FactExists p.variables (fact_of c)) (sym is) (effect_fits p ranged operator exists effect lt).new
 
   -- the groups under the fact that an effect sets
-  pub groups_setting : (index : Index) (operator effect : ℕ) → IsIndexOf p index → operator < length p.operators → effect < length (operator_at p operator).effects
-      → (groups : List ℕ) (change : Change) → change ≡ effect_change (effect_at (operator_at p operator) effect)
-      → groups ≡ groups_of index (record { var = change.var; value = change.new })
-      → (place : ℕ) → Contains groups place ↔ HasFact p place (sets (effect_at (operator_at p operator) effect))
-  groups_setting index operator effect is exists lt groups change change_is groups_is place =
-      let e = effect_at (operator_at p operator) effect in
-      subst (λ (xs : List ℕ). Contains xs place ↔ HasFact p place (sets e))
-      (sym (groups_is ∙ ap (λ (c : Change). groups_of index (record { var = c.var; value = c.new })) change_is))
-      (is.groups (sets e) (set_exists operator effect exists lt) place)
+  pub groups_setting : (index : Index) → IsIndexOf p index → (place : ℕ)
+      → Contains (groups_of index (fact_of change)) place ↔ HasFact p place (sets (effect_at (operator_at p operator) effect))
+  groups_setting index indexed place =
+      subst (λ (c : Change). Contains (groups_of index (fact_of change)) place ↔ HasFact p place (fact_of c)) is (indexed.groups (fact_of change) change_exists place)
+
+-- another effect with this change sets no fact of the group on another variable, or the effects
+-- can't fire together
+module _ (f : EffectPlace) (kept : List Bool) (group other : ℕ) (change : Change) (is : change ≡ effect_change (effect_at (operator_of f) other)) where
+  pub not_beside : (SetsBeside f change group → ⊥) → NotBothAt f kept other group
+  not_beside none has on_other = absurd (none (record {
+    beside = λ same. on_other (same ∙ ap (λ (c : Change). c.var) is);
+    has = subst (λ (c : Change). Contains (group_at f.task group) (fact_of c)) (sym is) has;
+  }))
+
+  pub clash_beside : NotBothAt f kept other group → SetsBeside f change group → BothClashAt f kept other
+  clash_beside not_both it = not_both (subst (λ (c : Change). Contains (group_at f.task group) (fact_of c)) is it.has)
+      (λ same. it.beside (same ∙ sym (ap (λ (c : Change). c.var) is)))
 
 -- what each of a list's items has, one that the list contains has
 pub at_item : (P : ℕ → Type 0) (xs : List ℕ) (n : ℕ) → ((k : ℕ) → k < length xs → P (get_or xs k 0)) → Contains xs n → P n

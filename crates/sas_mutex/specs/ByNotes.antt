@@ -12,9 +12,7 @@ use Rattle.sas_mutex.specs.declared.marks.Marks.{Marks}
 use Rattle.sas_groups.specs.declared.notes.Notes.{Notes}
 use Rattle.sas_groups.specs.Checks.{NotBoth, IsGone, HasNoPartner, AreGone}
 use Rattle.sas_mutex.specs.Effects.{IsKept, KeepsAt, KeepsWithItself}
-use Rattle.sas_groups.specs.declared.index.Index.{Index}
 use Rattle.sas_groups.specs.ByVariable.{variable_of}
-use Rattle.sas_groups.specs.Index.{groups_of}
 use Rattle.sas_mutex.specs.Firing.{EffectPlace, operator_of, effect_of}
 use Rattle.sas_groups.specs.Notes.{value_note, AreNotesOf}
 use Rattle.sas_mutex.specs.Marks.{IsNotedFrom}
@@ -33,11 +31,6 @@ pub record AreKnown (p : Parts) (kept : List Bool) (facts : List Fact) (notes : 
     : Type 0 where
   pub noted : AreNotesOf p facts notes
   pub apart : Clash (IsKept p kept) facts → ⊥
-
--- the change sets a fact of the group on a variable other than `var`
-pub record SetsBeside (index : Index) (change : Change) (var place : ℕ) : Type 0 where
-  pub beside : change.var ≢ var
-  pub has : Contains (groups_of index (record { var = change.var; value = change.new })) place
 
 -- the condition is this fact, or is recorded
 abbrev pub IsMet : Notes → Fact → Fact → Type 0
@@ -118,6 +111,11 @@ SharesBesideAt f kept fact apart = (known : Fact)
     × Contains (known_at f.task f.operator f.effect) known
     × (apart ≢ Some known)
     × ShareOne f.task kept known fact
+
+-- the change sets a fact of the group on another variable than the effect
+pub record SetsBeside (f : EffectPlace) (change : Change) (place : ℕ) : Type 0 where
+  pub beside : (effect_of f).var ≢ change.var
+  pub has : Contains (group_at f.task place) (record { var = change.var; value = change.new })
 
 abbrev pub NotBothAt : EffectPlace → List Bool → ℕ → ℕ → Type 0
 NotBothAt f kept other place = NotBoth (IsKept f.task kept) (operator_of f)

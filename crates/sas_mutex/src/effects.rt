@@ -7,16 +7,14 @@ ghost use Rattle.sas_core.specs.Variables.{FactExists};
 ghost use Rattle.sas_groups.specs.Clashes.{sets};
 ghost use Rattle.sas_groups.specs.Families.{IsIn};
 ghost use Rattle.sas_groups.specs.Index.{HasFact, groups_of};
-ghost use Rattle.sas_groups.specs.ByVariable.{AreOn};
 ghost use Rattle.sas_groups.specs.Runs.{AreOnOne};
 ghost use Rattle.sas_groups.specs.Kept.{family_of};
 ghost use Rattle.sas_mutex.specs.Firing.{operator_of, effect_of};
 ghost use Rattle.sas_groups.specs.Notes.{IsWide, IsGroupNote};
-ghost use Rattle.sas_groups.specs.Noting.{IsReadable};
 ghost use Rattle.sas_mutex.specs.ByNotes.{IsMet, SomeRemoves, RemovesByNotes, known_at};
 ghost use Rattle.sas_mutex.specs.ByNotes.{IsNotedAt, EffectKeepsGroup, EffectKeepsGroupWithItself, BothClashAt, NotBothAt};
 ghost use Rattle.sas_mutex.specs.ByNotes.{ClashesAt, SharesBesideAt};
-ghost use Rattle.sas_mutex.specs.ByNotes.{HasNoPartnerAt, IsApartAt, IsSingleOn, IsOnVariableBefore, SetsBeside, SetsOtherValue};
+ghost use Rattle.sas_mutex.specs.ByNotes.{HasNoPartnerAt, IsSingleOn, IsOnVariableBefore, SetsBeside, SetsOtherValue};
 ghost use Rattle.sas_mutex.specs.ByNotes.{IsGoneAt, AreGoneAt, IsUnknownAt, IsDecidedByFirst, NeverFires};
 ghost use Rattle.sas_mutex.specs.Basis.{SetsNone};
 ghost use Rattle.sas_mutex.specs.Marks.{IsClean, IsNotedFrom};
@@ -38,11 +36,14 @@ pub struct Firing<'a, 'b, T: Grounded> {
     pub index: &'b Index,
     pub operator: u32,
     pub effect: u32,
+    /// The change that the effect makes.
+    change: Change,
 }
 
 impl<'a, 'b, T: Grounded> Model for Firing<'a, 'b, T> {
-    ghost use Rattle.std.specs.Prelude.{◌<◌, length};
-    ghost use Rattle.sas_core.specs.Grounded.{operator_at};
+    ghost use Rattle.std.specs.Prelude.{◌≡◌, ◌<◌, length};
+    ghost use Rattle.sas_core.specs.Changes.{effect_change};
+    ghost use Rattle.sas_core.specs.Grounded.{operator_at, effect_at};
     ghost use Rattle.sas_core.specs.WellRanged.{WellRanged};
     ghost use Rattle.sas_groups.specs.Index.{IsIndexOf};
     ghost use Rattle.sas_mutex.specs.Firing.{EffectPlace};
@@ -54,18 +55,34 @@ impl<'a, 'b, T: Grounded> Model for Firing<'a, 'b, T> {
     ghost invariant = { λ f. WellRanged f.task.now
         × IsIndexOf f.task.now f.index.now
         × (f.operator < length f.task.now.operators)
-        × (f.effect < length (operator_at f.task.now f.operator).effects) };
+        × (f.effect < length (operator_at f.task.now f.operator).effects)
+        × (f.change ≡ effect_change (effect_at (operator_at f.task.now f.operator) f.effect)) };
 }
 
 impl<'a, 'b, T: Grounded> Firing<'a, 'b, T> {
+    /// Returns the effect of the operator.
+    #[inline(always)]
+    pub fn new(indexed: &IndexedTask<'a, 'b, T>, operator: u32, effect: u32) -> Firing<'a, 'b, T>
+        requires operator { operator < length indexed.now.operators }
+        requires effect { effect < length (operator_at indexed.now operator).effects }
+        ensures { result ≡ record { task = indexed.now; operator = operator; effect = effect } }
+    {
+        Firing {
+            task: indexed.task,
+            index: indexed.index,
+            operator,
+            effect,
+            change: indexed.task.effect_change(operator, effect),
+        }
+    }
+
     /// Returns the groups that contain the fact that the effect sets.
     #[inline(always)]
     pub fn groups(&self) -> &'b [u32]
         ensures { let f = self.now in (place : ℕ)
             → Contains result.now place ↔ HasFact f.task place (sets (effect_of f)) }
     {
-        let change = self.task.effect_change(self.operator, self.effect);
-        self.index.groups_of(change.fact())
+        self.index.groups_of(self.change.fact())
     }
 
     /// Returns whether a group of the family contains the fact that the effect sets.
@@ -191,9 +208,10 @@ impl<'a, 'b, T: Grounded> Firing<'a, 'b, T> {
         requires plain { (operator_of self.now).effects ≡ plain_effects changes.now }
         ensures { IsTrue result ↔ HasNoPartnerAt self.now kept.now group }
     {
-        let var = self.task.effect_change(self.operator, self.effect).var;
+        // For the proof: accessing a field makes the invariant of the effect available.
+        let _ = &self.task;
         for change in changes {
-            if sets_beside(self.index, *change, var, group) {
+            if self.sets_beside(*change, group) {
                 return false;
             }
         }
@@ -221,9 +239,8 @@ impl<'a, 'b, T: Grounded> Firing<'a, 'b, T> {
         ensures notes { IsNotedAt self.now kept.now marks.new }
         ensures is { IsTrue result ↔ HasNoPartnerAt self.now kept.now group }
     {
-        let var = self.task.effect_change(self.operator, self.effect).var;
         for other in 0..self.task.effects(self.operator) {
-            if !self.is_apart(kept, var, other, group, marks) {
+            if !self.not_both(kept, other, group, marks) {
                 return false;
             }
         }
@@ -258,20 +275,9 @@ impl<'a, 'b, T: Grounded> Firing<'a, 'b, T> {
         ensures yes { IsTrue result → IsSingleOn self.now kept.now group var }
         ensures no { IsFalse result → HasNoPartnerAt self.now kept.now group → ⊥ }
     {
-        match self.index.effects_on(self.task, self.operator, var) {
-            Some(effects) => self.is_single_among(kept, group, effects, marks),
-            None => self.is_single_of_all(kept, group, marks),
-        }
-    }
-
-    /// `is_single_on` for these effects.
-    fn is_single_among(&self, kept: &[bool], group: u32, effects: &[u32], marks: &mut Marks) -> bool
-        requires notes { IsNotedAt self.now kept.now marks.old }
-        requires group { IsIn self.now.task (family_of kept.now) group }
-        ensures notes { IsNotedAt self.now kept.now marks.new }
-        ensures yes { IsTrue result → All (IsApartAt self.now kept.now group) effects.now }
-        ensures no { IsFalse result → HasNoPartnerAt self.now kept.now group → ⊥ }
-    {
+        let Some(effects) = self.index.effects_on(self.task, self.operator, var) else {
+            return self.is_single_of_all(kept, group, marks);
+        };
         for other in effects {
             if *other < self.task.effects(self.operator)
                 && !self.not_both(kept, *other, group, marks)
@@ -291,28 +297,19 @@ impl<'a, 'b, T: Grounded> Firing<'a, 'b, T> {
         ensures notes { IsNotedAt self.now kept.now marks.new }
         ensures is { IsTrue result ↔ NotBothAt self.now kept.now other group }
     {
-        let var = self.task.effect_change(self.operator, self.effect).var;
-        self.is_apart(kept, var, other, group, marks)
+        let change = self.task.effect_change(self.operator, other);
+        !self.sets_beside(change, group) || self.both_clash(kept, other, marks)
     }
 
-    /// `not_both`, given the variable of this effect.
+    /// Returns whether the change sets a fact of the group on another variable than this effect.
     #[inline(always)]
-    fn is_apart(&self, kept: &[bool], var: u32, other: u32, group: u32, marks: &mut Marks) -> bool
-        requires notes { IsNotedAt self.now kept.now marks.old }
-        requires var { var ≡ (effect_of self.now).var }
-        requires other { other < length (operator_of self.now).effects }
-        requires group { IsIn self.now.task (family_of kept.now) group }
-        ensures notes { IsNotedAt self.now kept.now marks.new }
-        ensures is { IsTrue result ↔ NotBothAt self.now kept.now other group }
+    fn sets_beside(&self, change: Change, group: u32) -> bool
+        requires fact { let f = self.now in
+            FactExists f.task.variables (record { var = change.var; value = change.new }) }
+        requires group { group < length self.now.task.groups }
+        ensures { IsTrue result ↔ SetsBeside self.now change group }
     {
-        let change = self.task.effect_change(self.operator, other);
-        if var == change.var {
-            return true;
-        }
-        if !self.index.has(group, change.fact()) {
-            return true;
-        }
-        self.both_clash(kept, other, marks)
+        self.change.var != change.var && self.index.has(group, change.fact())
     }
 
     /// Returns whether the known facts of both effects clash, so that they can't fire together. The known facts of this effect don't clash.
@@ -340,8 +337,6 @@ impl<'a, 'b, T: Grounded> Firing<'a, 'b, T> {
         requires exist { All (FactExists self.now.task.variables) facts.now }
         ensures { IsTrue result ↔ Any (ClashesAt self.now kept.now) facts.now }
     {
-        // For the proof: accessing a field makes the invariant of the effect available.
-        let _ = &self.task;
         for fact in facts {
             if self.clashes(kept, *fact, marks) {
                 return true;
@@ -413,11 +408,10 @@ impl<'a, 'b, T: Grounded> Firing<'a, 'b, T> {
             → (kept : List Bool) → IsIn self.now.task (family_of kept) group
             → AreGoneAt self.now kept group }
     {
-        let change = self.task.effect_change(self.operator, self.effect);
-        match change.old {
+        match self.change.old {
             Some(value) => {
                 let old = Fact {
-                    var: change.var,
+                    var: self.change.var,
                     value,
                 };
                 self.index.has(group, old)
@@ -438,11 +432,10 @@ impl<'a, 'b, T: Grounded> Firing<'a, 'b, T> {
         if let Some(fact) = self.noted(group, marks).only() {
             return self.is_gone(kept, fact, marks);
         }
-        let var = self.task.effect_change(self.operator, self.effect).var;
         let mut left = self.index.facts_of(self.task, group);
         for length in self.index.runs.as_slice()[group as usize].as_slice() {
             let (run, rest) = left.split_at(*length as usize);
-            if !self.run_is_gone(kept, var, run, marks) {
+            if !self.run_is_gone(kept, run, marks) {
                 return false;
             }
             left = rest;
@@ -450,11 +443,10 @@ impl<'a, 'b, T: Grounded> Firing<'a, 'b, T> {
         true
     }
 
-    /// Returns whether none of these facts can remain, given the variable of this effect. They must be on one variable, and none of them may
-    /// be known. If it is the variable of the effect, or another value of it is known, no fact needs to be checked.
-    fn run_is_gone(&self, kept: &[bool], var: u32, run: &[Fact], marks: &Marks) -> bool
+    /// Returns whether none of these facts can remain. They must be on one variable, and none of them may be known. If it is the variable of
+    /// the effect, or another value of it is known, no fact needs to be checked.
+    fn run_is_gone(&self, kept: &[bool], run: &[Fact], marks: &Marks) -> bool
         requires notes { IsNotedAt self.now kept.now marks.now }
-        requires var { var ≡ (effect_of self.now).var }
         requires exist { All (FactExists self.now.task.variables) run.now }
         requires one { AreOnOne run.now }
         requires unknown { All (IsUnknownAt self.now) run.now }
@@ -462,11 +454,11 @@ impl<'a, 'b, T: Grounded> Firing<'a, 'b, T> {
     {
         // For the proof: accessing a field makes the invariant of the effect available.
         let _ = &self.index;
-        if self.is_settled(var, run, &marks.known) {
+        if self.is_settled(run, &marks.known) {
             return true;
         }
         for fact in run {
-            if !self.goes(kept, var, *fact, marks) {
+            if !self.is_gone(kept, *fact, marks) {
                 return false;
             }
         }
@@ -475,14 +467,14 @@ impl<'a, 'b, T: Grounded> Firing<'a, 'b, T> {
 
     /// Returns whether the first of the facts, if any, is on the variable of the effect, or a value of its variable is known.
     #[inline(always)]
-    fn is_settled(&self, var: u32, run: &[Fact], notes: &Notes) -> bool
-        requires var { var ≡ (effect_of self.now).var }
-        requires values { All (λ (f : Fact). f.var < length notes.now.values) run.now }
+    fn is_settled(&self, run: &[Fact], notes: &Notes) -> bool
+        requires { All (λ (f : Fact). f.var < length notes.now.values) run.now }
         ensures { IsTrue result → IsDecidedByFirst (effect_of self.now) run.now notes.now }
     {
         match run.first() {
             Some(first) => {
-                var == first.var || notes.values.as_slice()[first.var as usize].is_some()
+                self.change.var == first.var
+                    || notes.values.as_slice()[first.var as usize].is_some()
             }
             None => true,
         }
@@ -495,21 +487,7 @@ impl<'a, 'b, T: Grounded> Firing<'a, 'b, T> {
         requires fact { FactExists self.now.task.variables fact }
         ensures { IsTrue result ↔ IsGoneAt self.now kept.now fact }
     {
-        let var = self.task.effect_change(self.operator, self.effect).var;
-        self.goes(kept, var, fact, marks)
-    }
-
-    /// `is_gone`, given the variable of this effect.
-    #[inline(always)]
-    fn goes(&self, kept: &[bool], var: u32, fact: Fact, marks: &Marks) -> bool
-        requires notes { IsNotedAt self.now kept.now marks.now }
-        requires var { var ≡ (effect_of self.now).var }
-        requires fact { FactExists self.now.task.variables fact }
-        ensures { IsTrue result ↔ IsGoneAt self.now kept.now fact }
-    {
-        // For the proof: accessing a field makes the invariant of the effect available.
-        let _ = &self.task;
-        if var == fact.var {
+        if self.change.var == fact.var {
             return true;
         }
         self.clashes(kept, fact, marks) || self.is_removed(fact, &marks.known)
@@ -522,13 +500,45 @@ impl<'a, 'b, T: Grounded> Firing<'a, 'b, T> {
         requires wide { IsWide self.now.task notes.now }
         ensures { IsTrue result ↔ SomeRemoves (operator_of self.now) notes.now fact }
     {
-        if let Some(effects) = self.index.effects_on(self.task, self.operator, fact.var) {
-            return one_removes(self.task, self.operator, effects, fact, notes);
+        let effects = self.task.effects(self.operator);
+        if let Some(on) = self.index.effects_on(self.task, self.operator, fact.var) {
+            return on.iter().any(|effect| *effect < effects && self.removes(*effect, fact, notes));
         }
         match self.task.plain_changes(self.operator) {
             Some(changes) => one_changes(changes, fact),
-            None => some_removes(self.task, self.operator, fact, notes),
+            None => self.some_removes(fact, notes),
         }
+    }
+
+    /// `is_removed` by checking all effects of the operator.
+    #[inline(always)]
+    fn some_removes(&self, fact: Fact, notes: &Notes) -> bool
+        requires wide { IsWide self.now.task notes.now }
+        ensures { IsTrue result ↔ SomeRemoves (operator_of self.now) notes.now fact }
+    {
+        for effect in 0..self.task.effects(self.operator) {
+            if self.removes(effect, fact, notes) {
+                return true;
+            }
+        }
+        false
+    }
+
+    /// Returns whether this effect of the operator removes the fact: it sets the variable of the fact to another value, and each of its
+    /// conditions is this fact or is recorded.
+    #[inline(always)]
+    fn removes(&self, effect: u32, fact: Fact, notes: &Notes) -> bool
+        requires wide { IsWide self.now.task notes.now }
+        requires effect { effect < length (operator_of self.now).effects }
+        ensures { IsTrue result
+            ↔ RemovesByNotes notes.now fact (effect_at (operator_of self.now) effect) }
+    {
+        let change = self.task.effect_change(self.operator, effect);
+        if change.var != fact.var || change.new == fact.value {
+            return false;
+        }
+        let conditions = self.task.effect_conditions(self.operator, effect);
+        all_met(conditions, fact, notes)
     }
 }
 
@@ -540,87 +550,12 @@ fn begins_run(facts: &[Fact], place: usize) -> bool
     place == 0 || facts[place - 1].var != facts[place].var
 }
 
-/// Returns whether the change sets a fact of the group on a variable other than `var`.
-#[inline(always)]
-fn sets_beside(index: &Index, change: Change, var: u32, group: u32) -> bool
-    requires { IsReadable index.now }
-    ensures { IsTrue result ↔ SetsBeside index.now change var group }
-{
-    change.var != var && index.has(group, change.fact())
-}
-
 /// Returns whether one of the changes sets the variable of the fact to another value.
 #[inline(always)]
 fn one_changes(changes: &[Change], fact: Fact) -> bool
     ensures { IsTrue result ↔ Any (SetsOtherValue fact) changes.now }
 {
-    for change in changes {
-        if change.var == fact.var && change.new != fact.value {
-            return true;
-        }
-    }
-    false
-}
-
-/// `is_removed` by checking all effects of the operator.
-#[inline(always)]
-fn some_removes<T: Grounded>(task: &Layered<T>, operator: u32, fact: Fact, notes: &Notes) -> bool
-    requires wide { IsWide task.now notes.now }
-    requires operator { operator < length task.now.operators }
-    ensures { IsTrue result ↔ SomeRemoves (operator_at task.now operator) notes.now fact }
-{
-    for effect in 0..task.effects(operator) {
-        if removes(task, operator, effect, fact, notes) {
-            return true;
-        }
-    }
-    false
-}
-
-/// `is_removed` by checking `effects`, which must contain all effects of the operator on the fact's variable.
-fn one_removes<T: Grounded>(
-    task: &Layered<T>,
-    operator: u32,
-    effects: &[u32],
-    fact: Fact,
-    notes: &Notes,
-) -> bool
-    requires wide { IsWide task.now notes.now }
-    requires operator { operator < length task.now.operators }
-    requires all { AreOn task.now operator fact.var effects.now }
-    ensures { IsTrue result ↔ SomeRemoves (operator_at task.now operator) notes.now fact }
-{
-    for effect in effects {
-        if *effect < task.effects(operator) && removes(task, operator, *effect, fact, notes) {
-            return true;
-        }
-    }
-    false
-}
-
-/// Returns whether the effect removes the fact: it sets the variable of the fact to another value, and each of its conditions is this fact
-/// or is recorded.
-#[inline(always)]
-fn removes<T: Grounded>(
-    task: &Layered<T>,
-    operator: u32,
-    effect: u32,
-    fact: Fact,
-    notes: &Notes,
-) -> bool
-    requires wide { IsWide task.now notes.now }
-    requires operator { operator < length task.now.operators }
-    requires effect { effect < length (operator_at task.now operator).effects }
-    ensures { IsTrue result
-        ↔ RemovesByNotes notes.now fact (effect_at (operator_at task.now operator) effect) }
-{
-    // The contract of `task` ensures that the task is well ranged.
-    let _ = task.task();
-    let change = task.effect_change(operator, effect);
-    if change.var != fact.var || change.new == fact.value {
-        return false;
-    }
-    all_met(task.effect_conditions(operator, effect), fact, notes)
+    changes.iter().any(|change| change.var == fact.var && change.new != fact.value)
 }
 
 /// Returns whether each condition is this fact or is recorded.
@@ -629,19 +564,6 @@ fn all_met(conditions: &[Fact], fact: Fact, notes: &Notes) -> bool
     requires { All (λ (c : Fact). c.var < length notes.now.values) conditions.now }
     ensures { IsTrue result ↔ All (IsMet notes.now fact) conditions.now }
 {
-    for condition in conditions {
-        if !is_met(*condition, fact, notes) {
-            return false;
-        }
-    }
-    true
-}
-
-/// Returns whether the condition is this fact or is recorded.
-#[inline(always)]
-fn is_met(condition: Fact, fact: Fact, notes: &Notes) -> bool
-    requires { condition.var < length notes.now.values }
-    ensures { IsTrue result ↔ IsMet notes.now fact condition }
-{
-    condition == fact || notes.values.as_slice()[condition.var as usize] == Some(condition.value)
+    conditions.iter().all(|condition| *condition == fact
+        || notes.values.as_slice()[condition.var as usize] == Some(condition.value))
 }

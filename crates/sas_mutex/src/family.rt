@@ -66,15 +66,8 @@ impl Family {
     pub fn has_basis(&self) -> bool
         ensures { IsTrue result → (groups : ℕ) → IsBasis groups self.now → IsBasisKept self.now }
     {
-        if self.is_short {
-            return false;
-        }
-        for support in self.supports.as_slice() {
-            if !self.has(*support) {
-                return false;
-            }
-        }
-        true
+        let supports = self.supports.as_slice();
+        !self.is_short && supports.iter().all(|support| self.has(*support))
     }
 
     /// Adds these groups to the basis. If they are too many, as `None` is, or memory runs out, the basis isn't used any more.

@@ -116,7 +116,7 @@ pub fn exclusive_of(alloc: Global, verdicts: &[Verdict]) -> Result<Items<bool>, 
 {
     let mut kept = Items::from_vec(Vec::with_capacity(alloc, verdicts.len())?);
     for verdict in verdicts {
-        kept.push(is_exclusive(*verdict))?;
+        kept.push(*verdict == Verdict::Exclusive)?;
     }
     Ok(kept)
 }
@@ -125,23 +125,9 @@ pub fn exclusive_of(alloc: Global, verdicts: &[Verdict]) -> Result<Items<bool>, 
 fn some_exclusive(verdicts: &[Verdict]) -> bool
     ensures { IsFalse result → All (λ (verdict : Verdict). verdict ≢ Exclusive) verdicts.now }
 {
-    for verdict in verdicts {
-        if is_exclusive(*verdict) {
-            return true;
-        }
-    }
-    false
-}
-
-/// Returns whether the verdict is `Exclusive`.
-#[inline(always)]
-fn is_exclusive(verdict: Verdict) -> bool
-    ensures { IsTrue result ↔ (verdict ≡ Exclusive) }
-{
-    match verdict {
-        Verdict::Exclusive => true,
-        _ => false,
-    }
+    verdicts
+        .iter()
+        .any(|verdict| *verdict == Verdict::Exclusive)
 }
 
 /// Finds, for each removed group, the first operator that doesn't preserve it, assuming the greatest family and the group itself. `kept`
@@ -201,12 +187,7 @@ fn find_broken_by<T: Grounded>(
     ensures clean { IsClean indexed.now marks.new }
 {
     for effect in 0..indexed.task.effects(operator) {
-        let firing = Firing {
-            task: indexed.task,
-            index: indexed.index,
-            operator,
-            effect,
-        };
+        let firing = Firing::new(indexed, operator, effect);
         find_broken_by_effect(&firing, kept, verdicts, marks);
     }
 }
@@ -247,12 +228,9 @@ fn some_undecided(groups: &[u32], kept: &[bool], verdicts: &[Verdict]) -> bool
     ensures { IsFalse result
         → All (λ (place : ℕ). IsUndecided kept.now verdicts.now place → ⊥) groups.now }
 {
-    for group in groups {
-        if is_undecided(*group, kept, verdicts) {
-            return true;
-        }
-    }
-    false
+    groups
+        .iter()
+        .any(|group| is_undecided(*group, kept, verdicts))
 }
 
 /// Returns whether the group was removed and no operator that breaks it was found yet.
@@ -262,7 +240,7 @@ fn is_undecided(group: u32, kept: &[bool], verdicts: &[Verdict]) -> bool
     requires verdicts { group < length verdicts.now }
     ensures { IsTrue result ↔ IsUndecided kept.now verdicts.now group }
 {
-    is_exclusive(verdicts[group as usize]) && !kept[group as usize]
+    verdicts[group as usize] == Verdict::Exclusive && !kept[group as usize]
 }
 
 /// Checks for each of these groups whether the effect breaks it, if it was removed and no operator that breaks it was found yet. The groups

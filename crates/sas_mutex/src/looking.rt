@@ -1,5 +1,5 @@
 // Removes the groups from the family that an operator doesn't preserve.
-ghost use Rattle.std.specs.Prelude.{◌≡◌, ◌<◌, ◌↔◌, ℕ, None, length, Contains, IsTrue, IfSome};
+ghost use Rattle.std.specs.Prelude.{◌≡◌, ◌<◌, ◌↔◌, length, Contains, IsTrue};
 ghost use Rattle.sas_core.specs.Grounded.{operator_at, group_at};
 ghost use Rattle.sas_groups.specs.Clashes.{sets};
 ghost use Rattle.sas_groups.specs.Families.{IsIn};
@@ -9,7 +9,7 @@ ghost use Rattle.sas_mutex.specs.Firing.{effect_of};
 ghost use Rattle.sas_mutex.specs.Marks.{IsClean};
 ghost use Rattle.sas_mutex.specs.ByNotes.{IsNotedAt, EffectKeepsGroup, EffectKeepsGroupWithItself};
 ghost use Rattle.sas_mutex.specs.Falling.{FamilyHasRoom};
-ghost use Rattle.sas_mutex.specs.Basis.{HasGrown, SetsNone};
+ghost use Rattle.sas_mutex.specs.Basis.{HasGrown};
 ghost use Rattle.sas_mutex.specs.Looking.{Looked, IsPair, IsOfEffect, IsOfOperator, IsOfUnconditional, IsOfAlike};
 
 use crate::effects::Firing;
@@ -17,7 +17,6 @@ use crate::family::Family;
 use crate::marks::Marks;
 use sas_core::Grounded;
 use sas_groups::IndexedTask;
-use sas_meaning::Layered;
 
 /// Removes the groups from the family that the operator doesn't preserve. Returns true only if it preserves each remaining group, assuming
 /// only the basis and that group.
@@ -36,13 +35,8 @@ pub fn look_at<T: Grounded>(
 {
     let mut alone = look_at_plain(indexed, operator, family, marks);
     for effect in 0..indexed.task.effects(operator) {
-        if !is_plain(indexed.task, operator, effect) {
-            let firing = Firing {
-                task: indexed.task,
-                index: indexed.index,
-                operator,
-                effect,
-            };
+        if !is_plain(indexed, operator, effect) {
+            let firing = Firing::new(indexed, operator, effect);
             // If no group of the family contains the fact that the effect sets, nothing is recorded.
             if firing.sets_one_of(family.kept.as_slice()) {
                 alone &= look_at_alike(&firing, family, marks);
@@ -52,7 +46,8 @@ pub fn look_at<T: Grounded>(
     alone
 }
 
-/// `look_at` for the operator's effects without conditions.
+/// `look_at` for the operator's effects without conditions. They have the same known facts, so all of them are checked together, unless none
+/// sets a fact of a group in the family.
 fn look_at_plain<T: Grounded>(
     indexed: &IndexedTask<'_, '_, T>,
     operator: u32,
@@ -66,55 +61,25 @@ fn look_at_plain<T: Grounded>(
         family.old family.new result }
     ensures clean { IsClean indexed.now marks.new }
 {
-    let Some(effect) = plain_setting(indexed, operator, family.kept.as_slice()) else {
-        return true;
-    };
-    let firing = Firing {
-        task: indexed.task,
-        index: indexed.index,
-        operator,
-        effect,
-    };
-    look_at_alike(&firing, family, marks)
-}
-
-/// Returns the first effect of the operator without conditions that sets a fact of a group in the family.
-#[inline(always)]
-fn plain_setting<T: Grounded>(
-    indexed: &IndexedTask<'_, '_, T>,
-    operator: u32,
-    kept: &[bool],
-) -> Option<u32>
-    requires operator { operator < length indexed.now.operators }
-    requires one_each { length kept.now ≡ length indexed.now.groups }
-    ensures plain { IfSome result (λ effect. IsOfUnconditional indexed.now operator effect 0) }
-    ensures none { result ≡ None → (effect : ℕ) → IsOfUnconditional indexed.now operator effect 0
-        → SetsNone indexed.now kept.now operator effect }
-{
     for effect in 0..indexed.task.effects(operator) {
-        if is_plain(indexed.task, operator, effect) {
-            let firing = Firing {
-                task: indexed.task,
-                index: indexed.index,
-                operator,
-                effect,
-            };
-            if firing.sets_one_of(kept) {
-                return Some(effect);
+        if is_plain(indexed, operator, effect) {
+            let firing = Firing::new(indexed, operator, effect);
+            if firing.sets_one_of(family.kept.as_slice()) {
+                return look_at_alike(&firing, family, marks);
             }
         }
     }
-    None
+    true
 }
 
 /// Returns whether the effect has no conditions.
 #[inline(always)]
-fn is_plain<T: Grounded>(task: &Layered<T>, operator: u32, effect: u32) -> bool
-    requires operator { operator < length task.now.operators }
-    requires effect { effect < length (operator_at task.now operator).effects }
-    ensures { IsTrue result ↔ IsUnconditional task.now operator effect }
+fn is_plain<T: Grounded>(indexed: &IndexedTask<'_, '_, T>, operator: u32, effect: u32) -> bool
+    requires operator { operator < length indexed.now.operators }
+    requires effect { effect < length (operator_at indexed.now operator).effects }
+    ensures { IsTrue result ↔ IsUnconditional indexed.now operator effect }
 {
-    task.effect_conditions(operator, effect).is_empty()
+    indexed.task.effect_conditions(operator, effect).is_empty()
 }
 
 /// Removes the groups from the family that the effect doesn't preserve, or, if the effect has no conditions, those that any such effect of
@@ -175,18 +140,17 @@ fn look_at_noted<T: Grounded>(
         Looked f.task f.operator (IsOfAlike f) family.old family.new result }
     ensures notes { IsNotedAt firing.now family.new.kept marks.new }
 {
-    if !is_plain(firing.task, firing.operator, firing.effect) {
+    let indexed = IndexedTask {
+        task: firing.task,
+        index: firing.index,
+    };
+    if !is_plain(&indexed, firing.operator, firing.effect) {
         return look_at_groups(firing, family, marks);
     }
     let mut alone = true;
     for effect in 0..firing.task.effects(firing.operator) {
-        if is_plain(firing.task, firing.operator, effect) {
-            let alike = Firing {
-                task: firing.task,
-                index: firing.index,
-                operator: firing.operator,
-                effect,
-            };
+        if is_plain(&indexed, firing.operator, effect) {
+            let alike = Firing::new(&indexed, firing.operator, effect);
             alone &= look_at_groups(&alike, family, marks);
         }
     }

@@ -73,12 +73,7 @@ fn report_failures_of<T: Grounded>(
     ensures clean { IsClean indexed.now greatest.new.marks }
 {
     for effect in 0..indexed.task.effects(operator) {
-        let firing = Firing {
-            task: indexed.task,
-            index: indexed.index,
-            operator,
-            effect,
-        };
+        let firing = Firing::new(indexed, operator, effect);
         report_failures_at(&firing, verdicts, greatest, reasons);
     }
 }

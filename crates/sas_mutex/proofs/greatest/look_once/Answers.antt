@@ -1,5 +1,5 @@
 -- The operator depends on the groups that it now watches, or is loose.
-use Rattle.sas_mutex.proofs.Imports.{◌≡◌, ℕ, ◌<◌, ◌^◌, Bool, true, Option, Some, None, List, length, set, sym, ap, subst, ◌∙◌, append-nil, All, All-nil, arith, common_steps, same_Some, Watches, AreChained, HasWatchFrom, RestsBy, WatchesMore}
+use Rattle.sas_mutex.proofs.Imports.{◌≡◌, ℕ, ◌<◌, ◌^◌, Bool, Option, Some, None, List, length, set, sym, ap, subst, ◌∙◌, append-nil, All, All-nil, arith, common_steps, same_Some, Watches, AreChained, HasWatchFrom, RestsBy, WatchesMore}
 use Rattle.sas_mutex.proofs.Watched.{rests_by, watched_anew}
 use Rattle.sas_mutex.proofs.greatest.look_once.Goals as goal
 use Rattle.sas_mutex.proofs.greatest.look_once.Goals.{else-look_until_quiet-via-then-look_until_quiet+else-watch_all, else-look_until_quiet-via-else-look_until_quiet}

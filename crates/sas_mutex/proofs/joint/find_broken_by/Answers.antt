@@ -16,8 +16,8 @@ loop-effect-init g c = record { so_far = c.requires.so_far; kept = refl; clean =
 
 pub find_broken_by_effect-requires : goal.find_broken_by_effect-requires
 find_broken_by_effect-requires g c = record {
-  greatest = rw (c.indexed.view_is, c.loop-effect.invariant.kept) c.requires.greatest;
-  one_each = rw (c.indexed.view_is, c.loop-effect.invariant.kept) c.requires.one_each;
-  so_far = rw (c.indexed.view_is, c.loop-effect.invariant.kept) c.loop-effect.invariant.so_far;
-  clean = rw c.indexed.view_is c.loop-effect.invariant.clean;
+  greatest = rw (c.new-firing.ensures, c.loop-effect.invariant.kept) c.requires.greatest;
+  one_each = rw (c.new-firing.ensures, c.loop-effect.invariant.kept) c.requires.one_each;
+  so_far = rw (c.new-firing.ensures, c.loop-effect.invariant.kept) c.loop-effect.invariant.so_far;
+  clean = rw c.new-firing.ensures c.loop-effect.invariant.clean;
 }

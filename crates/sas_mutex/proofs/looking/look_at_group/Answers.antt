@@ -1,6 +1,6 @@
 -- A group that the effect doesn't preserve is removed. One that it preserves assuming the basis
 -- isn't.
-use Rattle.sas_mutex.proofs.Imports.{iff_not, ◌<◌, Bool, true, false, List, length, sym, ap, subst, arith, both_ways, IsIn, family_of, common_steps, Family, EffectPlace, operator_of, IsPair, Looked, FamilyHasRoom, IsNotedAt, EffectKeepsGroup}
+use Rattle.sas_mutex.proofs.Imports.{iff_not, ◌<◌, Bool, true, List, length, sym, ap, subst, arith, both_ways, IsIn, family_of, common_steps, Family, EffectPlace, operator_of, IsPair, Looked, FamilyHasRoom, IsNotedAt, EffectKeepsGroup}
 use Rattle.sas_mutex.proofs.LookedAt.{looked_none, looked_pair, looked_removed}
 use Rattle.sas_mutex.proofs.Supporting.{same_grown}
 use Rattle.sas_mutex.proofs.FromNotes.{noted_fewer}

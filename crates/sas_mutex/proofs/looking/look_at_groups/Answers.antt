@@ -1,5 +1,5 @@
 -- The effect was checked for one more group, and in the end for all groups that contain the fact.
-use Rattle.sas_mutex.proofs.Imports.{ℕ, get_or, true, inl, inr, arith, sym, ◌∙◌, ap, and_parts, cases_eq, Contains-get_or, common_steps}
+use Rattle.sas_mutex.proofs.Imports.{ℕ, get_or, inl, inr, arith, sym, ◌∙◌, ap, and_parts, cases_eq, Contains-get_or, common_steps}
 use Rattle.sas_mutex.proofs.LookedAt.{looked_none, looked_then, looked_all}
 use Rattle.sas_mutex.proofs.looking.look_at_groups.Goals as goal
 

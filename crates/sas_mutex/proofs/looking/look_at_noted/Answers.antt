@@ -18,17 +18,20 @@ loop-effect-preserved g c =
           let q = c.firing.inside.task.now in
           rw (w.family-is, w.marks-is, w.alone-is) record {
             looked = looked_then inv.looked
-                (subst (λ (s : EffectPlace). Looked s.task s.operator (IsOfEffect at) before turn.new.family turn.result) is turn.ensures.looked)
+                (subst (λ (s : EffectPlace). Looked s.task s.operator (IsOfEffect at) before turn.new.family turn.result) is
+                (subst (λ (s : EffectPlace). Looked s.task s.operator (IsOfEffect s.effect) before turn.new.family turn.result) w.new-alike.ensures turn.ensures.looked))
                 (λ effect place (lt, plain). elim (cases_eq effect at) [
                   | inl same ↦ inr same
                   | inr ne ↦ inl (omega arith, plain)
                 ])
                 (and_parts c.loop-effect.alone turn.result);
             notes = record {
-              one_each = subst (λ (s : EffectPlace). length turn.new.family.kept ≡ length s.task.groups) is turn.ensures.notes.one_each;
+              one_each = subst (λ (s : EffectPlace). length turn.new.family.kept ≡ length s.task.groups) is
+                  (subst (λ (s : EffectPlace). length turn.new.family.kept ≡ length s.task.groups) w.new-alike.ensures turn.ensures.notes.one_each);
               noted = subst (λ (s : EffectPlace). IsNotedFor s.task turn.new.family.kept s.operator s.effect turn.new.marks) is
                   (alike_notes q c.firing.inside.operator at of turn.new.family.kept turn.new.marks
-                  (c.is_plain-in-loop-effect.ensures.0 w.if-is_plain.true) (c.is_plain.ensures.0 c.if-not-is_plain.false) turn.ensures.notes.noted);
+                  (c.is_plain-in-loop-effect.ensures.0 w.if-is_plain.true) (c.is_plain.ensures.0 c.if-not-is_plain.false)
+                  (subst (λ (s : EffectPlace). IsNotedFor s.task turn.new.family.kept s.operator s.effect turn.new.marks) w.new-alike.ensures turn.ensures.notes.noted));
             };
           })
       | else-is_plain w ↦ rw (w.family-is, w.marks-is, w.alone-is) record {

@@ -1,5 +1,5 @@
 -- Effects that never fire preserve all groups.
-use Rattle.sas_mutex.proofs.Imports.{List, Bool, length, false, ap, sym, subst, ◌∙◌, true≢false, operator_at, effect_at, group_at, IsKept, IsNotedAt, NeverFires}
+use Rattle.sas_mutex.proofs.Imports.{List, Bool, length, ap, sym, subst, ◌∙◌, true≢false, operator_at, effect_at, group_at, IsKept, IsNotedAt, NeverFires}
 use Rattle.sas_mutex.proofs.FromNotes.{clash_keeps}
 use Rattle.sas_mutex.proofs.LookedAt.{looked_grown, alike_never_fires}
 use Rattle.sas_mutex.proofs.looking.look_where_they_fire.Goals as goal

@@ -5,7 +5,7 @@ use Rattle.sas_mutex.proofs.effects.Firing.clashes.Goals as goal
 
 pub returns-then-shares_beside : goal.returns-then-shares_beside
 returns-then-shares_beside g c =
-    let fits = subst (λ (f : EffectPlace). IsFiring f c.self.inside.index.now) c.self.view_is c.self.invariant in
+    let fits = subst (λ (f : EffectPlace). IsFiring f c.self.inside.index.now c.self.inside.change) c.self.view_is c.self.invariant in
     let none : value_note c.args.marks.now.known.values c.args.fact.var ≡ None = ap (λ vs. value_note vs c.args.fact.var) (sym c.as_slice.ensures) ∙ c.in-None.is in
     iff_from
     (λ t. (let (known, among, _, share) = c.shares_beside.ensures.0 t in
@@ -14,7 +14,7 @@ returns-then-shares_beside g c =
 
 pub returns-else-shares_beside : goal.returns-else-shares_beside
 returns-else-shares_beside g c =
-    let fits = subst (λ (f : EffectPlace). IsFiring f c.self.inside.index.now) c.self.view_is c.self.invariant in
+    let fits = subst (λ (f : EffectPlace). IsFiring f c.self.inside.index.now c.self.inside.change) c.self.view_is c.self.invariant in
     let none : value_note c.args.marks.now.known.values c.args.fact.var ≡ None = ap (λ vs. value_note vs c.args.fact.var) (sym c.as_slice.ensures) ∙ c.in-None.is in
     iff_other c.shares_apart.ensures
     (apart_clashes c.args.self.now c.self.inside.index.now fits c.args.kept.now c.args.marks.now c.requires.notes c.args.fact c.requires.fact none)
@@ -27,7 +27,7 @@ returns-else-shares_beside g c =
 pub returns-in-Some : goal.returns-in-Some
 returns-in-Some g c =
     let there : value_note c.args.marks.now.known.values c.args.fact.var ≡ Some c.in-Some.value = ap (λ vs. value_note vs c.args.fact.var) (sym c.as_slice.ensures) ∙ c.in-Some.is in
-    let fits = subst (λ (f : EffectPlace). IsFiring f c.self.inside.index.now) c.self.view_is c.self.invariant in
+    let fits = subst (λ (f : EffectPlace). IsFiring f c.self.inside.index.now c.self.inside.change) c.self.view_is c.self.invariant in
     iff_from
     (λ t. (let differs : c.in-Some.value ≢ c.args.fact.value = grind (arith, common_steps) in
     other_value_clashes c.args.self.now c.self.inside.index.now fits c.args.kept.now c.args.marks.now c.requires.notes c.args.fact c.requires.fact (c.in-Some.value, there, differs)))

@@ -4,8 +4,8 @@ use Rattle.sas_mutex.proofs.effects.Firing.is_single_of_all.Goals as goal
 
 pub loop-other-preserved : goal.loop-other-preserved
 loop-other-preserved g c = record {
-  notes = c.is_apart.ensures.notes;
-  single = below_more _ _ c.loop-other.invariant.single (c.is_apart.ensures.is.0 c.if-not-is_apart.false);
+  notes = c.not_both.ensures.notes;
+  single = below_more _ _ c.loop-other.invariant.single (c.not_both.ensures.is.0 c.if-not-not_both.false);
 }
 
 pub loop-other-init : goal.loop-other-init

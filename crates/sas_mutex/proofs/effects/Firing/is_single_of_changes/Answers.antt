@@ -1,24 +1,34 @@
 -- One more change sets no other fact of the group, or one does.
-use Rattle.sas_mutex.proofs.Imports.{iff_not, below_more, ap, Change, iff_no, EffectPlace}
-use Rattle.sas_mutex.proofs.PlainEffects.{change_apart, change_beside}
+use Rattle.sas_mutex.proofs.Imports.{iff_not, below_more, subst, List, Fact, operator_at, Clash, known, iff_no, IsKept, operator_of, effect_of}
+use Rattle.sas_mutex.proofs.PlainEffects.{within, change_is, no_conditions}
+use Rattle.sas_mutex.proofs.SetFacts.{change_exists, not_beside, clash_beside}
 use Rattle.sas_mutex.proofs.effects.Firing.is_single_of_changes.Goals as goal
+
+pub sets_beside-requires-clause-fact : goal.sets_beside-requires-clause-fact
+sets_beside-requires-clause-fact g c =
+    let plain = rw (← c.self.view_is) at c.requires.plain in
+    let p = c.self.inside.task.now in
+    let operator = c.self.inside.operator in
+    let changes = c.args.changes.now in
+    let n = c.loop-change.change-index in
+    let lt = c.loop-change-test.true in
+    rw (← c.self.view_is) (change_exists p c.self.invariant.0 operator n c.self.invariant.2 (within (operator_at p operator) changes plain n lt) _
+    (change_is (operator_at p operator) changes plain n _ lt))
 
 pub returns-then-sets_beside : goal.returns-then-sets_beside
 returns-then-sets_beside g c =
-    let notes = rw (← c.self.view_is) at c.requires.notes in
-    let group = rw (← c.self.view_is) at c.requires.group in
-    let plain = rw (← c.self.view_is) at c.requires.plain in
-    let f : EffectPlace = record { task = c.self.inside.task.now; operator = c.self.inside.operator; effect = c.self.inside.effect } in
-    iff_no (rw (← c.self.view_is) (change_beside f c.args.kept.now c.args.group c.self.inside.index.now c.args.changes.now c.self.invariant.0 c.self.invariant.1 c.self.invariant.2
-    group.exists plain c.loop-change.change-index _ c.loop-change-test.true c.args.marks.now c.effect_change-var.result.var notes
-    (ap (λ (x : Change). x.var) c.effect_change-var.ensures) (c.sets_beside.ensures.0 c.if-sets_beside.true)))
+    let f = c.args.self.now in
+    let kept = c.args.kept.now in
+    let changes = c.args.changes.now in
+    let n = c.loop-change.change-index in
+    let lt = c.loop-change-test.true in
+    iff_no (λ single. c.requires.notes.noted.are.apart
+    (subst (λ (conditions : List Fact). Clash (IsKept f.task kept) (known (operator_of f) (effect_of f).conditions conditions)) (no_conditions (operator_of f) changes c.requires.plain n lt)
+    (clash_beside f kept c.args.group n _ (change_is (operator_of f) changes c.requires.plain n _ lt) (single n (within (operator_of f) changes c.requires.plain n lt))
+    (c.sets_beside.ensures.0 c.if-sets_beside.true))))
 
 pub loop-change-preserved : goal.loop-change-preserved
 loop-change-preserved g c =
-    let before = rw (← c.self.view_is) at c.loop-change.invariant in
-    let group = rw (← c.self.view_is) at c.requires.group in
-    let plain = rw (← c.self.view_is) at c.requires.plain in
-    let f : EffectPlace = record { task = c.self.inside.task.now; operator = c.self.inside.operator; effect = c.self.inside.effect } in
-    rw (← c.self.view_is) (below_more _ _ before (change_apart f c.args.kept.now c.args.group c.self.inside.index.now c.args.changes.now c.self.invariant.0 c.self.invariant.1 c.self.invariant.2
-    group.exists plain c.loop-change.change-index _ c.loop-change-test.true c.effect_change-var.result.var
-    (ap (λ (x : Change). x.var) c.effect_change-var.ensures) (iff_not c.sets_beside.ensures c.if-sets_beside.false)))
+    let f = c.args.self.now in
+    below_more _ _ c.loop-change.invariant (not_beside f c.args.kept.now c.args.group c.loop-change.change-index _
+    (change_is (operator_of f) c.args.changes.now c.requires.plain c.loop-change.change-index _ c.loop-change-test.true) (iff_not c.sets_beside.ensures c.if-sets_beside.false))

@@ -19,7 +19,7 @@ pub returns-then-groups-marks : goal.returns-then-groups-marks
 returns-then-groups-marks g c =
     let f = c.args.self.now in
     let index = c.self.inside.index.now in
-    let fits = subst (λ (s : EffectPlace). IsFiring s index) c.self.view_is c.self.invariant in
+    let fits = subst (λ (s : EffectPlace). IsFiring s index c.self.inside.change) c.self.view_is c.self.invariant in
     let has = rw (c.groups_of-groups.ensures, c.as_slice-noted.ensures) at c.has_noted.ensures in
     iff_other has (noted_beside f index fits c.args.kept.now c.args.marks.now c.requires.notes c.args.fact c.requires.fact)
     (λ (known, among, beside, share). beside_noted f index fits c.args.kept.now c.args.marks.now c.requires.notes c.args.fact c.requires.fact known among beside share)
@@ -28,7 +28,7 @@ pub returns-then-some_has : goal.returns-then-some_has
 returns-then-some_has g c =
     let f = c.args.self.now in
     let known = c.in-Some.known in
-    let fits = subst (λ (s : EffectPlace). IsFiring s c.self.inside.index.now) c.self.view_is c.self.invariant in
+    let fits = subst (λ (s : EffectPlace). IsFiring s c.self.inside.index.now c.self.inside.change) c.self.view_is c.self.invariant in
     let within = turn_has c.loop-known.invariant c.in-Some.ensures.steps in
     iff_yes (
       known,
@@ -46,7 +46,7 @@ pub loop-known-preserved : goal.loop-known-preserved
 loop-known-preserved g c =
     let f = c.args.self.now in
     let known = c.in-Some.known in
-    let fits = subst (λ (s : EffectPlace). IsFiring s c.self.inside.index.now) c.self.view_is c.self.invariant in
+    let fits = subst (λ (s : EffectPlace). IsFiring s c.self.inside.index.now c.self.inside.change) c.self.view_is c.self.invariant in
     let within = turn_has c.loop-known.invariant c.in-Some.ensures.steps in
     turn_more c.loop-known.invariant c.in-Some.ensures.steps (λ beside share. elim c.else-not-is_apart.branch [
       | else-not-is_apart-via-then-not-is_apart+else-some_has w ↦ iff_not w.some_has.ensures w.if-some_has.false

@@ -1,6 +1,6 @@
 -- None of the effects so far sets another fact of the group.
 use Rattle.sas_mutex.proofs.Imports.{ℕ, ◌<◌, get_or, IsNotedAt, IsApartAt}
-use Rattle.sas_mutex.proofs.effects.Firing.is_single_among.Given as goal
+use Rattle.sas_mutex.proofs.effects.Firing.is_single_on.Given as goal
 
 abbrev pub invariant-loop-other : goal.invariant-loop-other
 invariant-loop-other g l = record {

@@ -1,7 +1,8 @@
--- One more effect sets no other fact of the group, or doesn't exist.
-use Rattle.sas_mutex.proofs.Imports.{◌≡◌, length, below_more, subst, arith, get_or_default, EffectPlace, operator_of, IsApartAt}
-use Rattle.sas_mutex.proofs.effects.Firing.is_single_among.Goals as goal
-use Rattle.sas_mutex.proofs.effects.Firing.is_single_among.Goals.{else-other-effects-via-then-other-effects+else-not-not_both, else-other-effects-via-else-other-effects}
+-- One more effect sets no other fact of the group, or doesn't exist. Each effect on the variable is
+-- one of these.
+use Rattle.sas_mutex.proofs.Imports.{◌≡◌, length, ◌∙◌, below_more, subst, arith, get_or_default, AreOn, EffectPlace, operator_of, IsApartAt}
+use Rattle.sas_mutex.proofs.effects.Firing.is_single_on.Goals as goal
+use Rattle.sas_mutex.proofs.effects.Firing.is_single_on.Goals.{else-other-effects-via-then-other-effects+else-not-not_both, else-other-effects-via-else-other-effects}
 
 pub loop-other-preserved : goal.loop-other-preserved
 loop-other-preserved g c =
@@ -19,10 +20,12 @@ loop-other-preserved g c =
     ]
 
 pub returns-clause-yes : goal.returns-clause-yes
-returns-clause-yes g c t =
-    let effects = c.args.effects.now in
-    λ k d lt. subst (IsApartAt c.args.self.now c.args.kept.now c.args.group) (get_or_default effects k 0 d lt)
-    (c.loop-other.invariant.apart k (let end = c.loop-other-test.false in omega arith))
+returns-clause-yes g c t other on lt =
+    let effects = c.in-Some.effects.now in
+    let are = subst (λ (f : EffectPlace). AreOn f.task f.operator c.args.var effects) c.self.view_is c.in-Some.ensures in
+    let (k, within, at) = are other lt on in
+    subst (IsApartAt c.args.self.now c.args.kept.now c.args.group) (get_or_default effects k 0 other within ∙ at)
+    (c.loop-other.invariant.apart k (let end = c.loop-other-test.false in omega arith)) lt
 
 pub loop-other-init : goal.loop-other-init
 loop-other-init g c = record { notes = c.requires.notes; apart = λ k lt. absurd (omega arith) }
