@@ -4,7 +4,7 @@ use Rattle.sas_lines.specs.Lines.{text}
 use Rattle.sas_output.specs.declared.ending.Status.{Status}
 use Rattle.sas_output.specs.declared.ending.Status.TheVariants.{Yes, No}
 use Rattle.sas_output.specs.declared.ending.ToolFault.{ToolFault}
-use Rattle.sas_output.specs.declared.ending.ToolFault.TheVariants.{Memory, Read, TooLong, Write}
+use Rattle.sas_output.specs.declared.ending.ToolFault.TheVariants.{TooLong}
 use Rattle.sas_output.specs.Ending.{Output}
 use Rattle.sas_outputs.specs.Headline.{Headline, Invariants}
 
