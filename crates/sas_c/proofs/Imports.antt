@@ -22,32 +22,29 @@ pub use Rattle.sas_core.specs.declared.parts.Parts.{Parts}
 pub use Rattle.sas_lines.proofs.Splitting.{lines-append, lines-one, unfinished-text}
 pub use Rattle.sas_lines.specs.Lines.{text}
 unfoldable pub use Rattle.sas_lines.specs.Lines.{lines}
-pub use Rattle.sas_meaning.proofs.LayerChecksAreRules.{checks_are_rules}
 pub use Rattle.sas_meaning.specs.Layers.{IsLayered}
 pub use Rattle.sas_meaning.specs.declared.layered.LayerFault.{LayerFault}
-pub use Rattle.sas_output.specs.Ending.{Output, EndsCounting, output_of}
+pub use Rattle.sas_output.specs.Ending.{Output, EndsCounting}
 pub use Rattle.sas_output.specs.declared.ending.Status.{Status}
 pub use Rattle.sas_output.specs.declared.ending.Status.TheVariants.{Yes, No}
 pub use Rattle.sas_output.specs.declared.ending.ToolFault.{ToolFault}
 pub use Rattle.sas_output.specs.declared.ending.ToolFault.TheVariants.{Memory, Read, TooLong, Write}
-pub use Rattle.sas_output.specs.declared.answer.Answer.{Answer}
 pub use Rattle.sas_outputs.proofs.Headlines.{ReportsValid, headline_of, reports_valid}
 pub use Rattle.sas_outputs.proofs.Outputs.{same_output}
 pub use Rattle.sas_outputs.proofs.PlanOutputs.{Refuses, plain_refuses}
 pub use Rattle.sas_outputs.specs.Headline.{Headline, Invariants}
-pub use Rattle.sas_outputs.specs.Output.{CheckOut, FileOut, PlanOut, PlanOutBy, VerdictOut, plain_refusal}
+pub use Rattle.sas_outputs.specs.Output.{CheckOut, FileOut, TaskOut, UnlayeredAnswer, PlanOut, PlanOutBy, VerdictOut, plain_refusal}
 pub use Rattle.sas_outputs.specs.declared.Request.{Request}
 pub use Rattle.sas_outputs.specs.declared.Request.TheVariants.{Plan, Mutex}
 pub use Rattle.sas_plans.proofs.PlanLines.{IsLine, valid_plain, verdict_line, task_refused}
-pub use Rattle.sas_plans.specs.Opened.{Opens}
-pub use Rattle.sas_plans.specs.declared.held.Opening.{Opening}
-pub use Rattle.sas_plans.specs.declared.held.Opening.TheVariants.{Ready, Refused}
+pub use Rattle.sas_reader.proofs.Known.{known_answer}
 pub use Rattle.sas_reader.proofs.Plain.{plain}
+pub use Rattle.sas_reader.specs.Devices.{ValueOf}
 pub use Rattle.sas_reader.specs.Format.{ReadsAs}
 pub use Rattle.sas_reader.specs.Limit.{most_bytes}
 pub use Rattle.sas_requests.proofs.InvariantGroups.{ReportsGroups, invariants_of, plain_groups}
 pub use Rattle.sas_requests.proofs.ReasonedOutputs.{headline_why, invariants_why}
-pub use Rattle.sas_requests.proofs.RequestEnds.{judged_by}
+pub use Rattle.sas_requests.proofs.RequestEnds.{judged_by, check_yes, check_no}
 pub use Rattle.sas_requests.proofs.TraceLaws.{trace_ends}
 pub use Rattle.sas_requests.specs.FileReasons.{PlanFileReasons}
 pub use Rattle.sas_requests.specs.TraceOut.{TraceOut}

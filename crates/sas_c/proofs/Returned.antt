@@ -1,7 +1,8 @@
 -- What is returned follows from how a run ended.
-use Rattle.sas_c.proofs.Imports.{◌≡◌, ℕ, ◌<◌, List, [], ◌++◌, length, take, drop, codes, arith, refl, sym, ap, subst, ◌∙◌, inr, Option, Some, None, Result, Ok, Err, IfSome, Appends, Parts, LayerFault, IsLayered, checks_are_rules, ReadsAs, most_bytes, task_format, Status, Yes, No, ToolFault, Memory, Read, TooLong, Write, Answer, Output, EndsCounting, output_of, layers_verdict, VerdictAnswer, Call, Prepared, HoldsTask, IsWritten, Returns, ReturnsHeadline, EndsInLine, ReturnsLastLine, ReturnsInvariants, number_of_fault, number_of_status, PlanParts, WhyVerdict, TraceVerdict, Request, Plan, Mutex, Headline, Invariants, CheckOut, FileOut, PlanOut, PlanOutBy, VerdictOut, same_output, ReportsValid, headline_of, Refuses, ReportsGroups, invariants_of, headline_why, invariants_why, judged_by, Reasons, PlanFileReasons, OutWhy, WithReasons, Opening, Ready, Refused, Opens, TraceOut}
+use Rattle.sas_c.proofs.Imports.{◌≡◌, ℕ, ◌<◌, List, [], ◌++◌, length, take, drop, codes, arith, refl, sym, ap, subst, ◌∙◌, inr, Option, Some, None, Result, Ok, Err, IfSome, Appends, Parts, LayerFault, IsLayered, ReadsAs, most_bytes, task_format, Status, Yes, No, ToolFault, Memory, Read, TooLong, Write, Output, EndsCounting, layers_verdict, VerdictAnswer, Call, Prepared, HoldsTask, IsWritten, Returns, ReturnsHeadline, EndsInLine, ReturnsLastLine, ReturnsInvariants, number_of_fault, number_of_status, PlanParts, WhyVerdict, TraceVerdict, Request, Plan, Mutex, Headline, Invariants, CheckOut, FileOut, TaskOut, UnlayeredAnswer, plain_refusal, PlanOut, PlanOutBy, VerdictOut, same_output, ReportsValid, headline_of, Refuses, ReportsGroups, invariants_of, headline_why, invariants_why, judged_by, check_yes, check_no, task_refused, Reasons, PlanFileReasons, OutWhy, WithReasons, TraceOut}
 use Rattle.sas_requests.specs.Answering.{OutBy}
 use Rattle.sas_requests.specs.declared.detail.Detail.{Detail}
+use Rattle.sas_requests.specs.declared.detail.Detail.TheVariants.{Plain}
 use Rattle.sas_c.proofs.TracedPlans.{traced_headline}
 
 same_number : (s t : Status) → number_of_status s ≡ number_of_status t → s ≡ t
@@ -91,10 +92,6 @@ pub reports_same : (text other : List ℕ) (status : Status) (before room : List
     → Returns (λ o. o ≡ Some (record { text = text; status = status })) before room size number → Returns (λ o. o ≡ Some (record { text = other; status = status })) before room size number
 reports_same text other status before room size number same t = subst (λ (xs : List ℕ). Returns (λ (o : Option Output). o ≡ Some (record { text = xs; status = status })) before room size number) same t
 
--- what is known to be the output is returned
-pub reports_output : (Out : Option Output → Type 0) (o : Output) → Out (Some o) → (before room : List ℕ) (size number : ℕ) → Returns (λ x. x ≡ Some o) before room size number → Returns Out before room size number
-reports_output Out o is before room size number t = reports_by (λ x. x ≡ Some o) Out (λ x e. subst Out (sym e) is) before room size number t
-
 -- what was written into memory is the output
 module _ (Out : Option Output → Type 0) (was items : List ℕ) (empty : was ≡ []) where
   written : (r : Result Status ToolFault) → EndsCounting Out (Appends (Some was) (Some items)) r → (o : Option Output) → IsWritten items r o → Out o
@@ -168,22 +165,26 @@ invariants_why_reported b c before room size number t = λ status is.
     let x = t.answer status is in
     subst (λ (text : List ℕ). Invariants b (λ out. text ≡ out)) (sym x.4) (invariants_why b c x.0 x.1 (Some []) (Some (x.0).text) [] refl refl)
 
--- ---- a task that was opened
-
--- what isn't yes is never returned as yes
-pub never_yes : (o : Output) (before room : List ℕ) (size number : ℕ) → o.status ≡ No → Returns (λ x. x ≡ Some o) before room size number → number ≡ 0 → ⊥
-never_yes o before room size number refused t zero =
-    let x = t.answer Yes zero in
-    let same : x.0 ≡ o = cc in
-    let wrong : number_of_status No ≡ number_of_status Yes = ap number_of_status (sym refused ∙ ap (λ (y : Output). y.status) (sym same) ∙ x.2) in
-    omega arith
+-- ---- a task that was read
 
 -- a layered task is reported as one
 pub layered_out : (p : Parts) (b : List ℕ) → ReadsAs task_format most_bytes b (Ok p) → IsLayered p → (o : Option Output) → o ≡ layers_verdict None → CheckOut b o
-layered_out p b reads layered o is = (Ok p, reads, (record { text = codes "task layered\n"; status = Yes }, ap layers_verdict ((checks_are_rules p).1 layered), is))
+layered_out p b reads layered o is = (Ok p, reads, (_, check_yes Plain p layered, is))
 
-pub opens_ready : (b : List ℕ) (opening : Opening) (p : Parts) → opening ≡ Ready p → Opens b opening → ReadsAs task_format most_bytes b (Ok p) × IsLayered p
-opens_ready b opening p is opens = subst (Opens b) is opens
+-- one that is refused is reported as by `check`, and never as layered
+refused_out : (b : List ℕ) (o : Option Output) → TaskOut (UnlayeredAnswer plain_refusal) b o → CheckOut b o
+refused_out b o (Err fault, reads, is) = (Err fault, reads, is)
+refused_out b o (Ok p, reads, (answer, refused, is)) = (Ok p, reads, (answer, check_no Plain p answer refused, is))
 
-pub opens_refused : (b : List ℕ) (opening : Opening) (reported : Answer) → opening ≡ Refused reported → Opens b opening → CheckOut b (Some (output_of reported)) × (reported.status ≡ No)
-opens_refused b opening reported is opens = subst (Opens b) is opens
+module _ (b was items : List ℕ) (empty : was ≡ []) (r : Result Status ToolFault) (before room : List ℕ) (size number : ℕ) (ends : EndsCounting (TaskOut (UnlayeredAnswer plain_refusal) b) (Appends (Some was) (Some items)) r) (written : Returns (IsWritten items r) before room size number) where
+  refused : Returns (TaskOut (UnlayeredAnswer plain_refusal) b) before room size number
+  refused = reports_ended (TaskOut (UnlayeredAnswer plain_refusal) b) was items empty r before room size number ends written
+
+  pub refused_reported : Returns (CheckOut b) before room size number
+  refused_reported = reports_by (TaskOut (UnlayeredAnswer plain_refusal) b) (CheckOut b) (refused_out b) before room size number refused
+
+  pub never_yes : number ≡ 0 → ⊥
+  never_yes zero =
+      let (o, out, status, long, sent) = refused.answer Yes zero in
+      let apart : No ≡ Yes = sym (task_refused b o out).status ∙ status in
+      absurd cc

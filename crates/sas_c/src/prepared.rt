@@ -3,6 +3,8 @@ ghost use Rattle.std.specs.Prelude.{◌≡◌, IfSome};
 
 use sas_axioms::Worklist;
 use sas_flat::FlatTask;
+use sas_meaning::Layered;
+use sas_plans::hold;
 use sas_run::Held;
 use std::alloc::Global;
 
@@ -13,10 +15,13 @@ pub struct Prepared {
 }
 
 impl Prepared {
-    /// Puts the task into a box. Returns `None` if memory is refused; the task is dropped then.
-    pub fn boxed(alloc: Global, held: Held<Worklist, FlatTask>) -> Option<Box<Prepared>>
-        ensures { IfSome result (λ b. b.value ≡ record { held = held }) }
+    /// Holds the task in a box. Returns `None` if memory is refused; the task is dropped then.
+    pub fn boxed(alloc: Global, layered: Layered<FlatTask>) -> Option<Box<Prepared>>
+        ensures { IfSome result (λ b. b.value ≡ record { held = layered }) }
     {
+        let Ok(held) = hold(alloc, layered) else {
+            return None;
+        };
         in_box(alloc, Prepared { held })
     }
 }

@@ -5,15 +5,15 @@ ghost use Rattle.sas_outputs.specs.Output.{CheckOut};
 ghost use Rattle.sas_c.specs.Reporting.{Returns};
 ghost use Rattle.sas_c.specs.Holding.{HoldsTask};
 
-use crate::numbers::{OUT_OF_MEMORY, YES, number_without};
+use crate::numbers::{OUT_OF_MEMORY, YES};
 use crate::prepared::Prepared;
-use crate::reporting::{report, return_answer};
+use crate::reporting::{report, report_ended};
 use crate::sas_task::SasTask;
-use sas_axioms::Worklist;
 use sas_flat::FlatTask;
+use sas_lines::Watched;
+use sas_meaning::Layered;
 use sas_output::Status;
-use sas_plans::{Opening, open_task};
-use sas_run::Held;
+use sas_requests::{Detail, read_layered};
 use std::alloc::Global;
 
 /// Reads a task, and holds it if it is layered, in place of what was held before. Answers as `sas_check` does. Where the number
@@ -32,10 +32,11 @@ pub extern "C" fn sas_task_read(
 {
     let before = task.take(alloc);
     drop(before);
-    match open_task(alloc, bytes) {
-        Ok(Opening::Ready(held)) => hold(alloc, task, held, room, size),
-        Ok(Opening::Refused(answer)) => return_answer(answer, room, size),
-        Err(fault) => number_without(fault),
+    let mut device = Watched::new(bytes);
+    let mut text = Watched::new(Vec::new(alloc));
+    match read_layered(alloc, Detail::Plain, &mut device, &mut text) {
+        Ok(layered) => hold(alloc, task, layered, room, size),
+        Err(ended) => report_ended(ended, text, room, size),
     }
 }
 
@@ -51,17 +52,17 @@ pub extern "C" fn sas_task_free(alloc: Global, task: &mut SasTask)
 fn hold(
     alloc: Global,
     task: &mut SasTask,
-    held: Held<Worklist, FlatTask>,
+    layered: Layered<FlatTask>,
     room: &mut [u8],
     size: &mut usize,
 ) -> u32
     requires { task.old.pointer.task ≡ None }
     ensures answers { Returns (λ output. output ≡ layers_verdict None)
         room.old room.new size.new result }
-    ensures held { result ≡ 0 → task.new.pointer.task ≡ Some (record { held = held }) }
+    ensures held { result ≡ 0 → task.new.pointer.task ≡ Some (record { held = layered }) }
     ensures none { (result ≡ 0 → ⊥) → task.new.pointer.task ≡ None }
 {
-    match Prepared::boxed(alloc, held) {
+    match Prepared::boxed(alloc, layered) {
         Some(prepared) => report_held(task, prepared, room, size),
         None => OUT_OF_MEMORY,
     }

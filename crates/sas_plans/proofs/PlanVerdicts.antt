@@ -1,5 +1,5 @@
 -- The verdict on one plan, by what was read of it.
-use Rattle.sas_plans.proofs.Imports.{◌≡◌, ◌≢◌, ℕ, List, codes, refl, sym, ◌∙◌, Option, Some, None, Result, Ok, Err, IfOk, IfErr, IsErrOf, Consumes, IsAtEnd, Parts, PlanParts, Device, Fault, ValueOf, ReadsAll, ReadsAs, most_bytes, known_answer, known_fault, plan_format, Status, Yes, No, ToolFault, Output, IsWrite, VerdictAnswer, refusal, refusal_line, word_of, refused_kind, too_long_else, Verdict, HasCost, KnownBeginsWith, IsVerdictOnRefusal, IsVerdict, IsVerdictOnPlan, cost_if, Judges, reading_of_refusal, file_refused, file_too_long, worded}
+use Rattle.sas_plans.proofs.Imports.{◌≡◌, ◌≢◌, ℕ, List, codes, refl, sym, ◌∙◌, Option, Some, None, Result, Ok, Err, IfOk, IfErr, IsErrOf, Consumes, IsAtEnd, Parts, PlanParts, Device, Fault, ValueOf, ReadsAll, ReadsAs, most_bytes, known_answer, known_fault, plan_format, Status, Yes, No, ToolFault, Answer, Output, output_of, IsWrite, VerdictAnswer, refusal, refusal_line, word_of, refused_kind, too_long_else, Verdict, HasCost, KnownBeginsWith, VerdictOut, IsVerdictOnRefusal, IsVerdict, IsVerdictOnPlan, cost_if, Judges, reading_of_refusal, file_refused, file_too_long, worded}
 use Rattle.sas_reader.specs.declared.fault.Kind.TheVariants as kinds
 use Rattle.sas_output.specs.declared.ending.ToolFault.TheVariants as tool_fault
 
@@ -32,6 +32,15 @@ no_cost c No cost e none = none
 refused_verdict : (p : Parts) (c : List ℕ) (f : Fault) (v : Verdict) → IsVerdictOnRefusal f v → (f.kind ≢ kinds.Memory → f.kind ≢ kinds.Read → ReadsAs plan_format most_bytes c (Err f)) → IsVerdict p c v
 refused_verdict p c f v (o, is, line, cost) fault =
     (o, file_refused plan_format (codes "plan") (VerdictAnswer p) c f o is fault, line, no_cost c o.status v.cost (refused_status (codes "plan") f o is) cost)
+
+-- of bytes in memory
+module _ (b : List ℕ) (p : Parts) (f : Fault) (fault : f.kind ≢ kinds.Memory → ReadsAs plan_format most_bytes b (Err f)) where
+  pub judged_refused : (r : Result Answer ToolFault) → IfOk r (λ reported. refusal (codes "plan") f ≡ Some (output_of reported)) → IfOk r (λ reported. VerdictOut VerdictAnswer p b (Some (output_of reported)))
+  judged_refused (Ok reported) is = file_refused plan_format (codes "plan") (VerdictAnswer p) b f (output_of reported) is (λ memory read. fault memory)
+  judged_refused (Err why) is = tt
+
+  pub judged_long : f.kind ≡ kinds.TooLong → VerdictOut VerdictAnswer p b None
+  judged_long long = file_too_long plan_format (codes "plan") (VerdictAnswer p) b f long (λ memory read. fault memory)
 
 -- ---- as it is read from a device
 

@@ -1,5 +1,5 @@
 -- What is printed of many plans says which of them solve the task.
-use Rattle.sas_plans.proofs.Imports.{◌≡◌, ℕ, zero, suc, ◌<◌, Bool, true, false, List, [], ◌∷◌, ◌++◌, length, get_or, codes, decimal, append_assoc, refl, sym, ap, subst, ◌∙◌, arith, inl, inr, Option, Some, Ok, ◌↔◌, All, zip, is_some, if◌then◌else◌, list_all, Appends, append_cancel_left, append_cancel_right, All-get_or, All-from_get_or, AllPass-from_list_all, list_all-from_AllPass, Parts, IsLayered, IsLabel, Judged, HasCost, IsJudged, PlansAnswer, JudgeOut, is_valid, labelled, unjudged, PlansHeadline, line_of, labelled_valid, lines, lines-one, ReadsAs, most_bytes, plain, task_format, Status, Yes, No, Output, VerdictAnswer, valid_line, Solves, Headline, IsLayeredText, plain_refusal, reports_valid, headline_of, sent_same, plain_refuses, not_refused}
+use Rattle.sas_plans.proofs.Imports.{◌≡◌, ℕ, zero, suc, ◌<◌, Bool, true, false, List, [], ◌∷◌, ◌++◌, length, get_or, codes, decimal, append_assoc, refl, sym, ap, subst, ◌∙◌, arith, inl, inr, Option, Some, Result, Ok, Err, IfOk, ◌↔◌, All, zip, is_some, if◌then◌else◌, list_all, Appends, append_cancel_left, append_cancel_right, All-get_or, All-from_get_or, AllPass-from_list_all, list_all-from_AllPass, Parts, IsLayered, IsLabel, HaveBytes, JudgeFault, tool_result, Judged, HasCost, IsJudged, PlansAnswer, JudgeOut, is_valid, labelled, unjudged, PlansHeadline, line_of, labelled_valid, lines, lines-one, ReadsAs, most_bytes, plain, task_format, Status, Yes, No, Ends, Output, VerdictAnswer, valid_line, Solves, Headline, IsLayeredText, plain_refusal, reports_valid, headline_of, sent_same, plain_refuses, not_refused}
 use Rattle.sas_plans.proofs.SideBySide.{zip_long, zip_at}
 use Rattle.sas_plans.proofs.JudgeLaws.{refuses_as_plan}
 use Rattle.sas_plans.proofs.LastBytes.{last, IsDigit, digit_behind}
@@ -114,9 +114,15 @@ module _ (labels : List (List ℕ)) (b : List ℕ) (cs : List (List ℕ)) (o : O
 
 -- ---- both
 
-module _ (labels : List (List ℕ)) (b : List ℕ) (cs : List (List ℕ)) (o : Output) (many : length cs ≡ length labels) (are_labels : All IsLabel labels)
-    (old new : Option (List ℕ)) (before : List ℕ) (status : Status) (known : old ≡ Some before) (is : status ≡ o.status) (sent : Appends old new o.text) where
-  pub plans_headline_of : JudgeOut labels b cs (Some o) → PlansHeadline labels b cs (Appends old new) status
-  plans_headline_of (inl refused) =
-      headline_refused labels b cs o (inl refused) (task_refused b o refused) (not_refused plain_refusal b (Some o) refused) old new before status known is sent
-  plans_headline_of (inr (p, reads, layered, answer)) = headline_layered p layered labels b cs reads many are_labels o answer old new before status known is sent
+module _ (labels : List (List ℕ)) (are_labels : All IsLabel labels) (old new : Option (List ℕ)) (task : Option (List ℕ)) (known : ℕ → Option (List ℕ)) where
+  headline_of_output : (b : List ℕ) (cs : List (List ℕ)) (o : Output) (before : List ℕ) (status : Status) → length cs ≡ length labels → old ≡ Some before → status ≡ o.status → Appends old new o.text → JudgeOut labels b cs (Some o) → PlansHeadline labels b cs (Appends old new) status
+  headline_of_output b cs o before status many known_before is sent (inl refused) =
+      headline_refused labels b cs o (inl refused) (task_refused b o refused) (not_refused plain_refusal b (Some o) refused) old new before status known_before is sent
+  headline_of_output b cs o before status many known_before is sent (inr (p, reads, layered, answer)) = headline_layered p layered labels b cs reads many are_labels o answer old new before status known_before is sent
+
+  pub plans_headline : (r : Result Status JudgeFault) → ((b : List ℕ) (cs : List (List ℕ)) → task ≡ Some b → HaveBytes known (length labels) cs → Ends (JudgeOut labels b cs) (Appends old new) (tool_result r))
+      → IfOk r (λ status. (b before : List ℕ) (cs : List (List ℕ)) → task ≡ Some b → HaveBytes known (length labels) cs → old ≡ Some before → PlansHeadline labels b cs (Appends old new) status)
+  plans_headline (Ok status) ends = λ b before cs known_b have known_before.
+      let (o, out, is, sent) = ends b cs known_b have in
+      headline_of_output b cs o before status have.0 known_before is sent out
+  plans_headline (Err why) ends = tt

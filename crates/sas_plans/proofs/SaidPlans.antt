@@ -1,5 +1,5 @@
 -- What is said of one plan after another.
-use Rattle.sas_plans.proofs.Imports.{◌≡◌, ◌≢◌, ℕ, ◌+◌, ◌<◌, ◌≤◌, ◌⊎◌, List, [], ◌∷◌, ◌++◌, length, get_or, codes, decimal, append_assoc, append-nil, refl, sym, ap, subst, ◌∙◌, arith, inl, inr, Option, Some, None, Ok, Err, zip, flat_map, count_by, if◌then◌else◌, list_all, get_or-append, get_or-append_seam, cases_lt, length_push, count_by-le-length, flat_map-append, Parts, Status, Yes, No, NotOpened, TooLong, JudgeFault, Tool, IsRightlyLong, Best, Tally, Verdict, Judged, IsJudged, IsBest, IsSummary, PlansAnswer, PlansOut, count_words, is_valid, labelled, AreSaid, AreReported, HasBest, KnownBeginsWith, IsOneUnsaid, IsPlace, IsOfPlan, IsSaid, IsUnsaid, Judges, JudgesPlans, Tallies, summary_of, unjudged, ToolFault, IsDecided, IsWrite, VerdictAnswer, plan_format, VerdictOut, long_file, plan_worded}
+use Rattle.sas_plans.proofs.Imports.{◌≡◌, ◌≢◌, ℕ, ◌+◌, ◌<◌, ◌≤◌, ◌⊎◌, List, [], ◌∷◌, ◌++◌, length, get_or, codes, decimal, append_assoc, append-nil, refl, sym, ap, subst, ◌∙◌, arith, inl, inr, Option, Some, None, Result, Ok, Err, IfErr, zip, flat_map, count_by, if◌then◌else◌, list_all, get_or-append, get_or-append_seam, cases_lt, length_push, count_by-le-length, flat_map-append, Parts, Status, Yes, No, NotOpened, TooLong, JudgeFault, Tool, IsRightlyLong, Best, Tally, Verdict, Judged, IsJudged, IsBest, IsSummary, PlansAnswer, PlansOut, count_words, is_valid, labelled, AreSaid, AreReported, HasBest, KnownBeginsWith, IsOneUnsaid, IsPlace, IsOfPlan, IsSaid, IsUnsaid, Judges, JudgesPlans, Tallies, summary_of, unjudged, ToolFault, Ends, Output, IsDecided, IsWrite, ends_as, tool_result, judge_result, VerdictAnswer, plan_format, VerdictOut, long_file, plan_worded}
 use Rattle.std.proofs.Common.{length-append}
 use Rattle.std.proofs.lemmas.Bool.Decides.{eqb_tells}
 use Rattle.sas_output.specs.declared.ending.ToolFault.TheVariants as tool_fault
@@ -8,6 +8,7 @@ use Rattle.sas_plans.specs.declared.inputs.JudgeFault.TheVariants.{Plan}
 use Rattle.sas_plans.specs.Inputs.{tool_fault as fault_of}
 use Rattle.sas_plans.proofs.SideBySide.{all_zip, choose, contains_pair}
 use Rattle.sas_plans.proofs.Tallying.{status_yes, status_no}
+use Rattle.sas_plans.proofs.Turns.{tool_same, tool_long, tool_unread}
 
 -- ---- one plan
 
@@ -41,6 +42,14 @@ unsaid p number known why h task its = record {
   writes = h.writes;
   its = its;
 }
+
+-- ---- the end at a fault before anything is written
+
+ends_at : (Out : Option Output → Type 0) (Sent : List ℕ → Type 0) (why : ToolFault) → (why ≡ tool_fault.TooLong → Out None) → (IsWrite why → ⊥) → Ends Out Sent (Err why)
+ends_at Out Sent tool_fault.TooLong none writes = none refl
+ends_at Out Sent tool_fault.Memory none writes = tt
+ends_at Out Sent tool_fault.Read none writes = tt
+ends_at Out Sent (tool_fault.Write n) none writes = absurd (writes tt)
 
 -- ---- which faults the inputs decide
 
@@ -129,28 +138,29 @@ module _ (p : Parts) (known : ℕ → Option (List ℕ)) (labels : List (List �
     add all tallies said.many,
   )
 
-  reported : (text : List ℕ) (tally : Tally) (status : Status) (all : List Judged) → AreSaid p known labels (length labels) all → text ≡ flat_map labelled all → Tallies tally all
-      → status ≡ (if list_all is_valid all then Yes else No) → JudgesPlans p known labels (Ok (record { text = text ++ summary_of labels tally; status = status }))
-  reported text tally status all said whole tallies is = record {
-    output = λ cs have. answer_for all said text tally status cs whole tallies is have.0 (λ k less. (said.each k less).output (get_or cs k []) (have.1 k less));
-    taken = λ decided.
-        let chosen = choose (λ k c. KnownBeginsWith (known k) c × IsJudged p (get_or labels k [], c) (get_or all k unjudged)) (length labels) (λ k less. let t = (said.each k less).taken in (t.0, (t.1, t.2))) in (
-          chosen.items,
-          (chosen.many, λ k bytes less is. (chosen.each k less).0 bytes is),
-          answer_for all said text tally status chosen.items whole tallies is chosen.many (λ k less. (chosen.each k less).1),
-        );
-    long = tt;
-    reads = λ e. absurd cc;
-    writes = tt;
-  }
+  -- the whole text goes out
+  module _ (text : List ℕ) (tally : Tally) (status : Status) (whole : List ℕ) (is : whole ≡ text ++ summary_of labels tally) (Sent : List ℕ → Type 0) (r : Result Status ToolFault) (write : IfErr r IsWrite)
+      (ends : Ends (λ o. o ≡ Some (record { text = whole; status = status })) Sent r) where
+    sent_for : (cs : List (List ℕ)) → PlansAnswer p (zip labels cs) (record { text = text ++ summary_of labels tally; status = status }) → Ends (PlansOut p (zip labels cs)) Sent (tool_result (judge_result r))
+    sent_for cs answer = rw (tool_same r) (ends_as (record { text = whole; status = status }) Sent (PlansOut p (zip labels cs)) r (rw is answer) ends)
 
-  -- the whole text, and the status by how many are valid
-  module _ (text : List ℕ) (tally : Tally) (h : AreReported p known labels (length labels) text tally) (whole : List ℕ) (is : whole ≡ text ++ summary_of labels tally) where
-    pub reported_yes : tally.valid ≡ length labels → JudgesPlans p known labels (Ok (record { text = whole; status = Yes }))
-    reported_yes e = rw is (let (all, said, words, tallies) = h in reported text tally Yes all said words tallies (status_yes all tally (length labels) tallies said.many e))
+    sent_all : (all : List Judged) → AreSaid p known labels (length labels) all → text ≡ flat_map labelled all → Tallies tally all → status ≡ (if list_all is_valid all then Yes else No) → JudgesPlans p known labels Sent (judge_result r)
+    sent_all all said words tallies by = record {
+      output = λ cs have. sent_for cs (answer_for all said text tally status cs words tallies by have.0 (λ k less. (said.each k less).output (get_or cs k []) (have.1 k less)));
+      taken = λ decided.
+          let chosen = choose (λ k c. KnownBeginsWith (known k) c × IsJudged p (get_or labels k [], c) (get_or all k unjudged)) (length labels) (λ k less. let t = (said.each k less).taken in (t.0, (t.1, t.2))) in (
+            chosen.items,
+            (chosen.many, λ k bytes less is. (chosen.each k less).0 bytes is),
+            sent_for chosen.items (answer_for all said text tally status chosen.items words tallies by chosen.many (λ k less. (chosen.each k less).1)),
+          );
+      long = tool_long known r;
+      reads = tool_unread r write;
+    }
 
-    pub reported_no : tally.valid ≢ length labels → JudgesPlans p known labels (Ok (record { text = whole; status = No }))
-    reported_no e = rw is (let (all, said, words, tallies) = h in reported text tally No all said words tallies (status_no all tally (length labels) tallies said.many e))
+    -- with the status by how many are valid
+    pub reported : AreReported p known labels (length labels) text tally → ((tally.valid ≡ length labels) × (status ≡ Yes)) ⊎ ((tally.valid ≢ length labels) × (status ≡ No)) → JudgesPlans p known labels Sent (judge_result r)
+    reported (all, said, words, tallies) (inl (e, is_yes)) = sent_all all said words tallies (is_yes ∙ status_yes all tally (length labels) tallies said.many e)
+    reported (all, said, words, tallies) (inr (e, is_no)) = sent_all all said words tallies (is_no ∙ status_no all tally (length labels) tallies said.many e)
 
   -- ---- or a plan of which nothing is said
 
@@ -171,14 +181,14 @@ module _ (p : Parts) (known : ℕ → Option (List ℕ)) (labels : List (List �
     front_at long k (inl here) = let t = h.2.taken long in (t.0, (rw here at t.1, λ same. t.2))
     front_at long k (inr other) = ([], (λ whole is. (whole, refl), λ same. absurd (other same)))
 
-    pub unreported : JudgesPlans p known labels (Err why)
-    unreported = record {
-      output = λ cs have long. long_plan cs have.0 (h.2.output (get_or cs h.0 []) (have.1 h.0 h.1) long);
+    pub unreported : (Sent : List ℕ → Type 0) → JudgesPlans p known labels Sent (Err why)
+    unreported Sent = record {
+      output = λ cs have. ends_at (PlansOut p (zip labels cs)) Sent (fault_of why) (λ long. long_plan cs have.0 (h.2.output (get_or cs h.0 []) (have.1 h.0 h.1) long)) h.2.writes;
       taken = λ decided.
           let long = decided_long (fault_of why) decided h.2.writes in
           let chosen = choose (λ k c. KnownBeginsWith (known k) c × (h.0 ≡ k → VerdictOut VerdictAnswer p c None)) (length labels) (λ k less. front_at long k (same_or_not h.0 k)) in
-          (chosen.items, (chosen.many, λ k bytes less is. (chosen.each k less).0 bytes is), λ e. long_plan chosen.items chosen.many ((chosen.each h.0 h.1).1 refl));
+          let out = long_plan chosen.items chosen.many ((chosen.each h.0 h.1).1 refl) in
+          (chosen.items, (chosen.many, λ k bytes less is. (chosen.each k less).0 bytes is), ends_at (PlansOut p (zip labels chosen.items)) Sent (fault_of why) (λ e. out) h.2.writes);
       long = rightly_long why h.0 h.2;
       reads = λ e. h.2.reads (let same : why ≡ Tool tool_fault.Read = cc in same);
-      writes = h.2.writes;
     }

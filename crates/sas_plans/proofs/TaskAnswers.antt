@@ -1,12 +1,16 @@
--- The answer about a task and plans, by what came of opening the task.
-use Rattle.sas_plans.proofs.Imports.{◌≡◌, ℕ, List, [], ◌++◌, length, refl, sym, ap, subst, ◌∙◌, inl, inr, Option, Some, None, Result, Ok, Err, zip, IfSome, same_Some, Parts, first_fault, LayerFault, layer_checks, Device, Yes, No, ToolFault, Answer, Output, output_of, layers_verdict, CheckOut, TaskOut, UnlayeredAnswer, plain_refusal, IsLayeredText, not_refused, Ready, Refused, JudgeFault, Tool, WereRead, JudgeOut, PlansOut, AnswersPlans, JudgesPlans, IsOutputFor, OpensDevice}
+-- How a run over many plans ends, by what came of reading its task.
+use Rattle.sas_plans.proofs.Imports.{◌≡◌, ℕ, List, [], ◌++◌, length, refl, sym, ap, inl, inr, Option, Some, None, Result, Ok, Err, zip, Parts, Device, Consumes, ReadsAll, ReadsAs, ValueOf, most_bytes, task_format, known_answer, IsLayered, Status, ToolFault, Output, Ends, EndsCounting, IsDecided, exact_ends, EndsFile, TaskBy, UnlayeredBy, TaskOut, UnlayeredAnswer, plain_refusal, Plan, short_output, JudgeFault, tool_result, HaveBytes, WereRead, JudgeOut, PlansOut, JudgesPlans}
 use Rattle.sas_output.specs.declared.ending.ToolFault.TheVariants as tool_fault
+use Rattle.sas_requests.specs.declared.detail.Detail.TheVariants.{Plain}
 use Rattle.sas_plans.proofs.SideBySide.{choose}
 
--- an answer of one output is one of another that follows from it
-reports_by : (A B : Option Output → Type 0) → ((o : Option Output) → A o → B o) → (r : Result Output JudgeFault) → IsOutputFor A r → IsOutputFor B r
-reports_by A B to (Ok output) is = to (Some output) is
-reports_by A B to (Err why) is = λ long. to None (is long)
+-- what ends with an output ends with another that follows from it
+ends_more : (Sent : List ℕ → Type 0) (A B : Option Output → Type 0) (r : Result Status ToolFault) → ((o : Option Output) → A o → B o) → Ends A Sent r → Ends B Sent r
+ends_more Sent A B (Ok status) to (o, out, same, sent) = (o, to (Some o) out, same, sent)
+ends_more Sent A B (Err (tool_fault.Write written)) to (o, out, less, sent) = (o, to (Some o) out, less, sent)
+ends_more Sent A B (Err tool_fault.TooLong) to out = to None out
+ends_more Sent A B (Err tool_fault.Memory) to out = tt
+ends_more Sent A B (Err tool_fault.Read) to out = tt
 
 -- of plans that aren't opened nothing is read
 unread : (known : ℕ → Option (List ℕ)) (count : ℕ) → (cs : List (List ℕ)) × WereRead known count cs
@@ -16,63 +20,33 @@ unread known count =
       (chosen.many, λ k whole less is. (whole, ap (λ (c : List ℕ). c ++ whole) (sym (chosen.each k less)))),
     )
 
--- ---- what the output is
+module _ {D : Type 0} (left : D → Option (List ℕ)) (known : ℕ → Option (List ℕ)) (labels : List (List ℕ)) (Sent : List ℕ → Type 0) (old new : Device D) where
+  -- of a layered task
+  module _ (p : Parts) (read : ReadsAll left task_format (ValueOf task_format) old new (Ok p)) (layered : IsLayered p) (r : Result Status JudgeFault) (judges : JudgesPlans p known labels Sent r) where
+    of_plans : (b : List ℕ) (cs : List (List ℕ)) → ReadsAs task_format most_bytes b (Ok p) → Ends (PlansOut p (zip labels cs)) Sent (tool_result r) → Ends (JudgeOut labels b cs) Sent (tool_result r)
+    of_plans b cs reads = ends_more Sent (PlansOut p (zip labels cs)) (JudgeOut labels b cs) (tool_result r) (λ o is. inr (p, reads, layered, is))
 
--- where `check` says no, the task is refused for the first fault of its layers
-refused_layers : (p : Parts) (first : Option LayerFault) (o : Output) → first_fault (layer_checks p) ≡ first → layers_verdict first ≡ Some o → o.status ≡ No → UnlayeredAnswer plain_refusal p o
-refused_layers p (Some fault) o is reported is_no = (fault, is, reported)
-refused_layers p None o is reported is_no = let apart : Yes ≡ No = ap (λ (x : Output). x.status) (same_Some _ o reported) ∙ is_no in absurd cc
+    pub layered_output : (b : List ℕ) (cs : List (List ℕ)) → left old.device ≡ Some b → HaveBytes known (length labels) cs → Ends (JudgeOut labels b cs) Sent (tool_result r)
+    layered_output b cs known_b have = of_plans b cs (known_answer left task_format (ValueOf task_format) old new p b read known_b) (judges.output cs have)
 
-refused_out : (b : List ℕ) (o : Option Output) → IfSome o (λ x. x.status ≡ No) → CheckOut b o → TaskOut (UnlayeredAnswer plain_refusal) b o
-refused_out b o is_no (Err f, reads, is) = (Err f, reads, is)
-refused_out b o is_no (Ok p, reads, (answer, is, same)) =
-    let refused = subst (λ (x : Option Output). IfSome x (λ y. y.status ≡ No)) same is_no in
-    (Ok p, reads, (answer, refused_layers p (first_fault (layer_checks p)) answer refl is refused, same))
+    pub layered_taken : IsDecided (tool_result r) → (b : List ℕ) × (cs : List (List ℕ)) × Consumes (left old.device) (left new.device) b × WereRead known (length labels) cs × Ends (JudgeOut labels b cs) Sent (tool_result r)
+    layered_taken decided =
+        let (b, consumed, reads) = read.read in
+        let (cs, were, ends) = judges.taken decided in
+        (b, cs, consumed.0, were, of_plans b cs reads ends)
 
--- such a task isn't layered
-pub refused_unlayered : (b : List ℕ) (o : Output) → CheckOut b (Some o) → o.status ≡ No → IsLayeredText b → ⊥
-refused_unlayered b o out is_no = not_refused plain_refusal b (Some o) (refused_out b (Some o) is_no out)
+  -- of one that is refused
+  module _ (r : Result Status ToolFault) (refused : EndsFile left (TaskBy Plain (UnlayeredBy Plain)) old new Sent r) where
+    of_refusal : (b : List ℕ) (cs : List (List ℕ)) → EndsCounting (TaskOut (UnlayeredAnswer plain_refusal) b) Sent r → Ends (JudgeOut labels b cs) Sent r
+    of_refusal b cs ends =
+        let Refused = TaskOut (UnlayeredAnswer plain_refusal) b in
+        ends_more Sent Refused (JudgeOut labels b cs) r (λ o out. inl out) (exact_ends Refused Sent (λ o out. short_output Plan b [] o (inl out)) r ends)
 
--- ---- how the answer comes about
+    pub refused_output : (b : List ℕ) (cs : List (List ℕ)) → left old.device ≡ Some b → Ends (JudgeOut labels b cs) Sent r
+    refused_output b cs known_b = of_refusal b cs (refused.output b known_b)
 
-module _ {D : Type 0} (left : D → Option (List ℕ)) (known : ℕ → Option (List ℕ)) (labels : List (List ℕ)) (old new : Device D) where
-  -- about the plans of a layered task
-  pub answers_layered : (p : Parts) → OpensDevice left old new (Ok (Ready p)) → (r : Result Output JudgeFault) → JudgesPlans p known labels r → AnswersPlans left known labels old new r
-  answers_layered p h r judges = record {
-    output = λ b cs known_b have.
-        let (reads, layered) = h.output b known_b in
-        reports_by (PlansOut p (zip labels cs)) (JudgeOut labels b cs) (λ o is. inr (p, reads, layered, is)) r (judges.output cs have);
-    taken = λ decided.
-        let t = judges.taken decided in
-        let (b, consumed, (reads, layered)) = h.taken tt in
-        (b, t.0, consumed, t.1, reports_by (PlansOut p (zip labels t.0)) (JudgeOut labels b t.0) (λ o is. inr (p, reads, layered, is)) r t.2);
-    long = judges.long;
-    reads = (λ e. absurd (judges.reads e), λ t. (let failed : Ok (Ready p) ≡ Err tool_fault.Read = h.reads.1 t in absurd cc));
-    writes = judges.writes;
-  }
-
-  -- where the task is refused
-  pub answers_refused : (reported : Answer) → OpensDevice left old new (Ok (Refused reported)) → AnswersPlans left known labels old new (Ok (output_of reported))
-  answers_refused reported h = record {
-    output = λ b cs known_b have. let (out, is_no) = h.output b known_b in inl (refused_out b (Some (output_of reported)) is_no out);
-    taken = λ decided.
-        let (b, consumed, (out, is_no)) = h.taken tt in
-        let cs = unread known (length labels) in
-        (b, cs.0, consumed, cs.1, inl (refused_out b (Some (output_of reported)) is_no out));
-    long = tt;
-    reads = (λ e. absurd cc, λ t. (let failed : Ok (Refused reported) ≡ Err tool_fault.Read = h.reads.1 t in absurd cc));
-    writes = tt;
-  }
-
-  -- where the run ends before it is known
-  pub answers_fault : (why : ToolFault) → OpensDevice left old new (Err why) → AnswersPlans left known labels old new (Err (Tool why))
-  answers_fault why h = record {
-    output = λ b cs known_b have long. inl (refused_out b None tt (h.output b known_b long));
-    taken = λ decided.
-        let (b, consumed, out) = h.taken decided in
-        let cs = unread known (length labels) in
-        (b, cs.0, consumed, cs.1, λ long. inl (refused_out b None tt (out long)));
-    long = tt;
-    reads = (λ e. (let is : why ≡ tool_fault.Read = cc in h.reads.0 (ap Err is)), λ t. (let is : Err why ≡ Err tool_fault.Read = h.reads.1 t in cc));
-    writes = h.writes;
-  }
+    pub refused_taken : IsDecided r → (b : List ℕ) × (cs : List (List ℕ)) × Consumes (left old.device) (left new.device) b × WereRead known (length labels) cs × Ends (JudgeOut labels b cs) Sent r
+    refused_taken decided =
+        let (b, consumed, ends) = refused.taken decided in
+        let (cs, were) = unread known (length labels) in
+        (b, cs, consumed, were, of_refusal b cs ends)

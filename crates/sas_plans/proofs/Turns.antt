@@ -1,9 +1,8 @@
 -- Which plans were opened, one after another, up to the end of a run.
-use Rattle.sas_plans.proofs.Imports.{◌≡◌, ◌≢◌, ℕ, suc, ◌+◌, ◌<◌, List, add-one, refl, sym, subst, arith, inl, Option, Result, Ok, Err, IfOk, IfErr, ToolFault, IsWrite, NotOpened, TooLong, JudgeFault, Tool, IsRightlyLong, OpensAll, OpensFirst, OpensInTurn, OpensTo, EndsAt, IsOfPlan, IsOpened, OpensUntil}
+use Rattle.sas_plans.proofs.Imports.{◌≡◌, ◌≢◌, ℕ, suc, ◌+◌, ◌<◌, List, add-one, refl, sym, subst, arith, inl, inr, Option, Some, Result, Ok, Err, IfErr, IsErrOf, Status, ToolFault, IsWrite, EndsCounting, TaskOut, UnlayeredAnswer, plain_refusal, not_refused, NotOpened, TooLong, JudgeFault, Tool, tool_result, judge_result, IsRightlyLong, OpensFirst, OpensInTurn, OpensTo, EndsAt, IsOfPlan, IsOpened, OpensUntil}
 use Rattle.sas_output.specs.declared.ending.ToolFault.TheVariants as tool_fault
 use Rattle.sas_plans.specs.declared.inputs.InputFault.TheVariants.{Read}
 use Rattle.sas_plans.specs.declared.inputs.JudgeFault.TheVariants.{Plan}
-use Rattle.sas_plans.specs.Inputs.{tool_fault as fault_of}
 
 -- ---- the fault of one plan
 
@@ -32,39 +31,38 @@ module _ {S I : Type 0} (gives : S → ℕ → Option I → S → Type 0) where
 
   -- ---- of the whole run
 
-  module _ {A : Type 0} (task : Option (List ℕ)) (count : ℕ) (old new : S) where
-    -- of a layered task
-    pub in_turn_layered : (r : Result A JudgeFault) → IfOk r (λ a. OpensFirst gives count old new) → IfErr r (OpensUntil gives count old new) → OpensInTurn gives task count old new r
-    in_turn_layered (Ok a) first until = inl first
-    in_turn_layered (Err (Plan number what)) first until = until
-    in_turn_layered (Err (Tool tool_fault.Memory)) first until = (until.1, until.2, until.3)
-    in_turn_layered (Err (Tool tool_fault.Read)) first until = (let is : tool_fault.Read ≡ tool_fault.Memory = until.0 in absurd cc)
-    in_turn_layered (Err (Tool tool_fault.TooLong)) first until = (let is : tool_fault.TooLong ≡ tool_fault.Memory = until.0 in absurd cc)
-    in_turn_layered (Err (Tool (tool_fault.Write written))) first until = (let is : tool_fault.Write written ≡ tool_fault.Memory = until.0 in absurd cc)
+  -- at a fault before anything is written
+  pub in_turn_fault : (task : Option (List ℕ)) (count : ℕ) (old new : S) (why : JudgeFault) → OpensUntil gives count old new why → OpensInTurn gives {A = Status} task count old new (Err why)
+  in_turn_fault task count old new (Plan number what) until = until
+  in_turn_fault task count old new (Tool why) (memory, number, within, first) = rw memory (number, within, first)
 
-    -- where an answer is written
-    pub in_turn_written : (r : Result A JudgeFault) → IfErr r (λ e. IsWrite (fault_of e)) → OpensAll gives task count old new → OpensInTurn gives task count old new r
-    in_turn_written (Ok a) write all = all
-    in_turn_written (Err (Plan number NotOpened)) write all = absurd write
-    in_turn_written (Err (Plan number Read)) write all = absurd write
-    in_turn_written (Err (Plan number TooLong)) write all = absurd write
-    in_turn_written (Err (Tool tool_fault.Memory)) write all = absurd write
-    in_turn_written (Err (Tool tool_fault.Read)) write all = absurd write
-    in_turn_written (Err (Tool tool_fault.TooLong)) write all = absurd write
-    in_turn_written (Err (Tool (tool_fault.Write written))) write all = all
+  -- where the answer is written
+  pub in_turn_written : (task : Option (List ℕ)) (count : ℕ) (old new : S) (r : Result Status ToolFault) → IfErr r IsWrite → OpensFirst gives count old new → OpensInTurn gives task count old new (judge_result r)
+  in_turn_written task count old new (Ok status) write first = inl first
+  in_turn_written task count old new (Err (tool_fault.Write written)) write first = inl first
+  in_turn_written task count old new (Err tool_fault.Memory) write first = absurd write
+  in_turn_written task count old new (Err tool_fault.Read) write first = absurd write
+  in_turn_written task count old new (Err tool_fault.TooLong) write first = absurd write
 
-  -- where the run ends before a plan is opened
-  pub in_turn_fault : (A : Type 0) (task : Option (List ℕ)) (count : ℕ) (plans : S) (why : ToolFault) → (IsWrite why → ⊥) → OpensInTurn gives {A = A} task count plans plans (Err (Tool why))
-  in_turn_fault A task count plans tool_fault.Memory writes = (0, omega arith, refl)
-  in_turn_fault A task count plans tool_fault.Read writes = refl
-  in_turn_fault A task count plans tool_fault.TooLong writes = refl
-  in_turn_fault A task count plans (tool_fault.Write written) writes = absurd (writes tt)
+  -- where the task is refused, or wasn't read
+  pub in_turn_refused : (task : Option (List ℕ)) (count : ℕ) (plans : S) (Sent : List ℕ → Type 0) (r : Result Status ToolFault) → ((b : List ℕ) → task ≡ Some b → EndsCounting (TaskOut (UnlayeredAnswer plain_refusal) b) Sent r)
+      → OpensInTurn gives task count plans plans (judge_result r)
+  in_turn_refused task count plans Sent (Ok status) ends = inr (λ b known. let (o, out, same, sent) = ends b known in not_refused plain_refusal b (Some o) out, refl)
+  in_turn_refused task count plans Sent (Err (tool_fault.Write written)) ends = inr (λ b known. let (number, counts, (o, out, less, sent)) = ends b known in not_refused plain_refusal b (Some o) out, refl)
+  in_turn_refused task count plans Sent (Err tool_fault.Memory) ends = (0, omega arith, refl)
+  in_turn_refused task count plans Sent (Err tool_fault.Read) ends = refl
+  in_turn_refused task count plans Sent (Err tool_fault.TooLong) ends = refl
 
--- ---- the plan that is too long
+-- ---- the end of a call, as one of a run over many plans
 
-pub long_written : {A : Type 0} (known : ℕ → Option (List ℕ)) (r : Result A JudgeFault) → IfErr r (λ e. IsWrite (fault_of e)) → IfErr r (IsRightlyLong known)
-long_written known (Ok a) write = tt
-long_written known (Err (Plan number NotOpened)) write = tt
-long_written known (Err (Plan number Read)) write = tt
-long_written known (Err (Plan number TooLong)) write = absurd write
-long_written known (Err (Tool why)) write = tt
+pub tool_same : (r : Result Status ToolFault) → tool_result (judge_result r) ≡ r
+tool_same (Ok status) = refl
+tool_same (Err why) = refl
+
+pub tool_unread : (r : Result Status ToolFault) → IfErr r IsWrite → IsErrOf (judge_result r) (Tool tool_fault.Read) → ⊥
+tool_unread (Ok status) write e = absurd cc
+tool_unread (Err why) write e = let same : why ≡ tool_fault.Read = cc in subst IsWrite same write
+
+pub tool_long : (known : ℕ → Option (List ℕ)) (r : Result Status ToolFault) → IfErr (judge_result r) (IsRightlyLong known)
+tool_long known (Ok status) = tt
+tool_long known (Err why) = tt

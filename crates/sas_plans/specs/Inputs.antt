@@ -31,3 +31,8 @@ tool_fault (Plan number TooLong) = tool.TooLong
 abbrev pub tool_result : {A : Type 0} → Result A JudgeFault → Result A ToolFault
 tool_result (Ok a) = Ok a
 tool_result (Err fault) = Err (tool_fault fault)
+
+-- and the other way round
+abbrev pub judge_result : {A : Type 0} → Result A ToolFault → Result A JudgeFault
+judge_result (Ok a) = Ok a
+judge_result (Err fault) = Err (Tool fault)

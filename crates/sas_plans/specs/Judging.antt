@@ -1,16 +1,13 @@
 -- What the private steps of a run over many plans promise.
-use Rattle.std.specs.Prelude.{◌≡◌, ◌≢◌, ◌↔◌, ℕ, ◌<◌, ◌≤◌, List, [], ◌++◌, length, count_by, zip}
-use Rattle.std.specs.Prelude.{slice_index_or, codes, decimal, flat_map, All, IsTrue, ⊤, Option, Some, None, Result, Ok, Err, IfErr, IsErrOf}
-use Rattle.std.specs.Io.KnownBytes.{Consumes}
+use Rattle.std.specs.Prelude.{◌≡◌, ◌≢◌, ℕ, ◌<◌, ◌≤◌, List, [], ◌++◌, length, count_by, zip}
+use Rattle.std.specs.Prelude.{slice_index_or, codes, decimal, flat_map, All, ⊤, Option, Some, None, Result, Ok, Err, IfErr, IsErrOf}
 use Rattle.sas_core.specs.declared.parts.Parts.{Parts}
 use Rattle.sas_core.specs.PlanParts.{PlanParts}
-use Rattle.sas_lines.specs.Device.{Device}
 use Rattle.sas_output.specs.declared.ending.Status.{Status}
 use Rattle.sas_output.specs.declared.ending.Status.TheVariants.{Yes, No}
-use Rattle.sas_output.specs.declared.answer.Answer.{Answer}
 use Rattle.sas_output.specs.declared.ending.ToolFault.{ToolFault}
 use Rattle.sas_output.specs.declared.ending.ToolFault.TheVariants as fault
-use Rattle.sas_output.specs.Ending.{Output, output_of, IsDecided, IsWrite}
+use Rattle.sas_output.specs.Ending.{Output, Ends, IsDecided, IsWrite}
 use Rattle.sas_answers.specs.Answers.{VerdictAnswer}
 use Rattle.sas_reader.specs.declared.fault.Fault.{Fault}
 use Rattle.sas_outputs.specs.Output.{VerdictOut, refusal}
@@ -22,7 +19,7 @@ use Rattle.sas_plans.specs.declared.tally.Tally.{Tally}
 use Rattle.sas_plans.specs.declared.verdicts.Verdict.{Verdict}
 use Rattle.sas_plans.specs.Inputs.{HaveBytes, WereRead, tool_fault, tool_result}
 use Rattle.sas_plans.specs.InTurn.{IsRightlyLong, OpensFirst, OpensTo}
-use Rattle.sas_plans.specs.Judged.{Judged, HasCost, IsJudged, IsBest, is_valid, labelled, JudgeOut, PlansOut}
+use Rattle.sas_plans.specs.Judged.{Judged, HasCost, IsJudged, IsBest, is_valid, labelled, PlansOut}
 
 -- ---- one plan
 
@@ -192,47 +189,16 @@ summary_of labels tally =
 
 -- ---- all plans
 
--- the result is the output; for too long an input there is none; other failures say nothing
-abbrev pub IsOutputFor : (Option Output → Type 0) → Result Output JudgeFault → Type 0
-IsOutputFor Out (Ok output) = Out (Some output)
-IsOutputFor Out (Err why) = tool_fault why ≡ fault.TooLong → Out None
-
--- the answer that was made
-abbrev pub answer_reported : Result Answer JudgeFault → Result Output JudgeFault
-answer_reported (Ok reported) = Ok (output_of reported)
-answer_reported (Err why) = Err why
-
--- the answer with this text
-abbrev pub answer_of : List ℕ → Result Status JudgeFault → Result Output JudgeFault
-answer_of text (Ok status) = Ok (record { text = text; status = status })
-answer_of text (Err why) = Err why
-
--- What the answer about the plans of a layered task promises. `known` maps a plan's number to its
--- bytes, where these are known.
+-- What the judging of the plans of a layered task promises. `known` maps a plan's number to its
+-- bytes, where these are known. `Sent` holds of the bytes of the answer, as far as it went out.
 pub record JudgesPlans (p : Parts) (known : ℕ → Option (List ℕ)) (labels : List (List ℕ))
-    (result : Result Output JudgeFault) : Type 0 where
+    (Sent : List ℕ → Type 0) (result : Result Status JudgeFault) : Type 0 where
+  -- of plans whose bytes are known, the answer is their output
   pub output : (cs : List (List ℕ)) → HaveBytes known (length labels) cs
-      → IsOutputFor (PlansOut p (zip labels cs)) result
+      → Ends (PlansOut p (zip labels cs)) Sent (tool_result result)
+  -- and of any plans, the output for the bytes that were read of them
   pub taken : IsDecided (tool_result result) → (cs : List (List ℕ))
       × WereRead known (length labels) cs
-      × IsOutputFor (PlansOut p (zip labels cs)) result
+      × Ends (PlansOut p (zip labels cs)) Sent (tool_result result)
   pub long : IfErr result (IsRightlyLong known)
   pub reads : IsErrOf result (judge_fault.Tool fault.Read) → ⊥
-  pub writes : IfErr result (λ e. IsWrite (tool_fault e) → ⊥)
-
--- What the answer about a task and plans promises, before anything of it is written. `left` maps the
--- task's device to the bytes that it has left, where these are known.
-module _ {D : Type 0} (left : D → Option (List ℕ)) where
-  pub record AnswersPlans (known : ℕ → Option (List ℕ)) (labels : List (List ℕ))
-      (old new : Device D) (result : Result Output JudgeFault) : Type 0 where
-    -- of inputs whose bytes are known, the answer is their output
-    pub output : (b : List ℕ) (cs : List (List ℕ)) → left old.device ≡ Some b
-        → HaveBytes known (length labels) cs → IsOutputFor (JudgeOut labels b cs) result
-    -- and of any inputs, the output for the bytes that were read of them
-    pub taken : IsDecided (tool_result result) → (b : List ℕ) × (cs : List (List ℕ))
-        × Consumes (left old.device) (left new.device) b
-        × WereRead known (length labels) cs
-        × IsOutputFor (JudgeOut labels b cs) result
-    pub long : IfErr result (IsRightlyLong known)
-    pub reads : IsErrOf result (judge_fault.Tool fault.Read) ↔ IsTrue new.failed
-    pub writes : IfErr result (λ e. IsWrite (tool_fault e) → ⊥)

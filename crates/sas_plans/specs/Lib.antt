@@ -7,5 +7,4 @@ pub mod InTurn
 pub mod Slices
 pub mod PlansHeadline
 pub mod Laws
-pub mod Opened
 pub mod Judging

@@ -1,8 +1,8 @@
 // Plans that are opened one after another.
 ghost use Rattle.std.specs.Prelude.{◌≡◌, ◌<◌, ◌↔◌, ℕ, List, [], length, Option, Some, IfSome, IsTrue, slice_index_or};
-ghost use Rattle.sas_plans.specs.Inputs.{IsLabel};
+ghost use Rattle.sas_plans.specs.Inputs.{IsLabel, judge_result};
 
-use sas_output::ToolFault;
+use sas_output::{Status, ToolFault};
 use std::alloc::AllocError;
 use std::io::Read;
 
@@ -66,6 +66,16 @@ impl From<AllocError> for JudgeFault {
 
     fn from(_error: AllocError) -> JudgeFault {
         JudgeFault::Tool(ToolFault::Memory)
+    }
+}
+
+/// Returns the same end, as one of a run over many plans.
+pub fn judge_ended(ended: Result<Status, ToolFault>) -> Result<Status, JudgeFault>
+    ensures { result ≡ judge_result ended }
+{
+    match ended {
+        Ok(status) => Ok(status),
+        Err(fault) => Err(JudgeFault::Tool(fault)),
     }
 }
 

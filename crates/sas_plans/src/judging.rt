@@ -1,22 +1,18 @@
 // Many plans of one task, judged one after another.
 ghost use Rattle.std.specs.Prelude.{◌≡◌, ◌↔◌, ◌⊎◌, ℕ, List, length, All, Some, false, IfOk, IfErr, IsErrAnd, IsErrOf, IsTrue};
 ghost use Rattle.std.specs.Io.KnownBytes.{Appends, Consumes};
-ghost use Rattle.sas_output.specs.Ending.{Ends, IsDecided, IsWrite, output_of};
+ghost use Rattle.sas_output.specs.Ending.{Ends, IsDecided, IsWrite};
 ghost use Rattle.sas_outputs.specs.Output.{IsLayeredText};
 ghost use Rattle.sas_plans.specs.Inputs.{HaveBytes, IsLabel, WereRead, tool_fault, tool_result};
-ghost use Rattle.sas_plans.specs.InTurn.{IsRightlyLong, OpensFirst, OpensInTurn};
+ghost use Rattle.sas_plans.specs.InTurn.{IsRightlyLong, OpensInTurn};
 ghost use Rattle.sas_plans.specs.Judged.{JudgeOut};
 ghost use Rattle.sas_plans.specs.PlansHeadline.{PlansHeadline};
-ghost use Rattle.sas_plans.specs.Judging.{AnswersPlans, JudgesPlans, OpensUntil, answer_reported};
 
-use crate::held::{Opening, open_device};
-use crate::inputs::{JudgeFault, PlanInputs};
+use crate::inputs::{JudgeFault, PlanInputs, judge_ended};
 use crate::reporting::report_plans;
-use sas_axioms::Worklist;
-use sas_flat::FlatTask;
 use sas_lines::Watched;
-use sas_output::{Answer, Status, ToolFault};
-use sas_run::Held;
+use sas_output::{Status, ToolFault};
+use sas_requests::{Detail, read_layered};
 use std::alloc::Global;
 use std::io::{Read, Write};
 
@@ -71,71 +67,8 @@ pub fn judge<T: Read, S: PlanInputs, W: Write>(
     ensures reads { IsErrOf result (JudgeFault.Tool ToolFault.Read) ↔ IsTrue task.new.failed }
     ensures writes { IsErrAnd result (λ e. IsWrite (tool_fault e)) ↔ IsTrue out.new.failed }
 {
-    match answer_about(alloc, task, plans) {
-        Ok(reported) => write_answer(&reported, out),
-        Err(fault) => Err(fault),
-    }
-}
-
-/// Writes the answer, and returns its status.
-fn write_answer<W: Write>(reported: &Answer, out: &mut Watched<W>) -> Result<Status, JudgeFault>
-    requires { out.old.failed ≡ false }
-    ensures ends { Ends (λ output. output ≡ Some (output_of reported.now))
-        (Appends (W.contents out.old.device) (W.contents out.new.device)) (tool_result result) }
-    ensures write { IfErr result (λ e. IsWrite (tool_fault e)) }
-    ensures task { IsErrOf result (JudgeFault.Tool ToolFault.Read) → ⊥ }
-    ensures writes { IsErrAnd result (λ e. IsWrite (tool_fault e)) ↔ IsTrue out.new.failed }
-{
-    match reported.write(out) {
-        Ok(status) => Ok(status),
-        Err(fault) => Err(JudgeFault::Tool(fault)),
-    }
-}
-
-/// Returns the answer about the plans of a task. They are opened only where the task is layered.
-fn answer_about<T: Read, S: PlanInputs>(
-    alloc: Global,
-    task: &mut Watched<T>,
-    plans: &mut S,
-) -> Result<Answer, JudgeFault>
-    requires { task.old.failed ≡ false }
-    ensures answers { AnswersPlans T.remaining (S.bytes plans.old) (S.labels plans.old)
-        task.old task.new (answer_reported result) }
-    ensures opens { OpensInTurn S.open_gives (T.remaining task.old.device)
-        (length (S.labels plans.old)) plans.old plans.new result }
-    ensures waits { (b : List ℕ) → T.remaining task.old.device ≡ Some b
-        → (IsLayeredText b → ⊥) → plans.new ≡ plans.old }
-    ensures labels { S.labels plans.new ≡ S.labels plans.old }
-{
-    match open_device(alloc, task) {
-        Ok(Opening::Ready(held)) => judge_plans(alloc, held, plans),
-        Ok(Opening::Refused(reported)) => Ok(reported),
-        Err(fault) => Err(JudgeFault::Tool(fault)),
-    }
-}
-
-/// Returns the answer about the plans of a task that is held for them all.
-fn judge_plans<S: PlanInputs>(
-    alloc: Global,
-    mut held: Held<Worklist, FlatTask>,
-    plans: &mut S,
-) -> Result<Answer, JudgeFault>
-    ensures judges { JudgesPlans held (S.bytes plans.old) (S.labels plans.old)
-        (answer_reported result) }
-    ensures opened { IfOk result
-        (λ _. OpensFirst S.open_gives (length (S.labels plans.old)) plans.old plans.new) }
-    ensures fault { IfErr result
-        (OpensUntil S.open_gives (length (S.labels plans.old)) plans.old plans.new) }
-    ensures labels { S.labels plans.new ≡ S.labels plans.old }
-{
-    let mut text = Vec::new(alloc);
-    let status = report_plans(alloc, &mut held, plans, &mut text);
-    drop(held);
-    match status {
-        Ok(status) => Ok(Answer { text, status }),
-        Err(fault) => {
-            drop(text);
-            Err(fault)
-        }
+    match read_layered(alloc, Detail::Plain, task, out) {
+        Ok(layered) => report_plans(alloc, layered, plans, out),
+        Err(ended) => judge_ended(ended),
     }
 }

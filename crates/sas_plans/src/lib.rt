@@ -10,7 +10,7 @@ mod slices;
 mod tally;
 mod verdicts;
 
-pub use held::{Opening, judge_bytes, open_task};
+pub use held::{hold, judge_bytes};
 pub use inputs::{InputFault, JudgeFault, PlanInputs, is_label};
 pub use judging::judge;
 pub use laws::judge_laws;

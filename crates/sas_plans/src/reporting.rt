@@ -1,46 +1,57 @@
 // The reports on plans, one after another, and on all of them.
-ghost use Rattle.std.specs.Prelude.{◌≡◌, ◌<◌, ◌++◌, ℕ, [], length, codes, decimal, IfOk, IfErr, OnOk, slice_index_or};
+ghost use Rattle.std.specs.Prelude.{◌≡◌, ◌↔◌, ◌⊎◌, ◌<◌, ◌++◌, ℕ, List, [], length, codes, decimal, false, Option, IfOk, IfErr, IsErrAnd, IsTrue, OnOk, slice_index_or};
+ghost use Rattle.std.specs.Io.KnownBytes.{Appends};
+ghost use Rattle.sas_output.specs.Ending.{IsWrite};
+ghost use Rattle.sas_plans.specs.Inputs.{tool_fault};
 ghost use Rattle.sas_plans.specs.Judged.{Judged, labelled};
-ghost use Rattle.sas_plans.specs.InTurn.{OpensFirst};
+ghost use Rattle.sas_plans.specs.InTurn.{OpensFirst, OpensInTurn};
 ghost use Rattle.sas_plans.specs.Judging.{AreReported, IsOneUnsaid, IsPlace, IsSaid, IsUnsaid, EndsAt, IsOpened, OpensUntil};
-ghost use Rattle.sas_plans.specs.Judging.{JudgesPlans, answer_of, summary_of};
+ghost use Rattle.sas_plans.specs.Judging.{JudgesPlans, summary_of};
 
-use crate::inputs::{JudgeFault, PlanInputs};
+use crate::held::hold;
+use crate::inputs::{JudgeFault, PlanInputs, judge_ended};
 use crate::tally::Tally;
 use crate::verdicts::judge_plan;
 use sas_axioms::Worklist;
 use sas_flat::FlatTask;
-use sas_lines::push_number;
-use sas_output::Status;
+use sas_lines::{Watched, push_number};
+use sas_meaning::Layered;
+use sas_output::{Answer, Status};
 use sas_run::Held;
 use std::alloc::{AllocError, Global};
+use std::io::Write;
 
-/// Adds a line for each plan, and the last line. Returns whether all plans are valid.
-pub fn report_plans<S: PlanInputs>(
+/// Judges the plans of a layered task. Then a line for each and the last line go out, with the status `Yes` if all plans are valid.
+pub fn report_plans<S: PlanInputs, W: Write>(
     alloc: Global,
-    held: &mut Held<Worklist, FlatTask>,
+    layered: Layered<FlatTask>,
     plans: &mut S,
-    text: &mut Vec<u8>,
+    out: &mut Watched<W>,
 ) -> Result<Status, JudgeFault>
-    requires { text.old.items ≡ [] }
-    ensures reports { JudgesPlans held.old (S.bytes plans.old) (S.labels plans.old)
-        (answer_of text.new.items result) }
-    ensures opened { IfOk result
-        (λ _. OpensFirst S.open_gives (length (S.labels plans.old)) plans.old plans.new) }
-    ensures fault { IfErr result
-        (OpensUntil S.open_gives (length (S.labels plans.old)) plans.old plans.new) }
+    requires { out.old.failed ≡ false }
+    ensures judges { JudgesPlans layered (S.bytes plans.old) (S.labels plans.old)
+        (Appends (W.contents out.old.device) (W.contents out.new.device)) result }
+    ensures nothing { IfErr result (λ e. IsWrite (tool_fault e) ⊎ (out.new ≡ out.old)) }
+    ensures opens { (task : Option (List ℕ)) → OpensInTurn S.open_gives task
+        (length (S.labels plans.old)) plans.old plans.new result }
     ensures labels { S.labels plans.new ≡ S.labels plans.old }
+    ensures writes { IsErrAnd result (λ e. IsWrite (tool_fault e)) ↔ IsTrue out.new.failed }
 {
-    let tally = match report_each(alloc, held, plans, text) {
+    let mut held = hold(alloc, layered)?;
+    let mut text = Vec::new(alloc);
+    let reported = report_each(alloc, &mut held, plans, &mut text);
+    drop(held);
+    let tally = match reported {
         Ok(tally) => tally,
         Err(fault) => return Err(fault),
     };
-    push_summary(text, tally, plans)?;
-    if tally.valid == plans.count() {
-        Ok(Status::Yes)
+    push_summary(&mut text, tally, plans)?;
+    let status = if tally.valid == plans.count() {
+        Status::Yes
     } else {
-        Ok(Status::No)
-    }
+        Status::No
+    };
+    judge_ended(Answer { text, status }.write(out))
 }
 
 /// Adds a line for each plan, and returns how many are valid, and the best of these.

@@ -1,5 +1,5 @@
 // The verdict on one of many plans.
-ghost use Rattle.std.specs.Prelude.{◌≡◌, ◌↔◌, ◌<◌, ℕ, length, false, IfOk, IfErr, IsErrOf, IsTrue};
+ghost use Rattle.std.specs.Prelude.{◌≡◌, ◌↔◌, ◌<◌, ℕ, length, IfOk, IfErr, IsErrOf};
 ghost use Rattle.sas_output.specs.Ending.{IsWrite};
 ghost use Rattle.sas_plans.specs.Inputs.{tool_fault, tool_result};
 ghost use Rattle.sas_plans.specs.Judging.{EndsAt, IsBehindOpening, IsOpened, IsVerdictOnRefusal, Judges, IsVerdictOnPlan};

@@ -1,6 +1,6 @@
 pub mod InvariantGroups
 mod SummaryLengths
-mod ShortOutputs
+pub mod ShortOutputs
 mod WhyAnswers
 mod ReasonLines
 mod PlainAnswers

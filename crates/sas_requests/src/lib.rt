@@ -26,6 +26,7 @@ pub use sas_output::{Status, ToolFault};
 pub use sas_outputs::{Request, refuse_file};
 use std::alloc::Global;
 use std::io::{Read, Write};
+pub use tasks::read_layered;
 
 /// Answers the request about the inputs. `Show`, `Print`, `Check` and `Mutex` read the task alone, and `Steps` the
 /// plan; `Plan` reads the task, and then the plan if the task is layered. Nothing is written before the answer is

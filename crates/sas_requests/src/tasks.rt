@@ -20,7 +20,8 @@ use std::alloc::Global;
 use std::io::{Read, Write};
 
 /// Reads a layered task. Where the file is no task, or the task isn't layered, writes the refusal instead, and returns how that ended
-/// as an `Err`.
+/// as an `Err`: with the status `No`, or at a fault. At `Write` the first bytes of the refusal were written; at any other fault nothing
+/// was. Not to be called with a device that has failed.
 pub fn read_layered<R: Read, W: Write>(
     alloc: Global,
     detail: Detail,

@@ -1,18 +1,24 @@
-use Rattle.sas_c.proofs.Imports.{◌≡◌, None, output_of, layers_verdict, CheckOut}
-use Rattle.sas_c.proofs.Returned.{reports_by, reports_output, layered_out, never_yes, opens_ready, opens_refused}
+use Rattle.sas_c.proofs.Imports.{◌≡◌, List, ℕ, Bor, ap, ◌∙◌, None, Some, Vec, known_answer, ValueOf, task_format, layers_verdict, CheckOut}
+use Rattle.sas_c.proofs.Returned.{reports_by, layered_out, refused_reported, never_yes}
 use Rattle.sas_c.proofs.tasks.sas_task_read.Goals as goal
 
-pub returns-in-Ok-Ready-clause-answers : goal.returns-in-Ok-Ready-clause-answers
-returns-in-Ok-Ready-clause-answers c =
-    let opened = opens_ready c.args.bytes.now c.in-Ok-Ready.field-0 c.in-Ok-Ready.held c.in-Ok-Ready.field-0-is c.in-Ok-Ready.ensures.opens in
-    reports_by (λ o. o ≡ layers_verdict None) (CheckOut c.args.bytes.now) (layered_out c.in-Ok-Ready.held c.args.bytes.now opened.0 opened.1) _ _ _ _ c.hold.ensures.answers
+pub returns-in-Ok-clause-held : goal.returns-in-Ok-clause-held
+returns-in-Ok-clause-held c = λ zero.
+    let left = λ (s : Bor (List ℕ)). Some s.now in
+    rw (c.hold.ensures.held zero) (known_answer left task_format (ValueOf task_format) _ _ c.in-Ok.layered c.args.bytes.now c.in-Ok.ensures.read (ap left c.new-device.ensures.device), c.in-Ok.ensures.layered)
 
-pub returns-in-Ok-Refused-clause-answers : goal.returns-in-Ok-Refused-clause-answers
-returns-in-Ok-Refused-clause-answers c =
-    let opened = opens_refused c.args.bytes.now c.in-Ok-Refused.field-0 c.in-Ok-Refused.answer c.in-Ok-Refused.field-0-is c.in-Ok-Refused.ensures.opens in
-    reports_output (CheckOut c.args.bytes.now) (output_of c.in-Ok-Refused.answer) opened.0 _ _ _ _ c.return_answer.ensures
+pub returns-in-Ok-clause-answers : goal.returns-in-Ok-clause-answers
+returns-in-Ok-clause-answers c =
+    let left = λ (s : Bor (List ℕ)). Some s.now in
+    let reads = known_answer left task_format (ValueOf task_format) _ _ c.in-Ok.layered c.args.bytes.now c.in-Ok.ensures.read (ap left c.new-device.ensures.device) in
+    reports_by (λ o. o ≡ layers_verdict None) (CheckOut c.args.bytes.now) (layered_out c.in-Ok.layered c.args.bytes.now reads c.in-Ok.ensures.layered) _ _ _ _ c.hold.ensures.answers
 
-pub returns-in-Ok-Refused-clause-held : goal.returns-in-Ok-Refused-clause-held
-returns-in-Ok-Refused-clause-held c = λ zero.
-    let opened = opens_refused c.args.bytes.now c.in-Ok-Refused.field-0 c.in-Ok-Refused.answer c.in-Ok-Refused.field-0-is c.in-Ok-Refused.ensures.opens in
-    absurd (never_yes (output_of c.in-Ok-Refused.answer) _ _ _ _ opened.1 c.return_answer.ensures zero)
+pub returns-in-Err-clause-answers : goal.returns-in-Err-clause-answers
+returns-in-Err-clause-answers c =
+    let left = λ (s : Bor (List ℕ)). Some s.now in
+    refused_reported c.args.bytes.now _ _ (ap (λ (v : Vec ℕ). v.items) c.new-text.ensures.device ∙ c.new.ensures.items) c.in-Err.ended _ _ _ _ (c.in-Err.ensures.refused.ends.output c.args.bytes.now (ap left c.new-device.ensures.device)) c.report_ended.ensures
+
+pub returns-in-Err-clause-held : goal.returns-in-Err-clause-held
+returns-in-Err-clause-held c = λ zero.
+    let left = λ (s : Bor (List ℕ)). Some s.now in
+    absurd (never_yes c.args.bytes.now _ _ (ap (λ (v : Vec ℕ). v.items) c.new-text.ensures.device ∙ c.new.ensures.items) c.in-Err.ended _ _ _ _ (c.in-Err.ensures.refused.ends.output c.args.bytes.now (ap left c.new-device.ensures.device)) c.report_ended.ensures zero)

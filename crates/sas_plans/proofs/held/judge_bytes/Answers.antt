@@ -1,5 +1,5 @@
 use Rattle.sas_plans.proofs.Imports.{Ok, refl}
-use Rattle.sas_plans.proofs.Opened.{judged_refused, judged_long}
+use Rattle.sas_plans.proofs.PlanVerdicts.{judged_refused, judged_long}
 use Rattle.sas_plans.proofs.held.judge_bytes.Goals as goal
 
 pub returns-in-Err-clause-verdict : goal.returns-in-Err-clause-verdict
