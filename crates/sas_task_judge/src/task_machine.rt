@@ -19,7 +19,7 @@ pub struct TaskMachine<K> {
 impl<K: Keeper> TaskMachine<K> {
     ghost use Rattle.std.specs.Prelude.{[]};
     ghost use Rattle.sas_reader.specs.Machine.{AcceptsAhead};
-    ghost use Rattle.sas_task_judge.specs.TaskJudge.{HasEnded, SectionDue};
+    ghost use Rattle.sas_task_judge.specs.TaskJudge.{SectionDue};
     ghost use Rattle.sas_task_judge.specs.TaskMachine.{LedBy, IsFresh, MachineStopped};
 
     /// Returns a machine that has accepted no line, with this keeper.
@@ -133,20 +133,21 @@ impl<K: Keeper> TaskMachine<K> {
         }
     }
 
-    /// Accepts the first line of the bytes if the judge accepts it ahead. Otherwise returns `Front::EMPTY`.
-    fn line_ahead(&mut self, bytes: &[u8]) -> Result<Front, Kind>
-        requires { HasEnded self.old.judge → ⊥ }
+    /// Accepts the first lines of the bytes that the judge accepts ahead, one after another.
+    fn lines_ahead(&mut self, bytes: &[u8]) -> Result<Front, Kind>
         ensures { AcceptsAhead (LedBy K.keeps) self.old bytes.now self.new result }
     {
-        let Some((event, rest)) = self.judge.take_ahead(bytes) else {
-            return Ok(Front::EMPTY);
-        };
-        let taken = bytes.len() - rest.len();
-        self.kept
-            .keep(&bytes[..taken - 1], event, &mut self.judge.said)?;
+        let mut lines = 0;
+        let mut rest = bytes;
+        while let Some((event, behind)) = self.judge.take_ahead(rest) {
+            let line = &rest[..rest.len() - behind.len() - 1];
+            self.kept.keep(line, event, &mut self.judge.said)?;
+            lines += 1;
+            rest = behind;
+        }
         Ok(Front {
-            lines: 1,
-            bytes: taken,
+            lines,
+            bytes: bytes.len() - rest.len(),
         })
     }
 }
@@ -179,6 +180,6 @@ impl<K: Keeper> Machine for TaskMachine<K> {
         if section.bytes > 0 {
             return Ok(section);
         }
-        self.line_ahead(bytes)
+        self.lines_ahead(bytes)
     }
 }

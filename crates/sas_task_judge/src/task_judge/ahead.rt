@@ -3,7 +3,7 @@
 ghost use Rattle.std.specs.Prelude.{◌≡◌, ◌≢◌, ◌<◌, ◌-◌, ◌^◌, length, [], ◌∷◌, ◌++◌, IfSome, IfNone};
 ghost use Rattle.sas_task_format.specs.TaskFormat as format;
 ghost use Rattle.sas_task_format.specs.TaskProcess.{a_fact};
-ghost use Rattle.sas_task_judge.specs.TaskJudge.{Due, MovesAhead, HasEnded};
+ghost use Rattle.sas_task_judge.specs.TaskJudge.{Due, MovesAhead};
 
 use super::TaskJudge;
 use sas_task_format::Place;
@@ -74,7 +74,6 @@ impl TaskJudge {
     /// Accepts the first line of the bytes, which ends with LF, if it is one of many alike and is allowed here. Returns what it adds, and
     /// the bytes after it. Otherwise returns `None` and changes nothing; then `take` has to judge the line.
     pub fn take_ahead<'a>(&mut self, bytes: &'a [u8]) -> Option<(Event, &'a [u8])>
-        requires { HasEnded self.old → ⊥ }
         ensures some { IfSome result (λ a. MovesAhead self.old bytes.now self.new a.0 a.1.now) }
         ensures none { IfNone result (self.new ≡ self.old) }
     {
