@@ -58,7 +58,7 @@ pub use Rattle.sas_task_line.specs.declared.so_far.SoFar.{SoFar}
 pub use Rattle.sas_task_line.specs.declared.task_events.Event.{Event}
 pub use Rattle.sas_task_line.specs.declared.task_events.Said.{Said}
 pub use Rattle.sas_task_judge.specs.Marks.{due_slot, DueIs, LocationIs, mark_of, WrongWordIn}
-pub use Rattle.sas_task_judge.specs.Sections.{behind_variable, behind_group, behind_operator, behind_rule}
+pub use Rattle.sas_task_judge.specs.Sections.{KeepsGroup, KeepsOperator, KeepsRule, behind_variable, behind_group, behind_operator, behind_rule}
 pub use Rattle.sas_task_judge.specs.TaskJudge.{tracker_at, state_of, tracker_of, ranges_in, HasEnded, process_at, KnownTo, SectionDue, more_in, LeadsOn, RejectsLine, StandsAsBefore, TakesMemory, JudgesLine, MovesBy, MovesAhead}
 pub use Rattle.sas_task_judge.specs.TaskMachine.{LedBy, MachineStopped}
 pub use Rattle.sas_task_judge.specs.TaskPlaces.{variable_begin, variable_values, group_begin, group_facts, state_values_of, goal_facts, operator_begin, operator_prevail, operator_effects, rule_begin, rule_conditions, state_values, goal_begin}

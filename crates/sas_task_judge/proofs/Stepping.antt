@@ -42,10 +42,6 @@ effects_count t n i = one_less_is at.Effects t n
 pub conditions_count : CountsDown at.RuleConditions
 conditions_count t n i = one_less_is at.RuleConditions t n
 
--- the judge with one item less
-abbrev pub with_one_less : TaskJudge → TaskJudge
-with_one_less j = record j { more = j.more - 1 }
-
 module _ (place : Place) (counts : CountsDown place) (is : (n : ℕ) → more_in place n ≡ n) (j : TaskJudge) (i : TaskLine) (here : j.place ≡ place) (some : 0 < j.more) where
   abbrev there : ℕ → Tracker
   there n = record (tracker_at place j.left j.more j) { more = n }
@@ -84,8 +80,6 @@ starts j here total left ranges valued =
     ∙ ap (λ (n : ℕ). record tracker_start { left = n; ranges = j.ranges; valued = j.valued }) left
     ∙ ap (λ (rs : List ℕ). record tracker_start { ranges = rs; valued = j.valued }) ranges
     ∙ ap (λ (n : ℕ). record tracker_start { valued = n }) valued
-
--- ---- many lines
 
 -- ---- the last line of a section
 
