@@ -1,5 +1,5 @@
 -- The tracker follows the judge.
-use Rattle.sas_task_judge.proofs.Imports.{◌≡◌, ℕ, suc, ◌<◌, ◌≤◌, ◌+◌, ◌-◌, List, [], ◌∷◌, ◌++◌, Bool, true, false, nat_lt, length, refl, sym, ap, ◌∙◌, arith, nat_tests, if◌then◌else◌, Place, TaskLine, Tracker, tracker_start, step, step_from, goes_to, TaskJudge, more_in, tracker_at, tracker_of}
+use Rattle.sas_task_judge.proofs.Imports.{◌≡◌, ℕ, suc, ◌<◌, ◌≤◌, ◌+◌, ◌-◌, List, [], ◌∷◌, ◌++◌, Bool, true, false, nat_lt, length, sym, ap, ◌∙◌, arith, nat_tests, if◌then◌else◌, Place, TaskLine, Tracker, tracker_start, step, step_from, goes_to, TaskJudge, more_in, tracker_at, tracker_of}
 use Rattle.sas_task_format.specs.declared.places.Place.TheVariants as at
 use Rattle.sas_task_judge.proofs.TaskMoves.{next_of}
 
@@ -82,15 +82,6 @@ starts j here total left ranges valued =
     ∙ ap (λ (n : ℕ). record tracker_start { valued = n }) valued
 
 -- ---- the last line of a section
-
-pub group_end_steps : (j : TaskJudge) (i : TaskLine) → j.place ≡ at.GroupFacts → j.more ≡ 0 → step (tracker_of j) i ≡ tracker_of (record j { place = at.Groups })
-group_end_steps j i here all = steps_with_more j i _ at.GroupFacts here 0 all refl
-
-pub cost_steps : (j : TaskJudge) (i : TaskLine) → j.place ≡ at.Effects → j.more ≡ 0 → step (tracker_of j) i ≡ tracker_of (record j { place = at.OperatorEnd })
-cost_steps j i here all = steps_with_more j i _ at.Effects here 0 all refl
-
-pub head_steps : (j : TaskJudge) (i : TaskLine) → j.place ≡ at.RuleConditions → j.more ≡ 0 → step (tracker_of j) i ≡ tracker_of (record j { place = at.RuleEnd })
-head_steps j i here all = steps_with_more j i _ at.RuleConditions here 0 all refl
 
 pub variable_end_steps : (j : TaskJudge) (i : TaskLine) (ranges : List ℕ) → j.place ≡ at.VariableValues → j.more ≡ 0 → ranges ≡ j.ranges ++ j.range ∷ [] → step (tracker_of j) i ≡ tracker_of (record j { place = at.Variables; ranges = ranges })
 variable_end_steps j i ranges here all are =

@@ -11,6 +11,7 @@ use sas_task_line::{
 
 impl TaskJudge {
     /// Accepts the name of a value.
+    #[inline(always)]
     fn variable_value_ahead<'a>(&mut self, bytes: &'a [u8]) -> Option<(Event, &'a [u8])>
         requires place { self.old.place ≡ Place.VariableValues }
         requires more { 0 < self.old.more }
@@ -23,6 +24,7 @@ impl TaskJudge {
     }
 
     /// Accepts a fact of a group or of the goal, a prevail condition, or a condition of a rule.
+    #[inline(always)]
     fn fact_ahead<'a>(&mut self, bytes: &'a [u8], event: Event) -> Option<(Event, &'a [u8])>
         requires more { 0 < self.old.more }
         requires due { FactDue self.old event }
@@ -37,6 +39,7 @@ impl TaskJudge {
     }
 
     /// Accepts the value of the next variable.
+    #[inline(always)]
     fn state_value_ahead<'a>(&mut self, bytes: &'a [u8]) -> Option<(Event, &'a [u8])>
         requires place { self.old.place ≡ Place.StateValues }
         requires more { self.old.valued < length self.old.ranges }
@@ -52,6 +55,7 @@ impl TaskJudge {
     }
 
     /// Accepts an effect without conditions.
+    #[inline(always)]
     fn effect_ahead<'a>(&mut self, bytes: &'a [u8]) -> Option<(Event, &'a [u8])>
         requires place { self.old.place ≡ Place.Effects }
         requires more { 0 < self.old.more }
@@ -68,6 +72,7 @@ impl TaskJudge {
 
     /// Accepts the first line of the bytes, which ends with LF, if it is one of many alike and is allowed here. Returns what it adds, and
     /// the bytes after it. Otherwise returns `None` and changes nothing; then `take` has to judge the line.
+    #[inline(always)]
     pub fn take_ahead<'a>(&mut self, bytes: &'a [u8]) -> Option<(Event, &'a [u8])>
         ensures some { IfSome result (λ a. MovesAhead self.old bytes.now self.new a.0 a.1.now) }
         ensures none { IfNone result (self.new ≡ self.old) }
