@@ -1,6 +1,7 @@
 -- What the proofs use of other crates, and of the definitions of this one.
 pub use Rattle.std.proofs.Common.{◌≡◌, ℕ, List, Option, Some, None, Result, refl, sym, ap, subst, ◌∙◌, IfOk, ◌≢◌, [], ◌∷◌, ◌++◌, Bool, length, append_assoc, IsTrue, codes, suc, ◌<◌, ◌-◌, arith, Ok, ◌≤◌, ◌+◌, true, false, nat_lt, if◌then◌else◌, zero, drop, Err, take, ◌&&◌, rules, inr, length-append}
 pub use Rattle.std.proofs.lemmas.Bool.Decides.{nat_tests}
+pub use Rattle.std.proofs.lemmas.Grind.{flat_map-append}
 pub use Rattle.std.proofs.lemmas.List.{append-nil, take_at}
 pub use Rattle.std.proofs.lemmas.Option.{none-some}
 pub use Rattle.std.proofs.lemmas.Result.{on_ok_weaker}
@@ -17,8 +18,10 @@ pub use Rattle.sas_core.specs.declared.parts.Operator.{Operator}
 pub use Rattle.sas_core.specs.declared.parts.Parts.{Parts}
 pub use Rattle.sas_core.specs.declared.parts.Rule.{Rule}
 pub use Rattle.sas_core.specs.declared.parts.Variable.{Variable}
-pub use Rattle.sas_lines.proofs.Beginnings.{stands_first, one_stands_first}
-pub use Rattle.sas_lines.specs.FirstLines.{LineStandsFirst}
+pub use Rattle.sas_lines.proofs.Beginnings.{lines_stand_first}
+pub use Rattle.sas_lines.proofs.Splitting.{Plain}
+pub use Rattle.sas_lines.specs.FirstLines.{LinesStandFirst}
+pub use Rattle.sas_lines.specs.Lines.{text}
 pub use Rattle.sas_reader.proofs.Paths.{cut_at, after_ends, map-append, after_append}
 pub use Rattle.sas_reader.proofs.Plain.{plain}
 pub use Rattle.sas_reader.specs.Faults.{IsOfBytes}
@@ -55,7 +58,7 @@ pub use Rattle.sas_task_line.specs.declared.so_far.SoFar.{SoFar}
 pub use Rattle.sas_task_line.specs.declared.task_events.Event.{Event}
 pub use Rattle.sas_task_line.specs.declared.task_events.Said.{Said}
 pub use Rattle.sas_task_judge.specs.Marks.{due_slot, DueIs, LocationIs, mark_of, WrongWordIn}
-pub use Rattle.sas_task_judge.specs.Sections.{behind_variable, behind_group, behind_operator, behind_rule}
+pub use Rattle.sas_task_judge.specs.Sections.{KeepsGroup, KeepsOperator, KeepsRule, behind_variable, behind_group, behind_operator, behind_rule}
 pub use Rattle.sas_task_judge.specs.TaskJudge.{tracker_at, state_of, tracker_of, ranges_in, HasEnded, process_at, KnownTo, SectionDue, more_in, LeadsOn, RejectsLine, StandsAsBefore, TakesMemory, JudgesLine, MovesBy, MovesAhead}
 pub use Rattle.sas_task_judge.specs.TaskMachine.{LedBy, MachineStopped}
 pub use Rattle.sas_task_judge.specs.TaskPlaces.{variable_begin, variable_values, group_begin, group_facts, state_values_of, goal_facts, operator_begin, operator_prevail, operator_effects, rule_begin, rule_conditions, state_values, goal_begin}

@@ -1,5 +1,5 @@
 -- The judge and the machine move past a section that is stored at once.
-use Rattle.sas_task_judge.proofs.Imports.{◌≡◌, ℕ, suc, ◌<◌, ◌-◌, List, [], ◌∷◌, ◌++◌, length, refl, sym, ap, subst, ◌∙◌, IsTrue, arith, Ok, list_all, Fact, Operator, Rule, Variable, Front, IsFront, AcceptsAhead, map-append, after_append, process_node, TaskLine, task_line_bytes, task_format, TaskLineFits, variable_lines, group_lines, operator_lines, rule_lines, TaskProcess, task_start, spelled, track-append, TaskJudge, TaskMachine, behind_variable, behind_group, behind_operator, behind_rule, process_at, state_of, tracker_of, KnownTo, SectionDue, LedBy, HasNames, OperatorInRanges, RuleInRanges, ranges_of, fact_in_ranges, SoFar, Place, Tracker, tracker_start, track}
+use Rattle.sas_task_judge.proofs.Imports.{◌≡◌, ℕ, suc, ◌<◌, ◌-◌, List, [], ◌∷◌, ◌++◌, length, refl, sym, ap, subst, ◌∙◌, IsTrue, arith, Ok, list_all, Fact, Operator, Rule, Variable, Front, IsFront, AcceptsAhead, map-append, after_append, process_node, TaskLine, task_line_bytes, task_format, TaskLineFits, variable_lines, group_lines, operator_lines, rule_lines, TaskProcess, task_start, spelled, track-append, TaskJudge, TaskMachine, behind_variable, behind_group, behind_operator, behind_rule, process_at, state_of, tracker_of, KnownTo, SectionDue, LedBy, HasNames, OperatorInRanges, RuleInRanges, KeepsGroup, KeepsOperator, KeepsRule, ranges_of, fact_in_ranges, SoFar, Place, Option, WrongWord, Tracker, tracker_start, track}
 use Rattle.sas_task_format.specs.declared.places.Place.TheVariants as at
 use Rattle.sas_task_judge.specs.declared.task_judge.sections.Section.TheVariants as section
 use Rattle.sas_task_judge.proofs.TaskMoves.{next_of}
@@ -75,28 +75,56 @@ rule_leads j s r due f good fits = record {
 
 -- ---- the machine
 
-module _ {K : Type 0} (keeps : List (List ℕ) → SoFar → K → Type 0) (m : TaskMachine K) (next : TaskJudge) (kept : K) (items : List TaskLine) (behind : SoFar → SoFar)
-    (leads : (s : SoFar) → KnownTo s m.judge → SectionLeads m.judge next s items (behind s)) (keeps_on : (lines : List (List ℕ)) (s : SoFar) → keeps lines s m.kept → keeps (lines ++ spelled items) (behind s) kept) where
-  -- if the keeper stores the section, its lines lead the machine as well
-  led_behind : (before : List (List ℕ)) → LedBy keeps before m → LedBy keeps (before ++ spelled items) (record m { judge = next; kept = kept })
-  led_behind before h =
-      let led = leads h.so_far h.known in
-      record {
-        so_far = behind h.so_far;
-        leads = record {
-          items = h.leads.items ++ items;
-          after = after_append task_format TaskLineFits process_node task_start (state_of m.judge h.so_far) (state_of next (behind h.so_far)) h.leads.items items h.leads.after led.on;
-          spells = map-append task_line_bytes h.leads.items items ∙ ap (λ (l : List (List ℕ)). l ++ spelled items) h.leads.spells;
-        };
-        known = led.known;
-        tracked = track-append tracker_start h.leads.items items ∙ ap (λ (x : Tracker). track x items) h.tracked ∙ led.tracked;
-        kept = keeps_on before h.so_far h.kept;
-      }
+module _ {K : Type 0} (keeps : List (List ℕ) → SoFar → K → Type 0) (m : TaskMachine K) (next : TaskJudge) (kept : K) (bytes : List ℕ) (front : Front) where
+  -- the keeper stored a section that leads the judge to `next`
+  pub record SectionKept : Type 0 where
+    pub items : List TaskLine
+    pub behind : SoFar → SoFar
+    pub leads : (s : SoFar) → KnownTo s m.judge → SectionLeads m.judge next s items (behind s)
+    pub keeps_on : (lines : List (List ℕ)) (s : SoFar) → keeps lines s m.kept → keeps (lines ++ spelled items) (behind s) kept
+    pub stands : IsFront (spelled items) bytes front
 
-  -- and the machine accepts it
-  pub accepts : (j : TaskJudge) (bytes : List ℕ) (front : Front) → j ≡ next → 0 < front.bytes → IsFront (spelled items) bytes front → AcceptsAhead (LedBy keeps) m bytes (record m { judge = j; kept = kept }) (Ok front)
-  accepts j bytes front is some stands = record {
-    took = λ _. (spelled items, stands, λ before h. subst (λ (x : TaskJudge). LedBy keeps (before ++ spelled items) (record m { judge = x; kept = kept })) (sym is) (led_behind before h));
-    none = λ zero. absurd (omega (arith, zero, some));
-    memory = tt;
-  }
+  module _ (k : SectionKept) where
+    -- its lines lead the machine as well
+    led_behind : (wrong : Option WrongWord) (before : List (List ℕ)) → LedBy keeps before m → LedBy keeps (before ++ spelled k.items) (record { judge = next; kept = kept; wrong = wrong })
+    led_behind wrong before h =
+        let led = k.leads h.so_far h.known in
+        record {
+          so_far = k.behind h.so_far;
+          leads = record {
+            items = h.leads.items ++ k.items;
+            after = after_append task_format TaskLineFits process_node task_start (state_of m.judge h.so_far) (state_of next (k.behind h.so_far)) h.leads.items k.items h.leads.after led.on;
+            spells = map-append task_line_bytes h.leads.items k.items ∙ ap (λ (l : List (List ℕ)). l ++ spelled k.items) h.leads.spells;
+          };
+          known = led.known;
+          tracked = track-append tracker_start h.leads.items k.items ∙ ap (λ (x : Tracker). track x k.items) h.tracked ∙ led.tracked;
+          kept = k.keeps_on before h.so_far h.kept;
+        }
+
+    -- and the machine accepts it
+    pub accepts : (j : TaskJudge) (wrong : Option WrongWord) → j ≡ next → 0 < front.bytes → AcceptsAhead (LedBy keeps) m bytes (record { judge = j; kept = kept; wrong = wrong }) (Ok front)
+    accepts j wrong is some = rw is record {
+      took = λ _. (spelled k.items, k.stands, led_behind wrong);
+      none = λ zero. absurd (omega (arith, zero, some));
+      memory = tt;
+    }
+
+-- a group, an operator or a rule, of variables with these ranges
+module _ {K : Type 0} (keeps : List (List ℕ) → SoFar → K → Type 0) (m : TaskMachine K) (kept : K) (ranges bytes : List ℕ) (front : Front) (same : ranges ≡ m.judge.ranges) (some : 0 < front.bytes) where
+  abbrev Kept : Type 0
+  Kept = SectionKept keeps m (behind_section m.judge) kept bytes front
+
+  pub group_kept : SectionDue m.judge section.Group → KeepsGroup keeps ranges bytes m.kept kept (Ok front) → Kept
+  group_kept due h =
+      let t = (rw same at h).took some in
+      record { items = group_lines t.0; behind = λ s. behind_group s t.0; leads = λ s f. group_leads m.judge s t.0 due f t.1.0 t.1.1.fits; keeps_on = t.2; stands = t.1.1.stands }
+
+  pub operator_kept : SectionDue m.judge section.Operator → KeepsOperator keeps ranges bytes m.kept kept (Ok front) → Kept
+  operator_kept due h =
+      let t = (rw same at h).took some in
+      record { items = operator_lines t.0; behind = λ s. behind_operator s t.0; leads = λ s f. operator_leads m.judge s t.0 due f t.1.0 t.1.1.fits; keeps_on = t.2; stands = t.1.1.stands }
+
+  pub rule_kept : SectionDue m.judge section.Rule → KeepsRule keeps ranges bytes m.kept kept (Ok front) → Kept
+  rule_kept due h =
+      let t = (rw same at h).took some in
+      record { items = rule_lines t.0; behind = λ s. behind_rule s t.0; leads = λ s f. rule_leads m.judge s t.0 due f t.1.0 t.1.1.fits; keeps_on = t.2; stands = t.1.1.stands }

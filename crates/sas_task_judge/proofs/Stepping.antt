@@ -1,5 +1,5 @@
 -- The tracker follows the judge.
-use Rattle.sas_task_judge.proofs.Imports.{◌≡◌, ℕ, suc, ◌<◌, ◌≤◌, ◌+◌, ◌-◌, List, [], ◌∷◌, ◌++◌, Bool, true, false, nat_lt, length, refl, sym, ap, ◌∙◌, arith, nat_tests, if◌then◌else◌, Place, TaskLine, Tracker, tracker_start, step, step_from, goes_to, TaskJudge, more_in, tracker_at, tracker_of}
+use Rattle.sas_task_judge.proofs.Imports.{◌≡◌, ℕ, suc, ◌<◌, ◌≤◌, ◌+◌, ◌-◌, List, [], ◌∷◌, ◌++◌, Bool, true, false, nat_lt, length, sym, ap, ◌∙◌, arith, nat_tests, if◌then◌else◌, Place, TaskLine, Tracker, tracker_start, step, step_from, goes_to, TaskJudge, more_in, tracker_at, tracker_of}
 use Rattle.sas_task_format.specs.declared.places.Place.TheVariants as at
 use Rattle.sas_task_judge.proofs.TaskMoves.{next_of}
 
@@ -42,10 +42,6 @@ effects_count t n i = one_less_is at.Effects t n
 pub conditions_count : CountsDown at.RuleConditions
 conditions_count t n i = one_less_is at.RuleConditions t n
 
--- the judge with one item less
-abbrev pub with_one_less : TaskJudge → TaskJudge
-with_one_less j = record j { more = j.more - 1 }
-
 module _ (place : Place) (counts : CountsDown place) (is : (n : ℕ) → more_in place n ≡ n) (j : TaskJudge) (i : TaskLine) (here : j.place ≡ place) (some : 0 < j.more) where
   abbrev there : ℕ → Tracker
   there n = record (tracker_at place j.left j.more j) { more = n }
@@ -85,18 +81,7 @@ starts j here total left ranges valued =
     ∙ ap (λ (rs : List ℕ). record tracker_start { ranges = rs; valued = j.valued }) ranges
     ∙ ap (λ (n : ℕ). record tracker_start { valued = n }) valued
 
--- ---- many lines
-
 -- ---- the last line of a section
-
-pub group_end_steps : (j : TaskJudge) (i : TaskLine) → j.place ≡ at.GroupFacts → j.more ≡ 0 → step (tracker_of j) i ≡ tracker_of (record j { place = at.Groups })
-group_end_steps j i here all = steps_with_more j i _ at.GroupFacts here 0 all refl
-
-pub cost_steps : (j : TaskJudge) (i : TaskLine) → j.place ≡ at.Effects → j.more ≡ 0 → step (tracker_of j) i ≡ tracker_of (record j { place = at.OperatorEnd })
-cost_steps j i here all = steps_with_more j i _ at.Effects here 0 all refl
-
-pub head_steps : (j : TaskJudge) (i : TaskLine) → j.place ≡ at.RuleConditions → j.more ≡ 0 → step (tracker_of j) i ≡ tracker_of (record j { place = at.RuleEnd })
-head_steps j i here all = steps_with_more j i _ at.RuleConditions here 0 all refl
 
 pub variable_end_steps : (j : TaskJudge) (i : TaskLine) (ranges : List ℕ) → j.place ≡ at.VariableValues → j.more ≡ 0 → ranges ≡ j.ranges ++ j.range ∷ [] → step (tracker_of j) i ≡ tracker_of (record j { place = at.Variables; ranges = ranges })
 variable_end_steps j i ranges here all are =

@@ -1,5 +1,5 @@
 -- One line of a task moves the judge.
-use Rattle.sas_task_judge.proofs.Imports.{IsTrue, ◌≡◌, ◌≢◌, ℕ, zero, suc, ◌+◌, ◌<◌, ◌≤◌, ◌-◌, Bool, nat_lt, length, List, [], ◌∷◌, ◌++◌, refl, sym, ap, subst, ◌∙◌, arith, codes, Result, Ok, Err, take, drop, take_at, length-append, stands_first, plain, Option, Some, None, result_err, none-some, Kind, IsOfBytes, IsAllowed, OneLine, IsRejected, Rejects, read, process_node, TaskLine, effect, TaskSlot, number_slot, task_line_bytes, task_format, TaskJudge, state_values, state_values_of, goal_begin, process_at, state_of, tracker_of, KnownTo, LeadsOn, RejectsLine, StandsAsBefore, TakesMemory, JudgesLine, MovesBy, MovesAhead, TaskLineFits, Parts, Variable, range_of, Event, Said, SoFar, Place, step, Effect, LineStandsFirst, Change, plain_effect, LineAhead, change_in_ranges, effect_in_ranges, IsOfLine, TaskProcess, a_word, a_number, number_in, effect_in}
+use Rattle.sas_task_judge.proofs.Imports.{IsTrue, ◌≡◌, ◌≢◌, ℕ, zero, suc, ◌<◌, ◌≤◌, ◌-◌, Bool, nat_lt, length, List, [], ◌∷◌, ◌++◌, refl, sym, ap, subst, ◌∙◌, arith, codes, Result, Ok, Err, take, drop, take_at, length-append, Plain, plain, Option, Some, None, result_err, none-some, Kind, IsOfBytes, IsAllowed, OneLine, IsRejected, Rejects, read, process_node, TaskLine, effect, TaskSlot, number_slot, task_line_bytes, task_format, TaskJudge, state_values, state_values_of, goal_begin, process_at, state_of, tracker_of, KnownTo, LeadsOn, RejectsLine, StandsAsBefore, TakesMemory, JudgesLine, MovesBy, MovesAhead, TaskLineFits, Parts, Variable, range_of, Event, Said, SoFar, Place, step, Effect, Change, plain_effect, LineAhead, change_in_ranges, effect_in_ranges, IsOfLine, TaskProcess, a_word, a_number, number_in, effect_in}
 use Rattle.sas_reader.specs.declared.fault.Kind.TheVariants as kinds
 use Rattle.sas_task_format.specs.declared.places.Place.TheVariants as at
 use Rattle.sas_task_judge.proofs.TaskRanges.{many_same}
@@ -92,17 +92,12 @@ module _ (j k : TaskJudge) (bytes rest : List ℕ) (event : Event) where
     moves = by (task_line_bytes i) (record { slot = refl; fits = ahead.fits; good = good }, refl);
   }
 
-  -- at least LF was taken
-  pub some_taken : MovesAhead j bytes k event rest → length rest < length bytes
-  some_taken h = omega (arith, ap length h.before, length-append h.line (10 ∷ rest))
-
   -- the line is the bytes before the last byte that was taken
-  pub taken_line : (n : ℕ) → n ≡ length bytes - length rest → MovesAhead j bytes k event rest → LineStandsFirst bytes (take (n - 1) bytes) n × JudgesLine j (take (n - 1) bytes) k (Ok event)
-  taken_line n taken h =
-      let long : length h.line + 1 ≡ n = omega (arith, taken, ap length h.before, length-append h.line (10 ∷ rest)) in
-      let is : h.line ≡ take (n - 1) bytes = sym (ap (take (n - 1)) h.before ∙ take_at h.line (10 ∷ rest) (n - 1) (omega (arith, long))) in
-      let first : LineStandsFirst bytes h.line n = subst (LineStandsFirst bytes h.line) long (stands_first bytes h.line rest (plain h.line h.plain) h.before) in
-      (subst (λ (l : List ℕ). LineStandsFirst bytes l n) is first, subst (λ (l : List ℕ). JudgesLine j l k (Ok event)) is h.moves)
+  pub taken_line : MovesAhead j bytes k event rest → (let line : List ℕ = take (length bytes - length rest - 1) bytes in Plain line × (bytes ≡ line ++ 10 ∷ rest) × JudgesLine j line k (Ok event))
+  taken_line h =
+      let n = length bytes - length rest - 1 in
+      let is : h.line ≡ take n bytes = sym (ap (take n) h.before ∙ take_at h.line (10 ∷ rest) n (omega (arith, ap length h.before, length-append h.line (10 ∷ rest)))) in
+      subst (λ (l : List ℕ). Plain l × (bytes ≡ l ++ 10 ∷ rest) × JudgesLine j l k (Ok event)) is (plain h.line h.plain, h.before, h.moves)
 
   -- its effect was stored before the judge moved
   pub effect_moves_ahead : (said : Said) (change : Change) → said.effect ≡ plain_effect change → LineAhead (effect (plain_effect change)) bytes rest → IsTrue (change_in_ranges j.ranges change.var change.old change.new)

@@ -1,5 +1,5 @@
 -- What the judge of the lines of a task file represents: what may still follow the content so far.
-use Rattle.std.specs.Prelude.{◌≡◌, ◌≢◌, ◌⊎◌, ◌<◌, ℕ, ◌+◌, Bool, List, [], ◌∷◌, ◌++◌, length, Result, Ok, Err, codes}
+use Rattle.std.specs.Prelude.{◌≡◌, ◌≢◌, ◌⊎◌, ◌<◌, ℕ, ◌+◌, ◌-◌, Bool, List, [], ◌∷◌, ◌++◌, length, Result, Ok, Err, codes}
 use Rattle.sas_core.specs.declared.parts.Variable.{Variable}
 use Rattle.sas_reader.specs.declared.fault.Kind.{Kind}
 use Rattle.sas_reader.specs.declared.fault.Kind.TheVariants as kinds
@@ -15,8 +15,8 @@ use Rattle.sas_task_format.specs.Process.{process_node, ◌>>◌}
 use Rattle.sas_reader.specs.System.{OneLine, Rejects, IsAllowed, IsPlain}
 use Rattle.sas_task_format.specs.Tracker.{Tracker, step}
 use Rattle.sas_task_line.specs.TaskEvents.{after}
-use Rattle.sas_task_format.specs.TaskFormat.{TaskLine, task_slot, task_line_bytes, task_format, TaskLineFits}
-use Rattle.sas_task_format.specs.TaskProcess.{TaskProcess, TaskPart, a_word}
+use Rattle.sas_task_format.specs.TaskFormat.{TaskLine, fact, task_slot, task_line_bytes, task_format, TaskLineFits}
+use Rattle.sas_task_format.specs.TaskProcess.{TaskProcess, TaskPart, a_word, a_fact}
 use Rattle.sas_task_line.specs.TaskRanges.{ranges_of}
 use Rattle.sas_task_judge.specs.TaskPlaces.{version_begin, version_number, version_end, metric_begin, metric_number, metric_end, variable_count, variable_begin, variable_name, variable_layer, variable_range, variable_values, group_begin, group_size, group_facts, state_values, goal_begin, goal_size, goal_facts, operator_count, operator_begin, operator_name, operator_prevail_count, operator_prevail, operator_effects, rule_begin, rule_size, rule_conditions}
 
@@ -132,13 +132,19 @@ pub record KnownTo (s : SoFar) (j : TaskJudge) : Type 0 where
   pub range : j.place ≡ at.VariableValues → j.range ≡ length s.values + j.more
 
 -- A part is expected that yields an A, the value of a line. After the line, the judge is `next a`
--- and the content is `adds a s`. The tracker moves accordingly.
+-- and the content is `adds a s`, of which it knows what it needs. The tracker moves accordingly.
 abbrev pub Due : {A : Type 0} → TaskJudge → (List Variable → TaskPart A) → (A → TaskLine)
     → (A → TaskJudge) → (A → SoFar → SoFar)
     → Type 0
 Due {A} j part says next adds = (s : SoFar) → KnownTo s j
     → (state_of j s ≡ part s.parts.variables (λ a. state_of (next a) (adds a s)))
+    × ((a : A) → KnownTo (adds a s) (next a))
     × ((a : A) → step (tracker_of j) (says a) ≡ tracker_of (next a))
+
+-- a fact is expected that adds to the content what `event` says; one item less is then left
+abbrev pub FactDue : TaskJudge → Event → Type 0
+FactDue j event = (line : List ℕ) → Due j a_fact fact (λ _. record j { more = j.more - 1 })
+    (λ f s. after s event (record j.said { fact = f }) line)
 
 -- the line leads from the judge j with content s to the judge k with t; the tracker moves
 -- accordingly

@@ -70,6 +70,7 @@ impl Keeper for SoFar {
     ghost keeps = { λ lines s kept. kept ≡ s };
 
     fn keep(&mut self, line: &[u8], event: Event, said: &mut Said) -> Result<(), Kind> {
-        self.add(line, event, said)
+        self.add(line, event, said)?;
+        Ok(())
     }
 }

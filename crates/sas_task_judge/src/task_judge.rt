@@ -1,9 +1,10 @@
 // Judges the lines of a task file, one after another: whether each line is allowed at its place, and what it adds.
-ghost use Rattle.std.specs.Prelude.{◌≡◌, ◌≢◌, ◌<◌, ◌≤◌, ◌-◌, ◌^◌, ◌↔◌, length, nat_lt, IsTrue, [], ◌∷◌, ◌++◌};
+ghost use Rattle.std.specs.Prelude.{◌≡◌, ◌<◌, ◌≤◌, ◌-◌, ◌^◌, ◌↔◌, length, nat_lt, IsTrue, []};
 ghost use Rattle.sas_task_format.specs.TaskFormat as format;
-ghost use Rattle.sas_task_format.specs.TaskProcess.{a_word, a_number, a_fact, any, number_in, fact_in, effect_in, head_in};
+ghost use Rattle.sas_task_format.specs.TaskProcess.{a_word, a_name, a_number, any, number_in, fact_in, effect_in, head_in};
+ghost use Rattle.sas_task_line.specs.TaskEvents.{after};
 ghost use Rattle.sas_task_line.specs.TaskRanges.{range_in, fact_in_ranges, effect_in_ranges, head_in_ranges};
-ghost use Rattle.sas_task_judge.specs.TaskJudge.{Due, JudgesLine, MovesBy, HasEnded, IsBehindGroups};
+ghost use Rattle.sas_task_judge.specs.TaskJudge.{Due, FactDue, JudgesLine, MovesBy, HasEnded, IsBehindGroups};
 
 mod ahead;
 mod marks;
@@ -69,8 +70,7 @@ impl TaskJudge {
 
     /// Accepts a fixed word.
     fn word(&mut self, line: &[u8], word: &[u8], next: Place) -> Result<Event, Kind>
-        requires apart { next ≢ Place.VariableValues }
-        requires due { Due self.old (λ _. a_word word.now) (λ _. format.word word.now)
+        requires { Due self.old (λ _. a_word word.now) (λ _. format.word word.now)
             (λ _. record self.old { place = next }) (λ _ s. s) }
         ensures { JudgesLine self.old line.now self.new result }
     {
@@ -81,7 +81,6 @@ impl TaskJudge {
 
     /// Accepts the first word of a variable, a group, an operator or a rule.
     fn begin(&mut self, line: &[u8], word: &[u8], next: Place) -> Result<Event, Kind>
-        requires apart { next ≢ Place.VariableValues }
         requires left { 0 < self.old.left }
         requires due { Due self.old (λ _. a_word word.now) (λ _. format.word word.now)
             (λ _. record self.old { left = self.old.left - 1; place = next }) (λ _ s. s) }
@@ -95,8 +94,7 @@ impl TaskJudge {
 
     /// Accepts the number of groups, operators or rules.
     fn count(&mut self, line: &[u8], next: Place) -> Result<Event, Kind>
-        requires apart { next ≢ Place.VariableValues }
-        requires due { Due self.old (λ _. a_number any) format.number
+        requires { Due self.old (λ _. a_number any) format.number
             (λ n. record self.old { total = n; left = n; place = next }) (λ _ s. s) }
         ensures { JudgesLine self.old line.now self.new result }
     {
@@ -137,12 +135,14 @@ impl TaskJudge {
         Ok(Event::Nothing)
     }
 
-    fn variable_name(&mut self, line: &[u8]) -> Result<Event, Kind>
-        requires place { self.old.place ≡ Place.VariableName }
+    /// Accepts the name of a variable or an operator.
+    fn name(&mut self, line: &[u8], next: Place) -> Result<Event, Kind>
+        requires { Due self.old (λ _. a_name) format.name
+            (λ _. record self.old { place = next }) (λ n s. record s { name = n }) }
         ensures { JudgesLine self.old line.now self.new result }
     {
         name_at(line)?;
-        self.place = Place::VariableLayer;
+        self.place = next;
         Ok(Event::Name)
     }
 
@@ -190,45 +190,38 @@ impl TaskJudge {
         Ok(Event::Variable)
     }
 
-    /// Accepts the number of the facts or conditions that follow.
-    fn fact_count(&mut self, line: &[u8], next: Place) -> Result<Event, Kind>
-        requires apart { next ≢ Place.VariableValues }
-        requires due { Due self.old (λ _. a_number any) format.number
-            (λ n. record self.old { more = n; place = next }) (λ _ s. record s { facts = [] }) }
+    /// Accepts the number of the facts, conditions or effects that follow.
+    fn list_size(&mut self, line: &[u8], next: Place, event: Event) -> Result<Event, Kind>
+        requires { Due self.old (λ _. a_number any) format.number
+            (λ n. record self.old { more = n; place = next })
+            (λ _ s. after s event self.old.said line.now) }
         ensures { JudgesLine self.old line.now self.new result }
     {
         self.more = number_at(line)?;
         self.place = next;
-        Ok(Event::Facts)
+        Ok(event)
     }
 
-    /// Moves past a fact of a group, a prevail condition, or a condition of a rule.
-    fn took_fact(&mut self, fact: Fact) -> Event
-        requires apart { self.old.place ≢ Place.VariableValues }
+    /// Moves past a fact of a group or of the goal, a prevail condition, or a condition of a rule.
+    fn took_fact(&mut self, fact: Fact, event: Event) -> Event
         requires more { 0 < self.old.more }
-        requires due { Due self.old a_fact format.fact
-            (λ _. record self.old { more = self.old.more - 1 })
-            (λ f s. record s { facts = s.facts ++ f ∷ [] }) }
+        requires due { FactDue self.old event }
         ensures { MovesBy self.old (λ i. fact_in_ranges self.old.ranges (fact_in i))
-            (format.fact fact)
-            self.new result }
+            (format.fact fact) self.new result }
     {
         self.said.fact = fact;
         self.more -= 1;
-        Event::Fact
+        event
     }
 
-    /// Accepts a fact of a group, a prevail condition, or a condition of a rule.
-    fn fact(&mut self, line: &[u8]) -> Result<Event, Kind>
-        requires apart { self.old.place ≢ Place.VariableValues }
+    /// Accepts a fact of a group or of the goal, a prevail condition, or a condition of a rule.
+    fn fact(&mut self, line: &[u8], event: Event) -> Result<Event, Kind>
         requires more { 0 < self.old.more }
-        requires due { Due self.old a_fact format.fact
-            (λ _. record self.old { more = self.old.more - 1 })
-            (λ f s. record s { facts = s.facts ++ f ∷ [] }) }
+        requires due { FactDue self.old event }
         ensures { JudgesLine self.old line.now self.new result }
     {
         let fact = fact_at(&self.ranges, line)?;
-        Ok(self.took_fact(fact))
+        Ok(self.took_fact(fact, event))
     }
 
     /// Accepts the last word of a group.
@@ -275,68 +268,6 @@ impl TaskJudge {
     {
         let value = number_below(line, self.next_range())?;
         Ok(self.took_state_value(value))
-    }
-
-    /// Accepts the last word of the initial state.
-    fn state_end(&mut self, line: &[u8]) -> Result<Event, Kind>
-        requires place { self.old.place ≡ Place.StateValues }
-        requires all { length self.old.ranges ≤ self.old.valued }
-        ensures { JudgesLine self.old line.now self.new result }
-    {
-        word_at(line, b"end_state")?;
-        self.place = Place::GoalBegin;
-        Ok(Event::Nothing)
-    }
-
-    /// Accepts the number of goal facts.
-    fn goal_size(&mut self, line: &[u8]) -> Result<Event, Kind>
-        requires place { self.old.place ≡ Place.GoalSize }
-        ensures { JudgesLine self.old line.now self.new result }
-    {
-        self.more = number_at(line)?;
-        self.place = Place::GoalFacts;
-        Ok(Event::Nothing)
-    }
-
-    fn goal_fact(&mut self, line: &[u8]) -> Result<Event, Kind>
-        requires place { self.old.place ≡ Place.GoalFacts }
-        requires more { 0 < self.old.more }
-        ensures { JudgesLine self.old line.now self.new result }
-    {
-        self.said.fact = fact_at(&self.ranges, line)?;
-        self.more -= 1;
-        Ok(Event::Goal)
-    }
-
-    /// Accepts the last word of the goal.
-    fn goal_end(&mut self, line: &[u8]) -> Result<Event, Kind>
-        requires place { self.old.place ≡ Place.GoalFacts }
-        requires all { self.old.more ≡ 0 }
-        ensures { JudgesLine self.old line.now self.new result }
-    {
-        word_at(line, b"end_goal")?;
-        self.place = Place::OperatorCount;
-        Ok(Event::Nothing)
-    }
-
-    fn operator_name(&mut self, line: &[u8]) -> Result<Event, Kind>
-        requires place { self.old.place ≡ Place.OperatorName }
-        ensures { JudgesLine self.old line.now self.new result }
-    {
-        name_at(line)?;
-        self.place = Place::PrevailCount;
-        Ok(Event::Name)
-    }
-
-    /// Accepts the number of an operator's effects.
-    fn effect_count(&mut self, line: &[u8]) -> Result<Event, Kind>
-        requires place { self.old.place ≡ Place.Prevail }
-        requires all { self.old.more ≡ 0 }
-        ensures { JudgesLine self.old line.now self.new result }
-    {
-        self.more = number_at(line)?;
-        self.place = Place::Effects;
-        Ok(Event::Effects)
     }
 
     /// Moves past the effect that is stored in `said`.
@@ -396,16 +327,16 @@ impl TaskJudge {
             Place::VariableCount => self.variable_count(line),
             Place::Variables if self.left == 0 => self.count(line, Place::Groups),
             Place::Variables => self.begin(line, b"begin_variable", Place::VariableName),
-            Place::VariableName => self.variable_name(line),
+            Place::VariableName => self.name(line, Place::VariableLayer),
             Place::VariableLayer => self.variable_layer(line),
             Place::VariableRange => self.variable_range(line),
             Place::VariableValues if self.more == 0 => self.variable_end(line),
             Place::VariableValues => self.variable_value(line),
             Place::Groups if self.left == 0 => self.word(line, b"begin_state", Place::StateValues),
             Place::Groups => self.begin(line, b"begin_mutex_group", Place::GroupSize),
-            Place::GroupSize => self.fact_count(line, Place::GroupFacts),
+            Place::GroupSize => self.list_size(line, Place::GroupFacts, Event::Facts),
             Place::GroupFacts if self.more == 0 => self.group_end(line),
-            Place::GroupFacts => self.fact(line),
+            Place::GroupFacts => self.fact(line, Event::Fact),
             _ => self.take_behind_groups(line),
         }
     }
@@ -417,26 +348,38 @@ impl TaskJudge {
         ensures { JudgesLine self.old line.now self.new result }
     {
         match self.place {
-            Place::StateValues if self.has_state() => self.state_end(line),
+            Place::StateValues if self.has_state() => self.word(
+                line,
+                b"end_state",
+                Place::GoalBegin,
+            ),
             Place::StateValues => self.state_value(line),
             Place::GoalBegin => self.word(line, b"begin_goal", Place::GoalSize),
-            Place::GoalSize => self.goal_size(line),
-            Place::GoalFacts if self.more == 0 => self.goal_end(line),
-            Place::GoalFacts => self.goal_fact(line),
+            Place::GoalSize => self.list_size(line, Place::GoalFacts, Event::Nothing),
+            Place::GoalFacts if self.more == 0 => self.word(
+                line,
+                b"end_goal",
+                Place::OperatorCount,
+            ),
+            Place::GoalFacts => self.fact(line, Event::Goal),
             Place::OperatorCount => self.count(line, Place::Operators),
             Place::Operators if self.left == 0 => self.count(line, Place::Rules),
             Place::Operators => self.begin(line, b"begin_operator", Place::OperatorName),
-            Place::OperatorName => self.operator_name(line),
-            Place::PrevailCount => self.fact_count(line, Place::Prevail),
-            Place::Prevail if self.more == 0 => self.effect_count(line),
-            Place::Prevail => self.fact(line),
+            Place::OperatorName => self.name(line, Place::PrevailCount),
+            Place::PrevailCount => self.list_size(line, Place::Prevail, Event::Facts),
+            Place::Prevail if self.more == 0 => self.list_size(
+                line,
+                Place::Effects,
+                Event::Effects,
+            ),
+            Place::Prevail => self.fact(line, Event::Fact),
             Place::Effects if self.more == 0 => self.operator_cost(line),
             Place::Effects => self.effect(line),
             Place::OperatorEnd => self.word(line, b"end_operator", Place::Operators),
             Place::Rules => self.begin(line, b"begin_rule", Place::RuleSize),
-            Place::RuleSize => self.fact_count(line, Place::RuleConditions),
+            Place::RuleSize => self.list_size(line, Place::RuleConditions, Event::Facts),
             Place::RuleConditions if self.more == 0 => self.rule_head(line),
-            Place::RuleConditions => self.fact(line),
+            Place::RuleConditions => self.fact(line, Event::Fact),
             Place::RuleEnd => self.word(line, b"end_rule", Place::Rules),
             _ => unreachable!(),
         }

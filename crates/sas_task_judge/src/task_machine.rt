@@ -19,7 +19,7 @@ pub struct TaskMachine<K> {
 impl<K: Keeper> TaskMachine<K> {
     ghost use Rattle.std.specs.Prelude.{[]};
     ghost use Rattle.sas_reader.specs.Machine.{AcceptsAhead};
-    ghost use Rattle.sas_task_judge.specs.TaskJudge.{HasEnded, SectionDue};
+    ghost use Rattle.sas_task_judge.specs.TaskJudge.{SectionDue};
     ghost use Rattle.sas_task_judge.specs.TaskMachine.{LedBy, IsFresh, MachineStopped};
 
     /// Returns a machine that has accepted no line, with this keeper.
@@ -42,21 +42,6 @@ impl<K: Keeper> TaskMachine<K> {
         kept
     }
 
-    /// Stores the wrong word of a line that was refused for a number. Returns the kind of its fault, or `Memory` if out of memory.
-    fn find_wrong_word(&mut self, line: &[u8]) -> Kind
-        ensures kind { result ≢ Kind.Memory → result ≡ Kind.Value }
-        ensures stopped { result ≢ Kind.Memory
-            → MachineStopped self.old line.now Kind.Value self.new }
-    {
-        match self.judge.wrong_word(line) {
-            Ok(word) => {
-                self.wrong = word;
-                Kind::Value
-            }
-            Err(_) => Kind::Memory,
-        }
-    }
-
     /// Stores the wrong word of a line that was refused, if any. Returns the kind of its fault, or `Memory` if out of memory.
     #[cold]
     fn refuse(&mut self, line: &[u8], kind: Kind) -> Kind
@@ -65,10 +50,13 @@ impl<K: Keeper> TaskMachine<K> {
         ensures some { kind ≡ Kind.Memory → result ≡ Kind.Memory }
     {
         self.wrong = None;
-        match kind {
-            Kind::Value => self.find_wrong_word(line),
-            other => other,
+        if kind == Kind::Value {
+            match self.judge.wrong_word(line) {
+                Ok(word) => self.wrong = word,
+                Err(_) => return Kind::Memory,
+            }
         }
+        kind
     }
 
     /// If a whole variable starts here, stores it and moves past it.
@@ -84,69 +72,41 @@ impl<K: Keeper> TaskMachine<K> {
         Ok(kept.front)
     }
 
-    /// If a whole mutex group starts here, stores it and moves past it.
-    fn group_ahead(&mut self, bytes: &[u8]) -> Result<Front, Kind>
-        requires { SectionDue self.old.judge Section.Group }
-        ensures { AcceptsAhead (LedBy K.keeps) self.old bytes.now self.new result }
-    {
-        let front = self.kept.keep_group(self.judge.ranges(), bytes)?;
-        if front.bytes > 0 {
-            self.judge.pass_section();
-        }
-        Ok(front)
-    }
-
-    /// If a whole operator starts here, stores it and moves past it.
-    fn operator_ahead(&mut self, bytes: &[u8]) -> Result<Front, Kind>
-        requires { SectionDue self.old.judge Section.Operator }
-        ensures { AcceptsAhead (LedBy K.keeps) self.old bytes.now self.new result }
-    {
-        let front = self.kept.keep_operator(self.judge.ranges(), bytes)?;
-        if front.bytes > 0 {
-            self.judge.pass_section();
-        }
-        Ok(front)
-    }
-
-    /// If a whole rule starts here, stores it and moves past it.
-    fn rule_ahead(&mut self, bytes: &[u8]) -> Result<Front, Kind>
-        requires { SectionDue self.old.judge Section.Rule }
-        ensures { AcceptsAhead (LedBy K.keeps) self.old bytes.now self.new result }
-    {
-        let front = self.kept.keep_rule(self.judge.ranges(), bytes)?;
-        if front.bytes > 0 {
-            self.judge.pass_section();
-        }
-        Ok(front)
-    }
-
     /// If a whole section starts here and the keeper stores it at once, moves past it. Otherwise returns `Front::EMPTY`.
     fn section_ahead(&mut self, bytes: &[u8]) -> Result<Front, Kind>
         ensures { AcceptsAhead (LedBy K.keeps) self.old bytes.now self.new result }
     {
-        match self.judge.section_due() {
-            Some(Section::Variable) => self.variable_ahead(bytes),
-            Some(Section::Group) => self.group_ahead(bytes),
-            Some(Section::Operator) => self.operator_ahead(bytes),
-            Some(Section::Rule) => self.rule_ahead(bytes),
-            None => Ok(Front::EMPTY),
-        }
-    }
-
-    /// Accepts the first line of the bytes if the judge accepts it ahead. Otherwise returns `Front::EMPTY`.
-    fn line_ahead(&mut self, bytes: &[u8]) -> Result<Front, Kind>
-        requires { HasEnded self.old.judge → ⊥ }
-        ensures { AcceptsAhead (LedBy K.keeps) self.old bytes.now self.new result }
-    {
-        let Some((event, rest)) = self.judge.take_ahead(bytes) else {
+        let Some(section) = self.judge.section_due() else {
             return Ok(Front::EMPTY);
         };
-        let taken = bytes.len() - rest.len();
-        self.kept
-            .keep(&bytes[..taken - 1], event, &mut self.judge.said)?;
+        let ranges = self.judge.ranges();
+        let front = match section {
+            Section::Variable => return self.variable_ahead(bytes),
+            Section::Group => self.kept.keep_group(ranges, bytes)?,
+            Section::Operator => self.kept.keep_operator(ranges, bytes)?,
+            Section::Rule => self.kept.keep_rule(ranges, bytes)?,
+        };
+        if front.bytes > 0 {
+            self.judge.pass_section();
+        }
+        Ok(front)
+    }
+
+    /// Accepts the first lines of the bytes that the judge accepts ahead, one after another.
+    fn lines_ahead(&mut self, bytes: &[u8]) -> Result<Front, Kind>
+        ensures { AcceptsAhead (LedBy K.keeps) self.old bytes.now self.new result }
+    {
+        let mut lines = 0;
+        let mut rest = bytes;
+        while let Some((event, behind)) = self.judge.take_ahead(rest) {
+            let line = &rest[..rest.len() - behind.len() - 1];
+            self.kept.keep(line, event, &mut self.judge.said)?;
+            lines += 1;
+            rest = behind;
+        }
         Ok(Front {
-            lines: 1,
-            bytes: taken,
+            lines,
+            bytes: bytes.len() - rest.len(),
         })
     }
 }
@@ -179,6 +139,6 @@ impl<K: Keeper> Machine for TaskMachine<K> {
         if section.bytes > 0 {
             return Ok(section);
         }
-        self.line_ahead(bytes)
+        self.lines_ahead(bytes)
     }
 }

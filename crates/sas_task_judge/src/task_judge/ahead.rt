@@ -1,9 +1,7 @@
 // Accepts the first line of some bytes directly, if it is one of many alike: a value's name, a fact, a value of the initial state or an
 // effect. A list of these may be too long to be read at once. All other lines, and all faults, are left to `take`.
-ghost use Rattle.std.specs.Prelude.{◌≡◌, ◌≢◌, ◌<◌, ◌-◌, ◌^◌, length, [], ◌∷◌, ◌++◌, IfSome, IfNone};
-ghost use Rattle.sas_task_format.specs.TaskFormat as format;
-ghost use Rattle.sas_task_format.specs.TaskProcess.{a_fact};
-ghost use Rattle.sas_task_judge.specs.TaskJudge.{Due, MovesAhead, HasEnded};
+ghost use Rattle.std.specs.Prelude.{◌≡◌, ◌<◌, ◌^◌, length, IfSome, IfNone};
+ghost use Rattle.sas_task_judge.specs.TaskJudge.{FactDue, MovesAhead};
 
 use super::TaskJudge;
 use sas_task_format::Place;
@@ -13,6 +11,7 @@ use sas_task_line::{
 
 impl TaskJudge {
     /// Accepts the name of a value.
+    #[inline(always)]
     fn variable_value_ahead<'a>(&mut self, bytes: &'a [u8]) -> Option<(Event, &'a [u8])>
         requires place { self.old.place ≡ Place.VariableValues }
         requires more { 0 < self.old.more }
@@ -24,13 +23,11 @@ impl TaskJudge {
         Some((Event::Value, rest))
     }
 
-    /// Accepts a fact of a group, a prevail condition, or a condition of a rule.
-    fn fact_ahead<'a>(&mut self, bytes: &'a [u8]) -> Option<(Event, &'a [u8])>
-        requires apart { self.old.place ≢ Place.VariableValues }
+    /// Accepts a fact of a group or of the goal, a prevail condition, or a condition of a rule.
+    #[inline(always)]
+    fn fact_ahead<'a>(&mut self, bytes: &'a [u8], event: Event) -> Option<(Event, &'a [u8])>
         requires more { 0 < self.old.more }
-        requires due { Due self.old a_fact format.fact
-            (λ _. record self.old { more = self.old.more - 1 })
-            (λ f s. record s { facts = s.facts ++ f ∷ [] }) }
+        requires due { FactDue self.old event }
         ensures some { IfSome result (λ a. MovesAhead self.old bytes.now self.new a.0 a.1.now) }
         ensures none { IfNone result (self.new ≡ self.old) }
     {
@@ -38,10 +35,11 @@ impl TaskJudge {
         if !value_in(&self.ranges, fact.var, fact.value) {
             return None;
         }
-        Some((self.took_fact(fact), rest))
+        Some((self.took_fact(fact, event), rest))
     }
 
     /// Accepts the value of the next variable.
+    #[inline(always)]
     fn state_value_ahead<'a>(&mut self, bytes: &'a [u8]) -> Option<(Event, &'a [u8])>
         requires place { self.old.place ≡ Place.StateValues }
         requires more { self.old.valued < length self.old.ranges }
@@ -57,6 +55,7 @@ impl TaskJudge {
     }
 
     /// Accepts an effect without conditions.
+    #[inline(always)]
     fn effect_ahead<'a>(&mut self, bytes: &'a [u8]) -> Option<(Event, &'a [u8])>
         requires place { self.old.place ≡ Place.Effects }
         requires more { 0 < self.old.more }
@@ -73,18 +72,19 @@ impl TaskJudge {
 
     /// Accepts the first line of the bytes, which ends with LF, if it is one of many alike and is allowed here. Returns what it adds, and
     /// the bytes after it. Otherwise returns `None` and changes nothing; then `take` has to judge the line.
+    #[inline(always)]
     pub fn take_ahead<'a>(&mut self, bytes: &'a [u8]) -> Option<(Event, &'a [u8])>
-        requires { HasEnded self.old → ⊥ }
         ensures some { IfSome result (λ a. MovesAhead self.old bytes.now self.new a.0 a.1.now) }
         ensures none { IfNone result (self.new ≡ self.old) }
     {
         match self.place {
             Place::VariableValues if self.more > 0 => self.variable_value_ahead(bytes),
-            Place::GroupFacts if self.more > 0 => self.fact_ahead(bytes),
+            Place::GroupFacts if self.more > 0 => self.fact_ahead(bytes, Event::Fact),
             Place::StateValues if !self.has_state() => self.state_value_ahead(bytes),
-            Place::Prevail if self.more > 0 => self.fact_ahead(bytes),
+            Place::GoalFacts if self.more > 0 => self.fact_ahead(bytes, Event::Goal),
+            Place::Prevail if self.more > 0 => self.fact_ahead(bytes, Event::Fact),
             Place::Effects if self.more > 0 => self.effect_ahead(bytes),
-            Place::RuleConditions if self.more > 0 => self.fact_ahead(bytes),
+            Place::RuleConditions if self.more > 0 => self.fact_ahead(bytes, Event::Fact),
             _ => None,
         }
     }

@@ -54,51 +54,33 @@ impl TaskJudge {
         ensures { LocationIs self.now result }
     {
         match self.place {
-            Place::VersionBegin => Location::Version,
-            Place::VersionNumber => Location::Version,
-            Place::VersionEnd => Location::Version,
-            Place::MetricBegin => Location::Metric,
-            Place::MetricNumber => Location::Metric,
-            Place::MetricEnd => Location::Metric,
+            Place::VersionBegin | Place::VersionNumber | Place::VersionEnd => Location::Version,
+            Place::MetricBegin | Place::MetricNumber | Place::MetricEnd => Location::Metric,
             Place::VariableCount => Location::Variables,
             Place::Variables if self.left == 0 => Location::Groups,
             Place::Variables => Location::Variable(self.next_number()),
-            Place::VariableName => Location::Variable(self.this_number()),
-            Place::VariableLayer => Location::Variable(self.this_number()),
-            Place::VariableRange => Location::Variable(self.this_number()),
-            Place::VariableValues => Location::Variable(self.this_number()),
+            Place::VariableName
+            | Place::VariableLayer
+            | Place::VariableRange
+            | Place::VariableValues => Location::Variable(self.this_number()),
             Place::Groups if self.left == 0 => Location::State,
             Place::Groups => Location::Group(self.next_number()),
-            Place::GroupSize => Location::Group(self.this_number()),
-            Place::GroupFacts => Location::Group(self.this_number()),
-            _ => self.location_behind_groups(),
-        }
-    }
-
-    /// Returns the location of the next line after the mutex groups.
-    fn location_behind_groups(&self) -> Location
-        requires { IsBehindGroups self.now.place }
-        ensures { LocationIs self.now result }
-    {
-        match self.place {
+            Place::GroupSize | Place::GroupFacts => Location::Group(self.this_number()),
             Place::StateValues => Location::State,
-            Place::GoalBegin => Location::Goal,
-            Place::GoalSize => Location::Goal,
-            Place::GoalFacts => Location::Goal,
+            Place::GoalBegin | Place::GoalSize | Place::GoalFacts => Location::Goal,
             Place::OperatorCount => Location::Operators,
             Place::Operators if self.left == 0 => Location::Rules,
             Place::Operators => Location::Operator(self.next_number()),
-            Place::OperatorName => Location::Operator(self.this_number()),
-            Place::PrevailCount => Location::Operator(self.this_number()),
-            Place::Prevail => Location::Operator(self.this_number()),
-            Place::Effects => Location::Operator(self.this_number()),
-            Place::OperatorEnd => Location::Operator(self.this_number()),
+            Place::OperatorName
+            | Place::PrevailCount
+            | Place::Prevail
+            | Place::Effects
+            | Place::OperatorEnd => Location::Operator(self.this_number()),
             Place::Rules if self.left == 0 => Location::End,
             Place::Rules => Location::Rule(self.next_number()),
-            Place::RuleSize => Location::Rule(self.this_number()),
-            Place::RuleConditions => Location::Rule(self.this_number()),
-            Place::RuleEnd => Location::Rule(self.this_number()),
-            _ => unreachable!(),
+            Place::RuleSize | Place::RuleConditions | Place::RuleEnd => {
+                Location::Rule(self.this_number())
+            }
         }
     }
 
