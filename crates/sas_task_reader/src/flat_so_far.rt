@@ -280,13 +280,10 @@ impl FlatSoFar {
                     range: found.range,
                 })
             }
-            Ok(None) => {
+            missed => {
                 self.variables.cut();
+                missed?;
                 Ok(NO_VARIABLE)
-            }
-            Err(error) => {
-                self.variables.cut();
-                Err(error)
             }
         }
     }
@@ -305,13 +302,10 @@ impl FlatSoFar {
                 self.begun.facts.clear();
                 Ok(front)
             }
-            Ok(None) => {
+            missed => {
                 self.groups.cut();
+                missed?;
                 Ok(Front::EMPTY)
-            }
-            Err(error) => {
-                self.groups.cut();
-                Err(error)
             }
         }
     }
@@ -341,13 +335,10 @@ impl FlatSoFar {
                 self.begun.effects.clear();
                 Ok(found.front)
             }
-            Ok(None) => {
+            missed => {
                 self.operators.cut();
+                missed?;
                 Ok(Front::EMPTY)
-            }
-            Err(error) => {
-                self.operators.cut();
-                Err(error)
             }
         }
     }
@@ -368,13 +359,10 @@ impl FlatSoFar {
                 self.begun.facts.clear();
                 Ok(found.front)
             }
-            Ok(None) => {
+            missed => {
                 self.conditions.cut();
+                missed?;
                 Ok(Front::EMPTY)
-            }
-            Err(error) => {
-                self.conditions.cut();
-                Err(error)
             }
         }
     }

@@ -1,7 +1,7 @@
 use Rattle.sas_task_reader.proofs.Imports.{refl, ap, ◌∙◌, the_view, lists_begun, one_list_more}
 use Rattle.sas_task_judge.specs.Sections.{behind_group}
 use Rattle.sas_task_line.specs.declared.so_far.SoFar.{SoFar}
-use Rattle.sas_task_reader.proofs.StoredParts.{same_groups, one_group_more}
+use Rattle.sas_task_reader.proofs.StoredParts.{with_groups, one_group_more}
 use Rattle.sas_task_reader.proofs.flat_so_far.FlatSoFar.group_ahead.Goals as goal
 
 pub returns-in_ok-close-in-Ok-Some-clause-took : goal.returns-in_ok-close-in-Ok-Some-clause-took
@@ -15,8 +15,8 @@ returns-in_ok-close-in-Ok-Some-clause-took c = λ some.
           ∙ ap (λ (s : SoFar). behind_group s facts) c.self.view_is,
     )
 
-pub returns-in-Ok-None-clause-none : goal.returns-in-Ok-None-clause-none
-returns-in-Ok-None-clause-none c = λ none.
+pub returns-in_ok-missed-in_default-clause-none : goal.returns-in_ok-missed-in_default-clause-none
+returns-in_ok-missed-in_default-clause-none c = λ none.
     let old = c.self.inside.groups in
-    let begun = lists_begun old (record old { items = c.group_found.new.facts }) refl c.self.invariant.1 c.in-Ok-None.ensures.kept in
-    same_groups (the_view c.self.inside) _ (c.cut.ensures.is ∙ begun.is) ∙ c.self.view_is
+    let begun = lists_begun old (record old { items = c.group_found.new.facts }) refl c.self.invariant.1 c.group_found.ensures.kept in
+    ap (with_groups (the_view c.self.inside)) (c.cut.ensures.is ∙ begun.is) ∙ c.self.view_is

@@ -1,11 +1,11 @@
 use Rattle.sas_task_reader.proofs.Imports.{[], ◌∷◌, ◌++◌, length, refl, sym, ap, ◌∙◌, the_view, lists_in, rule, rules_from, lists_begun, one_list_more}
 use Rattle.sas_task_judge.specs.Sections.{behind_rule}
 use Rattle.sas_task_line.specs.declared.so_far.SoFar.{SoFar}
-use Rattle.sas_task_reader.proofs.StoredParts.{same_rules, another_rule, rules_grown, pairs_grown}
+use Rattle.sas_task_reader.proofs.StoredParts.{with_rules, another_rule, rules_grown, pairs_grown}
 use Rattle.sas_task_reader.proofs.flat_so_far.FlatSoFar.rule_ahead.Goals as goal
 
-pub invariant_of-self-in-Ok-Some : goal.invariant_of-self-in-Ok-Some
-invariant_of-self-in-Ok-Some c =
+pub invariant_of-self-in-Some-1 : goal.invariant_of-self-in-Some-1
+invariant_of-self-in-Some-1 c =
     let old = c.self.inside.conditions in
     let head = c.in-Ok-Some.found.head in
     let i = c.self.invariant in
@@ -21,19 +21,19 @@ invariant_of-self-in_err-close-in-Ok-Some c =
     let begun = lists_begun old (record old { items = c.rule_found.new.conditions }) refl i.3 c.in-Ok-Some.ensures.kept in
     (i.0, i.1, i.2, c.in_err-close-in-Ok-Some.ensures.align, ap length (c.in_err-close-in-Ok-Some.ensures.err ∙ begun.is) ∙ i.4 ∙ sym (ap length c.in_ok-reserve.ensures.items))
 
-pub invariant_of-self-in-Ok-None : goal.invariant_of-self-in-Ok-None
-invariant_of-self-in-Ok-None c =
+pub invariant_of-self-in_err-missed-in_default : goal.invariant_of-self-in_err-missed-in_default
+invariant_of-self-in_err-missed-in_default c =
     let old = c.self.inside.conditions in
     let i = c.self.invariant in
-    let begun = lists_begun old (record old { items = c.rule_found.new.conditions }) refl i.3 c.in-Ok-None.ensures.kept in
+    let begun = lists_begun old (record old { items = c.rule_found.new.conditions }) refl i.3 c.rule_found.ensures.kept in
     (i.0, i.1, i.2, c.cut.ensures.align, ap length (c.cut.ensures.is ∙ begun.is) ∙ i.4 ∙ sym (ap length c.in_ok-reserve.ensures.items))
 
-pub invariant_of-self-in-Err : goal.invariant_of-self-in-Err
-invariant_of-self-in-Err c =
+pub invariant_of-self-in_default : goal.invariant_of-self-in_default
+invariant_of-self-in_default c =
     let old = c.self.inside.conditions in
     let i = c.self.invariant in
-    let begun = lists_begun old (record old { items = c.rule_found.new.conditions }) refl i.3 c.in-Err.ensures.kept in
-    (i.0, i.1, i.2, c.cut-in-Err.ensures.align, ap length (c.cut-in-Err.ensures.is ∙ begun.is) ∙ i.4 ∙ sym (ap length c.in_ok-reserve.ensures.items))
+    let begun = lists_begun old (record old { items = c.rule_found.new.conditions }) refl i.3 c.rule_found.ensures.kept in
+    (i.0, i.1, i.2, c.cut.ensures.align, ap length (c.cut.ensures.is ∙ begun.is) ∙ i.4 ∙ sym (ap length c.in_ok-reserve.ensures.items))
 
 pub returns-in_ok-push-in-Ok-Some-clause-took : goal.returns-in_ok-push-in-Ok-Some-clause-took
 returns-in_ok-push-in-Ok-Some-clause-took c = λ some.
@@ -48,9 +48,8 @@ returns-in_ok-push-in-Ok-Some-clause-took c = λ some.
           ∙ ap (λ (s : SoFar). behind_rule s (rule head facts)) c.self.view_is,
     )
 
-pub returns-in-Ok-None-clause-none : goal.returns-in-Ok-None-clause-none
-returns-in-Ok-None-clause-none c = λ none.
+pub returns-in_ok-missed-in_default-clause-none : goal.returns-in_ok-missed-in_default-clause-none
+returns-in_ok-missed-in_default-clause-none c = λ none.
     let old = c.self.inside.conditions in
-    let begun = lists_begun old (record old { items = c.rule_found.new.conditions }) refl c.self.invariant.3 c.in-Ok-None.ensures.kept in
-    same_rules (the_view c.self.inside) _
-    (ap (λ l. rules_from l (lists_in c.cut.new.self)) c.in_ok-reserve.ensures.items ∙ ap (λ l. rules_from c.self.inside.heads.items l) (c.cut.ensures.is ∙ begun.is)) ∙ c.self.view_is
+    let begun = lists_begun old (record old { items = c.rule_found.new.conditions }) refl c.self.invariant.3 c.rule_found.ensures.kept in
+    ap (with_rules (the_view c.self.inside)) (ap (λ l. rules_from l (lists_in c.cut.new.self)) c.in_ok-reserve.ensures.items ∙ ap (rules_from c.self.inside.heads.items) (c.cut.ensures.is ∙ begun.is)) ∙ c.self.view_is
