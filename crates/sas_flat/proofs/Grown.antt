@@ -1,46 +1,19 @@
 -- Columns to which an item was appended, or only a part of one.
-use Rattle.sas_flat.proofs.Imports.{◌≡◌, ℕ, ◌+◌, ◌<◌, Option, List, [], ◌∷◌, ◌++◌, length, take, map, refl, sym, ap, ◌∙◌, arith, length-append, slice_index, length-map, map-append, get_or-append, Change, Fact, Effect, Operator, Head, table, start_of, list_at, lists_of, items_after, AreEnds, AreOpen, ListColumns, lists_in, ListColumnsAlign, effect, effects_of, rule, rule_of, rules_of, rules_from, Kept, Hold, OperatorColumns, operator, name_ends, prevail_ends, effect_ends, costs, operators_in, end_head, next_operator, OperatorColumnsAlign, VariableColumns, variable, variables_in, variables_from, VariableColumnsAlign}
+use Rattle.sas_flat.proofs.Imports.{◌≡◌, ℕ, ◌+◌, ◌<◌, Option, List, [], ◌∷◌, ◌++◌, length, take, map, refl, sym, ap, ◌∙◌, arith, length-append, slice_index, length-map, map-append, get_or-append, Change, Fact, Effect, Operator, Head, table, start_of, list_at, lists_of, items_after, AreEnds, AreOpen, effect, effects_of, rule, rule_of, rules_of, rules_from, Kept, Hold, OperatorColumns, operator, name_ends, prevail_ends, effect_ends, costs, operators_in, end_head, next_operator, OperatorColumnsAlign, VariableColumns, variable, variables_in, variables_from, VariableColumnsAlign}
 use Rattle.sas_flat.proofs.Tables.{length-table, table_none, table_same, table_more}
 use Rattle.sas_flat.proofs.EffectRows.{effects_more}
-use Rattle.sas_flat.proofs.Blocks.{no_list, list_first, list_last, ends_done, list_done, lists_done, ends_closed, lists_closed, ends_opened, list_opened, lists_opened, after_opened}
+use Rattle.sas_flat.proofs.Blocks.{no_ends, list_first, list_last, ends_done, list_done, lists_done, ends_closed, lists_closed, ends_opened, list_opened, lists_opened, after_opened}
 use Rattle.sas_flat.proofs.Rows.{no_variable, last_item, rows_more}
-
-no_ends : AreEnds [] 0
-no_ends = record { ascending = λ i h. omega (arith, h); within = λ i h. omega (arith, h); closed = refl }
-
--- ---- lists
-
-pub no_lists : {X : Type 0} (c : ListColumns X) → c.items.items ≡ [] → c.ends ≡ [] → Hold (ListColumnsAlign AreEnds) lists_in c []
-no_lists c items ends = record { align = rw (items, ends) no_ends; is = no_list _ _ ends }
-
-module _ {X : Type 0} (old new : ListColumns X) (ends : new.ends ≡ old.ends) where
-  -- items came after those of the last list
-  pub lists_begun : ListColumnsAlign AreEnds old → Kept old.items.items new.items.items → Hold (ListColumnsAlign AreOpen) lists_in new (lists_in old)
-  lists_begun align items = record {
-    align = rw ends (ends_opened _ _ _ align items);
-    is = ap (λ e. lists_of new.items.items e) ends ∙ lists_opened _ _ _ align items;
-  }
-
-  -- a list with them is appended
-  pub one_list_more : (align : ListColumnsAlign AreEnds old) (items : Kept old.items.items new.items.items)
-      → lists_in new ++ items_after new.items.items new.ends ∷ [] ≡ lists_in old ++ items.more ∷ []
-  one_list_more align items =
-      ap (λ l. l ++ items_after new.items.items new.ends ∷ []) (lists_begun align items).is
-      ∙ ap (λ l. lists_in old ++ l ∷ []) (ap (λ e. items_after new.items.items e) ends ∙ after_opened _ _ _ align items)
-
-  -- they are removed
-  pub lists_cut : ListColumnsAlign AreOpen old → new.items.items ≡ take (start_of old.ends (length old.ends)) old.items.items
-      → Hold (ListColumnsAlign AreEnds) lists_in new (lists_in old)
-  lists_cut align items = record {
-    align = rw (ends, items) (ends_done _ _ align);
-    is = ap (λ e. lists_of new.items.items e) ends ∙ ap (λ l. lists_of l old.ends) items ∙ lists_done _ _ align;
-  }
 
 -- ---- rules
 
-pub one_rule_more : (cs : List Change) (ds : List (List Fact)) (c : Change) (d : List Fact) → length ds ≡ length cs
-    → rules_from (cs ++ c ∷ []) (ds ++ d ∷ []) ≡ rules_from cs ds ++ rule c d ∷ []
-one_rule_more cs ds c d pairs = ap rules_of (effects_more cs ds c d pairs) ∙ map-append rule_of (effects_of cs ds) (effect c d ∷ [])
+module _ (changes longer : List Change) (lists more : List (List Fact)) (c : Change) (facts : List Fact) (pairs : length lists ≡ length changes)
+    (one_change : longer ≡ changes ++ c ∷ []) (one_list : more ≡ lists ++ facts ∷ []) where
+  pub rules_more : rules_from longer more ≡ rules_from changes lists ++ rule c facts ∷ []
+  rules_more = rw (one_change, one_list) (ap rules_of (effects_more changes lists c facts pairs) ∙ map-append rule_of (effects_of changes lists) (effect c facts ∷ []))
+
+  pub pairs_more : length more ≡ length longer
+  pairs_more = omega (arith, pairs, ap length one_change, ap length one_list, length-append changes (c ∷ []), length-append lists (facts ∷ []))
 
 -- ---- variables
 

@@ -178,7 +178,7 @@ impl<T: Copy> Lists<T> {
         match self.columns.ends.push_shifted(&more.columns.ends, start) {
             Ok(()) => Ok(()),
             Err(error) => {
-                self.columns.items.truncate(start);
+                self.columns.cut();
                 Err(error)
             }
         }

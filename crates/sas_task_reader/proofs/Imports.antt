@@ -1,5 +1,5 @@
 -- What the proofs use of other crates, and of the definitions of this one.
-pub use Rattle.std.proofs.Common.{◌≡◌, ◌-◌, ◌^◌, ℕ, List, [], ◌∷◌, length, refl, ap, ◌∙◌, arith, min, length-append, ◌≢◌, Option, None, sym, subst, ◌≤◌, Ok, Err, ◌++◌}
+pub use Rattle.std.proofs.Common.{◌≡◌, ◌-◌, ◌^◌, ℕ, List, [], ◌∷◌, length, refl, ap, ◌∙◌, arith, min, ◌≢◌, Option, None, sym, subst, ◌≤◌, Ok, Err, ◌++◌}
 pub use Rattle.std.proofs.Math.Logic.{∥∥₁_elim, ∥∥₁_map}
 pub use Rattle.std.proofs.Props.{props}
 pub use Rattle.std.proofs.lemmas.Result.{on_ok_weaker, IfOk-weaker}
@@ -8,7 +8,8 @@ pub use Rattle.sas_core.specs.Numbers.{IsNumber}
 pub use Rattle.sas_core.specs.WellRanged.{WellRanged}
 pub use Rattle.sas_core.specs.declared.parts.Parts.{Parts}
 pub use Rattle.sas_core.specs.declared.parts.Variable.{Variable}
-pub use Rattle.sas_flat.proofs.Grown.{lists_begun, one_list_more, one_rule_more, operators_opened, operators_more, variables_opened, variables_more}
+pub use Rattle.sas_flat.proofs.Blocks.{lists_opened, one_list_more}
+pub use Rattle.sas_flat.proofs.Grown.{rules_more, pairs_more, operators_opened, operators_more, variables_opened, variables_more}
 pub use Rattle.sas_flat.proofs.Tables.{table_none}
 pub use Rattle.sas_flat.specs.Lists.{lists_in}
 pub use Rattle.sas_flat.specs.Operators.{operator}

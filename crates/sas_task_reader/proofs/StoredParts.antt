@@ -1,5 +1,5 @@
 -- What a task read so far contains where only its variables, groups, operators or rules changed.
-use Rattle.sas_task_reader.proofs.Imports.{◌≡◌, ℕ, List, Option, Variable, [], ◌∷◌, ◌++◌, length, ap, ◌∙◌, arith, length-append, rule, rules_of, rules_from, table_none, one_rule_more, SoFar}
+use Rattle.sas_task_reader.proofs.Imports.{◌≡◌, ℕ, List, Option, Variable, [], ◌∷◌, ◌++◌, length, ap, ◌∙◌, rules_of, rules_from, table_none, SoFar}
 use Rattle.sas_core.specs.declared.grounded.Change.{Change}
 use Rattle.sas_core.specs.declared.parts.Effect.{Effect}
 use Rattle.sas_core.specs.declared.parts.Fact.{Fact}
@@ -55,12 +55,3 @@ another_rule s r begun rs none is =
 
 pub no_rules : (changes : List Change) (lists : List (List Fact)) → changes ≡ [] → rules_from changes lists ≡ []
 no_rules changes lists none = ap (λ (l : List Effect). rules_of l) (table_none (length changes) _ (ap length none))
-
--- a change and a list of conditions more
-module _ (changes longer : List Change) (lists more : List (List Fact)) (c : Change) (facts : List Fact) (pairs : length lists ≡ length changes)
-    (has_change : longer ≡ changes ++ c ∷ []) (has_list : more ≡ lists ++ facts ∷ []) where
-  pub rules_grown : rules_from longer more ≡ rules_from changes lists ++ rule c facts ∷ []
-  rules_grown = ap (λ (l : List Change). rules_from l more) has_change ∙ ap (λ (l : List (List Fact)). rules_from (changes ++ c ∷ []) l) has_list ∙ one_rule_more changes lists c facts pairs
-
-  pub pairs_grown : length more ≡ length longer
-  pairs_grown = omega (arith, pairs, ap length has_change, ap length has_list, length-append changes (c ∷ []), length-append lists (facts ∷ []))

@@ -1,6 +1,5 @@
 use Rattle.sas_flat.proofs.Imports.{◌++◌, ap, ◌∙◌, lists_of}
-use Rattle.sas_flat.proofs.Blocks.{lists_append, ends_append}
-use Rattle.sas_flat.proofs.Kept.{cut_back, same_lists}
+use Rattle.sas_flat.proofs.Blocks.{lists_append, ends_append, ends_opened, lists_opened}
 use Rattle.sas_flat.proofs.lists.Lists.append.Goals as goal
 
 pub invariant_of-self-in-Ok : goal.invariant_of-self-in-Ok
@@ -15,7 +14,12 @@ returns-in-Ok-clause-ok g c =
     ∙ ap (λ l. l ++ lists_of c.more.inside.columns.items.items c.more.inside.columns.ends) c.self.view_is
     ∙ ap (λ l. c.args.self.now ++ l) c.more.view_is)
 
+pub cut-requires : goal.cut-requires
+cut-requires g c = rw c.in-Err.ensures.err (ends_opened _ _ _ c.self.invariant (record { more = c.more.inside.columns.items.items; is = rw c.as_slice.ensures.value at c.in_ok-extend_from_slice.ensures.items }))
+
 pub returns-in-Err-clause-err : goal.returns-in-Err-clause-err
 returns-in-Err-clause-err g c =
-    same_lists c.self.inside.columns.items.items c.truncate.new.self.items c.self.inside.columns.ends c.push_shifted.new.self (cut_back _ c.self.inside.columns.items.items _ _ _ (c.len-start.ensures ∙ c.self.inside.columns.items.ok.0) c.in_ok-extend_from_slice.ensures.items c.truncate.ensures.items) c.in-Err.ensures.err
+    c.cut.ensures.is
+    ∙ ap (λ e. lists_of c.extend_from_slice.new.self.items e) c.in-Err.ensures.err
+    ∙ lists_opened _ _ _ c.self.invariant (record { more = c.more.inside.columns.items.items; is = rw c.as_slice.ensures.value at c.in_ok-extend_from_slice.ensures.items })
     ∙ c.self.view_is
