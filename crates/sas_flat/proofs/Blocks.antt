@@ -32,6 +32,9 @@ list_same items more ends behind are k h =
     ∙ range_same items more (start_of ends k) (slice_index ends k) (are.ascending k h) (are.within k h)
 
 -- no list
+pub no_ends : AreEnds [] 0
+no_ends = record { ascending = λ i h. omega (arith, h); within = λ i h. omega (arith, h); closed = refl }
+
 pub no_list : {X : Type 0} (items : List X) (ends : List ℕ) → ends ≡ [] → lists_of items ends ≡ []
 unfolding table
 no_list items ends none = ap (λ l. lists_of items l) none
@@ -269,6 +272,9 @@ module _ {X : Type 0} (old new : List X) (ends : List ℕ) (are : AreEnds ends (
 
   pub after_opened : items_after new ends ≡ kept.more
   after_opened = ap (λ n. drop n new) are.closed ∙ ap (drop (length old)) kept.is ∙ drop-append_seam old kept.more
+
+  pub one_list_more : lists_of new ends ++ items_after new ends ∷ [] ≡ lists_of old ends ++ kept.more ∷ []
+  one_list_more = ap (λ l. l ++ items_after new ends ∷ []) lists_opened ∙ ap (λ l. lists_of old ends ++ l ∷ []) after_opened
 
 -- ---- a list and its items
 

@@ -11,6 +11,7 @@ pub use Rattle.std.proofs.lemmas.List.Elements.{All-nil, All-cons, All-append, A
 pub use Rattle.std.proofs.lemmas.List.Kept.{IsNonDecreasingBy-filter}
 pub use Rattle.std.proofs.lemmas.List.Sums.{sum_by_more, sum_by_more_le}
 pub use Rattle.std.proofs.lemmas.Option.{slice_get-get_or, slice_get_past}
+pub use Rattle.std.proofs.lemmas.Result.{on_ok_weaker, on_err_weaker}
 pub use Rattle.std.specs.List.{All, Contains, filter}
 pub use Rattle.std.specs.List.Sorted.{IsNonDecreasing, IsNonDecreasingBy}
 pub use Rattle.std.specs.Option.{option_map_or}
@@ -24,10 +25,12 @@ pub use Rattle.sas_core.specs.declared.parts.Variable.{Variable}
 pub use Rattle.sas_flat.specs.ByKey.{by_key, AreCounts, ArePlaced}
 pub use Rattle.sas_flat.specs.Effects.{effect, change_in_list, effects_of, effect_in_list}
 pub use Rattle.sas_flat.specs.Growing.{Kept, Hold}
-pub use Rattle.sas_flat.specs.Lists.{start_of, list_at, lists_of, items_after, AreEnds, AreOpen}
+pub use Rattle.sas_flat.specs.Lists.{start_of, list_at, lists_of, lists_in, items_after, AreEnds, AreOpen, ListColumnsAlign}
 pub use Rattle.sas_flat.specs.Operators.{operator, name_ends, prevail_ends, effect_ends, costs, operators_in, operator_in, end_head, next_operator, OperatorColumnsAlign}
+pub use Rattle.sas_flat.specs.Rules.{rule, rule_of, rules_of, rules_from}
 pub use Rattle.sas_flat.specs.Variables.{variables_in, variables_from, variable, VariableColumnsAlign}
 pub use Rattle.sas_flat.specs.declared.by_key.Entry.{Entry}
+pub use Rattle.sas_flat.specs.declared.lists.ListColumns.{ListColumns}
 pub use Rattle.sas_flat.specs.declared.operators.Head.{Head}
 pub use Rattle.sas_flat.specs.declared.operators.OperatorColumns.{OperatorColumns}
 pub use Rattle.sas_flat.specs.declared.variables.VariableColumns.{VariableColumns}

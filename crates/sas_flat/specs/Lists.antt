@@ -1,5 +1,6 @@
 -- Lists that are stored one after another, each given by its end.
 use Rattle.std.specs.Prelude.{◌≡◌, ℕ, zero, suc, ◌<◌, ◌≤◌, List, length, drop, slice_index, slice_range}
+use Rattle.sas_flat.specs.declared.lists.ListColumns.{ListColumns}
 use Rattle.sas_flat.specs.Table.{table}
 
 -- a list starts at the end of the previous list
@@ -27,3 +28,11 @@ pub record AreOpen (ends : List ℕ) (count : ℕ) : Type 0 where
 -- the items after the last list
 abbrev pub items_after : {X : Type 0} → List X → List ℕ → List X
 items_after items ends = drop (start_of ends (length ends)) items
+
+-- the lists in these columns
+abbrev pub lists_in : {X : Type 0} → ListColumns X → List (List X)
+lists_in c = lists_of c.items.items c.ends
+
+-- the column of ends has the ends of lists in the column of items
+abbrev pub ListColumnsAlign : {X : Type 0} → (List ℕ → ℕ → Type 0) → ListColumns X → Type 0
+ListColumnsAlign Ends c = Ends c.ends (length c.items.items)

@@ -1,7 +1,7 @@
 // The columns of a flat task.
+use crate::effects::Effects;
 use crate::lists::Lists;
 use crate::operators::Operators;
-use crate::rules::Rules;
 use crate::variables::Variables;
 use sas_core::{Fact, Items};
 
@@ -14,5 +14,6 @@ pub struct TaskColumns {
     pub init: Items<u32>,
     pub goal: Items<Fact>,
     pub operators: Operators,
-    pub rules: Rules,
+    /// The rules, as effects with the same conditions and changes.
+    pub rules: Effects,
 }

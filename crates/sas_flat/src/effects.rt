@@ -3,7 +3,7 @@ ghost use Rattle.std.specs.Prelude.{◌≡◌, ◌<◌, ◌≤◌, [], ◌∷◌
 ghost use Rattle.sas_core.specs.Grounded as grounded;
 ghost use Rattle.sas_core.specs.Changes as changes;
 ghost use Rattle.sas_core.specs.Changes.{plain_effects};
-ghost use Rattle.sas_flat.specs.Effects.{effect, effect_in_list};
+ghost use Rattle.sas_flat.specs.Effects.{effect, effects_of, effect_in_list};
 
 use crate::lists::Lists;
 use sas_core::{Change, Fact};
@@ -50,6 +50,17 @@ impl Effects {
         Effects {
             changes: Vec::new(alloc),
             conditions: Lists::new(alloc),
+        }
+    }
+
+    /// Returns the effects with these changes and conditions. Allocates no memory.
+    pub fn of_parts(changes: Vec<Change>, conditions: Lists<Fact>) -> Self
+        requires { length conditions ≤ length changes.items }
+        ensures { result ≡ effects_of changes.items conditions }
+    {
+        Effects {
+            changes,
+            conditions,
         }
     }
 

@@ -49,8 +49,7 @@ pub use Rattle.sas_task_format.specs.declared.marks.WrongWord.{WrongWord}
 pub use Rattle.sas_task_line.specs.Ahead.{LineAhead, NumberAhead, SignedAhead, FactAhead, ChangeAhead, EffectAhead}
 pub use Rattle.sas_task_line.specs.FirstWrong.{HasWrong, FirstWrong}
 pub use Rattle.sas_task_line.specs.LinesBefore.{LinesBefore, CountedBefore, AppendedBefore, EffectsBefore, FactsBefore, NamesBefore}
-pub use Rattle.sas_task_line.specs.Sections.{spelled, LinesAhead, VariableAhead, GroupAhead, OperatorAhead, RuleAhead, gathered_rule}
+pub use Rattle.sas_task_line.specs.Sections.{spelled, LinesAhead, VariableAhead, GroupAhead, OperatorAhead, RuleAhead}
 pub use Rattle.sas_task_line.specs.TaskLine.{IsOfLine}
 pub use Rattle.sas_task_line.specs.TaskRanges.{fact_in_ranges, effect_in_ranges, change_in_ranges, ranges_of, range_in}
 pub use Rattle.sas_task_line.specs.TaskWords.{Spells, TakesNumber, TakesFact, TakesFacts, TakesHead}
-pub use Rattle.sas_task_line.specs.declared.sections.Gathered.{Gathered}

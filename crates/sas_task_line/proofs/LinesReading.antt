@@ -1,6 +1,7 @@
 -- Reading several lines, each up to its LF.
-use Rattle.sas_task_line.proofs.Imports.{◌≡◌, ℕ, ◌+◌, ◌-◌, ◌<◌, Bool, ◌&&◌, List, [], ◌∷◌, ◌++◌, length, take, Option, refl, sym, ap, subst, ◌∙◌, append-nil, append_assoc, length-append, arith, IsTrue, codes, flat_map, list_all, AllByRecursion, and_parts, flat_map-append, map-append, take_at, length-map, list_all-append, Fact, is_name, IsName, Change, Effect, text, LinesStandFirst, lines_stand_first, Plain, Gathered, LineAhead, NumberAhead, LinesBefore, CountedBefore, AppendedBefore, spelled, LinesAhead, VariableAhead, GroupAhead, OperatorAhead, RuleAhead, gathered_rule, fact_in_ranges, effect_in_ranges, change_in_ranges, Front, plain, IsPlain, TaskLine, word, name, number, signed, fact, effect, head, line, task_line_bytes, TaskLineFits, variable_lines, group_lines, operator_lines, rule_lines}
+use Rattle.sas_task_line.proofs.Imports.{◌≡◌, ℕ, ◌+◌, ◌-◌, ◌<◌, Bool, ◌&&◌, List, [], ◌∷◌, ◌++◌, length, take, Option, refl, sym, ap, subst, ◌∙◌, append-nil, append_assoc, length-append, arith, IsTrue, codes, flat_map, list_all, AllByRecursion, and_parts, flat_map-append, map-append, take_at, length-map, list_all-append, Fact, is_name, IsName, Change, Effect, text, LinesStandFirst, lines_stand_first, Plain, LineAhead, NumberAhead, LinesBefore, CountedBefore, AppendedBefore, spelled, LinesAhead, VariableAhead, GroupAhead, OperatorAhead, RuleAhead, fact_in_ranges, effect_in_ranges, change_in_ranges, Front, plain, IsPlain, TaskLine, word, name, number, signed, fact, effect, head, line, task_line_bytes, TaskLineFits, variable_lines, group_lines, operator_lines, rule_lines}
 use Rattle.sas_flat.specs.Operators as flat
+use Rattle.sas_flat.specs.Rules as flat_rules
 use Rattle.sas_flat.specs.Variables as flat_variables
 use Rattle.sas_task_line.proofs.AheadReading.{number_is_ahead}
 
@@ -54,13 +55,18 @@ module _ {A : Type 0} (says : A → TaskLine) (may_stand : A → Bool) where
   pub none_appended : (count : ℕ) (old : List A) {bytes rest : List ℕ} → NumberAhead bytes count 10 rest → AppendedBefore says may_stand count 0 old old bytes rest
   none_appended count old h = record { items = []; are = sym (append-nil old); many = refl; lines = none_yet count h }
 
+  -- one more was appended
+  pub one_more_appended : {count done : ℕ} {old new end : List A} (x : A) {bytes more rest : List ℕ} → AppendedBefore says may_stand count done old new bytes more → end ≡ new ++ x ∷ [] → LineAhead (says x) more rest → IsTrue (may_stand x) → AppendedBefore says may_stand count (done + 1) old end bytes rest
+  one_more_appended {old = old} x h is ahead may = record {
+    items = h.items ++ x ∷ [];
+    are = is ∙ ap (λ l. l ++ x ∷ []) h.are ∙ append_assoc old h.items (x ∷ []);
+    many = omega (arith, h.many, length-append h.items (x ∷ []));
+    lines = one_more h.items x h.lines ahead may;
+  }
+
   -- all were appended
   pub all_appended : {count : ℕ} {old new : List A} {bytes rest : List ℕ} (h : AppendedBefore says may_stand count count old new bytes rest) → CountedBefore says may_stand (length h.items) h.items bytes rest
   all_appended h = rw h.many h.lines
-
-  -- all were appended to an empty list
-  pub appended_alone : {count : ℕ} (old new : List A) {bytes rest : List ℕ} → old ≡ [] → AppendedBefore says may_stand count count old new bytes rest → CountedBefore says may_stand (length new) new bytes rest
-  appended_alone old new none h = rw (h.are ∙ ap (λ l. l ++ h.items) none) (all_appended h)
 
 -- ---- from the first byte on
 
@@ -134,11 +140,11 @@ module _ (ranges label : List ℕ) (cost : ℕ) (prevail : List Fact) (effects :
 abbrev last_lines : Change → List TaskLine
 last_lines c = head c.var c.old c.new ∷ word (codes "end_rule") ∷ []
 
-pub rule_is_ahead : (ranges : List ℕ) (c : Change) (g : Gathered) (front : Front) {bytes facts_on head_on rest : List ℕ} → LineAhead (word (codes "begin_rule")) bytes facts_on → CountedBefore fact (fact_in_ranges ranges) (length g.facts.items) g.facts.items facts_on head_on → IsTrue (change_in_ranges ranges c.var c.old c.new) × LinesBefore (last_lines c) head_on rest → front.bytes ≡ length bytes - length rest → front.lines ≡ 4 + length g.facts.items → RuleAhead ranges bytes (gathered_rule c g) front
-rule_is_ahead ranges c g front {bytes = bytes} {rest = rest} begins facts ends taken many =
-    let fact_lines : List TaskLine = number (length g.facts.items) ∷ flat_map (line fact) g.facts.items in
-    let items = rule_lines (gathered_rule c g) in
-    let all = lines_then (lines_then (one_line begins) facts.lines) ends.1 in
+pub rule_is_ahead : (ranges : List ℕ) (c : Change) (facts : List Fact) (front : Front) {bytes facts_on head_on rest : List ℕ} → LineAhead (word (codes "begin_rule")) bytes facts_on → CountedBefore fact (fact_in_ranges ranges) (length facts) facts facts_on head_on → IsTrue (change_in_ranges ranges c.var c.old c.new) × LinesBefore (last_lines c) head_on rest → front.bytes ≡ length bytes - length rest → front.lines ≡ 4 + length facts → RuleAhead ranges bytes (flat_rules.rule c facts) front
+rule_is_ahead ranges c facts front {bytes = bytes} {rest = rest} begins before ends taken many =
+    let fact_lines : List TaskLine = number (length facts) ∷ flat_map (line fact) facts in
+    let items = rule_lines (flat_rules.rule c facts) in
+    let all = lines_then (lines_then (one_line begins) before.lines) ends.1 in
     let same : word (codes "begin_rule") ∷ (fact_lines ++ last_lines c) ≡ items = ap (λ l. word (codes "begin_rule") ∷ l) (sym (append_assoc fact_lines (head c.var c.old c.new ∷ []) (word (codes "end_rule") ∷ []))) in
-    let long : length items ≡ 4 + length g.facts.items = omega (arith, ap length same, length-append fact_lines (last_lines c), one_each fact g.facts.items) in
-    (record { conditions = facts.stand; change = ends.0 }, lines_are_ahead items bytes rest front (subst (λ l. LinesBefore l bytes rest) same all) taken (many ∙ sym long))
+    let long : length items ≡ 4 + length facts = omega (arith, ap length same, length-append fact_lines (last_lines c), one_each fact facts) in
+    (record { conditions = before.stand; change = ends.0 }, lines_are_ahead items bytes rest front (subst (λ l. LinesBefore l bytes rest) same all) taken (many ∙ sym long))

@@ -6,12 +6,10 @@ use Rattle.sas_core.specs.declared.parts.Variable.{Variable}
 use Rattle.sas_core.specs.declared.parts.Operator.{Operator}
 use Rattle.sas_core.specs.declared.parts.Rule.{Rule}
 use Rattle.sas_core.specs.Names.{IsName}
-use Rattle.sas_core.specs.declared.grounded.Change.{Change}
 use Rattle.sas_lines.specs.Lines.{text}
 use Rattle.sas_reader.specs.declared.reader.Front.{Front}
 use Rattle.sas_reader.specs.Machine.{IsFront}
 use Rattle.sas_task_format.specs.TaskFormat.{TaskLine, task_line_bytes, TaskLineFits, variable_lines, group_lines, operator_lines, rule_lines}
-use Rattle.sas_task_line.specs.declared.sections.Gathered.{Gathered}
 use Rattle.sas_task_line.specs.TaskRanges.{fact_in_ranges, effect_in_ranges, change_in_ranges}
 
 -- the bytes of each line
@@ -59,8 +57,3 @@ OperatorAhead ranges bytes o front = OperatorInRanges ranges o
 -- the bytes begin with the rule, and its facts exist
 abbrev pub RuleAhead : List ℕ → List ℕ → Rule → Front → Type 0
 RuleAhead ranges bytes r front = RuleInRanges ranges r × LinesAhead (rule_lines r) bytes front
-
--- the rule with this head, and with the gathered facts
-abbrev pub gathered_rule : Change → Gathered → Rule
-gathered_rule head g =
-    record { conditions = g.facts.items; var = head.var; old = head.old; new = head.new }

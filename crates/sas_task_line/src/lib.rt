@@ -10,7 +10,7 @@ mod variables_and_groups;
 mod wrong_word;
 
 pub use ahead::{effect_before, fact_before, name_before, number_line_before};
-pub use sections::{Gathered, OperatorFound, RuleFound, operator_found, rule_found};
+pub use sections::{OperatorFound, RuleFound, operator_found, rule_found};
 pub use so_far::SoFar;
 pub use task_events::{Event, Said};
 pub use task_line::{

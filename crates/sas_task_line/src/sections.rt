@@ -7,11 +7,12 @@ ghost use Rattle.sas_core.specs.Names.{IsName};
 ghost use Rattle.sas_flat.specs.Effects.{effect};
 ghost use Rattle.sas_flat.specs.Growing.{Kept};
 ghost use Rattle.sas_flat.specs.Operators.{operator};
+ghost use Rattle.sas_flat.specs.Rules.{rule};
 ghost use Rattle.sas_task_format.specs.TaskFormat as format;
 ghost use Rattle.sas_task_line.specs.Ahead.{EffectAhead};
 ghost use Rattle.sas_task_line.specs.LinesBefore.{LinesBefore, FactsBefore, EffectsBefore};
 ghost use Rattle.sas_task_line.specs.TaskRanges.{change_in_ranges};
-ghost use Rattle.sas_task_line.specs.Sections.{OperatorAhead, RuleAhead, gathered_rule};
+ghost use Rattle.sas_task_line.specs.Sections.{OperatorAhead, RuleAhead};
 
 use crate::ahead::{
     change_before, effect_before, fact_before, fact_with_end, name_before, number_before,
@@ -19,38 +20,13 @@ use crate::ahead::{
 };
 use crate::task_line::{change_in, value_in};
 use sas_core::{Change, Fact, Items};
-use sas_flat::{Effects, Lists};
+use sas_flat::Effects;
 use sas_reader::Front;
-use std::alloc::{AllocError, Global};
+use std::alloc::AllocError;
 
 /// The most facts that are read at once. Longer lists are often cut by the end of a piece, and the facts before the cut would then be read
 /// twice. So they are read line by line.
 const MOST_FACTS: u32 = 1024;
-
-/// The lists of the section that was read last. Their memory is reused for the next section.
-#[derive(Drop)]
-pub struct Gathered {
-    /// The names of a variable's values.
-    pub values: Lists<u8>,
-    /// The facts of a mutex group, the prevail conditions of an operator, or the conditions of a rule.
-    pub facts: Vec<Fact>,
-    /// The effects of an operator.
-    pub effects: Effects,
-    /// The conditions of an effect.
-    pub conditions: Vec<Fact>,
-}
-
-impl Gathered {
-    /// Returns empty lists. It takes no memory.
-    pub fn new(alloc: Global) -> Self {
-        Gathered {
-            values: Lists::new(alloc),
-            facts: Vec::new(alloc),
-            effects: Effects::new(alloc),
-            conditions: Vec::new(alloc),
-        }
-    }
-}
 
 /// An operator at the beginning of some bytes: its name and cost, and its extent.
 #[derive(Drop)]
@@ -60,7 +36,7 @@ pub struct OperatorFound<'a> {
     pub front: Front,
 }
 
-/// A rule at the beginning of some bytes: its head and its extent. Its conditions are in a `Gathered`.
+/// A rule at the beginning of some bytes: its head and its extent.
 #[derive(Clone, Copy, Debug, PartialEq, Eq)]
 pub struct RuleFound {
     pub head: Change,
@@ -264,30 +240,31 @@ fn head_before<'a>(ranges: &Items<u32>, bytes: &'a [u8]) -> Option<(Change, &'a 
     Some((head, rest))
 }
 
-/// Reads a whole rule at the beginning of the bytes. Its conditions are stored in `gathered`. Returns `None` if a fact doesn't exist or the
-/// lines have another form; then the rule has to be read line by line. Returns `Err` if out of memory. After `None` or `Err` the content of
-/// `gathered` is unspecified.
+/// Reads a whole rule at the beginning of the bytes, and appends its conditions to `conditions`. Returns `None` if a fact doesn't exist or
+/// the lines have another form; then the rule has to be read line by line. Returns `Err` if out of memory. After `None` or `Err` some
+/// conditions may have been appended.
 #[inline(always)]
 pub fn rule_found(
     ranges: &Items<u32>,
     bytes: &[u8],
-    gathered: &mut Gathered,
+    conditions: &mut Vec<Fact>,
 ) -> Result<Option<RuleFound>, AllocError>
-    ensures { IfOk result (λ found. IfSome found (λ r.
-        RuleAhead ranges.now bytes.now (gathered_rule r.head gathered.new) r.front)) }
+    ensures found { IfOk result (λ found. IfSome found (λ f. (c : List Fact)
+        × (conditions.new.items ≡ conditions.old.items ++ c)
+        × RuleAhead ranges.now bytes.now (rule f.head c) f.front)) }
+    ensures kept { Kept conditions.old.items conditions.new.items }
 {
     let Some(rest) = word_before(bytes, b"begin_rule") else {
         return Ok(None);
     };
-    gathered.facts.clear();
-    let Some((_, rest)) = facts_before(ranges, rest, &mut gathered.facts)? else {
+    let Some((count, rest)) = facts_before(ranges, rest, conditions)? else {
         return Ok(None);
     };
     let Some((head, rest)) = head_before(ranges, rest) else {
         return Ok(None);
     };
     let front = Front {
-        lines: 4 + gathered.facts.len() as u64,
+        lines: 4 + count as u64,
         bytes: bytes.len() - rest.len(),
     };
     Ok(Some(RuleFound { head, front }))

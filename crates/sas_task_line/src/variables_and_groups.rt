@@ -1,5 +1,6 @@
 // Parses a whole variable or mutex group at the beginning of some bytes.
 ghost use Rattle.std.specs.Prelude.{◌≡◌, ◌<◌, ℕ, List, [], ◌∷◌, ◌++◌, length, codes, IfOk, IfSome};
+ghost use Rattle.sas_core.specs.declared.parts.Fact.{Fact};
 ghost use Rattle.sas_core.specs.Names.{IsName};
 ghost use Rattle.sas_flat.specs.Growing.{Kept};
 ghost use Rattle.sas_flat.specs.Variables.{variable};
@@ -8,8 +9,8 @@ ghost use Rattle.sas_task_line.specs.LinesBefore.{LinesBefore, NamesBefore};
 ghost use Rattle.sas_task_line.specs.Sections.{VariableAhead, GroupAhead};
 
 use crate::ahead::{name_before, number_before, signed_before, word_before};
-use crate::sections::{Gathered, facts_before};
-use sas_core::Items;
+use crate::sections::facts_before;
+use sas_core::{Fact, Items};
 use sas_flat::Lists;
 use sas_reader::Front;
 use std::alloc::AllocError;
@@ -97,30 +98,31 @@ pub fn variable_found<'a>(
     }))
 }
 
-/// Reads a whole mutex group at the beginning of the bytes. Returns the number of its lines and bytes. Its facts are stored in `gathered`.
+/// Reads a whole mutex group at the beginning of the bytes, and appends its facts to `facts`. Returns the number of its lines and bytes.
 /// Returns `None` if a fact doesn't exist or the lines have another form; then the group has to be read line by line. Returns `Err` if out
-/// of memory. After `None` or `Err` the content of `gathered` is unspecified.
+/// of memory. After `None` or `Err` some facts may have been appended.
 #[inline(always)]
 pub fn group_found(
     ranges: &Items<u32>,
     bytes: &[u8],
-    gathered: &mut Gathered,
+    facts: &mut Vec<Fact>,
 ) -> Result<Option<Front>, AllocError>
-    ensures { IfOk result (λ found. IfSome found (λ front.
-        GroupAhead ranges.now bytes.now gathered.new.facts.items front)) }
+    ensures found { IfOk result (λ found. IfSome found (λ front. (g : List Fact)
+        × (facts.new.items ≡ facts.old.items ++ g)
+        × GroupAhead ranges.now bytes.now g front)) }
+    ensures kept { Kept facts.old.items facts.new.items }
 {
     let Some(rest) = word_before(bytes, b"begin_mutex_group") else {
         return Ok(None);
     };
-    gathered.facts.clear();
-    let Some((_, rest)) = facts_before(ranges, rest, &mut gathered.facts)? else {
+    let Some((count, rest)) = facts_before(ranges, rest, facts)? else {
         return Ok(None);
     };
     let Some(rest) = word_before(rest, b"end_mutex_group") else {
         return Ok(None);
     };
     let front = Front {
-        lines: 3 + gathered.facts.len() as u64,
+        lines: 3 + count as u64,
         bytes: bytes.len() - rest.len(),
     };
     Ok(Some(front))

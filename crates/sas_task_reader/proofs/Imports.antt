@@ -6,16 +6,16 @@ pub use Rattle.std.proofs.lemmas.Result.{on_ok_weaker, IfOk-weaker}
 pub use Rattle.sas_core.proofs.ChecksAreRules.{checks_are_the_rules}
 pub use Rattle.sas_core.specs.Numbers.{IsNumber}
 pub use Rattle.sas_core.specs.WellRanged.{WellRanged}
-pub use Rattle.sas_core.specs.declared.parts.Operator.{Operator}
 pub use Rattle.sas_core.specs.declared.parts.Parts.{Parts}
 pub use Rattle.sas_core.specs.declared.parts.Variable.{Variable}
-pub use Rattle.sas_flat.proofs.Grown.{operators_opened, operators_more, variables_opened, variables_more}
-pub use Rattle.sas_flat.proofs.Kept.{on_any_error}
-pub use Rattle.sas_flat.specs.Growing.{Hold}
-pub use Rattle.sas_flat.specs.Lists.{AreOpen}
-pub use Rattle.sas_flat.specs.Operators.{operator, operators_in, OperatorColumnsAlign}
+pub use Rattle.sas_flat.proofs.Blocks.{lists_opened, one_list_more}
+pub use Rattle.sas_flat.proofs.Grown.{rules_more, pairs_more, operators_opened, operators_more, variables_opened, variables_more}
+pub use Rattle.sas_flat.proofs.Tables.{table_none}
+pub use Rattle.sas_flat.specs.Lists.{lists_in}
+pub use Rattle.sas_flat.specs.Operators.{operator}
 pub use Rattle.sas_flat.specs.Outlines.{outline_of}
-pub use Rattle.sas_flat.specs.Variables.{variable, variables_in, VariableColumnsAlign}
+pub use Rattle.sas_flat.specs.Rules.{rule, rules_of, rules_from}
+pub use Rattle.sas_flat.specs.Variables.{variable}
 pub use Rattle.sas_lines.specs.Lines.{text}
 pub use Rattle.sas_reader.proofs.Conversion.{Follows, reads_of_format}
 pub use Rattle.sas_reader.proofs.Reading.{reads_all, refuses_all, feeds, end_fault}

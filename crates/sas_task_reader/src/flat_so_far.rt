@@ -1,14 +1,10 @@
 // Stores the content of a task file in a few blocks of memory while it is read.
-ghost use Rattle.std.specs.Prelude.{◌≡◌, ◌<◌, List, [], ◌∷◌, ◌++◌, length, OnOk, OnErr, IfOk, IfSome, IfNone};
+ghost use Rattle.std.specs.Prelude.{◌≡◌, ◌<◌, List, [], OnOk, IfOk};
 ghost use Rattle.sas_core.specs.declared.parts.Fact.{Fact};
 ghost use Rattle.sas_core.specs.declared.parts.Variable.{Variable};
 ghost use Rattle.sas_core.specs.declared.parts.Operator.{Operator};
 ghost use Rattle.sas_core.specs.declared.parts.Rule.{Rule};
 ghost use Rattle.sas_core.specs.WellRanged.{WellRanged};
-ghost use Rattle.sas_flat.specs.Growing.{Hold};
-ghost use Rattle.sas_flat.specs.Lists.{AreEnds, AreOpen};
-ghost use Rattle.sas_flat.specs.Operators.{operators_in, OperatorColumnsAlign};
-ghost use Rattle.sas_flat.specs.Variables.{variables_in, VariableColumnsAlign};
 ghost use Rattle.sas_task_line.specs.declared.task_events.Event.TheVariants as event;
 ghost use Rattle.sas_task_line.specs.declared.task_events.Said.{Said};
 ghost use Rattle.sas_task_line.specs.Sections.{VariableAhead, GroupAhead, OperatorAhead, RuleAhead};
@@ -19,14 +15,12 @@ ghost use Rattle.sas_task_reader.specs.TaskOutline.{outline_with};
 use crate::fronts::NO_VARIABLE;
 use sas_core::{Change, Fact, Items};
 use sas_flat::{
-    Effects, FlatTask, Lists, OperatorColumns, Operators, Outline, Rules, TaskColumns,
+    Effects, FlatTask, ListColumns, Lists, OperatorColumns, Operators, Outline, TaskColumns,
     VariableColumns, Variables,
 };
 use sas_reader::{Front, Kind};
 use sas_task_judge::{Keeper, VariableKept};
-use sas_task_line::{
-    Event, Gathered, Said, VariableFound, group_found, operator_found, rule_found, variable_found,
-};
+use sas_task_line::{Event, Said, group_found, operator_found, rule_found, variable_found};
 use std::alloc::{AllocError, Global};
 use std::marker::Model;
 
@@ -36,11 +30,13 @@ pub struct FlatSoFar {
     alloc: Global,
     metric: bool,
     variables: VariableColumns,
-    groups: Lists<Fact>,
+    groups: ListColumns<Fact>,
     init: Items<u32>,
     goal: Items<Fact>,
     operators: OperatorColumns,
-    rules: Rules,
+    /// The conditions and the head of each rule.
+    conditions: ListColumns<Fact>,
+    heads: Vec<Change>,
     begun: Begun,
 }
 
@@ -54,71 +50,15 @@ struct Begun {
     /// The facts of a group, the prevail conditions of an operator, or the conditions of a rule.
     facts: Items<Fact>,
     effects: Effects,
-    /// The lists of a section that is read at once.
-    gathered: Gathered,
-}
-
-/// Appends a whole variable at the beginning of the bytes, if `variable_found` finds one, and returns what it found. After `None` or `Err`
-/// some names of its values may have been appended.
-#[inline(always)]
-fn append_variable<'a>(
-    bytes: &'a [u8],
-    columns: &mut VariableColumns,
-) -> Result<Option<VariableFound<'a>>, AllocError>
-    requires { VariableColumnsAlign AreEnds columns.old }
-    ensures some { IfOk result (λ found. IfSome found (λ f. (v : Variable)
-        × VariableAhead bytes.now v f.front × (v.layer ≡ f.layer) × (length v.values ≡ f.range)
-        × Hold (VariableColumnsAlign AreEnds) variables_in columns.new
-        (variables_in columns.old ++ v ∷ []))) }
-    ensures none { IfOk result (λ found. IfNone found
-        (Hold (VariableColumnsAlign AreOpen) variables_in columns.new (variables_in columns.old))) }
-    ensures err { OnErr result
-        (Hold (VariableColumnsAlign AreOpen) variables_in columns.new (variables_in columns.old)) }
-{
-    let found = variable_found(bytes, &mut columns.values)?;
-    let Some(found) = found else {
-        return Ok(None);
-    };
-    columns.push(found.name, found.layer)?;
-    Ok(Some(found))
-}
-
-/// Appends a whole operator at the beginning of the bytes, if `operator_found` finds one, and returns the extent of its lines. After `None`
-/// or `Err` some of its prevail conditions and effects may have been appended. The content of `conditions` is unspecified afterwards.
-#[inline(always)]
-fn append_operator(
-    ranges: &Items<u32>,
-    bytes: &[u8],
-    columns: &mut OperatorColumns,
-    conditions: &mut Vec<Fact>,
-) -> Result<Option<Front>, AllocError>
-    requires { OperatorColumnsAlign AreEnds columns.old }
-    ensures some { IfOk result (λ found. IfSome found (λ front.
-        (o : Operator) × OperatorAhead ranges.now bytes.now o front
-        × Hold (OperatorColumnsAlign AreEnds) operators_in columns.new
-        (operators_in columns.old ++ o ∷ []))) }
-    ensures none { IfOk result (λ found. IfNone found
-        (Hold (OperatorColumnsAlign AreOpen) operators_in columns.new (operators_in columns.old))) }
-    ensures err { OnErr result
-        (Hold (OperatorColumnsAlign AreOpen) operators_in columns.new (operators_in columns.old)) }
-{
-    let found = operator_found(
-        ranges,
-        bytes,
-        &mut columns.prevail,
-        &mut columns.effects,
-        conditions,
-    )?;
-    let Some(found) = found else {
-        return Ok(None);
-    };
-    columns.push(found.name, found.cost)?;
-    Ok(Some(found.front))
+    /// The conditions of an effect.
+    conditions: Vec<Fact>,
 }
 
 impl Model for FlatSoFar {
-    ghost use Rattle.sas_flat.specs.Lists.{AreEnds};
+    ghost use Rattle.std.specs.Prelude.{◌≡◌, length};
+    ghost use Rattle.sas_flat.specs.Lists.{lists_in, AreEnds, ListColumnsAlign};
     ghost use Rattle.sas_flat.specs.Operators.{operators_in, OperatorColumnsAlign};
+    ghost use Rattle.sas_flat.specs.Rules.{rules_from};
     ghost use Rattle.sas_flat.specs.Variables.{variables_in, VariableColumnsAlign};
     ghost use Rattle.sas_task_line.specs.declared.so_far.SoFar.{SoFar};
 
@@ -129,11 +69,11 @@ impl Model for FlatSoFar {
       parts = record {
         metric = s.metric;
         variables = variables_in s.variables;
-        groups = s.groups;
+        groups = lists_in s.groups;
         init = s.init;
         goal = s.goal;
         operators = operators_in s.operators;
-        rules = s.rules;
+        rules = rules_from s.heads.items (lists_in s.conditions);
       };
       name = s.begun.name;
       layer = s.begun.layer;
@@ -143,11 +83,14 @@ impl Model for FlatSoFar {
     } };
 
     ghost invariant = { λ s. VariableColumnsAlign AreEnds s.variables
-        × OperatorColumnsAlign AreEnds s.operators };
+        × ListColumnsAlign AreEnds s.groups × OperatorColumnsAlign AreEnds s.operators
+        × ListColumnsAlign AreEnds s.conditions
+        × (length (lists_in s.conditions) ≡ length s.heads.items) };
 }
 
 impl FlatSoFar {
     /// Returns a store without content. It takes no memory.
+    #[tactic(auto, using(crate::proofs::StoredParts::no_rules))]
     pub fn new(alloc: Global) -> Self
         ensures { result ≡ nothing_yet alloc }
     {
@@ -155,18 +98,19 @@ impl FlatSoFar {
             alloc,
             metric: false,
             variables: VariableColumns::new(alloc),
-            groups: Lists::new(alloc),
+            groups: ListColumns::new(alloc),
             init: Items::new(alloc),
             goal: Items::new(alloc),
             operators: OperatorColumns::new(alloc),
-            rules: Rules::new(alloc),
+            conditions: ListColumns::new(alloc),
+            heads: Vec::new(alloc),
             begun: Begun {
                 name: Items::new(alloc),
                 layer: None,
                 values: Lists::new(alloc),
                 facts: Items::new(alloc),
                 effects: Effects::new(alloc),
-                gathered: Gathered::new(alloc),
+                conditions: Vec::new(alloc),
             },
         }
     }
@@ -183,7 +127,8 @@ impl FlatSoFar {
             init,
             goal,
             operators,
-            rules,
+            conditions,
+            heads,
             begun,
             ..
         } = self;
@@ -191,11 +136,11 @@ impl FlatSoFar {
         FlatTask::of_parts(TaskColumns {
             metric,
             variables: Variables::of_columns(variables),
-            groups,
+            groups: Lists::of_columns(groups),
             init,
             goal,
             operators: Operators::of_columns(operators),
-            rules,
+            rules: Effects::of_parts(heads, Lists::of_columns(conditions)),
         })
     }
 
@@ -206,18 +151,20 @@ impl FlatSoFar {
         let FlatSoFar {
             metric,
             variables,
-            groups: group_lists,
+            groups: group_columns,
             init,
             goal,
             operators: operator_columns,
-            rules: rule_columns,
+            conditions,
+            heads,
             begun,
             ..
         } = self;
         drop(begun);
-        drop(rule_columns);
+        drop(heads);
+        drop(conditions);
         drop(operator_columns);
-        drop(group_lists);
+        drop(group_columns);
         Outline {
             metric,
             variables: Variables::of_columns(variables),
@@ -263,7 +210,7 @@ impl FlatSoFar {
     fn group(&mut self) -> Result<(), AllocError>
         ensures { (said : Said) → OnOk result (self.new ≡ after self.old event.Group said []) }
     {
-        self.groups.push(self.begun.facts.as_slice())?;
+        self.groups.append(self.begun.facts.as_slice())?;
         self.begun.facts.clear();
         Ok(())
     }
@@ -303,7 +250,9 @@ impl FlatSoFar {
     fn rule(&mut self, said: &Said) -> Result<(), AllocError>
         ensures { OnOk result (self.new ≡ after self.old event.Rule said.now []) }
     {
-        self.rules.push(self.begun.facts.as_slice(), said.head)?;
+        self.heads.reserve(1)?;
+        self.conditions.append(self.begun.facts.as_slice())?;
+        self.heads.push(said.head)?;
         self.begun.facts.clear();
         Ok(())
     }
@@ -317,8 +266,12 @@ impl FlatSoFar {
             × (self.new ≡ behind_variable self.old v)) }
         ensures none { IfOk result (λ kept. kept.front.bytes ≡ 0 → self.new ≡ self.old) }
     {
-        match append_variable(bytes, &mut self.variables) {
+        match variable_found(bytes, &mut self.variables.values) {
             Ok(Some(found)) => {
+                if let Err(error) = self.variables.push(found.name, found.layer) {
+                    self.variables.cut();
+                    return Err(error);
+                }
                 self.begun.name.clear();
                 self.begun.layer = found.layer;
                 self.begun.values.clear();
@@ -327,13 +280,10 @@ impl FlatSoFar {
                     range: found.range,
                 })
             }
-            Ok(None) => {
+            missed => {
                 self.variables.cut();
+                missed?;
                 Ok(NO_VARIABLE)
-            }
-            Err(error) => {
-                self.variables.cut();
-                Err(error)
             }
         }
     }
@@ -346,13 +296,18 @@ impl FlatSoFar {
             × (self.new ≡ behind_group self.old facts)) }
         ensures none { IfOk result (λ front. front.bytes ≡ 0 → self.new ≡ self.old) }
     {
-        let found = group_found(ranges, bytes, &mut self.begun.gathered)?;
-        let Some(front) = found else {
-            return Ok(Front::EMPTY);
-        };
-        self.groups.push(self.begun.gathered.facts.as_slice())?;
-        self.begun.facts.clear();
-        Ok(front)
+        match group_found(ranges, bytes, &mut self.groups.items) {
+            Ok(Some(front)) => {
+                self.groups.close()?;
+                self.begun.facts.clear();
+                Ok(front)
+            }
+            missed => {
+                self.groups.cut();
+                missed?;
+                Ok(Front::EMPTY)
+            }
+        }
     }
 
     /// Stores a whole operator at the beginning of the bytes, if `operator_found` finds one. Returns the extent of its lines. After an
@@ -363,21 +318,27 @@ impl FlatSoFar {
             × (self.new ≡ behind_operator self.old o)) }
         ensures none { IfOk result (λ front. front.bytes ≡ 0 → self.new ≡ self.old) }
     {
-        let conditions = &mut self.begun.gathered.conditions;
-        match append_operator(ranges, bytes, &mut self.operators, conditions) {
-            Ok(Some(front)) => {
+        match operator_found(
+            ranges,
+            bytes,
+            &mut self.operators.prevail,
+            &mut self.operators.effects,
+            &mut self.begun.conditions,
+        ) {
+            Ok(Some(found)) => {
+                if let Err(error) = self.operators.push(found.name, found.cost) {
+                    self.operators.cut();
+                    return Err(error);
+                }
                 self.begun.name.clear();
                 self.begun.facts.clear();
                 self.begun.effects.clear();
-                Ok(front)
+                Ok(found.front)
             }
-            Ok(None) => {
+            missed => {
                 self.operators.cut();
+                missed?;
                 Ok(Front::EMPTY)
-            }
-            Err(error) => {
-                self.operators.cut();
-                Err(error)
             }
         }
     }
@@ -390,14 +351,20 @@ impl FlatSoFar {
             × (self.new ≡ behind_rule self.old r)) }
         ensures none { IfOk result (λ front. front.bytes ≡ 0 → self.new ≡ self.old) }
     {
-        let found = rule_found(ranges, bytes, &mut self.begun.gathered)?;
-        let Some(found) = found else {
-            return Ok(Front::EMPTY);
-        };
-        self.rules
-            .push(self.begun.gathered.facts.as_slice(), found.head)?;
-        self.begun.facts.clear();
-        Ok(found.front)
+        self.heads.reserve(1)?;
+        match rule_found(ranges, bytes, &mut self.conditions.items) {
+            Ok(Some(found)) => {
+                self.conditions.close()?;
+                self.heads.push(found.head)?;
+                self.begun.facts.clear();
+                Ok(found.front)
+            }
+            missed => {
+                self.conditions.cut();
+                missed?;
+                Ok(Front::EMPTY)
+            }
+        }
     }
 
     /// Adds the content of the line.

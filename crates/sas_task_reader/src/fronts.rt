@@ -7,10 +7,37 @@ ghost use Rattle.sas_core.specs.declared.parts.Rule.{Rule};
 ghost use Rattle.sas_task_judge.specs.Sections.{VariableWithRange};
 ghost use Rattle.sas_task_line.specs.Sections.{GroupAhead, OperatorAhead, RuleAhead};
 
-use sas_core::Items;
+use sas_core::{Fact, Items};
+use sas_flat::{Effects, Lists};
 use sas_reader::{Front, Kind};
 use sas_task_judge::VariableKept;
-use sas_task_line::{Gathered, group_found, operator_found, rule_found, variable_found};
+use sas_task_line::{group_found, operator_found, rule_found, variable_found};
+use std::alloc::Global;
+
+/// The lists of the section that was read last. Their memory is reused for the next section.
+#[derive(Drop)]
+pub struct Gathered {
+    /// The names of a variable's values.
+    values: Lists<u8>,
+    /// The facts of a mutex group, the prevail conditions of an operator, or the conditions of a rule.
+    facts: Vec<Fact>,
+    /// The effects of an operator.
+    effects: Effects,
+    /// The conditions of an effect.
+    conditions: Vec<Fact>,
+}
+
+impl Gathered {
+    /// Returns empty lists. It takes no memory.
+    pub fn new(alloc: Global) -> Self {
+        Gathered {
+            values: Lists::new(alloc),
+            facts: Vec::new(alloc),
+            effects: Effects::new(alloc),
+            conditions: Vec::new(alloc),
+        }
+    }
+}
 
 /// No variable was stored.
 pub const NO_VARIABLE: VariableKept = VariableKept {
@@ -47,7 +74,8 @@ pub fn group_front(
         (facts : List Fact) × GroupAhead ranges.now bytes.now facts front)) }
     ensures err { IfErr result (λ k. k ≡ Kind.Memory) }
 {
-    Ok(group_found(ranges, bytes, gathered)?)
+    gathered.facts.clear();
+    Ok(group_found(ranges, bytes, &mut gathered.facts)?)
 }
 
 /// Returns the extent of a whole operator at the beginning of the bytes, if `operator_found` finds one. The content of `gathered` is
@@ -87,7 +115,8 @@ pub fn rule_front(
         (r : Rule) × RuleAhead ranges.now bytes.now r front)) }
     ensures err { IfErr result (λ k. k ≡ Kind.Memory) }
 {
-    let Some(found) = rule_found(ranges, bytes, gathered)? else {
+    gathered.facts.clear();
+    let Some(found) = rule_found(ranges, bytes, &mut gathered.facts)? else {
         return Ok(None);
     };
     Ok(Some(found.front))

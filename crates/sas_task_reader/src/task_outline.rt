@@ -9,12 +9,12 @@ ghost use Rattle.sas_task_judge.specs.Sections.{behind_group, behind_operator, b
 ghost use Rattle.sas_task_reader.specs.TaskOutline.{outline_in, kept_of};
 
 use crate::flat_so_far::FlatSoFar;
-use crate::fronts::{group_front, operator_front, rule_front};
+use crate::fronts::{Gathered, group_front, operator_front, rule_front};
 use sas_core::Items;
 use sas_flat::Outline;
 use sas_reader::{Front, Kind};
 use sas_task_judge::{Keeper, VariableKept};
-use sas_task_line::{Event, Gathered, Said};
+use sas_task_line::{Event, Said};
 use std::alloc::Global;
 use std::marker::Model;
 

@@ -1,12 +1,14 @@
 // Stores only the text of a task file.
 ghost use Rattle.std.specs.Prelude.{◌≡◌, ◌++◌, ◌≤◌, [], length, take, OnOk, IfErr};
 
-use crate::fronts::{NO_VARIABLE, group_front, operator_front, rule_front, variable_front};
+use crate::fronts::{
+    Gathered, NO_VARIABLE, group_front, operator_front, rule_front, variable_front,
+};
 use sas_core::Items;
 use sas_lines::push_line;
 use sas_reader::{Front, Kind};
 use sas_task_judge::{Keeper, VariableKept};
-use sas_task_line::{Event, Gathered, Said};
+use sas_task_line::{Event, Said};
 use std::alloc::Global;
 use std::marker::Model;
 

@@ -1,29 +1,24 @@
-use Rattle.sas_task_reader.proofs.Imports.{sym, ap, ◌∙◌, the_view}
+use Rattle.sas_task_reader.proofs.Imports.{refl, sym, ap, ◌∙◌, the_view, variable, variables_opened, variables_more}
 use Rattle.sas_task_judge.specs.Sections.{behind_variable}
 use Rattle.sas_task_line.specs.declared.so_far.SoFar.{SoFar}
-use Rattle.sas_task_reader.proofs.StoredParts.{same_variables, one_variable_more}
+use Rattle.sas_task_reader.proofs.StoredParts.{with_variables, one_variable_more}
 use Rattle.sas_task_reader.proofs.flat_so_far.FlatSoFar.variable_ahead.Goals as goal
 
-pub invariant_of-self : goal.invariant_of-self
-invariant_of-self c =
-    let (v, ahead, layer, range, more) = rw c.in-Ok-Some.field-0-is at c.in-Ok-Some.ensures.some in
-    (more.align, c.self.invariant.1)
-
-pub cut-requires : goal.cut-requires
-cut-requires c =
-    let begun = rw c.in-Ok-None.field-0-is at c.in-Ok-None.ensures.none in
-    begun.align
-
-pub returns-in-Ok-Some-clause-took : goal.returns-in-Ok-Some-clause-took
-returns-in-Ok-Some-clause-took c = λ some.
-    let (v, ahead, layer, range, more) = rw c.in-Ok-Some.field-0-is at c.in-Ok-Some.ensures.some in (
+pub returns-in_default-push-clause-took : goal.returns-in_default-push-clause-took
+returns-in_default-push-clause-took c = λ some.
+    let old = c.self.inside.variables in
+    let found = c.in-Ok-Some.found in
+    let (values, names, many, ahead) = rw c.in-Ok-Some.field-0-is at c.in-Ok-Some.ensures.found in
+    let v = variable found.name.now found.layer values in
+    let more = variables_more old (record old { values = c.variable_found.new.names }) refl refl refl c.self.invariant.0 (record { more = values; is = names }) _ _ _ c.in_default-push.ensures.ok in (
       v,
-      (ahead, sym range),
-      one_variable_more (the_view c.self.inside) v c.clear.new.self c.in-Ok-Some.found.layer c.clear-in-Ok-Some.new.self _ c.clear.ensures (sym layer) c.clear-in-Ok-Some.ensures more.is
+      (ahead, sym many),
+      one_variable_more (the_view c.self.inside) v c.clear.new.self found.layer c.clear-in-Ok-Some.new.self _ c.clear.ensures refl c.clear-in-Ok-Some.ensures more.is
           ∙ ap (λ (s : SoFar). behind_variable s v) c.self.view_is,
     )
 
-pub returns-in-Ok-None-clause-none : goal.returns-in-Ok-None-clause-none
-returns-in-Ok-None-clause-none c = λ none.
-    let begun = rw c.in-Ok-None.field-0-is at c.in-Ok-None.ensures.none in
-    same_variables (the_view c.self.inside) _ (c.cut.ensures.is ∙ begun.is) ∙ c.self.view_is
+pub returns-in_ok-missed-in_default-clause-none : goal.returns-in_ok-missed-in_default-clause-none
+returns-in_ok-missed-in_default-clause-none c = λ none.
+    let old = c.self.inside.variables in
+    let begun = variables_opened old (record old { values = c.variable_found.new.names }) refl refl refl c.self.invariant.0 c.variable_found.ensures.kept in
+    ap (with_variables (the_view c.self.inside)) (c.cut-in_default.ensures.is ∙ begun.is) ∙ c.self.view_is

@@ -1,0 +1,18 @@
+use Rattle.sas_task_reader.proofs.Imports.{ap, ◌∙◌, the_view, lists_opened, one_list_more}
+use Rattle.sas_task_judge.specs.Sections.{behind_group}
+use Rattle.sas_task_line.specs.declared.so_far.SoFar.{SoFar}
+use Rattle.sas_task_reader.proofs.StoredParts.{with_groups, one_group_more}
+use Rattle.sas_task_reader.proofs.flat_so_far.FlatSoFar.group_ahead.Goals as goal
+
+pub returns-in_ok-close-in-Ok-Some-clause-took : goal.returns-in_ok-close-in-Ok-Some-clause-took
+returns-in_ok-close-in-Ok-Some-clause-took c = λ some.
+    let (facts, is, ahead) = rw c.in-Ok-Some.field-0-is at c.in-Ok-Some.ensures.found in
+    let more = c.in_ok-close-in-Ok-Some.ensures.ok ∙ one_list_more _ _ _ c.self.invariant.1 (record { more = facts; is = is }) in (
+      facts,
+      ahead,
+      one_group_more (the_view c.self.inside) facts c.clear.new.self _ c.clear.ensures more ∙ ap (λ (s : SoFar). behind_group s facts) c.self.view_is,
+    )
+
+pub returns-in_ok-missed-in_default-clause-none : goal.returns-in_ok-missed-in_default-clause-none
+returns-in_ok-missed-in_default-clause-none c = λ none.
+    ap (with_groups (the_view c.self.inside)) (c.cut.ensures.is ∙ lists_opened _ _ _ c.self.invariant.1 c.group_found.ensures.kept) ∙ c.self.view_is

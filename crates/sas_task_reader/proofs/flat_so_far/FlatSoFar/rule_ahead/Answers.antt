@@ -1,0 +1,49 @@
+use Rattle.sas_task_reader.proofs.Imports.{[], ◌∷◌, ◌++◌, length, sym, ap, ◌∙◌, the_view, lists_in, rule, rules_from, lists_opened, one_list_more, rules_more, pairs_more}
+use Rattle.sas_task_judge.specs.Sections.{behind_rule}
+use Rattle.sas_task_line.specs.declared.so_far.SoFar.{SoFar}
+use Rattle.sas_task_reader.proofs.StoredParts.{with_rules, another_rule}
+use Rattle.sas_task_reader.proofs.flat_so_far.FlatSoFar.rule_ahead.Goals as goal
+
+pub invariant_of-self-in-Some-1 : goal.invariant_of-self-in-Some-1
+invariant_of-self-in-Some-1 c =
+    let head = c.in-Ok-Some.found.head in
+    let i = c.self.invariant in
+    let (facts, is, ahead) = rw c.in-Ok-Some.field-0-is at c.in-Ok-Some.ensures.found in
+    let lists = c.in_ok-close-in-Ok-Some.ensures.ok ∙ one_list_more _ _ _ i.3 (record { more = facts; is = is }) in
+    let heads = c.in_ok-push-in-Ok-Some.ensures.items ∙ ap (λ l. l ++ head ∷ []) c.in_ok-reserve.ensures.items in
+    (i.0, i.1, i.2, c.in_ok-close-in-Ok-Some.ensures.align, pairs_more _ _ _ _ head facts i.4 heads lists)
+
+pub invariant_of-self-in_err-close-in-Ok-Some : goal.invariant_of-self-in_err-close-in-Ok-Some
+invariant_of-self-in_err-close-in-Ok-Some c =
+    let i = c.self.invariant in
+    let lists = c.in_err-close-in-Ok-Some.ensures.err ∙ lists_opened _ _ _ i.3 c.rule_found.ensures.kept in
+    (i.0, i.1, i.2, c.in_err-close-in-Ok-Some.ensures.align, ap length lists ∙ i.4 ∙ sym (ap length c.in_ok-reserve.ensures.items))
+
+pub invariant_of-self-in_err-missed-in_default : goal.invariant_of-self-in_err-missed-in_default
+invariant_of-self-in_err-missed-in_default c =
+    let i = c.self.invariant in
+    let lists = c.cut.ensures.is ∙ lists_opened _ _ _ i.3 c.rule_found.ensures.kept in
+    (i.0, i.1, i.2, c.cut.ensures.align, ap length lists ∙ i.4 ∙ sym (ap length c.in_ok-reserve.ensures.items))
+
+pub invariant_of-self-in_default : goal.invariant_of-self-in_default
+invariant_of-self-in_default c =
+    let i = c.self.invariant in
+    let lists = c.cut.ensures.is ∙ lists_opened _ _ _ i.3 c.rule_found.ensures.kept in
+    (i.0, i.1, i.2, c.cut.ensures.align, ap length lists ∙ i.4 ∙ sym (ap length c.in_ok-reserve.ensures.items))
+
+pub returns-in_ok-push-in-Ok-Some-clause-took : goal.returns-in_ok-push-in-Ok-Some-clause-took
+returns-in_ok-push-in-Ok-Some-clause-took c = λ some.
+    let head = c.in-Ok-Some.found.head in
+    let (facts, is, ahead) = rw c.in-Ok-Some.field-0-is at c.in-Ok-Some.ensures.found in
+    let lists = c.in_ok-close-in-Ok-Some.ensures.ok ∙ one_list_more _ _ _ c.self.invariant.3 (record { more = facts; is = is }) in
+    let heads = c.in_ok-push-in-Ok-Some.ensures.items ∙ ap (λ l. l ++ head ∷ []) c.in_ok-reserve.ensures.items in (
+      rule head facts,
+      ahead,
+      another_rule (the_view c.self.inside) (rule head facts) c.clear.new.self _ c.clear.ensures (rules_more _ _ _ _ head facts c.self.invariant.4 heads lists)
+          ∙ ap (λ (s : SoFar). behind_rule s (rule head facts)) c.self.view_is,
+    )
+
+pub returns-in_ok-missed-in_default-clause-none : goal.returns-in_ok-missed-in_default-clause-none
+returns-in_ok-missed-in_default-clause-none c = λ none.
+    let lists = c.cut.ensures.is ∙ lists_opened _ _ _ c.self.invariant.3 c.rule_found.ensures.kept in
+    ap (with_rules (the_view c.self.inside)) (ap (λ l. rules_from l (lists_in c.cut.new.self)) c.in_ok-reserve.ensures.items ∙ ap (rules_from c.self.inside.heads.items) lists) ∙ c.self.view_is
