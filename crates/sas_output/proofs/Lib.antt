@@ -4,7 +4,6 @@ pub mod Putting
 pub mod Sent
 pub mod Texts
 mod WordLines
-mod LineTexts
 pub mod PlainLines
 pub mod RuleLines
 mod Imports

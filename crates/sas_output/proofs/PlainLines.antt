@@ -39,16 +39,11 @@ plain_values [] var value fit = refl
 plain_values (v ∷ variables) zero value fit = let first = fit.0 in plain_value v.values value first.values.each
 plain_values (v ∷ variables) (suc var) value fit = plain_values variables var value fit.1
 
-plain_operator : (variables : List Variable) (operators : List Operator) (place : ℕ) (none : Operator) → IsPlain none.name → AllByRecursion (OperatorFits variables) operators
-    → IsPlain (get_or operators place none).name
-plain_operator variables [] place none plain fit = plain
-plain_operator variables (o ∷ operators) zero none plain fit = let first = fit.0 in plain-name o.name first.name
-plain_operator variables (o ∷ operators) (suc place) none plain fit = plain_operator variables operators place none plain fit.1
-
-plain_step : (steps : List (List ℕ)) (place : ℕ) → AllByRecursion IsName steps → IsPlain (get_or steps place [])
-plain_step [] place names = refl
-plain_step (first ∷ steps) zero names = plain-name first names.0
-plain_step (first ∷ steps) (suc place) names = plain_step steps place names.1
+-- what holds of each item of a list, and of the one that stands for none
+at_each : {X : Type 0} (P Q : X → Type 0) (items : List X) (place : ℕ) (none : X) → ((x : X) → Q x → P x) → P none → AllByRecursion Q items → P (get_or items place none)
+at_each P Q [] place none to is fit = is
+at_each P Q (x ∷ items) zero none to is fit = to x fit.0
+at_each P Q (x ∷ items) (suc place) none to is fit = at_each P Q items place none to is fit.1
 
 -- ---- lines
 
@@ -57,11 +52,12 @@ two behind plain = record { behind = behind; spaces = refl; plain = plain }
 
 module _ (p : Parts) (steps : List (List ℕ)) (ranged : WellRanged p) (names : AllByRecursion IsName steps) where
   step : (n : ℕ) → IsPlain (decimal n ++ 32 ∷ get_or steps (n - 1) [])
-  step n = number_then n (32 ∷ get_or steps (n - 1) []) (plain_step steps (n - 1) names)
+  step n = number_then n (32 ∷ get_or steps (n - 1) []) (at_each (λ (name : List ℕ). IsPlain name) (λ (name : List ℕ). IsName name) steps (n - 1) [] plain-name refl names)
 
   operator : (n : ℕ) → IsPlain (decimal n ++ 32 ∷ (operator_at p n).name)
   operator n = number_then n (32 ∷ (operator_at p n).name)
-      (plain_operator p.variables p.operators n (record { name = []; prevail = []; effects = []; cost = 0 }) refl ranged.operators.each)
+      (at_each (λ (o : Operator). IsPlain o.name) (OperatorFits p.variables) p.operators n (record { name = []; prevail = []; effects = []; cost = 0 })
+      (λ (o : Operator) (fit : OperatorFits p.variables o). plain-name o.name fit.name) refl ranged.operators.each)
 
   of_fact : (f : Fact) → IsPlain (joined (words_of p f))
   of_fact f = let name = unwrap_or (value_name p.variables f.var f.value) [] in

@@ -1,5 +1,5 @@
 -- Bytes that are pushed, call after call.
-use Rattle.sas_output.proofs.Imports.{◌≡◌, ℕ, ◌+◌, ◌<◌, List, [], ◌++◌, append_assoc, append-nil, take, get_or, flat_map, length, refl, sym, subst, ◌∙◌, Option, true, false, Short, Sink, Piece, Puts, Breaks, empty_piece, Pushed, PushedBy, Pushes}
+use Rattle.sas_output.proofs.Imports.{◌≡◌, ℕ, ◌+◌, ◌<◌, List, [], ◌++◌, append_assoc, append-nil, take, get_or, flat_map, length, refl, sym, ap, subst, ◌∙◌, Option, Bool, true, false, MutBor, Short, Sink, Piece, Puts, Breaks, empty_piece, Pushed, PushedBy, Pushes}
 use Rattle.sas_output.proofs.Putting.{next_item, puts_then, puts_then_breaks, breaks_with_more}
 
 -- the last bytes that are held go out, or break off
@@ -9,12 +9,23 @@ finish_puts a b c p q r text first second = subst (Puts a c p r) (append-nil tex
 pub finish_breaks : (a b c : Option (List ℕ)) (p q : Piece) (text : List ℕ) (short : Short) → Puts a b p q text → Breaks b c q [] short → Breaks a c p text short
 finish_breaks a b c p q text short first second = subst (λ (l : List ℕ). Breaks a c p l short) (append-nil text) (puts_then_breaks a b p q text c [] short first second)
 
+-- bytes are held behind a text, whether a write has failed or not
+held_by : (start now : Option (List ℕ)) (p q : Piece) (short : ℕ) (text bytes : List ℕ) (failed : Bool) → q.held ≡ p.held ++ bytes → q.written ≡ p.written
+    → PushedBy start now p short text failed → PushedBy start now q short (text ++ bytes) failed
+held_by start now p q short text bytes true held written broken = breaks_with_more start now empty_piece empty_piece text bytes (record { written = short }) broken
+held_by start now p q short text bytes false held written puts = record {
+  gone = puts.gone;
+  sent = puts.sent;
+  whole = ap (λ (l : List ℕ). l ++ bytes) puts.whole ∙ append_assoc puts.gone p.held bytes ∙ ap (λ (l : List ℕ). puts.gone ++ l) (sym held);
+  counted = λ fits. written ∙ puts.counted fits;
+}
+
 module _ {W : Type 0} (contents : W → Option (List ℕ)) where
-  -- nothing was pushed
-  pub pushes_none : (s : Sink W) → Pushes contents s s []
-  pushes_none s = record {
+  pub pushes_held : (s : Sink W) (pieces : MutBor Piece) (bytes : List ℕ) → pieces.now.held ≡ s.pieces.now.held ++ bytes → pieces.now.written ≡ s.pieces.now.written
+      → Pushes contents s (record { out = s.out; pieces = pieces; short = s.short }) bytes
+  pushes_held s pieces bytes held written = record {
     same = refl;
-    text = λ start text pushed. subst (Pushed contents start s) (sym (append-nil text)) pushed;
+    text = λ start text. held_by start (contents s.out.now.device) s.pieces.now pieces.now s.short text bytes s.out.now.failed held written;
   }
 
   -- bytes were pushed, and others behind them

@@ -1,5 +1,5 @@
 -- Bytes that are put behind others, call after call.
-use Rattle.sas_output.proofs.Imports.{◌≡◌, ℕ, ◌+◌, ◌-◌, ◌^◌, ◌<◌, List, [], ◌∷◌, ◌++◌, length, take, drop, get_or, flat_map, min, append_assoc, append-nil, length-append, arith, refl, sym, ap, subst, ◌∙◌, Bool, true, false, Option, Result, Ok, Err, ⊤, ◌↔◌, IsTrue, Appends, Appends-trans, flat_map-append, take_more, take-append-drop, length-drop, length-take, Short, Piece, CountsOn, Puts, Breaks, PutsOrBreaks}
+use Rattle.sas_output.proofs.Imports.{◌≡◌, ℕ, ◌+◌, ◌-◌, ◌^◌, ◌<◌, List, [], ◌∷◌, ◌++◌, length, take, drop, get_or, flat_map, min, append_assoc, append-nil, length-append, arith, refl, sym, ap, ◌∙◌, Bool, true, false, Option, Result, Ok, Err, ⊤, ◌↔◌, IsTrue, Appends, Appends-trans, flat_map-append, take_more, take-append-drop, length-drop, length-take, Short, Piece, CountsOn, Puts, Breaks, PutsOrBreaks}
 
 -- after a call that came through the device hasn't failed
 pub no_failure : (failed : Bool) → false ≡ true ↔ IsTrue failed → failed ≡ false
@@ -61,10 +61,6 @@ module _ (a b : Option (List ℕ)) (p q : Piece) (x : List ℕ) where
     counted = broken.counted;
   }
 
-  -- and so of what they are the first bytes of
-  pub breaks_within : (whole rest : List ℕ) (short : Short) → whole ≡ x ++ rest → Breaks a b p x short → Breaks a b p whole short
-  breaks_within whole rest short e broken = subst (λ (l : List ℕ). Breaks a b p l short) (sym e) (breaks_with_more rest short broken)
-
 -- the first bytes went out, and not all
 pub breaks_at : (a b : Option (List ℕ)) (written count reported : ℕ) (bytes : List ℕ) → (count < length bytes) × Appends a b (take count bytes) → reported ≡ min (written + count) (2 ^ 64 - 1) → Breaks a b (record { held = []; written = written }) bytes (record { written = reported })
 breaks_at a b written count reported bytes (within, sent) counted = record {
@@ -75,17 +71,3 @@ breaks_at a b written count reported bytes (within, sent) counted = record {
   some = omega (arith, length-drop count bytes, within);
   counted = λ fits. omega (arith, length-take count bytes, within, fits, counted);
 }
-
--- ---- item after item
-
-module _ {X : Type 0} (says : X → List ℕ) (a b c : Option (List ℕ)) (p q r : Piece) (items : List X) where
-  -- the bytes of the next item, behind those of the items before it
-  pub item_puts : (i : ℕ) (d : X) → i < length items → Puts a b p q (flat_map says (take i items)) → Puts b c q r (says (get_or items i d)) → Puts a c p r (flat_map says (take (i + 1) items))
-  item_puts i d h first second =
-      subst (λ (l : List ℕ). Puts a c p r l) (sym (next_item says items i d h)) (puts_then a b p q _ c r _ first second)
-
-  pub item_breaks : (i : ℕ) (d : X) (short : Short) → i < length items → Puts a b p q (flat_map says (take i items)) → Breaks b c q (says (get_or items i d)) short → Breaks a c p (flat_map says items) short
-  item_breaks i d short h first second =
-      let so_far = subst (λ (l : List ℕ). Breaks a c p l short) (sym (next_item says items i d h)) (puts_then_breaks a b p q _ c _ short first second) in
-      breaks_within a c p r (flat_map says (take (i + 1) items)) (flat_map says items) (flat_map says (drop (i + 1) items)) short
-      (ap (flat_map says) (sym (take-append-drop (i + 1) items)) ∙ flat_map-append says (take (i + 1) items) (drop (i + 1) items)) so_far

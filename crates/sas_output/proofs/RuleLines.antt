@@ -79,22 +79,20 @@ module _ (p : Parts) where
       let values : f.value ≡ f'.value = own_decimal f.value f'.value value second.0 in
       ap (λ v. let x : Fact = record { var = v; value = f.value } in x) vars ∙ ap (λ v. let x : Fact = record { var = f'.var; value = v } in x) values
 
+  verbs_apart : (r r' : ℕ) (f g : Fact) → behind_rule r (codes "derives" ∷ words_of p f) ≡ behind_rule r' (codes "requires" ∷ words_of p g) → ⊥
+  verbs_apart r r' f g e =
+      let behind = behind_number r r' (codes "derives") (codes "requires") (words_of p f) (words_of p g) e in
+      let first = first_word (codes "derives") (codes "requires") (joined (words_of p f)) (joined (words_of p g)) (no_space (codes "derives") refl) (no_space (codes "requires") refl) behind.1 in
+      let lengths : 7 ≡ 8 = ap (λ (l : List ℕ). length l) first.0 in omega (arith, lengths)
+
   both_rules : (steps : List (List ℕ)) (l other : Line) → IsOfRule l → IsOfRule other → AllByRecursion (λ n. n < 2 ^ 64) (rule_numbers l)
       → line_bytes p steps l ≡ line_bytes p steps other → l ≡ other
   both_rules steps l other (Deriving r) (Deriving r') small e =
       let words = words_of p (fact_of_rule (rule_at p r)) in
       let words' = words_of p (fact_of_rule (rule_at p r')) in
       ap (λ n. RuleDerives n) (own_decimal r r' small.0 (behind_number r r' (codes "derives") (codes "derives") words words' e).0)
-  both_rules steps l other (Deriving r) (Requiring r' f) small e =
-      let words = words_of p (fact_of_rule (rule_at p r)) in
-      let behind = behind_number r r' (codes "derives") (codes "requires") words (words_of p f) e in
-      let first = first_word (codes "derives") (codes "requires") (joined words) (joined (words_of p f)) (no_space (codes "derives") refl) (no_space (codes "requires") refl) behind.1 in
-      absurd (let e : 7 ≡ 8 = ap (λ (l : List ℕ). length l) first.0 in omega (arith, e))
-  both_rules steps l other (Requiring r f) (Deriving r') small e =
-      let words = words_of p (fact_of_rule (rule_at p r')) in
-      let behind = behind_number r r' (codes "requires") (codes "derives") (words_of p f) words e in
-      let first = first_word (codes "requires") (codes "derives") (joined (words_of p f)) (joined words) (no_space (codes "requires") refl) (no_space (codes "derives") refl) behind.1 in
-      absurd (let e : 8 ≡ 7 = ap (λ (l : List ℕ). length l) first.0 in omega (arith, e))
+  both_rules steps l other (Deriving r) (Requiring r' f) small e = absurd (verbs_apart r r' (fact_of_rule (rule_at p r)) f e)
+  both_rules steps l other (Requiring r f) (Deriving r') small e = absurd (verbs_apart r' r (fact_of_rule (rule_at p r')) f (sym e))
   both_rules steps l other (Requiring r f) (Requiring r' f') small e =
       let behind = behind_number r r' (codes "requires") (codes "requires") (words_of p f) (words_of p f') e in
       let first = first_word (codes "requires") (codes "requires") (joined (words_of p f)) (joined (words_of p f')) (no_space (codes "requires") refl) (no_space (codes "requires") refl) behind.1 in

@@ -1,6 +1,6 @@
 -- What went out of a text that was put in pieces.
 use Rattle.std.proofs.lemmas.Grind.{common_steps}
-use Rattle.sas_output.proofs.Imports.{◌≡◌, ◌⊎◌, inr, ℕ, ◌+◌, ◌^◌, ◌<◌, List, [], ◌++◌, length, take, append-nil, length-append, take_at, arith, refl, sym, ap, subst, ◌∙◌, Option, Some, None, Result, Ok, Err, IfErr, IsErrOf, Appends, Device, Short, Status, ToolFault, Memory, Read, TooLong, Write, Output, StopsAt, Ends, EndsCounting, IsWrite, Writes, Answers, Piece, Puts, Breaks}
+use Rattle.sas_output.proofs.Imports.{◌≡◌, ◌⊎◌, ℕ, ◌+◌, ◌^◌, ◌<◌, List, [], ◌++◌, length, take, append-nil, length-append, take_at, arith, refl, sym, ap, subst, ◌∙◌, Option, Some, None, Result, Ok, Err, IfErr, IsErrOf, Appends, Device, Short, Status, ToolFault, Memory, Read, TooLong, Write, Output, StopsAt, Ends, EndsCounting, IsWrite, Writes, Answers, Piece, Puts, Breaks}
 
 -- what was put where nothing is held in the end went out
 pub all_sent : (a b : Option (List ℕ)) (p q : Piece) (bytes whole : List ℕ) → p ≡ record { held = []; written = 0 } → q.held ≡ [] → bytes ≡ whole → Puts a b p q bytes → Appends a b whole

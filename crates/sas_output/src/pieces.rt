@@ -1,5 +1,5 @@
 // A text that is written in pieces.
-ghost use Rattle.std.specs.Prelude.{◌≡◌, ◌↔◌, [], ◌∷◌, ◌++◌, false, IfOk, IfErr, IsErr, IsTrue, IsFalse, OnOk, flat_map};
+ghost use Rattle.std.specs.Prelude.{◌≡◌, ◌↔◌, [], ◌∷◌, ◌++◌, false, IfOk, IfErr, IsErr, IsTrue, IsFalse, OnOk};
 ghost use Rattle.std.specs.Io.KnownBytes.{Appends};
 ghost use Rattle.sas_output.specs.Pieces.{Adds, Breaks, CountsOn};
 ghost use Rattle.sas_output.specs.Words.{numbered_line, words_line};
@@ -63,22 +63,6 @@ impl Pieces {
         self.pass(out, bytes)
     }
 
-    /// Adds the bytes of these parts to the text, one after another. Not to be called after a failure.
-    pub(crate) fn push_all<W: Write>(
-        &mut self,
-        out: &mut Watched<W>,
-        parts: &[&[u8]],
-    ) -> Result<(), Short>
-        requires { out.old.failed ≡ false }
-        ensures { Adds W.contents out.old out.new self.old self.new
-            (flat_map (λ part. part.now) parts.now) result }
-    {
-        for part in parts {
-            self.push(out, part)?;
-        }
-        Ok(())
-    }
-
     /// Writes what is held. Not to be called after a failure.
     pub(crate) fn flush<W: Write>(&mut self, out: &mut Watched<W>) -> Result<(), Short>
         requires { out.old.failed ≡ false }
@@ -107,7 +91,7 @@ impl Pieces {
     #[inline(always)]
     pub(crate) fn hold_line(&mut self, line: Words<'_>) -> bool
         ensures yes { IsTrue result
-            → self.new.held ≡ self.old.held ++ words_line line.entry ++ 10 ∷ [] }
+            → self.new.held ≡ self.old.held ++ (words_line line.entry ++ 10 ∷ []) }
         ensures no { IsFalse result → self.new ≡ self.old }
         ensures written { self.new.written ≡ self.old.written }
     {
@@ -122,7 +106,7 @@ impl Pieces {
     #[inline(always)]
     pub(crate) fn hold_numbered(&mut self, line: Numbered<'_>) -> bool
         ensures yes { IsTrue result
-            → self.new.held ≡ self.old.held ++ numbered_line line.entry ++ 10 ∷ [] }
+            → self.new.held ≡ self.old.held ++ (numbered_line line.entry ++ 10 ∷ []) }
         ensures no { IsFalse result → self.new ≡ self.old }
         ensures written { self.new.written ≡ self.old.written }
     {
@@ -146,6 +130,7 @@ impl Pieces {
 
 /// Writes the bytes, where `written` bytes were written before. Returns how many bytes are written in all, as far as a
 /// `usize` can count them.
+#[tactic(auto, using(crate::proofs::Putting::breaks_at))]
 fn send<W: Write>(written: usize, out: &mut Watched<W>, bytes: &[u8]) -> Result<usize, Short>
     requires { out.old.failed ≡ false }
     ensures ok { IfOk result (λ n.

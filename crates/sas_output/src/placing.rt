@@ -71,6 +71,7 @@ fn place_short(piece: &mut [u8], at: usize, number: u64) -> Option<usize>
 }
 
 /// Writes the two digits of a number below 100 at `at`. Returns their end, or `None` if there is no room.
+#[tactic(auto, using(crate::proofs::Placed::two_placed))]
 #[inline(always)]
 fn place_pair(piece: &mut [u8], at: usize, number: u64) -> Option<usize>
     requires at { at ≤ length piece.old }

@@ -82,7 +82,7 @@ fn push_rest<W: Write>(sink: &mut Sink<'_, W>, named: &Named<'_>, start: Start, 
             push_named(sink, start, u64::from(operator), name)
         }
         Rest::CouldBe(step, operator) => {
-            push_could_be(sink, start, step as u64, u64::from(operator))
+            push_could_be(sink, start, step as u64, operator as u64)
         }
         Rest::OfFact(fact) => push_fact(sink, task, start, fact),
         Rest::OfPart(part) => push_part(sink, task, start, part),

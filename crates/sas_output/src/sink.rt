@@ -1,13 +1,14 @@
 // A text on its way to a device.
-ghost use Rattle.std.specs.Prelude.{◌≡◌, ℕ, List, [], ◌∷◌, ◌++◌, Option, Some, false, IfErr, IsErr, IsErrAnd, IsTrue, ◌↔◌};
+ghost use Rattle.std.specs.Prelude.{◌≡◌, ℕ, List, [], ◌∷◌, ◌++◌, flat_map, Option, Some, false, IfErr, IsErr, IsErrAnd, IsTrue, ◌↔◌};
 ghost use Rattle.std.specs.Io.KnownBytes.{Appends};
 ghost use Rattle.sas_output.specs.Ending.{EndsCounting, IsWrite};
 ghost use Rattle.sas_output.specs.Sink.{empty_piece, Pushed, Pushes};
-ghost use Rattle.sas_output.specs.Words.{numbered_line, words_line};
+ghost use Rattle.sas_output.specs.Words.{behind_space, numbered_line, word_bytes, words_line};
 
 use crate::ending::{Status, ToolFault};
 use crate::pieces::Pieces;
-use crate::words::{Numbered, Words};
+use crate::words::{Indent, Numbered, Word, Words};
+use itoa::Buffer;
 use sas_lines::Watched;
 use std::io::Write;
 
@@ -52,12 +53,10 @@ impl<'w, W: Write> Sink<'w, W> {
     pub fn push_line(&mut self, line: Words<'_>)
         ensures { Pushes W.contents self.old self.new (words_line line.entry ++ 10 ∷ []) }
     {
-        if self.out.failed() {
+        if self.pieces.hold_line(line) {
             return;
         }
-        if let Err(short) = self.pieces.push_line(self.out, line) {
-            self.short = short.written;
-        }
+        self.push_words(line);
     }
 
     /// Adds the line and its end, LF, to the text. Where many lines are of this form it is faster than `push_line`: there is no list
@@ -66,11 +65,59 @@ impl<'w, W: Write> Sink<'w, W> {
     pub fn push_numbered(&mut self, line: Numbered<'_>)
         ensures { Pushes W.contents self.old self.new (numbered_line line.entry ++ 10 ∷ []) }
     {
-        if self.out.failed() {
+        if self.pieces.hold_numbered(line) {
             return;
         }
-        if let Err(short) = self.pieces.push_numbered(self.out, line) {
-            self.short = short.written;
+        self.push_each(line);
+    }
+
+    /// Adds the line and its end, one word after another, for a line at the end of a piece.
+    fn push_each(&mut self, line: Numbered<'_>)
+        ensures { Pushes W.contents self.old self.new (numbered_line line.entry ++ 10 ∷ []) }
+    {
+        let rest = [
+            Word::Number(line.first),
+            Word::Number(line.second),
+            Word::Number(line.third),
+            Word::Text(line.name),
+        ];
+        self.push_words(Words {
+            indent: Indent::None,
+            first: line.word,
+            rest: &rest,
+        });
+    }
+
+    /// Adds the line and its end, one word after another. This is the slow way, for a line at the end of a piece.
+    fn push_words(&mut self, line: Words<'_>)
+        ensures { Pushes W.contents self.old self.new (words_line line.entry ++ 10 ∷ []) }
+    {
+        self.push(line.indent.spaces());
+        self.push(line.first);
+        self.push_rest(line.rest);
+        self.push(b"\n");
+    }
+
+    /// Adds these words, each after a space.
+    fn push_rest(&mut self, words: &[Word<'_>])
+        ensures { Pushes W.contents self.old self.new (flat_map behind_space words.now) }
+    {
+        for word in words {
+            self.push(b" ");
+            self.push_word(*word);
+        }
+    }
+
+    /// Adds the word.
+    fn push_word(&mut self, word: Word<'_>)
+        ensures { Pushes W.contents self.old self.new (word_bytes word.entry) }
+    {
+        match word {
+            Word::Text(bytes) => self.push(bytes),
+            Word::Number(number) => {
+                let mut buffer = Buffer::new();
+                self.push(buffer.format(number).as_bytes());
+            }
         }
     }
 

@@ -1,4 +1,3 @@
-use Rattle.sas_output.proofs.Imports.{List, ℕ, [], ◌∷◌, ◌++◌, ap, spaces_of}
 use Rattle.sas_output.proofs.Placed.{places_as, places_then, places_then_either, leaves_then}
 use Rattle.sas_output.proofs.WordLines.{line_is}
 use Rattle.sas_output.proofs.placing.place_line.Goals as goal
@@ -10,8 +9,6 @@ returns-in_default-place_rest-clause-places c =
 
 pub returns-clause-places : goal.returns-clause-places
 returns-clause-places c =
-    let l = c.args.line in
-    let whole = ap (λ (b : List ℕ). b ++ 10 ∷ []) (line_is (spaces_of l.indent) l.first.now l.rest.now) in
     let front = places_then _ _ _ _ _ _ _ _ c.in-Some.ensures.places c.in-Some-place.ensures.places in
     let words = places_then _ _ _ _ _ _ _ _ front c.in-Some-place_rest.ensures.places in
-    places_as _ _ _ _ _ _ whole (places_then_either _ _ _ _ _ _ _ _ c.requires words c.place_byte.ensures.places)
+    places_as _ _ _ _ _ _ (line_is c.args.line) (places_then_either _ _ _ _ _ _ _ _ c.requires words c.place_byte.ensures.places)

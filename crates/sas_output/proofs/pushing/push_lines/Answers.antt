@@ -1,6 +1,5 @@
-use Rattle.sas_output.proofs.Imports.{arith, subst, Pushes, Line, Step, steps_of}
+use Rattle.sas_output.proofs.Imports.{ℕ, List, [], ◌∷◌, ◌++◌, flat_map, take_all, flat_map-map, arith, sym, ap, ◌∙◌, subst, Pushes, Line, Step, line_bytes, steps_of}
 use Rattle.sas_output.proofs.Pushed.{pushes_item}
-use Rattle.sas_output.proofs.LineTexts.{ended, all_lines}
 use Rattle.sas_output.proofs.pushing.push_lines.Goals as goal
 
 abbrev no_line : Line
@@ -9,9 +8,10 @@ no_line = Step 0
 pub loop-line-preserved : goal.loop-line-preserved
 loop-line-preserved g c =
     let named = c.args.named.now in
-    pushes_item _ (ended named.task.now (steps_of named.plan)) _ _ no_line _ _ _ c.loop-line-test.true c.loop-line.invariant c.push_line.ensures
+    pushes_item _ (λ line. line_bytes named.task.now (steps_of named.plan) line ++ 10 ∷ []) _ _ no_line _ _ _ c.loop-line-test.true c.loop-line.invariant c.push_line.ensures
 
 pub returns : goal.returns
 returns g c =
     let named = c.args.named.now in
-    subst (Pushes g.W.Write.contents _ _) (all_lines named.task.now (steps_of named.plan) _ _ (omega (arith, c.loop-line-test.false))) c.loop-line.invariant
+    let ended = flat_map-map (λ (line : List ℕ). line ++ 10 ∷ []) (line_bytes named.task.now (steps_of named.plan)) c.args.lines.now in
+    subst (Pushes g.W.Write.contents _ _) (ap (flat_map _) (take_all c.loop-line.line-index c.args.lines.now (omega (arith, c.loop-line-test.false))) ∙ sym ended) c.loop-line.invariant

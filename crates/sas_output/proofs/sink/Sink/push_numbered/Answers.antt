@@ -1,13 +1,8 @@
-use Rattle.sas_output.proofs.Imports.{sym, ◌∙◌, refl}
-use Rattle.sas_output.proofs.Putting.{no_failure}
-use Rattle.sas_output.proofs.Pushed.{pushes_lost, pushes_put, pushes_broken}
+use Rattle.sas_output.proofs.Pushed.{pushes_held}
 use Rattle.sas_output.proofs.sink.Sink.push_numbered.Goals as goal
 
-pub returns-then-failed : goal.returns-then-failed
-returns-then-failed g c = pushes_lost g.W.Write.contents _ _ (sym c.failed.ensures ∙ c.if-failed.true)
+pub returns-then-hold_numbered : goal.returns-then-hold_numbered
+returns-then-hold_numbered g c = pushes_held g.W.Write.contents _ _ _ (c.hold_numbered.ensures.yes c.if-hold_numbered.true) c.hold_numbered.ensures.written
 
-pub returns-in-Err : goal.returns-in-Err
-returns-in-Err g c = pushes_broken g.W.Write.contents _ _ _ refl (sym c.failed.ensures ∙ c.if-failed.false) (c.in-Err.ensures.note.0 refl) c.in-Err.ensures.puts
-
-pub returns-in_default : goal.returns-in_default
-returns-in_default g c = pushes_put g.W.Write.contents _ _ _ refl (sym c.failed.ensures ∙ c.if-failed.false) (no_failure _ c.in_default.ensures.note) c.in_default.ensures.puts
+pub returns : goal.returns
+returns g c = rw (c.hold_numbered.ensures.no c.if-hold_numbered.false) at c.push_each.ensures
