@@ -1,7 +1,7 @@
 -- What functions report, one behind the other.
 use Rattle.std.proofs.Common.{arith}
 use Rattle.std.proofs.lemmas.Grind.{common_steps}
-use Rattle.sas_why.proofs.Imports.{◌≡◌, ℕ, zero, suc, ◌+◌, ◌<◌, Bool, true, false, not, List, [], ◌∷◌, ◌++◌, length, get_or, set, map, take, refl, sym, ◌∙◌, ap, subst, append_assoc, Vec, Global, ◌&&◌, ◌==◌, if◌then◌else◌, flat_map, slice_index, AllByRecursion, append-nil, map-append, take_more, flat_map-cons, flat_map-append, Fact, Parts, default_of, places, can_give, Line, with_lines, LineThen, Origins, Retraced, Report, AreOrigins, ReportsDerivation, IsBehind, lines_of_keepers, is_kept, IsReportOf, Adds, LinesOfEach, Run, last_state, IsDerivation, is_derived, is_given, since_line, AreDerivationLines, can_be_given, keeping_lines, missing_lines, IsCause}
+use Rattle.sas_why.proofs.Imports.{◌≡◌, ℕ, zero, suc, ◌+◌, ◌<◌, Bool, true, false, List, [], ◌∷◌, ◌++◌, length, get_or, set, map, take, refl, sym, ◌∙◌, ap, subst, append_assoc, Vec, Global, if◌then◌else◌, flat_map, slice_index, AllByRecursion, append-nil, map-append, take_more, flat_map-cons, flat_map-append, Fact, Parts, needs_rules, places, can_give, Line, with_lines, LineThen, Origins, Retraced, Report, AreOrigins, ReportsDerivation, IsBehind, lines_of_keepers, is_kept, IsReportOf, Adds, LinesOfEach, Run, last_state, IsDerivation, is_given, since_line, AreDerivationLines, can_be_given, keeping_lines, missing_lines, IsCause}
 use Rattle.sas_output.specs.declared.line.Line.TheVariants as line
 use Rattle.sas_why.proofs.Once.{IsPlain, lines_append, plain_lines}
 use Rattle.sas_why.proofs.Adding.{plain_added, derivation_once, derivation_added, keepers_again, keepers_once, keepers_added}
@@ -117,14 +117,10 @@ module _ (p : Parts) (noted : Retraced) where
     keepers_added p noted.last report fact.var is new lt not_kept add,
   )
 
-  -- whether the cause has lines for rules that don't fire
-  abbrev pub has_condition_on : Fact → Bool
-  has_condition_on fact = is_derived p fact.var && not (fact.value == default_of p fact.var)
-
-  pub nothing_missing : (report : Report) (fact : Fact) → has_condition_on fact ≡ false → Adds p noted report report (λ run lines. lines ≡ missing_lines p (last_state run) fact)
+  pub nothing_missing : (report : Report) (fact : Fact) → needs_rules p fact ≡ false → Adds p noted report report (λ run lines. lines ≡ missing_lines p (last_state run) fact)
   nothing_missing report fact not_so run behind is = ([], sym (ap (λ b. if b then keeping_lines p (last_state run) fact else []) not_so), refl, is)
 
-  pub missing_reported : (report after : Report) (fact : Fact) → has_condition_on fact ≡ true → Adds p noted report after (λ run lines. lines ≡ keeping_lines p (last_state run) fact)
+  pub missing_reported : (report after : Report) (fact : Fact) → needs_rules p fact ≡ true → Adds p noted report after (λ run lines. lines ≡ keeping_lines p (last_state run) fact)
       → Adds p noted report after (λ run lines. lines ≡ missing_lines p (last_state run) fact)
   missing_reported report after fact so adds run behind is = grind (arith, common_steps)
 

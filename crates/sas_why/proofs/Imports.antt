@@ -26,6 +26,7 @@ pub use Rattle.std.specs.Ordering.{nat_cmp, is_lt}
 pub use Rattle.std.specs.declared.cmp.Ordering.TheVariants.{Equal}
 pub use Rattle.sas_answers.proofs.WordedLines.{worded}
 pub use Rattle.sas_answers.specs.PlanWords.{fault_words, invalid_line}
+pub use Rattle.sas_axioms.proofs.RuleChanges.{same_option}
 pub use Rattle.sas_axioms.proofs.RulesOf.{of_variable, can_of}
 pub use Rattle.sas_axioms.specs.Conditions.{IsFullIndex, IsOfRule, waiting_at, asking, occurrences, released}
 pub use Rattle.sas_axioms.specs.LayerRules.{IsRuleOn}
@@ -91,7 +92,7 @@ pub use Rattle.sas_run.specs.declared.plan_check.PlanFault.TheVariants.{Conflict
 pub use Rattle.sas_why.specs.Conflicts.{first_on, AgreesWithFirst, AreFirstEffects}
 pub use Rattle.sas_why.specs.Explained.{IsExplained}
 pub use Rattle.sas_why.specs.Noting.{HavePlaces, NotedAt, LeftAt, NotesSome, NotesChanges, looked_at, CoverChanges, AreFirstChanges, AddsOther, NotesStep}
-pub use Rattle.sas_why.specs.Origins.{is_reported, AreOrigins, ReportsDerivation, nowhere, place_cmp, place_at, ArePlaces, AreInOrder, AddsDerivation, OriginsMatchState, HasRule, HasRuleBelow, IsReportedOf, AreReportedBelow, SameOrigins, unreported, AddsRules}
+pub use Rattle.sas_why.specs.Origins.{needs_rules, is_reported, AreOrigins, ReportsDerivation, nowhere, place_cmp, place_at, ArePlaces, AreInOrder, AddsDerivation, OriginsMatchState, HasRule, HasRuleBelow, IsReportedOf, AreReportedBelow, SameOrigins, unreported, AddsRules}
 pub use Rattle.sas_why.specs.Report.{lines_of_keepers, is_kept, IsReport, IsBehind, ReportsOnce, IsReportOf, Adds}
 pub use Rattle.sas_why.specs.Retracing.{IsOtherIfAny, Retraces, first_steps, HaveSince, AreNotes}
 pub use Rattle.sas_why.specs.Rounds.{origin_at, origin_now, origin_with_rule, unreached, HaveOrigins, IsReached, OriginsUpToRound, value_in_round, HasOrigin, IsOrigin, HavePassed, ReachesNow, InRound, ContinuesRound, AreAllRules, AreBefore, IsFirstOpen, HasLower, rules_of, requiring_at, AreAwaited, added, Reaches, HoldFrom}

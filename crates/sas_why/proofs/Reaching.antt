@@ -102,8 +102,3 @@ module _ (p : Parts) (s : List ℕ) (layered : IsLayered p) where
             → All (λ (e : Fact). value_in_round p layer s over e.var ≡ e.value) (c ∷ cs)
         at first rest zero d lt = first
         at first rest (suc k) d lt = rest k d (omega arith)
-
--- the test whether two options are equal
-pub same_option : (o : Option ℕ) (m : ℕ) → ((o ≡ Some m) × (option_eq ◌==◌ o (Some m) ≡ true)) ⊎ ((o ≡ Some m → ⊥) × (option_eq ◌==◌ o (Some m) ≡ false))
-same_option None m = inr ((λ e. absurd cc), refl)
-same_option (Some k) m = elim (eqb_tells k m) [ inl w ↦ inl (ap Some w.1, w.0) | inr w ↦ inr ((λ e. let f : k ≡ m = cc in w.1 f), w.0) ]

@@ -13,7 +13,7 @@ use std::alloc::{AllocError, Global};
 use std::mem;
 
 /// Where a derived variable has its value from: the round that reaches it, counted from 1, and the rule that gives it the value.
-#[derive(Clone, Copy, Debug, PartialEq, Eq)]
+#[derive(Clone, Copy)]
 pub struct Origin {
     pub rank: u32,
     pub rule: u32,
