@@ -1,6 +1,6 @@
 -- The run of the first steps of a run, and the one that is a step longer.
 use Rattle.std.proofs.lemmas.Grind.{common_steps}
-use Rattle.sas_why.proofs.Imports.{◌≡◌, ◌≢◌, ℕ, ◌+◌, ◌<◌, ◌≤◌, List, [], ◌∷◌, ◌++◌, length, take, get_or, refl, sym, ◌∙◌, ap, subst, inl, inr, arith, cases_lt, take_all, take_more, take-take, length-take-le, get_or-take, get_or-append, get_or-append_seam, Parts, operator_at, IsNamed, IsApplicable, IsLater, Run, state_at, last_state, StepsSucceed, value_at, IsSince, IsOther, MayMean, first_steps}
+use Rattle.sas_why.proofs.Imports.{◌≡◌, ◌≢◌, ℕ, ◌+◌, ◌<◌, ◌≤◌, List, [], ◌∷◌, ◌++◌, length, take, get_or, refl, sym, ◌∙◌, ap, subst, inl, inr, arith, cases_lt, take_all, take_more, take-take, length-take-le, get_or-take, get_or-append, get_or-append_seam, Parts, operator_at, IsLater, Run, state_at, last_state, StepsSucceed, value_at, IsSince, IsOther, MayMean, first_steps}
 use Rattle.std.proofs.Math.ListN.{length-append}
 
 abbrev run_of : List (List ℕ) → List ℕ → List (List ℕ) → Run

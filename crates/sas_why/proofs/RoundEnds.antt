@@ -1,6 +1,6 @@
 -- How a round ends, how the first one begins, and what is known when no rule is left to look at.
 use Rattle.std.proofs.lemmas.Grind.{common_steps}
-use Rattle.sas_why.proofs.Imports.{All, IsFalse, ◌≡◌, ℕ, suc, ◌+◌, ◌<◌, ◌≤◌, true, false, List, [], ◌∷◌, length, get_or, None, Some, refl, sym, ◌∙◌, ap, subst, inl, inr, arith, Contains, cases_lt, cases_Bool, false≢true, and_parts, get_or-replicate, length-replicate, get_or_default, get_or_past, All-nil, All-contains, Parts, rule_at, IsRuleOn, IsOnLayer, IsLayered, IsSettled, IsClosed, Origin, Rounds, requiring_at, origin_at, IsOrigin, HasOrigin, HaveOrigins, IsReached, OriginsUpToRound, HavePassed, ReachesNow, InRound, unreached, ContinuesRound, AreAllRules, AreBefore, differs, layer_cases, contains_none, reached, HasLayerAndRank, FiresNext, is_given, Fires, ReachedBy, reached_by}
+use Rattle.sas_why.proofs.Imports.{All, IsFalse, ◌≡◌, ℕ, suc, ◌+◌, ◌<◌, ◌≤◌, true, false, List, [], length, get_or, None, Some, refl, sym, ◌∙◌, ap, subst, inl, inr, arith, Contains, cases_lt, cases_Bool, false≢true, and_parts, get_or-replicate, length-replicate, get_or_default, get_or_past, All-nil, All-contains, Parts, rule_at, IsRuleOn, IsOnLayer, IsLayered, IsSettled, IsClosed, Origin, Rounds, requiring_at, origin_at, IsOrigin, HasOrigin, HaveOrigins, IsReached, OriginsUpToRound, HavePassed, ReachesNow, InRound, unreached, ContinuesRound, AreAllRules, AreBefore, differs, layer_cases, contains_none, reached, HasLayerAndRank, FiresNext, is_given, Fires, ReachedBy, reached_by}
 use Rattle.sas_why.proofs.Reaching.{reached_up, reached_in, holds_on, Begins, all_or_begins}
 use Rattle.sas_why.proofs.Requiring.{requires_it}
 use Rattle.sas_why.proofs.Origined.{unreached_none}
@@ -189,10 +189,6 @@ first_begins p s r rules before all =
       few = omega arith;
       more = λ _. omega arith;
     }
-
-pub nil_of : (xs : List ℕ) → length xs ≡ 0 → xs ≡ []
-nil_of [] e = refl
-nil_of (x ∷ xs) e = absurd (omega arith)
 
 -- ---- one round after another
 

@@ -47,12 +47,8 @@ pub fn origins_of<T: Grounded>(
 {
     let rules = all_rules(alloc, task)?;
     let mut rounds = Rounds::new(alloc, task)?;
-    let finished = rounds.finish(task, state, rules);
-    let Rounds { origins, .. } = rounds;
-    match finished {
-        Ok(()) => Ok(origins),
-        Err(error) => Err(error),
-    }
+    rounds.finish(task, state, rules)?;
+    Ok(rounds.origins)
 }
 
 /// Returns all rules of the task.

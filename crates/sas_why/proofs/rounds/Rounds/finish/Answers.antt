@@ -1,6 +1,6 @@
 -- Each round leads to the next one, and none is left when no rule is.
-use Rattle.sas_why.proofs.Imports.{◌≡◌, ℕ, ◌<◌, ◌==◌, Bool, true, false, Vec, Global, vec_len, [], length, refl, sym, ap, subst, ◌∙◌, inl, inr, arith, cases_lt, false≢true, eqb_tells, InRound}
-use Rattle.sas_why.proofs.RoundEnds.{AreDue, found_all, first_begins, next_begins, nil_of}
+use Rattle.sas_why.proofs.Imports.{◌≡◌, ℕ, ◌<◌, ◌==◌, Bool, true, false, Vec, Global, vec_len, [], length, refl, sym, ap, subst, ◌∙◌, inl, inr, arith, cases_lt, false≢true, eqb_tells, InRound, nil_from_length}
+use Rattle.sas_why.proofs.RoundEnds.{AreDue, found_all, first_begins, next_begins}
 use Rattle.sas_why.proofs.rounds.Rounds.finish.Goals as goal
 
 some_rule : (rules : Vec ℕ Global) (empty : Bool) → empty ≡ (vec_len rules == 0) → empty ≡ false → 0 < length rules.items
@@ -11,7 +11,7 @@ some_rule rules empty tested is = elim (eqb_tells (vec_len rules) 0) [
 
 no_rule : (rules : Vec ℕ Global) (empty : Bool) → empty ≡ (vec_len rules == 0) → empty ≡ true → rules.items ≡ []
 no_rule rules empty tested is = elim (eqb_tells (vec_len rules) 0) [
-  | inl w ↦ nil_of rules.items (omega (arith, rules.ok.0, w.1))
+  | inl w ↦ nil_from_length rules.items (omega (arith, rules.ok.0, w.1))
   | inr w ↦ absurd (false≢true (sym w.0 ∙ (sym tested ∙ is)))
 ]
 
