@@ -209,9 +209,6 @@ reach_goes_on var rule r r' lt now = at (origin_at r.origins.items var) refl
 pub goes_as : (a b c : Rounds) → b.over ≡ a.over → b.origins.items ≡ a.origins.items → b.next.items ≡ a.next.items → ContinuesRound b c → ContinuesRound a c
 goes_as a b c over origins next goes = grind (arith, common_steps, more)
 
-pub goes_on_still : (r : Rounds) → ContinuesRound r r
-goes_on_still r = record { over = refl; fewer = omega arith; some = λ lt. omega arith }
-
 pub goes_on_more : (a b c : Rounds) → ContinuesRound a b → ContinuesRound b c → ContinuesRound a c
 goes_on_more a b c x y = grind (arith, common_steps, more, cases_lt)
 
