@@ -12,6 +12,10 @@ no_rule_line (l ∷ more) z plain rule h = elim (contains_cases l more z h) [
   | inr there ↦ no_rule_line more z plain.1 rule there
 ]
 
+-- a line that says what a rule derives isn't one that says what a rule requires
+derives_requires_none : (rule other : ℕ) (c : Fact) → RuleDerives rule ≡ RuleRequires other c → ⊥
+derives_requires_none rule other c e = absurd (let k : 1 ≡ 3 = ap (λ (l : Line). length (rule_numbers l)) e in omega (arith, k))
+
 module _ (p : Parts) (s : List ℕ) where
   -- what has to be known of more lines
   record Grows (old new : Report) (more : List Line) : Type 0 where
@@ -113,11 +117,8 @@ module _ (p : Parts) (s : List ℕ) where
       rules = refl;
       one_each = refl;
       kept = λ v so. inl so;
-      not_kept = λ rule c not_so. (not_so, λ h. let w = map_contains RuleDerives next.items (RuleRequires rule c) h in one_number w.0 rule c w.2);
+      not_kept = λ rule c not_so. (not_so, λ h. let w = map_contains RuleDerives next.items (RuleRequires rule c) h in derives_requires_none w.0 rule c w.2);
     }) is
-      where
-        one_number : (a rule : ℕ) (c : Fact) → RuleDerives a ≡ RuleRequires rule c → ⊥
-        one_number a rule c e = absurd (let k : 1 ≡ 3 = ap (λ (l : Line). length (rule_numbers l)) e in omega (arith, k))
 
   -- ---- what the rules require that don't fire
 
@@ -174,7 +175,7 @@ module _ (p : Parts) (s : List ℕ) where
           (λ t. inl t),
           (λ either. elim either [
             | inl t ↦ t
-            | inr h ↦ (let w = keeper (places (can_give p var) p.rules) (RuleDerives rule) h in absurd (three_numbers rule w.0 w.1 w.3))
+            | inr h ↦ (let w = keeper (places (can_give p var) p.rules) (RuleDerives rule) h in absurd (derives_requires_none rule w.0 w.1 w.3))
           ]),
         );
         rules = refl;
@@ -191,9 +192,6 @@ module _ (p : Parts) (s : List ℕ) where
         ];
       }) is
         where
-          three_numbers : (rule r : ℕ) (c : Fact) → RuleDerives rule ≡ RuleRequires r c → ⊥
-          three_numbers rule r c e = absurd (let k : 1 ≡ 3 = ap (λ (l : Line). length (rule_numbers l)) e in omega (arith, k))
-
           here : get_or (set report.kept var true) var false ≡ true
           here = get_or-set_same report.kept var true false (omega (arith, is.one_each, within))
 

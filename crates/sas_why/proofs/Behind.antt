@@ -1,12 +1,8 @@
 -- What is known of a run that was retraced up to a fault.
-use Rattle.std.proofs.lemmas.Grind.{common_steps}
-use Rattle.sas_why.proofs.Imports.{◌≡◌, ℕ, ◌-◌, List, [], ◌∷◌, ◌++◌, length, take, Option, None, Some, refl, sym, ◌∙◌, ap, subst, inl, inr, arith, append-nil, take-append_seam, Parts, PlanParts, operator_at, IsState, IsLayered, IsSettled, Agree, PlanFault, Conflict, LeadsTo, ComesTo, IsFaultOf, leads_one_way, Line, Run, last_state, StepsSucceed, steps_before, RunEndsWith, leads_to_last, Other, Retraced, IsOtherIfAny, Retraces, IsBehind, ReportsOnce, last_rests, AreCouldBeLines, AreFaultLines, IsWhy}
+use Rattle.sas_why.proofs.Imports.{◌≡◌, ℕ, ◌-◌, List, [], ◌∷◌, ◌++◌, length, take, Option, None, Some, refl, sym, ◌∙◌, ap, subst, inl, inr, arith, append-nil, take-append_seam, Parts, PlanParts, operator_at, IsState, IsLayered, IsSettled, Agree, Conflict, LeadsTo, ComesTo, IsFaultOf, leads_one_way, Line, Run, last_state, StepsSucceed, leads_to_last, Other, Retraced, IsOtherIfAny, Retraces, IsBehind, ReportsOnce, last_rests, AreCouldBeLines, AreFaultLines, IsWhy}
 use Rattle.sas_output.specs.declared.line.Line.TheVariants as line
 
-module _ (p : Parts) (plan : PlanParts) (noted : Retraced) (run : Run) (fault : PlanFault) (r : Retraces p plan noted run) (is : noted.fault ≡ Some fault) where
-  pub ends : IsFaultOf p plan fault × (run.steps ≡ steps_before plan fault)
-  ends = subst (RunEndsWith p plan run) is r.ends
-
+module _ (p : Parts) (plan : PlanParts) (noted : Retraced) (run : Run) (r : Retraces p plan noted run) where
   pub behind : IsBehind p noted run
   behind =
       let rests = last_rests p run r.through in
@@ -18,18 +14,36 @@ module _ (p : Parts) (plan : PlanParts) (noted : Retraced) (run : Run) (fault : 
         since = r.since;
       }
 
+  pub last_is : noted.last ≡ last_state run
+  last_is = r.last
+
+  pub operators_are : noted.operators.items ≡ run.operators
+  operators_are = r.operators
+
+  pub operators_as_many : length run.operators ≡ length run.steps
+  operators_as_many = let through = r.through in through.operators
+
   -- ---- why
 
-  pub is_why : (lines : List Line) → ReportsOnce lines (AreFaultLines p plan run fault) → (new : List Line)
+  pub is_why : (lines : List Line) → ReportsOnce lines (AreFaultLines p plan run noted.fault) → (new : List Line)
       → ((other : Other) → noted.other ≡ Some other → new ≡ lines ++ line.CouldBe other.step other.operator ∷ [])
       → (noted.other ≡ None → new ≡ lines)
-      → IsWhy p plan fault new
+      → IsWhy p plan noted.fault new
   is_why lines reported new some none = at noted.other refl
     where
-      why : (others : List Line) → AreCouldBeLines p run others → new ≡ lines ++ others → IsWhy p plan fault new
-      why others may is = grind (arith, common_steps, ends)
+      why : (others : List Line) → AreCouldBeLines p run others → new ≡ lines ++ others → IsWhy p plan noted.fault new
+      why others may is = record {
+        run = run;
+        went = r.ends.1;
+        through = r.through;
+        reasons = reported.0;
+        are = reported.1;
+        others = others;
+        may = may;
+        whole = is ∙ ap (λ (l : List Line). l ++ others) reported.2;
+      }
 
-      at : (other : Option Other) → noted.other ≡ other → IsWhy p plan fault new
+      at : (other : Option Other) → noted.other ≡ other → IsWhy p plan noted.fault new
       at None e = why [] (inr (subst (IsOtherIfAny p run) e r.other, refl)) (none e ∙ sym (append-nil lines))
       at (Some other) e = why (line.CouldBe other.step other.operator ∷ [])
           (inl (other.step, other.operator, subst (IsOtherIfAny p run) e r.other, refl)) (some other e)
@@ -51,19 +65,6 @@ pub conflict_clashes : (p : Parts) (plan : PlanParts) (run : Run) (step operator
     → run.steps ≡ take (step - 1) plan.steps → IsFaultOf p plan (Conflict step operator) → Agree (last_state run) (operator_at p operator).effects → ⊥
 conflict_clashes p plan run step operator layered through is f agree =
     f.4 (subst (λ s. Agree s (operator_at p operator).effects) (sym (comes_to_last p plan run step f.0 f.1 layered through is f.2)) agree)
-
-module _ (p : Parts) (plan : PlanParts) (noted : Retraced) (run : Run) (r : Retraces p plan noted run) where
-  pub last_is : noted.last ≡ last_state run
-  last_is = r.last
-
-  pub operators_are : noted.operators.items ≡ run.operators
-  operators_are = r.operators
-
-  pub operators_as_many : length run.operators ≡ length run.steps
-  operators_as_many = let through = r.through in through.operators
-
-pub same_other : (a b : Other) → Some a ≡ Some b → a ≡ b
-same_other a b e = cc
 
 pub some_not_none : (a : Other) → Some a ≡ None → ⊥
 some_not_none a e = cc

@@ -1,7 +1,7 @@
 -- What functions report, one behind the other.
 use Rattle.std.proofs.Common.{arith}
 use Rattle.std.proofs.lemmas.Grind.{common_steps}
-use Rattle.sas_why.proofs.Imports.{◌≡◌, ℕ, zero, suc, ◌+◌, ◌<◌, Bool, true, false, not, List, [], ◌∷◌, ◌++◌, length, get_or, set, map, take, refl, sym, ◌∙◌, ap, subst, append_assoc, Vec, Global, ◌&&◌, ◌==◌, if◌then◌else◌, flat_map, slice_index, AllByRecursion, append-nil, map-append, take_more, flat_map-cons, flat_map-append, Fact, Parts, default_of, places, can_give, Line, with_lines, LineThen, Origins, Retraced, Report, AreOrigins, ReportsDerivation, IsBehind, lines_of_keepers, is_kept, IsReportOf, Adds, LinesOfEach, Run, last_state, IsDerivation, is_derived, is_given, since_line, AreDerivationLines, can_be_given, keeping_lines, missing_lines, IsCause}
+use Rattle.sas_why.proofs.Imports.{◌≡◌, ℕ, zero, suc, ◌+◌, ◌<◌, true, false, List, [], ◌∷◌, ◌++◌, length, get_or, set, map, take, refl, sym, ◌∙◌, ap, subst, append_assoc, Vec, Global, if◌then◌else◌, flat_map, slice_index, AllByRecursion, append-nil, map-append, take_more, flat_map-cons, flat_map-append, Fact, Parts, needs_rules, Line, with_lines, LineThen, Origins, Retraced, Report, AreOrigins, ReportsDerivation, IsBehind, lines_of_keepers, is_kept, IsReportOf, Adds, LinesOfEach, Run, last_state, IsDerivation, is_given, since_line, AreDerivationLines, can_be_given, keeping_lines, missing_lines, IsCause}
 use Rattle.sas_output.specs.declared.line.Line.TheVariants as line
 use Rattle.sas_why.proofs.Once.{IsPlain, lines_append, plain_lines}
 use Rattle.sas_why.proofs.Adding.{plain_added, derivation_once, derivation_added, keepers_again, keepers_once, keepers_added}
@@ -86,12 +86,10 @@ module _ (p : Parts) (noted : Retraced) where
 
   -- ---- rules that don't fire
 
-  keeping_then : (s : List ℕ) (fact : Fact) → can_be_given p fact ≡ true → keeping_lines p s fact ≡ lines_of_keepers p s fact.var
-  keeping_then s fact so = ap (λ b. if b then lines_of_keepers p s fact.var else line.NoRuleDerives ∷ []) so
-
   keepers_of_last : (run : Run) → IsBehind p noted run → (fact : Fact) → can_be_given p fact ≡ true
       → lines_of_keepers p noted.last fact.var ≡ keeping_lines p (last_state run) fact
-  keepers_of_last run behind fact so = ap (λ s. lines_of_keepers p s fact.var) behind.last ∙ sym (keeping_then (last_state run) fact so)
+  keepers_of_last run behind fact so = ap (λ s. lines_of_keepers p s fact.var) behind.last
+      ∙ sym (ap (λ b. if b then lines_of_keepers p (last_state run) fact.var else line.NoRuleDerives ∷ []) so)
 
   pub no_rule : (report : Report) (new : List Line) (fact : Fact) → can_be_given p fact ≡ false → new ≡ report.lines ++ line.NoRuleDerives ∷ []
       → Adds p noted report (record report { lines = new }) (λ run lines. lines ≡ keeping_lines p (last_state run) fact)
@@ -117,14 +115,10 @@ module _ (p : Parts) (noted : Retraced) where
     keepers_added p noted.last report fact.var is new lt not_kept add,
   )
 
-  -- whether the cause has lines for rules that don't fire
-  abbrev pub has_condition_on : Fact → Bool
-  has_condition_on fact = is_derived p fact.var && not (fact.value == default_of p fact.var)
-
-  pub nothing_missing : (report : Report) (fact : Fact) → has_condition_on fact ≡ false → Adds p noted report report (λ run lines. lines ≡ missing_lines p (last_state run) fact)
+  pub nothing_missing : (report : Report) (fact : Fact) → needs_rules p fact ≡ false → Adds p noted report report (λ run lines. lines ≡ missing_lines p (last_state run) fact)
   nothing_missing report fact not_so run behind is = ([], sym (ap (λ b. if b then keeping_lines p (last_state run) fact else []) not_so), refl, is)
 
-  pub missing_reported : (report after : Report) (fact : Fact) → has_condition_on fact ≡ true → Adds p noted report after (λ run lines. lines ≡ keeping_lines p (last_state run) fact)
+  pub missing_reported : (report after : Report) (fact : Fact) → needs_rules p fact ≡ true → Adds p noted report after (λ run lines. lines ≡ keeping_lines p (last_state run) fact)
       → Adds p noted report after (λ run lines. lines ≡ missing_lines p (last_state run) fact)
   missing_reported report after fact so adds run behind is = grind (arith, common_steps)
 
@@ -156,8 +150,3 @@ pub flat_more : {A B : Type 0} (f : A → List B) (first old new shown : List B)
     → old ≡ first ++ flat_map f (take k items) → new ≡ old ++ shown → shown ≡ f (get_or items k d)
     → new ≡ first ++ flat_map f (take (k + 1) items)
 flat_more f first old new shown k items d lt before pushed is = grind (arith, common_steps, append_assoc, flat_map-cons, append-nil, flat_map-append, take_more)
-
--- the rules of a variable
-pub rules_of_report : (p : Parts) (noted : Retraced) (report : Report) (var : ℕ) → var < length p.variables → IsReportOf p noted report
-    → get_or report.rules var [] ≡ places (can_give p var) p.rules
-rules_of_report p noted report var lt can = let is = can.2 in is.rules.each var lt

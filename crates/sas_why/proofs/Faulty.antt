@@ -13,10 +13,10 @@ unknown_reported p step name like lines is are = grind (arith, common_steps)
 
 -- ---- items that fail, one more
 
-fails_when : (s : List ℕ) (f : Fact) → (slice_index s f.var ≡ f.value → ⊥) → fails s f ≡ true
+pub fails_when : (s : List ℕ) (f : Fact) → (slice_index s f.var ≡ f.value → ⊥) → fails s f ≡ true
 fails_when s f ne = ap not (ne_eqb (slice_index s f.var) f.value ne)
 
-holds_when : (s : List ℕ) (f : Fact) → slice_index s f.var ≡ f.value → fails s f ≡ false
+pub holds_when : (s : List ℕ) (f : Fact) → slice_index s f.var ≡ f.value → fails s f ≡ false
 holds_when s f e = ap not (eq-eqb (slice_index s f.var) f.value e)
 
 pub one_more_fails : (s : List ℕ) (facts : List Fact) (f : Fact) → (slice_index s f.var ≡ f.value → ⊥) → filter (fails s) (facts ++ f ∷ []) ≡ filter (fails s) facts ++ f ∷ []
@@ -32,14 +32,6 @@ module _ {A : Type 0} (test : A → Bool) (k : ℕ) (items : List A) (d : A) (lt
 
   pub place_not : test (get_or items k d) ≡ false → places_to test (k + 1) items ≡ places_to test k items
   place_not is = places_one_more test k items d lt ∙ (ap (λ b. places_to test k items ++ (if b then k ∷ [] else [])) is ∙ append-nil (places_to test k items))
-
-pub place_fails : (s : List ℕ) (k : ℕ) (facts : List Fact) (d : Fact) → k < length facts → (slice_index s (get_or facts k d).var ≡ (get_or facts k d).value → ⊥)
-    → places_to (fails s) (k + 1) facts ≡ places_to (fails s) k facts ++ k ∷ []
-place_fails s k facts d lt ne = place_more (fails s) k facts d lt (fails_when s (get_or facts k d) ne)
-
-pub place_holds : (s : List ℕ) (k : ℕ) (facts : List Fact) (d : Fact) → k < length facts → slice_index s (get_or facts k d).var ≡ (get_or facts k d).value
-    → places_to (fails s) (k + 1) facts ≡ places_to (fails s) k facts
-place_holds s k facts d lt e = place_not (fails s) k facts d lt (holds_when s (get_or facts k d) e)
 
 -- ---- what is reported of the last state
 

@@ -8,31 +8,24 @@ module _ (p : Parts) (s : List ℕ) (o : Operator) where
   no_firsts firsts one_each none = grind (arith, common_steps, not_both)
 
   module _ (n : ℕ) (firsts : List (Option ℕ)) (are : AreFirstEffects p s o n firsts) where
-    -- one more effect that doesn't fire
-    pub quiet : (Fires s (effect_at o n) → ⊥) → AreFirstEffects p s o (n + 1) firsts
-    quiet silent = record {
+    -- one more effect that isn't the first on its variable
+    no_first : (Fires s (effect_at o n) → (first : ℕ) × AgreesWithFirst firsts o n first) → AreFirstEffects p s o (n + 1) firsts
+    no_first its = record {
       one_each = are.one_each;
       each = λ effect lt fires. elim (cases_eq effect n) [
-        | inl e ↦ absurd (silent (subst (λ k. Fires s (effect_at o k)) e fires))
+        | inl e ↦ subst (λ k. (first : ℕ) × AgreesWithFirst firsts o k first) (sym e) (its (subst (λ k. Fires s (effect_at o k)) e fires))
         | inr ne ↦ are.each effect (omega arith) fires
       ];
       only = λ var first is. (let w = are.only var first is in (omega (arith, w.0), w.1, w.2));
     }
 
+    -- one more that doesn't fire
+    pub quiet : (Fires s (effect_at o n) → ⊥) → AreFirstEffects p s o (n + 1) firsts
+    quiet silent = no_first (λ fires. absurd (silent fires))
+
     -- one more that fires and agrees
     pub again : (first : ℕ) → first_on firsts (effect_at o n).var ≡ Some first → (effect_at o first).new ≡ (effect_at o n).new → AreFirstEffects p s o (n + 1) firsts
-    again first is same = record {
-      one_each = are.one_each;
-      each = λ effect lt fires. elim (cases_eq effect n) [
-        | inl e ↦ (
-          first,
-          subst (λ k. AgreesWithFirst firsts o k first) (sym e)
-              (record { is = is; no_later = omega (arith, (are.only (effect_at o n).var first is).0); same = same }),
-        )
-        | inr ne ↦ are.each effect (omega arith) fires
-      ];
-      only = λ var first is. (let w = are.only var first is in (omega (arith, w.0), w.1, w.2));
-    }
+    again first is same = no_first (λ _. (first, record { is = is; no_later = omega (arith, (are.only (effect_at o n).var first is).0); same = same }))
 
     -- one more that is the first on its variable
     pub first_here : (effect_at o n).var < length p.variables → Fires s (effect_at o n) → first_on firsts (effect_at o n).var ≡ None

@@ -8,7 +8,7 @@ pub use Rattle.std.proofs.lemmas.Bool.Decides.{same_from_decides, eqb_tells, leb
 pub use Rattle.std.proofs.lemmas.Cmp.{nat_cmp_total, on_total, then_total}
 pub use Rattle.std.proofs.lemmas.Fn.{always_returns_same}
 pub use Rattle.std.proofs.lemmas.Grind.{flat_map-append, common_steps}
-pub use Rattle.std.proofs.lemmas.List.{get_or-set_same, get_or-set_other, length-set, append-nil, map-append, take_more, take_all, take-take, length-take-le, get_or-take, length-append, same_lists, get_or_default, length-replicate, get_or_append_left, get_or-map, length-map, get_or-append-add, get_or-replicate, get_or_past, take_at, drop_at, drop_all, length-drop}
+pub use Rattle.std.proofs.lemmas.List.{nil_from_length, get_or-set_same, get_or-set_other, length-set, append-nil, map-append, take_more, take_all, take-take, length-take-le, get_or-take, length-append, same_lists, get_or_default, length-replicate, get_or_append_left, get_or-map, length-map, get_or-append-add, get_or-replicate, get_or_past, take_at, drop_at, drop_all, length-drop}
 pub use Rattle.std.proofs.lemmas.List.Concat.{flat_map-cons}
 pub use Rattle.std.proofs.lemmas.List.Elements.{Contains-append_left, Contains-append_right, Contains-append_cases, filter-append, All-contains, All-weaker, All-nil, All-cons, All-append, Contains-get_or, All-push, Contains-push, Contains-push_cases, All-from_recursion, All-head, All-rest, All-tail}
 pub use Rattle.std.proofs.lemmas.List.Folds.{Any-from_list_any, list_any_at}
@@ -26,6 +26,7 @@ pub use Rattle.std.specs.Ordering.{nat_cmp, is_lt}
 pub use Rattle.std.specs.declared.cmp.Ordering.TheVariants.{Equal}
 pub use Rattle.sas_answers.proofs.WordedLines.{worded}
 pub use Rattle.sas_answers.specs.PlanWords.{fault_words, invalid_line}
+pub use Rattle.sas_axioms.proofs.RuleChanges.{same_option}
 pub use Rattle.sas_axioms.proofs.RulesOf.{of_variable, can_of}
 pub use Rattle.sas_axioms.specs.Conditions.{IsFullIndex, IsOfRule, waiting_at, asking, occurrences, released}
 pub use Rattle.sas_axioms.specs.LayerRules.{IsRuleOn}
@@ -54,13 +55,12 @@ pub use Rattle.sas_meaning.specs.States.{AllHold}
 pub use Rattle.sas_meaning.specs.Steps.{Agree, preconditions}
 pub use Rattle.sas_meaning.specs.Touched.{MayHaveChanged}
 pub use Rattle.sas_meaning.specs.declared.touched.Touched.{Touched}
-pub use Rattle.sas_names.specs.Named.{IsNamed}
 pub use Rattle.sas_output.proofs.RuleLines.{same_is}
 pub use Rattle.sas_output.proofs.Sent.{writes_as}
 pub use Rattle.sas_output.specs.Ending.{output_of, Output}
 pub use Rattle.sas_output.specs.Line.{rule_numbers, is_rule_line, is_same_rule_line, reasons_text}
 pub use Rattle.sas_output.specs.declared.line.Line.{Line}
-pub use Rattle.sas_output.specs.declared.line.Line.TheVariants.{RuleDerives, RuleRequires, Requires, Actual, SinceStep, Step, ConflictingEffect, CouldBe, GoalFact, SimilarOperator}
+pub use Rattle.sas_output.specs.declared.line.Line.TheVariants.{RuleDerives, RuleRequires, Requires, Actual, SinceStep, Step, ConflictingEffect, CouldBe, GoalFact}
 pub use Rattle.sas_reasons.proofs.Conflicts.{some_conflict}
 pub use Rattle.sas_reasons.proofs.Derivation.{no_circle, giver_on, stands_one, var_differs, one_giver}
 pub use Rattle.sas_reasons.proofs.Likeness.{is_blank, space_is_trimmed, like_is}
@@ -74,16 +74,16 @@ pub use Rattle.sas_reasons.specs.Laws.{IsAlike}
 pub use Rattle.sas_reasons.specs.Lines.{with_lines, LineThen, LinesOfEach, with_line}
 pub use Rattle.sas_reasons.specs.Lowest.{IsLowest, AreLowest}
 pub use Rattle.sas_reasons.specs.MayMean.{similar_operator, trimmed, IsOther, MayMean, folded}
-pub use Rattle.sas_reasons.specs.WhyPlan.{AreCouldBeLines, AreFaultLines, IsWhy, similar_name_lines, ConflictsWith, AreOperatorLines, AreConflictLines, cost_lines, AreGoalLines, AreFailedPreconditionLines, goal_fact_at, AreGoalFactLines, cost_lines_sum}
+pub use Rattle.sas_reasons.specs.WhyPlan.{AreCouldBeLines, AreFaultLines, IsWhy, similar_name_lines, ConflictsWith, AreOperatorLines, AreConflictLines, cost_lines, AreFailedPreconditionLines, goal_fact_at, AreGoalFactLines, cost_lines_sum}
 pub use Rattle.sas_run.proofs.Determined.{leads_one_way}
 pub use Rattle.sas_run.proofs.Executing.{as_many, executed_fits, name_is}
 pub use Rattle.sas_run.proofs.Giving.{not_both}
 pub use Rattle.sas_run.proofs.Ranges.{preconditions_within, effect_within}
 pub use Rattle.sas_run.proofs.Runs.{leads_to_last, last_rests, operators_exist}
 pub use Rattle.sas_run.specs.Executions.{Executed, next_name, next_operator, Executes}
-pub use Rattle.sas_run.specs.Plans.{LeadsTo, IsApplicable, IsValid}
+pub use Rattle.sas_run.specs.Plans.{LeadsTo, IsValid}
 pub use Rattle.sas_run.specs.Running.{IsLater, IsLaterIfAny}
-pub use Rattle.sas_run.specs.Runs.{Run, last_state, StepsSucceed, steps_before, RunEndsWith, state_at}
+pub use Rattle.sas_run.specs.Runs.{Run, last_state, StepsSucceed, RunEndsWith, state_at}
 pub use Rattle.sas_run.specs.Stepping.{ListsChanges}
 pub use Rattle.sas_run.specs.Verdicts.{ComesTo, IsFaultOf}
 pub use Rattle.sas_run.specs.declared.plan_check.PlanFault.{PlanFault}
@@ -91,7 +91,7 @@ pub use Rattle.sas_run.specs.declared.plan_check.PlanFault.TheVariants.{Conflict
 pub use Rattle.sas_why.specs.Conflicts.{first_on, AgreesWithFirst, AreFirstEffects}
 pub use Rattle.sas_why.specs.Explained.{IsExplained}
 pub use Rattle.sas_why.specs.Noting.{HavePlaces, NotedAt, LeftAt, NotesSome, NotesChanges, looked_at, CoverChanges, AreFirstChanges, AddsOther, NotesStep}
-pub use Rattle.sas_why.specs.Origins.{is_reported, AreOrigins, ReportsDerivation, nowhere, place_cmp, place_at, ArePlaces, AreInOrder, AddsDerivation, OriginsMatchState, HasRule, HasRuleBelow, IsReportedOf, AreReportedBelow, SameOrigins, unreported, AddsRules}
+pub use Rattle.sas_why.specs.Origins.{needs_rules, is_reported, AreOrigins, ReportsDerivation, nowhere, place_cmp, place_at, ArePlaces, AreInOrder, AddsDerivation, OriginsMatchState, HasRule, HasRuleBelow, IsReportedOf, AreReportedBelow, SameOrigins, unreported, AddsRules}
 pub use Rattle.sas_why.specs.Report.{lines_of_keepers, is_kept, IsReport, IsBehind, ReportsOnce, IsReportOf, Adds}
 pub use Rattle.sas_why.specs.Retracing.{IsOtherIfAny, Retraces, first_steps, HaveSince, AreNotes}
 pub use Rattle.sas_why.specs.Rounds.{origin_at, origin_now, origin_with_rule, unreached, HaveOrigins, IsReached, OriginsUpToRound, value_in_round, HasOrigin, IsOrigin, HavePassed, ReachesNow, InRound, ContinuesRound, AreAllRules, AreBefore, IsFirstOpen, HasLower, rules_of, requiring_at, AreAwaited, added, Reaches, HoldFrom}

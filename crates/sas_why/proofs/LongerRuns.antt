@@ -1,6 +1,6 @@
 -- The run of the first steps of a run, and the one that is a step longer.
 use Rattle.std.proofs.lemmas.Grind.{common_steps}
-use Rattle.sas_why.proofs.Imports.{◌≡◌, ◌≢◌, ℕ, ◌+◌, ◌<◌, ◌≤◌, List, [], ◌∷◌, ◌++◌, length, take, get_or, refl, sym, ◌∙◌, ap, subst, inl, inr, arith, cases_lt, take_all, take_more, take-take, length-take-le, get_or-take, get_or-append, get_or-append_seam, Parts, operator_at, IsNamed, IsApplicable, IsLater, Run, state_at, last_state, StepsSucceed, value_at, IsSince, IsOther, MayMean, first_steps}
+use Rattle.sas_why.proofs.Imports.{◌≡◌, ◌≢◌, ℕ, ◌+◌, ◌<◌, ◌≤◌, List, [], ◌∷◌, ◌++◌, length, take, get_or, refl, sym, ◌∙◌, ap, subst, inl, inr, arith, cases_lt, take_all, take_more, take-take, length-take-le, get_or-take, get_or-append, get_or-append_seam, Parts, operator_at, IsLater, Run, state_at, last_state, StepsSucceed, value_at, IsSince, IsOther, MayMean, first_steps}
 use Rattle.std.proofs.Math.ListN.{length-append}
 
 abbrev run_of : List (List ℕ) → List ℕ → List (List ℕ) → Run
@@ -88,20 +88,10 @@ module _ (p : Parts) (run : Run) (through : StepsSucceed p run) (name : List ℕ
 
   -- a step of the run may mean what it may mean there
   other_longer : (k other : ℕ) → IsOther p run k other → IsOther p longer k other
-  other_longer k other is = record {
-    exists = omega (arith, is.exists, one_step_more);
-    above = subst (λ n. n < other) (sym (same_operator k is.exists)) is.above;
-    of_name = subst (λ its. IsNamed p its other) (sym (same_name k is.exists)) is.of_name;
-    applicable = subst (λ s. IsApplicable s (operator_at p other)) (sym (same_state k (let lt = is.exists in omega arith))) is.applicable;
-  }
+  other_longer k other is = grind (arith, common_steps, one_step_more, same_operator, same_name, same_state)
 
   other_shorter : (k other : ℕ) → k < length run.steps → IsOther p longer k other → IsOther p run k other
-  other_shorter k other lt is = record {
-    exists = lt;
-    above = subst (λ n. n < other) (same_operator k lt) is.above;
-    of_name = subst (λ its. IsNamed p its other) (same_name k lt) is.of_name;
-    applicable = subst (λ s. IsApplicable s (operator_at p other)) (same_state k (omega arith)) is.applicable;
-  }
+  other_shorter k other lt is = grind (arith, common_steps, same_operator, same_name, same_state)
 
   pub may_mean_longer : (step other : ℕ) → MayMean p run step other → MayMean p longer step other
   may_mean_longer step other (k, at, may) = (

@@ -1,6 +1,6 @@
 -- It is enough to look at the variables that a step may have changed.
 use Rattle.std.proofs.lemmas.Grind.{common_steps}
-use Rattle.sas_why.proofs.Imports.{◌≡◌, ◌≢◌, ◌⊎◌, ℕ, ◌<◌, true, false, IsFalse, List, length, get_or, sym, ◌∙◌, subst, inl, inr, arith, All, Contains, cases_eq, cases_Bool, All-contains, Fact, Parts, IsDerived, IsState, Touched, MayHaveChanged, AreDerived, derived_within, ListsChanges, Changes, HavePlaces, NotedAt, LeftAt, NotesSome, NotesChanges, looked_at, CoverChanges}
+use Rattle.sas_why.proofs.Imports.{◌≡◌, ◌≢◌, ◌⊎◌, ℕ, ◌+◌, ◌<◌, true, false, IsFalse, List, length, get_or, sym, ◌∙◌, ap, subst, inl, inr, arith, All, Contains, cases_eq, get_or_default, cases_Bool, All-contains, Fact, Parts, IsDerived, IsState, Touched, MayHaveChanged, AreDerived, derived_within, ListsChanges, Changes, HavePlaces, NotedAt, LeftAt, NotesSome, NotesChanges, looked_at, CoverChanges}
 
 -- ---- noting twice
 
@@ -26,17 +26,34 @@ one_of step s mid new v noted others var = grind (arith, common_steps, cases_eq)
 
 module _ (step : ℕ) (s : List ℕ) (old mid new : Changes) (v : ℕ) (some : NotesSome step s old mid) (places : HavePlaces (length s) new)
     (noted : NotedAt step s mid new v) (others : (k : ℕ) → k ≢ v → LeftAt mid new k) where
-  pub one_more_noted : NotesSome step s old new
+  one_more_noted : NotesSome step s old new
   one_more_noted = record {
     places = places;
     each = λ var. some_then step s old mid new var (some.each var) (one_of step s mid new v noted others var);
   }
 
-  pub still_noted : (var : ℕ) → NotedAt step s old mid var → NotedAt step s old new var
+  still_noted : (var : ℕ) → NotedAt step s old mid var → NotedAt step s old new var
   still_noted var before = noted_before step s old mid new var before (one_of step s mid new v noted others var)
 
-  pub now_noted : NotedAt step s old new v
+  now_noted : NotedAt step s old new v
   now_noted = noted_then step s old mid new v (some.each v) noted
+
+-- for the first of these items the variable is noted so, and the others are as they were
+pub record NotedUpTo {A : Type 0} (var_of : A → ℕ) (step : ℕ) (s : List ℕ) (old now : Changes) (items : List A) (count : ℕ) : Type 0 where
+  pub some : NotesSome step s old now
+  pub noted : (j : ℕ) (d : A) → j < count → NotedAt step s old now (var_of (get_or items j d))
+
+pub noted_more : {A : Type 0} (var_of : A → ℕ) (step : ℕ) (s : List ℕ) (old mid new : Changes) (items : List A) (i : ℕ) (none : A) → i < length items
+    → NotedUpTo var_of step s old mid items i → HavePlaces (length s) new → NotedAt step s mid new (var_of (get_or items i none))
+    → ((k : ℕ) → k ≢ var_of (get_or items i none) → LeftAt mid new k) → NotedUpTo var_of step s old new items (i + 1)
+noted_more var_of step s old mid new items i none lt up places noted others = record {
+  some = one_more_noted step s old mid new (var_of (get_or items i none)) up.some places noted others;
+  noted = λ j d below. elim (cases_eq j i) [
+    | inl e ↦ subst (λ x. NotedAt step s old new (var_of x)) (sym (ap (λ k. get_or items k d) e ∙ get_or_default items i d none lt))
+        (now_noted step s old mid new (var_of (get_or items i none)) up.some places noted others)
+    | inr ne ↦ still_noted step s old mid new (var_of (get_or items i none)) up.some places noted others (var_of (get_or items j d)) (up.noted j d (omega arith))
+  ];
+}
 
 -- ---- all changes
 

@@ -102,7 +102,7 @@ module _ (run : Run) (e : Executed) (notes : Notes) (are : AreNotes run e notes)
 
 -- what was noted of all steps, up to the fault
 pub retraced : (p : Parts) (plan : PlanParts) (run : Run) (e : Executed) (notes : Notes) (noted : Retraced) → e.task ≡ p → e.made ≡ length e.operators → AreNotes run e notes
-    → RunEndsWith p plan run noted.fault → noted.operators.items ≡ e.operators → noted.last ≡ e.state → noted.since.items ≡ notes.changes.since.items → noted.other ≡ notes.other
+    → RunEndsWith p plan run (Some noted.fault) → noted.operators.items ≡ e.operators → noted.last ≡ e.state → noted.since.items ≡ notes.changes.since.items → noted.other ≡ notes.other
     → Retraces p plan noted run
 retraced p plan run e notes noted task all are ends operators last since other = record {
   through = through';

@@ -1,6 +1,6 @@
 -- How the origins change when a rule fires.
 use Rattle.std.proofs.lemmas.Grind.{common_steps}
-use Rattle.sas_why.proofs.Imports.{◌≡◌, ℕ, zero, suc, ◌+◌, ◌<◌, ◌≤◌, ◌⊎◌, List, [], ◌∷◌, length, set, Option, None, Some, refl, inl, arith, eqb_tells, leb_tells, Origin, origin_at, origin_now, origin_with_rule, unreached}
+use Rattle.sas_why.proofs.Imports.{◌≡◌, ℕ, zero, suc, ◌+◌, ◌<◌, ◌≤◌, ◌⊎◌, List, [], ◌∷◌, length, set, Option, None, Some, refl, inl, arith, eqb_tells, leb_tells, same_Some, Origin, origin_at, origin_now, origin_with_rule, unreached}
 
 -- no origin of an earlier round, nor of this round by this rule or a lower one
 pub record NotEarlier (over rule : ℕ) (old : Option Origin) : Type 0 where
@@ -13,13 +13,10 @@ pub record Stays (over rule : ℕ) (old : Option Origin) : Type 0 where
   pub still : origin_with_rule over rule old ≡ Some origin
   pub lower : origin.rank ≡ over + 1 → origin.rule ≤ rule
 
-pub some_same : (o o' : Origin) → Some o ≡ Some o' → o ≡ o'
-some_same o o' e = cc
-
 pub with_rule_cases : (over rule : ℕ) (old : Option Origin)
     → ((origin_with_rule over rule old ≡ Some (origin_now over rule)) × NotEarlier over rule old) ⊎ Stays over rule old
 with_rule_cases over rule None = inl (refl, record { now = λ o e. absurd cc })
-with_rule_cases over rule (Some o) = grind (arith, common_steps, eqb_tells, leb_tells, some_same)
+with_rule_cases over rule (Some o) = grind (arith, common_steps, eqb_tells, leb_tells, same_Some)
 
 -- ---- how many variables weren't reached
 

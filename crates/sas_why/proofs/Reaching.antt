@@ -1,6 +1,6 @@
 -- What the rounds that are over reach, and what follows for the conditions of rules.
 use Rattle.std.proofs.lemmas.Grind.{common_steps}
-use Rattle.sas_why.proofs.Imports.{◌≡◌, ◌≢◌, ℕ, zero, suc, ◌<◌, ◌≤◌, ◌⊎◌, true, false, cond, List, [], ◌∷◌, length, get_or, Option, None, Some, refl, sym, ◌∙◌, ap, subst, inl, inr, arith, option_eq, All, Contains, cases_eq, cases_Bool, eqb_tells, Fact, Parts, IsOnLayer, default_of, LooksDown, IsLayered, new_value_of, IsSettled, layer_decides, given_on, given_off, one_layer, reached, reached_more, IsReached, OriginsUpToRound, value_in_round, reached_differs, ◌==◌}
+use Rattle.sas_why.proofs.Imports.{◌≡◌, ◌≢◌, ℕ, zero, suc, ◌<◌, ◌≤◌, ◌⊎◌, true, false, cond, List, [], ◌∷◌, length, get_or, refl, sym, ◌∙◌, ap, subst, inl, inr, arith, All, Contains, cases_eq, cases_Bool, eqb_tells, Fact, Parts, IsOnLayer, default_of, LooksDown, IsLayered, new_value_of, IsSettled, layer_decides, given_on, given_off, one_layer, reached, reached_more, IsReached, OriginsUpToRound, value_in_round, reached_differs}
 
 module _ (p : Parts) (s : List ℕ) (layered : IsLayered p) where
   -- what is reached stays reached
@@ -18,60 +18,53 @@ module _ (p : Parts) (s : List ℕ) (layered : IsLayered p) where
       reached_up layer var at.origin.rank over at.earlier
       (subst (λ l. reached p l s at.origin.rank var ≡ true) (one_layer p var its.layer layer its.stands.on on) its.stands.ranked.has)
 
-  module _ (settled : IsSettled p s) (over : ℕ) where
+  module _ (settled : IsSettled p s) where
     -- off the layer a variable has its value in the state
-    pub value_off : (layer var : ℕ) → (IsOnLayer p layer var → ⊥) → value_in_round p layer s over var ≡ get_or s var 0
-    value_off layer var off = given_off p layer s (reached p layer s over) var off
+    pub value_off : (over layer var : ℕ) → (IsOnLayer p layer var → ⊥) → value_in_round p layer s over var ≡ get_or s var 0
+    value_off over layer var off = given_off p layer s (reached p layer s over) var off
 
-    pub value_reached : (layer var : ℕ) → IsOnLayer p layer var → reached p layer s over var ≡ true → value_in_round p layer s over var ≡ get_or s var 0
-    value_reached layer var on is = given_on p layer s (reached p layer s over) var on
+    pub value_reached : (over layer var : ℕ) → IsOnLayer p layer var → reached p layer s over var ≡ true → value_in_round p layer s over var ≡ get_or s var 0
+    value_reached over layer var on is = given_on p layer s (reached p layer s over) var on
         ∙ (ap (λ b. cond b (new_value_of p var) (default_of p var)) is
         ∙ sym ((settled layer).new var on (reached_differs p layer s layered (settled layer) over var is)))
 
-    pub value_not : (layer var : ℕ) → IsOnLayer p layer var → reached p layer s over var ≡ false → value_in_round p layer s over var ≡ default_of p var
-    value_not layer var on is = given_on p layer s (reached p layer s over) var on
+    pub value_not : (over layer var : ℕ) → IsOnLayer p layer var → reached p layer s over var ≡ false → value_in_round p layer s over var ≡ default_of p var
+    value_not over layer var on is = given_on p layer s (reached p layer s over) var on
         ∙ ap (λ b. cond b (new_value_of p var) (default_of p var)) is
 
-    module _ (origins : List _) (known : OriginsUpToRound p s over origins) where
+    module _ (over : ℕ) (origins : List _) (known : OriginsUpToRound p s over origins) where
       pub value_when_reached : (layer var : ℕ) → IsReached origins over var → value_in_round p layer s over var ≡ get_or s var 0
       value_when_reached layer var at = grind (arith, common_steps, layer_decides, value_reached, reached_in, value_off)
 
     -- a condition that holds in a round holds in the next one, where it looks down
-    pub holds_on : (layer var : ℕ) (c : Fact) → IsOnLayer p layer var → LooksDown p var c
+    pub holds_on : (over layer var : ℕ) (c : Fact) → IsOnLayer p layer var → LooksDown p var c
         → value_in_round p layer s over c.var ≡ c.value → value_in_round p layer s (suc over) c.var ≡ c.value
-    holds_on layer var c on down holds = elim (layer_decides p layer c.var) [
-      | inr w ↦ given_off p layer s (reached p layer s (suc over)) c.var w.0 ∙ (sym (value_off layer c.var w.0) ∙ holds)
+    holds_on over layer var c on down holds = elim (layer_decides p layer c.var) [
+      | inr w ↦ value_off (suc over) layer c.var w.0 ∙ (sym (value_off over layer c.var w.0) ∙ holds)
       | inl w ↦ elim (cases_Bool (reached p layer s over c.var)) [
-        | inr n ↦ (let requires : c.value ≡ default_of p c.var = sym holds ∙ value_not layer c.var w.0 n in
+        | inr n ↦ (let requires : c.value ≡ default_of p c.var = sym holds ∙ value_not over layer c.var w.0 n in
             let lt : layer < layer = (down layer layer on w.0).1 requires in
             absurd (omega arith))
-        | inl y ↦ given_on p layer s (reached p layer s (suc over)) c.var w.0
-            ∙ (ap (λ b. cond b (new_value_of p c.var) (default_of p c.var)) (reached_more p layer s layered over c.var y)
-            ∙ (sym (ap (λ b. cond b (new_value_of p c.var) (default_of p c.var)) y) ∙ (sym (given_on p layer s (reached p layer s over) c.var w.0) ∙ holds)))
+        | inl y ↦ value_reached (suc over) layer c.var w.0 (reached_more p layer s layered over c.var y) ∙ (sym (value_reached over layer c.var w.0 y) ∙ holds)
       ]
     ]
 
     -- a condition that begins to hold is on a variable that was reached
-    pub begins_to_hold : (layer : ℕ) (c : Fact) → value_in_round p layer s over c.var ≢ c.value → value_in_round p layer s (suc over) c.var ≡ c.value
+    begins_to_hold : (over layer : ℕ) (c : Fact) → value_in_round p layer s over c.var ≢ c.value → value_in_round p layer s (suc over) c.var ≡ c.value
         → IsOnLayer p layer c.var × (reached p layer s over c.var ≡ false) × (reached p layer s (suc over) c.var ≡ true)
-    begins_to_hold layer c fails holds = elim (layer_decides p layer c.var) [
-      | inr w ↦ absurd (fails (value_off layer c.var w.0 ∙ (sym (given_off p layer s (reached p layer s (suc over)) c.var w.0) ∙ holds)))
+    begins_to_hold over layer c fails holds = elim (layer_decides p layer c.var) [
+      | inr w ↦ absurd (fails (value_off over layer c.var w.0 ∙ (sym (value_off (suc over) layer c.var w.0) ∙ holds)))
       | inl w ↦ elim (cases_Bool (reached p layer s over c.var)) [
-        | inl y ↦ absurd (fails (given_on p layer s (reached p layer s over) c.var w.0
-            ∙ (ap (λ b. cond b (new_value_of p c.var) (default_of p c.var)) y
-            ∙ (sym (ap (λ b. cond b (new_value_of p c.var) (default_of p c.var)) (reached_more p layer s layered over c.var y))
-            ∙ (sym (given_on p layer s (reached p layer s (suc over)) c.var w.0) ∙ holds)))))
+        | inl y ↦ absurd (fails (value_reached over layer c.var w.0 y ∙ (sym (value_reached (suc over) layer c.var w.0 (reached_more p layer s layered over c.var y)) ∙ holds)))
         | inr n ↦ elim (cases_Bool (reached p layer s (suc over) c.var)) [
           | inl y ↦ (w.0, n, y)
-          | inr m ↦ absurd (fails (value_not layer c.var w.0 n
-              ∙ (sym (ap (λ b. cond b (new_value_of p c.var) (default_of p c.var)) m)
-              ∙ (sym (given_on p layer s (reached p layer s (suc over)) c.var w.0) ∙ holds))))
+          | inr m ↦ absurd (fails (value_not over layer c.var w.0 n ∙ (sym (value_not (suc over) layer c.var w.0 m) ∙ holds)))
         ]
       ]
     ]
 
     -- one of these conditions is on a variable that the round at hand reaches
-    pub record Begins (layer : ℕ) (cs : List Fact) : Type 0 where
+    pub record Begins (over layer : ℕ) (cs : List Fact) : Type 0 where
       pub condition : Fact
       pub among : Contains cs condition
       pub on : IsOnLayer p layer condition.var
@@ -79,11 +72,11 @@ module _ (p : Parts) (s : List ℕ) (layered : IsLayered p) where
       pub now : reached p layer s (suc over) condition.var ≡ true
 
     -- of conditions that hold in the next round all hold in this one, or one begins to
-    pub all_or_begins : (layer : ℕ) (cs : List Fact) → All (λ (c : Fact). value_in_round p layer s (suc over) c.var ≡ c.value) cs
+    pub all_or_begins : (over layer : ℕ) (cs : List Fact) → All (λ (c : Fact). value_in_round p layer s (suc over) c.var ≡ c.value) cs
         → All (λ (c : Fact). value_in_round p layer s over c.var ≡ c.value) cs
-        ⊎ Begins layer cs
-    all_or_begins layer [] all = inl (λ k d lt. absurd (omega arith))
-    all_or_begins layer (c ∷ cs) all = elim (all_or_begins layer cs (λ k d lt. all (suc k) d (omega arith))) [
+        ⊎ Begins over layer cs
+    all_or_begins over layer [] all = inl (λ k d lt. absurd (omega arith))
+    all_or_begins over layer (c ∷ cs) all = elim (all_or_begins over layer cs (λ k d lt. all (suc k) d (omega arith))) [
       | inr w ↦ inr (record {
         condition = w.condition;
         among = (suc w.among.0, (let lt : w.among.0 < length cs = w.among.1 in omega arith), w.among.2);
@@ -92,7 +85,7 @@ module _ (p : Parts) (s : List ℕ) (layered : IsLayered p) where
         now = w.now;
       })
       | inl rest ↦ elim (eqb_tells (value_in_round p layer s over c.var) c.value) [
-        | inr n ↦ (let b = begins_to_hold layer c n.1 (all 0 c (omega arith)) in
+        | inr n ↦ (let b = begins_to_hold over layer c n.1 (all 0 c (omega arith)) in
             inr (record { condition = c; among = (zero, omega arith, refl); on = b.0; not_yet = b.1; now = b.2 }))
         | inl y ↦ inl (λ k d lt. at y.1 rest k d lt)
       ]
@@ -102,8 +95,3 @@ module _ (p : Parts) (s : List ℕ) (layered : IsLayered p) where
             → All (λ (e : Fact). value_in_round p layer s over e.var ≡ e.value) (c ∷ cs)
         at first rest zero d lt = first
         at first rest (suc k) d lt = rest k d (omega arith)
-
--- the test whether two options are equal
-pub same_option : (o : Option ℕ) (m : ℕ) → ((o ≡ Some m) × (option_eq ◌==◌ o (Some m) ≡ true)) ⊎ ((o ≡ Some m → ⊥) × (option_eq ◌==◌ o (Some m) ≡ false))
-same_option None m = inr ((λ e. absurd cc), refl)
-same_option (Some k) m = elim (eqb_tells k m) [ inl w ↦ inl (ap Some w.1, w.0) | inr w ↦ inr ((λ e. let f : k ≡ m = cc in w.1 f), w.0) ]

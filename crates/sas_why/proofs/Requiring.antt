@@ -1,5 +1,5 @@
 -- The index of conditions has the rules that require a variable.
-use Rattle.sas_why.proofs.Imports.{◌≡◌, ℕ, zero, suc, ◌+◌, ◌<◌, ◌≤◌, List, [], ◌∷◌, length, refl, sym, subst, inl, inr, arith, All, Contains, All-nil, All-cons, All-head, All-tail, eq-eqb, eqb_tells, Fact, Parts, rule_at, Waiting, IsFullIndex, IsOfRule, waiting_at, asking, occurrences, released, IsRuleOn, rules_of, requiring_at}
+use Rattle.sas_why.proofs.Imports.{ℕ, zero, suc, ◌+◌, ◌<◌, ◌≤◌, List, [], ◌∷◌, length, refl, subst, inl, inr, arith, All, Contains, All-nil, All-cons, All-head, All-tail, eq-eqb, eqb_tells, Fact, Parts, rule_at, Waiting, IsFullIndex, IsOfRule, waiting_at, asking, occurrences, released, IsRuleOn, rules_of, requiring_at}
 
 all_exist : (p : Parts) (ws : List Waiting) → All (IsOfRule p) ws → All (λ rule. rule < length p.rules) (rules_of ws)
 all_exist p [] all = All-nil (λ rule. rule < length p.rules)

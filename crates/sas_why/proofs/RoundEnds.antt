@@ -1,6 +1,6 @@
 -- How a round ends, how the first one begins, and what is known when no rule is left to look at.
 use Rattle.std.proofs.lemmas.Grind.{common_steps}
-use Rattle.sas_why.proofs.Imports.{All, IsFalse, ◌≡◌, ℕ, suc, ◌+◌, ◌<◌, ◌≤◌, true, false, List, [], ◌∷◌, length, get_or, None, Some, refl, sym, ◌∙◌, ap, subst, inl, inr, arith, Contains, cases_lt, cases_Bool, false≢true, and_parts, get_or-replicate, length-replicate, get_or_default, get_or_past, All-nil, All-contains, Parts, rule_at, IsRuleOn, IsOnLayer, IsLayered, IsSettled, IsClosed, Origin, Rounds, requiring_at, origin_at, IsOrigin, HasOrigin, HaveOrigins, IsReached, OriginsUpToRound, HavePassed, ReachesNow, InRound, unreached, ContinuesRound, AreAllRules, AreBefore, differs, layer_cases, contains_none, reached, HasLayerAndRank, FiresNext, is_given, Fires, ReachedBy, reached_by}
+use Rattle.sas_why.proofs.Imports.{All, IsFalse, ◌≡◌, ℕ, suc, ◌+◌, ◌<◌, ◌≤◌, true, false, List, [], length, get_or, None, Some, refl, sym, ◌∙◌, ap, subst, inl, inr, arith, Contains, cases_lt, cases_Bool, false≢true, and_parts, get_or-replicate, length-replicate, get_or_default, get_or_past, All-nil, All-contains, Parts, rule_at, IsRuleOn, IsOnLayer, IsLayered, IsSettled, IsClosed, Origin, Rounds, requiring_at, origin_at, IsOrigin, HasOrigin, HaveOrigins, IsReached, OriginsUpToRound, HavePassed, ReachesNow, InRound, unreached, ContinuesRound, AreAllRules, AreBefore, differs, layer_cases, contains_none, reached, HasLayerAndRank, FiresNext, is_given, Fires, ReachedBy, reached_by}
 use Rattle.sas_why.proofs.Reaching.{reached_up, reached_in, holds_on, Begins, all_or_begins}
 use Rattle.sas_why.proofs.Requiring.{requires_it}
 use Rattle.sas_why.proofs.Origined.{unreached_none}
@@ -161,41 +161,50 @@ module _ (p : Parts) (s : List ℕ) (layered : IsLayered p) (settled : IsSettled
         whole : (v : ℕ) → is_given p s v ≡ true → HasOrigin r.origins.items v
         whole v given = grind (arith, common_steps, and_parts, layer_cases, false≢true, at)
 
+-- a round begins that looks at these rules; each round that isn't the last one reaches a variable
+pub record RoundBegins (p : Parts) (s : List ℕ) (r : Rounds) (rules : List ℕ) : Type 0 where
+  pub round : InRound p s r []
+  pub none : r.next.items ≡ []
+  pub due : AreDue p s r.over rules
+  pub few : r.over + unreached r.origins.items ≤ length p.variables + 1
+  pub more : 0 < length rules → r.over + unreached r.origins.items ≤ length p.variables
+
 -- ---- the first round
 
-pub first_due : (p : Parts) (s : List ℕ) (over : ℕ) (rules : List ℕ) → AreAllRules p rules → AreDue p s over rules
-first_due p s over rules all = record { exist = all.exist; whole = λ layer v rule on f not. all.each rule f.exists }
-
-pub first_round : (p : Parts) (s : List ℕ) (r : Rounds) → AreBefore p r → InRound p s r []
+first_round : (p : Parts) (s : List ℕ) (r : Rounds) → AreBefore p r → InRound p s r []
 first_round p s r before = grind (arith, common_steps, length-replicate, false≢true, contains_none, All-nil, cases_lt, get_or-replicate, get_or_past)
 
-pub first_unreached : (p : Parts) (r : Rounds) → AreBefore p r → unreached r.origins.items ≡ length p.variables
+first_unreached : (p : Parts) (r : Rounds) → AreBefore p r → unreached r.origins.items ≡ length p.variables
 first_unreached p r before = unreached_none (length p.variables) r.origins.items (ap length before.origins ∙ length-replicate (length p.variables) None)
     (λ v lt. ap (λ os. origin_at os v) before.origins ∙ get_or-replicate (length p.variables) v None None lt)
 
-pub nil_of : (xs : List ℕ) → length xs ≡ 0 → xs ≡ []
-nil_of [] e = refl
-nil_of (x ∷ xs) e = absurd (omega arith)
+pub first_begins : (p : Parts) (s : List ℕ) (r : Rounds) (rules : List ℕ) → AreBefore p r → AreAllRules p rules → RoundBegins p s r rules
+first_begins p s r rules before all =
+    let over = before.over in
+    let unreached_all = first_unreached p r before in
+    record {
+      round = first_round p s r before;
+      none = before.next;
+      due = record { exist = all.exist; whole = λ layer v rule on f not. all.each rule f.exists };
+      few = omega arith;
+      more = λ _. omega arith;
+    }
 
 -- ---- one round after another
 
-module _ (p : Parts) (s : List ℕ) (layered : IsLayered p) (settled : IsSettled p s) (r r' : Rounds) (rules next : List ℕ)
-    (inside : InRound p s r' rules) (due : AreDue p s r.over rules) (goes : ContinuesRound r r') (none : r.next.items ≡ []) (some : 0 < length rules) (is : next ≡ r'.next.items)
-    (more : 0 < length rules → r.over + unreached r.origins.items ≤ length p.variables) where
-  due_now : AreDue p s r'.over rules
-  due_now = subst (λ k. AreDue p s k rules) (sym goes.over) due
-
-  -- the next round begins
-  pub begins_next : (n : Rounds) → n.over ≡ r'.over + 1 → n.origins.items ≡ r'.origins.items → n.passed.items ≡ r'.passed.items → n.requiring ≡ r'.requiring
-      → n.next.items ≡ [] → InRound p s n []
-  begins_next n over origins passed requiring empty = next_round p s layered settled r' rules inside due_now n over origins passed requiring empty
-      (let m = more some in let e = goes.over in omega arith)
-
-  pub due_then : AreDue p s (r'.over + 1) next
-  due_then = subst (λ xs. AreDue p s (r'.over + 1) xs) (sym is) (next_due p s layered settled r' rules inside due_now (r'.over + 1) refl)
-
-  pub few_then : r'.over + 1 + unreached r'.origins.items ≤ length p.variables + 1
-  few_then = let m = more some in let f = goes.fewer in let e = goes.over in omega arith
-
-  pub more_then : 0 < length next → r'.over + 1 + unreached r'.origins.items ≤ length p.variables
-  more_then lt = let m = more some in let n = ap length none in let e = goes.over in let w = ap length is in let f = goes.some (omega arith) in omega arith
+pub next_begins : (p : Parts) (s : List ℕ) → IsLayered p → IsSettled p s → (r r' n : Rounds) (rules next : List ℕ) → RoundBegins p s r rules → InRound p s r' rules
+    → ContinuesRound r r' → 0 < length rules → next ≡ r'.next.items → n.over ≡ r'.over + 1 → n.origins.items ≡ r'.origins.items → n.passed.items ≡ r'.passed.items
+    → n.requiring ≡ r'.requiring → n.next.items ≡ [] → RoundBegins p s n next
+next_begins p s layered settled r r' n rules next begun inside goes some is over origins passed requiring empty =
+    let due : AreDue p s r'.over rules = subst (λ k. AreDue p s k rules) (sym goes.over) begun.due in
+    let m = begun.more some in
+    let e = goes.over in
+    let u = ap unreached origins in
+    let fewer = goes.fewer in
+    record {
+      round = next_round p s layered settled r' rules inside due n over origins passed requiring empty (omega arith);
+      none = empty;
+      due = subst (λ xs. AreDue p s n.over xs) (sym is) (next_due p s layered settled r' rules inside due n.over over);
+      few = omega arith;
+      more = λ lt. (let none = ap length begun.none in let w = ap length is in let f = goes.some (omega arith) in omega arith);
+    }

@@ -1,8 +1,8 @@
 -- How a round goes on when a rule is looked at, and how it ends.
 use Rattle.std.proofs.lemmas.Grind.{common_steps}
-use Rattle.sas_why.proofs.Imports.{◌≡◌, ◌≢◌, ℕ, suc, ◌<◌, ◌≤◌, ◌⊎◌, true, false, List, [], ◌∷◌, ◌++◌, length, get_or, set, Option, None, Some, refl, sym, ◌∙◌, ap, subst, inl, inr, arith, All, Contains, cases_eq, cases_lt, cases_Bool, get_or-set_same, get_or-set_other, length-set, append-nil, All-nil, All-append, All-weaker, Contains-push_cases, Contains-append_left, Contains-append_right, Origin, Rounds, Waiting, requiring_at, origin_at, OriginsUpToRound, IsFirstOpen, HavePassed, ReachesNow, HasLower, AreAwaited, InRound, unreached, ContinuesRound, origin_now, origin_with_rule, added, Reaches, value_in_round, Contains-get_or, Change, Fact, Parts, rule_change, rule_at, IsOnLayer, default_of, CanFire, one_layer, reached, FiresNext, Fires, fires_decides, reach}
+use Rattle.sas_why.proofs.Imports.{◌≡◌, ◌≢◌, ℕ, suc, ◌<◌, ◌≤◌, ◌⊎◌, true, false, List, [], ◌∷◌, ◌++◌, length, get_or, set, Option, None, Some, refl, sym, ◌∙◌, ap, subst, inl, inr, arith, All, Contains, cases_eq, cases_lt, same_Some, cases_Bool, get_or-set_same, get_or-set_other, length-set, append-nil, All-nil, All-append, All-weaker, Contains-push_cases, Contains-append_left, Contains-append_right, Origin, Rounds, Waiting, requiring_at, origin_at, OriginsUpToRound, IsFirstOpen, HavePassed, ReachesNow, HasLower, AreAwaited, InRound, unreached, ContinuesRound, origin_now, origin_with_rule, added, Reaches, value_in_round, Contains-get_or, Change, Fact, Parts, rule_change, rule_at, IsOnLayer, default_of, CanFire, one_layer, reached, FiresNext, Fires, fires_decides, reach}
 use Rattle.sas_why.proofs.Requiring.{requiring_exist}
-use Rattle.sas_why.proofs.Origined.{some_same, NotEarlier, with_rule_cases, unreached_fewer, unreached_same}
+use Rattle.sas_why.proofs.Origined.{NotEarlier, with_rule_cases, unreached_fewer, unreached_same}
 
 -- what follows where a rule fires in a round
 pub fires_now : (p : Parts) (s : List ℕ) (var layer over rule : ℕ) → FiresNext p s var layer over rule
@@ -19,7 +19,7 @@ pub reached_next : (p : Parts) (s : List ℕ) (var layer over rule : ℕ) → Is
 reached_next p s var layer over rule on f = reach p layer s over var (record { on = on; rule = rule; exists = f.exists; fires = fires_now p s var layer over rule f })
 
 pub same_at : (o : Option Origin) (a b : Origin) → o ≡ Some a → o ≡ Some b → a ≡ b
-same_at o a b x y = some_same a b (sym x ∙ y)
+same_at o a b x y = same_Some a b (sym x ∙ y)
 
 -- ---- a rule that doesn't fire
 
@@ -57,13 +57,7 @@ module _ (p : Parts) (s : List ℕ) (layer rule place over : ℕ) (passed : List
 
       at : (m k : ℕ) → k ≡ rule → IsOnLayer p m (rule_at p k).var → CanFire p (rule_at p k) → (j : ℕ) (d : Fact) → 0 ≤ j → j < get_or (set passed rule place) k 0
           → value_in_round p m s over (get_or (rule_at p k).conditions j d).var ≡ (get_or (rule_at p k).conditions j d).value
-      at m k e on' can j d from to = subst (λ n. value_in_round p m s over (get_or (rule_at p n).conditions j d).var ≡ (get_or (rule_at p n).conditions j d).value) (sym e)
-          (elim (cases_lt j (get_or passed rule 0)) [
-            | inl old ↦ had.hold m rule lt (subst (λ n. IsOnLayer p m (rule_at p n).var) e on') (subst (λ n. CanFire p (rule_at p n)) e can) j d from old
-            | inr new ↦ subst (λ l. value_in_round p l s over (get_or (rule_at p rule).conditions j d).var ≡ (get_or (rule_at p rule).conditions j d).value)
-                (one_layer p (rule_at p rule).var layer m on (subst (λ n. IsOnLayer p m (rule_at p n).var) e on'))
-                (first.hold j d new (subst (λ n. j < n) here (subst (λ n. j < get_or (set passed rule place) n 0) e to)))
-          ])
+      at m k e on' can j d from to = grind (arith, common_steps, cases_lt, one_layer, here)
 
 pub passed_round : (p : Parts) (s : List ℕ) (r r' : Rounds) (rules : List ℕ) → r'.over ≡ r.over → r'.origins.items ≡ r.origins.items → r'.requiring ≡ r.requiring
     → r'.next.items ≡ r.next.items → HavePassed p s r.over r'.passed.items → InRound p s r rules → InRound p s r' rules
@@ -214,9 +208,6 @@ reach_goes_on var rule r r' lt now = at (origin_at r.origins.items var) refl
 -- the conditions that are known to hold count for nothing there
 pub goes_as : (a b c : Rounds) → b.over ≡ a.over → b.origins.items ≡ a.origins.items → b.next.items ≡ a.next.items → ContinuesRound b c → ContinuesRound a c
 goes_as a b c over origins next goes = grind (arith, common_steps, more)
-
-pub goes_on_still : (r : Rounds) → ContinuesRound r r
-goes_on_still r = record { over = refl; fewer = omega arith; some = λ lt. omega arith }
 
 pub goes_on_more : (a b c : Rounds) → ContinuesRound a b → ContinuesRound b c → ContinuesRound a c
 goes_on_more a b c x y = grind (arith, common_steps, more, cases_lt)

@@ -24,7 +24,7 @@ pub record HaveSince (p : Parts) (run : Run) (since : List ℕ) : Type 0 where
 -- this is noted of the run of a plan, up to its fault
 pub record Retraces (p : Parts) (plan : PlanParts) (noted : Retraced) (run : Run) : Type 0 where
   pub through : StepsSucceed p run
-  pub ends : RunEndsWith p plan run noted.fault
+  pub ends : RunEndsWith p plan run (Some noted.fault)
   pub operators : noted.operators.items ≡ run.operators
   pub last : noted.last ≡ last_state run
   pub since : HaveSince p run noted.since.items

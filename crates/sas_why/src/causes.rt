@@ -1,14 +1,14 @@
 // The causes of facts that fail.
-ghost use Rattle.std.specs.Prelude.{◌≡◌, ◌<◌, ℕ, [], ◌∷◌, ◌++◌, length, map, flat_map, find, not, ◌==◌, ◌&&◌, OnOk, All, slice_index};
+ghost use Rattle.std.specs.Prelude.{◌≡◌, ◌<◌, ℕ, [], ◌∷◌, ◌++◌, length, map, flat_map, find, OnOk, All, slice_index};
 ghost use Rattle.sas_core.specs.declared.parts.Fact.{Fact};
 ghost use Rattle.sas_core.specs.Variables.{IsState};
-ghost use Rattle.sas_meaning.specs.Layers.{default_of};
 ghost use Rattle.sas_meaning.specs.Places.{places, can_give};
 ghost use Rattle.sas_run.specs.Runs.{last_state};
-ghost use Rattle.sas_reasons.specs.Cause.{fails, is_derived, is_given, since_line, failing_lines};
+ghost use Rattle.sas_reasons.specs.Cause.{fails, is_given, since_line, failing_lines};
 ghost use Rattle.sas_reasons.specs.Cause.{AreDerivationLines, can_be_given, keeping_lines, IsCause};
 ghost use Rattle.sas_why.specs.Report.{IsReportOf, Adds};
 
+use crate::origins::requires_rules;
 use crate::report::Report;
 use crate::retraced::Retraced;
 use sas_core::{Fact, Grounded, Items};
@@ -47,16 +47,19 @@ fn report_values(noted: &Retraced, fact: Fact, lines: &mut Items<Line>) -> Resul
 {
     let var = fact.var;
     let value = noted.last.value(var);
-    lines.push(Line::Requires { fact })?;
-    lines.push(Line::Actual {
-        fact: Fact { var, value },
-    })?;
-    let since = noted.since[var as usize];
-    lines.push(if since == 0 {
+    let step = noted.since[var as usize];
+    let since = if step == 0 {
         Line::SinceInitialState
     } else {
-        Line::SinceStep { step: since }
-    })
+        Line::SinceStep { step }
+    };
+    lines.extend_from_slice(&[
+        Line::Requires { fact },
+        Line::Actual {
+            fact: Fact { var, value },
+        },
+        since,
+    ])
 }
 
 /// Reports which rules derive a variable's value, if it isn't its default.
@@ -74,7 +77,8 @@ fn report_givers<T: Grounded>(
 {
     // By its contract the task is well ranged and layered.
     let _ = task.task();
-    if !has_givers(task, &noted.last, var) {
+    let value = noted.last.value(var);
+    if !requires_rules(task, Fact { var, value }) {
         return Ok(());
     }
     report.next.clear();
@@ -84,18 +88,8 @@ fn report_givers<T: Grounded>(
     push_givers(report.next.as_slice(), &mut report.lines)
 }
 
-/// Returns whether the variable is derived and hasn't its default.
-fn has_givers<T: Grounded>(task: &Layered<T>, state: &State, var: u32) -> bool
-    requires var { var < length task.now.variables }
-    requires state { IsState task.now.variables state.now }
-    ensures { result ≡ is_given task.now state.now var }
-{
-    // By its contract the task is well ranged and layered.
-    let _ = task.task();
-    task.layer(var).is_some() && state.value(var) != task.initial_value(var)
-}
-
 /// Adds a line for each of the rules.
+#[tactic(auto, using(crate::proofs::Composing::map_more))]
 fn push_givers(rules: &[u32], lines: &mut Items<Line>) -> Result<(), AllocError>
     ensures { OnOk result (lines.new ≡ lines.old ++ map Line.RuleDerives rules.now) }
 {
@@ -103,15 +97,6 @@ fn push_givers(rules: &[u32], lines: &mut Items<Line>) -> Result<(), AllocError>
         lines.push(Line::RuleDerives { rule: *rule })?;
     }
     Ok(())
-}
-
-/// Returns whether the fact's variable is derived and the fact's value isn't its default.
-fn requires_rules<T: Grounded>(task: &Layered<T>, fact: Fact) -> bool
-    requires { fact.var < length task.now.variables }
-    ensures { result
-        ≡ (is_derived task.now fact.var && not (fact.value == default_of task.now fact.var)) }
-{
-    task.layer(fact.var).is_some() && fact.value != task.initial_value(fact.var)
 }
 
 /// Reports what the rules of the fact's variable require that fails, or that none of them derives the fact's value.

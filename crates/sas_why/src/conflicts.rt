@@ -12,7 +12,7 @@ use sas_meaning::{Layered, State};
 use std::alloc::{AllocError, Global};
 
 /// Two effects of an operator that set one variable to different values.
-#[derive(Clone, Copy, Debug)]
+#[derive(Clone, Copy)]
 pub struct Clash {
     pub earlier: u32,
     pub later: u32,

@@ -1,5 +1,5 @@
 // Why a plan isn't valid.
-ghost use Rattle.std.specs.Prelude.{◌≡◌, ◌<◌, ◌-◌, ◌∷◌, ℕ, length, All, IfOk, OnOk, Some};
+ghost use Rattle.std.specs.Prelude.{◌≡◌, ◌<◌, ◌-◌, ◌∷◌, ℕ, length, All, IfOk, OnOk};
 ghost use Rattle.sas_core.specs.Grounded.{operator_at};
 ghost use Rattle.sas_core.specs.Variables.{IsState};
 ghost use Rattle.sas_meaning.specs.Steps.{Agree};
@@ -7,7 +7,7 @@ ghost use Rattle.sas_reasons.specs.Lines.{LineThen};
 ghost use Rattle.sas_run.specs.Runs.{Run};
 ghost use Rattle.sas_reasons.specs.WhyPlan.{similar_name_lines, AreFailedPreconditionLines, AreOperatorLines, AreConflictLines};
 ghost use Rattle.sas_reasons.specs.WhyPlan.{AreGoalLines, AreFaultLines, IsWhy, cost_lines, cost_lines_sum};
-ghost use Rattle.sas_why.specs.Retracing.{Retraces};
+ghost use Rattle.sas_why.specs.Retracing.{Retraces, IsRetraced};
 ghost use Rattle.sas_why.specs.Report.{IsBehind, IsReportOf, Adds, ReportsOnce};
 
 use crate::causes::report_cause;
@@ -27,13 +27,12 @@ pub fn reasons<T: Grounded, P: Stepwise>(
     layered: &Layered<T>,
     plan: &P,
     noted: &Retraced,
-    fault: PlanFault,
 ) -> Result<Vec<Line>, AllocError>
-    requires retraced { (run : Run) × Retraces layered.now (P.says plan.now) noted.now run }
-    requires fault { noted.now.fault ≡ Some fault }
-    ensures { IfOk result (λ lines. IsWhy layered.now (P.says plan.now) fault lines.items) }
+    requires { IsRetraced layered.now (P.says plan.now) noted.now }
+    ensures { IfOk result (λ lines.
+        IsWhy layered.now (P.says plan.now) noted.now.fault lines.items) }
 {
-    let mut lines = lines_of_fault(alloc, layered, plan, noted, fault)?;
+    let mut lines = lines_of_fault(alloc, layered, plan, noted)?;
     if let Some(other) = noted.other {
         lines.push(Line::CouldBe {
             step: other.step,
@@ -49,17 +48,15 @@ fn lines_of_fault<T: Grounded, P: Stepwise>(
     layered: &Layered<T>,
     plan: &P,
     noted: &Retraced,
-    fault: PlanFault,
 ) -> Result<Items<Line>, AllocError>
-    requires retraced { (run : Run) × Retraces layered.now (P.says plan.now) noted.now run }
-    requires fault { noted.now.fault ≡ Some fault }
+    requires { IsRetraced layered.now (P.says plan.now) noted.now }
     ensures { IfOk result (λ lines. (run : Run)
         → Retraces layered.now (P.says plan.now) noted.now run
-        → ReportsOnce lines (AreFaultLines layered.now (P.says plan.now) run fault)) }
+        → ReportsOnce lines (AreFaultLines layered.now (P.says plan.now) run noted.now.fault)) }
 {
     // By its contract the task is well ranged and layered.
     let _ = layered.task();
-    match fault {
+    match noted.fault {
         PlanFault::Memory => unreachable!(),
         PlanFault::NoOperator { step } => unknown(alloc, layered, plan.step(step - 1), step),
         PlanFault::NotApplicable { step } => {
@@ -74,6 +71,7 @@ fn lines_of_fault<T: Grounded, P: Stepwise>(
 }
 
 /// Returns the lines for a step whose name no operator has: the step, and an operator of nearly that name.
+#[tactic(auto, using(crate::proofs::Faulty::unknown_reported))]
 fn unknown<T: Grounded>(
     alloc: Global,
     task: &Layered<T>,
@@ -93,6 +91,7 @@ fn unknown<T: Grounded>(
 }
 
 /// Returns the lines for a step none of whose operators is applicable: the step, and why each of them isn't.
+#[tactic(auto, using(crate::proofs::Faulty::all_reported))]
 fn blocked<T: Grounded>(
     alloc: Global,
     task: &Layered<T>,
@@ -170,20 +169,23 @@ fn conflicting<T: Grounded>(
 {
     let clash = conflict(alloc, task, operator, state)?;
     let mut lines = Items::new(alloc);
-    lines.push(Line::Step { step })?;
-    lines.push(Line::Operator { operator })?;
-    lines.push(Line::ConflictingEffect {
-        operator,
-        effect: clash.earlier,
-    })?;
-    lines.push(Line::ConflictingEffect {
-        operator,
-        effect: clash.later,
-    })?;
+    lines.extend_from_slice(&[
+        Line::Step { step },
+        Line::Operator { operator },
+        Line::ConflictingEffect {
+            operator,
+            effect: clash.earlier,
+        },
+        Line::ConflictingEffect {
+            operator,
+            effect: clash.later,
+        },
+    ])?;
     Ok(lines)
 }
 
 /// Returns the lines for the goal facts that fail, each with its cause.
+#[tactic(auto, using(crate::proofs::Faulty::all_reported))]
 fn missed<T: Grounded>(
     alloc: Global,
     task: &Layered<T>,
@@ -231,13 +233,15 @@ fn costs<T: Grounded>(
         → length run.operators ≡ length run.steps → lines ≡ cost_lines task.now run) }
 {
     let mut lines = Items::new(alloc);
-    lines.push(Line::Metric)?;
-    lines.push(Line::Steps {
-        count: operators.len(),
-    })?;
-    lines.push(Line::CostLines {
-        sum: sum_of_cost_lines(task, operators),
-    })?;
+    lines.extend_from_slice(&[
+        Line::Metric,
+        Line::Steps {
+            count: operators.len(),
+        },
+        Line::CostLines {
+            sum: sum_of_cost_lines(task, operators),
+        },
+    ])?;
     Ok(lines)
 }
 

@@ -24,6 +24,7 @@ fn are_alike(name: &[u8], other: &[u8]) -> bool
 }
 
 /// Returns the name without the spaces at its end.
+#[tactic(auto, using(crate::proofs::Folding::one_less, crate::proofs::Folding::ends, crate::proofs::Folding::none_left))]
 fn trim_spaces(name: &[u8]) -> &[u8]
     ensures { result.now ≡ trimmed name.now }
 {

@@ -12,8 +12,8 @@ pub struct Other {
 /// What a second pass over a plan notes: how far its steps go through, and what came of them.
 #[derive(Drop)]
 pub struct Retraced {
-    /// Why the plan isn't valid. A valid plan has no fault.
-    pub fault: Option<PlanFault>,
+    /// Why the plan isn't valid.
+    pub fault: PlanFault,
     /// The operators of the steps that go through.
     pub operators: Vec<u32>,
     /// The state to which these steps lead.

@@ -13,7 +13,7 @@ use std::alloc::{AllocError, Global};
 use std::mem;
 
 /// Where a derived variable has its value from: the round that reaches it, counted from 1, and the rule that gives it the value.
-#[derive(Clone, Copy, Debug, PartialEq, Eq)]
+#[derive(Clone, Copy)]
 pub struct Origin {
     pub rank: u32,
     pub rule: u32,
@@ -47,12 +47,8 @@ pub fn origins_of<T: Grounded>(
 {
     let rules = all_rules(alloc, task)?;
     let mut rounds = Rounds::new(alloc, task)?;
-    let finished = rounds.finish(task, state, rules);
-    let Rounds { origins, .. } = rounds;
-    match finished {
-        Ok(()) => Ok(origins),
-        Err(error) => Err(error),
-    }
+    rounds.finish(task, state, rules)?;
+    Ok(rounds.origins)
 }
 
 /// Returns all rules of the task.

@@ -29,8 +29,7 @@ pub fn retrace<E: Settle<T> + Drop, T: Grounded, P: Stepwise>(
     fault: PlanFault,
 ) -> Result<Retraced, AllocError>
     requires { IsFound execution.task execution.plan (Some fault) execution }
-    ensures retraced { IfOk result (IsRetraced execution.entry.task execution.entry.plan) }
-    ensures fault { IfOk result (λ noted. noted.fault ≡ Some fault) }
+    ensures { IfOk result (IsRetraced execution.entry.task execution.entry.plan) }
 {
     let mut notes = Notes {
         changes: Changes::new(alloc, execution.state())?,
@@ -41,7 +40,7 @@ pub fn retrace<E: Settle<T> + Drop, T: Grounded, P: Stepwise>(
     let (operators, last) = execution.into_parts();
     let Notes { changes, other } = notes;
     Ok(Retraced {
-        fault: Some(fault),
+        fault,
         operators,
         last,
         since: changes.since,

@@ -1,7 +1,6 @@
 // The answer about a plan with the reasons why it isn't valid, as it goes out.
-ghost use Rattle.std.specs.Prelude.{◌≡◌, false, Some, IfOk};
+ghost use Rattle.std.specs.Prelude.{◌≡◌, false, IfOk};
 ghost use Rattle.sas_output.specs.Ending.{EndsCounting, Writes};
-ghost use Rattle.sas_run.specs.Verdicts.{IsFaultOf};
 ghost use Rattle.sas_why.specs.Explained.{IsExplained, MakeAnswer};
 ghost use Rattle.sas_why.specs.Retracing.{IsRetraced};
 
@@ -15,7 +14,7 @@ use sas_flat::{FlatPlan, FlatTask};
 use sas_lines::Watched;
 use sas_meaning::Layered;
 use sas_output::{Answer, Line, Named, Status, ToolFault, write_reasons};
-use sas_run::{Execution, PlanFault};
+use sas_run::Execution;
 use std::alloc::{AllocError, Global};
 use std::io::Write;
 
@@ -58,7 +57,7 @@ fn explain_plan(
         }
         Some(fault) => {
             let noted = retrace(alloc, execution, fault)?;
-            let explained = explain_fault(alloc, task, plan, &noted, fault);
+            let explained = explain_fault(alloc, task, plan, &noted);
             drop(noted);
             explained
         }
@@ -71,14 +70,11 @@ fn explain_fault(
     task: &Layered<FlatTask>,
     plan: &FlatPlan,
     noted: &Retraced,
-    fault: PlanFault,
 ) -> Result<(Answer, Vec<Line>), AllocError>
-    requires noted { IsRetraced task.now plan.now noted.now }
-    requires fault { noted.now.fault ≡ Some fault }
-    requires is { IsFaultOf task.now plan.now fault }
+    requires { IsRetraced task.now plan.now noted.now }
     ensures { IfOk result (λ found. MakeAnswer task.now plan.now found.0 found.1.items) }
 {
-    let lines = reasons(alloc, task, plan, noted, fault)?;
-    let verdict = refuse_plan(alloc, plan.cost(), fault)?;
+    let lines = reasons(alloc, task, plan, noted)?;
+    let verdict = refuse_plan(alloc, plan.cost(), noted.fault)?;
     Ok((verdict, lines))
 }

@@ -1,6 +1,6 @@
 -- No rule derives the value, or all of the variable's rules were reported before, or they are reported now.
 use Rattle.sas_why.proofs.Imports.{◌≡◌, ◌<◌, ℕ, Bool, List, ◌++◌, length, get_or, false, sym, ◌∙◌, ap, subst, flat_map, All, on_ok_weaker, Contains-get_or, of_variable, places, can_give, failing_lines, keeping_lines, last_state, Adds}
-use Rattle.sas_why.proofs.Composing.{no_rule, reported_before, reported_now, rules_of_report}
+use Rattle.sas_why.proofs.Composing.{no_rule, reported_before, reported_now}
 use Rattle.sas_why.proofs.causes.report_keepers.Goals as goal
 
 pub returns-then-not-give_value : goal.returns-then-not-give_value
@@ -17,7 +17,7 @@ pub push_keepers-requires-clause-rules : goal.push_keepers-requires-clause-rules
 push_keepers-requires-clause-rules g c =
     let p = c.args.task.now in
     let are : c.get-rules.result.now ≡ places (can_give p c.args.fact.var) p.rules =
-    c.get-rules.ensures ∙ rules_of_report p c.args.noted.now c.args.report.now c.args.fact.var c.requires.fact c.requires.report in
+    c.get-rules.ensures ∙ c.requires.report.2.rules.each c.args.fact.var c.requires.fact in
     subst (All (λ (rule : ℕ). rule < length p.rules)) (sym are)
     (λ k d lt. (of_variable p c.args.fact.var (get_or (places (can_give p c.args.fact.var) p.rules) k d) (Contains-get_or (places (can_give p c.args.fact.var) p.rules) k d lt)).0)
 
@@ -26,7 +26,7 @@ returns g c =
     let p = c.args.task.now in
     let report = c.args.report.now in
     let are : c.get-rules.result.now ≡ places (can_give p c.args.fact.var) p.rules =
-    c.get-rules.ensures ∙ rules_of_report p c.args.noted.now report c.args.fact.var c.requires.fact c.requires.report in
+    c.get-rules.ensures ∙ c.requires.report.2.rules.each c.args.fact.var c.requires.fact in
     on_ok_weaker c.push_keepers.result
     (λ add. subst (λ (kept : List Bool). Adds p c.args.noted.now report
     (record { lines = c.push_keepers.new.lines; origins = report.origins; rules = report.rules; kept = kept; next = report.next })

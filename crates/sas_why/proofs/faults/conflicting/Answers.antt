@@ -10,8 +10,5 @@ returns g c =
     let behind : List Line = Operator operator ∷ ConflictingEffect operator clash.earlier ∷ ConflictingEffect operator clash.later ∷ [] in (
       Step c.args.step ∷ behind,
       (behind, (clash.later, clash.earlier, c.in_ok-clash.ensures, refl), refl),
-      c.in_ok-push-4.ensures.ok ∙ ap (λ (l : List Line). l ++ ConflictingEffect operator clash.later ∷ [])
-          (c.in_ok-push-3.ensures.ok ∙ ap (λ (l : List Line). l ++ ConflictingEffect operator clash.earlier ∷ [])
-          (c.in_ok-push-2.ensures.ok ∙ ap (λ (l : List Line). l ++ Operator operator ∷ [])
-          (c.in_ok-push.ensures.ok ∙ ap (λ (l : List Line). l ++ Step c.args.step ∷ []) c.new-lines.ensures))),
+      c.in_ok-extend_from_slice.ensures.ok ∙ ap (λ (l : List Line). l ++ (Step c.args.step ∷ behind)) c.new-lines.ensures,
     )

@@ -1,6 +1,6 @@
 -- The lines of the fault, and that of another operator if a step may mean one.
-use Rattle.sas_why.proofs.Imports.{List, ◌++◌, ◌∷◌, [], sym, ◌∙◌, ap, subst, IsWhy, Line, CouldBe, Other}
-use Rattle.sas_why.proofs.Behind.{is_why, same_other, some_not_none}
+use Rattle.sas_why.proofs.Imports.{same_Some, List, ◌++◌, ◌∷◌, [], sym, ◌∙◌, ap, subst, IsWhy, Line, CouldBe, Other}
+use Rattle.sas_why.proofs.Behind.{is_why, some_not_none}
 use Rattle.sas_why.proofs.faults.reasons.Goals as goal
 use Rattle.sas_why.proofs.faults.reasons.Goals.{in-Some+in_ok-push, in_default}
 
@@ -8,15 +8,15 @@ pub returns : goal.returns
 returns g c =
     let p = c.args.layered.now in
     let plan = g.P.Stepwise.says c.args.plan.now in
-    let run = c.requires.retraced.0 in
-    let r = c.requires.retraced.1 in
+    let run = c.requires.0 in
+    let r = c.requires.1 in
     let lines = c.in_ok-lines.lines in
     let new = c.match-noted.lines in
-    subst (λ (l : List Line). IsWhy p plan c.args.fault l) (sym c.into_vec.ensures)
-    (is_why _ _ _ run _ r c.requires.fault _ (c.in_ok-lines.ensures run r) new
+    subst (λ (l : List Line). IsWhy p plan c.args.noted.now.fault l) (sym c.into_vec.ensures)
+    (is_why _ _ _ run r _ (c.in_ok-lines.ensures run r) new
     (λ other is. elim c.match-noted.branch [
       | in-Some+in_ok-push w ↦ w.lines-is ∙ (w.in_ok-push.ensures.ok
-          ∙ ap (λ (o : Other). lines ++ CouldBe o.step o.operator ∷ []) (same_other w.in-Some.other other (sym w.in-Some.is ∙ is)))
+          ∙ ap (λ (o : Other). lines ++ CouldBe o.step o.operator ∷ []) (same_Some w.in-Some.other other (sym w.in-Some.is ∙ is)))
       | in_default w ↦ absurd (some_not_none other (sym is ∙ w.in_default.is))
     ])
     (λ is. elim c.match-noted.branch [

@@ -2,7 +2,7 @@
 use Rattle.sas_why.proofs.Imports.{◌≡◌, ◌<◌, ◌≤◌, List, [], ◌∷◌, length, get_or, refl, sym, ◌∙◌, subst, slice_index, All, Fact, places, places_to, places_all, LinesOfEach, fails, IsCause, goal_fact_at, AreGoalFactLines, GoalFact}
 use Rattle.sas_why.proofs.Within.{goal_within}
 use Rattle.sas_why.proofs.Composing.{more_is_report, plain_is_report, line_and_more, one_more}
-use Rattle.sas_why.proofs.Faulty.{at_last, place_fails, place_holds}
+use Rattle.sas_why.proofs.Faulty.{at_last, fails_when, holds_when, place_more, place_not}
 use Rattle.sas_why.proofs.faults.report_missed.Goals as goal
 use Rattle.sas_why.proofs.faults.report_missed.Goals.{then-value-fact+in_ok-push+in_ok-report_cause, else-value-fact}
 
@@ -35,16 +35,16 @@ loop-index-preserved g c =
     elim c.if-value-fact.branch [
       | then-value-fact+in_ok-push+in_ok-report_cause w ↦ rw (
         w.report-is,
-        place_fails s k p.goal _ lt (subst (λ (l : List Fact). slice_index s (get_or l k (record { var = 0; value = 0 })).var ≡ (get_or l k (record { var = 0; value = 0 })).value → ⊥) c.goal-fact-items.ensures
-            (λ e. w.if-value-fact.true (c.value.ensures ∙ e))),
+        place_more (fails s) k p.goal _ lt (fails_when s _ (subst (λ (l : List Fact). slice_index s (get_or l k (record { var = 0; value = 0 })).var ≡ (get_or l k (record { var = 0; value = 0 })).value → ⊥) c.goal-fact-items.ensures
+            (λ e. w.if-value-fact.true (c.value.ensures ∙ e)))),
       )
           (one_more p c.args.noted.now (λ run. AreGoalFactLines p run) _ _ _ _ k c.loop-index.invariant
           (line_and_more _ _ _ _ w.push.new.self (GoalFact k) (λ run. IsCause p run (goal_fact_at p k)) refl w.in_ok-push.ensures.ok
           (rw c.goal-fact-items.ensures at w.in_ok-report_cause.ensures)))
       | else-value-fact w ↦ rw (
         w.report-is,
-        place_holds s k p.goal _ lt (subst (λ (l : List Fact). slice_index s (get_or l k (record { var = 0; value = 0 })).var ≡ (get_or l k (record { var = 0; value = 0 })).value) c.goal-fact-items.ensures
-            (sym c.value.ensures ∙ w.if-value-fact.false)),
+        place_not (fails s) k p.goal _ lt (holds_when s _ (subst (λ (l : List Fact). slice_index s (get_or l k (record { var = 0; value = 0 })).var ≡ (get_or l k (record { var = 0; value = 0 })).value) c.goal-fact-items.ensures
+            (sym c.value.ensures ∙ w.if-value-fact.false))),
       ) c.loop-index.invariant
     ]
 

@@ -1,6 +1,6 @@
 -- Each round leads to the next one, and none is left when no rule is.
-use Rattle.sas_why.proofs.Imports.{◌≡◌, ℕ, ◌<◌, ◌==◌, Bool, true, false, Vec, Global, vec_len, [], length, refl, sym, ap, subst, ◌∙◌, inl, inr, arith, cases_lt, false≢true, eqb_tells, InRound}
-use Rattle.sas_why.proofs.RoundEnds.{AreDue, first_round, first_due, first_unreached, found_all, begins_next, due_then, few_then, more_then, nil_of}
+use Rattle.sas_why.proofs.Imports.{◌≡◌, ℕ, ◌<◌, ◌==◌, Bool, true, false, Vec, Global, vec_len, [], length, refl, sym, ap, subst, ◌∙◌, inl, inr, arith, cases_lt, false≢true, eqb_tells, InRound, nil_from_length}
+use Rattle.sas_why.proofs.RoundEnds.{AreDue, found_all, first_begins, next_begins}
 use Rattle.sas_why.proofs.rounds.Rounds.finish.Goals as goal
 
 some_rule : (rules : Vec ℕ Global) (empty : Bool) → empty ≡ (vec_len rules == 0) → empty ≡ false → 0 < length rules.items
@@ -11,22 +11,12 @@ some_rule rules empty tested is = elim (eqb_tells (vec_len rules) 0) [
 
 no_rule : (rules : Vec ℕ Global) (empty : Bool) → empty ≡ (vec_len rules == 0) → empty ≡ true → rules.items ≡ []
 no_rule rules empty tested is = elim (eqb_tells (vec_len rules) 0) [
-  | inl w ↦ nil_of rules.items (omega (arith, rules.ok.0, w.1))
+  | inl w ↦ nil_from_length rules.items (omega (arith, rules.ok.0, w.1))
   | inr w ↦ absurd (false≢true (sym w.0 ∙ (sym tested ∙ is)))
 ]
 
 pub loop-self-init : goal.loop-self-init
-loop-self-init g c =
-    let before = c.requires.before in
-    let over = before.over in
-    let all = first_unreached _ _ before in
-    record {
-      round = first_round _ _ _ before;
-      none = before.next;
-      due = first_due _ _ _ _ c.requires.rules;
-      few = omega arith;
-      more = λ _. omega arith;
-    }
+loop-self-init g c = first_begins _ _ _ _ c.requires.before c.requires.rules
 
 pub loop-self-smaller : goal.loop-self-smaller
 loop-self-smaller g c =
@@ -44,21 +34,12 @@ pub loop-self-preserved : goal.loop-self-preserved
 loop-self-preserved g c =
     let p = c.args.task.now in
     let s = c.args.state.now in
-    let inv = c.loop-self.invariant in
     let r' = c.look_at_all.new.self in
     let rules = c.loop-self.rules.items in
     let some : 0 < length rules = some_rule c.loop-self.rules c.is_empty.result c.is_empty.ensures c.loop-self-test.true in
     let inside : InRound p s r' rules = subst (λ xs. InRound p s r' xs) c.as_slice.ensures.value c.in_ok-look_at_all.ensures.looked in
-    let goes = c.in_ok-look_at_all.ensures.goes_on in
-    let is = ap (λ v. v.items) c.swap.ensures.x_after in
-    record {
-      round = begins_next _ _ c.task.ensures.layered c.requires.settled _ _ _ _ inside inv.due goes inv.none some is inv.more
-          _ refl refl refl refl c.clear.ensures.items;
-      none = c.clear.ensures.items;
-      due = due_then _ _ c.task.ensures.layered c.requires.settled _ _ _ _ inside inv.due goes inv.none some is inv.more;
-      few = few_then _ _ c.task.ensures.layered c.requires.settled _ _ _ _ inside inv.due goes inv.none some is inv.more;
-      more = more_then _ _ c.task.ensures.layered c.requires.settled _ _ _ _ inside inv.due goes inv.none some is inv.more;
-    }
+    next_begins _ _ c.task.ensures.layered c.requires.settled _ _ _ _ _ c.loop-self.invariant inside c.in_ok-look_at_all.ensures.goes_on some
+    (ap (λ v. v.items) c.swap.ensures.x_after) refl refl refl refl c.clear.ensures.items
 
 pub returns : goal.returns
 returns g c =

@@ -53,6 +53,11 @@ fires g c =
     c.requires.round.1.at.passed
     (let e = ap length c.rule_conditions.ensures in let le = c.if-place-rule_conditions.false in omega arith))
 
+-- its variable exists
+exists : (g : Over) (c : goal.After-reach g) → c.rule_change-change.result.var < length c.args.self.now.origins.items
+exists g c = within c.args.task.now c.args.state.now c.args.self.now c.requires.round.0 c.in-Some.layer c.rule_change-change.result.var
+    c.requires.round.1 (sym c.layer.ensures ∙ c.in-Some.is)
+
 pub returns-clause-looked : goal.returns-clause-looked
 returns-clause-looked g c = on_ok_weaker c.reach.result (λ now looked inside.
     let p = c.args.task.now in
@@ -60,9 +65,7 @@ returns-clause-looked g c = on_ok_weaker c.reach.result (λ now looked inside.
     let layer = c.in-Some.layer in
     let on : IsOnLayer p layer (rule_at p rule).var =
     ap (λ (x : Change). layer_of p.variables x.var) (sym c.rule_change-change.ensures) ∙ (sym c.layer.ensures ∙ c.in-Some.is) in
-    reach_round _ _ _ _ looked _ _ _ (within c.args.task.now c.args.state.now c.args.self.now c.requires.round.0 c.in-Some.layer c.rule_change-change.result.var
-    c.requires.round.1 (sym c.layer.ensures ∙ c.in-Some.is)) (sym c.layer.ensures ∙ c.in-Some.is)
-    (fires g c) now
+    reach_round _ _ _ _ looked _ _ _ (exists g c) (sym c.layer.ensures ∙ c.in-Some.is) (fires g c) now
     (passed_round _ _ _ _ looked refl refl refl refl
     (passed_set _ _ _ _ _ _ _ c.requires.rule on c.first_open-place.ensures inside.at.passed) inside))
     c.reach.ensures
@@ -70,6 +73,5 @@ returns-clause-looked g c = on_ok_weaker c.reach.result (λ now looked inside.
 pub returns-clause-goes_on : goal.returns-clause-goes_on
 returns-clause-goes_on g c = on_ok_weaker c.reach.result (λ now.
     goes_as c.args.self.now _ c.reach.new.self refl refl refl
-    (reach_goes_on c.rule_change-change.result.var c.args.rule _ c.reach.new.self (within c.args.task.now c.args.state.now c.args.self.now c.requires.round.0 c.in-Some.layer c.rule_change-change.result.var
-    c.requires.round.1 (sym c.layer.ensures ∙ c.in-Some.is)) now))
+    (reach_goes_on c.rule_change-change.result.var c.args.rule _ c.reach.new.self (exists g c) now))
     c.reach.ensures

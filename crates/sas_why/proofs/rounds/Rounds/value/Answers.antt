@@ -1,6 +1,6 @@
 -- A variable of the layer that wasn't reached has its default, and any other its value in the state.
-use Rattle.sas_why.proofs.Imports.{◌≡◌, ℕ, Option, Some, sym, ◌∙◌, ap, inl, inr, option_eq, false≢true, layer_of, ◌==◌}
-use Rattle.sas_why.proofs.Reaching.{same_option, value_when_reached, value_off}
+use Rattle.sas_why.proofs.Imports.{◌≡◌, ℕ, Option, Some, sym, ◌∙◌, ap, inl, inr, option_eq, false≢true, same_option, layer_of, ◌==◌}
+use Rattle.sas_why.proofs.Reaching.{value_when_reached, value_off}
 use Rattle.sas_why.proofs.rounds.Rounds.value.Goals as goal
 use Rattle.sas_why.proofs.rounds.Rounds.value.Goals.{else-eq-via-then-eq+else-not-is_reached, else-eq-via-else-eq}
 
