@@ -7,7 +7,7 @@ use std::alloc::Global;
 use test_words::{ReportedReader, cut, narrow_of, say_number};
 
 /// The answer of a run that is out of memory.
-const WANTING: Result<Status, JudgeFault> = Err(JudgeFault::Tool(ToolFault::Memory));
+const OUT_OF_MEMORY: Result<Status, JudgeFault> = Err(JudgeFault::Tool(ToolFault::Memory));
 
 /// Plans that are opened one after another, each with the text that its device follows. A plan with `?` alone can't be opened. Each opening
 /// is printed.
@@ -76,7 +76,7 @@ pub fn judge_listed(rt: &HostRuntime, bytes: &[u8]) -> Option<()> {
     let mut task = Watched::new(ReportedReader::new(task, LONGEST_READ));
     let mut out = Watched::new(narrow_of(rt.alloc(), writer)?);
     let answer = judge(rt.alloc(), &mut task, &mut PlanList { rt, plans }, &mut out);
-    say_answer(rt, &answer, &WANTING, out.into_device().kept());
+    say_answer(rt, &answer, &OUT_OF_MEMORY, out.into_device().kept());
     Some(())
 }
 
@@ -89,8 +89,8 @@ pub fn judge_in_memory(rt: &HostRuntime, bytes: &[u8]) -> Option<()> {
         return None;
     }
     match judge_slices(rt.alloc(), task, plans) {
-        Ok(answer) => say_answer(rt, &Ok(answer.status), &WANTING, answer.text.as_slice()),
-        Err(fault) => say_answer(rt, &Err(fault), &WANTING, &[]),
+        Ok(answer) => say_answer(rt, &Ok(answer.status), &OUT_OF_MEMORY, answer.text.as_slice()),
+        Err(fault) => say_answer(rt, &Err(fault), &OUT_OF_MEMORY, &[]),
     }
     Some(())
 }
