@@ -2,8 +2,8 @@
 pub use Rattle.std.proofs.Common.{◌≡◌, ◌≢◌, ℕ, ◌+◌, ◌<◌, ◌≤◌, true, false, None, List, [], ◌∷◌, ◌++◌, length, refl, sym, subst, inl, inr, arith, zero, suc, ◌⊎◌, get_or, set, Option, Some, ◌∙◌, ◌==◌, Bool, take, slice_index, slice_index_or, slice_set, ap, cond, eqb-true, eq-eqb, below_more, ◌↔◌, nat_lt, nat_le, if◌then◌else◌, flat_map, not, ltb-true, lt-ltb, leb-true, le-leb, drop, add-one, ◌&&◌, ◌||◌, get_or-take, rules, Result, Ok, Err, ◌-◌}
 pub use Rattle.std.proofs.Math.Seq.{drop-cons, take-suc}
 pub use Rattle.std.proofs.lemmas.Bool.{cases_eq, false_from_ne_true, cases_Bool, cases_lt}
-pub use Rattle.std.proofs.lemmas.Bool.Decides.{eqb_tells, nat_tests}
-pub use Rattle.std.proofs.lemmas.Grind.{same_number_lists, common_steps, elements}
+pub use Rattle.std.proofs.lemmas.Bool.Decides.{eqb_tells}
+pub use Rattle.std.proofs.lemmas.Grind.{same_number_lists, elements}
 pub use Rattle.std.proofs.lemmas.List.{get_or-set_same, get_or-set_other, get_or_default, length-set, drop_all, take_all, length-take-le}
 pub use Rattle.std.proofs.lemmas.List.Elements.{All-nil, All-push, Contains-append_left, Contains-push, All-cons, All-head, All-tail, Contains-append_right, Contains-get_or, All-contains}
 pub use Rattle.std.proofs.lemmas.List.FromFn.{get_or-enumerate_from, length-enumerate_from}

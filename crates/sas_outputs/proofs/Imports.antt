@@ -38,7 +38,7 @@ pub use Rattle.sas_output.proofs.PlainLines.{number, number_then, two}
 pub use Rattle.sas_output.proofs.Pushed.{pushes_item, pushes_then}
 pub use Rattle.sas_output.proofs.Sent.{counting_ends}
 pub use Rattle.sas_output.proofs.Texts.{text_of_both, text_of_each}
-pub use Rattle.sas_output.specs.Ending.{Output, Ends, EndsCounting, IsDecided}
+pub use Rattle.sas_output.specs.Ending.{Output, Ends, EndsCounting}
 pub use Rattle.sas_output.specs.Sink.{Pushes}
 pub use Rattle.sas_output.specs.declared.ending.Status.{Status}
 pub use Rattle.sas_output.specs.declared.ending.Status.TheVariants.{Yes, No}

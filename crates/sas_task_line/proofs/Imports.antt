@@ -24,10 +24,10 @@ pub use Rattle.sas_core.specs.declared.grounded.Change.{Change}
 pub use Rattle.sas_core.specs.declared.parts.Effect.{Effect}
 pub use Rattle.sas_core.specs.declared.parts.Fact.{Fact}
 pub use Rattle.sas_core.specs.declared.parts.Variable.{Variable}
-pub use Rattle.sas_lines.proofs.Beginnings.{stands_first, lines_stand_first}
+pub use Rattle.sas_lines.proofs.Beginnings.{lines_stand_first}
 pub use Rattle.sas_lines.proofs.Splitting.{Plain}
 pub use Rattle.sas_lines.proofs.Words.{NoSpace, NoSpace-number, NoSpace-signed, words-joined, joined-words}
-pub use Rattle.sas_lines.specs.FirstLines.{LineStandsFirst, LinesStandFirst}
+pub use Rattle.sas_lines.specs.FirstLines.{LinesStandFirst}
 pub use Rattle.sas_lines.specs.Lines.{text}
 unfoldable pub use Rattle.sas_lines.specs.Parts.{parts}
 pub use Rattle.sas_lines.specs.Spelling.{signed_decimal, joined}
@@ -46,7 +46,7 @@ pub use Rattle.sas_task_format.specs.TaskFormat.{TaskLine, word, name, number, s
 pub use Rattle.sas_task_format.specs.TaskProcess.{number_in, signed_in, fact_in, effect_in, head_in}
 pub use Rattle.sas_task_format.specs.TaskReasons.{Bounded, below, first_wrong, fact_bounds, change_bounds, line_bounds}
 pub use Rattle.sas_task_format.specs.declared.marks.WrongWord.{WrongWord}
-pub use Rattle.sas_task_line.specs.Ahead.{LineAhead, NumberAhead, SignedAhead, FactAhead, ChangeAhead, EffectAhead}
+pub use Rattle.sas_task_line.specs.Ahead.{LineAhead, NumberAhead, SignedAhead, FactAhead, ChangeAhead}
 pub use Rattle.sas_task_line.specs.FirstWrong.{HasWrong, FirstWrong}
 pub use Rattle.sas_task_line.specs.LinesBefore.{LinesBefore, CountedBefore, AppendedBefore, EffectsBefore, FactsBefore, NamesBefore}
 pub use Rattle.sas_task_line.specs.Sections.{spelled, LinesAhead, VariableAhead, GroupAhead, OperatorAhead, RuleAhead}

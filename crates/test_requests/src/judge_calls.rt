@@ -89,7 +89,12 @@ pub fn judge_in_memory(rt: &HostRuntime, bytes: &[u8]) -> Option<()> {
         return None;
     }
     match judge_slices(rt.alloc(), task, plans) {
-        Ok(answer) => say_answer(rt, &Ok(answer.status), &OUT_OF_MEMORY, answer.text.as_slice()),
+        Ok(answer) => say_answer(
+            rt,
+            &Ok(answer.status),
+            &OUT_OF_MEMORY,
+            answer.text.as_slice(),
+        ),
         Err(fault) => say_answer(rt, &Err(fault), &OUT_OF_MEMORY, &[]),
     }
     Some(())
