@@ -1,5 +1,5 @@
 -- What a task read so far contains where only its variables, groups, operators or rules changed.
-use Rattle.sas_task_reader.proofs.Imports.{◌≡◌, ℕ, List, Option, Variable, [], ◌∷◌, ◌++◌, length, ap, ◌∙◌, rules_of, rules_from, table_none, SoFar}
+use Rattle.sas_task_reader.proofs.Imports.{◌≡◌, ℕ, List, Option, Variable, [], ◌∷◌, ◌++◌, length, ap, rules_of, rules_from, table_none, SoFar}
 use Rattle.sas_core.specs.declared.grounded.Change.{Change}
 use Rattle.sas_core.specs.declared.parts.Effect.{Effect}
 use Rattle.sas_core.specs.declared.parts.Fact.{Fact}
@@ -10,48 +10,30 @@ use Rattle.sas_task_judge.specs.Sections.{behind_variable, behind_group, behind_
 abbrev pub with_variables : SoFar → List Variable → SoFar
 with_variables s vs = record s { parts = record s.parts { variables = vs } }
 
-abbrev begun : SoFar → List ℕ → Option ℕ → List (List ℕ) → List Variable → SoFar
-begun s name layer values vs = record (with_variables s vs) { name = name; layer = layer; values = values }
-
 pub one_variable_more : (s : SoFar) (v : Variable) (name : List ℕ) (layer : Option ℕ) (values : List (List ℕ)) (vs : List Variable) → name ≡ [] → layer ≡ v.layer → values ≡ [] → vs ≡ s.parts.variables ++ v ∷ []
-    → begun s name layer values vs ≡ behind_variable s v
-one_variable_more s v name layer values vs no_name same_layer no_values is =
-    ap (λ (l : List ℕ). begun s l layer values vs) no_name
-    ∙ ap (λ (l : Option ℕ). begun s [] l values vs) same_layer
-    ∙ ap (λ (l : List (List ℕ)). begun s [] v.layer l vs) no_values
-    ∙ ap (λ (l : List Variable). begun s [] v.layer [] l) is
+    → record (with_variables s vs) { name = name; layer = layer; values = values } ≡ behind_variable s v
+one_variable_more s v name layer values vs no_name same_layer no_values is = cc
 
 abbrev pub with_groups : SoFar → List (List Fact) → SoFar
 with_groups s gs = record s { parts = record s.parts { groups = gs } }
 
 pub one_group_more : (s : SoFar) (facts : List Fact) (begun : List Fact) (gs : List (List Fact)) → begun ≡ [] → gs ≡ s.parts.groups ++ facts ∷ []
     → record (with_groups s gs) { facts = begun } ≡ behind_group s facts
-one_group_more s facts begun gs none is =
-    ap (λ (l : List Fact). record (with_groups s gs) { facts = l }) none
-    ∙ ap (λ (l : List (List Fact)). record (with_groups s l) { facts = [] }) is
+one_group_more s facts begun gs none is = cc
 
 abbrev pub with_operators : SoFar → List Operator → SoFar
 with_operators s os = record s { parts = record s.parts { operators = os } }
 
-abbrev cleared : SoFar → List ℕ → List Fact → List Effect → List Operator → SoFar
-cleared s name facts effects os = record (with_operators s os) { name = name; facts = facts; effects = effects }
-
 pub one_operator_more : (s : SoFar) (o : Operator) (name : List ℕ) (facts : List Fact) (effects : List Effect) (os : List Operator) → name ≡ [] → facts ≡ [] → effects ≡ [] → os ≡ s.parts.operators ++ o ∷ []
-    → cleared s name facts effects os ≡ behind_operator s o
-one_operator_more s o name facts effects os no_name no_facts no_effects is =
-    ap (λ (l : List ℕ). cleared s l facts effects os) no_name
-    ∙ ap (λ (l : List Fact). cleared s [] l effects os) no_facts
-    ∙ ap (λ (l : List Effect). cleared s [] [] l os) no_effects
-    ∙ ap (λ (l : List Operator). cleared s [] [] [] l) is
+    → record (with_operators s os) { name = name; facts = facts; effects = effects } ≡ behind_operator s o
+one_operator_more s o name facts effects os no_name no_facts no_effects is = cc
 
 abbrev pub with_rules : SoFar → List Rule → SoFar
 with_rules s rs = record s { parts = record s.parts { rules = rs } }
 
 pub another_rule : (s : SoFar) (r : Rule) (begun : List Fact) (rs : List Rule) → begun ≡ [] → rs ≡ s.parts.rules ++ r ∷ []
     → record (with_rules s rs) { facts = begun } ≡ behind_rule s r
-another_rule s r begun rs none is =
-    ap (λ (l : List Fact). record (with_rules s rs) { facts = l }) none
-    ∙ ap (λ (l : List Rule). record (with_rules s l) { facts = [] }) is
+another_rule s r begun rs none is = cc
 
 pub no_rules : (changes : List Change) (lists : List (List Fact)) → changes ≡ [] → rules_from changes lists ≡ []
 no_rules changes lists none = ap (λ (l : List Effect). rules_of l) (table_none (length changes) _ (ap length none))
