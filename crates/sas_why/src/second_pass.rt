@@ -29,7 +29,8 @@ pub fn retrace<E: Settle<T> + Drop, T: Grounded, P: Stepwise>(
     fault: PlanFault,
 ) -> Result<Retraced, AllocError>
     requires { IsFound execution.task execution.plan (Some fault) execution }
-    ensures { IfOk result (IsRetraced execution.entry.task execution.entry.plan) }
+    ensures retraced { IfOk result (IsRetraced execution.entry.task execution.entry.plan) }
+    ensures fault { IfOk result (λ noted. noted.fault ≡ fault) }
 {
     let mut notes = Notes {
         changes: Changes::new(alloc, execution.state())?,

@@ -8,8 +8,8 @@ note_steps-requires-clause-notes g c =
     let found = c.requires in
     (found.run, notes_start found.run c.args.execution c.in_ok-new.field-0 found.executes found.made (rw c.state.ensures.now at c.in_ok-new.ensures))
 
-pub returns : goal.returns
-returns g c =
+pub returns-clause-retraced : goal.returns-clause-retraced
+returns-clause-retraced g c =
     let found = c.requires in
     let noted = c.note_steps.ensures in
     let start = notes_start found.run c.args.execution c.in_ok-new.field-0 found.executes found.made (rw c.state.ensures.now at c.in_ok-new.ensures) in (
