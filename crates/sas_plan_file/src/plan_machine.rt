@@ -47,6 +47,7 @@ impl<S: StepNames> PlanMachine<S> {
     }
 
     /// Appends a step.
+    #[inline(always)]
     fn add_step(&mut self, name: &[u8]) -> Result<(), Kind>
         requires open_still { HasCostLine self.old → ⊥ }
         requires name { IsName name.now }
