@@ -1,18 +1,16 @@
 -- What the proofs use of other crates, and of the definitions of this one.
-pub use Rattle.std.proofs.Common.{◌≡◌, ℕ, ◌-◌, true, false, List, ◌++◌, length, take, drop, sym, ap, ◌∙◌, arith, length-append, Option, None, Some, nat_eq, ◌⊎◌, inl, inr, suc, ◌+◌, ◌<◌, ◌≤◌, [], ◌∷◌, get_or, refl, subst, Ok, append_assoc, Bool, not, ◌&&◌, ◌==◌, codes, map, IsTrue, ◌↔◌, Err, rules}
+pub use Rattle.std.proofs.Common.{◌≡◌, ℕ, ◌-◌, true, false, List, ◌++◌, length, take, drop, sym, ap, ◌∙◌, arith, length-append, Option, None, Some, nat_eq, ◌⊎◌, inl, inr, suc, ◌+◌, ◌<◌, ◌≤◌, [], ◌∷◌, get_or, refl, subst, Ok, append_assoc, codes, map, IsTrue, ◌↔◌, Err, rules}
 pub use Rattle.std.proofs.Math.ListN.{get_or-append}
 pub use Rattle.std.proofs.Math.Seq.{drop-append_seam, take-append_seam}
-pub use Rattle.std.proofs.lemmas.Bool.{ne_eqb, false_from_ne_true}
+pub use Rattle.std.proofs.lemmas.Bool.{false_from_ne_true}
 pub use Rattle.std.proofs.lemmas.Fmt.{decimal_injective}
 pub use Rattle.std.proofs.lemmas.Grind.{flat_map-append}
 pub use Rattle.std.proofs.lemmas.List.{take-append-drop, length-take-le, get_or-take, take_at, drop_more, append-nil, append_cancel_left, append_cancel_right, take_rest}
 pub use Rattle.std.specs.Cmp.Lexicographic.{pointwise, same_text, other_text}
 pub use Rattle.std.specs.Fmt.{decimal}
-pub use Rattle.std.specs.List.{list_all, AllByRecursion}
+pub use Rattle.std.specs.List.{AllByRecursion}
 pub use Rattle.std.specs.Option.{MatchOption}
-pub use Rattle.memchr.specs.Find.{Nowhere, NoneBefore, Passes, is_byte2}
-pub use Rattle.sas_core.proofs.PlainBytes.{is_none-search}
-pub use Rattle.sas_core.specs.Names.{is_plain, IsName}
+pub use Rattle.sas_core.specs.Names.{IsName}
 pub use Rattle.sas_core.specs.Numbers.{IsPlanCost}
 pub use Rattle.sas_core.specs.PlanParts.{PlanParts}
 pub use Rattle.sas_core.specs.Plans.{WellNamed}

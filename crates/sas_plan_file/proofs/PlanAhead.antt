@@ -1,12 +1,13 @@
 -- A step on the first line of some bytes.
-use Rattle.sas_plan_file.proofs.Imports.{◌≡◌, ◌⊎◌, inl, inr, ℕ, suc, ◌+◌, ◌<◌, List, [], ◌∷◌, ◌++◌, length, get_or, take, drop, refl, subst, Ok, sym, ap, ◌∙◌, append_assoc, length-append, arith, None, true, false, Bool, not, ◌&&◌, ◌==◌, codes, list_all, ne_eqb, length-take-le, get_or-take, take_at, take-append-drop, get_or-append, Nowhere, NoneBefore, Passes, is_byte2, step, plan_line_bytes, plan_format, PlanLineFits, plan_line_ok, EndsLine, StepStandsFirst, is_plain, IsName, is_none-search, LineStandsFirst, stands_first, one_stands_first, AcceptsAhead, plain, return_stands_first, IsAllowed}
+use Rattle.sas_plan_file.proofs.Imports.{◌≡◌, ◌⊎◌, inl, inr, ℕ, suc, ◌+◌, ◌<◌, List, [], ◌∷◌, ◌++◌, length, get_or, take, drop, refl, subst, Ok, sym, ap, ◌∙◌, append_assoc, length-append, arith, codes, length-take-le, get_or-take, take_at, take-append-drop, get_or-append, step, plan_line_bytes, plan_format, PlanLineFits, plan_line_ok, EndsLine, StepStandsFirst, IsName, LineStandsFirst, stands_first, one_stands_first, AcceptsAhead, plain, return_stands_first, IsAllowed}
+use Rattle.sas_reader.proofs.PlainBytes.{plain_name}
 use Rattle.sas_plan_file.proofs.PlanGrammar.{plain-step}
 
--- there is no LF and no CR before the end of the line
-module _ (bytes : List ℕ) (end : ℕ) (first : NoneBefore (Passes (is_byte2 10 13) bytes) 0 (length bytes) end) where
+-- each byte before the end of the line is above 13
+module _ (bytes : List ℕ) (end : ℕ) (first : (end < length bytes) × ((k : ℕ) → k < end → 13 < get_or bytes k 0)) where
   module _ (name : List ℕ) (line : take end bytes ≡ codes "(" ++ (name ++ codes ")")) where
     inside : length name + 2 ≡ end
-    inside = omega (arith, ap length line, length-append name (codes ")"), length-take-le end bytes (omega (arith, first.high)))
+    inside = omega (arith, ap length line, length-append name (codes ")"), length-take-le end bytes (omega (arith, first.0)))
 
     at_place : (k : ℕ) → k < length name → get_or name k 0 ≡ get_or bytes (suc k) 0
     at_place k low =
@@ -14,14 +15,8 @@ module _ (bytes : List ℕ) (end : ℕ) (first : NoneBefore (Passes (is_byte2 10
         ∙ sym (ap (λ (x : List ℕ). get_or x (suc k) 0) line)
         ∙ get_or-take end bytes (suc k) 0 (omega (arith, inside))
 
-    nowhere : Nowhere (Passes (is_byte2 10 13) name) 0 (length name)
-    nowhere k low below found = first.before (suc k) (omega arith) (omega (arith, inside)) (rw (at_place k below) at found)
-
     names : 0 < length name → IsName name
-    names some =
-        let one_line = is_none-search name None true nowhere refl in
-        let many : (length name == 0) ≡ false = ne_eqb (length name) 0 (λ e. omega (arith, e, some)) in
-        ap (λ (b : Bool). not b && list_all is_plain name) many ∙ sym one_line
+    names some = plain_name name some (λ k low. subst (λ (b : ℕ). 13 < b) (sym (at_place k low)) (first.1 (suc k) (omega (arith, inside))))
 
     whole : (behind : List ℕ) → drop end bytes ≡ behind → bytes ≡ plan_line_bytes (step name) ++ behind
     whole behind e = sym (take-append-drop end bytes) ∙ ap (λ (x : List ℕ). x ++ drop end bytes) line ∙ ap (λ (x : List ℕ). plan_line_bytes (step name) ++ x) e

@@ -5,10 +5,9 @@ ghost use Rattle.sas_core.specs.Numbers.{IsPlanCost};
 ghost use Rattle.sas_plan_file.specs.PlanFormat.{BeginsWith};
 ghost use Rattle.sas_plan_file.specs.PlanLine.{Names, Costs, JudgesPlanLine, EndsLine, StepStandsFirst};
 
-use memchr::memchr2;
 use sas_core::{CostKind, is_name};
 use sas_lines::cost;
-use sas_reader::Kind;
+use sas_reader::{Kind, plain_end};
 
 /// The content of a line of a plan file: the name of a step, or the cost.
 #[derive(Clone, Copy, Debug, PartialEq, Eq)]
@@ -125,12 +124,12 @@ fn end_of_line(bytes: &[u8], place: usize) -> Option<usize>
     }
 }
 
-/// Returns the step on the first line of the bytes, if the line ends at the first LF or CR. Otherwise returns `None`, and the line has to
-/// be read by `plan_line`.
+/// Returns the step on the first line of the bytes, if the line ends at the first byte that is at most CR. Otherwise returns `None`, and the
+/// line has to be read by `plan_line`.
 pub fn step_ahead(bytes: &[u8]) -> Option<StepAhead<'_>>
     ensures { IfSome result (λ step. StepStandsFirst bytes.now step.name.now step.taken) }
 {
-    let end = memchr2(b'\n', b'\r', bytes)?;
+    let end = plain_end(bytes)?;
     let name = in_parentheses(&bytes[..end])?;
     let end_taken = end_of_line(bytes, end)?;
     Some(StepAhead {

@@ -1,15 +1,18 @@
 -- What the proofs use of other crates, and of the definitions of this one.
-pub use Rattle.std.proofs.Common.{◌≡◌, ◌≢◌, ℕ, List, [], ◌∷◌, ◌++◌, refl, sym, ap, ◌∙◌, append_assoc, ◌⊎◌, inl, inr, ◌+◌, ◌-◌, ◌≤◌, ◌<◌, Bool, true, false, not, length, take, drop, subst, arith, length-append, length-drop, Result, Ok, Err, ◌*◌, ◌/◌, ◌^◌, cond, ◌==◌, if◌then◌else◌, zero, suc, get_or, map, ap₂, Option, Some, None, IsTrue, ◌&&◌, eqb, IfOk, IsErr, IsErrAnd, rules}
+pub use lib.Count.{count_trailing_zeros}
+pub use lib.Lanes.{chunk, mask_l}
+pub use mir.Syntax.{w8}
+pub use Rattle.std.proofs.Common.{leb, ◌≡◌, ◌≢◌, ℕ, List, [], ◌∷◌, ◌++◌, refl, sym, ap, ◌∙◌, append_assoc, ◌⊎◌, inl, inr, ◌+◌, ◌-◌, ◌≤◌, ◌<◌, Bool, true, false, not, length, take, drop, subst, arith, length-append, length-drop, Result, Ok, Err, ◌*◌, ◌/◌, ◌^◌, cond, ◌==◌, if◌then◌else◌, zero, suc, get_or, map, ap₂, Option, Some, None, IsTrue, ◌&&◌, eqb, IfOk, IsErr, IsErrAnd, rules}
 pub use Rattle.std.proofs.KnownBytes.{Consumes-nil, Consumes-trans, Consumes-kept}
 pub use Rattle.std.proofs.Math.Dec.{ltb}
 pub use Rattle.std.proofs.Math.Nat.{min_comm}
 pub use Rattle.std.proofs.Math.Seq.{take-add, take-append-add, drop-append_seam}
-pub use Rattle.std.proofs.lemmas.Bool.{cases_eq, ne_eqb, cases_lt, lt-ltb, ltb-true, eq-eqb, eqb-true, eqb-false, false≢true}
+pub use Rattle.std.proofs.lemmas.Bool.{leb-false, cases_eq, ne_eqb, cases_lt, lt-ltb, ltb-true, eq-eqb, eqb-true, eqb-false, false≢true}
 pub use Rattle.std.proofs.lemmas.Bool.Decides.{eqb_tells}
 pub use Rattle.std.proofs.lemmas.List.{append-nil, length-take, take_all, take-append-drop, drop-take, drop-drop, get_or-take, get_or-drop, length-take-le, take_at, take-take, drop_more, take-append-le, length_push, nil_from_length, append_cancel_left, take_min}
-pub use Rattle.std.proofs.lemmas.List.Elements.{filter-append, filter_more}
-pub use Rattle.std.proofs.lemmas.List.Sums.{prefix_len-le-length, prefix_len_passes, prefix_len_stops}
-pub use Rattle.std.proofs.lemmas.Simd.{leading_from_mask_l, trailing_mask_l, length-chunk, take_more_put_chunk, bitmask_splat}
+pub use Rattle.std.proofs.lemmas.List.Elements.{All-from_get_or, filter-append, filter_more}
+pub use Rattle.std.proofs.lemmas.List.Sums.{list_all-from_AllPass, prefix_len-le-length, prefix_len_passes, prefix_len_stops}
+pub use Rattle.std.proofs.lemmas.Simd.{run_in_chunk_le, run_in_chunk_fails, leading_from_mask_l, trailing_mask_l, length-chunk, take_more_put_chunk, bitmask_splat}
 pub use Rattle.std.specs.Fmt.{decimal}
 pub use Rattle.std.specs.Io.KnownBytes.{Consumes, IsAtEnd}
 pub use Rattle.std.specs.List.{prefix_len, list_all, AllByRecursion}

@@ -1,4 +1,5 @@
 pub mod Plain
+pub mod PlainBytes
 pub mod Paths
 pub mod Live
 pub mod Whole

@@ -2,10 +2,8 @@
 ghost use Rattle.std.specs.Prelude.{◌≡◌, ◌+◌, ◌*◌, ◌<◌, ◌≤◌, ◌++◌, ◌↔◌, length, take, drop, get_or, IsTrue, IfSome};
 ghost use Rattle.sas_reader.specs.Returns.{returns_in, CopiesSoFar, IsCopyWithLfAlone};
 
+use crate::scanning::LANES;
 use std::simd::prelude::*;
-
-/// How many bytes are compared at once.
-const LANES: usize = 32;
 
 /// How many bytes were read, and how many of them were copied.
 #[derive(Clone, Copy, Debug, PartialEq, Eq)]

@@ -1,6 +1,7 @@
 -- Reading the first line of some bytes up to its LF.
-use Rattle.sas_task_line.proofs.Imports.{◌≡◌, ℕ, zero, suc, ◌+◌, ◌*◌, ◌-◌, ◌<◌, ◌≤◌, ◌^◌, List, [], ◌∷◌, ◌++◌, length, take, drop, refl, sym, ap, ap₂, ◌∙◌, append_assoc, arith, Option, get_or, true, false, Bool, not, ◌&&◌, ◌==◌, IsTrue, decimal, list_all, list_all-from_AllPass, list_all-append, All-from_get_or, decimal_digit, length-take-le, take_rest, get_or-take, take-append-drop, drop-drop, drop_more, LineAhead, NumberAhead, SignedAhead, FactAhead, ChangeAhead, is_plain, IsName, ne_eqb, leb, leb-false, map, prefix_len, count_trailing_zeros, chunk, mask_l, leading_from_mask_l, trailing_mask_l, length-chunk, run_in_chunk_fails, Fact, TaskLine, word, name, number, signed, fact, effect, head, task_line_bytes, TaskLineFits, EffectNumbers, fact_words, effect_words, signed_decimal, joined, IsNumber, TakesFacts, fact_in_ranges, Sayable, plain-line, Change, plain_effect}
+use Rattle.sas_task_line.proofs.Imports.{subst, ◌≡◌, ℕ, zero, suc, ◌+◌, ◌*◌, ◌-◌, ◌<◌, ◌≤◌, ◌^◌, List, [], ◌∷◌, ◌++◌, length, take, drop, refl, sym, ap, ap₂, ◌∙◌, append_assoc, arith, Option, get_or, true, false, Bool, not, ◌&&◌, ◌==◌, IsTrue, decimal, list_all, list_all-append, decimal_digit, length-take-le, take_rest, get_or-take, take-append-drop, drop-drop, drop_more, LineAhead, NumberAhead, SignedAhead, FactAhead, ChangeAhead, is_plain, IsName, Fact, TaskLine, word, name, number, signed, fact, effect, head, task_line_bytes, TaskLineFits, EffectNumbers, fact_words, effect_words, signed_decimal, joined, IsNumber, TakesFacts, fact_in_ranges, Sayable, plain-line, Change, plain_effect}
 use Rattle.sas_flat.specs.Effects as flat
+use Rattle.sas_reader.proofs.PlainBytes.{plain_name}
 use Rattle.sas_task_line.proofs.TaskReading.{one_more_fact}
 use Rattle.sas_task_line.proofs.Digits.{digit_is, digit_more}
 
@@ -145,32 +146,10 @@ Name_all w h = both (not (length w == 0)) (list_all is_plain w) h
 pub word_is_ahead : (bytes w rest : List ℕ) → IsName w → bytes ≡ w ++ 10 ∷ rest → LineAhead (word w) bytes rest
 word_is_ahead bytes w rest h e = says_line (word w) bytes rest tt (Name_all w h) e
 
-high_is_plain : (b : ℕ) → 13 < b → is_plain b ≡ true
-high_is_plain b high = ap₂ (λ x y. not x && not y) (ne_eqb b 10 (λ e. omega (arith, e, high))) (ne_eqb b 13 (λ e. omega (arith, e, high)))
-
 pub name_is_ahead : (bytes : List ℕ) (end : ℕ) → 0 < end → end < length bytes → ((k : ℕ) → k < end → 13 < get_or bytes k 0) → get_or bytes end 0 ≡ 10
     → IsName (take end bytes) × LineAhead (name (take end bytes)) bytes (drop (end + 1) bytes)
 name_is_ahead bytes end some high before here =
     let w = take end bytes in
     let l : length w ≡ end = length-take-le end bytes (omega (arith, high)) in
-    let each_plain : (k : ℕ) → k < length w → is_plain (get_or w k 0) ≡ true = λ k below. ap is_plain (get_or-take end bytes k 0 (omega arith)) ∙ high_is_plain _ (before k (omega arith)) in
-    let all : list_all is_plain w ≡ true = list_all-from_AllPass is_plain w (All-from_get_or (λ b. is_plain b ≡ true) w 0 each_plain) in
-    let many : (length w == 0) ≡ false = ne_eqb (length w) 0 (λ e. omega (arith, e, l, some)) in
-    let h : IsName w = ap₂ (λ x y. not x && y) many all in
+    let h : IsName w = plain_name w (omega (arith, l, some)) (λ k below. subst (λ (b : ℕ). 13 < b) (sym (get_or-take end bytes k 0 (omega (arith, l, below)))) (before k (omega (arith, l, below)))) in
     (h, says_line (name w) bytes (drop (end + 1) bytes) tt h (sym (take-append-drop end bytes) ∙ ap (λ (x : List ℕ). w ++ x) (drop_more bytes end 0 high ∙ ap (λ (b : ℕ). b ∷ drop (end + 1) bytes) here)))
-
--- ---- the bytes before the first that is at most 13
-
-abbrev pub stops : ℕ → Bool
-stops b = leb b 13
-
-module _ (bytes : List ℕ) (at mask : ℕ) (room : at + 32 ≤ length bytes) (is : mask ≡ mask_l (map stops (chunk at 32 bytes))) where
-  -- thirty-two bytes, or as many as the zeros at the end of the mask
-  pub none_stops : mask ≡ 0 → 32 ≡ prefix_len (λ b. not (stops b)) (chunk at 32 bytes)
-  none_stops none = sym (leading_from_mask_l stops (chunk at 32 bytes) (sym is ∙ none) ∙ length-chunk at 32 bytes room)
-
-  pub one_stops : (mask ≡ 0 → ⊥) → count_trailing_zeros 64 mask ≡ prefix_len (λ b. not (stops b)) (chunk at 32 bytes)
-  one_stops some = ap (count_trailing_zeros 64) is ∙ trailing_mask_l stops 64 (chunk at 32 bytes) (omega (arith, length-chunk at 32 bytes room)) (omega (arith, is, some))
-
-  pub are_plain : (r : ℕ) → r ≡ prefix_len (λ b. not (stops b)) (chunk at 32 bytes) → (k : ℕ) → at ≤ k → k < at + r → 13 < get_or bytes k 0
-  are_plain r counted k low high = leb-false _ 13 (run_in_chunk_fails stops bytes at 32 r 0 room counted k low high)

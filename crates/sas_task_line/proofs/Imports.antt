@@ -1,21 +1,15 @@
 -- What the proofs use of other crates, and of the definitions of this one.
-pub use lib.Count.{count_trailing_zeros}
-pub use lib.Lanes.{chunk, mask_l}
-pub use mir.Syntax.{w8}
-pub use Rattle.std.proofs.Common.{leb, map, ◌≡◌, ℕ, zero, suc, ◌+◌, ◌*◌, ◌-◌, ◌<◌, ◌≤◌, ◌^◌, List, [], ◌∷◌, ◌++◌, length, take, drop, refl, sym, ap, subst, ◌∙◌, append-nil, append_assoc, length-append, arith, Option, None, get_or, true, false, Bool, not, ◌&&◌, ◌==◌, IsTrue, ◌/◌, ◌%◌, codes, ◌≢◌, Some, if◌then◌else◌, slice_get, rules, ap₂}
-pub use Rattle.std.proofs.lemmas.Bool.{leb-false, ne_eqb, and_parts, eqb-true}
+pub use Rattle.std.proofs.Common.{◌≡◌, ℕ, zero, suc, ◌+◌, ◌*◌, ◌-◌, ◌<◌, ◌≤◌, ◌^◌, List, [], ◌∷◌, ◌++◌, length, take, drop, refl, sym, ap, subst, ◌∙◌, append-nil, append_assoc, length-append, arith, Option, None, get_or, true, false, Bool, not, ◌&&◌, ◌==◌, IsTrue, ◌/◌, ◌%◌, codes, ◌≢◌, Some, if◌then◌else◌, slice_get, rules, ap₂}
+pub use Rattle.std.proofs.lemmas.Bool.{and_parts, eqb-true}
 pub use Rattle.std.proofs.lemmas.Bool.Decides.{nat_tests, Decides-eqb}
 pub use Rattle.std.proofs.lemmas.Fmt.{decimal_digit, decimal_step, decimal_injective}
 pub use Rattle.std.proofs.lemmas.Grind.{flat_map-append, common_steps}
 pub use Rattle.std.proofs.lemmas.List.{length-take-le, take_rest, take_at, get_or-take, take-append-drop, drop-drop, drop_more, map-append, length-map}
-pub use Rattle.std.proofs.lemmas.List.Elements.{All-from_get_or}
 pub use Rattle.std.proofs.lemmas.List.Folds.{list_all-append}
-pub use Rattle.std.proofs.lemmas.List.Sums.{list_all-from_AllPass}
 pub use Rattle.std.proofs.lemmas.Option.{none-some, IfSome_then}
-pub use Rattle.std.proofs.lemmas.Simd.{bitmask_splat, leading_from_mask_l, trailing_mask_l, length-chunk, run_in_chunk_le, run_in_chunk_fails}
 pub use Rattle.std.proofs.lemmas.Slice.Eq.{slice_eq-Decides}
 pub use Rattle.std.specs.Fmt.{decimal}
-pub use Rattle.std.specs.List.{list_all, flat_map, prefix_len, AllByRecursion}
+pub use Rattle.std.specs.List.{list_all, flat_map, AllByRecursion}
 pub use Rattle.sas_core.specs.Changes.{plain_effect}
 pub use Rattle.sas_core.specs.Names.{is_plain, IsName, is_name}
 pub use Rattle.sas_core.specs.Numbers.{IsNumber, IsSigned}

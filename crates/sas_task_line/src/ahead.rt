@@ -8,14 +8,11 @@ ghost use Rattle.sas_task_line.specs.Ahead.{LineAhead, NumberAhead, SignedAhead,
 ghost use Rattle.sas_core.specs.Changes.{plain_effect};
 
 use sas_core::{Change, Fact};
-use std::simd::prelude::*;
+use sas_reader::plain_end;
 
 /// The most bytes of a number that is parsed here, which has at most nine digits, with the byte after it. Where so many bytes are left for
 /// each number of a line, no byte has to be compared with the end of the bytes.
 const NUMBER: usize = 10;
-
-/// How many bytes of a name are compared at once.
-const LANES: usize = 32;
 
 /// Returns the number of at most nine digits before the byte `end`, and the bytes after it.
 #[inline(always)]
@@ -207,47 +204,14 @@ pub(crate) fn word_before<'a, const N: usize>(bytes: &'a [u8], word: &[u8; N]) -
     }
 }
 
-/// Returns how many of the thirty-two bytes from `at` on come before the first byte that is at most CR.
-#[inline(always)]
-fn plain_bytes(bytes: &[u8], at: usize) -> usize
-    requires { at + LANES ≤ length bytes.now }
-    ensures most { result ≤ LANES }
-    ensures plain { (k : ℕ) → at ≤ k → k < at + result → 13 < slice_index bytes.now k }
-{
-    let lanes = u8x32::from_slice(&bytes[at..]);
-    let stops = lanes.simd_le(u8x32::splat(b'\r')).to_bitmask();
-    if stops == 0 {
-        LANES
-    } else {
-        stops.trailing_zeros() as usize
-    }
-}
-
-/// Returns the index of the first byte that is at most CR, as LF is, or `None` if there is none or it is near the end of the bytes. A name
-/// may have such a byte, such as a tab; then its section is read line by line.
-#[inline(always)]
-fn name_end(bytes: &[u8]) -> Option<usize>
-    ensures { IfSome result (λ end. (end < length bytes.now)
-        × ((k : ℕ) → k < end → 13 < slice_index bytes.now k)) }
-{
-    let mut at = 0;
-    while bytes.len() - at >= LANES {
-        let plain = plain_bytes(bytes, at);
-        if plain < LANES {
-            return Some(at + plain);
-        }
-        at += LANES;
-    }
-    None
-}
-
-/// Returns the name before LF, and the bytes after LF.
+/// Returns the name before LF, and the bytes after LF. A name may have a byte up to CR, such as a tab; then its section is read line by
+/// line.
 #[inline(always)]
 pub fn name_before(bytes: &[u8]) -> Option<(&[u8], &[u8])>
     ensures { IfSome result (λ found.
         IsName found.0.now × LineAhead (format.name found.0.now) bytes.now found.1.now) }
 {
-    let end = name_end(bytes)?;
+    let end = plain_end(bytes)?;
     if end > 0 && bytes[end] == b'\n' {
         Some((&bytes[..end], &bytes[end + 1..]))
     } else {

@@ -6,4 +6,4 @@ returns c =
     let bytes = c.args.bytes.now in
     let end = c.in_ok-end.end in
     let name = c.in_ok-name in
-    step_before_end bytes end c.in_ok-end.ensures.0 name.name.now name.ensures.1 name.ensures.0 c.in_ok-end_taken.end_taken c.in_ok-end_taken.ensures
+    step_before_end bytes end c.in_ok-end.ensures name.name.now name.ensures.1 name.ensures.0 c.in_ok-end_taken.end_taken c.in_ok-end_taken.ensures

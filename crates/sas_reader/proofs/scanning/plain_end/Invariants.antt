@@ -1,5 +1,5 @@
-use Rattle.sas_task_line.proofs.Imports.{ℕ, ◌-◌, ◌<◌, ◌≤◌, length, get_or}
-use Rattle.sas_task_line.proofs.ahead.name_end.Given as goal
+use Rattle.sas_reader.proofs.Imports.{ℕ, ◌-◌, ◌<◌, ◌≤◌, length, get_or}
+use Rattle.sas_reader.proofs.scanning.plain_end.Given as goal
 
 abbrev pub invariant-loop-at : goal.invariant-loop-at
 invariant-loop-at l = (l.at ≤ length l.bytes) × ((k : ℕ) → k < l.at → 13 < get_or l.bytes k 0)

@@ -1,6 +1,6 @@
-use Rattle.sas_task_line.proofs.Imports.{◌≡◌, length, leb, arith, chunk, w8, bitmask_splat, length-chunk, run_in_chunk_le}
-use Rattle.sas_task_line.proofs.AheadReading.{stops, none_stops, one_stops, are_plain}
-use Rattle.sas_task_line.proofs.ahead.plain_bytes.Goals as goal
+use Rattle.sas_reader.proofs.Imports.{◌≡◌, length, leb, arith, chunk, w8, bitmask_splat, length-chunk, run_in_chunk_le}
+use Rattle.sas_reader.proofs.PlainBytes.{stops, none_stops, one_stops, are_plain}
+use Rattle.sas_reader.proofs.scanning.plain_bytes.Goals as goal
 
 pub returns-then-stops-eq0-clause-plain : goal.returns-then-stops-eq0-clause-plain
 returns-then-stops-eq0-clause-plain c =
