@@ -1,4 +1,7 @@
 pub mod PlainBytes
+pub mod Plain
+pub mod PlainEffects
+pub mod Fitting
 pub mod BadNames
 pub mod FirstFaults
 pub mod Passing

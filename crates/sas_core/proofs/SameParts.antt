@@ -24,6 +24,9 @@ fact_eq f g = nat_eq f.var g.var && nat_eq f.value g.value
 fact : (f g : Fact) → Decides (fact_eq f g) (f ≡ g)
 fact f g = grind (arith, common_steps, that, also)
 
+pub fact_same : (f g : Fact) → f.var ≡ g.var → f.value ≡ g.value → f ≡ g
+fact_same f g on is = grind (arith, common_steps)
+
 abbrev variable_eq : Variable → Variable → Bool
 variable_eq v w = pointwise nat_eq v.name w.name && (option_eq nat_eq v.layer w.layer && pointwise (pointwise nat_eq) v.values w.values)
 

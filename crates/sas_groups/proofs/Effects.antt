@@ -1,10 +1,6 @@
 -- Properties of all effects as properties of the effect at each index, and when an operator
 -- preserves a group.
-use Rattle.sas_groups.proofs.Imports.{◌≡◌, ℕ, ◌<◌, [], length, None, ◌∙◌, ap, subst, get_or_default, Contains-get_or, Contains, List, Change, Fact, Effect, Operator, effect_at, effect_change, Keeps, IsRemoved, sets, Removes, NotBoth, KeepsIfSets, known}
-
--- past the last effect
-abbrev no_effect : Effect
-no_effect = record { conditions = []; var = 0; old = None; new = 0 }
+use Rattle.sas_groups.proofs.Imports.{◌≡◌, ℕ, ◌<◌, length, ◌∙◌, ap, subst, get_or_default, Contains-get_or, Contains, List, Change, Fact, Effect, Operator, effect_at, effect_change, Keeps, IsRemoved, sets, Removes, NotBoth, KeepsIfSets, known, no_effect}
 
 -- the fact that a change sets
 pub set_is : (e : Effect) (change : Change) (fact : Fact) → change ≡ effect_change e → fact ≡ record { var = change.var; value = change.new }

@@ -1,13 +1,6 @@
 -- Groups that every operator preserves stay exclusive, by induction over the reachable states, for
 -- any set of assumed groups.
-use Rattle.sas_groups.proofs.Imports.{◌≡◌, ◌≢◌, ℕ, Bool, List, [], ◌∷◌, ◌++◌, get_or, refl, sym, ◌∙◌, ap, subst, inl, inr, cases_eq, All-nil, All-cons, All-append, All-contains, All, Contains, Fact, Effect, Operator, Parts, Holds, AllHold, IsBasic, preconditions, Fires, Step, IsInitial, Reachable, Initial, Next, SetBy, Untouched, set_or_kept, arith, rules, common_steps, Clash, sets, Keeps, IsExclusiveIn, MayBeExclusive, IsGroupOf, AllKeep, IsKeptJointly, JointlyKeptIsInvariant, ExclusiveAloneIsInvariant, ExclusiveJointlyIsInvariant}
-
-fact : ℕ → ℕ → Fact
-fact var value = record { var = var; value = value }
-
-pub fact_same : (f g : Fact) → f.var ≡ g.var → f.value ≡ g.value → f ≡ g
-unfolding fact
-fact_same f g e e' = ap (λ (var : ℕ). fact var f.value) e ∙ ap (λ (value : ℕ). fact g.var value) e'
+use Rattle.sas_groups.proofs.Imports.{◌≡◌, ◌≢◌, ℕ, Bool, List, [], ◌∷◌, ◌++◌, get_or, refl, sym, ◌∙◌, ap, subst, inl, inr, cases_eq, All-nil, All-cons, All-append, All-contains, All, Contains, Fact, Effect, Operator, Parts, Holds, AllHold, IsBasic, preconditions, Fires, Step, IsInitial, Reachable, Initial, Next, SetBy, Untouched, set_or_kept, arith, rules, common_steps, Clash, sets, Keeps, IsExclusiveIn, MayBeExclusive, IsGroupOf, AllKeep, IsKeptJointly, JointlyKeptIsInvariant, ExclusiveAloneIsInvariant, ExclusiveJointlyIsInvariant, fact_same}
 
 -- each group that counts may be exclusive, and every operator keeps it under those that count
 pub record AreKept (p : Parts) (Counts : List Fact → Type 0) : Type 0 where

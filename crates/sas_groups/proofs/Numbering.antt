@@ -1,5 +1,5 @@
 -- Different facts have different numbers.
-use Rattle.sas_groups.proofs.Imports.{◌≡◌, ℕ, zero, suc, ◌+◌, ◌*◌, ◌^◌, ◌<◌, ◌≤◌, List, [], ◌∷◌, length, ap, subst, inl, inr, arith, AllByRecursion, cases_lt, Fact, Parts, Variable, FactExists, range_of, WellRanged, VariableFits, fact_within, common_steps, facts_below, number, AreFirstNumbers}
+use Rattle.sas_groups.proofs.Imports.{◌≡◌, ℕ, zero, suc, ◌+◌, ◌*◌, ◌^◌, ◌<◌, ◌≤◌, List, [], ◌∷◌, length, ap, subst, inl, inr, arith, AllByRecursion, cases_lt, Fact, Parts, Variable, FactExists, range_of, WellRanged, VariableFits, fact_within, common_steps, facts_below, number, AreFirstNumbers, fact_same}
 
 -- a variable has fewer than 2^31 values
 range_low : (variables : List Variable) (var : ℕ) → AllByRecursion VariableFits variables → range_of variables var < 2 ^ 31
@@ -43,9 +43,6 @@ number_low p firsts fact are exists =
     let up = below_up p fact.var (length p.variables) within in
     omega arith
 
-same_fact : (f g : Fact) → f.var ≡ g.var → f.value ≡ g.value → f ≡ g
-same_fact f g on is = grind (arith, common_steps)
-
 -- facts of the task with one number are one
 pub one_number : (p : Parts) (firsts : List ℕ) (f g : Fact) → AreFirstNumbers p firsts → FactExists p.variables f → FactExists p.variables g
     → number firsts f ≡ number firsts g → f ≡ g
@@ -58,6 +55,6 @@ one_number p firsts f g are here there same =
         | inl less ↦ (let up = below_up p g.var f.var less in absurd (omega arith))
         | inr ge ↦ (let on : f.var ≡ g.var = omega arith in
             let below : facts_below p f.var ≡ facts_below p g.var = ap (facts_below p) on in
-            same_fact f g on (omega arith))
+            fact_same f g on (omega arith))
       ]
     ]

@@ -1,5 +1,5 @@
 -- Any bytes are their lines, each with a line end, followed by the rest.
-use Rattle.sas_lines.proofs.Imports.{◌≡◌, ℕ, Bool, true, false, eqb, List, [], ◌∷◌, ◌++◌, refl, sym, ap, subst, ◌∙◌, append_assoc, ◌⊎◌, inl, inr, if◌then◌else◌, ◌==◌, eqb-true, parts, onto_first, without_return, lines_among, rest_among, lines, unfinished, EndedLines}
+use Rattle.sas_lines.proofs.Imports.{◌≡◌, ℕ, Bool, true, false, eqb, List, [], ◌∷◌, ◌++◌, refl, sym, ap, subst, ◌∙◌, append_assoc, ◌⊎◌, inl, inr, if◌then◌else◌, ◌==◌, eqb-true, parts, onto_first, without_return, lines_among, rest_among, lines, unfinished, EndedLines, text, flat_map-append}
 use Rattle.sas_lines.proofs.Separated.{parts-some}
 
 -- ---- parts, joined again
@@ -52,3 +52,8 @@ ended_among (p ∷ q ∷ ps) = (join 10 (q ∷ ps), ended_part p (without_return
 pub ended_lines : (bytes : List ℕ) → EndedLines (lines bytes) (unfinished bytes) bytes
 unfolding lines unfinished
 ended_lines bytes = subst (EndedLines (lines_among (parts 10 bytes)) (rest_among (parts 10 bytes))) (join-parts 10 bytes) (ended_among (parts 10 bytes))
+
+-- ---- the text of lines
+
+pub text_of_both : (a b : List (List ℕ)) → text (a ++ b) ≡ text a ++ text b
+text_of_both a b = flat_map-append (λ (line : List ℕ). line ++ 10 ∷ []) a b

@@ -5,6 +5,7 @@ pub use Rattle.std.proofs.Math.Seq.{take-add}
 pub use Rattle.std.proofs.lemmas.Bool.{cases_lt, eqb-true, eq-eqb, ne_eqb, eqb-false}
 pub use Rattle.std.proofs.lemmas.Bool.Decides.{eqb_tells}
 pub use Rattle.std.proofs.lemmas.Fmt.{decimal_nonempty, length-decimal-le, first_decimal, digits_decimal, digits_value-decimal, decimal-digits_value, decimal_injective, decimal_digit, decimal_step, decimal_is_IsNumeral, decimal_is_IsNumeral_wide, decimal_step_wide}
+pub use Rattle.std.proofs.lemmas.Grind.{flat_map-append}
 pub use Rattle.std.proofs.lemmas.Int.Digits.{digits_more, digits_value_more}
 pub use Rattle.std.proofs.lemmas.List.{take_at, length_push, length-take, take_all, take_more, get_or_at, get_or-take, take-append-drop, drop_more, take_rest, append-nil}
 pub use Rattle.std.proofs.lemmas.Str.Parse.{IsNumeralModel, numerals_by_value, tells_digits, digits_value_short, digit_at, digit_from_value}

@@ -5,17 +5,19 @@ pub use Rattle.std.proofs.Math.ListN.{get_or-eq_default}
 pub use Rattle.std.proofs.Math.Seq.{get_or-append_seam}
 pub use Rattle.std.proofs.lemmas.Bool.{true≢false, cases_eq, cases_Bool, both_ways, cases_lt, and_parts}
 pub use Rattle.std.proofs.lemmas.Grind.{common_steps}
-pub use Rattle.std.proofs.lemmas.List.{append_assoc, drop_all, drop_at, length-append, length-set, get_or-set_same, get_or-set_other, get_or_default, take-append-drop, drop_more, length_push, length-map, get_or-map, get_or_past, get_or_push, get_or_append_left, set-set, set-get_or, get_or-append_right, length-replicate, get_or-replicate, take_more, take_all}
+pub use Rattle.std.proofs.lemmas.List.{append_assoc, drop_all, drop_at, length-append, length-set, get_or-set_same, get_or-set_other, get_or_default, take-append-drop, drop_more, length_push, get_or_past, get_or_push, get_or_append_left, set-set, set-get_or, get_or-append_right, length-replicate, get_or-replicate, take_more, take_all}
 pub use Rattle.std.proofs.lemmas.List.Elements.{All-nil, All-cons, All-append, All-from_get_or, Contains-append_left, Contains-append_right, Contains-push, Contains-push_cases, Contains-append_cases, Contains-get_or, All-contains, All-from_recursion, All-weaker, All-head, All-tail, All-get_or}
 pub use Rattle.std.specs.Global.{Vec}
 pub use Rattle.std.specs.List.{All, Any, Contains, filter_map, cons_option}
 pub use Rattle.std.specs.Option.{option_to_list}
+pub use Rattle.sas_core.proofs.Fitting.{operator_fits, effect_fits}
+pub use Rattle.sas_core.proofs.PlainEffects.{as_many_effects, effect_is_plain}
 pub use Rattle.sas_meaning.proofs.Members.{contains_none}
 pub use Rattle.sas_core.proofs.Places.{holds_at, each_more}
-pub use Rattle.sas_core.specs.Changes.{effect_change, plain_effect, plain_effects}
+pub use Rattle.sas_core.specs.Changes.{effect_change, plain_effects}
 pub use Rattle.sas_core.specs.Grounded.{operator_at, effect_at, group_at}
 pub use Rattle.sas_core.specs.Variables.{FactExists, MayHaveValue}
-pub use Rattle.sas_core.specs.WellRanged.{WellRanged, Listed, OperatorFits, EffectFits}
+pub use Rattle.sas_core.specs.WellRanged.{WellRanged, Listed, EffectFits}
 pub use Rattle.sas_core.specs.declared.grounded.Change.{Change}
 pub use Rattle.sas_core.specs.declared.parts.Effect.{Effect}
 pub use Rattle.sas_core.specs.declared.parts.Fact.{Fact}

@@ -1,6 +1,5 @@
 -- The facts that changes set exist, so the index contains their groups.
-use Rattle.sas_mutex.proofs.Imports.{◌≡◌, ℕ, ◌<◌, Bool, List, length, get_or, sym, ◌∙◌, ap, subst, Contains, ◌↔◌, get_or_default, Change, Fact, Parts, operator_at, effect_at, group_at, effect_change, FactExists, WellRanged, sets, Index, IsIndexOf, HasFact, groups_of, EffectPlace, operator_of, SetsBeside, NotBothAt, BothClashAt}
-use Rattle.sas_mutex.proofs.TaskFacts.{effect_fits}
+use Rattle.sas_mutex.proofs.Imports.{◌≡◌, ℕ, ◌<◌, Bool, List, length, get_or, sym, ◌∙◌, ap, subst, Contains, ◌↔◌, get_or_default, Change, Fact, Parts, operator_at, effect_at, group_at, effect_change, FactExists, WellRanged, sets, Index, IsIndexOf, HasFact, groups_of, EffectPlace, operator_of, SetsBeside, NotBothAt, BothClashAt, effect_fits}
 
 -- the fact that a change sets
 abbrev pub fact_of : Change → Fact

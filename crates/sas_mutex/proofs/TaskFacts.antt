@@ -1,5 +1,5 @@
 -- All facts that a task mentions exist.
-use Rattle.sas_mutex.proofs.Imports.{ℕ, ◌<◌, [], length, List, ◌∷◌, ◌++◌, Option, None, Some, All, Contains, cons_option, All-nil, All-cons, All-append, All-from_recursion, All-contains, All-head, All-tail, Fact, Effect, Parts, operator_at, effect_at, group_at, FactExists, MayHaveValue, WellRanged, OperatorFits, EffectFits, Listed, holds_at, old_fact, preconditions, known}
+use Rattle.sas_mutex.proofs.Imports.{ℕ, ◌<◌, [], length, List, ◌∷◌, ◌++◌, Option, None, Some, All, Contains, cons_option, All-nil, All-cons, All-append, All-from_recursion, All-contains, All-head, All-tail, Fact, Effect, Parts, operator_at, effect_at, group_at, FactExists, MayHaveValue, WellRanged, EffectFits, Listed, holds_at, old_fact, preconditions, known, operator_fits, effect_fits}
 use Rattle.std.specs.Prelude.{filter_map}
 
 module _ (p : Parts) (ranged : WellRanged p) where
@@ -9,16 +9,10 @@ module _ (p : Parts) (ranged : WellRanged p) where
       (holds_at (Listed (FactExists p.variables)) [] p.groups ranged.groups.each group lt).each
 
   module _ (operator : ℕ) (lt : operator < length p.operators) where
-    fits : OperatorFits p.variables (operator_at p operator)
-    fits = holds_at (OperatorFits p.variables) (record { name = []; prevail = []; effects = []; cost = 0 }) p.operators ranged.operators.each operator lt
-
-    pub effect_fits : (effect : ℕ) → effect < length (operator_at p operator).effects → EffectFits p.variables (effect_at (operator_at p operator) effect)
-    effect_fits = holds_at (EffectFits p.variables) (record { conditions = []; var = 0; old = None; new = 0 }) (operator_at p operator).effects fits.effects.each
-
     -- the conditions of an effect exist
     pub conditions_exist : (effect : ℕ) → effect < length (operator_at p operator).effects
         → All (FactExists p.variables) (effect_at (operator_at p operator) effect).conditions
-    conditions_exist effect below = All-from_recursion (FactExists p.variables) (effect_at (operator_at p operator) effect).conditions (effect_fits effect below).conditions.each
+    conditions_exist effect below = All-from_recursion (FactExists p.variables) (effect_at (operator_at p operator) effect).conditions (effect_fits p ranged operator lt effect below).conditions.each
 
     old_exists : (var : ℕ) (old : Option ℕ) (conditions : List Fact) (new : ℕ) (rest : List Fact) → MayHaveValue p.variables var old → All (FactExists p.variables) rest
         → All (FactExists p.variables) (cons_option (old_fact (record { conditions = conditions; var = var; old = old; new = new })) rest)
@@ -39,8 +33,8 @@ module _ (p : Parts) (ranged : WellRanged p) where
         All-append E (preconditions o ++ (effect_at o effect).conditions) []
         (All-append E (preconditions o) (effect_at o effect).conditions
         (All-append E o.prevail (filter_map old_fact o.effects)
-        (All-from_recursion E o.prevail fits.prevail.each)
-        (olds_exist o.effects (All-from_recursion (EffectFits p.variables) o.effects fits.effects.each)))
+        (All-from_recursion E o.prevail (operator_fits p ranged operator lt).prevail.each)
+        (olds_exist o.effects (All-from_recursion (EffectFits p.variables) o.effects (operator_fits p ranged operator lt).effects.each)))
         (conditions_exist effect below))
         (All-nil E)
 

@@ -2,7 +2,7 @@
 pub use Rattle.std.proofs.Common.{◌≡◌, ◌⊎◌, inl, inr, ℕ, List, [], ◌∷◌, ◌++◌, length, flat_map, take, ◌≤◌, refl, ap, ◌∙◌, ◌+◌, ◌/◌, ◌%◌, ◌<◌, set, append_assoc, length-append, arith, sym, subst, Option, Some, None, zero, suc, ◌-◌, get_or, IsTrue, not, ◌==◌, if◌then◌else◌, codes, slice_get, append-nil, true, false, ◌^◌, drop, min, Bool, Result, Ok, Err, ◌↔◌, bytes_eq, take_at, map, replicate, rules, MutBor}
 pub use Rattle.std.proofs.KnownBytes.{Appends-trans}
 pub use Rattle.std.proofs.Math.ListN.{length-set}
-pub use Rattle.std.proofs.lemmas.Bool.{and_parts, and_from, ne_eqb, eq-eqb, false≢true}
+pub use Rattle.std.proofs.lemmas.Bool.{and_parts, and_from, eq-eqb, false≢true}
 pub use Rattle.std.proofs.lemmas.Fmt.{decimal_digit, decimal_step}
 pub use Rattle.std.proofs.lemmas.Grind.{take-set_at, flat_map-append}
 pub use Rattle.std.proofs.lemmas.List.{take_all, length-take-le, take-take, take-append-le, take_more, take-append-drop, length-drop, length-take}
@@ -15,18 +15,19 @@ pub use Rattle.std.specs.List.{AllByRecursion, list_all}
 pub use Rattle.std.specs.Option.{unwrap_or}
 pub use Rattle.std.specs.Prelude.{⊤, IfErr, IsErrOf}
 pub use Rattle.itoa.proofs.Decimal.{decimal_pair, pair}
+pub use Rattle.sas_core.proofs.Plain.{plain_without, plain-append, plain-name}
 pub use Rattle.sas_core.specs.Grounded.{operator_at, effect_at, rule_at}
-pub use Rattle.sas_core.specs.Names.{is_plain, IsName}
+pub use Rattle.sas_core.specs.Names.{IsName, IsPlain}
 pub use Rattle.sas_core.specs.Variables.{value_name}
 pub use Rattle.sas_core.specs.WellRanged.{VariableFits, OperatorFits, WellRanged}
 pub use Rattle.sas_core.specs.declared.parts.Fact.{Fact}
 pub use Rattle.sas_core.specs.declared.parts.Operator.{Operator}
 pub use Rattle.sas_core.specs.declared.parts.Parts.{Parts}
 pub use Rattle.sas_core.specs.declared.parts.Variable.{Variable}
+pub use Rattle.sas_lines.proofs.EndedLines.{text_of_both}
 pub use Rattle.sas_lines.proofs.Words.{Without-decimal, NoSpace, words-first, same_first, NoSpace-decimal, own_decimal}
 pub use Rattle.sas_lines.specs.Device.{Device}
 pub use Rattle.sas_lines.specs.Lines.{text}
-pub use Rattle.sas_lines.specs.Parts.{Without}
 unfoldable pub use Rattle.sas_lines.specs.Parts.{parts}
 pub use Rattle.sas_lines.specs.Spelling.{joined}
 pub use Rattle.sas_lines.specs.declared.devices.Short.{Short}

@@ -1,33 +1,13 @@
 -- Each line begins with two spaces, and holds neither LF nor CR.
-use Rattle.sas_output.proofs.Imports.{ℕ, zero, suc, ◌-◌, List, [], ◌∷◌, ◌++◌, get_or, refl, ap, arith, IsTrue, not, ◌==◌, length, if◌then◌else◌, codes, slice_get, AllByRecursion, list_all, unwrap_or, and_parts, and_from, ne_eqb, Fact, Operator, Variable, Parts, operator_at, effect_at, rule_at, is_plain, IsName, value_name, VariableFits, OperatorFits, WellRanged, Without, joined, Without-decimal, Line, Step, SimilarOperator, NamedOperator, GoalFact, Requires, Actual, SinceInitialState, SinceStep, RuleDerives, NoRuleDerives, RuleRequires, ConflictingEffect, Metric, Steps, CostLines, CouldBe, EffectSets, Rule, ConditionRequires, OldValue, DefaultValue, OnLayer, Derived, Holds, MayRemain, fact_of_effect, fact_of_rule, words_of, effect_words, rule_words, line_bytes, IsReasonLine, LinesAreReasons}
+use Rattle.sas_output.proofs.Imports.{ℕ, zero, suc, ◌-◌, List, [], ◌∷◌, ◌++◌, get_or, refl, arith, if◌then◌else◌, codes, slice_get, AllByRecursion, unwrap_or, Fact, Operator, Variable, Parts, operator_at, effect_at, rule_at, IsPlain, plain_without, plain-append, plain-name, IsName, value_name, VariableFits, OperatorFits, WellRanged, joined, Without-decimal, Line, Step, SimilarOperator, NamedOperator, GoalFact, Requires, Actual, SinceInitialState, SinceStep, RuleDerives, NoRuleDerives, RuleRequires, ConflictingEffect, Metric, Steps, CostLines, CouldBe, EffectSets, Rule, ConditionRequires, OldValue, DefaultValue, OnLayer, Derived, Holds, MayRemain, fact_of_effect, fact_of_rule, words_of, effect_words, rule_words, line_bytes, IsReasonLine, LinesAreReasons}
 use Rattle.std.specs.Prelude.{decimal}
 use Rattle.sas_output.specs.declared.line.Line.TheVariants.{Operator as TheOperator}
-
-abbrev pub IsPlain : List ℕ → Type 0
-IsPlain bytes = IsTrue (list_all is_plain bytes)
-
--- ---- numbers and names
-
-pub plain-append : (a b : List ℕ) → IsPlain a → IsPlain b → IsPlain (a ++ b)
-plain-append [] b h g = g
-plain-append (x ∷ a) b h g = let p = and_parts (is_plain x) (list_all is_plain a) h in
-    and_from (is_plain x) (list_all is_plain (a ++ b)) p.0 (plain-append a b p.1 g)
-
-plain_without : (bytes : List ℕ) → Without 10 bytes → Without 13 bytes → IsPlain bytes
-plain_without [] h g = refl
-plain_without (b ∷ bytes) h g =
-    and_from (is_plain b) (list_all is_plain bytes)
-    (and_from (not (b == 10)) (not (b == 13)) (ap not (ne_eqb b 10 h.0)) (ap not (ne_eqb b 13 g.0)))
-    (plain_without bytes h.1 g.1)
 
 pub number : (n : ℕ) → IsPlain (decimal n)
 number n = plain_without (decimal n) (Without-decimal 10 n (omega arith)) (Without-decimal 13 n (omega arith))
 
 pub number_then : (n : ℕ) (rest : List ℕ) → IsPlain rest → IsPlain (decimal n ++ rest)
 number_then n rest h = plain-append (decimal n) rest (number n) h
-
-plain-name : (bytes : List ℕ) → IsName bytes → IsPlain bytes
-plain-name bytes h = (and_parts (not (length bytes == 0)) (list_all is_plain bytes) h).1
 
 plain_value : (values : List (List ℕ)) (value : ℕ) → AllByRecursion IsName values → IsPlain (unwrap_or (slice_get values value) [])
 plain_value [] value names = refl

@@ -1,9 +1,5 @@
 -- The text of lines, part by part.
-use Rattle.sas_output.proofs.Imports.{◌≡◌, ℕ, List, [], ◌∷◌, ◌++◌, flat_map, refl, ap, ◌∙◌, flat_map-append, text}
-
--- lines in a row
-pub text_of_both : (a b : List (List ℕ)) → text (a ++ b) ≡ text a ++ text b
-text_of_both a b = flat_map-append (λ (line : List ℕ). line ++ 10 ∷ []) a b
+use Rattle.sas_output.proofs.Imports.{◌≡◌, ℕ, List, [], ◌∷◌, ◌++◌, flat_map, refl, ap, ◌∙◌, text, text_of_both}
 
 -- the lines of each item
 pub text_of_each : {X : Type 0} (lines_of : X → List (List ℕ)) (items : List X) → text (flat_map lines_of items) ≡ flat_map (λ (x : X). text (lines_of x)) items

@@ -1,8 +1,8 @@
 -- What holds of the lines of reasons.
 use Rattle.std.specs.Prelude.{◌≡◌, ℕ, ◌^◌, ◌<◌, List, ◌∷◌, IsTrue}
-use Rattle.std.specs.List.{AllByRecursion, list_all}
+use Rattle.std.specs.List.{AllByRecursion}
 use Rattle.sas_core.specs.declared.parts.Parts.{Parts}
-use Rattle.sas_core.specs.Names.{IsName, is_plain}
+use Rattle.sas_core.specs.Names.{IsName, IsPlain}
 use Rattle.sas_core.specs.WellRanged.{WellRanged}
 use Rattle.sas_output.specs.declared.line.Line.{Line}
 use Rattle.sas_output.specs.Line.{line_bytes, rule_numbers, is_rule_line}
@@ -11,7 +11,7 @@ use Rattle.sas_output.specs.Line.{line_bytes, rule_numbers, is_rule_line}
 pub record IsReasonLine (bytes : List ℕ) : Type 0 where
   pub behind : List ℕ
   pub spaces : bytes ≡ 32 ∷ 32 ∷ behind
-  pub plain : IsTrue (list_all is_plain bytes)
+  pub plain : IsPlain bytes
 
 -- each line is so if names are names
 abbrev pub LinesAreReasons : Type 0

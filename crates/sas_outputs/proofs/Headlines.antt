@@ -86,6 +86,11 @@ not_long name f o is = refused_kind f.kind TooLong _ o refl (sym is)
 pub sent_same : (old new : Option (List ℕ)) (before x y : List ℕ) → old ≡ Some before → Appends old new x → Appends old new y → x ≡ y
 sent_same old new before x y e f g = grind (arith, common_steps, none-some, append_cancel_left)
 
+-- the headline holds of what is sent of the output
+abbrev pub SaysHeadline : List ℕ → List ℕ → Output → Type 0
+SaysHeadline b c o = (old new : Option (List ℕ)) (before : List ℕ) (status : Status) → old ≡ Some before → status ≡ o.status → Appends old new o.text
+    → Headline b c (Appends old new) status
+
 -- the headline follows from what an output says, and from what it is for a plan that solves the task
 module _ (b c : List ℕ) (o : Output) (reported : IsSolved b c o ⊎ IsOther o) (solved : (line : List ℕ) → Solves b c line → (o.status ≡ Yes) × (o.text ≡ line)) where
   line_solves : (steps cost : ℕ) → o.text ≡ valid_line steps cost → IsSolved b c o ⊎ IsOther o → Solves b c (valid_line steps cost)
@@ -97,7 +102,7 @@ module _ (b c : List ℕ) (o : Output) (reported : IsSolved b c o ⊎ IsOther o)
       (length solved.solves.plan.steps, solved.solves.plan.cost, subst (λ (x : List ℕ). Solves b c x) solved.solves.printed solved.solves)
   yes_solves e (inr other) = let apart : Yes ≡ No = sym e ∙ other.status in absurd cc
 
-  pub headline_by : (old new : Option (List ℕ)) (before : List ℕ) (status : Status) → old ≡ Some before → status ≡ o.status → Appends old new o.text → Headline b c (Appends old new) status
+  pub headline_by : SaysHeadline b c o
   headline_by old new before status known is sent = record {
     line = λ steps cost. (
       λ line. line_solves steps cost (sent_same old new before o.text (valid_line steps cost) known sent line) reported,

@@ -17,8 +17,9 @@ pub use Rattle.sas_answers.proofs.WordedLines.{worded}
 pub use Rattle.sas_answers.specs.Answers.{valid_answer, VerdictAnswer, layers_refusal, layers_verdict}
 pub use Rattle.sas_answers.specs.LayerWords.{layer_words, layers_line, words_at_part}
 pub use Rattle.sas_answers.specs.PlanWords.{valid_line, fault_words, invalid_line, step_words}
+pub use Rattle.sas_core.proofs.Plain.{plain-append}
 pub use Rattle.sas_core.specs.FirstFault.{first_fault}
-pub use Rattle.sas_core.specs.Names.{is_plain}
+pub use Rattle.sas_core.specs.Names.{is_plain, IsPlain}
 pub use Rattle.sas_core.specs.PlanParts.{PlanParts}
 pub use Rattle.sas_core.specs.Variables.{layer_of}
 pub use Rattle.sas_core.specs.WellRanged.{WellRanged}
@@ -26,6 +27,7 @@ pub use Rattle.sas_core.specs.declared.parts.Fact.{Fact}
 pub use Rattle.sas_core.specs.declared.parts.Parts.{Parts}
 pub use Rattle.sas_core.specs.declared.parts.Variable.{Variable}
 pub use Rattle.sas_flat.specs.declared.outline.Outline.{Outline}
+pub use Rattle.sas_lines.proofs.EndedLines.{text_of_both}
 pub use Rattle.sas_lines.specs.Lines.{text, lines_among, without_return}
 unfoldable pub use Rattle.sas_lines.specs.Lines.{lines}
 pub use Rattle.sas_lines.specs.Parts.{onto_first}
@@ -37,7 +39,7 @@ pub use Rattle.sas_meaning.specs.declared.layered.LayerFault.{LayerFault}
 pub use Rattle.sas_output.proofs.PlainLines.{number, number_then, two}
 pub use Rattle.sas_output.proofs.Pushed.{pushes_item, pushes_then}
 pub use Rattle.sas_output.proofs.Sent.{counting_ends}
-pub use Rattle.sas_output.proofs.Texts.{text_of_both, text_of_each}
+pub use Rattle.sas_output.proofs.Texts.{text_of_each}
 pub use Rattle.sas_output.specs.Ending.{Output, Ends, EndsCounting}
 pub use Rattle.sas_output.specs.Sink.{Pushes}
 pub use Rattle.sas_output.specs.declared.ending.Status.{Status}
@@ -45,12 +47,11 @@ pub use Rattle.sas_output.specs.declared.ending.Status.TheVariants.{Yes, No}
 pub use Rattle.sas_output.specs.declared.ending.ToolFault.{ToolFault}
 pub use Rattle.sas_plan_file.proofs.PlanLaws.{plan_laws_hold}
 pub use Rattle.sas_plan_file.specs.PlanFormat.{plan_texts, plan_format, PlanKind}
-pub use Rattle.sas_reader.proofs.Plain.{plain-decimal, plain_bytes, plain-append}
+pub use Rattle.sas_reader.proofs.Plain.{plain-decimal}
 pub use Rattle.sas_reader.specs.Devices.{Refuses}
-pub use Rattle.sas_reader.specs.Format.{Format, ReadsAs, FaultOf, KindAt, wrong}
+pub use Rattle.sas_reader.specs.Format.{Format, ReadsAs, FaultOf, KindAt}
 pub use Rattle.sas_reader.specs.Laws.{Laws}
 pub use Rattle.sas_reader.specs.Limit.{most_bytes}
-pub use Rattle.sas_reader.specs.System.{IsPlain}
 pub use Rattle.sas_reader.specs.Texts.{Reads}
 pub use Rattle.sas_reader.specs.declared.fault.Fault.{Fault}
 pub use Rattle.sas_reader.specs.declared.fault.Kind.{Kind}

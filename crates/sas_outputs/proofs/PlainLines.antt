@@ -1,7 +1,7 @@
 -- Lines that refuse a file or a task, and verdicts on a plan, contain no line end.
 use Rattle.std.proofs.Common.{arith}
 use Rattle.std.proofs.lemmas.Grind.{common_steps}
-use Rattle.sas_outputs.proofs.Imports.{◌≡◌, ℕ, List, ◌++◌, codes, refl, subst, Some, decimal, none-some, LayerFault, Kind, IsPlain, plain-decimal, plain_bytes, plain-append, PlanFault, layer_words, words_at_part, fault_words, step_words, word_of}
+use Rattle.sas_outputs.proofs.Imports.{◌≡◌, ℕ, List, ◌++◌, codes, refl, subst, Some, decimal, none-some, LayerFault, Kind, IsPlain, plain-decimal, plain-append, PlanFault, layer_words, words_at_part, fault_words, step_words, word_of}
 use Rattle.sas_meaning.specs.declared.layered.LayerFault.TheVariants as layer_fault
 use Rattle.sas_reader.specs.declared.fault.Kind.TheVariants as kinds
 use Rattle.sas_run.specs.declared.plan_check.PlanFault.TheVariants as plan_fault
@@ -16,14 +16,14 @@ abbrev pub file_words : List ℕ → ℕ → List ℕ → List ℕ
 file_words name line w = name ++ codes " refused: line " ++ decimal line ++ codes ": " ++ w
 
 pub kind_plain : (kind : Kind) (w : List ℕ) → word_of kind ≡ Some w → IsPlain w
-kind_plain kind w e = grind (arith, common_steps, some_words, plain_bytes, none-some)
+kind_plain kind w e = grind (arith, common_steps, some_words, none-some)
 
 pub file_plain : (name : List ℕ) (line : ℕ) (w : List ℕ) → IsPlain name → IsPlain w → IsPlain (file_words name line w)
 file_plain name line w h g =
     plain-append (name ++ codes " refused: line " ++ decimal line ++ codes ": ") w
     (plain-append (name ++ codes " refused: line " ++ decimal line) (codes ": ")
-    (plain-append (name ++ codes " refused: line ") (decimal line) (plain-append name (codes " refused: line ") h (plain_bytes (codes " refused: line ") refl)) (plain-decimal line))
-    (plain_bytes (codes ": ") refl))
+    (plain-append (name ++ codes " refused: line ") (decimal line) (plain-append name (codes " refused: line ") h refl) (plain-decimal line))
+    refl)
     g
 
 -- ---- refusals of layers
@@ -32,20 +32,20 @@ part_plain : (part : List ℕ) (place : ℕ) (what : List ℕ) → IsPlain part 
 part_plain part place what h g =
     plain-append (part ++ codes " " ++ decimal place ++ codes ": ") what
     (plain-append (part ++ codes " " ++ decimal place) (codes ": ")
-    (plain-append (part ++ codes " ") (decimal place) (plain-append part (codes " ") h (plain_bytes (codes " ") refl)) (plain-decimal place)) (plain_bytes (codes ": ") refl))
+    (plain-append (part ++ codes " ") (decimal place) (plain-append part (codes " ") h refl) (plain-decimal place)) refl)
     g
 
 rule_plain : (rule : ℕ) (what w : List ℕ) → IsPlain what → Some (words_at_part (codes "rule") rule what) ≡ Some w → IsPlain w
-rule_plain rule what w h e = some_words (words_at_part (codes "rule") rule what) w e (part_plain (codes "rule") rule what (plain_bytes (codes "rule") refl) h)
+rule_plain rule what w h e = some_words (words_at_part (codes "rule") rule what) w e (part_plain (codes "rule") rule what refl h)
 
 pub layer_plain : (fault : LayerFault) (w : List ℕ) → layer_words fault ≡ Some w → IsPlain w
 layer_plain (layer_fault.EffectOnDerived operator effect) w e =
     let what = codes "effect on derived variable" in
-    some_words (words_at_part (codes "operator") operator what) w e (part_plain (codes "operator") operator what (plain_bytes (codes "operator") refl) (plain_bytes what refl))
-layer_plain (layer_fault.RuleOnBasic rule) w e = rule_plain rule (codes "not on a derived variable") w (plain_bytes (codes "not on a derived variable") refl) e
-layer_plain (layer_fault.OldValue rule) w e = rule_plain rule (codes "old value") w (plain_bytes (codes "old value") refl) e
-layer_plain (layer_fault.TwoValues rule) w e = rule_plain rule (codes "two values") w (plain_bytes (codes "two values") refl) e
-layer_plain (layer_fault.LayerOrder rule condition) w e = rule_plain rule (codes "layer order") w (plain_bytes (codes "layer order") refl) e
+    some_words (words_at_part (codes "operator") operator what) w e (part_plain (codes "operator") operator what refl refl)
+layer_plain (layer_fault.RuleOnBasic rule) w e = rule_plain rule (codes "not on a derived variable") w refl e
+layer_plain (layer_fault.OldValue rule) w e = rule_plain rule (codes "old value") w refl e
+layer_plain (layer_fault.TwoValues rule) w e = rule_plain rule (codes "two values") w refl e
+layer_plain (layer_fault.LayerOrder rule condition) w e = rule_plain rule (codes "layer order") w refl e
 layer_plain layer_fault.Memory w e = absurd (none-some w e)
 
 -- ---- the verdict on a plan
@@ -55,12 +55,12 @@ step_plain step what w h e =
     some_words (step_words step what) w e
     (plain-append (codes "step " ++ decimal step ++ codes ": ") what
     (plain-append (codes "step " ++ decimal step) (codes ": ")
-    (plain-append (codes "step ") (decimal step) (plain_bytes (codes "step ") refl) (plain-decimal step)) (plain_bytes (codes ": ") refl))
+    (plain-append (codes "step ") (decimal step) refl (plain-decimal step)) refl)
     h)
 
 fault_plain : (cost : ℕ) (fault : PlanFault) (w : List ℕ) → fault_words cost fault ≡ Some w → IsPlain w
-fault_plain cost fault w e = grind (arith, common_steps, step_plain, plain_bytes, some_words, plain-append, plain-decimal, none-some)
+fault_plain cost fault w e = grind (arith, common_steps, step_plain, some_words, plain-append, plain-decimal, none-some)
 
 -- a verdict with the answer no, without its line end
 pub invalid_plain : (cost : ℕ) (fault : PlanFault) (w : List ℕ) → fault_words cost fault ≡ Some w → IsPlain (codes "plan invalid: " ++ w)
-invalid_plain cost fault w e = plain-append (codes "plan invalid: ") w (plain_bytes (codes "plan invalid: ") refl) (fault_plain cost fault w e)
+invalid_plain cost fault w e = plain-append (codes "plan invalid: ") w refl (fault_plain cost fault w e)

@@ -10,7 +10,8 @@ pub use Rattle.std.specs.Cmp.Lexicographic.{pointwise, same_text, other_text}
 pub use Rattle.std.specs.Fmt.{decimal}
 pub use Rattle.std.specs.List.{AllByRecursion}
 pub use Rattle.std.specs.Option.{MatchOption}
-pub use Rattle.sas_core.specs.Names.{IsName}
+pub use Rattle.sas_core.proofs.Plain.{plain-append, plain-name}
+pub use Rattle.sas_core.specs.Names.{IsName, IsPlain}
 pub use Rattle.sas_core.specs.Numbers.{IsPlanCost}
 pub use Rattle.sas_core.specs.PlanParts.{PlanParts}
 pub use Rattle.sas_core.specs.Plans.{WellNamed}
@@ -25,7 +26,7 @@ pub use Rattle.sas_reader.proofs.Conversion.{Follows, reads_of_format, some_read
 pub use Rattle.sas_reader.proofs.Every.{laws_of}
 pub use Rattle.sas_reader.proofs.Live.{leads_line}
 pub use Rattle.sas_reader.proofs.Paths.{one_ended}
-pub use Rattle.sas_reader.proofs.Plain.{plain, return_stands_first, plain-decimal, plain_bytes, plain-name, plain-append}
+pub use Rattle.sas_reader.proofs.Plain.{plain, return_stands_first, plain-decimal}
 pub use Rattle.sas_reader.proofs.Reading.{end_fault, reads_all, refuses_all, feeds}
 pub use Rattle.sas_reader.proofs.Refusals.{reported_by, explains, reads_explained, refuses_explained}
 pub use Rattle.sas_reader.specs.About.{ConcernsText}
@@ -36,7 +37,7 @@ pub use Rattle.sas_reader.specs.Limit.{most_bytes}
 pub use Rattle.sas_reader.specs.Machine.{AcceptsAhead}
 pub use Rattle.sas_reader.specs.Reader.{IsRefused}
 pub use Rattle.sas_reader.specs.Reading.{Finishes}
-pub use Rattle.sas_reader.specs.System.{IsAllowed, Node, ended, LeadsToEnd, Grammar, IsPlain, IsRejected, Leads, Rejects}
+pub use Rattle.sas_reader.specs.System.{IsAllowed, Node, ended, LeadsToEnd, Grammar, IsRejected, Leads, Rejects}
 pub use Rattle.sas_reader.specs.Texts.{lines_of, Reads}
 pub use Rattle.sas_reader.specs.declared.fault.Fault.{Fault}
 pub use Rattle.sas_reader.specs.declared.fault.Kind.{Kind}

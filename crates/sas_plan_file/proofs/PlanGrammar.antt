@@ -1,5 +1,5 @@
 -- The grammar of plan files.
-use Rattle.sas_plan_file.proofs.Imports.{◌≡◌, ℕ, List, [], ◌∷◌, ◌++◌, map, refl, sym, ap, subst, ◌∙◌, append_assoc, arith, codes, AllByRecursion, decimal, append-nil, CostKind, IsName, PlanParts, IsPlanCost, WellNamed, lines_of, Node, ended, LeadsToEnd, Grammar, IsPlain, one_ended, plain-decimal, plain_bytes, plain-name, plain-append, PlanLine, step, cost, plan_line_bytes, plan_layout, plan_texts, plan_format, cost_front, cost_words, PlanLineFits, PlanState, going, closed, plan_node, plan_start}
+use Rattle.sas_plan_file.proofs.Imports.{◌≡◌, ℕ, List, [], ◌∷◌, ◌++◌, map, refl, sym, ap, subst, ◌∙◌, append_assoc, arith, codes, AllByRecursion, decimal, append-nil, CostKind, IsName, PlanParts, IsPlanCost, WellNamed, lines_of, Node, ended, LeadsToEnd, Grammar, IsPlain, one_ended, plain-decimal, plain-name, plain-append, PlanLine, step, cost, plan_line_bytes, plan_layout, plan_texts, plan_format, cost_front, cost_words, PlanLineFits, PlanState, going, closed, plan_node, plan_start}
 use Rattle.sas_core.specs.declared.plan.CostKind.TheVariants as costs
 use Rattle.sas_plan_file.proofs.PlanLines.{one_plan_line, one_plan_kind, some_plan_kind}
 
@@ -45,14 +45,14 @@ plan_filled (closed p) = ([], p, refl)
 -- ---- no line contains LF or CR
 
 plain-words : (k : CostKind) → IsPlain (cost_words k)
-plain-words costs.Unit = plain_bytes (cost_words costs.Unit) refl
-plain-words costs.General = plain_bytes (cost_words costs.General) refl
+plain-words costs.Unit = refl
+plain-words costs.General = refl
 
 pub plain-step : (name : List ℕ) → IsName name → IsPlain (plan_line_bytes (step name))
-plain-step name h = plain-append (codes "(") (name ++ codes ")") (plain_bytes (codes "(") refl) (plain-append name (codes ")") (plain-name name h) (plain_bytes (codes ")") refl))
+plain-step name h = plain-append (codes "(") (name ++ codes ")") refl (plain-append name (codes ")") (plain-name name h) refl)
 
 plain-cost_line : (n : ℕ) (k : CostKind) → IsPlanCost n → IsPlain (plan_line_bytes (cost n k))
-plain-cost_line n k h = plain-append cost_front (decimal n ++ cost_words k) (plain_bytes cost_front refl) (plain-append (decimal n) (cost_words k) (plain-decimal n) (plain-words k))
+plain-cost_line n k h = plain-append cost_front (decimal n ++ cost_words k) refl (plain-append (decimal n) (cost_words k) (plain-decimal n) (plain-words k))
 
 plain-lines : (steps : List (List ℕ)) (n : ℕ) (k : CostKind) → AllByRecursion IsName steps → IsPlanCost n → AllByRecursion IsPlain (map plan_line_bytes (map step steps ++ cost n k ∷ []))
 plain-lines [] n k g f = (plain-cost_line n k f, tt)

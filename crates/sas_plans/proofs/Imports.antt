@@ -20,6 +20,7 @@ pub use Rattle.sas_answers.proofs.WordedLines.{worded}
 pub use Rattle.sas_answers.specs.Answers.{VerdictAnswer, layers_refusal}
 pub use Rattle.sas_answers.specs.LayerWords.{layer_words, words_at_part, layers_line}
 pub use Rattle.sas_answers.specs.PlanWords.{fault_words, invalid_line, valid_line}
+pub use Rattle.sas_core.proofs.Plain.{plain-append}
 pub use Rattle.sas_core.specs.PlanParts.{PlanParts}
 pub use Rattle.sas_core.specs.WellRanged.{WellRanged}
 pub use Rattle.sas_core.specs.declared.parts.Parts.{Parts}
@@ -47,11 +48,11 @@ pub use Rattle.sas_outputs.specs.declared.Request.TheVariants.{Plan}
 pub use Rattle.sas_plan_file.proofs.PlanLaws.{plan_laws_hold}
 pub use Rattle.sas_plan_file.specs.PlanFormat.{plan_format}
 pub use Rattle.sas_reader.proofs.Known.{known_answer, known_fault}
-pub use Rattle.sas_reader.proofs.Plain.{plain, plain-decimal, plain_bytes, plain-append}
+pub use Rattle.sas_reader.proofs.Plain.{plain, plain-decimal}
 pub use Rattle.sas_reader.specs.Devices.{ValueOf, ReadsAll}
 pub use Rattle.sas_reader.specs.Format.{ReadsAs}
 pub use Rattle.sas_reader.specs.Limit.{most_bytes}
-pub use Rattle.sas_reader.specs.System.{IsPlain}
+pub use Rattle.sas_core.specs.Names.{IsPlain}
 pub use Rattle.sas_reader.specs.declared.fault.Fault.{Fault}
 pub use Rattle.sas_reader.specs.declared.fault.Kind.{Kind}
 pub use Rattle.sas_task_format.specs.TaskFormat.{task_format}

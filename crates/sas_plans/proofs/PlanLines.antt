@@ -1,5 +1,5 @@
 -- What is printed of each plan is one line, and a task is refused by one.
-use Rattle.sas_plans.proofs.Imports.{◌≡◌, ◌≢◌, ℕ, zero, suc, ◌<◌, List, [], ◌∷◌, ◌++◌, length, get_or, codes, decimal, append_assoc, refl, sym, ap, subst, ◌∙◌, arith, inl, inr, Some, Result, Ok, Err, flat_map, AllByRecursion, get_or-append, recursion_from_All, Parts, PlanParts, LayerFault, lines, text, Plain, lines-append, lines-text, unfinished-text, Fault, IsPlain, plain, plain-decimal, IsLabel, Judged, labelled, unjudged, line_of, plain_bytes, plain-append, Output, VerdictAnswer, layers_refusal, layer_words, layers_line, fault_words, invalid_line, No, VerdictOut, IsAnswerOrRefusal, TaskOut, UnlayeredAnswer, plain_refusal, refusal, refusal_line, word_of, file_words, file_plain, kind_plain, layer_plain, invalid_plain, worded}
+use Rattle.sas_plans.proofs.Imports.{◌≡◌, ◌≢◌, ℕ, zero, suc, ◌<◌, List, [], ◌∷◌, ◌++◌, length, get_or, codes, decimal, append_assoc, refl, sym, ap, subst, ◌∙◌, arith, inl, inr, Some, Result, Ok, Err, flat_map, AllByRecursion, get_or-append, recursion_from_All, Parts, PlanParts, LayerFault, lines, text, Plain, lines-append, lines-text, unfinished-text, Fault, IsPlain, plain, plain-decimal, IsLabel, Judged, labelled, unjudged, line_of, plain-append, Output, VerdictAnswer, layers_refusal, layer_words, layers_line, fault_words, invalid_line, No, VerdictOut, IsAnswerOrRefusal, TaskOut, UnlayeredAnswer, plain_refusal, refusal, refusal_line, word_of, file_words, file_plain, kind_plain, layer_plain, invalid_plain, worded}
 use Rattle.sas_plans.proofs.LastBytes.{EndsInLetter, letter_behind, kind_letter, layer_letter}
 
 -- the bytes are a line with its end
@@ -14,7 +14,7 @@ pub valid_plain : (steps cost : ℕ) → IsPlain (codes "plan valid: " ++ decima
 valid_plain steps cost =
     plain-append (codes "plan valid: " ++ decimal steps ++ codes " steps, cost ") (decimal cost)
     (plain-append (codes "plan valid: " ++ decimal steps) (codes " steps, cost ")
-    (plain-append (codes "plan valid: ") (decimal steps) (plain_bytes (codes "plan valid: ") refl) (plain-decimal steps)) (plain_bytes (codes " steps, cost ") refl))
+    (plain-append (codes "plan valid: ") (decimal steps) refl (plain-decimal steps)) refl)
     (plain-decimal cost)
 
 answer_line : (p : Parts) (plan : PlanParts) (o : Output) → VerdictAnswer p plan o → IsLine o.text
@@ -31,7 +31,7 @@ reading_line : (p : Parts) (o : Output) (r : Result PlanParts Fault) → IsAnswe
 reading_line p o (Ok plan) (answer, verdict, is) = let same : answer ≡ o = cc in subst (λ (x : Output). IsLine x.text) same (answer_line p plan answer verdict)
 reading_line p o (Err f) is =
     let w = worded (word_of f.kind) (refusal_line (codes "plan") f.line) o (sym is) in
-    record { line = file_words (codes "plan") f.line w.said; plain = file_plain (codes "plan") f.line w.said (plain_bytes (codes "plan") refl) (kind_plain f.kind w.said w.among); is = w.text }
+    record { line = file_words (codes "plan") f.line w.said; plain = file_plain (codes "plan") f.line w.said refl (kind_plain f.kind w.said w.among); is = w.text }
 
 pub verdict_line : (p : Parts) (c : List ℕ) (o : Output) → VerdictOut VerdictAnswer p c (Some o) → IsLine o.text
 verdict_line p c o out = reading_line p o out.0 out.2
@@ -43,7 +43,7 @@ label_plain label h = recursion_from_All (λ (byte : ℕ). (byte ≢ 10) × (byt
 pub labelled_line : (label : List ℕ) (j : Judged) → IsLabel label → j.label ≡ label → IsLine j.line → IsLine (labelled j)
 labelled_line label j is_label e l = record {
   line = label ++ codes ": " ++ l.line;
-  plain = plain-append (label ++ codes ": ") l.line (plain-append label (codes ": ") (label_plain label is_label) (plain_bytes (codes ": ") refl)) l.plain;
+  plain = plain-append (label ++ codes ": ") l.line (plain-append label (codes ": ") (label_plain label is_label) refl) l.plain;
   is =
       ap (λ (x : List ℕ). x ++ codes ": " ++ j.line) e ∙ ap (λ (x : List ℕ). label ++ codes ": " ++ x) l.is
       ∙ sym (append_assoc (label ++ codes ": ") l.line (10 ∷ []));
@@ -103,7 +103,7 @@ file_refusal f o is =
     let w = worded (word_of f.kind) (refusal_line (codes "task") f.line) o is in
     record {
       line = file_words (codes "task") f.line w.said;
-      plain = file_plain (codes "task") f.line w.said (plain_bytes (codes "task") refl) (kind_plain f.kind w.said w.among);
+      plain = file_plain (codes "task") f.line w.said refl (kind_plain f.kind w.said w.among);
       is = w.text;
       letter = letter_behind (codes "task" ++ codes " refused: line " ++ decimal f.line ++ codes ": ") w.said (kind_letter f.kind w.said w.among);
       status = w.status;
@@ -114,7 +114,7 @@ layers_refused fault o is =
     let w = worded (layer_words fault) layers_line o is in
     record {
       line = codes "task refused: " ++ w.said;
-      plain = plain-append (codes "task refused: ") w.said (plain_bytes (codes "task refused: ") refl) (layer_plain fault w.said w.among);
+      plain = plain-append (codes "task refused: ") w.said refl (layer_plain fault w.said w.among);
       is = w.text;
       letter = letter_behind (codes "task refused: ") w.said (layer_letter fault w.said w.among);
       status = w.status;

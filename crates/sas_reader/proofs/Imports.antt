@@ -7,7 +7,7 @@ pub use Rattle.std.proofs.KnownBytes.{Consumes-nil, Consumes-trans, Consumes-kep
 pub use Rattle.std.proofs.Math.Dec.{ltb}
 pub use Rattle.std.proofs.Math.Nat.{min_comm}
 pub use Rattle.std.proofs.Math.Seq.{take-add, take-append-add, drop-append_seam}
-pub use Rattle.std.proofs.lemmas.Bool.{leb-false, cases_eq, ne_eqb, cases_lt, lt-ltb, ltb-true, eq-eqb, eqb-true, eqb-false, false≢true}
+pub use Rattle.std.proofs.lemmas.Bool.{leb-false, cases_eq, ne_eqb, cases_lt, lt-ltb, ltb-true, eqb-true, eqb-false, false≢true}
 pub use Rattle.std.proofs.lemmas.Bool.Decides.{eqb_tells}
 pub use Rattle.std.proofs.lemmas.List.{append-nil, length-take, take_all, take-append-drop, drop-take, drop-drop, get_or-take, get_or-drop, length-take-le, take_at, take-take, drop_more, take-append-le, length_push, nil_from_length, append_cancel_left, take_min}
 pub use Rattle.std.proofs.lemmas.List.Elements.{All-from_get_or, filter-append, filter_more}
@@ -17,7 +17,8 @@ pub use Rattle.std.specs.Fmt.{decimal}
 pub use Rattle.std.specs.Io.KnownBytes.{Consumes, IsAtEnd}
 pub use Rattle.std.specs.List.{prefix_len, list_all, AllByRecursion}
 pub use Rattle.std.specs.Result.{OnOk, IfErr}
-pub use Rattle.sas_core.specs.Names.{is_plain, IsName}
+pub use Rattle.sas_core.proofs.Plain.{plain_parts, plain_without, plain-append}
+pub use Rattle.sas_core.specs.Names.{is_plain, IsName, IsPlain}
 pub use Rattle.sas_lines.proofs.EndedLines.{ended_lines}
 pub use Rattle.sas_lines.proofs.Splitting.{lines-append, unfinished-append, lines-few, lines-none, lines-one, unfinished-one, unfinished-without, unfinished-plain_all, lines-end, unfinished-none, lines-plain, unfinished-plain, unfinished-end, lines-part, lines-without, Plain}
 pub use Rattle.sas_lines.proofs.Words.{Without-decimal}
@@ -25,7 +26,6 @@ pub use Rattle.sas_lines.specs.Device.{Device}
 pub use Rattle.sas_lines.specs.FirstLines.{TakesLine, LineStandsFirst, LinesStandFirst}
 pub use Rattle.sas_lines.specs.Lines.{without_return, NoEnd, text, EndedLines}
 unfoldable pub use Rattle.sas_lines.specs.Lines.{lines, unfinished}
-pub use Rattle.sas_lines.specs.Parts.{Without}
 pub use Rattle.sas_lines.specs.Progress.{Progress, completed}
 pub use Rattle.sas_reader.specs.About.{IsAbout, of_line, of_byte, of_end, ConcernsText, AboutLaws}
 pub use Rattle.sas_reader.specs.Devices.{Refuses, unread_at, ended_at, faulty_at, ReadsAll}
@@ -39,7 +39,7 @@ pub use Rattle.sas_reader.specs.Reader.{Reached, Accepted, LineIsDue, FaultBehin
 pub use Rattle.sas_reader.specs.Reading.{View, Feeds}
 pub use Rattle.sas_reader.specs.Refusals.{ExplainsRefusal, ReadsOrExplains, StandsBehind, behind_line, behind_text, at_end}
 pub use Rattle.sas_reader.specs.Returns.{without_returns, returns_in, CopiesSoFar, ReturnsEndLinesUpTo, ReturnsEndLines}
-pub use Rattle.sas_reader.specs.System.{Node, Grammar, ended, Rejects, Leads, before, IsAllowed, OneLine, After, LeadsToEnd, IsRejected, IsPlain}
+pub use Rattle.sas_reader.specs.System.{Node, Grammar, ended, Rejects, Leads, before, IsAllowed, OneLine, After, LeadsToEnd, IsRejected}
 pub use Rattle.sas_reader.specs.Texts.{Reads, lines_of}
 pub use Rattle.sas_reader.specs.declared.fault.Fault.{Fault}
 pub use Rattle.sas_reader.specs.declared.fault.Kind.{Kind}

@@ -1,25 +1,8 @@
 -- The texts of a value are its lines, each with a line end.
-use Rattle.sas_reader.proofs.Imports.{◌≡◌, ◌≢◌, ℕ, List, [], ◌∷◌, ◌++◌, refl, sym, ap, subst, ◌∙◌, append_assoc, ◌⊎◌, inl, inr, arith, AllByRecursion, ne_eqb, without_return, lines, unfinished, text, NoEnd, EndedLines, ended_lines, lines-none, unfinished-none, lines-append, unfinished-append, lines-one, unfinished-one, lines_of, Reads, Format, Node, Grammar, IsPlain, TextsAreEndedLines, TextIsRead}
+use Rattle.sas_reader.proofs.Imports.{◌≡◌, ℕ, List, [], ◌∷◌, ◌++◌, refl, sym, ap, subst, ◌∙◌, append_assoc, ◌⊎◌, inl, inr, AllByRecursion, without_return, lines, unfinished, text, NoEnd, EndedLines, ended_lines, lines-none, unfinished-none, lines-append, unfinished-append, lines-one, unfinished-one, lines_of, Reads, Format, Node, Grammar, IsPlain, TextsAreEndedLines, TextIsRead}
+use Rattle.sas_reader.proofs.Plain.{no_end, no_return, return_no_end, return_dropped}
 
 -- ---- from lines with their ends to bytes
-
-no_end : (line : List ℕ) → IsPlain line → NoEnd line
-no_end [] h = tt
-no_end (b ∷ line) h = (h.0.0, no_end line h.1)
-
-no_end-return : (line : List ℕ) → IsPlain line → NoEnd (line ++ 13 ∷ [])
-no_end-return [] h = (let ne : 13 ≢ 10 = λ e. omega (arith, e) in ne, tt)
-no_end-return (b ∷ line) h = (h.0.0, no_end-return line h.1)
-
-without_return-plain : (line : List ℕ) → IsPlain line → without_return line ≡ line
-without_return-plain [] h = refl
-without_return-plain (b ∷ []) h = rw (ne_eqb b 13 h.0.1) refl
-without_return-plain (b ∷ c ∷ line) h = ap (λ (x : List ℕ). b ∷ x) (without_return-plain (c ∷ line) h.1)
-
-without_return-return : (line : List ℕ) → without_return (line ++ 13 ∷ []) ≡ line
-without_return-return [] = refl
-without_return-return (b ∷ []) = refl
-without_return-return (b ∷ c ∷ line) = ap (λ (x : List ℕ). b ∷ x) (without_return-return (c ∷ line))
 
 record Splits (bytes : List ℕ) (ls : List (List ℕ)) : Type 0 where
   lines_are : lines bytes ≡ ls
@@ -36,8 +19,8 @@ splits_front w rest line ls h e s =
     }
 
 splits_ended : (w line rest : List ℕ) (ls : List (List ℕ)) → IsPlain line → (w ≡ line ++ 10 ∷ rest) ⊎ (w ≡ line ++ 13 ∷ 10 ∷ rest) → Splits rest ls → Splits w (line ∷ ls)
-splits_ended w line rest ls h (inl e) s = subst (λ (x : List ℕ). Splits x (line ∷ ls)) (sym e) (splits_front line rest line ls (no_end line h) (without_return-plain line h) s)
-splits_ended w line rest ls h (inr e) s = subst (λ (x : List ℕ). Splits x (line ∷ ls)) (append_assoc line (13 ∷ []) (10 ∷ rest) ∙ sym e) (splits_front (line ++ 13 ∷ []) rest line ls (no_end-return line h) (without_return-return line) s)
+splits_ended w line rest ls h (inl e) s = subst (λ (x : List ℕ). Splits x (line ∷ ls)) (sym e) (splits_front line rest line ls (no_end line h) (no_return line h) s)
+splits_ended w line rest ls h (inr e) s = subst (λ (x : List ℕ). Splits x (line ∷ ls)) (append_assoc line (13 ∷ []) (10 ∷ rest) ∙ sym e) (splits_front (line ++ 13 ∷ []) rest line ls (return_no_end line h) (return_dropped line) s)
 
 splits_lines : (ls : List (List ℕ)) (bytes : List ℕ) → AllByRecursion IsPlain ls → EndedLines ls [] bytes → Splits bytes ls
 splits_lines [] bytes h e = record { lines_are = ap lines e ∙ lines-none; none_left = ap unfinished e ∙ unfinished-none }

@@ -1,6 +1,6 @@
 -- Bytes in which each CR is followed by LF have the same lines as the bytes without their CRs.
-use Rattle.sas_reader.proofs.Imports.{◌≡◌, ◌≢◌, ℕ, ◌+◌, ◌<◌, suc, List, [], ◌∷◌, ◌++◌, length, drop, get_or, refl, sym, ap, ◌∙◌, append_assoc, inl, inr, arith, length-append, cases_eq, ne_eqb, lines, unfinished, lines-append, unfinished-append, lines-one, unfinished-one, IsPlain, without_returns, ReturnsEndLines}
-use Rattle.sas_reader.proofs.Plain.{plain, plain-append, lines-return, unfinished-return}
+use Rattle.sas_reader.proofs.Imports.{◌≡◌, ◌≢◌, ℕ, ◌+◌, ◌<◌, suc, List, [], ◌∷◌, ◌++◌, length, drop, get_or, refl, sym, ap, ◌∙◌, append_assoc, inl, inr, arith, length-append, cases_eq, ne_eqb, lines, unfinished, lines-append, unfinished-append, lines-one, unfinished-one, IsPlain, without_returns, ReturnsEndLines, plain_without, plain-append}
+use Rattle.sas_reader.proofs.Plain.{plain, lines-return, unfinished-return}
 
 -- each CR is followed by LF, byte by byte
 abbrev pub EachEnds : List ℕ → Type 0
@@ -64,8 +64,8 @@ byte_same : (u bytes : List ℕ) (b : ℕ) → IsPlain u → b ≢ 13 → ((v : 
 byte_same u bytes b h ne next =
     let w = without_returns bytes in
     elim (cases_eq b 10) [
-      | inl is ↦ by (ap (λ (x : ℕ). u ++ x ∷ bytes) is) (ap (λ (x : List ℕ). u ++ x) (stays b bytes ne) ∙ ap (λ (x : ℕ). u ++ x ∷ w) is) (end_same u bytes w h (next [] tt))
-      | inr other ↦ by (sym (append_assoc u (b ∷ []) bytes)) (ap (λ (x : List ℕ). u ++ x) (stays b bytes ne) ∙ sym (append_assoc u (b ∷ []) w)) (next (u ++ b ∷ []) (plain-append u (b ∷ []) h ((other, ne), tt)))
+      | inl is ↦ by (ap (λ (x : ℕ). u ++ x ∷ bytes) is) (ap (λ (x : List ℕ). u ++ x) (stays b bytes ne) ∙ ap (λ (x : ℕ). u ++ x ∷ w) is) (end_same u bytes w h (next [] refl))
+      | inr other ↦ by (sym (append_assoc u (b ∷ []) bytes)) (ap (λ (x : List ℕ). u ++ x) (stays b bytes ne) ∙ sym (append_assoc u (b ∷ []) w)) (next (u ++ b ∷ []) (plain-append u (b ∷ []) h (plain_without (b ∷ []) (other, tt) (ne, tt))))
     ]
 
 same_lines : (bytes u : List ℕ) → EachEnds bytes → IsPlain u → Same (u ++ bytes) (u ++ without_returns bytes)
@@ -79,14 +79,14 @@ same_lines (b ∷ c ∷ bytes) u ends h = elim (cases_eq b 13) [
       let w = without_returns bytes in
       let lf : c ≡ 10 = ends.0 is in
       let some : c ≢ 13 = λ e. omega (arith, lf, e) in
-      by (ap (λ (x : ℕ). u ++ x ∷ c ∷ bytes) is ∙ ap (λ (x : ℕ). u ++ 13 ∷ x ∷ bytes) lf) (ap (λ (x : List ℕ). u ++ x) (dropped b (c ∷ bytes) is ∙ stays c bytes some) ∙ ap (λ (x : ℕ). u ++ x ∷ w) lf) (return_same u bytes w h (same_lines bytes [] ends.1.1 tt))
+      by (ap (λ (x : ℕ). u ++ x ∷ c ∷ bytes) is ∙ ap (λ (x : ℕ). u ++ 13 ∷ x ∷ bytes) lf) (ap (λ (x : List ℕ). u ++ x) (dropped b (c ∷ bytes) is ∙ stays c bytes some) ∙ ap (λ (x : ℕ). u ++ x ∷ w) lf) (return_same u bytes w h (same_lines bytes [] ends.1.1 refl))
   | inr ne ↦ byte_same u (c ∷ bytes) b h ne (λ v p. same_lines (c ∷ bytes) v ends.1 p)
 ]
 
 -- after whole lines
 module _ (before bytes : List ℕ) (whole : unfinished before ≡ []) (ends : EachEnds bytes) where
   same : Same bytes (without_returns bytes)
-  same = same_lines bytes [] ends tt
+  same = same_lines bytes [] ends refl
 
   pub lines_behind : lines (before ++ bytes) ≡ lines (before ++ without_returns bytes)
   lines_behind =

@@ -1,7 +1,8 @@
 -- What may still follow, as a system of states. A state is at the end with a value, or before a
 -- line.
-use Rattle.std.specs.Prelude.{◌≡◌, ◌≢◌, ℕ, Bool, List, [], ◌∷◌, IsTrue, map}
+use Rattle.std.specs.Prelude.{◌≡◌, ℕ, Bool, List, [], ◌∷◌, IsTrue, map}
 use Rattle.std.specs.List.{AllByRecursion}
+use Rattle.sas_core.specs.Names.{IsPlain}
 use Rattle.sas_reader.specs.declared.fault.Kind.{Kind}
 use Rattle.sas_reader.specs.Texts.{lines_of}
 use Rattle.sas_reader.specs.Format.{Format}
@@ -11,10 +12,6 @@ use Rattle.sas_reader.specs.Format.{Format}
 pub data Node (T V I S : Type 0) : Type 0 where
   ended : V → Node T V I S
   before : S → (I → Bool) → (I → T) → Node T V I S
-
--- no LF and no CR
-abbrev pub IsPlain : List ℕ → Type 0
-IsPlain line = AllByRecursion (λ b. (b ≢ 10) × (b ≢ 13)) line
 
 -- `Fits` holds for a line whose numbers can all be spelled in the format.
 module _ {V I S : Type 0} (F : Format V I S) (Fits : I → Type 0) where

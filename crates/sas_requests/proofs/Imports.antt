@@ -22,8 +22,9 @@ pub use Rattle.sas_answers.specs.Answers.{layers_refusal, GroupsAnswer, LayeredG
 pub use Rattle.sas_answers.specs.GroupWords.{group_line, verdict_lines_from, verdict_lines, groups_status, verdict_words}
 pub use Rattle.sas_answers.specs.LayerWords.{layer_words, layers_line, words_at_part}
 pub use Rattle.sas_answers.specs.PlanWords.{valid_line, fault_words, invalid_line, step_words}
+pub use Rattle.sas_core.proofs.Plain.{plain-append}
 pub use Rattle.sas_core.specs.FirstFault.{first_fault}
-pub use Rattle.sas_core.specs.Names.{IsName}
+pub use Rattle.sas_core.specs.Names.{IsName, IsPlain}
 pub use Rattle.sas_core.specs.PlanParts.{PlanParts}
 pub use Rattle.sas_core.specs.Plans.{WellNamed}
 pub use Rattle.sas_core.specs.Variables.{value_name}
@@ -56,7 +57,7 @@ pub use Rattle.sas_output.specs.declared.ending.Status.{Status}
 pub use Rattle.sas_output.specs.declared.ending.Status.TheVariants.{Yes, No}
 pub use Rattle.sas_output.specs.declared.ending.ToolFault.{ToolFault}
 pub use Rattle.sas_output.specs.declared.line.Line.{Line}
-pub use Rattle.sas_outputs.proofs.Headlines.{sent_same, IsSolved, IsOther, headline_by, out_reported, out_solved, ReportsValid, reports_valid, headline_of}
+pub use Rattle.sas_outputs.proofs.Headlines.{sent_same, IsSolved, IsOther, headline_by, out_reported, out_solved, ReportsValid, reports_valid, headline_of, SaysHeadline}
 pub use Rattle.sas_outputs.proofs.Lengths.{text_short}
 pub use Rattle.sas_outputs.proofs.Outputs.{refused_kind, too_long_else, reading_of_refusal, Worded, plan_worded, task_worded, same_output}
 pub use Rattle.sas_outputs.proofs.PlainLines.{file_words, file_plain, kind_plain, layer_plain, invalid_plain}
@@ -80,7 +81,7 @@ pub use Rattle.sas_plan_file.specs.declared.plan_refusal.PlanRefusal.{PlanRefusa
 pub use Rattle.sas_reader.proofs.About.{about_laws_of}
 pub use Rattle.sas_reader.proofs.Known.{known_answer, known_fault}
 pub use Rattle.sas_reader.proofs.KnownRefusals.{known_explained}
-pub use Rattle.sas_reader.proofs.Plain.{plain_bytes, plain, plain-decimal, plain-append}
+pub use Rattle.sas_reader.proofs.Plain.{plain, plain-decimal}
 pub use Rattle.sas_reader.specs.About.{ConcernsText, AboutLaws, IsAbout, of_line, of_byte, of_end}
 pub use Rattle.sas_reader.specs.Devices.{ReadsAll, ValueOf, TextOf}
 pub use Rattle.sas_reader.specs.Format.{Format, ReadsAs, FaultOf, KindAt, too_long, trailing, wrong}
@@ -88,7 +89,6 @@ pub use Rattle.sas_reader.specs.Found.{IsFoundOf}
 pub use Rattle.sas_reader.specs.Laws.{Laws}
 pub use Rattle.sas_reader.specs.Limit.{most_bytes}
 pub use Rattle.sas_reader.specs.Refusals.{ExplainsRefusal, ReadsOrExplains}
-pub use Rattle.sas_reader.specs.System.{IsPlain}
 pub use Rattle.sas_reader.specs.Texts.{Reads}
 pub use Rattle.sas_reader.specs.declared.fault.Fault.{Fault}
 pub use Rattle.sas_reader.specs.declared.fault.Kind.{Kind}

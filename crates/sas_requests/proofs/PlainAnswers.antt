@@ -1,7 +1,7 @@
 -- Lines that are no reasons: an answer of such lines stays as it is when reasons are taken away.
 use Rattle.std.proofs.Common.{arith}
 use Rattle.std.proofs.lemmas.Grind.{common_steps}
-use Rattle.sas_requests.proofs.Imports.{◌≡◌, ℕ, List, [], ◌∷◌, ◌++◌, codes, refl, sym, ap, ◌∙◌, Bool, false, Some, not, filter, if◌then◌else◌, decimal, AllByRecursion, LayerFault, text, lines, Plain, lines-text, Fault, IsPlain, plain, plain-decimal, plain_bytes, plain-append, all_map, Verdict, Exclusive, Derived, Initial, Broken, PlanFault, Output, layers_refusal, verdict_words, group_line, is_reason, without_reasons, layer_words, layers_line, fault_words, word_of, refusal, refusal_line, file_words, file_plain, kind_plain, layer_plain, invalid_plain, worded}
+use Rattle.sas_requests.proofs.Imports.{◌≡◌, ℕ, List, [], ◌∷◌, ◌++◌, codes, refl, sym, ap, ◌∙◌, Bool, false, Some, not, filter, if◌then◌else◌, decimal, AllByRecursion, LayerFault, text, lines, Plain, lines-text, Fault, IsPlain, plain, plain-decimal, plain-append, all_map, Verdict, Exclusive, Derived, Initial, Broken, PlanFault, Output, layers_refusal, verdict_words, group_line, is_reason, without_reasons, layer_words, layers_line, fault_words, word_of, refusal, refusal_line, file_words, file_plain, kind_plain, layer_plain, invalid_plain, worded}
 use Rattle.std.proofs.lemmas.List.{append-nil}
 use Rattle.sas_requests.proofs.ReasonLines.{IsReason, AreReasons}
 
@@ -72,17 +72,17 @@ refusals_reported name h no_reason fault o is =
     reported_line (file_words name fault.line w.said) o.text reported w.text
 
 pub task_refusals_reported : AreRefusalsReported (codes "task")
-task_refusals_reported = refusals_reported (codes "task") (plain_bytes (codes "task") refl) (λ line w. refl)
+task_refusals_reported = refusals_reported (codes "task") refl (λ line w. refl)
 
 pub plan_refusals_reported : AreRefusalsReported (codes "plan")
-plan_refusals_reported = refusals_reported (codes "plan") (plain_bytes (codes "plan") refl) (λ line w. refl)
+plan_refusals_reported = refusals_reported (codes "plan") refl (λ line w. refl)
 
 -- ---- refusals of layers
 
 -- such a refusal, without the end of its line
 pub layer_reported : (fault : LayerFault) (w : List ℕ) → layer_words fault ≡ Some w → IsReported (codes "task refused: " ++ w)
 layer_reported fault w e = record {
-  plain = plain-append (codes "task refused: ") w (plain_bytes (codes "task refused: ") refl) (layer_plain fault w e);
+  plain = plain-append (codes "task refused: ") w refl (layer_plain fault w e);
   no_reason = refl;
 }
 
@@ -94,13 +94,13 @@ layers_reported fault o is =
 -- ---- verdicts on groups
 
 verdict_plain : (verdict : Verdict) → IsPlain (verdict_words verdict)
-verdict_plain Exclusive = plain_bytes (codes "exclusive") refl
-verdict_plain Derived = plain_bytes (codes "derived") refl
-verdict_plain Initial = plain_bytes (codes "not shown: initial state") refl
-verdict_plain (Broken operator) = plain-append (codes "not shown: operator ") (decimal operator) (plain_bytes (codes "not shown: operator ") refl) (plain-decimal operator)
+verdict_plain Exclusive = refl
+verdict_plain Derived = refl
+verdict_plain Initial = refl
+verdict_plain (Broken operator) = plain-append (codes "not shown: operator ") (decimal operator) refl (plain-decimal operator)
 
 pub group_reported : (place : ℕ) (verdict : Verdict) → IsReported (group_line place verdict)
-group_reported place verdict = grind (arith, common_steps, plain, plain-append, plain_bytes, plain-decimal, verdict_plain)
+group_reported place verdict = grind (arith, common_steps, plain, plain-append, plain-decimal, verdict_plain)
 
 -- ---- the verdict on a plan
 

@@ -1,5 +1,5 @@
 -- Each line of reasons begins with two spaces, and holds neither LF nor CR.
-use Rattle.sas_requests.proofs.Imports.{◌≡◌, ℕ, true, List, [], ◌∷◌, map, ap, AllByRecursion, Parts, IsName, WellRanged, IsPlain, plain_bytes, Line, IsReasonLine, line_bytes, lines_are_reasons, FileLine, file_line_bytes, file_lines, file_lines_are_reasons, is_reason}
+use Rattle.sas_requests.proofs.Imports.{◌≡◌, ℕ, true, List, [], ◌∷◌, map, ap, AllByRecursion, Parts, IsName, WellRanged, IsPlain, Line, IsReasonLine, line_bytes, lines_are_reasons, FileLine, file_line_bytes, file_lines, file_lines_are_reasons, is_reason}
 
 -- the line is one of reasons
 pub record IsReason (line : List ℕ) : Type 0 where
@@ -10,7 +10,7 @@ abbrev pub AreReasons : List (List ℕ) → Type 0
 AreReasons lines = AllByRecursion IsReason lines
 
 one_line : (line : List ℕ) → IsReasonLine line → IsReason line
-one_line line is = record { plain = plain_bytes line is.plain; reports = ap is_reason is.spaces }
+one_line line is = record { plain = is.plain; reports = ap is_reason is.spaces }
 
 -- the lines of a plan and of a task
 pub lines_report : (p : Parts) (steps : List (List ℕ)) → WellRanged p → AllByRecursion IsName steps → (reasons : List Line) → AreReasons (map (line_bytes p steps) reasons)

@@ -1,6 +1,6 @@
 -- The output with reasons behind refusals of files: it is the same answer as the one without, there is one, and always some; and
 -- what it says of plans and groups holds.
-use Rattle.sas_requests.proofs.Imports.{◌≡◌, ◌⊎◌, ℕ, append-nil, List, [], ◌∷◌, ◌++◌, arith, codes, refl, sym, ap, subst, ◌∙◌, inl, inr, Option, Some, false, option_map, Appends, lines, Fault, IsPlain, plain_bytes, Exclusive, FileLine, file_lines, file_text, Status, Yes, No, Output, group_line, valid_line, with_reasons, why_refusal, WhyCheckAnswer, WhyMutexAnswer, one_why_check, is_reason, without_reasons, OutOfRead, OutWhy, WithReasons, IsSameAnswer, SameAnswer, RefusalReasons, some_why_check, one_why_mutex, some_why_mutex, WhyVerdict, Request, Plan, Mutex, Solves, Headline, Invariants, word_of, refusal, refusal_line, HasOneOutput, IsLong, IsSolved, IsOther, sent_same, headline_by, out_reported, out_solved, output_for, file_words, file_plain, kind_plain, worded}
+use Rattle.sas_requests.proofs.Imports.{◌≡◌, ◌⊎◌, ℕ, append-nil, List, [], ◌∷◌, ◌++◌, arith, codes, refl, sym, ap, subst, ◌∙◌, inl, inr, Option, Some, false, option_map, Appends, lines, Fault, IsPlain, Exclusive, FileLine, file_lines, file_text, Yes, No, Output, group_line, valid_line, with_reasons, why_refusal, WhyCheckAnswer, WhyMutexAnswer, one_why_check, is_reason, without_reasons, OutOfRead, OutWhy, WithReasons, IsSameAnswer, SameAnswer, RefusalReasons, some_why_check, one_why_mutex, some_why_mutex, WhyVerdict, Request, Plan, Mutex, Solves, Invariants, word_of, refusal, refusal_line, HasOneOutput, IsLong, IsSolved, IsOther, sent_same, headline_by, out_reported, out_solved, output_for, file_words, file_plain, kind_plain, worded, SaysHeadline}
 use Rattle.std.specs.Prelude.{Contains}
 use Rattle.sas_requests.proofs.InvariantGroups.{SaysNone, line_says_none, why_groups, invariants_of}
 use Rattle.sas_requests.proofs.ReasonLines.{file_lines_report}
@@ -61,10 +61,10 @@ file_line name plain no_reason no_plan no_group fault o is =
 
 refusal_line_of : (o : Output) → IsFileRefusal (Some o) → IsRefusalLine o
 refusal_line_of o (fault, inl task) =
-    file_line (codes "task") (plain_bytes (codes "task") refl) (λ line w. refl) (λ line w behind steps cost e. apart_at 0 (valid_line steps cost) ((file_words (codes "task") line w ++ 10 ∷ []) ++ behind) (omega arith) (sym e))
+    file_line (codes "task") refl (λ line w. refl) (λ line w behind steps cost e. apart_at 0 (valid_line steps cost) ((file_words (codes "task") line w ++ 10 ∷ []) ++ behind) (omega arith) (sym e))
     (λ line w place e. apart_at 0 (group_line place Exclusive) (file_words (codes "task") line w) (omega arith) (sym e)) fault o task
 refusal_line_of o (fault, inr plan) =
-    file_line (codes "plan") (plain_bytes (codes "plan") refl) (λ line w. refl) (λ line w behind steps cost e. apart_at 5 ((file_words (codes "plan") line w ++ 10 ∷ []) ++ behind) (valid_line steps cost) (omega arith) e)
+    file_line (codes "plan") refl (λ line w. refl) (λ line w behind steps cost e. apart_at 5 ((file_words (codes "plan") line w ++ 10 ∷ []) ++ behind) (valid_line steps cost) (omega arith) e)
     (λ line w place e. apart_at 0 (group_line place Exclusive) (file_words (codes "plan") line w) (omega arith) (sym e)) fault o plan
 
 -- ---- the same answer
@@ -138,7 +138,7 @@ module _ (b c : List ℕ) (o : Output) (out : OutWhy Plan b c (Some o)) where
         | inr l ↦ (let apart : Yes ≡ No = sym its.0 ∙ l.status in absurd cc)
       ]
 
-  pub headline_why : (old new : Option (List ℕ)) (before : List ℕ) (status : Status) → old ≡ Some before → status ≡ o.status → Appends old new o.text → Headline b c (Appends old new) status
+  pub headline_why : SaysHeadline b c o
   headline_why = headline_by b c o (reported (as_read Plan b c o out)) (solved (as_read Plan b c o out))
 
 -- ---- which groups are exclusive

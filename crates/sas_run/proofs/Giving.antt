@@ -1,7 +1,6 @@
 -- The values that effects give, for one more effect, and the state after they are written.
 use Rattle.std.proofs.lemmas.Grind.{common_steps}
-use Rattle.sas_run.proofs.Imports.{◌≡◌, ◌≢◌, ℕ, ◌+◌, ◌<◌, ◌≤◌, List, length, get_or, set, Option, None, Some, refl, sym, ◌∙◌, ap, subst, inl, inr, arith, unwrap_or, cases_eq, get_or_default, get_or-set_same, get_or-set_other, length-set, Effect, Operator, Parts, effect_at, IsState, EffectFits, AllHold, preconditions, Fires, same_Some, given_to, value_after, NothingGiven, IsGiven, IsGivenTo, GivesValue, GivesOther, IsApplied, IsFirstConflict}
-use Rattle.sas_run.proofs.Ranges.{no_effect}
+use Rattle.sas_run.proofs.Imports.{◌≡◌, ◌≢◌, ℕ, ◌+◌, ◌<◌, ◌≤◌, List, length, get_or, set, Option, None, Some, refl, sym, ◌∙◌, ap, subst, inl, inr, arith, unwrap_or, cases_eq, get_or_default, get_or-set_same, get_or-set_other, length-set, Effect, Operator, Parts, effect_at, IsState, EffectFits, AllHold, preconditions, Fires, same_Some, given_to, value_after, NothingGiven, IsGiven, IsGivenTo, GivesValue, GivesOther, IsApplied, IsFirstConflict, no_effect}
 
 pub not_both : (a : ℕ) (given : Option ℕ) → given ≡ None → given ≡ Some a → ⊥
 not_both a given none some = let e : None ≡ Some a = sym none ∙ some in absurd cc

@@ -1,9 +1,5 @@
 -- The operators of a task and their effects are well ranged, and their variables exist.
-use Rattle.sas_run.proofs.Imports.{◌≡◌, ℕ, ◌<◌, List, [], ◌∷◌, length, Option, None, Some, sym, subst, filter_map, option_map, All, AllByRecursion, cons_option, All-append, All-weaker, All-from_recursion, Fact, Variable, FactExists, MayHaveValue, Effect, Parts, Change, effect_change, operator_at, effect_at, WellRanged, OperatorFits, EffectFits, holds_at, old_fact, preconditions, fact_within}
-
--- a default for indices that are out of range
-abbrev pub no_effect : Effect
-no_effect = record { conditions = []; var = 0; old = None; new = 0 }
+use Rattle.sas_run.proofs.Imports.{◌≡◌, ℕ, ◌<◌, List, [], ◌∷◌, length, Option, None, Some, sym, subst, filter_map, option_map, All, AllByRecursion, cons_option, All-append, All-weaker, All-from_recursion, Fact, Variable, FactExists, MayHaveValue, Effect, Parts, Change, effect_change, operator_at, effect_at, WellRanged, EffectFits, old_fact, preconditions, fact_within, operator_fits, effect_fits}
 
 -- the old values that effects require exist
 old_facts_exist : (variables : List Variable) (effects : List Effect) → AllByRecursion (EffectFits variables) effects
@@ -17,17 +13,9 @@ old_facts_exist variables (e ∷ es) fit = with_old e.old fit.0.old (old_facts_e
     with_old (Some value) may rest = (may, rest)
 
 module _ (p : Parts) (ranged : WellRanged p) (operator : ℕ) (exists : operator < length p.operators) where
-  -- the operator fits
-  pub operator_fits : OperatorFits p.variables (operator_at p operator)
-  operator_fits = holds_at (OperatorFits p.variables) (record { name = []; prevail = []; effects = []; cost = 0 }) p.operators ranged.operators.each operator exists
-
-  -- and so does each of its effects
-  pub effect_fits : (effect : ℕ) → effect < length (operator_at p operator).effects → EffectFits p.variables (effect_at (operator_at p operator) effect)
-  effect_fits effect lt = holds_at (EffectFits p.variables) no_effect (operator_at p operator).effects operator_fits.effects.each effect lt
-
   -- the variable of an effect exists
   pub effect_within : (effect : ℕ) → effect < length (operator_at p operator).effects → (effect_at (operator_at p operator) effect).var < length p.variables
-  effect_within effect lt = fact_within p (effect_at (operator_at p operator) effect).var (effect_at (operator_at p operator) effect).new (effect_fits effect lt).new
+  effect_within effect lt = fact_within p (effect_at (operator_at p operator) effect).var (effect_at (operator_at p operator) effect).new (effect_fits p ranged operator exists effect lt).new
 
   -- the same for the effect as a change
   pub change_within : (effect : ℕ) → effect < length (operator_at p operator).effects → (change : Change) → change ≡ effect_change (effect_at (operator_at p operator) effect)
@@ -38,12 +26,12 @@ module _ (p : Parts) (ranged : WellRanged p) (operator : ℕ) (exists : operator
   pub conditions_within : (effect : ℕ) → effect < length (operator_at p operator).effects
       → All (λ (f : Fact). f.var < length p.variables) (effect_at (operator_at p operator) effect).conditions
   conditions_within effect lt = All-weaker (FactExists p.variables) (λ (f : Fact). f.var < length p.variables) (λ f is. fact_within p f.var f.value is) (effect_at (operator_at p operator) effect).conditions
-      (All-from_recursion (FactExists p.variables) (effect_at (operator_at p operator) effect).conditions (effect_fits effect lt).conditions.each)
+      (All-from_recursion (FactExists p.variables) (effect_at (operator_at p operator) effect).conditions (effect_fits p ranged operator exists effect lt).conditions.each)
 
   -- the variables of its preconditions exist
   pub preconditions_within : All (λ (f : Fact). f.var < length p.variables) (preconditions (operator_at p operator))
   preconditions_within = All-weaker (FactExists p.variables) (λ (f : Fact). f.var < length p.variables) (λ f is. fact_within p f.var f.value is) (preconditions (operator_at p operator))
       (All-append (FactExists p.variables) (operator_at p operator).prevail (filter_map old_fact (operator_at p operator).effects)
-      (All-from_recursion (FactExists p.variables) (operator_at p operator).prevail operator_fits.prevail.each)
+      (All-from_recursion (FactExists p.variables) (operator_at p operator).prevail (operator_fits p ranged operator exists).prevail.each)
       (All-from_recursion (FactExists p.variables) (filter_map old_fact (operator_at p operator).effects)
-      (old_facts_exist p.variables (operator_at p operator).effects operator_fits.effects.each)))
+      (old_facts_exist p.variables (operator_at p operator).effects (operator_fits p ranged operator exists).effects.each)))

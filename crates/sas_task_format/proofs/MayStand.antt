@@ -1,8 +1,7 @@
 -- If a fact, a head or an effect is expected, each line of its shape with allowed numbers continues
 -- a task.
-use Rattle.sas_task_format.proofs.Imports.{◌≡◌, ℕ, zero, suc, Bool, true, List, [], ◌∷◌, ◌++◌, length, map, refl, sym, ap, subst, ◌∙◌, ◌⊎◌, inl, inr, Option, Some, None, IsTrue, codes, nat_lt, ◌==◌, slice_index, flat_map, list_all, Fact, Variable, Parts, is_name, has_value, fact_exists, WellRanged, IsBegun, After, LeadsToEnd, Leads, leads_line, after_ends, ends_split, one_ended, done, read, process_node, a_line, repeat, each, a_list, TaskLine, fact, effect, head, TaskSlot, word_slot, name_slot, number_slot, signed_slot, fact_slot, effect_slot, head_slot, task_slot, task_line_bytes, task_layout, task_format, TaskLineFits, TaskProcess, TaskPart, name_in, number_in, signed_in, fact_in, effect_in, head_in, any, positive, may_change, effect_may_stand, head_may_stand, a_word, a_name, a_number, a_signed, a_fact, an_effect, a_head, a_value, a_version, a_metric, a_variable, a_group, a_state, a_goal, an_operator, a_rule, task_start, Bounded, fact_bounds, change_bounds, line_bounds}
+use Rattle.sas_task_format.proofs.Imports.{◌≡◌, ℕ, zero, suc, Bool, true, List, [], ◌∷◌, ◌++◌, length, map, refl, sym, ap, subst, ◌∙◌, ◌⊎◌, inl, inr, Option, Some, None, IsTrue, codes, nat_lt, ◌==◌, slice_index, flat_map, list_all, Fact, Variable, Parts, is_name, has_value, fact_exists, WellRanged, IsBegun, After, LeadsToEnd, Leads, leads_line, after_ends, ends_split, one_ended, done, read, process_node, a_line, repeat, each, a_list, TaskLine, fact, effect, head, TaskSlot, word_slot, name_slot, number_slot, signed_slot, fact_slot, effect_slot, head_slot, task_slot, task_line_bytes, task_layout, task_format, TaskLineFits, TaskProcess, TaskPart, name_in, number_in, signed_in, fact_in, effect_in, head_in, any, positive, may_change, effect_may_stand, head_may_stand, a_word, a_name, a_number, a_signed, a_fact, an_effect, a_head, a_value, a_version, a_metric, a_variable, a_group, a_state, a_goal, an_operator, a_rule, task_start, Bounded, fact_bounds, change_bounds, line_bounds, and_from}
 use Rattle.sas_reader.proofs.Paths.{map-append}
-use Rattle.sas_task_format.proofs.TaskSections.{and_both}
 use Rattle.sas_task_format.proofs.TaskGrammar.{task_grammar}
 use Rattle.sas_task_format.proofs.WrongWords.{AllStand, HasBounds, ranges_in, range_is}
 
@@ -19,11 +18,11 @@ module _ (vs : List Variable) where
   facts_pass [] more h = (refl, h)
   facts_pass (f ∷ fs) more h =
       let others = facts_pass fs more h.1.1 in
-      (and_both (fact_exists vs f) (list_all (fact_exists vs) fs) (has f.var f.value h.1.0) others.0, others.1)
+      (and_from (fact_exists vs f) (list_all (fact_exists vs) fs) (has f.var f.value h.1.0) others.0, others.1)
 
   change_passes : (var : ℕ) (old : Option ℕ) (new : ℕ) → AllStand (change_bounds ranges var old new) → IsTrue (may_change vs var old new)
   change_passes var None new h = has var new h.1.1.0
-  change_passes var (Some x) new h = and_both (has_value vs var x) (has_value vs var new) (has var x h.1.0) (has var new h.1.1.0)
+  change_passes var (Some x) new h = and_from (has_value vs var x) (has_value vs var new) (has var x h.1.0) (has var new h.1.1.0)
 
   fact_passes : (i : TaskLine) → task_slot i ≡ fact_slot → AllStand (line_bounds ranges i) → IsTrue (fact_exists vs (fact_in i))
   fact_passes (fact f) s h = has f.var f.value h.1.0
@@ -32,7 +31,7 @@ module _ (vs : List Variable) where
   effect_passes : (i : TaskLine) → task_slot i ≡ effect_slot → AllStand (line_bounds ranges i) → IsTrue (effect_may_stand vs (effect_in i))
   effect_passes (effect e) s h =
       let conditions = facts_pass e.conditions (change_bounds ranges e.var e.old e.new) h.1 in
-      and_both (list_all (fact_exists vs) e.conditions) (may_change vs e.var e.old e.new) conditions.0 (change_passes e.var e.old e.new conditions.1)
+      and_from (list_all (fact_exists vs) e.conditions) (may_change vs e.var e.old e.new) conditions.0 (change_passes e.var e.old e.new conditions.1)
   effect_passes _ s h = absurd cc
 
   head_passes : (i : TaskLine) → task_slot i ≡ head_slot → AllStand (line_bounds ranges i) → IsTrue (head_may_stand vs (head_in i))

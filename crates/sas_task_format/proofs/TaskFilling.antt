@@ -1,6 +1,6 @@
 -- Lines that begin a task can be completed by fillings, in exactly one way.
 use Rattle.std.proofs.lemmas.Grind.{common_steps}
-use Rattle.sas_task_format.proofs.Imports.{◌≡◌, ℕ, zero, suc, ◌<◌, ◌+◌, Bool, List, [], ◌∷◌, ◌++◌, length, refl, sym, ap, subst, ◌∙◌, arith, IsTrue, Option, Some, None, codes, nat_lt, ◌==◌, length-append, AllByRecursion, decimal, decimal_digit, Variable, Parts, IsNumber, range_of, IsAllowed, After, LeadsToEnd, cut_at, ends_split, after_ends, same_path, one_ended, done, read, process_node, repeat, each, a_list, TaskLine, number, TaskSlot, word_slot, name_slot, signed_slot, fact_slot, head_slot, task_slot, task_line_bytes, task_layout, task_format, TaskLineFits, TaskProcess, TaskPart, any, positive, a_word, a_name, a_number, a_signed, a_fact, an_effect, a_head, a_value, a_version, a_metric, a_variable, a_group, a_state, a_goal, an_operator, a_rule, a_task, task_start, number_filling, filling, FillingsInBytes, last_slot, AreFillings, Completion, TaskIsFilled, OneCompletion}
+use Rattle.sas_task_format.proofs.Imports.{◌≡◌, ℕ, zero, suc, ◌<◌, ◌+◌, Bool, List, [], ◌∷◌, ◌++◌, length, refl, sym, ap, subst, ◌∙◌, arith, IsTrue, Option, Some, None, codes, nat_lt, ◌==◌, length-append, AllByRecursion, decimal, decimal_digit, Variable, Parts, IsNumber, range_of, IsAllowed, After, LeadsToEnd, cut_at, ends_split, after_ends, same_path, one_ended, done, read, process_node, repeat, each, a_list, TaskLine, TaskSlot, word_slot, name_slot, signed_slot, fact_slot, head_slot, task_slot, task_line_bytes, task_layout, task_format, TaskLineFits, TaskProcess, TaskPart, any, positive, a_word, a_name, a_number, a_signed, a_fact, an_effect, a_head, a_value, a_version, a_metric, a_variable, a_group, a_state, a_goal, an_operator, a_rule, a_task, task_start, number_filling, filling, FillingsInBytes, last_slot, AreFillings, Completion, TaskIsFilled, OneCompletion}
 use Rattle.sas_task_format.proofs.Sections.{Always}
 use Rattle.sas_task_format.proofs.TaskSections.{less, is_less}
 use Rattle.sas_task_format.proofs.TaskGrammar.{task_grammar}

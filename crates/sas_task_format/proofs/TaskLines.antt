@@ -1,7 +1,7 @@
 -- A line of a task has one meaning at a slot, its fault has one kind, and it contains no LF and no
 -- CR.
 use Rattle.std.proofs.lemmas.Grind.{common_steps}
-use Rattle.sas_task_format.proofs.Imports.{◌≡◌, ℕ, List, [], ◌∷◌, ◌++◌, length, refl, sym, ap, subst, ◌∙◌, arith, Option, flat_map, AllByRecursion, decimal, Fact, Effect, IsNumber, IsSigned, signed_decimal, NoSpace, same_words, NoSpace-number, NoSpace-signed, same_signed, Kind, Keyword, Name, Shape, Value, decimal_injective, TaskLine, word, name, number, signed, fact, effect, head, TaskSlot, word_slot, name_slot, number_slot, signed_slot, fact_slot, effect_slot, head_slot, task_slot, fact_words, head_words, task_line_bytes, TaskLineFits, FactNumbers, HeadNumbers, EffectNumbers, NumbersKind, no_shape, no_value, TaskKind, number_in, signed_in, fact_in, effect_in, head_in}
+use Rattle.sas_task_format.proofs.Imports.{◌≡◌, ℕ, List, [], ◌∷◌, ◌++◌, length, refl, sym, ap, subst, ◌∙◌, arith, Option, flat_map, AllByRecursion, decimal, Fact, Effect, IsNumber, IsSigned, signed_decimal, NoSpace, same_words, NoSpace-number, NoSpace-signed, same_signed, Kind, Keyword, Name, Shape, Value, decimal_injective, TaskLine, word, name, number, signed, fact, effect, head, TaskSlot, word_slot, name_slot, number_slot, signed_slot, fact_slot, effect_slot, head_slot, task_slot, fact_words, head_words, task_line_bytes, TaskLineFits, FactNumbers, HeadNumbers, EffectNumbers, NumbersKind, no_shape, no_value, TaskKind, number_in, signed_in, fact_in, effect_in, head_in, fact_same}
 use Rattle.sas_task_format.proofs.TaskSections.{word_is, name_is, number_is, signed_is, fact_is, effect_is, head_is}
 
 -- ---- one meaning
@@ -9,11 +9,8 @@ use Rattle.sas_task_format.proofs.TaskSections.{word_is, name_is, number_is, sig
 number_same : (m n : ℕ) → IsNumber m → IsNumber n → decimal m ≡ decimal n → m ≡ n
 number_same m n h k e = decimal_injective m n (omega arith) (omega arith) e
 
-fact_fields : (f g : Fact) → f.var ≡ g.var → f.value ≡ g.value → f ≡ g
-fact_fields f g a b = ap (λ (x : ℕ). let r : Fact = record { var = x; value = f.value } in r) a ∙ ap (λ (x : ℕ). let r : Fact = record { var = g.var; value = x } in r) b
-
 same_fact_words : (f g : Fact) (ws vs : List (List ℕ)) → FactNumbers f → FactNumbers g → fact_words f ++ ws ≡ fact_words g ++ vs → (f ≡ g) × (ws ≡ vs)
-same_fact_words f g ws vs h k e = grind (arith, common_steps, fact_fields, number_same)
+same_fact_words f g ws vs h k e = grind (arith, common_steps, fact_same, number_same)
 
 same_fact : (f g : Fact) → FactNumbers f → FactNumbers g → task_line_bytes (fact f) ≡ task_line_bytes (fact g) → f ≡ g
 same_fact f g h k e =

@@ -1,5 +1,5 @@
 -- No line of a well ranged task contains LF or CR.
-use Rattle.sas_task_format.proofs.Imports.{ℕ, ◌<◌, Bool, true, false, List, [], ◌∷◌, ◌++◌, length, map, refl, arith, IsTrue, Option, Some, None, codes, flat_map, list_all, AllByRecursion, decimal, Fact, Variable, Effect, Operator, Rule, Parts, is_plain, IsName, IsNumber, IsSigned, FactExists, Listed, VariableFits, EffectFits, OperatorFits, RuleFits, WellRanged, signed_decimal, joined, lines_of, Paired, TaskLine, word, name, number, signed, fact, effect, head, fact_words, head_words, effect_words, task_line_bytes, TaskLineFits, FactNumbers, HeadNumbers, EffectNumbers, line, between, counted, version_lines, metric_lines, variable_lines, group_lines, goal_lines, operator_lines, rule_lines, task_layout, task_texts, IsPlain, plain-decimal, plain_bytes, plain-name, plain-append}
+use Rattle.sas_task_format.proofs.Imports.{ℕ, ◌<◌, Bool, true, false, List, [], ◌∷◌, ◌++◌, length, map, refl, arith, IsTrue, Option, Some, None, codes, flat_map, list_all, AllByRecursion, decimal, Fact, Variable, Effect, Operator, Rule, Parts, is_plain, IsName, IsNumber, IsSigned, FactExists, Listed, VariableFits, EffectFits, OperatorFits, RuleFits, WellRanged, signed_decimal, joined, lines_of, Paired, TaskLine, word, name, number, signed, fact, effect, head, fact_words, head_words, effect_words, task_line_bytes, TaskLineFits, FactNumbers, HeadNumbers, EffectNumbers, line, between, counted, version_lines, metric_lines, variable_lines, group_lines, goal_lines, operator_lines, rule_lines, task_layout, task_texts, IsPlain, plain-decimal, plain-name, plain-append}
 use Rattle.sas_task_format.proofs.TaskSections.{Known, known, Ranged, InRange, state_paired, fact_numbers, effect_numbers, change_numbers}
 
 -- ---- one line
@@ -8,13 +8,13 @@ plain-number : (n : ℕ) → IsNumber n → IsPlain (decimal n)
 plain-number n h = plain-decimal n
 
 plain-signed : (n : Option ℕ) → IsSigned n → IsPlain (signed_decimal n)
-plain-signed None h = plain_bytes (codes "-1") refl
+plain-signed None h = refl
 plain-signed (Some n) h = plain-number n h
 
 plain-joined : (words : List (List ℕ)) → AllByRecursion IsPlain words → IsPlain (joined words)
-plain-joined [] h = tt
+plain-joined [] h = refl
 plain-joined (w ∷ []) h = h.0
-plain-joined (w ∷ v ∷ ws) h = plain-append w (32 ∷ joined (v ∷ ws)) h.0 ((omega arith, omega arith), plain-joined (v ∷ ws) h.1)
+plain-joined (w ∷ v ∷ ws) h = plain-append w (32 ∷ joined (v ∷ ws)) h.0 (plain-joined (v ∷ ws) h.1)
 
 plain-facts : (facts : List Fact) (words : List (List ℕ)) → AllByRecursion FactNumbers facts → AllByRecursion IsPlain words → AllByRecursion IsPlain (flat_map fact_words facts ++ words)
 plain-facts [] words h g = g
@@ -28,12 +28,12 @@ plain-effect e h = (plain-number (length e.conditions) h.count, plain-facts e.co
 
 -- a word or a name without LF and CR, or numbers that a file can spell
 abbrev pub Sayable : TaskLine → Type 0
-Sayable (word w) = IsTrue (list_all is_plain w)
+Sayable (word w) = IsPlain w
 Sayable (name bytes) = IsName bytes
 Sayable i = TaskLineFits i
 
 pub plain-line : (i : TaskLine) → Sayable i → IsPlain (task_line_bytes i)
-plain-line (word w) h = plain_bytes w h
+plain-line (word w) h = h
 plain-line (name bytes) h = plain-name bytes h
 plain-line (number n) h = plain-number n h
 plain-line (signed n) h = plain-signed n h

@@ -1,5 +1,5 @@
 -- The sections of task files.
-use Rattle.sas_task_format.proofs.Imports.{◌≡◌, ℕ, zero, suc, ◌<◌, Bool, true, false, ◌&&◌, List, [], ◌∷◌, ◌++◌, length, refl, sym, ap, subst, ◌∙◌, append_assoc, arith, IsTrue, rules, Some, None, Option, codes, nat_lt, ◌==◌, slice_index, if◌then◌else◌, list_all, AllByRecursion, ltb-true, eqb-true, Fact, Variable, Effect, IsName, IsNumber, IsSigned, range_of, HasValue, has_value, MayHaveValue, done, Paired, a_list, TaskLine, word, name, number, signed, fact, effect, head, word_slot, name_slot, number_slot, signed_slot, fact_slot, effect_slot, head_slot, task_slot, FactNumbers, HeadNumbers, EffectNumbers, line, between, counted, version_lines, metric_lines, variable_lines, group_lines, state_lines, goal_lines, operator_lines, rule_lines, task_layout, task_format, TaskLineFits, TaskPart, name_in, number_in, signed_in, fact_in, effect_in, Head, head_in, any, positive, may_change, effect_may_stand, a_word, a_name, a_number, a_signed, a_fact, an_effect, a_head, a_value, a_version, a_metric, a_variable, a_group, a_state, a_goal, an_operator, a_rule, a_task, FactExists, fact_exists, IsState, Listed, VariableFits, EffectFits, OperatorFits, RuleFits, WellRanged}
+use Rattle.sas_task_format.proofs.Imports.{◌≡◌, ℕ, zero, suc, ◌<◌, Bool, true, false, List, [], ◌∷◌, ◌++◌, length, refl, sym, ap, subst, ◌∙◌, append_assoc, arith, IsTrue, rules, Some, None, Option, codes, nat_lt, ◌==◌, slice_index, if◌then◌else◌, list_all, AllByRecursion, ltb-true, eqb-true, Fact, Variable, Effect, IsName, IsNumber, IsSigned, range_of, HasValue, has_value, MayHaveValue, done, Paired, a_list, TaskLine, word, name, number, signed, fact, effect, head, word_slot, name_slot, number_slot, signed_slot, fact_slot, effect_slot, head_slot, task_slot, FactNumbers, HeadNumbers, EffectNumbers, line, between, counted, version_lines, metric_lines, variable_lines, group_lines, state_lines, goal_lines, operator_lines, rule_lines, task_layout, task_format, TaskLineFits, TaskPart, name_in, number_in, signed_in, fact_in, effect_in, Head, head_in, any, positive, may_change, effect_may_stand, a_word, a_name, a_number, a_signed, a_fact, an_effect, a_head, a_value, a_version, a_metric, a_variable, a_group, a_state, a_goal, an_operator, a_rule, a_task, FactExists, fact_exists, IsState, Listed, VariableFits, EffectFits, OperatorFits, RuleFits, WellRanged, and_from, and_parts}
 use Rattle.sas_task_format.proofs.Sections.{Always, LineFor, Section, leaf, silent, both, ◌then◌, converted, restated, within, list, for_each, Meets, meets}
 
 -- ---- tests
@@ -10,17 +10,9 @@ less a b h = search rules
 pub is_less : (a b : ℕ) → IsTrue (nat_lt a b) → a < b
 is_less a b h = ltb-true a b h
 
-pub and_both : (a b : Bool) → IsTrue a → IsTrue b → IsTrue (a && b)
-and_both true b g h = h
-and_both false b g h = absurd cc
-
-pub and_parts : (a b : Bool) → IsTrue (a && b) → IsTrue a × IsTrue b
-and_parts true b h = (refl, h)
-and_parts false b h = absurd cc
-
 all_tests : {A : Type 0} (P : A → Type 0) (p : A → Bool) → ((a : A) → P a → IsTrue (p a)) → (xs : List A) → AllByRecursion P xs → IsTrue (list_all p xs)
 all_tests P p f [] g = refl
-all_tests P p f (x ∷ xs) g = and_both (p x) (list_all p xs) (f x g.0) (all_tests P p f xs g.1)
+all_tests P p f (x ∷ xs) g = and_from (p x) (list_all p xs) (f x g.0) (all_tests P p f xs g.1)
 
 all_tested : {A : Type 0} (P : A → Type 0) (p : A → Bool) → ((a : A) → IsTrue (p a) → P a) → (xs : List A) → IsTrue (list_all p xs) → AllByRecursion P xs
 all_tested P p f [] g = tt
@@ -194,7 +186,7 @@ Changes vs var old new = MayHaveValue vs var old × HasValue vs var new
 
 pub change_test : (vs : List Variable) (var : ℕ) (old : Option ℕ) (new : ℕ) → Changes vs var old new → IsTrue (may_change vs var old new)
 change_test vs var None new g = less new (range_of vs var) g.1
-change_test vs var (Some x) new g = and_both (has_value vs var x) (has_value vs var new) (less x (range_of vs var) g.0) (less new (range_of vs var) g.1)
+change_test vs var (Some x) new g = and_from (has_value vs var x) (has_value vs var new) (less x (range_of vs var) g.0) (less new (range_of vs var) g.1)
 
 pub change_tested : (vs : List Variable) (var : ℕ) (old : Option ℕ) (new : ℕ) → IsTrue (may_change vs var old new) → Changes vs var old new
 change_tested vs var None new t = (tt, is_less new (range_of vs var) t)
@@ -209,7 +201,7 @@ change_numbers vs k var old new g = (k.below var new g.1, old_signed vs k var ol
 
 pub effect_test : (vs : List Variable) (e : Effect) → EffectFits vs e → IsTrue (effect_may_stand vs e)
 effect_test vs e g =
-    and_both (list_all (fact_exists vs) e.conditions) (may_change vs e.var e.old e.new)
+    and_from (list_all (fact_exists vs) e.conditions) (may_change vs e.var e.old e.new)
     (all_tests (FactExists vs) (fact_exists vs) (λ f h. less f.value (range_of vs f.var) h) e.conditions g.conditions.each)
     (change_test vs e.var e.old e.new (g.old, g.new))
 

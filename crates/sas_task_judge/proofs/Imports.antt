@@ -33,7 +33,7 @@ pub use Rattle.sas_reader.specs.declared.reader.Front.{Front}
 pub use Rattle.sas_task_format.proofs.DueBehind.{HasFacts, end_mark, ranges_behind, is_due, speaks_behind_variables}
 pub use Rattle.sas_task_format.proofs.MarkLaws.{same_items}
 pub use Rattle.sas_task_format.proofs.TaskGrammar.{task_grammar}
-pub use Rattle.sas_task_format.proofs.TaskSections.{less, and_both, and_parts}
+pub use Rattle.sas_task_format.proofs.TaskSections.{less}
 pub use Rattle.sas_task_format.proofs.Tracking.{IsBehindVariables, track-append}
 pub use Rattle.sas_task_format.proofs.WrongWords.{HasBounds, same_bounds}
 pub use Rattle.sas_task_format.specs.Marks.{slot_of_due, IsDue}
@@ -64,3 +64,4 @@ pub use Rattle.sas_task_judge.specs.TaskMachine.{LedBy, MachineStopped}
 pub use Rattle.sas_task_judge.specs.TaskPlaces.{variable_begin, variable_values, group_begin, group_facts, state_values_of, goal_facts, operator_begin, operator_prevail, operator_effects, rule_begin, rule_conditions, state_values, goal_begin}
 pub use Rattle.sas_task_judge.specs.declared.task_judge.TaskJudge.{TaskJudge}
 pub use Rattle.sas_task_judge.specs.declared.task_machine.TaskMachine.{TaskMachine}
+pub use Rattle.std.proofs.lemmas.Bool.{and_from, and_parts}

@@ -1,5 +1,5 @@
 -- The lines of a variable, a mutex group, an operator or a rule lead through this part of a task.
-use Rattle.sas_task_judge.proofs.Imports.{◌≡◌, ℕ, Bool, List, [], ◌∷◌, ◌++◌, length, refl, sym, ap, subst, ◌∙◌, append_assoc, IsTrue, codes, append-nil, AllByRecursion, flat_map, list_all, Fact, Effect, Operator, Rule, Variable, After, process_node, a_line, repeat, TaskLine, word, name, number, name_slot, fact, effect, head, TaskSlot, task_slot, fact_slot, effect_slot, task_format, TaskLineFits, line, variable_lines, group_lines, operator_lines, rule_lines, TaskProcess, name_in, fact_in, effect_in, effect_may_stand, a_name, a_fact, an_effect, a_variable, a_group, an_operator, a_rule, less, and_both, and_parts, IsName, is_name, fact_exists, HasNames, OperatorInRanges, RuleInRanges, ranges_of, fact_in_ranges, effect_in_ranges}
+use Rattle.sas_task_judge.proofs.Imports.{◌≡◌, ℕ, Bool, List, [], ◌∷◌, ◌++◌, length, refl, sym, ap, subst, ◌∙◌, append_assoc, IsTrue, codes, append-nil, AllByRecursion, flat_map, list_all, Fact, Effect, Operator, Rule, Variable, After, process_node, a_line, repeat, TaskLine, word, name, number, name_slot, fact, effect, head, TaskSlot, task_slot, fact_slot, effect_slot, task_format, TaskLineFits, line, variable_lines, group_lines, operator_lines, rule_lines, TaskProcess, name_in, fact_in, effect_in, effect_may_stand, a_name, a_fact, an_effect, a_variable, a_group, an_operator, a_rule, less, and_from, and_parts, IsName, is_name, fact_exists, HasNames, OperatorInRanges, RuleInRanges, ranges_of, fact_in_ranges, effect_in_ranges}
 use Rattle.sas_task_judge.proofs.TaskRanges.{facts_are, effects_are, change_is}
 
 -- the lines lead from one state to the other
@@ -27,7 +27,7 @@ module _ {A : Type 0} (slot : TaskSlot) (ok : A → Bool) (back : TaskLine → A
 -- n names
 all_named : (names : List (List ℕ)) → AllByRecursion IsName names → IsTrue (list_all is_name names)
 all_named [] good = refl
-all_named (n ∷ names) good = and_both (is_name n) (list_all is_name names) good.0 (all_named names good.1)
+all_named (n ∷ names) good = and_from (is_name n) (list_all is_name names) good.0 (all_named names good.1)
 
 names_on : (k : List (List ℕ) → TaskProcess) (names : List (List ℕ)) (rest : List TaskLine) (q : TaskProcess) → AllFit (flat_map (line name) names ++ rest) → AllByRecursion IsName names
     → (AllFit rest → GoesOn (k names) rest q) → GoesOn (repeat a_name (length names) [] k) (flat_map (line name) names ++ rest) q

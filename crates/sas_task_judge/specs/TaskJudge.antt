@@ -1,5 +1,6 @@
 -- What the judge of the lines of a task file represents: what may still follow the content so far.
 use Rattle.std.specs.Prelude.{◌≡◌, ◌≢◌, ◌⊎◌, ◌<◌, ℕ, ◌+◌, ◌-◌, Bool, List, [], ◌∷◌, ◌++◌, length, Result, Ok, Err, codes}
+use Rattle.sas_core.specs.Names.{IsPlain}
 use Rattle.sas_core.specs.declared.parts.Variable.{Variable}
 use Rattle.sas_reader.specs.declared.fault.Kind.{Kind}
 use Rattle.sas_reader.specs.declared.fault.Kind.TheVariants as kinds
@@ -12,7 +13,7 @@ use Rattle.sas_task_judge.specs.declared.task_judge.sections.Section.TheVariants
 use Rattle.sas_task_judge.specs.declared.task_judge.TaskJudge.{TaskJudge}
 use Rattle.sas_reader.specs.Faults.{IsOfBytes}
 use Rattle.sas_task_format.specs.Process.{process_node, ◌>>◌}
-use Rattle.sas_reader.specs.System.{OneLine, Rejects, IsAllowed, IsPlain}
+use Rattle.sas_reader.specs.System.{OneLine, Rejects, IsAllowed}
 use Rattle.sas_task_format.specs.Tracker.{Tracker, step}
 use Rattle.sas_task_line.specs.TaskEvents.{after}
 use Rattle.sas_task_format.specs.TaskFormat.{TaskLine, fact, task_slot, task_line_bytes, task_format, TaskLineFits}

@@ -1,6 +1,6 @@
 -- What the proofs use of other crates, and of the definitions of this one.
 pub use Rattle.std.proofs.Common.{◌≡◌, ℕ, zero, suc, ◌+◌, ◌*◌, ◌-◌, ◌<◌, ◌≤◌, ◌^◌, List, [], ◌∷◌, ◌++◌, length, take, drop, refl, sym, ap, subst, ◌∙◌, append-nil, append_assoc, length-append, arith, Option, None, get_or, true, false, Bool, not, ◌&&◌, ◌==◌, IsTrue, ◌/◌, ◌%◌, codes, ◌≢◌, Some, if◌then◌else◌, slice_get, rules, ap₂}
-pub use Rattle.std.proofs.lemmas.Bool.{and_parts, eqb-true}
+pub use Rattle.std.proofs.lemmas.Bool.{and_parts, eqb-true, and_from}
 pub use Rattle.std.proofs.lemmas.Bool.Decides.{nat_tests, Decides-eqb}
 pub use Rattle.std.proofs.lemmas.Fmt.{decimal_digit, decimal_step, decimal_injective}
 pub use Rattle.std.proofs.lemmas.Grind.{flat_map-append, common_steps}
@@ -11,7 +11,7 @@ pub use Rattle.std.proofs.lemmas.Slice.Eq.{slice_eq-Decides}
 pub use Rattle.std.specs.Fmt.{decimal}
 pub use Rattle.std.specs.List.{list_all, flat_map, AllByRecursion}
 pub use Rattle.sas_core.specs.Changes.{plain_effect}
-pub use Rattle.sas_core.specs.Names.{is_plain, IsName, is_name}
+pub use Rattle.sas_core.specs.Names.{is_plain, IsName, is_name, IsPlain}
 pub use Rattle.sas_core.specs.Numbers.{IsNumber, IsSigned}
 pub use Rattle.sas_core.specs.Variables.{range_of}
 pub use Rattle.sas_core.specs.declared.grounded.Change.{Change}
@@ -19,6 +19,7 @@ pub use Rattle.sas_core.specs.declared.parts.Effect.{Effect}
 pub use Rattle.sas_core.specs.declared.parts.Fact.{Fact}
 pub use Rattle.sas_core.specs.declared.parts.Variable.{Variable}
 pub use Rattle.sas_lines.proofs.Beginnings.{lines_stand_first}
+pub use Rattle.sas_lines.proofs.EndedLines.{text_of_both}
 pub use Rattle.sas_lines.proofs.Splitting.{Plain}
 pub use Rattle.sas_lines.proofs.Words.{NoSpace, NoSpace-number, NoSpace-signed, words-joined, joined-words}
 pub use Rattle.sas_lines.specs.FirstLines.{LinesStandFirst}
@@ -27,7 +28,7 @@ unfoldable pub use Rattle.sas_lines.specs.Parts.{parts}
 pub use Rattle.sas_lines.specs.Spelling.{signed_decimal, joined}
 pub use Rattle.sas_reader.proofs.Plain.{plain}
 pub use Rattle.sas_reader.specs.Faults.{IsOfBytes}
-pub use Rattle.sas_reader.specs.System.{IsPlain, IsRejected}
+pub use Rattle.sas_reader.specs.System.{IsRejected}
 pub use Rattle.sas_reader.specs.declared.fault.Kind.{Kind}
 pub use Rattle.sas_reader.specs.declared.fault.Kind.TheVariants.{Shape, Value, Memory}
 pub use Rattle.sas_reader.specs.declared.reader.Front.{Front}

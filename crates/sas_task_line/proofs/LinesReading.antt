@@ -1,5 +1,5 @@
 -- Reading several lines, each up to its LF.
-use Rattle.sas_task_line.proofs.Imports.{◌≡◌, ℕ, ◌+◌, ◌-◌, ◌<◌, Bool, ◌&&◌, List, [], ◌∷◌, ◌++◌, length, take, Option, refl, sym, ap, subst, ◌∙◌, append-nil, append_assoc, length-append, arith, IsTrue, codes, flat_map, list_all, AllByRecursion, and_parts, flat_map-append, map-append, take_at, length-map, list_all-append, Fact, is_name, IsName, Change, Effect, text, LinesStandFirst, lines_stand_first, Plain, LineAhead, NumberAhead, LinesBefore, CountedBefore, AppendedBefore, spelled, LinesAhead, VariableAhead, GroupAhead, OperatorAhead, RuleAhead, fact_in_ranges, effect_in_ranges, change_in_ranges, Front, plain, IsPlain, TaskLine, word, name, number, signed, fact, effect, head, line, task_line_bytes, TaskLineFits, variable_lines, group_lines, operator_lines, rule_lines}
+use Rattle.sas_task_line.proofs.Imports.{◌≡◌, ℕ, ◌+◌, ◌-◌, ◌<◌, Bool, List, [], ◌∷◌, ◌++◌, length, take, Option, refl, sym, ap, subst, ◌∙◌, append-nil, append_assoc, length-append, arith, IsTrue, codes, flat_map, list_all, AllByRecursion, and_parts, flat_map-append, map-append, take_at, length-map, list_all-append, Fact, is_name, IsName, Change, Effect, text, LinesStandFirst, lines_stand_first, Plain, LineAhead, NumberAhead, LinesBefore, CountedBefore, AppendedBefore, spelled, LinesAhead, VariableAhead, GroupAhead, OperatorAhead, RuleAhead, fact_in_ranges, effect_in_ranges, change_in_ranges, Front, plain, IsPlain, TaskLine, word, name, number, signed, fact, effect, head, line, task_line_bytes, TaskLineFits, variable_lines, group_lines, operator_lines, rule_lines, text_of_both, and_from}
 use Rattle.sas_flat.specs.Operators as flat
 use Rattle.sas_flat.specs.Rules as flat_rules
 use Rattle.sas_flat.specs.Variables as flat_variables
@@ -14,12 +14,9 @@ All-append P (x ∷ xs) ys h g = (h.0, All-append P xs ys h.1 g)
 spelled-append : (a b : List TaskLine) → spelled (a ++ b) ≡ spelled a ++ spelled b
 spelled-append a b = map-append task_line_bytes a b
 
-text-append : (a b : List (List ℕ)) → text (a ++ b) ≡ text a ++ text b
-text-append a b = flat_map-append (λ (l : List ℕ). l ++ 10 ∷ []) a b
-
 pub lines_then : {a b : List TaskLine} {bytes more rest : List ℕ} → LinesBefore a bytes more → LinesBefore b more rest → LinesBefore (a ++ b) bytes rest
 lines_then {a = a} {b = b} {bytes = bytes} {more = more} {rest = rest} h g =
-    let both : text (spelled (a ++ b)) ≡ text (spelled a) ++ text (spelled b) = ap text (spelled-append a b) ∙ text-append (spelled a) (spelled b) in
+    let both : text (spelled (a ++ b)) ≡ text (spelled a) ++ text (spelled b) = ap text (spelled-append a b) ∙ text_of_both (spelled a) (spelled b) in
     record {
       fits = All-append TaskLineFits a b h.fits g.fits;
       plain = subst (AllByRecursion IsPlain) (sym (spelled-append a b)) (All-append IsPlain (spelled a) (spelled b) h.plain g.plain);
@@ -40,15 +37,12 @@ module _ {A : Type 0} (says : A → TaskLine) (may_stand : A → Bool) where
   pub none_yet : (count : ℕ) {bytes rest : List ℕ} → NumberAhead bytes count 10 rest → CountedBefore says may_stand count [] bytes rest
   none_yet count h = record { lines = one_line (number_is_ahead _ _ count h); stand = refl }
 
-  both_true : (a b : Bool) → IsTrue a → IsTrue b → IsTrue (a && b)
-  both_true a b h g = cc
-
   pub one_more : {count : ℕ} (xs : List A) (x : A) {bytes more rest : List ℕ} → CountedBefore says may_stand count xs bytes more → LineAhead (says x) more rest → IsTrue (may_stand x) → CountedBefore says may_stand count (xs ++ x ∷ []) bytes rest
   one_more {count = count} xs x {bytes = bytes} {rest = rest} h g may =
       let more_lines : number count ∷ flat_map (line says) (xs ++ x ∷ []) ≡ (number count ∷ flat_map (line says) xs) ++ says x ∷ [] = ap (λ l. number count ∷ l) (flat_map-append (line says) xs (x ∷ [])) in
       record {
         lines = subst (λ l. LinesBefore l bytes rest) (sym more_lines) (lines_then h.lines (one_line g));
-        stand = list_all-append may_stand xs (x ∷ []) ∙ both_true (list_all may_stand xs) (list_all may_stand (x ∷ [])) h.stand (both_true (may_stand x) _ may refl);
+        stand = list_all-append may_stand xs (x ∷ []) ∙ and_from (list_all may_stand xs) (list_all may_stand (x ∷ [])) h.stand (and_from (may_stand x) _ may refl);
       }
 
   -- the same, where the items are appended to a list

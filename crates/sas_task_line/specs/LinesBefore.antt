@@ -2,10 +2,9 @@
 use Rattle.std.specs.Prelude.{◌≡◌, Bool, ℕ, List, ◌∷◌, ◌++◌, length, IsTrue}
 use Rattle.std.specs.List.{flat_map, list_all, AllByRecursion}
 use Rattle.sas_core.specs.declared.parts.Fact.{Fact}
-use Rattle.sas_core.specs.Names.{is_name}
+use Rattle.sas_core.specs.Names.{is_name, IsPlain}
 use Rattle.sas_core.specs.declared.parts.Effect.{Effect}
 use Rattle.sas_lines.specs.Lines.{text}
-use Rattle.sas_reader.specs.System.{IsPlain}
 use Rattle.sas_task_format.specs.TaskFormat.{TaskLine, name, number, fact, effect, line, TaskLineFits}
 use Rattle.sas_task_line.specs.Sections.{spelled}
 use Rattle.sas_task_line.specs.TaskRanges.{fact_in_ranges, effect_in_ranges}

@@ -24,7 +24,7 @@ none_passes test facts none = λ k d lt. elim (cases_lt (position_or_len test fa
 
 -- ---- facts on derived variables
 
-is_basic : (layer : Option ℕ) → is_some layer ≡ false → layer ≡ None
+pub is_basic : (layer : Option ℕ) → is_some layer ≡ false → layer ≡ None
 is_basic None is = refl
 is_basic (Some layer) is = absurd cc
 

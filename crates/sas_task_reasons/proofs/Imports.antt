@@ -24,7 +24,7 @@ pub use Rattle.sas_core.specs.declared.parts.Parts.{Parts}
 pub use Rattle.sas_core.specs.declared.parts.Rule.{Rule}
 pub use Rattle.sas_groups.proofs.Effects.{keeps_from_effects, effect_of_keeps}
 pub use Rattle.sas_groups.proofs.GreatestFamily.{clash_more, keeps_more, all_keep_more, group_of_larger}
-pub use Rattle.sas_groups.proofs.Invariance.{fact_same}
+pub use Rattle.sas_core.proofs.SameParts.{fact_same}
 pub use Rattle.sas_groups.proofs.JointLists.{one_list, some_list}
 pub use Rattle.sas_groups.proofs.JointVerdicts.{same_or_itself}
 pub use Rattle.sas_groups.proofs.Iff.{iff_not}
@@ -60,7 +60,7 @@ pub use Rattle.sas_mutex.specs.Firing.{EffectPlace, operator_of}
 pub use Rattle.sas_mutex.specs.Marks.{IsClean}
 pub use Rattle.sas_output.proofs.Pushed.{pushes_then}
 pub use Rattle.sas_output.proofs.Sent.{ends_counting_as, writes_as}
-pub use Rattle.sas_output.proofs.Texts.{text_of_both}
+pub use Rattle.sas_lines.proofs.EndedLines.{text_of_both}
 pub use Rattle.sas_output.specs.Ending.{Output, output_of}
 pub use Rattle.sas_output.specs.Line.{reasons_text}
 pub use Rattle.sas_output.specs.Sink.{Pushes}

@@ -1,7 +1,8 @@
 -- All that the lines of reasons name exists, where the fault is the first of a task's layers.
 use Rattle.std.proofs.Common.{arith}
 use Rattle.std.proofs.lemmas.Grind.{common_steps}
-use Rattle.sas_task_reasons.proofs.Imports.{◌≡◌, ℕ, ◌<◌, ◌==◌, Bool, true, false, List, [], length, take, get_or, refl, subst, inl, inr, eq-eqb, Option, Some, None, if◌then◌else◌, not, is_some, IsSome, option_map_or, Fact, Effect, Operator, Rule, Parts, Check, check, operator_at, effect_at, rule_at, layer_of, LayerFault, EffectOnDerived, RuleOnBasic, OldValue, TwoValues, LayerOrder, IsReportedOld, IsWhole, LayerReasonsAreWhole, default_of, can_fire, numbered_checks, effect_layer_checks, operator_layer_checks, agrees_with, looks_down, firing_checks, rule_layer_checks, layer_checks}
+use Rattle.sas_task_reasons.proofs.GroupReasons.{is_basic}
+use Rattle.sas_task_reasons.proofs.Imports.{◌≡◌, ℕ, ◌<◌, ◌==◌, Bool, true, false, List, [], length, take, get_or, subst, inl, inr, eq-eqb, Option, Some, None, if◌then◌else◌, not, is_some, IsSome, option_map_or, Fact, Effect, Operator, Rule, Parts, Check, check, operator_at, effect_at, rule_at, layer_of, LayerFault, EffectOnDerived, RuleOnBasic, OldValue, TwoValues, LayerOrder, IsReportedOld, IsWhole, LayerReasonsAreWhole, default_of, can_fire, numbered_checks, effect_layer_checks, operator_layer_checks, agrees_with, looks_down, firing_checks, rule_layer_checks, layer_checks}
 use Rattle.sas_task_reasons.proofs.FailingChecks.{IsFirst, check_fails, guarded_fails, either_fails, numbered_fails}
 use Rattle.sas_task_reasons.proofs.OtherGivers.{other_reported}
 
@@ -10,10 +11,6 @@ use Rattle.sas_task_reasons.proofs.OtherGivers.{other_reported}
 has_layer : (layer : Option ℕ) → not (is_some layer) ≡ false → IsSome layer
 has_layer None e = absurd cc
 has_layer (Some layer) e = search
-
-no_layer : (layer : Option ℕ) → is_some layer ≡ false → layer ≡ None
-no_layer None e = refl
-no_layer (Some layer) e = absurd cc
 
 both_layers : (a b : Option ℕ) (test : ℕ → ℕ → Bool) → option_map_or (λ here. option_map_or (λ its. test here its) b true) a true ≡ false → IsSome a × IsSome b
 both_layers None b test e = absurd cc
@@ -84,7 +81,7 @@ module _ (p : Parts) where
         let layer = layer_of p.variables rule.var in
         let firing = firing_checks p place rule in
         elim (either_fails (check (is_some layer) (RuleOnBasic place)) (if can_fire p rule then firing else []) e is) [
-          | inl basic ↦ (let fails = check_fails (is_some layer) (RuleOnBasic place) e basic in subst (IsWhole p) fails.1 (within, no_layer layer fails.0))
+          | inl basic ↦ (let fails = check_fails (is_some layer) (RuleOnBasic place) e basic in subst (IsWhole p) fails.1 (within, is_basic layer fails.0))
           | inr fires ↦ firing_whole (guarded_fails (can_fire p rule) firing e fires.1)
         ]
 

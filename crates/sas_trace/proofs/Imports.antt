@@ -19,20 +19,21 @@ pub use Rattle.sas_core.specs.PlanParts.{PlanParts}
 pub use Rattle.sas_core.specs.Variables.{value_name}
 pub use Rattle.sas_core.specs.declared.parts.Fact.{Fact}
 pub use Rattle.sas_core.specs.declared.parts.Parts.{Parts}
+pub use Rattle.sas_lines.proofs.EndedLines.{text_of_both}
 pub use Rattle.sas_lines.specs.Lines.{text}
 pub use Rattle.sas_meaning.proofs.DerivedVariables.{derived_within}
 pub use Rattle.sas_meaning.specs.Layers.{IsLayered}
 pub use Rattle.sas_meaning.specs.declared.touched.Touched.{Touched}
 pub use Rattle.sas_output.proofs.Pushed.{pushes_then, pushes_lost}
 pub use Rattle.sas_output.proofs.Sent.{ends_counting_as}
-pub use Rattle.sas_output.proofs.Texts.{text_of_both, text_of_each}
+pub use Rattle.sas_output.proofs.Texts.{text_of_each}
 pub use Rattle.sas_output.specs.Ending.{Output, output_of}
 pub use Rattle.sas_output.specs.Sink.{Pushes}
 pub use Rattle.sas_output.specs.Words.{line}
 pub use Rattle.sas_output.specs.declared.ending.Status.{Status}
 pub use Rattle.sas_output.specs.declared.ending.Status.TheVariants.{Yes, No}
 pub use Rattle.sas_output.specs.declared.answer.Answer.{Answer}
-pub use Rattle.sas_run.proofs.Executing.{executed_fits}
+pub use Rattle.sas_run.proofs.Executing.{executed_fits, as_many}
 pub use Rattle.sas_run.proofs.PlanVerdicts.{some_verdict, valid_has_no_fault, fault_is_one}
 pub use Rattle.sas_run.proofs.Runs.{some_run, one_run, to_fault, state_fits}
 pub use Rattle.sas_run.specs.Executions.{Executed, Executes, Advances, next_operator}

@@ -6,10 +6,6 @@ module _ (p : Parts) (run : Run) (e : Executed) (printed : List ℕ) (at : HasTr
   pub stands_fits : length e.state ≡ length p.variables
   stands_fits = (executed_fits run e at.executes).one_each ∙ ap (λ (q : Parts). length q.variables) at.task
 
-  -- all its operators are those of the steps
-  pub stands_all : length e.operators ≡ length run.steps
-  stands_all = sym (ap length at.executes.operators) ∙ at.executes.of_plan.through.operators
-
   -- the next step is that of the run
   module _ (k : ℕ) (made : e.made ≡ k) (new : Executed) (operator : ℕ) (advances : Advances e operator new) (along : Executes run new) where
     pub stands_next : (printed' : List ℕ) → printed' ≡ new.state → HasTraced p run new printed'

@@ -1,5 +1,5 @@
 use Rattle.std.proofs.lemmas.Grind.{common_steps}
-use Rattle.sas_reader.proofs.Imports.{refl, ◌≡◌, ◌≢◌, ◌≤◌, ◌<◌, Bool, true, false, [], ◌+◌, ◌++◌, ℕ, List, length, ap, subst, ◌∙◌, sym, arith, inl, inr, take, Result, Ok, Err, None, Some, Option, IsTrue, Consumes, IsAtEnd, Consumes-nil, Consumes-trans, Consumes-kept, append-nil, length-take-le, false≢true, Device, Fault, Kind, Reader, Refused, answer, LineIsDue, FaultIn, IsRefused, Stands, ReadFails, unread, early, faulty, ReachesEnd, FeedsMachine}
+use Rattle.sas_reader.proofs.Imports.{refl, ◌≡◌, ◌≢◌, ◌≤◌, ◌<◌, Bool, true, false, ◌+◌, ◌++◌, ℕ, List, length, ap, subst, ◌∙◌, sym, arith, inl, inr, take, Result, Ok, Err, None, Some, Option, IsTrue, Consumes, IsAtEnd, Consumes-nil, Consumes-trans, Consumes-kept, append-nil, length-take-le, false≢true, Device, Fault, Kind, Reader, Refused, answer, LineIsDue, FaultIn, IsRefused, Stands, ReadFails, unread, early, faulty, ReachesEnd, FeedsMachine}
 use Rattle.sas_reader.specs.declared.fault.Kind.TheVariants as kinds
 use Rattle.sas_reader.proofs.Standing.{accepted_of, fault_of}
 use Rattle.sas_reader.proofs.devices.feed_all.Goals as goal

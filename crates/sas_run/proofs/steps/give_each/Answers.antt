@@ -1,6 +1,6 @@
 -- One more effect has given its value, if it fires.
-use Rattle.sas_run.proofs.Imports.{◌≡◌, ◌∙◌, length, sym, subst, arith, slice_index, Change, operator_at, effect_at, effect_change, AllHold, Fires, IsGiven, IsGivenTo, GivesValue, GivesOther}
-use Rattle.sas_run.proofs.Ranges.{effect_fits, effect_within, conditions_within, change_within}
+use Rattle.sas_run.proofs.Imports.{◌≡◌, ◌∙◌, length, sym, subst, arith, slice_index, Change, operator_at, effect_at, effect_change, AllHold, Fires, IsGiven, IsGivenTo, GivesValue, GivesOther, effect_fits}
+use Rattle.sas_run.proofs.Ranges.{effect_within, conditions_within, change_within}
 use Rattle.sas_run.proofs.Giving.{given_on_effects, conflicts_first, gives_one_more}
 use Rattle.sas_run.proofs.PlainSteps.{no_change, change_made}
 use Rattle.sas_run.proofs.steps.give_each.Goals as goal

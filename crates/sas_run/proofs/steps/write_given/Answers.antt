@@ -1,6 +1,6 @@
 -- The given value of one more variable is written and removed.
-use Rattle.sas_run.proofs.Imports.{◌≡◌, ◌<◌, length, set, None, Some, sym, ap, subst, ◌∙◌, arith, IsTrue, cases_eq, Change, operator_at, effect_at, IsBasic, state_set, Deleted, NotesOn, given_to}
-use Rattle.sas_run.proofs.Ranges.{no_effect, change_within}
+use Rattle.sas_run.proofs.Imports.{◌≡◌, ◌<◌, length, set, None, Some, sym, ap, subst, ◌∙◌, arith, IsTrue, cases_eq, Change, operator_at, effect_at, IsBasic, state_set, Deleted, NotesOn, given_to, no_effect}
+use Rattle.sas_run.proofs.Ranges.{change_within}
 use Rattle.sas_run.proofs.Giving.{HasGiven, others_given, fewer_on_effects, one_more_taken, written_same}
 use Rattle.sas_run.proofs.Deleted.{notes_on, deleted_more}
 use Rattle.sas_run.proofs.NextStates.{effects_basic}

@@ -1,8 +1,8 @@
 -- One step more is made, and its lines pushed, as in the run.
-use Rattle.sas_trace.proofs.Imports.{◌≡◌, ◌+◌, ◌-◌, ◌<◌, length, sym, ap, subst, ◌∙◌, arith, Pushes, pushes_lost, pushes_then, next_operator}
+use Rattle.sas_trace.proofs.Imports.{◌≡◌, ◌+◌, ◌-◌, ◌<◌, length, sym, ap, subst, ◌∙◌, arith, Pushes, pushes_lost, pushes_then, next_operator, as_many}
 use Rattle.sas_trace.proofs.Numbers.{said_more, said_rest}
 use Rattle.sas_trace.proofs.RunTexts.{step_text, steps_all}
-use Rattle.sas_trace.proofs.Standing.{stands_fits, stands_all, stands_next, step_is}
+use Rattle.sas_trace.proofs.Standing.{stands_fits, stands_next, step_is}
 use Rattle.sas_trace.proofs.tracing.Tracer.push_steps.Goals as goal
 
 pub push_step-requires-clause-task : goal.push_step-requires-clause-task
@@ -47,7 +47,7 @@ returns-then-failed g c run first =
     let task = c.args.task.now in
     let k = c.loop-before.before in
     let within : k < length run.steps =
-    omega (arith, c.loop-before-test.true, ap length c.operators-before-end.ensures, stands_all task run c.args.execution.now c.args.self.now.printed.items first) in
+    omega (arith, c.loop-before-test.true, ap length c.operators-before-end.ensures, as_many run c.args.execution.now first.executes) in
     let (rest, is) = said_rest (step_text task run) k (length run.steps - k) in
     subst (Pushes g.W.Write.contents _ _) (is ∙ steps_all task run (k + (length run.steps - k)) (omega (arith, within)))
     (pushes_then _ _ _ _ _ _ (c.loop-before.invariant.so_far run first).1 (pushes_lost _ c.loop-before.sink rest (sym c.failed.ensures ∙ c.if-failed.true)))
@@ -57,5 +57,5 @@ returns g c run first =
     let task = c.args.task.now in
     let k = c.loop-before.before in
     let all : k ≡ length run.steps =
-    omega (arith, c.loop-before-test.false, c.loop-before.auto.before-end, ap length c.operators-before-end.ensures, stands_all task run c.args.execution.now c.args.self.now.printed.items first) in
+    omega (arith, c.loop-before-test.false, c.loop-before.auto.before-end, ap length c.operators-before-end.ensures, as_many run c.args.execution.now first.executes) in
     subst (Pushes g.W.Write.contents _ _) (steps_all task run k all) (c.loop-before.invariant.so_far run first).1
