@@ -22,6 +22,7 @@ pub use Rattle.sas_lines.specs.FirstLines.{LineStandsFirst}
 pub use Rattle.sas_lines.specs.Lines.{text}
 unfoldable pub use Rattle.sas_lines.specs.Lines.{lines}
 pub use Rattle.sas_reader.proofs.About.{about_laws_of}
+pub use Rattle.sas_reader.proofs.AcceptedLines.{LinesAccepted, none_accepted, one_more, accepted}
 pub use Rattle.sas_reader.proofs.Conversion.{Follows, reads_of_format, some_read}
 pub use Rattle.sas_reader.proofs.Every.{laws_of}
 pub use Rattle.sas_reader.proofs.Live.{leads_line}

@@ -12,6 +12,10 @@ pub step_led : (before : List (List ℕ)) (p q : PlanState) (name line : List �
 step_led before (going steps) q name line h t e n = led_on before steps q (step name) line h t e (sym n)
 step_led before (closed p) q name line h t e n = absurd n
 
+pub still_going : (p q : PlanState) (name : List ℕ) → StepsOn p name q → HasCostLine q → ⊥
+still_going (going steps) q name n d = subst HasCostLine n d
+still_going (closed p) q name n d = absurd n
+
 open_steps : (steps : List (List ℕ)) (c : Option (ℕ × CostKind)) → (HasCostLine (plan_state steps c) → ⊥) → plan_state steps c ≡ going steps
 open_steps steps None h = refl
 open_steps steps (Some c) h = absurd (h tt)

@@ -142,13 +142,16 @@ impl<S: StepNames> Machine for PlanMachine<S> {
     }
 
     fn accept_ahead(&mut self, bytes: &[u8]) -> Result<Front, Kind> {
-        let Some(step) = step_ahead(bytes) else {
-            return Ok(Front::EMPTY);
-        };
-        self.add_step(step.name)?;
+        let mut lines = 0;
+        let mut rest = bytes;
+        while let Some(step) = step_ahead(rest) {
+            self.add_step(step.name)?;
+            lines += 1;
+            rest = &rest[step.taken..];
+        }
         Ok(Front {
-            lines: 1,
-            bytes: step.taken,
+            lines,
+            bytes: bytes.len() - rest.len(),
         })
     }
 }

@@ -32,6 +32,7 @@ impl StepNames for Items<Items<u8>> {
 impl StepNames for Lists<u8> {
     ghost names = { λ names. names };
 
+    #[inline(always)]
     fn add(&mut self, _alloc: Global, name: &[u8]) -> Result<(), AllocError> {
         self.push(name)
     }

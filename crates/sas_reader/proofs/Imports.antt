@@ -34,7 +34,7 @@ pub use Rattle.sas_reader.specs.Format.{Format, KindAt, too_long, trailing, wron
 pub use Rattle.sas_reader.specs.Found.{IsFoundOf, behind_ends, kept_bytes}
 pub use Rattle.sas_reader.specs.Laws.{Laws, FaultlessIsLive, SomeReading, TextsAreEndedLines, TextIsRead, OneValue, OneSlot, NoSlotAtEnd, FaultIsDead, OneFault, TextIsLive, FaultIsNoText, OneReading}
 pub use Rattle.sas_reader.specs.Limit.{most_bytes}
-pub use Rattle.sas_reader.specs.Machine.{IsFront}
+pub use Rattle.sas_reader.specs.Machine.{IsFront, AcceptsAhead}
 pub use Rattle.sas_reader.specs.Reader.{Reached, Accepted, LineIsDue, FaultBehind, TookFront, Stopped, TakesFrontOrStops, Stops, full, over, rejected, FaultIn, EndsEarly, IsRefused, ReadFails, unread, early, faulty, RefusedAtEnd, TakesPiece, FeedsMachine, StandsAt, ReachesEnd}
 pub use Rattle.sas_reader.specs.Reading.{View, Feeds}
 pub use Rattle.sas_reader.specs.Refusals.{ExplainsRefusal, ReadsOrExplains, StandsBehind, behind_line, behind_text, at_end}

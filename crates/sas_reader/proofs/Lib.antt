@@ -9,6 +9,7 @@ pub mod Every
 pub mod Standing
 pub mod Pieces
 pub mod Advancing
+pub mod AcceptedLines
 pub mod Conversion
 pub mod Reading
 pub mod Known

@@ -1,7 +1,6 @@
 -- What the proofs use of other crates, and of the definitions of this one.
 pub use Rattle.std.proofs.Common.{◌≡◌, ℕ, List, Option, Some, None, Result, refl, sym, ap, subst, ◌∙◌, IfOk, ◌≢◌, [], ◌∷◌, ◌++◌, Bool, length, append_assoc, IsTrue, codes, suc, ◌<◌, ◌-◌, arith, Ok, ◌≤◌, ◌+◌, true, false, nat_lt, if◌then◌else◌, zero, drop, Err, take, ◌&&◌, rules, inr, length-append}
 pub use Rattle.std.proofs.lemmas.Bool.Decides.{nat_tests}
-pub use Rattle.std.proofs.lemmas.Grind.{flat_map-append}
 pub use Rattle.std.proofs.lemmas.List.{append-nil, take_at}
 pub use Rattle.std.proofs.lemmas.Option.{none-some}
 pub use Rattle.std.proofs.lemmas.Result.{on_ok_weaker}
@@ -18,10 +17,8 @@ pub use Rattle.sas_core.specs.declared.parts.Operator.{Operator}
 pub use Rattle.sas_core.specs.declared.parts.Parts.{Parts}
 pub use Rattle.sas_core.specs.declared.parts.Rule.{Rule}
 pub use Rattle.sas_core.specs.declared.parts.Variable.{Variable}
-pub use Rattle.sas_lines.proofs.Beginnings.{lines_stand_first}
-pub use Rattle.sas_lines.proofs.Splitting.{Plain}
-pub use Rattle.sas_lines.specs.FirstLines.{LinesStandFirst}
-pub use Rattle.sas_lines.specs.Lines.{text}
+pub use Rattle.sas_lines.proofs.Splitting.{lines-one, unfinished-one, Plain}
+pub use Rattle.sas_reader.proofs.AcceptedLines.{LinesAccepted, none_accepted, one_more, accepted}
 pub use Rattle.sas_reader.proofs.Paths.{cut_at, after_ends, map-append, after_append}
 pub use Rattle.sas_reader.proofs.Plain.{plain}
 pub use Rattle.sas_reader.specs.Faults.{IsOfBytes}

@@ -1,5 +1,6 @@
+use Rattle.sas_task_judge.proofs.Imports.{none_accepted, accepted}
 use Rattle.sas_task_judge.proofs.TaskMoves.{taken_line}
-use Rattle.sas_task_judge.proofs.TaskSteps.{none_accepted, one_more, accepted}
+use Rattle.sas_task_judge.proofs.TaskSteps.{next_line}
 use Rattle.sas_task_judge.proofs.task_machine.TaskMachine.lines_ahead.Goals as goal
 
 pub loop-event-init : goal.loop-event-init
@@ -8,10 +9,10 @@ loop-event-init g c = none_accepted _ c.args.self.now c.args.bytes.now
 pub loop-event-preserved : goal.loop-event-preserved
 loop-event-preserved g c =
     let l = c.loop-event in
-    one_more _ c.args.self.now c.args.bytes.now l.self l.lines l.rest.now l.invariant c.take_ahead.new.self _ c.keep.new.self c.in-Some.event _ c.in-Some.behind.now
+    next_line _ c.args.self.now c.args.bytes.now l.self l.lines l.rest.now l.invariant c.take_ahead.new.self _ c.keep.new.self c.in-Some.event _ c.in-Some.behind.now
     (taken_line l.self.judge c.take_ahead.new.self l.rest.now c.in-Some.behind.now c.in-Some.event c.in-Some.ensures.some) c.in_ok-keep.ensures.kept
 
 pub returns : goal.returns
 returns g c =
     let l = c.loop-event in
-    accepted _ c.args.self.now c.args.bytes.now l.self l.lines l.rest.now l.invariant c.take_ahead.new.self c.in_default.ensures.none
+    rw c.in_default.ensures.none (accepted _ c.args.self.now c.args.bytes.now l.self l.lines l.rest.now l.invariant)
