@@ -21,6 +21,10 @@ awaited_on p layer rule s w track awaited = elim awaited [
   | inr ready ↦ All-contains (λ (r : ℕ). IsRuleOn p layer r) w.agenda.ready.items rule track.ready ready
 ]
 
+-- the work with another agenda
+abbrev pub with_agenda : Work → Agenda → Work
+with_agenda w a = record { layer = w.layer; counters = w.counters; stack = w.stack; sources = w.sources; agenda = a }
+
 -- a rule is taken off
 pub track_taken : (p : Parts) (layer rule : ℕ) (s : List ℕ) (w : Work) (a' : Agenda) → IsOnTrack p layer s w → RemovesFromAgenda layer rule w.agenda a'
     → IsOnTrack p layer s (record { layer = w.layer; counters = w.counters; stack = w.stack; sources = w.sources; agenda = a' })
