@@ -94,11 +94,11 @@ module _ (p : Parts) (s0 s : List ℕ) (rule : ℕ) (w : Work) (a : Agenda) (w' 
   other_var : (v : ℕ) → differs p after v ≡ true → v ≢ var
   other_var v d e = differs_not p after v d (subst (λ x. get_or after x 0 ≡ default_of p x) (sym e) (get_or-set_same s var (default_of p var) 0 within))
 
-  its_value : (v : ℕ) → differs p after v ≡ true → get_or after v 0 ≡ get_or s v 0
-  its_value v d = get_or-set_other s var v (default_of p var) 0 (other_var v d)
+  kept : (v : ℕ) → differs p after v ≡ true → get_or after v 0 ≡ get_or s v 0
+  kept v d = get_or-set_other s var v (default_of p var) 0 (other_var v d)
 
   differed : (v : ℕ) → differs p after v ≡ true → differs p s v ≡ true
-  differed v d = differs_same p after s v (its_value v d) d
+  differed v d = differs_same p after s v (kept v d) d
 
   noted_still : (m other : ℕ) → IsOnAgenda a m other → IsOnAgenda a' m other
   noted_still m other noted = rw made.noted (moves.notes.keeps m other noted)
@@ -140,14 +140,14 @@ module _ (p : Parts) (s0 s : List ℕ) (rule : ℕ) (w : Work) (a : Agenda) (w' 
     ]
   ]
 
-  pub falling_fell : IsFalling p s0 after (record { layer = w'.layer; counters = w'.counters; stack = w'.stack; sources = w'.sources; agenda = a' })
+  pub falling_fell : IsFalling p s0 after (with_agenda w' a')
   falling_fell = rw (same.layer, same.sources) record {
     track = rw (same.layer, same.sources) at (track_ready p w.layer after w' a' rules
         (track_moved p w.layer var s after (with_agenda w a) w' layered is.on state (track_taken p w.layer rule s w a falling.track takes) moves (ap length same.sources)) all made.ready made.noted);
     settled = falling.settled;
     same = same_moved p w.layer var (default_of p var) s0 s is.on falling.same;
     noted = λ m other le on. rw made.noted (noted_moved p (w.layer + 1) var s0 s after (with_agenda w a) w' moves (noted_taken p w.layer rule s0 s w.agenda a is takes falling.noted) m other le on);
-    have = λ m. sources_fall p m s after w.sources its_value (falling.have m);
+    have = λ m. sources_fall p m s after w.sources kept (falling.have m);
     held = λ m lt v on d. falling.held m lt v on (differed v d);
     sources = source_fell;
     fired = fired_fell;
