@@ -1,8 +1,8 @@
 -- The counters of a worklist.
-use Rattle.sas_axioms.proofs.Imports.{◌≡◌, ◌≢◌, ℕ, ◌+◌, ◌<◌, ◌≤◌, ◌==◌, ◌⊎◌, true, cond, List, [], ◌∷◌, ◌++◌, length, get_or, set, refl, sym, ◌∙◌, ap, subst, inl, inr, arith, cases_eq, eqb_tells, get_or-set_same, get_or-set_other, length-set, get_or_default, length-append, vec_capacity, Fact, Rule, Parts, rule_at, IsState, WellRanged, Holds, AllHold, IsOnLayer, on_layer_within, default_of, IsRuleOn, AreGiven, open_conditions, occurrences, asking, Moved, Waiting, waiting_at, IsFullIndex, Work, value_seen, IsRunning, AreCountedBy, HaveFired, HasRoom, IsAtWork, WorkGoesOn, FiresRule, IsLayered, differs, IsSettledAt, OnlyForced, HasFired, SameOff, AtDefault, equal_places, All, All-nil, All-cons, All-head, All-tail, Fired, fired_there, rule_new, differs_true, differs_not, fact_within, new_value_is, forced_at_default, settled_when_fired, differs_decides}
+use Rattle.sas_axioms.proofs.Imports.{◌≡◌, ◌≢◌, ℕ, ◌+◌, ◌<◌, ◌≤◌, ◌==◌, ◌⊎◌, true, cond, List, [], ◌∷◌, ◌++◌, length, get_or, set, refl, sym, ◌∙◌, ap, subst, inl, inr, arith, cases_eq, eqb_tells, get_or-set_same, get_or-set_other, length-set, length-append, vec_capacity, Fact, Rule, Parts, rule_at, IsState, WellRanged, Holds, AllHold, IsOnLayer, on_layer_within, default_of, IsRuleOn, AreGiven, open_conditions, occurrences, asking, Moved, Waiting, waiting_at, IsFullIndex, Work, value_seen, IsRunning, AreCountedBy, HaveFired, HasRoom, IsAtWork, WorkGoesOn, FiresRule, IsLayered, differs, IsSettledAt, AtDefault, equal_places, All, All-nil, All-cons, All-head, All-tail, Fired, fired_there, rule_new, differs_true, differs_same, differs_not, fact_within, forced_at_default}
 use Rattle.sas_axioms.proofs.AllConditions.{can_recount, open_changed}
 use Rattle.sas_axioms.proofs.CountingEntries.{CanRecount, CountersSoFar, counters_after, left_over}
-use Rattle.sas_axioms.proofs.Sources.{no_rule}
+use Rattle.sas_axioms.proofs.Sources.{no_rule, settled_when_set}
 
 pub occurrences-append : (n : ℕ) (xs ys : List ℕ) → occurrences n (xs ++ ys) ≡ occurrences n xs + occurrences n ys
 occurrences-append n [] ys = omega arith
@@ -23,11 +23,10 @@ seen_shows t s stack v = elim (eqb_tells (occurrences v stack) 0) [
 
 -- a rule that changes its variable's value, with the variable put on the stack
 pub record Pushed (t : Parts) (layer : ℕ) (s stack : List ℕ) (rule : Rule) : Type 0 where
+  pub fires : Fired t layer s rule
   pub running : IsRunning t layer (set s rule.var rule.new) (stack ++ rule.var ∷ [])
   pub seen : (v : ℕ) → value_seen t (set s rule.var rule.new) (stack ++ rule.var ∷ []) v ≡ value_seen t s stack v
   pub kept : (v : ℕ) → differs t s v ≡ true → get_or (set s rule.var rule.new) v 0 ≡ get_or s v 0
-  pub off : SameOff t layer s (set s rule.var rule.new)
-  pub fewer : equal_places (set s rule.var rule.new) t.init < equal_places s t.init
 
 -- the variable of a rule exists
 pub rule_within : (t : Parts) (s : List ℕ) (k : ℕ) → WellRanged t → IsState t.variables s → k < length t.rules → (rule_at t k).var < length s
@@ -35,42 +34,26 @@ rule_within t s k ranged state lt =
     let within = fact_within t (rule_at t k).var (rule_at t k).new (rule_new t ranged k no_rule lt) in
     let len = state.one_each in omega arith
 
-pub was_default : (t : Parts) (layer : ℕ) (s : List ℕ) (k : ℕ) → IsLayered t → OnlyForced t layer s → IsRuleOn t layer k → get_or s (rule_at t k).var 0 ≢ (rule_at t k).new → get_or s (rule_at t k).var 0 ≡ default_of t (rule_at t k).var
-was_default t layer s k layered forced on changes = elim (differs_decides t s (rule_at t k).var) [
-  | inl p ↦ p.0
-  | inr p ↦ absurd (changes (forced.new (rule_at t k).var on.on p.1 ∙ new_value_is t k no_rule layered on.exists on.can))
-]
-
 pub pushed : (t : Parts) (layer : ℕ) (s stack : List ℕ) (k : ℕ) → WellRanged t → IsLayered t → IsRunning t layer s stack → IsRuleOn t layer k
     → AllHold (λ v. get_or s v 0) (rule_at t k).conditions → get_or s (rule_at t k).var 0 ≢ (rule_at t k).new → Pushed t layer s stack (rule_at t k)
 pushed t layer s stack k ranged layered run on_k hold changes = record {
+  fires = f;
   running = record { state = f.state; forced = f.forced; fired = fired; once = once; room = room };
   seen = seen_same;
   kept = kept;
-  off = f.off;
-  fewer = f.fewer;
 }
   where
-    rule : Rule
-    rule = rule_at t k
-
     within : (rule_at t k).var < length s
     within = rule_within t s k ranged run.state on_k.exists
 
     f : Fired t layer s (rule_at t k)
     f = fired_there t layer s k no_rule ranged layered run.state run.forced on_k.exists (record { on = on_k.on; can = on_k.can; hold = hold; new = changes })
 
-    default : get_or s (rule_at t k).var 0 ≡ default_of t (rule_at t k).var
-    default = was_default t layer s k layered run.forced on_k changes
-
-    other : (v : ℕ) → v ≢ (rule_at t k).var → get_or (set s (rule_at t k).var (rule_at t k).new) v 0 ≡ get_or s v 0
-    other v ne = get_or-set_other s (rule_at t k).var v (rule_at t k).new 0 ne
-
     kept : (v : ℕ) → differs t s v ≡ true → get_or (set s (rule_at t k).var (rule_at t k).new) v 0 ≡ get_or s v 0
-    kept v d = other v (λ e. differs_not t s v d (subst (λ x. get_or s x 0 ≡ default_of t x) (sym e) default))
+    kept v d = get_or-set_other s (rule_at t k).var v (rule_at t k).new 0 (λ e. differs_not t s v d (subst (λ x. get_or s x 0 ≡ default_of t x) (sym e) f.default))
 
     not_yet : occurrences (rule_at t k).var stack ≡ 0
-    not_yet = elim (seen_shows t s stack (rule_at t k).var) [ inl w ↦ w.0 | inr w ↦ absurd (differs_not t s (rule_at t k).var (run.fired (rule_at t k).var w.0).1 default) ]
+    not_yet = elim (seen_shows t s stack (rule_at t k).var) [ inl w ↦ w.0 | inr w ↦ absurd (differs_not t s (rule_at t k).var (run.fired (rule_at t k).var w.0).1 f.default) ]
 
     fired : (v : ℕ) → 0 < occurrences v (stack ++ (rule_at t k).var ∷ []) → IsOnLayer t layer v × (differs t (set s (rule_at t k).var (rule_at t k).new) v ≡ true)
     fired v lt = elim (occurrences_pushed v (rule_at t k).var stack) [
@@ -80,7 +63,7 @@ pushed t layer s stack k ranged layered run on_k hold changes = record {
             (differs_true t (set s (rule_at t k).var (rule_at t k).new) (rule_at t k).var (λ e. on_k.can (sym (get_or-set_same s (rule_at t k).var (rule_at t k).new 0 within) ∙ e))),
       )
       | inr w ↦ (let p = run.fired v (subst (λ n. 0 < n) w.1 lt) in
-          (p.0, differs_true t (set s (rule_at t k).var (rule_at t k).new) v (λ e. differs_not t s v p.1 (sym (kept v p.1) ∙ e))))
+          (p.0, differs_same t s (set s (rule_at t k).var (rule_at t k).new) v (sym (kept v p.1)) p.1))
     ]
 
     once : (v : ℕ) → occurrences v (stack ++ (rule_at t k).var ∷ []) ≤ 1
@@ -97,10 +80,10 @@ pushed t layer s stack k ranged layered run on_k hold changes = record {
       | inl w ↦ elim (seen_shows t (set s (rule_at t k).var (rule_at t k).new) (stack ++ (rule_at t k).var ∷ []) v) [
         | inl a ↦ (let x = w.1 in let y = a.0 in absurd (omega arith))
         | inr a ↦ a.1 ∙ (subst (λ x. default_of t x ≡ value_seen t s stack x) w.0
-            (elim (seen_shows t s stack (rule_at t k).var) [ inl b ↦ sym (b.1 ∙ default) | inr b ↦ sym b.1 ]))
+            (elim (seen_shows t s stack (rule_at t k).var) [ inl b ↦ sym (b.1 ∙ f.default) | inr b ↦ sym b.1 ]))
       ]
       | inr w ↦ ap (λ n. cond (n == 0) (get_or (set s (rule_at t k).var (rule_at t k).new) v 0) (default_of t v)) w.1
-          ∙ ap (λ x. cond (occurrences v stack == 0) x (default_of t v)) (other v (λ e. w.0 (sym e)))
+          ∙ ap (λ x. cond (occurrences v stack == 0) x (default_of t v)) (get_or-set_other s (rule_at t k).var v (rule_at t k).new 0 (λ e. w.0 (sym e)))
     ]
 
 -- the two writes of a rule that fires
@@ -112,10 +95,10 @@ pub fires_by : (t : Parts) (s : List ℕ) (w : Work) (s' : List ℕ) (w' : Work)
 fires_by t s w s' w' k ranged state on p given sources-is s-is stack-is layer counters room = record {
   goes_on = record {
     layer = layer;
-    off = rw s-is p.off;
+    off = rw s-is p.fires.off;
     sources = λ v off. ap (λ (xs : List ℕ). get_or xs v 0) sources-is
         ∙ get_or-set_other w.sources (rule_at t k).var v k 0 (λ e. off (subst (λ u. IsOnLayer t w.layer u) (sym e) on.on));
-    left = rw (s-is, stack-is) (let fewer = p.fewer in let len = length-append w.stack.items ((rule_at t k).var ∷ []) in omega arith);
+    left = rw (s-is, stack-is) (let fewer = p.fires.fewer in let len = length-append w.stack.items ((rule_at t k).var ∷ []) in omega arith);
   };
   counters = counters;
   sources = ap length sources-is ∙ length-set w.sources (rule_at t k).var k;
@@ -265,13 +248,8 @@ module _ (t : Parts) (layer : ℕ) (s rest : List ℕ) (v : ℕ) (run : IsRunnin
 
 -- with nothing left on the stack the layer is settled
 pub settled_when_empty : (t : Parts) (layer : ℕ) (s counters : List ℕ) → IsRunning t layer s [] → AreCountedBy t (value_seen t s []) counters → HaveFired t layer s counters → IsSettledAt t layer s
-settled_when_empty t layer s counters run counts fired = settled_when_fired t layer s run.forced (λ k d lt.
-    subst (λ (r : Rule). HasFired t layer s r) (get_or_default t.rules k no_rule d lt) (has k lt))
-  where
-    has : (k : ℕ) → k < length t.rules → HasFired t layer s (rule_at t k)
-    has k lt on can hold =
-        let is : IsRuleOn t layer k = record { exists = lt; on = on; can = can } in
-        fired k is (let a = counts layer k is in let b = none_open_when_all_hold (λ v. get_or s v 0) (rule_at t k).conditions hold in omega arith)
+settled_when_empty t layer s counters run counts fired = settled_when_set t layer s run.forced (λ k is hold.
+    fired k is (let a = counts layer k is in let b = none_open_when_all_hold (λ v. get_or s v 0) (rule_at t k).conditions hold in omega arith))
 
 pub running_at_default : (t : Parts) (layer : ℕ) (s : List ℕ) → IsState t.variables s → AtDefault t layer s → IsRunning t layer s []
 running_at_default t layer s state at = record {

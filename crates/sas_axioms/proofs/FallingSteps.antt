@@ -1,8 +1,8 @@
 -- Resetting the variables of a layer one by one, and the rules that depend on them.
-use Rattle.sas_axioms.proofs.Imports.{◌≡◌, ◌≢◌, ◌⊎◌, ℕ, ◌+◌, ◌<◌, ◌≤◌, true, List, [], ◌∷◌, length, get_or, set, sym, ◌∙◌, ap, subst, inl, inr, arith, All, Contains, cases_eq, get_or-set_same, get_or-set_other, All-nil, All-cons, Contains-append_left, Contains-append_right, Contains-push, All-contains, Reverse, Parts, Change, rule_change, WellRanged, rule_at, IsState, IsOnLayer, default_of, Agenda, Work, LayerRule, entry_for, IsOnAgenda, IsAwaited, AreBehind, RemovesFromAgenda, IsMadeReady, AreMadeReady, work_left, SameFrom, ChangesAreNoted, SameWork, CountsChange, IsOnTrack, IsFalling, IsRising, IsHolding, HaveSources, SourcesHold, IsRuleOn, IsLayered, differs, IsSettled, state_set, differs_true, differs_not, heap_items}
+use Rattle.sas_axioms.proofs.Imports.{◌≡◌, ◌≢◌, ◌⊎◌, ℕ, ◌+◌, ◌<◌, ◌≤◌, true, List, [], ◌∷◌, length, get_or, set, sym, ◌∙◌, ap, subst, inl, inr, arith, All, Contains, cases_eq, get_or-set_same, get_or-set_other, All-nil, All-cons, Contains-append_left, Contains-append_right, Contains-push, All-contains, Reverse, Parts, Change, rule_change, WellRanged, rule_at, IsState, IsOnLayer, default_of, Agenda, Work, LayerRule, entry_for, IsOnAgenda, IsAwaited, AreBehind, RemovesFromAgenda, IsMadeReady, AreMadeReady, work_left, SameFrom, ChangesAreNoted, SameWork, CountsChange, IsFalling, IsRising, IsHolding, IsRuleOn, IsLayered, differs, state_set, differs_same, differs_not, heap_items}
 use Rattle.sas_axioms.proofs.OneLayer.{one_layer}
 use Rattle.sas_axioms.proofs.Sources.{sources_fall}
-use Rattle.sas_axioms.proofs.Tracking.{awaited_on, track_taken, track_ready, track_moved}
+use Rattle.sas_axioms.proofs.Tracking.{with_agenda, awaited_on, track_taken, track_ready, track_moved}
 
 -- no rule is on the layer and on a higher one
 pub not_higher : (p : Parts) (layer m rule : ℕ) → IsRuleOn p layer rule → IsRuleOn p m rule → layer + 1 ≤ m → {A : Type 0} → A
@@ -33,20 +33,6 @@ pub same_moved : (p : Parts) (layer var value : ℕ) (s0 s : List ℕ) → IsOnL
 same_moved p layer var value s0 s on same m v le on_v =
     same m v le on_v ∙ sym (get_or-set_other s var v value 0 (λ e. (let a = subst (λ x. IsOnLayer p layer x) (sym e) on in let b = on_v in let f : m ≡ layer = cc in absurd (omega arith))))
 
--- falling, but for a rule that was taken off
-pub record FallingBut (p : Parts) (s0 s : List ℕ) (rule : ℕ) (w : Work) : Type 0 where
-  pub track : IsOnTrack p w.layer s w
-  pub settled : IsSettled p s0
-  pub is : IsRuleOn p w.layer rule
-  pub same : SameFrom p (w.layer + 1) s0 s
-  pub noted : ChangesAreNoted p (w.layer + 1) s0 s w.agenda
-  pub have : (m : ℕ) → HaveSources p m s w.sources
-  pub held : (m : ℕ) → w.layer < m → SourcesHold p m w.sources s s0
-  pub sources : (v : ℕ) → IsOnLayer p w.layer v → differs p s v ≡ true
-      → IsHolding p s (get_or w.sources v 0) ⊎ (IsOnAgenda w.agenda w.layer (get_or w.sources v 0) ⊎ (get_or w.sources v 0 ≡ rule))
-  pub fired : (other : ℕ) → IsRuleOn p w.layer other → IsHolding p s other
-      → (differs p s (rule_at p other).var ≡ true) ⊎ (IsAwaited w.agenda w.layer other ⊎ (other ≡ rule))
-
 -- what is awaited is still so where a rule is taken off, but for that one
 pub still_awaited : (layer rule : ℕ) (a a' : Agenda) → RemovesFromAgenda layer rule a a' → (other : ℕ) → IsAwaited a layer other → IsAwaited a' layer other ⊎ (other ≡ rule)
 still_awaited layer rule a a' takes other awaited = elim awaited [
@@ -54,67 +40,50 @@ still_awaited layer rule a a' takes other awaited = elim awaited [
   | inr ready ↦ elim (takes.ready other ready) [ inl still ↦ inl (inr still) | inr e ↦ inr e ]
 ]
 
-pub falling_taken : (p : Parts) (s0 s : List ℕ) (w : Work) (a' : Agenda) (rule : ℕ) → IsFalling p s0 s w → RemovesFromAgenda w.layer rule w.agenda a'
-    → FallingBut p s0 s rule (record { layer = w.layer; counters = w.counters; stack = w.stack; sources = w.sources; agenda = a' })
-falling_taken p s0 s w a' rule falling takes = record {
-  track = track_taken p w.layer rule s w a' falling.track takes;
+-- the rule that is taken off holds, or gives nothing: it is made ready
+pub falling_passed : (p : Parts) (s0 s : List ℕ) (rule : ℕ) (w : Work) (a a' : Agenda) → IsFalling p s0 s w → RemovesFromAgenda w.layer rule w.agenda a
+    → (get_or w.sources (rule_at p rule).var 0 ≡ rule → differs p s (rule_at p rule).var ≡ true → IsHolding p s rule) → IsMadeReady rule a a' → IsFalling p s0 s (with_agenda w a')
+falling_passed p s0 s rule w a a' falling takes holds made = record {
+  track = track_ready p w.layer s (with_agenda w a) a' (rule ∷ []) (track_taken p w.layer rule s w a falling.track takes) one made.ready made.noted;
   settled = falling.settled;
-  is = is;
   same = falling.same;
-  noted = noted_taken p w.layer rule s0 s w.agenda a' is takes falling.noted;
+  noted = λ m other le on. rw made.noted (noted_taken p w.layer rule s0 s w.agenda a is takes falling.noted m other le on);
   have = falling.have;
   held = falling.held;
   sources = λ v on d. elim (falling.sources v on d) [
     | inl hold ↦ inl hold
-    | inr noted ↦ inr (takes.noted w.layer (get_or w.sources v 0) noted)
+    | inr noted ↦ elim (takes.noted w.layer (get_or w.sources v 0) noted) [ inl still ↦ inr (rw made.noted still) | inr e ↦ inl (source_holds v on d e) ]
   ];
   fired = λ other on hold. elim (falling.fired other on hold) [
     | inl d ↦ inl d
-    | inr awaited ↦ inr (still_awaited w.layer rule w.agenda a' takes other awaited)
+    | inr awaited ↦ elim (still_awaited w.layer rule w.agenda a takes other awaited) [
+      | inl (inl noted) ↦ inr (inl (rw made.noted noted))
+      | inl (inr ready) ↦ inr (inr (rw made.ready (Contains-append_left a.ready.items (rule ∷ []) other ready)))
+      | inr e ↦ inr (inr (rw (made.ready, e) (Contains-push a.ready.items rule)))
+    ]
   ];
 }
   where
     is : IsRuleOn p w.layer rule
     is = awaited_on p w.layer rule s w falling.track takes.was
 
--- a rule that was taken off holds, or gives nothing: it is made ready
-pub falling_passed : (p : Parts) (s0 s : List ℕ) (rule : ℕ) (w : Work) (a' : Agenda) → FallingBut p s0 s rule w
-    → (get_or w.sources (rule_at p rule).var 0 ≡ rule → differs p s (rule_at p rule).var ≡ true → IsHolding p s rule) → IsMadeReady rule w.agenda a'
-    → IsFalling p s0 s (record { layer = w.layer; counters = w.counters; stack = w.stack; sources = w.sources; agenda = a' })
-falling_passed p s0 s rule w a' but holds made = record {
-  track = track_ready p w.layer s w a' (rule ∷ []) but.track one made.ready made.noted;
-  settled = but.settled;
-  same = but.same;
-  noted = λ m other le on. rw made.noted (but.noted m other le on);
-  have = but.have;
-  held = but.held;
-  sources = λ v on d. elim (but.sources v on d) [
-    | inl hold ↦ inl hold
-    | inr (inl noted) ↦ inr (rw made.noted noted)
-    | inr (inr e) ↦ inl (source_holds v on d e)
-  ];
-  fired = λ other on hold. elim (but.fired other on hold) [
-    | inl d ↦ inl d
-    | inr (inl (inl noted)) ↦ inr (inl (rw made.noted noted))
-    | inr (inl (inr ready)) ↦ inr (inr (rw made.ready (Contains-append_left w.agenda.ready.items (rule ∷ []) other ready)))
-    | inr (inr e) ↦ inr (inr (rw (made.ready, e) (Contains-push w.agenda.ready.items rule)))
-  ];
-}
-  where
     one : All (λ (r : ℕ). IsRuleOn p w.layer r) (rule ∷ [])
-    one = All-cons (λ (r : ℕ). IsRuleOn p w.layer r) rule [] but.is (All-nil (λ (r : ℕ). IsRuleOn p w.layer r))
+    one = All-cons (λ (r : ℕ). IsRuleOn p w.layer r) rule [] is (All-nil (λ (r : ℕ). IsRuleOn p w.layer r))
 
     source_holds : (v : ℕ) → IsOnLayer p w.layer v → differs p s v ≡ true → get_or w.sources v 0 ≡ rule → IsHolding p s (get_or w.sources v 0)
     source_holds v on d e =
-        let its : (rule_at p rule).var ≡ v = subst (λ r. (rule_at p r).var ≡ v) e ((but.have w.layer).source v on d).sets in
+        let its : (rule_at p rule).var ≡ v = subst (λ r. (rule_at p r).var ≡ v) e ((falling.have w.layer).source v on d).sets in
         subst (λ r. IsHolding p s r) (sym e) (holds (subst (λ u. get_or w.sources u 0 ≡ rule) (sym its) e) (subst (λ u. differs p s u ≡ true) (sym its) d))
 
 -- its variable falls, and all rules of it are made ready
-module _ (p : Parts) (s0 s : List ℕ) (rule : ℕ) (w w' : Work) (a' : Agenda) (rules : List ℕ) (layered : IsLayered p) (but : FallingBut p s0 s rule w)
-    (within : (rule_at p rule).var < length s) (state : IsState p.variables (set s (rule_at p rule).var (default_of p (rule_at p rule).var)))
-    (same : SameWork w w') (moves : CountsChange p (rule_at p rule).var s w (set s (rule_at p rule).var (default_of p (rule_at p rule).var)) w')
+module _ (p : Parts) (s0 s : List ℕ) (rule : ℕ) (w : Work) (a : Agenda) (w' : Work) (a' : Agenda) (rules : List ℕ) (layered : IsLayered p) (falling : IsFalling p s0 s w)
+    (takes : RemovesFromAgenda w.layer rule w.agenda a) (within : (rule_at p rule).var < length s) (state : IsState p.variables (set s (rule_at p rule).var (default_of p (rule_at p rule).var)))
+    (same : SameWork (with_agenda w a) w') (moves : CountsChange p (rule_at p rule).var s (with_agenda w a) (set s (rule_at p rule).var (default_of p (rule_at p rule).var)) w')
     (all : All (λ (r : ℕ). IsRuleOn p w.layer r) rules) (each : (other : ℕ) → IsRuleOn p w.layer other → (rule_at p other).var ≡ (rule_at p rule).var → Contains rules other)
     (made : AreMadeReady rules w'.agenda a') where
+  is : IsRuleOn p w.layer rule
+  is = awaited_on p w.layer rule s w falling.track takes.was
+
   abbrev var : ℕ
   var = (rule_at p rule).var
 
@@ -125,19 +94,16 @@ module _ (p : Parts) (s0 s : List ℕ) (rule : ℕ) (w w' : Work) (a' : Agenda) 
   other_var : (v : ℕ) → differs p after v ≡ true → v ≢ var
   other_var v d e = differs_not p after v d (subst (λ x. get_or after x 0 ≡ default_of p x) (sym e) (get_or-set_same s var (default_of p var) 0 within))
 
-  value_other : (v : ℕ) → v ≢ var → get_or after v 0 ≡ get_or s v 0
-  value_other v ne = get_or-set_other s var v (default_of p var) 0 ne
+  kept : (v : ℕ) → differs p after v ≡ true → get_or after v 0 ≡ get_or s v 0
+  kept v d = get_or-set_other s var v (default_of p var) 0 (other_var v d)
 
   differed : (v : ℕ) → differs p after v ≡ true → differs p s v ≡ true
-  differed v d = differs_true p s v (λ e. differs_not p after v d (value_other v (other_var v d) ∙ e))
+  differed v d = differs_same p after s v (kept v d) d
 
-  differs_other : (v : ℕ) → v ≢ var → differs p s v ≡ true → differs p after v ≡ true
-  differs_other v ne d = differs_true p after v (λ e. differs_not p s v d (sym (value_other v ne) ∙ e))
-
-  noted_still : (m other : ℕ) → IsOnAgenda w.agenda m other → IsOnAgenda a' m other
+  noted_still : (m other : ℕ) → IsOnAgenda a m other → IsOnAgenda a' m other
   noted_still m other noted = rw made.noted (moves.notes.keeps m other noted)
 
-  ready_still : (other : ℕ) → Contains w.agenda.ready.items other → Contains a'.ready.items other
+  ready_still : (other : ℕ) → Contains a.ready.items other → Contains a'.ready.items other
   ready_still other ready = rw made.ready (Contains-append_left w'.agenda.ready.items rules other (rw moves.notes.ready ready))
 
   ready_now : (other : ℕ) → IsRuleOn p w.layer other → (rule_at p other).var ≡ var → Contains a'.ready.items other
@@ -150,10 +116,12 @@ module _ (p : Parts) (s0 s : List ℕ) (rule : ℕ) (w w' : Work) (a' : Agenda) 
   ]
 
   source_fell : (v : ℕ) → IsOnLayer p w.layer v → differs p after v ≡ true → IsHolding p after (get_or w.sources v 0) ⊎ IsOnAgenda a' w.layer (get_or w.sources v 0)
-  source_fell v on d = elim (but.sources v on (differed v d)) [
-    | inl hold ↦ holds_or_noted (get_or w.sources v 0) ((but.have w.layer).source v on (differed v d)).is hold
-    | inr (inl noted) ↦ inr (noted_still w.layer (get_or w.sources v 0) noted)
-    | inr (inr e) ↦ absurd (other_var v d (sym (subst (λ r. (rule_at p r).var ≡ v) e ((but.have w.layer).source v on (differed v d)).sets)))
+  source_fell v on d = elim (falling.sources v on (differed v d)) [
+    | inl hold ↦ holds_or_noted (get_or w.sources v 0) ((falling.have w.layer).source v on (differed v d)).is hold
+    | inr noted ↦ elim (takes.noted w.layer (get_or w.sources v 0) noted) [
+      | inl still ↦ inr (noted_still w.layer (get_or w.sources v 0) still)
+      | inr e ↦ absurd (other_var v d (sym (subst (λ r. (rule_at p r).var ≡ v) e ((falling.have w.layer).source v on (differed v d)).sets)))
+    ]
   ]
 
   fired_fell : (other : ℕ) → IsRuleOn p w.layer other → IsHolding p after other → (differs p after (rule_at p other).var ≡ true) ⊎ IsAwaited a' w.layer other
@@ -161,23 +129,26 @@ module _ (p : Parts) (s0 s : List ℕ) (rule : ℕ) (w w' : Work) (a' : Agenda) 
     | inl e ↦ inr (inr (ready_now other on e))
     | inr ne ↦ elim (moves.crossed w.layer other (omega arith) on) [
       | inl noted ↦ inr (inl (rw made.noted noted))
-      | inr crossed ↦ elim (but.fired other on (crossed.1 hold)) [
-        | inl d ↦ inl (differs_other (rule_at p other).var ne d)
-        | inr (inl (inl noted)) ↦ inr (inl (noted_still w.layer other noted))
-        | inr (inl (inr ready)) ↦ inr (inr (ready_still other ready))
-        | inr (inr e) ↦ absurd (ne (ap (λ r. (rule_at p r).var) e))
+      | inr crossed ↦ elim (falling.fired other on (crossed.1 hold)) [
+        | inl d ↦ inl (differs_same p s after (rule_at p other).var (sym (get_or-set_other s var (rule_at p other).var (default_of p var) 0 ne)) d)
+        | inr awaited ↦ elim (still_awaited w.layer rule w.agenda a takes other awaited) [
+          | inl (inl noted) ↦ inr (inl (noted_still w.layer other noted))
+          | inl (inr ready) ↦ inr (inr (ready_still other ready))
+          | inr e ↦ absurd (ne (ap (λ r. (rule_at p r).var) e))
+        ]
       ]
     ]
   ]
 
-  pub falling_fell : IsFalling p s0 after (record { layer = w'.layer; counters = w'.counters; stack = w'.stack; sources = w'.sources; agenda = a' })
+  pub falling_fell : IsFalling p s0 after (with_agenda w' a')
   falling_fell = rw (same.layer, same.sources) record {
-    track = rw (same.layer, same.sources) at (track_ready p w.layer after w' a' rules (track_moved p w.layer var s after w w' layered but.is.on state but.track moves (ap length same.sources)) all made.ready made.noted);
-    settled = but.settled;
-    same = same_moved p w.layer var (default_of p var) s0 s but.is.on but.same;
-    noted = λ m other le on. rw made.noted (noted_moved p (w.layer + 1) var s0 s after w w' moves but.noted m other le on);
-    have = λ m. sources_fall p m s after w.sources (λ v d. value_other v (other_var v d)) (but.have m);
-    held = λ m lt v on d. but.held m lt v on (differed v d);
+    track = rw (same.layer, same.sources) at (track_ready p w.layer after w' a' rules
+        (track_moved p w.layer var s after (with_agenda w a) w' layered is.on state (track_taken p w.layer rule s w a falling.track takes) moves (ap length same.sources)) all made.ready made.noted);
+    settled = falling.settled;
+    same = same_moved p w.layer var (default_of p var) s0 s is.on falling.same;
+    noted = λ m other le on. rw made.noted (noted_moved p (w.layer + 1) var s0 s after (with_agenda w a) w' moves (noted_taken p w.layer rule s0 s w.agenda a is takes falling.noted) m other le on);
+    have = λ m. sources_fall p m s after w.sources kept (falling.have m);
+    held = λ m lt v on d. falling.held m lt v on (differed v d);
     sources = source_fell;
     fired = fired_fell;
   }

@@ -1,5 +1,5 @@
 -- Updating the counters for the basic variables that changed, one at a time.
-use Rattle.sas_axioms.proofs.Imports.{◌≡◌, ◌≢◌, ℕ, zero, suc, ◌<◌, List, [], ◌∷◌, length, get_or, set, refl, sym, ◌∙◌, ap, subst, inl, inr, arith, All, AllPairs, heap_items, cases_eq, get_or-set_same, get_or-set_other, All-nil, All-cons, All-head, All-tail, All-contains, Reverse, Fact, Parts, rule_at, IsState, HaveGone, IsBasic, IsOnLayer, IsLayered, IsSettledAt, Settles, Holds, differs_true, Work, LayerRule, IsEmpty, IsHolding, SourcesHold, AreGiven, CountsChange, IsFollowed, CountedSoFar, IsBetween, IsRuleOn, differs_not}
+use Rattle.sas_axioms.proofs.Imports.{◌≡◌, ◌≢◌, ℕ, zero, suc, ◌<◌, List, [], ◌∷◌, length, get_or, set, refl, sym, ◌∙◌, ap, subst, inl, inr, arith, All, AllPairs, heap_items, cases_eq, get_or-set_same, get_or-set_other, All-nil, All-cons, All-head, All-tail, All-contains, Reverse, Fact, Parts, rule_at, IsState, HaveGone, IsBasic, IsOnLayer, IsLayered, IsSettledAt, Settles, Holds, differs_same, Work, LayerRule, IsEmpty, IsHolding, SourcesHold, AreGiven, CountsChange, IsFollowed, CountedSoFar, IsBetween, IsRuleOn}
 use Rattle.sas_axioms.proofs.Counters.{open_same}
 use Rattle.sas_axioms.proofs.FallingSteps.{noted_moved}
 use Rattle.sas_axioms.proofs.Sources.{sources_same, settled_when_given}
@@ -66,7 +66,7 @@ counted_more p s0 m w w' v value basic same_sources so_far moves = rw same_sourc
   noted = noted_moved p 0 v s0 m (set m v value) w w' moves so_far.noted;
   same = λ layer u le on. so_far.same layer u le on ∙ sym (kept layer u on);
   have = λ layer. sources_same p layer m (set m v value) w.sources w.sources (kept layer) (λ u on. refl) (so_far.have layer);
-  held = λ layer u on d. so_far.held layer u on (differs_true p m u (λ e. differs_not p (set m v value) u d (kept layer u on ∙ e)));
+  held = λ layer u on d. so_far.held layer u on (differs_same p (set m v value) m u (kept layer u on) d);
   empty = rw moves.notes.ready so_far.empty;
 }
   where
@@ -98,7 +98,7 @@ between_begins p s0 m s w state followed have w' sources so_far = record {
   ];
   have = λ n. sources_same p n m s w'.sources w'.sources (λ v on. sym (value_is v)) (λ v on. refl) (so_far.have n);
   hold = λ n lt. absurd {A = SourcesHold p n w'.sources s s} (omega arith);
-  held = λ n le v on d. so_far.held n v on (differs_true p m v (λ e. differs_not p s v d (sym (value_is v) ∙ e)));
+  held = λ n le v on d. so_far.held n v on (differs_same p s m v (sym (value_is v)) d);
   empty = so_far.empty;
 }
   where
@@ -132,7 +132,7 @@ idle_followed p gone s s' w layered none state followed have = record {
     given layer = record {
       have = sources_same p layer s s' w.sources w.sources (kept layer) (λ v on. refl) (followed.given layer).have;
       hold = λ v on d. absurd (none layer (get_or w.sources v 0)
-          ((followed.given layer).have.source v on (differs_true p s v (λ e. differs_not p s' v d (kept layer v on ∙ e)))).is);
+          ((followed.given layer).have.source v on (differs_same p s' s v (kept layer v on) d)).is);
     }
 
 pub idle_settles : (p : Parts) (gone : List Fact) (s s' : List ℕ) (w : Work) → IsLayered p → ((layer rule : ℕ) → IsRuleOn p layer rule → ⊥) → IsState p.variables s'

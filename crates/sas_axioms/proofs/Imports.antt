@@ -29,7 +29,7 @@ pub use Rattle.sas_flat.proofs.Tables.{length-table}
 pub use Rattle.sas_flat.specs.ByKey.{items_of, by_key}
 pub use Rattle.sas_flat.specs.declared.by_key.Entry.{Entry}
 pub use Rattle.sas_meaning.proofs.DerivedVariables.{not_basic, derived_within}
-pub use Rattle.sas_meaning.proofs.Forced.{condition_within, Fired, fired_there, rule_new, differs_true, differs_not, fact_within, state_set}
+pub use Rattle.sas_meaning.proofs.Forced.{condition_within, Fired, fired_there, rule_new, differs_true, differs_not, differs_same, fact_within, state_set}
 pub use Rattle.sas_meaning.proofs.Layers.{looks_down, layer_decides, on_layer_within, given_on}
 pub use Rattle.sas_meaning.proofs.Places.{places_to, places_one_more, places_all, place_is, is_place}
 pub use Rattle.sas_meaning.proofs.Rules.{new_value_is}

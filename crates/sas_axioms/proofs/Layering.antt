@@ -1,6 +1,6 @@
 -- From a settled layer to the next one on which a rule can fire.
-use Rattle.sas_axioms.proofs.Imports.{ℕ, ◌+◌, ◌<◌, ◌≤◌, List, length, sym, subst, inl, inr, arith, cases_eq, cases_lt, get_or_default, Rule, Parts, rule_at, IsLayered, IsSettledAt, IsSettled, AtDefault, HasFired, Occurs, default_off, settled_off, forced_at_default, settled_when_fired, IsIdle, SettlesNext, IsRuleOn}
-use Rattle.sas_axioms.proofs.Sources.{no_rule, late_waits}
+use Rattle.sas_axioms.proofs.Imports.{ℕ, ◌+◌, ◌<◌, ◌≤◌, List, sym, subst, inl, inr, arith, cases_eq, cases_lt, Parts, rule_at, IsLayered, IsSettledAt, IsSettled, AtDefault, Occurs, default_off, settled_off, forced_at_default, IsIdle, SettlesNext}
+use Rattle.sas_axioms.proofs.Sources.{late_waits, settled_when_set}
 
 -- a layer without a variable is idle
 pub idle_where_empty : (p : Parts) (layer : ℕ) → (Occurs p layer → ⊥) → IsIdle p layer
@@ -8,13 +8,7 @@ idle_where_empty p layer none k is = absurd (none ((rule_at p k).var, is.on))
 
 -- where all variables of an idle layer have their default, it is settled
 pub settled_where_idle : (p : Parts) (layer : ℕ) (s : List ℕ) → IsLayered p → IsIdle p layer → AtDefault p layer s → IsSettledAt p layer s
-settled_where_idle p layer s layered idle at = settled_when_fired p layer s (forced_at_default p layer s at) (λ k d lt.
-    subst (λ (r : Rule). HasFired p layer s r) (get_or_default p.rules k no_rule d lt) (has k lt))
-  where
-    has : (k : ℕ) → k < length p.rules → HasFired p layer s (rule_at p k)
-    has k lt on can hold =
-        let is : IsRuleOn p layer k = record { exists = lt; on = on; can = can } in
-        absurd (late_waits p layer k s layered is (idle k is) at hold)
+settled_where_idle p layer s layered idle at = settled_when_set p layer s (forced_at_default p layer s at) (λ k is hold. absurd (late_waits p layer k s layered is (idle k is) at hold))
 
 -- the layers up to the one that was settled are settled
 pub settled_to_next : (p : Parts) (from layer : ℕ) (s s' : List ℕ) → IsLayered p → SettlesNext p from s s' layer

@@ -1,73 +1,45 @@
 -- The rules of a layer that hold set their variables, one by one.
-use Rattle.sas_axioms.proofs.Imports.{◌≡◌, ◌≢◌, ◌⊎◌, ◌↔◌, ℕ, ◌+◌, ◌<◌, ◌≤◌, true, List, [], length, get_or, set, sym, ◌∙◌, ap, subst, inl, inr, arith, heap_items, cases_eq, cases_lt, get_or-set_same, get_or-set_other, length-set, All-nil, All-contains, Reverse, Parts, rule_at, WellRanged, IsOnLayer, IsLayered, differs, IsSettledAt, IsSettled, SameOff, Fired, fired_there, differs_true, differs_not, Work, Agenda, LayerRule, entry_for, IsOnAgenda, IsAwaited, NoLowerLayer, AreBehind, RemovesFromAgenda, SameFrom, ChangesAreNoted, SameWork, CountsChange, IsOnTrack, IsBetween, IsFalling, IsRising, HasRisen, IsFollowed, IsRuleOn, IsHolding, HaveSources, SourcesHold, AreGiven, settled_off}
-use Rattle.sas_axioms.proofs.Counters.{was_default}
+use Rattle.sas_axioms.proofs.Imports.{◌≡◌, ◌≢◌, ◌⊎◌, ◌↔◌, ℕ, ◌+◌, ◌<◌, ◌≤◌, true, List, [], length, get_or, set, sym, ◌∙◌, ap, subst, inl, inr, arith, heap_items, cases_eq, cases_lt, get_or-set_same, get_or-set_other, length-set, All-nil, All-contains, Reverse, Parts, rule_at, WellRanged, IsOnLayer, IsLayered, differs, IsSettledAt, SameOff, Fired, fired_there, differs_true, differs_same, Work, Agenda, LayerRule, entry_for, IsOnAgenda, IsAwaited, NoLowerLayer, AreBehind, RemovesFromAgenda, SameWork, CountsChange, IsBetween, IsFalling, IsRising, HasRisen, IsFollowed, IsRuleOn, IsHolding, HaveSources, SourcesHold, AreGiven, settled_off}
 use Rattle.sas_axioms.proofs.FallingSteps.{noted_taken, noted_moved, same_moved, still_awaited}
 use Rattle.sas_axioms.proofs.Sources.{no_rule, forced_when_given, sources_same, given_off, given_when_fired, differs_where_holding, settled_when_given}
-use Rattle.sas_axioms.proofs.Tracking.{awaited_on, track_taken, track_moved, track_set}
+use Rattle.sas_axioms.proofs.Tracking.{with_agenda, awaited_on, track_taken, track_moved, track_set}
 
--- rising, but for a rule that was taken off
-pub record RisingBut (p : Parts) (s0 s : List ℕ) (rule : ℕ) (w : Work) : Type 0 where
-  pub track : IsOnTrack p w.layer s w
-  pub settled : IsSettled p s0
-  pub is : IsRuleOn p w.layer rule
-  pub same : SameFrom p (w.layer + 1) s0 s
-  pub noted : ChangesAreNoted p (w.layer + 1) s0 s w.agenda
-  pub have : (m : ℕ) → HaveSources p m s w.sources
-  pub held : (m : ℕ) → w.layer < m → SourcesHold p m w.sources s s0
-  pub hold : SourcesHold p w.layer w.sources s s
-  pub fired : (other : ℕ) → IsRuleOn p w.layer other → IsHolding p s other
-      → (differs p s (rule_at p other).var ≡ true) ⊎ (IsAwaited w.agenda w.layer other ⊎ (other ≡ rule))
-
-pub rising_taken : (p : Parts) (s0 s : List ℕ) (w : Work) (a' : Agenda) (rule : ℕ) → IsRising p s0 s w → RemovesFromAgenda w.layer rule w.agenda a'
-    → RisingBut p s0 s rule (record { layer = w.layer; counters = w.counters; stack = w.stack; sources = w.sources; agenda = a' })
-rising_taken p s0 s w a' rule rising takes = record {
-  track = track_taken p w.layer rule s w a' rising.track takes;
+-- a rule that is taken off doesn't hold, or its variable differs from its default
+pub rising_passed : (p : Parts) (s0 s : List ℕ) (rule : ℕ) (w : Work) (a : Agenda) → IsRising p s0 s w → RemovesFromAgenda w.layer rule w.agenda a
+    → (IsHolding p s rule → differs p s (rule_at p rule).var ≡ true) → IsRising p s0 s (with_agenda w a)
+rising_passed p s0 s rule w a rising takes done = record {
+  track = track_taken p w.layer rule s w a rising.track takes;
   settled = rising.settled;
-  is = is;
   same = rising.same;
-  noted = noted_taken p w.layer rule s0 s w.agenda a' is takes rising.noted;
+  noted = noted_taken p w.layer rule s0 s w.agenda a (awaited_on p w.layer rule s w rising.track takes.was) takes rising.noted;
   have = rising.have;
   held = rising.held;
   hold = rising.hold;
   fired = λ other on hold. elim (rising.fired other on hold) [
     | inl d ↦ inl d
-    | inr awaited ↦ inr (still_awaited w.layer rule w.agenda a' takes other awaited)
-  ];
-}
-  where
-    is : IsRuleOn p w.layer rule
-    is = awaited_on p w.layer rule s w rising.track takes.was
-
--- a rule that was taken off doesn't hold, or its variable differs from its default
-pub rising_passed : (p : Parts) (s0 s : List ℕ) (rule : ℕ) (w : Work) → RisingBut p s0 s rule w
-    → (IsHolding p s rule → differs p s (rule_at p rule).var ≡ true) → IsRising p s0 s w
-rising_passed p s0 s rule w but done = record {
-  track = but.track;
-  settled = but.settled;
-  same = but.same;
-  noted = but.noted;
-  have = but.have;
-  held = but.held;
-  hold = but.hold;
-  fired = λ other on hold. elim (but.fired other on hold) [
-    | inl d ↦ inl d
-    | inr (inl awaited) ↦ inr awaited
-    | inr (inr e) ↦ inl (subst (λ r. differs p s (rule_at p r).var ≡ true) (sym e) (done (subst (λ r. IsHolding p s r) e hold)))
+    | inr awaited ↦ elim (still_awaited w.layer rule w.agenda a takes other awaited) [
+      | inl still ↦ inr still
+      | inr e ↦ inl (subst (λ r. differs p s (rule_at p r).var ≡ true) (sym e) (done (subst (λ r. IsHolding p s r) e hold)))
+    ]
   ];
 }
 
-module _ (p : Parts) (s0 s : List ℕ) (rule : ℕ) (w : Work) (ranged : WellRanged p) (layered : IsLayered p) (but : RisingBut p s0 s rule w) (holding : IsHolding p s rule)
-    (ne : get_or s (rule_at p rule).var 0 ≢ (rule_at p rule).new) where
+-- it holds, and sets its variable
+module _ (p : Parts) (s0 s : List ℕ) (rule : ℕ) (w : Work) (a : Agenda) (ranged : WellRanged p) (layered : IsLayered p) (rising : IsRising p s0 s w)
+    (takes : RemovesFromAgenda w.layer rule w.agenda a) (holding : IsHolding p s rule) (ne : get_or s (rule_at p rule).var 0 ≢ (rule_at p rule).new) where
+  is : IsRuleOn p w.layer rule
+  is = awaited_on p w.layer rule s w rising.track takes.was
+
   given : AreGiven p w.layer s w.sources
-  given = record { have = but.have w.layer; hold = but.hold }
+  given = record { have = rising.have w.layer; hold = rising.hold }
 
   -- what the rule sets
   pub fires : Fired p w.layer s (rule_at p rule)
-  fires = fired_there p w.layer s rule no_rule ranged layered but.track.state (forced_when_given p w.layer s w.sources layered given) but.is.exists
-      (record { on = but.is.on; can = but.is.can; hold = holding; new = ne })
+  fires = fired_there p w.layer s rule no_rule ranged layered rising.track.state (forced_when_given p w.layer s w.sources layered given) is.exists
+      (record { on = is.on; can = is.can; hold = holding; new = ne })
 
-  module _ (w' : Work) (within : (rule_at p rule).var < length s) (place : (rule_at p rule).var < length w.sources) (same : SameWork w w')
-      (moves : CountsChange p (rule_at p rule).var s w (set s (rule_at p rule).var (rule_at p rule).new) w') where
+  module _ (w' : Work) (within : (rule_at p rule).var < length s) (place : (rule_at p rule).var < length w.sources) (same : SameWork (with_agenda w a) w')
+      (moves : CountsChange p (rule_at p rule).var s (with_agenda w a) (set s (rule_at p rule).var (rule_at p rule).new) w') where
     abbrev var : ℕ
     var = (rule_at p rule).var
 
@@ -77,54 +49,42 @@ module _ (p : Parts) (s0 s : List ℕ) (rule : ℕ) (w : Work) (ranged : WellRan
     abbrev sources_after : List ℕ
     sources_after = set w.sources (rule_at p rule).var rule
 
-    value_other : (v : ℕ) → v ≢ (rule_at p rule).var → get_or (set s (rule_at p rule).var (rule_at p rule).new) v 0 ≡ get_or s v 0
-    value_other v not = get_or-set_other s (rule_at p rule).var v (rule_at p rule).new 0 not
+    -- the variables of another layer are others, with the value and the source that they had
+    off_layer : (m v : ℕ) → m ≢ w.layer → IsOnLayer p m v → v ≢ var
+    off_layer m v not on e = (let a = subst (λ u. IsOnLayer p m u) e on in let b = is.on in let f : m ≡ w.layer = cc in not f)
 
-    source_other : (v : ℕ) → v ≢ (rule_at p rule).var → get_or (set w.sources (rule_at p rule).var rule) v 0 ≡ get_or w.sources v 0
-    source_other v not = get_or-set_other w.sources (rule_at p rule).var v rule 0 not
+    value_off : (m v : ℕ) → m ≢ w.layer → IsOnLayer p m v → get_or after v 0 ≡ get_or s v 0
+    value_off m v not on = get_or-set_other s var v (rule_at p rule).new 0 (off_layer m v not on)
 
-    -- the variables of another layer are others
-    off_layer : (m v : ℕ) → m ≢ w.layer → IsOnLayer p m v → v ≢ (rule_at p rule).var
-    off_layer m v not on e = (let a = subst (λ u. IsOnLayer p m u) e on in let b = but.is.on in let f : m ≡ w.layer = cc in not f)
+    source_off : (m v : ℕ) → m ≢ w.layer → IsOnLayer p m v → get_or sources_after v 0 ≡ get_or w.sources v 0
+    source_off m v not on = get_or-set_other w.sources var v rule 0 (off_layer m v not on)
 
-    given_now : AreGiven p w.layer (set s (rule_at p rule).var (rule_at p rule).new) (set w.sources (rule_at p rule).var rule)
-    given_now = given_when_fired p w.layer rule s w.sources layered but.is given holding
-        (was_default p w.layer s rule layered (forced_when_given p w.layer s w.sources layered given) but.is ne) within place
+    given_now : AreGiven p w.layer after sources_after
+    given_now = given_when_fired p w.layer rule s w.sources layered is given holding fires.default within place
 
-    have_now : (m : ℕ) → HaveSources p m (set s (rule_at p rule).var (rule_at p rule).new) (set w.sources (rule_at p rule).var rule)
+    have_now : (m : ℕ) → HaveSources p m after sources_after
     have_now m = elim (cases_eq m w.layer) [
       | inl e ↦ rw e given_now.have
-      | inr not ↦ sources_same p m s (set s (rule_at p rule).var (rule_at p rule).new) w.sources (set w.sources (rule_at p rule).var rule)
-          (λ v on. value_other v (off_layer m v not on)) (λ v on. source_other v (off_layer m v not on)) (but.have m)
+      | inr not ↦ sources_same p m s after w.sources sources_after (λ v on. value_off m v not on) (λ v on. source_off m v not on) (rising.have m)
     ]
 
-    held_now : (m : ℕ) → w.layer < m → SourcesHold p m (set w.sources (rule_at p rule).var rule) (set s (rule_at p rule).var (rule_at p rule).new) s0
+    held_now : (m : ℕ) → w.layer < m → SourcesHold p m sources_after after s0
     held_now m lt v on d =
-        let not = off_layer m v (omega arith) on in
-        rw (source_other v not) (but.held m lt v on (differs_true p s v (λ e. differs_not p (set s (rule_at p rule).var (rule_at p rule).new) v d (value_other v not ∙ e))))
+        let not : m ≢ w.layer = omega arith in
+        rw (source_off m v not on) (rising.held m lt v on (differs_same p after s v (value_off m v not on) d))
 
-    differs_still : (v : ℕ) → differs p s v ≡ true → differs p (set s (rule_at p rule).var (rule_at p rule).new) v ≡ true
-    differs_still v d = elim (cases_eq v (rule_at p rule).var) [
-      | inl e ↦ rw e differs_now
-      | inr not ↦ differs_true p (set s (rule_at p rule).var (rule_at p rule).new) v (λ e. differs_not p s v d (sym (value_other v not) ∙ e))
-    ]
-      where
-        differs_now : differs p (set s (rule_at p rule).var (rule_at p rule).new) (rule_at p rule).var ≡ true
-        differs_now = differs_true p (set s (rule_at p rule).var (rule_at p rule).new) (rule_at p rule).var
-            (λ e. but.is.can (sym (get_or-set_same s (rule_at p rule).var (rule_at p rule).new 0 within) ∙ e))
-
-    fired_now : (other : ℕ) → IsRuleOn p w.layer other → IsHolding p (set s (rule_at p rule).var (rule_at p rule).new) other
-        → (differs p (set s (rule_at p rule).var (rule_at p rule).new) (rule_at p other).var ≡ true) ⊎ IsAwaited w'.agenda w.layer other
-    fired_now other on hold' = elim (cases_eq (rule_at p other).var (rule_at p rule).var) [
-      | inl e ↦ inl (rw e (differs_true p (set s (rule_at p rule).var (rule_at p rule).new) (rule_at p rule).var
-          (λ f. but.is.can (sym (get_or-set_same s (rule_at p rule).var (rule_at p rule).new 0 within) ∙ f))))
+    fired_now : (other : ℕ) → IsRuleOn p w.layer other → IsHolding p after other → (differs p after (rule_at p other).var ≡ true) ⊎ IsAwaited w'.agenda w.layer other
+    fired_now other on hold' = elim (cases_eq (rule_at p other).var var) [
+      | inl e ↦ inl (rw e (differs_true p after var (λ f. is.can (sym (get_or-set_same s var (rule_at p rule).new 0 within) ∙ f))))
       | inr not ↦ elim (moves.crossed w.layer other (omega arith) on) [
         | inl noted ↦ inr (inl noted)
-        | inr crossed ↦ elim (but.fired other on (crossed.1 hold')) [
-          | inl d ↦ inl (differs_still (rule_at p other).var d)
-          | inr (inl (inl noted)) ↦ inr (inl (moves.notes.keeps w.layer other noted))
-          | inr (inl (inr ready)) ↦ inr (inr (rw moves.notes.ready ready))
-          | inr (inr e) ↦ absurd (not (ap (λ r. (rule_at p r).var) e))
+        | inr crossed ↦ elim (rising.fired other on (crossed.1 hold')) [
+          | inl d ↦ inl (differs_same p s after (rule_at p other).var (sym (get_or-set_other s var (rule_at p other).var (rule_at p rule).new 0 not)) d)
+          | inr awaited ↦ elim (still_awaited w.layer rule w.agenda a takes other awaited) [
+            | inl (inl noted) ↦ inr (inl (moves.notes.keeps w.layer other noted))
+            | inl (inr ready) ↦ inr (inr (rw moves.notes.ready ready))
+            | inr e ↦ absurd (not (ap (λ r. (rule_at p r).var) e))
+          ]
         ]
       ]
     ]
@@ -132,10 +92,11 @@ module _ (p : Parts) (s0 s : List ℕ) (rule : ℕ) (w : Work) (ranged : WellRan
     pub rising_set : IsRising p s0 (set s (rule_at p rule).var (rule_at p rule).new)
         (record { layer = w'.layer; counters = w'.counters; stack = w'.stack; sources = set w'.sources (rule_at p rule).var rule; agenda = w'.agenda })
     rising_set = rw (same.layer, same.sources) record {
-      track = rw same.layer at (track_set p w.layer after w' sources_after (length-set w.sources (rule_at p rule).var rule ∙ ap length (sym same.sources)) (track_moved p w.layer var s after w w' layered but.is.on fires.state but.track moves (ap length same.sources)));
-      settled = but.settled;
-      same = same_moved p w.layer var (rule_at p rule).new s0 s but.is.on but.same;
-      noted = noted_moved p (w.layer + 1) var s0 s after w w' moves but.noted;
+      track = rw same.layer at (track_set p w.layer after w' sources_after (length-set w.sources var rule ∙ ap length (sym same.sources))
+          (track_moved p w.layer var s after (with_agenda w a) w' layered is.on fires.state (track_taken p w.layer rule s w a rising.track takes) moves (ap length same.sources)));
+      settled = rising.settled;
+      same = same_moved p w.layer var (rule_at p rule).new s0 s is.on rising.same;
+      noted = noted_moved p (w.layer + 1) var s0 s after (with_agenda w a) w' moves (noted_taken p w.layer rule s0 s w.agenda a is takes rising.noted);
       have = have_now;
       held = held_now;
       hold = given_now.hold;
@@ -180,7 +141,7 @@ module _ (p : Parts) (s0 s : List ℕ) (from : ℕ) (w : Work) (m : ℕ) (layere
   pub settled_between : IsSettledAt p m s
   settled_between = settled_when_given p m s w.sources layered given_between (λ rule is hold.
       (let d = differs_where_holding p m rule s0 (between.settled m) is ((same_holding rule is).1 hold) in
-      differs_true p s (rule_at p rule).var (λ e. differs_not p s0 (rule_at p rule).var d (between.same m (rule_at p rule).var le is.on ∙ e))))
+      differs_same p s0 s (rule_at p rule).var (between.same m (rule_at p rule).var le is.on) d))
 
 -- the lowest layer of which a rule is noted is at hand
 pub falling_begins : (p : Parts) (s0 s : List ℕ) (from layer : ℕ) (w : Work) → IsBetween p s0 from s w → from ≤ layer → NoLowerLayer layer w.agenda
@@ -211,7 +172,7 @@ falling_begins p s0 s from layer w between le lowest = record {
 }
   where
     differs_now : (other : ℕ) → IsRuleOn p layer other → differs p s0 (rule_at p other).var ≡ true → differs p s (rule_at p other).var ≡ true
-    differs_now other on d = differs_true p s (rule_at p other).var (λ e. differs_not p s0 (rule_at p other).var d (between.same layer (rule_at p other).var le on.on ∙ e))
+    differs_now other on d = differs_same p s0 s (rule_at p other).var (between.same layer (rule_at p other).var le on.on) d
 
 -- the layer at hand is settled, and the next ones are at hand
 module _ (p : Parts) (s0 s s' : List ℕ) (from layer : ℕ) (w w' : Work) (layered : IsLayered p) (between : IsBetween p s0 from s w) (le : from ≤ layer) (lowest : NoLowerLayer layer w.agenda)

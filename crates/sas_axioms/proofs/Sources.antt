@@ -1,5 +1,5 @@
 -- Variables set by sources are forced, and a rule that fires is a source.
-use Rattle.sas_axioms.proofs.Imports.{◌≡◌, ◌≢◌, ℕ, zero, suc, ◌+◌, ◌<◌, ◌==◌, Bool, true, cond, List, [], ◌∷◌, length, get_or, set, None, refl, sym, ◌∙◌, ap, subst, inl, inr, arith, cases_eq, eq-eqb, eqb_tells, get_or_default, get_or-set_same, get_or-set_other, Fact, Rule, Parts, rule_at, IsOnLayer, default_of, IsLayered, new_value_of, value_with, IsClosed, differs, IsSettledAt, OnlyForced, IsRuleOn, IsLate, AllHold, IsHolding, IsSourceOf, HaveSources, AreGiven, HasFired, AtDefault, SameOff, differs_true, differs_not, layer_decides, given_on, looks_down, new_value_is, settled_when_fired, differs_decides}
+use Rattle.sas_axioms.proofs.Imports.{◌≡◌, ◌≢◌, ℕ, zero, suc, ◌+◌, ◌<◌, ◌==◌, Bool, true, cond, List, [], ◌∷◌, length, get_or, set, None, refl, sym, ◌∙◌, ap, subst, inl, inr, arith, cases_eq, eq-eqb, eqb_tells, get_or_default, get_or-set_same, get_or-set_other, Fact, Rule, Parts, rule_at, IsOnLayer, default_of, IsLayered, new_value_of, value_with, IsClosed, differs, IsSettledAt, OnlyForced, IsRuleOn, IsLate, AllHold, IsHolding, IsSourceOf, HaveSources, AreGiven, HasFired, AtDefault, SameOff, differs_true, differs_same, differs_not, layer_decides, given_on, looks_down, new_value_is, settled_when_fired, differs_decides}
 use Rattle.sas_meaning.proofs.Layers.{given_off as value_off}
 
 abbrev pub no_rule : Rule
@@ -58,24 +58,18 @@ given_at_default p layer s sources at = record {
 pub sources_fall : (p : Parts) (m : ℕ) (s s' sources : List ℕ) → ((v : ℕ) → differs p s' v ≡ true → get_or s' v 0 ≡ get_or s v 0) → HaveSources p m s sources → HaveSources p m s' sources
 sources_fall p m s s' sources kept have = record {
   rank = have.rank;
-  source = λ v on d. have.source v on (differed v d);
-  new = λ v on d. kept v d ∙ have.new v on (differed v d);
+  source = λ v on d. have.source v on (differs_same p s' s v (kept v d) d);
+  new = λ v on d. kept v d ∙ have.new v on (differs_same p s' s v (kept v d) d);
 }
-  where
-    differed : (v : ℕ) → differs p s' v ≡ true → differs p s v ≡ true
-    differed v d = differs_true p s v (λ e. differs_not p s' v d (kept v d ∙ e))
 
 -- where a layer's values and sources are the same
 pub sources_same : (p : Parts) (m : ℕ) (s s' sources sources' : List ℕ) → ((v : ℕ) → IsOnLayer p m v → get_or s' v 0 ≡ get_or s v 0) → ((v : ℕ) → IsOnLayer p m v → get_or sources' v 0 ≡ get_or sources v 0)
     → HaveSources p m s sources → HaveSources p m s' sources'
 sources_same p m s s' sources sources' kept same have = record {
   rank = have.rank;
-  source = λ v on d. rw (same v on) (have.source v on (differed v on d));
-  new = λ v on d. kept v on ∙ have.new v on (differed v on d);
+  source = λ v on d. rw (same v on) (have.source v on (differs_same p s' s v (kept v on) d));
+  new = λ v on d. kept v on ∙ have.new v on (differs_same p s' s v (kept v on) d);
 }
-  where
-    differed : (v : ℕ) → IsOnLayer p m v → differs p s' v ≡ true → differs p s v ≡ true
-    differed v on d = differs_true p s v (λ e. differs_not p s' v d (kept v on ∙ e))
 
 -- a layer that was settled before is given as before, where what its rules ask about has kept its
 -- value
@@ -83,14 +77,11 @@ pub given_off : (p : Parts) (layer m : ℕ) (s s' sources sources' : List ℕ) �
     → m < layer → AreGiven p m s sources → AreGiven p m s' sources'
 given_off p layer m s s' sources sources' layered off same lt given = record {
   have = sources_same p m s s' sources sources' (λ v on. sym (off v (not_there v on))) (λ v on. same v (not_there v on)) given.have;
-  hold = λ v on d. rw (same v (not_there v on)) (holds v on (back v on d));
+  hold = λ v on d. rw (same v (not_there v on)) (holds v on (differs_same p s' s v (sym (off v (not_there v on))) d));
 }
   where
     not_there : (v : ℕ) → IsOnLayer p m v → IsOnLayer p layer v → ⊥
     not_there v on on' = let a = on in let b = on' in let e : m ≡ layer = cc in omega arith
-
-    back : (v : ℕ) → IsOnLayer p m v → differs p s' v ≡ true → differs p s v ≡ true
-    back v on d = differs_true p s v (λ e. differs_not p s' v d (sym (off v (not_there v on)) ∙ e))
 
     holds : (v : ℕ) → IsOnLayer p m v → differs p s v ≡ true → IsHolding p s' (get_or sources v 0)
     holds v on d j e within =
@@ -120,14 +111,8 @@ module _ (p : Parts) (layer rule : ℕ) (s sources : List ℕ) (layered : IsLaye
   abbrev after : List ℕ
   after = set s (rule_at p rule).var (rule_at p rule).new
 
-  abbrev sources_after : List ℕ
-  sources_after = set sources (rule_at p rule).var rule
-
   abbrev rank_after : ℕ → ℕ
   rank_after v = cond (v == (rule_at p rule).var) (above given.have.rank (rule_at p rule).conditions) (given.have.rank v)
-
-  other : (v : ℕ) → v ≢ (rule_at p rule).var → get_or (set s (rule_at p rule).var (rule_at p rule).new) v 0 ≡ get_or s v 0
-  other v ne = get_or-set_other s (rule_at p rule).var v (rule_at p rule).new 0 ne
 
   -- no rule that holds asks about the variable on its layer, which had its default
   not_asked : (k : ℕ) → IsRuleOn p layer k → IsHolding p s k → (j : ℕ) (e : Fact) → j < length (rule_at p k).conditions → (get_or (rule_at p k).conditions j e).var ≢ (rule_at p rule).var
@@ -137,7 +122,7 @@ module _ (p : Parts) (layer rule : ℕ) (s sources : List ℕ) (layered : IsLaye
       (subst (λ v. get_or s v 0 ≡ default_of p v) (sym same) default)
 
   still_holds : (k : ℕ) → IsRuleOn p layer k → IsHolding p s k → IsHolding p (set s (rule_at p rule).var (rule_at p rule).new) k
-  still_holds k is_k hold j e lt = other (get_or (rule_at p k).conditions j e).var (not_asked k is_k hold j e lt) ∙ hold j e lt
+  still_holds k is_k hold j e lt = get_or-set_other s its (get_or (rule_at p k).conditions j e).var (rule_at p rule).new 0 (not_asked k is_k hold j e lt) ∙ hold j e lt
 
   rank_other : (v : ℕ) → v ≢ (rule_at p rule).var → cond (v == (rule_at p rule).var) (above given.have.rank (rule_at p rule).conditions) (given.have.rank v) ≡ given.have.rank v
   rank_other v ne = elim (eqb_tells v (rule_at p rule).var) [ inl w ↦ absurd (ne w.1) | inr w ↦ rw w.0 refl ]
@@ -146,7 +131,7 @@ module _ (p : Parts) (layer rule : ℕ) (s sources : List ℕ) (layered : IsLaye
   rank_its = rw (eq-eqb (rule_at p rule).var (rule_at p rule).var refl) refl
 
   differed : (v : ℕ) → v ≢ (rule_at p rule).var → differs p (set s (rule_at p rule).var (rule_at p rule).new) v ≡ true → differs p s v ≡ true
-  differed v ne d = differs_true p s v (λ e. differs_not p (set s (rule_at p rule).var (rule_at p rule).new) v d (other v ne ∙ e))
+  differed v ne d = differs_same p after s v (get_or-set_other s its v (rule_at p rule).new 0 ne) d
 
   new_source : IsSourceOf p layer rank_after (rule_at p rule).var rule
   new_source = record {
@@ -171,9 +156,6 @@ module _ (p : Parts) (layer rule : ℕ) (s sources : List ℕ) (layered : IsLaye
       source : IsSourceOf p layer given.have.rank v (get_or sources v 0)
       source = given.have.source v on d
 
-  source_other : (v : ℕ) → v ≢ (rule_at p rule).var → get_or (set sources (rule_at p rule).var rule) v 0 ≡ get_or sources v 0
-  source_other v ne = get_or-set_other sources (rule_at p rule).var v rule 0 ne
-
   source_its : get_or (set sources (rule_at p rule).var rule) (rule_at p rule).var 0 ≡ rule
   source_its = get_or-set_same sources (rule_at p rule).var rule 0 place
 
@@ -183,16 +165,16 @@ module _ (p : Parts) (layer rule : ℕ) (s sources : List ℕ) (layered : IsLaye
       rank = rank_after;
       source = λ v on d. elim (cases_eq v (rule_at p rule).var) [
         | inl e ↦ rw e (rw source_its new_source)
-        | inr ne ↦ rw (source_other v ne) (old_source v ne on (differed v ne d))
+        | inr ne ↦ rw (get_or-set_other sources its v rule 0 ne) (old_source v ne on (differed v ne d))
       ];
       new = λ v on d. elim (cases_eq v (rule_at p rule).var) [
         | inl e ↦ rw e (get_or-set_same s (rule_at p rule).var (rule_at p rule).new 0 within ∙ sym (new_value_is p rule no_rule layered is.exists is.can))
-        | inr ne ↦ other v ne ∙ given.have.new v on (differed v ne d)
+        | inr ne ↦ get_or-set_other s its v (rule_at p rule).new 0 ne ∙ given.have.new v on (differed v ne d)
       ];
     };
     hold = λ v on d. elim (cases_eq v (rule_at p rule).var) [
       | inl e ↦ rw e (rw source_its (still_holds rule is holding))
-      | inr ne ↦ rw (source_other v ne) (still_holds (get_or sources v 0) (given.have.source v on (differed v ne d)).is (given.hold v on (differed v ne d)))
+      | inr ne ↦ rw (get_or-set_other sources its v rule 0 ne) (still_holds (get_or sources v 0) (given.have.source v on (differed v ne d)).is (given.hold v on (differed v ne d)))
     ];
   }
 
@@ -213,18 +195,19 @@ pub differs_where_holding : (p : Parts) (layer rule : ℕ) (s : List ℕ) → Is
 differs_where_holding p layer rule s settled on hold =
     settled.closed rule no_rule on.exists on.on on.can (λ j e lt. settled_value p layer s settled (get_or (rule_at p rule).conditions j e).var ∙ hold j e lt)
 
+-- a layer on which only forced variables differ is settled, where each rule that holds has set its
+-- variable
+pub settled_when_set : (p : Parts) (layer : ℕ) (s : List ℕ) → OnlyForced p layer s
+    → ((k : ℕ) → IsRuleOn p layer k → IsHolding p s k → get_or s (rule_at p k).var 0 ≡ (rule_at p k).new) → IsSettledAt p layer s
+settled_when_set p layer s forced done = settled_when_fired p layer s forced (λ k d lt.
+    subst (λ (r : Rule). HasFired p layer s r) (get_or_default p.rules k no_rule d lt) (λ on can hold. done k (record { exists = lt; on = on; can = can }) hold))
+
 -- a layer that sources give is settled, where the variable of each rule that holds differs from its
 -- default
 pub settled_when_given : (p : Parts) (layer : ℕ) (s sources : List ℕ) → IsLayered p → AreGiven p layer s sources
     → ((rule : ℕ) → IsRuleOn p layer rule → IsHolding p s rule → differs p s (rule_at p rule).var ≡ true) → IsSettledAt p layer s
-settled_when_given p layer s sources layered given fired = settled_when_fired p layer s (forced_when_given p layer s sources layered given) done
-  where
-    done_at : (k : ℕ) → k < length p.rules → HasFired p layer s (rule_at p k)
-    done_at k lt on can hold =
-        given.have.new (rule_at p k).var on (fired k (record { exists = lt; on = on; can = can }) hold) ∙ new_value_is p k no_rule layered lt can
-
-    done : (k : ℕ) (d : Rule) → k < length p.rules → HasFired p layer s (get_or p.rules k d)
-    done k d lt = subst (λ (r : Rule). HasFired p layer s r) (get_or_default p.rules k no_rule d lt) (done_at k lt)
+settled_when_given p layer s sources layered given fired = settled_when_set p layer s (forced_when_given p layer s sources layered given)
+    (λ k is hold. given.have.new (rule_at p k).var is.on (fired k is hold) ∙ new_value_is p k no_rule layered is.exists is.can)
 
 -- a late rule doesn't hold while the variables of its layer have their defaults
 pub late_waits : (p : Parts) (layer k : ℕ) (s : List ℕ) → IsLayered p → IsRuleOn p layer k → IsLate p layer k → AtDefault p layer s → AllHold (λ v. get_or s v 0) (rule_at p k).conditions → ⊥

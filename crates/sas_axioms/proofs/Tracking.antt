@@ -21,9 +21,13 @@ awaited_on p layer rule s w track awaited = elim awaited [
   | inr ready ↦ All-contains (λ (r : ℕ). IsRuleOn p layer r) w.agenda.ready.items rule track.ready ready
 ]
 
+-- the work with another agenda
+abbrev pub with_agenda : Work → Agenda → Work
+with_agenda w a = record { layer = w.layer; counters = w.counters; stack = w.stack; sources = w.sources; agenda = a }
+
 -- a rule is taken off
 pub track_taken : (p : Parts) (layer rule : ℕ) (s : List ℕ) (w : Work) (a' : Agenda) → IsOnTrack p layer s w → RemovesFromAgenda layer rule w.agenda a'
-    → IsOnTrack p layer s (record { layer = w.layer; counters = w.counters; stack = w.stack; sources = w.sources; agenda = a' })
+    → IsOnTrack p layer s (with_agenda w a')
 track_taken p layer rule s w a' track takes = record {
   state = track.state;
   counts = track.counts;
@@ -37,7 +41,7 @@ track_taken p layer rule s w a' track takes = record {
 -- rules of the layer are made ready
 pub track_ready : (p : Parts) (layer : ℕ) (s : List ℕ) (w : Work) (a' : Agenda) (rules : List ℕ) → IsOnTrack p layer s w → All (λ (r : ℕ). IsRuleOn p layer r) rules
     → a'.ready.items ≡ w.agenda.ready.items ++ rules → a'.noted ≡ w.agenda.noted
-    → IsOnTrack p layer s (record { layer = w.layer; counters = w.counters; stack = w.stack; sources = w.sources; agenda = a' })
+    → IsOnTrack p layer s (with_agenda w a')
 track_ready p layer s w a' rules track all ready noted = record {
   state = track.state;
   counts = track.counts;
@@ -101,14 +105,14 @@ pub same_more : (w w' w'' : Work) → SameWork w w' → SameWork w' w'' → Same
 same_more w w' w'' a b = record { layer = b.layer ∙ a.layer; stack = b.stack ∙ a.stack; one_each = b.one_each ∙ a.one_each; sources = b.sources ∙ a.sources }
 
 -- another agenda is no other work
-pub same_but : (w w' : Work) (a : Agenda) → SameWork w w' → SameWork w (record { layer = w'.layer; counters = w'.counters; stack = w'.stack; sources = w'.sources; agenda = a })
+pub same_but : (w w' : Work) (a : Agenda) → SameWork w w' → SameWork w (with_agenda w' a)
 same_but w w' a same = record { layer = same.layer; stack = same.stack; one_each = same.one_each; sources = same.sources }
 
 -- and the same work has as much room
 pub room_same : (w w' : Work) → SameWork w w' → KeepsRoom w w'
 room_same w w' same = record { layer = same.layer; stack = same.stack; one_each = same.one_each; sources = ap length same.sources }
 
-pub room_but : (w w' : Work) (a : Agenda) → KeepsRoom w w' → KeepsRoom w (record { layer = w'.layer; counters = w'.counters; stack = w'.stack; sources = w'.sources; agenda = a })
+pub room_but : (w w' : Work) (a : Agenda) → KeepsRoom w w' → KeepsRoom w (with_agenda w' a)
 room_but w w' a keeps = record { layer = keeps.layer; stack = keeps.stack; one_each = keeps.one_each; sources = keeps.sources }
 
 pub room_more : (w w' w'' : Work) → KeepsRoom w w' → KeepsRoom w' w'' → KeepsRoom w w''

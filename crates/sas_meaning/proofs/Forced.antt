@@ -10,6 +10,10 @@ differs_true t s v ne = elim (differs_decides t s v) [ inl p ↦ absurd (ne p.0)
 pub differs_not : (t : Parts) (s : List ℕ) (v : ℕ) → differs t s v ≡ true → get_or s v 0 ≢ default_of t v
 differs_not t s v d = elim (differs_decides t s v) [ inl p ↦ (let e = p.1 in absurd cc) | inr p ↦ p.0 ]
 
+-- a variable with the same value in two states differs from its default in both
+pub differs_same : (t : Parts) (s s' : List ℕ) (v : ℕ) → get_or s v 0 ≡ get_or s' v 0 → differs t s v ≡ true → differs t s' v ≡ true
+differs_same t s s' v same d = rw same at d
+
 -- states that are the same off the layer agree below it
 pub agree_off : (t : Parts) (layer : ℕ) (s s' : List ℕ) → SameOff t layer s s' → AgreeBelow t layer s s'
 agree_off t layer s s' same = record {
@@ -43,7 +47,7 @@ module _ (t : Parts) (layer : ℕ) (layered : IsLayered t) (k : ℕ) (d : Rule) 
         other v ne = get_or-set_other s (get_or t.rules k d).var v (get_or t.rules k d).new 0 ne
 
         still : (v : ℕ) → v ≢ (get_or t.rules k d).var → differs t (set s (get_or t.rules k d).var (get_or t.rules k d).new) v ≡ true → differs t s v ≡ true
-        still v ne df = differs_true t s v (λ e. differs_not t (set s (get_or t.rules k d).var (get_or t.rules k d).new) v df (other v ne ∙ e))
+        still v ne df = differs_same t (set s (get_or t.rules k d).var (get_or t.rules k d).new) s v (other v ne) df
 
         new : (v : ℕ) → IsOnLayer t layer v → differs t (set s (get_or t.rules k d).var (get_or t.rules k d).new) v ≡ true
             → get_or (set s (get_or t.rules k d).var (get_or t.rules k d).new) v 0 ≡ new_value_of t v
@@ -122,6 +126,7 @@ condition_within t k j c ranged lt lt' =
 
 -- what one rule of the task changes
 pub record Fired (t : Parts) (layer : ℕ) (s : List ℕ) (rule : Rule) : Type 0 where
+  pub default : get_or s rule.var 0 ≡ default_of t rule.var
   pub state : IsState t.variables (set s rule.var rule.new)
   pub forced : OnlyForced t layer (set s rule.var rule.new)
   pub off : SameOff t layer s (set s rule.var rule.new)
@@ -130,22 +135,18 @@ pub record Fired (t : Parts) (layer : ℕ) (s : List ℕ) (rule : Rule) : Type 0
 pub fired_there : (t : Parts) (layer : ℕ) (s : List ℕ) (k : ℕ) (d : Rule) → WellRanged t → IsLayered t → IsState t.variables s → OnlyForced t layer s
     → k < length t.rules → Changes t layer s (get_or t.rules k d) → Fired t layer s (get_or t.rules k d)
 fired_there t layer s k d ranged layered state forced lt ch = record {
+  default = default;
   state = state_set t s (get_or t.rules k d).var (get_or t.rules k d).new state (rule_new t ranged k d lt);
   forced = forced_more t layer layered k d lt s (omega (arith, within)) forced ch.on ch.can ch.hold;
-  off = λ v off. sym (get_or-set_other s (get_or t.rules k d).var v (get_or t.rules k d).new 0 (λ e. off (subst (λ x. IsOnLayer t layer x) (sym e) ch.on)));
-  fewer = fewer_equal s t.init (get_or t.rules k d).var (get_or t.rules k d).new (omega (arith, within)) (omega (arith, within, ranged.init.one_each)) same ch.can;
+  off = fired_off t layer layered k d lt s (omega (arith, within)) ch.on;
+  fewer = fewer_equal s t.init (get_or t.rules k d).var (get_or t.rules k d).new (omega (arith, within)) (omega (arith, within, ranged.init.one_each)) default ch.can;
 }
   where
     within : (get_or t.rules k d).var < length t.variables
     within = fact_within t (get_or t.rules k d).var (get_or t.rules k d).new (rule_new t ranged k d lt)
 
-    same : get_or s (get_or t.rules k d).var 0 ≡ default_of t (get_or t.rules k d).var
-    same = elim (differs_decides t s (get_or t.rules k d).var) [
+    default : get_or s (get_or t.rules k d).var 0 ≡ default_of t (get_or t.rules k d).var
+    default = elim (differs_decides t s (get_or t.rules k d).var) [
       | inl p ↦ p.0
       | inr p ↦ absurd (ch.new (forced.new (get_or t.rules k d).var ch.on p.1 ∙ new_value_is t k d layered lt ch.can))
     ]
-
-pub fired_by : (t : Parts) (layer : ℕ) (s : List ℕ) (k : ℕ) (rule : Rule) → WellRanged t → IsLayered t → IsState t.variables s → OnlyForced t layer s
-    → k < length t.rules → rule ≡ get_or t.rules k rule → Changes t layer s rule → Fired t layer s rule
-fired_by t layer s k rule ranged layered state forced lt is ch =
-    subst (λ r. Fired t layer s r) (sym is) (fired_there t layer s k rule ranged layered state forced lt (subst (λ r. Changes t layer s r) is ch))

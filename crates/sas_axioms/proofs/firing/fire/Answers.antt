@@ -1,6 +1,6 @@
 -- Setting the variable and its source.
 use Rattle.sas_axioms.proofs.Imports.{◌≡◌, ◌≢◌, ℕ, Option, Some, true, false, [], ◌∷◌, ◌++◌, get_or, set, refl, sym, ap, subst, ◌∙◌, inl, inr, arith, is_ok, option_eq, Change, rule_at, layer_of, IsRuleOn, ◌==◌}
-use Rattle.sas_axioms.proofs.Counters.{Pushed, pushed, fires_by, fires_nothing, rule_within, was_default}
+use Rattle.sas_axioms.proofs.Counters.{Pushed, pushed, fires_by, fires_nothing, rule_within}
 use Rattle.sas_axioms.proofs.RuleChanges.{change_within, same_option}
 use Rattle.sas_axioms.proofs.Sources.{given_when_fired}
 use Rattle.sas_axioms.proofs.firing.fire.Goals as goal
@@ -37,7 +37,7 @@ after g c =
     pushed p w.layer c.args.state.now w.stack.items c.args.rule c.task.ensures.well_ranged c.task.ensures.layered c.requires.running (on g c) (c.requires.hold (on g c)) (changes g c)
 
 succeeds : (g : Over) (c : After-push g) → is_ok c.push.result ≡ true
-succeeds g c = let p = after g c in let fewer = p.fewer in let room = c.requires.running.room in let len = c.requires.running.state.one_each in c.push.ensures.succeeds (omega (arith, c.requires.room.variables, c.args.work.now.stack.ok.0))
+succeeds g c = let p = after g c in let fewer = p.fires.fewer in let room = c.requires.running.room in let len = c.requires.running.state.one_each in c.push.ensures.succeeds (omega (arith, c.requires.room.variables, c.args.work.now.stack.ok.0))
 
 pub unwrap-requires : goal.unwrap-requires
 unwrap-requires g c = succeeds g c
@@ -50,7 +50,7 @@ returns-then-eq g c =
     let p = c.args.task.now in
     fires_by p c.args.state.now w _ _ c.args.rule c.task.ensures.well_ranged c.requires.running.state (on g a) (after g a)
     (λ given. given_when_fired p w.layer c.args.rule c.args.state.now w.sources c.task.ensures.layered (on g a) given (c.requires.hold (on g a))
-    (was_default p w.layer c.args.state.now c.args.rule c.task.ensures.layered c.requires.running.forced (on g a) (changes g a)) (rule_within p c.args.state.now c.args.rule c.task.ensures.well_ranged c.requires.running.state c.requires.rule.1.exists)
+    (after g a).fires.default (rule_within p c.args.state.now c.args.rule c.task.ensures.well_ranged c.requires.running.state c.requires.rule.1.exists)
     (let v = rule_within p c.args.state.now c.args.rule c.task.ensures.well_ranged c.requires.running.state c.requires.rule.1.exists in let one = c.requires.running.state.one_each in omega (arith, c.requires.room.sources)))
     (c.set-then-eq.ensures ∙ ap (λ (x : Change). set w.sources x.var c.args.rule) e)
     (c.set.ensures ∙ ap (λ (x : Change). set c.args.state.now x.var x.new) e)

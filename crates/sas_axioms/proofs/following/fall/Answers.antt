@@ -1,8 +1,8 @@
 -- The rules are removed one by one: each resets its variable or becomes ready.
-use Rattle.sas_axioms.proofs.Imports.{◌≡◌, ◌⊎◌, ℕ, ◌<◌, true, List, ◌∷◌, [], length, get_or, set, is_some, refl, sym, ap, subst, ◌∙◌, inl, inr, arith, All, Contains, heap_items, length-append, Change, rule_at, IsState, IsOnLayer, default_of, differs, on_layer_within, state_set, differs_not, Agenda, Work, IsOnAgenda, work_left, IsFalling, IsRuleOn, IsHolding}
+use Rattle.sas_axioms.proofs.Imports.{◌≡◌, ◌⊎◌, ℕ, ◌<◌, true, ◌∷◌, [], length, get_or, set, is_some, refl, sym, ap, subst, ◌∙◌, inl, inr, arith, All, Contains, heap_items, length-append, Change, rule_at, IsState, IsOnLayer, default_of, differs, on_layer_within, state_set, differs_not, Agenda, IsOnAgenda, work_left, IsFalling, IsRuleOn, IsHolding}
 use Rattle.sas_axioms.proofs.RulesOf.{rules_on, rule_under}
-use Rattle.sas_axioms.proofs.FallingSteps.{FallingBut, falling_taken, falling_passed, falling_fell, risen_from_fallen, fallen_is, fallen_state, less_in_the_end}
-use Rattle.sas_axioms.proofs.Tracking.{holding_when_zero, off_step, covered_step, same_more, same_but}
+use Rattle.sas_axioms.proofs.FallingSteps.{falling_passed, falling_fell, risen_from_fallen, fallen_is, fallen_state, less_in_the_end}
+use Rattle.sas_axioms.proofs.Tracking.{awaited_on, holding_when_zero, off_step, covered_step, same_more, same_but}
 use Rattle.sas_axioms.proofs.following.fall.Goals as goal
 use Rattle.sas_axioms.proofs.following.fall.Given.{Over}
 use Rattle.sas_axioms.proofs.following.fall.Goals.{In-Some}
@@ -13,24 +13,21 @@ take-requires-clause-ordered g c = (c.loop-rule.invariant.falling c.requires.fal
 pub take-requires-clause-lowest : goal.take-requires-clause-lowest
 take-requires-clause-lowest g c = (c.loop-rule.invariant.falling c.requires.falling.0 c.requires.falling.1).track.from
 
--- what holds without the rule
-but : (g : Over) (c : In-Some g) → (s0 : List ℕ) → IsFalling c.args.task.now s0 c.args.state.now c.args.work.now
-    → FallingBut c.args.task.now s0 c.loop-rule.state c.in-Some.rule
-    (record { layer = c.loop-rule.work.layer; counters = c.loop-rule.work.counters; stack = c.loop-rule.work.stack; sources = c.loop-rule.work.sources; agenda = c.take.new.self })
-but g c s0 falling = falling_taken c.args.task.now s0 c.loop-rule.state c.loop-rule.work c.take.new.self c.in-Some.rule (c.loop-rule.invariant.falling s0 falling) c.in-Some.ensures.some
+-- what held before
+some : (g : Over) (c : In-Some g) → IsFalling c.args.task.now c.requires.falling.0 c.loop-rule.state c.loop-rule.work
+some g c = c.loop-rule.invariant.falling c.requires.falling.0 c.requires.falling.1
 
-some : (g : Over) (c : In-Some g) → FallingBut c.args.task.now c.requires.falling.0 c.loop-rule.state c.in-Some.rule
-    (record { layer = c.loop-rule.work.layer; counters = c.loop-rule.work.counters; stack = c.loop-rule.work.stack; sources = c.loop-rule.work.sources; agenda = c.take.new.self })
-some g c = but g c c.requires.falling.0 c.requires.falling.1
+on : (g : Over) (c : In-Some g) → IsRuleOn c.args.task.now c.loop-rule.work.layer c.in-Some.rule
+on g c = awaited_on c.args.task.now c.loop-rule.work.layer c.in-Some.rule c.loop-rule.state c.loop-rule.work (some g c).track c.in-Some.ensures.some.was
 
 within : (g : Over) (c : In-Some g) → (rule_at c.args.task.now c.in-Some.rule).var < length c.args.task.now.variables
-within g c = on_layer_within c.args.task.now c.loop-rule.work.layer (rule_at c.args.task.now c.in-Some.rule).var (some g c).is.on
+within g c = on_layer_within c.args.task.now c.loop-rule.work.layer (rule_at c.args.task.now c.in-Some.rule).var (on g c).on
 
 pub has_lost-requires-clause-rule : goal.has_lost-requires-clause-rule
-has_lost-requires-clause-rule g c = (c.loop-rule.work.layer, (some g c).is)
+has_lost-requires-clause-rule g c = (c.loop-rule.work.layer, on g c)
 
 pub rule_change-var-requires : goal.rule_change-var-requires
-rule_change-var-requires g c = (some g (goal.at.rule_change-var-requires g c).In-Some).is.exists
+rule_change-var-requires g c = (on g (goal.at.rule_change-var-requires g c).In-Some).exists
 
 pub initial_value-value-requires : goal.initial_value-value-requires
 initial_value-value-requires g c = rw (ap (λ (x : Change). x.var) c.rule_change-var.ensures) (within g (goal.at.initial_value-value-requires g c).In-Some)
@@ -39,7 +36,7 @@ pub set_to-requires-clause-counts : goal.set_to-requires-clause-counts
 set_to-requires-clause-counts g c = (some g (goal.at.set_to-requires-clause-counts g c).In-Some).track.counts
 
 pub set_to-requires-clause-derived : goal.set_to-requires-clause-derived
-set_to-requires-clause-derived g c = rw (ap (λ (x : Change). x.var) c.rule_change-var.ensures) (ap is_some (some g (goal.at.set_to-requires-clause-derived g c).In-Some).is.on)
+set_to-requires-clause-derived g c = rw (ap (λ (x : Change). x.var) c.rule_change-var.ensures) (ap is_some (on g (goal.at.set_to-requires-clause-derived g c).In-Some).on)
 
 pub get-requires : goal.get-requires
 get-requires g c = rw (ap (λ (x : Change). x.var) c.rule_change-var.ensures) (omega (arith, within g (goal.at.get-requires g c).In-Some, c.requires.rules.one_each))
@@ -64,7 +61,7 @@ returns-in_err-set_to-clause-off g c =
     let i = (goal.at.returns-in_err-set_to-clause-off g c).In-Some in
     let e = ap (λ (x : Change). x.var) c.rule_change-var.ensures in
     off_step p c.args.work.now.layer c.loop-rule.work.layer c.args.state.now c.loop-rule.state c.set_to.new.state _ _ inv.same.layer inv.off
-    (subst (λ v. IsOnLayer p c.loop-rule.work.layer v) (sym e) (some g i).is.on) c.set_to.ensures.state
+    (subst (λ v. IsOnLayer p c.loop-rule.work.layer v) (sym e) (on g i).on) c.set_to.ensures.state
 
 pub returns-in_err-make_ready-clause-off : goal.returns-in_err-make_ready-clause-off
 returns-in_err-make_ready-clause-off g c =
@@ -73,7 +70,7 @@ returns-in_err-make_ready-clause-off g c =
     let i = (goal.at.returns-in_err-make_ready-clause-off g c).In-Some in
     let e = ap (λ (x : Change). x.var) c.rule_change-var.ensures in
     off_step p c.args.work.now.layer c.loop-rule.work.layer c.args.state.now c.loop-rule.state c.set_to.new.state _ _ inv.same.layer inv.off
-    (subst (λ v. IsOnLayer p c.loop-rule.work.layer v) (sym e) (some g i).is.on) c.set_to.ensures.state
+    (subst (λ v. IsOnLayer p c.loop-rule.work.layer v) (sym e) (on g i).on) c.set_to.ensures.state
 
 pub returns-in_err-set_to-clause-covered : goal.returns-in_err-set_to-clause-covered
 returns-in_err-set_to-clause-covered g c =
@@ -81,7 +78,7 @@ returns-in_err-set_to-clause-covered g c =
     let i = (goal.at.returns-in_err-set_to-clause-covered g c).In-Some in
     let e = ap (λ (x : Change). x.var) c.rule_change-var.ensures in
     covered_step p c.loop-rule.work.layer c.args.state.now c.loop-rule.state c.set_to.new.state _ _ c.args.touched.now c.loop-rule.touched c.set_to.new.touched
-    c.loop-rule.invariant.covered (subst (λ v. IsOnLayer p c.loop-rule.work.layer v) (sym e) (some g i).is.on) c.set_to.ensures.state c.set_to.ensures.noted
+    c.loop-rule.invariant.covered (subst (λ v. IsOnLayer p c.loop-rule.work.layer v) (sym e) (on g i).on) c.set_to.ensures.state c.set_to.ensures.noted
 
 pub returns-in_err-make_ready-clause-covered : goal.returns-in_err-make_ready-clause-covered
 returns-in_err-make_ready-clause-covered g c =
@@ -89,7 +86,7 @@ returns-in_err-make_ready-clause-covered g c =
     let i = (goal.at.returns-in_err-make_ready-clause-covered g c).In-Some in
     let e = ap (λ (x : Change). x.var) c.rule_change-var.ensures in
     covered_step p c.loop-rule.work.layer c.args.state.now c.loop-rule.state c.set_to.new.state _ _ c.args.touched.now c.loop-rule.touched c.set_to.new.touched
-    c.loop-rule.invariant.covered (subst (λ v. IsOnLayer p c.loop-rule.work.layer v) (sym e) (some g i).is.on) c.set_to.ensures.state c.set_to.ensures.noted
+    c.loop-rule.invariant.covered (subst (λ v. IsOnLayer p c.loop-rule.work.layer v) (sym e) (on g i).on) c.set_to.ensures.state c.set_to.ensures.noted
 
 pub returns-clause-rising : goal.returns-clause-rising
 returns-clause-rising g c s falling =
@@ -104,15 +101,15 @@ loop-rule-preserved-in-Continue-branch-2 g c =
     let s = c.loop-rule.state in
     let rule = c.in-Some.rule in
     let work = c.loop-rule.work in
-    let taken : Work = record { layer = work.layer; counters = work.counters; stack = work.stack; sources = work.sources; agenda = c.take.new.self } in
     let b = some g i in
+    let is = on g i in
     let var_is = ap (λ (x : Change). x.var) c.rule_change-var.ensures in
     let state_is : c.set_to.new.state ≡ set s (rule_at p rule).var (default_of p (rule_at p rule).var) =
     fallen_is p s c.set_to.new.state rule c.initial_value-value.result c.rule_change-var.result c.rule_change-var.ensures c.initial_value-value.ensures c.set_to.ensures.state in
     let state : IsState p.variables (set s (rule_at p rule).var (default_of p (rule_at p rule).var)) =
     state_set p s (rule_at p rule).var (default_of p (rule_at p rule).var) b.track.state (c.task.ensures.well_ranged.init.in_range (rule_at p rule).var (within g i)) in
     let moves = rw (var_is, state_is) at c.in_ok-set_to.ensures.moves in
-    let all : All (λ (r : ℕ). IsRuleOn p work.layer r) c.get.result.now = rw (c.get.ensures, var_is) (rules_on p c.args.rules_of.now c.requires.rules work.layer (rule_at p rule).var b.is.on) in
+    let all : All (λ (r : ℕ). IsRuleOn p work.layer r) c.get.result.now = rw (c.get.ensures, var_is) (rules_on p c.args.rules_of.now c.requires.rules work.layer (rule_at p rule).var is.on) in
     let each : (other : ℕ) → IsRuleOn p work.layer other → (rule_at p other).var ≡ (rule_at p rule).var → Contains c.get.result.now other =
     λ other on e. rw (c.get.ensures, var_is) (subst (λ v. Contains (get_or c.args.rules_of.now v []) other) e (rule_under p c.args.rules_of.now c.requires.rules work.layer other on)) in
     rw state_is record {
@@ -123,10 +120,10 @@ loop-rule-preserved-in-Continue-branch-2 g c =
         sources = c.set_to.ensures.same.sources ∙ inv.same.sources;
       };
       state = state;
-      off = off_step p c.args.work.now.layer work.layer c.args.state.now s (set s (rule_at p rule).var (default_of p (rule_at p rule).var)) (rule_at p rule).var (default_of p (rule_at p rule).var) inv.same.layer inv.off b.is.on refl;
+      off = off_step p c.args.work.now.layer work.layer c.args.state.now s (set s (rule_at p rule).var (default_of p (rule_at p rule).var)) (rule_at p rule).var (default_of p (rule_at p rule).var) inv.same.layer inv.off is.on refl;
       covered = covered_step p work.layer c.args.state.now s (set s (rule_at p rule).var (default_of p (rule_at p rule).var)) (rule_at p rule).var (default_of p (rule_at p rule).var)
-          c.args.touched.now c.loop-rule.touched c.set_to.new.touched inv.covered b.is.on refl (rw var_is at c.set_to.ensures.noted);
-      falling = λ s0 falling. falling_fell p s0 s rule taken c.set_to.new.work c.make_ready.new.agenda c.get.result.now c.task.ensures.layered (but g i s0 falling)
+          c.args.touched.now c.loop-rule.touched c.set_to.new.touched inv.covered is.on refl (rw var_is at c.set_to.ensures.noted);
+      falling = λ s0 falling. falling_fell p s0 s rule work _ c.set_to.new.work c.make_ready.new.agenda c.get.result.now c.task.ensures.layered (inv.falling s0 falling) c.in-Some.ensures.some
           (omega (arith, within g i, b.track.state.one_each)) state c.set_to.ensures.same moves all each c.in_ok-make_ready.ensures;
       left = inl (less work.agenda c.args.work.now.agenda c.make_ready.new.agenda inv.left (let a = c.in-Some.ensures.left in let d = moves.left in let e = c.in_ok-make_ready.ensures.left in omega arith));
     }
@@ -139,15 +136,14 @@ loop-rule-preserved g c =
     let s = c.loop-rule.state in
     let rule = c.in-Some.rule in
     let work = c.loop-rule.work in
-    let b = some g i in
     let holds : get_or work.sources (rule_at p rule).var 0 ≡ rule → differs p s (rule_at p rule).var ≡ true → IsHolding p s rule = λ source d.
-    holding_when_zero p work.layer rule s work.counters b.track.counts b.is (c.has_lost.ensures.no c.if-has_lost.false source d) in
+    holding_when_zero p work.layer rule s work.counters (some g i).track.counts (on g i) (c.has_lost.ensures.no c.if-has_lost.false source d) in
     record {
       same = record { layer = inv.same.layer; stack = inv.same.stack; one_each = inv.same.one_each; sources = inv.same.sources };
       state = inv.state;
       off = inv.off;
       covered = inv.covered;
-      falling = λ s0 falling. falling_passed p s0 s rule _ _ (but g i s0 falling) holds c.in_ok-make_ready-2.ensures;
+      falling = λ s0 falling. falling_passed p s0 s rule work _ _ (inv.falling s0 falling) c.in-Some.ensures.some holds c.in_ok-make_ready-2.ensures;
       left = inl (less work.agenda c.args.work.now.agenda c.make_ready-else-has_lost.new.self inv.left
           (let a = c.in-Some.ensures.left in let made = c.in_ok-make_ready-2.ensures in
           let r = ap length made.ready in let l = length-append c.take.new.self.ready.items (rule ∷ []) in let n = ap (λ h. length (heap_items h)) made.noted in let m = made.left in omega arith));

@@ -1,7 +1,7 @@
 -- The rules are removed one by one: each sets its variable, or needs not.
-use Rattle.sas_axioms.proofs.Imports.{◌≡◌, ℕ, ◌<◌, true, List, length, get_or, set, is_some, refl, sym, ap, subst, ◌∙◌, arith, Change, rule_at, IsOnLayer, on_layer_within, length-set, get_or-set_other, differs, differs_true, Work, IsRising, IsHolding}
-use Rattle.sas_axioms.proofs.RisingSteps.{RisingBut, rising_taken, rising_passed, rising_set, fires, risen_in_the_end}
-use Rattle.sas_axioms.proofs.Tracking.{holding_when_zero, zero_when_holding, off_step, covered_step, room_same, room_but, room_more}
+use Rattle.sas_axioms.proofs.Imports.{◌≡◌, ℕ, ◌<◌, true, List, length, get_or, set, is_some, refl, sym, ap, subst, ◌∙◌, arith, Change, rule_at, IsOnLayer, on_layer_within, length-set, get_or-set_other, differs, differs_true, IsRising, IsRuleOn, IsHolding}
+use Rattle.sas_axioms.proofs.RisingSteps.{rising_passed, rising_set, fires, risen_in_the_end}
+use Rattle.sas_axioms.proofs.Tracking.{awaited_on, holding_when_zero, zero_when_holding, off_step, covered_step, room_same, room_but, room_more}
 use Rattle.sas_axioms.proofs.following.rise.Goals as goal
 use Rattle.sas_axioms.proofs.following.rise.Given.{Over}
 use Rattle.sas_axioms.proofs.following.rise.Goals.{In-Some}
@@ -12,34 +12,31 @@ next-requires-clause-ordered g c = (c.loop-rule.invariant.rising c.requires.risi
 pub next-requires-clause-lowest : goal.next-requires-clause-lowest
 next-requires-clause-lowest g c = (c.loop-rule.invariant.rising c.requires.rising.0 c.requires.rising.1).track.from
 
--- what holds without the rule
-but : (g : Over) (c : In-Some g) → (s0 : List ℕ) → IsRising c.args.task.now s0 c.args.state.now c.args.work.now
-    → RisingBut c.args.task.now s0 c.loop-rule.state c.in-Some.rule
-    (record { layer = c.loop-rule.work.layer; counters = c.loop-rule.work.counters; stack = c.loop-rule.work.stack; sources = c.loop-rule.work.sources; agenda = c.next.new.self })
-but g c s0 rising = rising_taken c.args.task.now s0 c.loop-rule.state c.loop-rule.work c.next.new.self c.in-Some.rule (c.loop-rule.invariant.rising s0 rising) c.in-Some.ensures.some
+-- what held before
+some : (g : Over) (c : In-Some g) → IsRising c.args.task.now c.requires.rising.0 c.loop-rule.state c.loop-rule.work
+some g c = c.loop-rule.invariant.rising c.requires.rising.0 c.requires.rising.1
 
-some : (g : Over) (c : In-Some g) → RisingBut c.args.task.now c.requires.rising.0 c.loop-rule.state c.in-Some.rule
-    (record { layer = c.loop-rule.work.layer; counters = c.loop-rule.work.counters; stack = c.loop-rule.work.stack; sources = c.loop-rule.work.sources; agenda = c.next.new.self })
-some g c = but g c c.requires.rising.0 c.requires.rising.1
+on : (g : Over) (c : In-Some g) → IsRuleOn c.args.task.now c.loop-rule.work.layer c.in-Some.rule
+on g c = awaited_on c.args.task.now c.loop-rule.work.layer c.in-Some.rule c.loop-rule.state c.loop-rule.work (some g c).track c.in-Some.ensures.some.was
 
 within : (g : Over) (c : In-Some g) → (rule_at c.args.task.now c.in-Some.rule).var < length c.args.task.now.variables
-within g c = on_layer_within c.args.task.now c.loop-rule.work.layer (rule_at c.args.task.now c.in-Some.rule).var (some g c).is.on
+within g c = on_layer_within c.args.task.now c.loop-rule.work.layer (rule_at c.args.task.now c.in-Some.rule).var (on g c).on
 
 pub has_to_set-requires-clause-rule : goal.has_to_set-requires-clause-rule
-has_to_set-requires-clause-rule g c = (c.loop-rule.work.layer, (some g c).is)
+has_to_set-requires-clause-rule g c = (c.loop-rule.work.layer, on g c)
 
 pub rule_change-change-requires : goal.rule_change-change-requires
-rule_change-change-requires g c = (some g (goal.at.rule_change-change-requires g c).In-Some).is.exists
+rule_change-change-requires g c = (on g (goal.at.rule_change-change-requires g c).In-Some).exists
 
 pub set_to-requires-clause-counts : goal.set_to-requires-clause-counts
 set_to-requires-clause-counts g c = (some g (goal.at.set_to-requires-clause-counts g c).In-Some).track.counts
 
 pub set_to-requires-clause-derived : goal.set_to-requires-clause-derived
-set_to-requires-clause-derived g c = rw (ap (λ (x : Change). x.var) c.rule_change-change.ensures) (ap is_some (some g (goal.at.set_to-requires-clause-derived g c).In-Some).is.on)
+set_to-requires-clause-derived g c = rw (ap (λ (x : Change). x.var) c.rule_change-change.ensures) (ap is_some (on g (goal.at.set_to-requires-clause-derived g c).In-Some).on)
 
 -- the rule holds
 holds : (g : Over) (i : In-Some g) → get_or i.loop-rule.work.counters i.in-Some.rule 0 ≡ 0 → IsHolding i.args.task.now i.loop-rule.state i.in-Some.rule
-holds g i zero = let b = some g i in holding_when_zero i.args.task.now i.loop-rule.work.layer i.in-Some.rule i.loop-rule.state i.loop-rule.work.counters b.track.counts b.is zero
+holds g i zero = holding_when_zero i.args.task.now i.loop-rule.work.layer i.in-Some.rule i.loop-rule.state i.loop-rule.work.counters (some g i).track.counts (on g i) zero
 
 pub returns-in_err-set_to-clause-state : goal.returns-in_err-set_to-clause-state
 returns-in_err-set_to-clause-state g c =
@@ -47,7 +44,7 @@ returns-in_err-set_to-clause-state g c =
     let i = (goal.at.returns-in_err-set_to-clause-state g c).In-Some in
     let s = c.loop-rule.state in
     let state_is : c.set_to.new.state ≡ set s (rule_at p c.in-Some.rule).var (rule_at p c.in-Some.rule).new = c.set_to.ensures.state ∙ ap (λ (x : Change). set s x.var x.new) c.rule_change-change.ensures in
-    rw state_is (fires p c.requires.rising.0 s c.in-Some.rule _ c.task.ensures.well_ranged c.task.ensures.layered (some g i) (holds g i (c.has_to_set.ensures.holds c.if-has_to_set.true)) (c.has_to_set.ensures.other c.if-has_to_set.true)).state
+    rw state_is (fires p c.requires.rising.0 s c.in-Some.rule _ _ c.task.ensures.well_ranged c.task.ensures.layered (some g i) c.in-Some.ensures.some (holds g i (c.has_to_set.ensures.holds c.if-has_to_set.true)) (c.has_to_set.ensures.other c.if-has_to_set.true)).state
 
 pub returns-in_err-set_to-clause-off : goal.returns-in_err-set_to-clause-off
 returns-in_err-set_to-clause-off g c =
@@ -55,7 +52,7 @@ returns-in_err-set_to-clause-off g c =
     let i = (goal.at.returns-in_err-set_to-clause-off g c).In-Some in
     let inv = c.loop-rule.invariant in
     let state_is : c.set_to.new.state ≡ set c.loop-rule.state (rule_at p c.in-Some.rule).var (rule_at p c.in-Some.rule).new = c.set_to.ensures.state ∙ ap (λ (x : Change). set c.loop-rule.state x.var x.new) c.rule_change-change.ensures in
-    off_step p c.args.work.now.layer c.loop-rule.work.layer c.args.state.now c.loop-rule.state c.set_to.new.state _ _ inv.room.layer inv.off (some g i).is.on state_is
+    off_step p c.args.work.now.layer c.loop-rule.work.layer c.args.state.now c.loop-rule.state c.set_to.new.state _ _ inv.room.layer inv.off (on g i).on state_is
 
 pub returns-in_err-set_to-clause-covered : goal.returns-in_err-set_to-clause-covered
 returns-in_err-set_to-clause-covered g c =
@@ -63,7 +60,7 @@ returns-in_err-set_to-clause-covered g c =
     let i = (goal.at.returns-in_err-set_to-clause-covered g c).In-Some in
     let e = ap (λ (x : Change). x.var) c.rule_change-change.ensures in
     covered_step p c.loop-rule.work.layer c.args.state.now c.loop-rule.state c.set_to.new.state _ _ c.args.touched.now c.loop-rule.touched c.set_to.new.touched
-    c.loop-rule.invariant.covered (subst (λ v. IsOnLayer p c.loop-rule.work.layer v) (sym e) (some g i).is.on) c.set_to.ensures.state c.set_to.ensures.noted
+    c.loop-rule.invariant.covered (subst (λ v. IsOnLayer p c.loop-rule.work.layer v) (sym e) (on g i).on) c.set_to.ensures.state c.set_to.ensures.noted
 
 pub set-requires : goal.set-requires
 set-requires g c =
@@ -78,8 +75,9 @@ loop-rule-preserved-then-has_to_set g c =
     let s = c.loop-rule.state in
     let rule = c.in-Some.rule in
     let work = c.loop-rule.work in
-    let taken : Work = record { layer = work.layer; counters = work.counters; stack = work.stack; sources = work.sources; agenda = c.next.new.self } in
     let b = some g i in
+    let is = on g i in
+    let takes = c.in-Some.ensures.some in
     let hold = holds g i (c.has_to_set.ensures.holds c.if-has_to_set.true) in
     let ne = c.has_to_set.ensures.other c.if-has_to_set.true in
     let e = c.rule_change-change.ensures in
@@ -89,15 +87,15 @@ loop-rule-preserved-then-has_to_set g c =
     let moves = rw (ap (λ (x : Change). x.var) e, state_is) at c.in_ok-set_to.ensures.moves in
     rw (state_is, sources_is) record {
       room = room_more c.args.work.now work _ inv.room (record { layer = same.layer; stack = same.stack; one_each = same.one_each; sources = length-set c.set_to.new.work.sources (rule_at p rule).var rule ∙ ap length same.sources });
-      sources = λ v off. get_or-set_other c.set_to.new.work.sources (rule_at p rule).var v rule 0 (λ f. off (subst (λ n. IsOnLayer p n v) inv.room.layer (subst (λ u. IsOnLayer p work.layer u) (sym f) b.is.on)))
+      sources = λ v off. get_or-set_other c.set_to.new.work.sources (rule_at p rule).var v rule 0 (λ f. off (subst (λ n. IsOnLayer p n v) inv.room.layer (subst (λ u. IsOnLayer p work.layer u) (sym f) is.on)))
           ∙ (ap (λ (xs : List ℕ). get_or xs v 0) same.sources ∙ inv.sources v off);
-      state = (fires p c.requires.rising.0 s rule taken c.task.ensures.well_ranged c.task.ensures.layered b hold ne).state;
-      off = off_step p c.args.work.now.layer work.layer c.args.state.now s (set s (rule_at p rule).var (rule_at p rule).new) (rule_at p rule).var (rule_at p rule).new inv.room.layer inv.off b.is.on refl;
+      state = (fires p c.requires.rising.0 s rule work _ c.task.ensures.well_ranged c.task.ensures.layered b takes hold ne).state;
+      off = off_step p c.args.work.now.layer work.layer c.args.state.now s (set s (rule_at p rule).var (rule_at p rule).new) (rule_at p rule).var (rule_at p rule).new inv.room.layer inv.off is.on refl;
       covered = covered_step p work.layer c.args.state.now s (set s (rule_at p rule).var (rule_at p rule).new) (rule_at p rule).var (rule_at p rule).new
-          c.args.touched.now c.loop-rule.touched c.set_to.new.touched inv.covered b.is.on refl (rw (ap (λ (x : Change). x.var) e) at c.set_to.ensures.noted);
-      rising = λ s0 r. rising_set p s0 s rule taken c.task.ensures.well_ranged c.task.ensures.layered (but g i s0 r) hold ne c.set_to.new.work
+          c.args.touched.now c.loop-rule.touched c.set_to.new.touched inv.covered is.on refl (rw (ap (λ (x : Change). x.var) e) at c.set_to.ensures.noted);
+      rising = λ s0 r. rising_set p s0 s rule work _ c.task.ensures.well_ranged c.task.ensures.layered (inv.rising s0 r) takes hold ne c.set_to.new.work
           (omega (arith, within g i, b.track.state.one_each)) (omega (arith, within g i, b.track.places)) same moves;
-      left = let a = inv.left in let d = c.in-Some.ensures.some.left in let f = moves.left in omega arith;
+      left = let a = inv.left in let d = takes.left in let f = moves.left in omega arith;
     }
 
 pub loop-rule-preserved : goal.loop-rule-preserved
@@ -108,16 +106,16 @@ loop-rule-preserved g c =
     let s = c.loop-rule.state in
     let rule = c.in-Some.rule in
     let work = c.loop-rule.work in
-    let b = some g i in
+    let is = on g i in
     let done : IsHolding p s rule → differs p s (rule_at p rule).var ≡ true = λ hold. differs_true p s (rule_at p rule).var (λ e.
-    b.is.can (sym (c.has_to_set.ensures.no c.if-has_to_set.false (zero_when_holding p work.layer rule s work.counters b.track.counts b.is hold)) ∙ e)) in
+    is.can (sym (c.has_to_set.ensures.no c.if-has_to_set.false (zero_when_holding p work.layer rule s work.counters (some g i).track.counts is hold)) ∙ e)) in
     record {
       room = record { layer = inv.room.layer; stack = inv.room.stack; one_each = inv.room.one_each; sources = inv.room.sources };
       sources = inv.sources;
       state = inv.state;
       off = inv.off;
       covered = inv.covered;
-      rising = λ s0 r. rising_passed p s0 s rule _ (but g i s0 r) done;
+      rising = λ s0 r. rising_passed p s0 s rule work _ (inv.rising s0 r) c.in-Some.ensures.some done;
       left = let a = inv.left in let d = c.in-Some.ensures.some.left in omega arith;
     }
 
