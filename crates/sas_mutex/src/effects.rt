@@ -543,7 +543,7 @@ impl<'a, 'b, T: Grounded> Firing<'a, 'b, T> {
 }
 
 /// Returns whether the fact at this index is the first of a run of facts on one variable.
-fn begins_run(facts: &[Fact], place: usize) -> bool
+pub fn begins_run(facts: &[Fact], place: usize) -> bool
     requires { place < length facts.now }
     ensures { IsFalse result → IsOnVariableBefore facts.now place }
 {

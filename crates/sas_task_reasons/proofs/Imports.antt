@@ -54,7 +54,7 @@ pub use Rattle.sas_meaning.specs.declared.layered.LayerFault.TheVariants.{Memory
 pub use Rattle.sas_mutex.proofs.FromNotes.{noted_fewer}
 pub use Rattle.sas_mutex.proofs.TaskFacts.{group_facts}
 pub use Rattle.sas_mutex.proofs.VerdictsSoFar.{clash_never_fires, keeps_itself, put_back, several_never_fire, noted_with, with_place, or_itself, is_more}
-pub use Rattle.sas_mutex.specs.ByNotes.{NotBothAt, IsGoneAt, EffectKeepsGroup, IsNotedAt, NeverFires, IsNotedFor, EffectKeepsGroupWithItself, known_at}
+pub use Rattle.sas_mutex.specs.ByNotes.{NotBothAt, IsOnVariableBefore, IsGoneAt, EffectKeepsGroup, IsNotedAt, NeverFires, IsNotedFor, EffectKeepsGroupWithItself, known_at}
 pub use Rattle.sas_mutex.specs.Effects.{IsKept, KeepsWithItself}
 pub use Rattle.sas_mutex.specs.Firing.{EffectPlace, operator_of}
 pub use Rattle.sas_mutex.specs.Marks.{IsClean}
@@ -70,7 +70,7 @@ pub use Rattle.sas_task_reasons.specs.Failures.{IsFailure, IsEarlier, IsFirstFai
 pub use Rattle.sas_task_reasons.specs.GroupLaws.{NotKeptIfFails, FailsIfNotKept, SomeFirstFailure, OneFirstFailure, SomeReason, OneReason}
 pub use Rattle.sas_task_reasons.specs.GroupReasons.{verdict_of, IsReasonIfAny, reason_at, AreReasons, holds, TrueOfGroup, IsReason}
 pub use Rattle.sas_task_reasons.specs.LayerLaws.{IsOtherGiver, IsReportedOther, IsReportedOld, IsWhole, LayerReasonsAreWhole}
-pub use Rattle.sas_task_reasons.specs.Lowest.{effect_of_failure, IsFirstOfEffect, IsLowestPartner, IsAny, IsFirstStaying, SetsVariable, FollowsOnVariable}
+pub use Rattle.sas_task_reasons.specs.Lowest.{effect_of_failure, IsFirstOfEffect, IsLowestPartner, IsAny, IsFirstStaying, SetsVariable}
 pub use Rattle.sas_task_reasons.specs.Reporting.{GroupsAnswerWith, KeptBelow, IsPending, IsReasonSoFar, AreReasonsSoFar, LacksReason, IsBroken}
 pub use Rattle.sas_task_reasons.specs.WhyGroups.{why_lines, WhyGroupsAnswer, explained_group_lines, why_lines_from}
 pub use Rattle.sas_task_reasons.specs.WhyLayers.{layer_reasons, with_reasons, why_refusal, WhyAnswer, WhyCheckAnswer, WhyMutexAnswer}

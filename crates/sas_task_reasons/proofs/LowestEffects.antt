@@ -1,6 +1,6 @@
 -- The lowest effect that may set another fact of a group, as more effects are checked.
 use Rattle.std.proofs.lemmas.Grind.{common_steps}
-use Rattle.sas_task_reasons.proofs.Imports.{take, take_all, take_more, length-take, get_or-take, get_or_default, Contains-get_or, Contains-push_cases, ◌≡◌, ℕ, ◌+◌, ◌<◌, ◌≤◌, ◌⊎◌, min, Bool, List, length, get_or, Some, refl, sym, ◌∙◌, ap, subst, inl, inr, arith, cases_eq, slice_get-get_or, Contains, Fact, effect_at, group_at, sets, EffectPlace, operator_of, NotBothAt, IsLowestPartner, IsAny, SetsVariable, FollowsOnVariable}
+use Rattle.sas_task_reasons.proofs.Imports.{take, take_all, take_more, length-take, get_or-take, get_or_default, Contains-get_or, Contains-push_cases, ◌≡◌, ℕ, ◌+◌, ◌<◌, ◌≤◌, ◌⊎◌, min, Bool, List, length, get_or, refl, sym, ◌∙◌, ap, subst, inl, inr, arith, cases_eq, Contains, Fact, effect_at, group_at, sets, EffectPlace, operator_of, NotBothAt, IsOnVariableBefore, IsLowestPartner, IsAny, SetsVariable}
 
 -- the effects of the operator that set the variable of one of these facts
 abbrev pub SetsOneOf : EffectPlace → List Fact → ℕ → Type 0
@@ -65,7 +65,7 @@ module _ (f : EffectPlace) (kept : List Bool) (place : ℕ) where
         ])
 
     -- one fact more, on the variable of an earlier one
-    pub one_fact_more : n < length facts → FollowsOnVariable facts n → IsLowestPartner f kept place (SetsOneOf f (take (n + 1) facts)) lowest
+    pub one_fact_more : n < length facts → IsOnVariableBefore facts n → IsLowestPartner f kept place (SetsOneOf f (take (n + 1) facts)) lowest
     one_fact_more within follows = lowest_more (SetsOneOf f (take n facts)) (SetsOneOf f (take (n + 1) facts)) lowest lowest before (omega arith)
         before.may (λ other lt sets_one. inl (was other sets_one))
       where
@@ -77,8 +77,7 @@ module _ (f : EffectPlace) (kept : List Bool) (place : ℕ) where
               let among' = Contains-get_or (take n facts) follows.before fact (simp length-take (omega arith)) in (
                 earlier,
                 rw get_or-take at among',
-                on ∙ sym (follows.same earlier fact (slice_get-get_or facts follows.before fact (omega arith))
-                    (slice_get-get_or facts n fact within ∙ ap (λ (x : Fact). Some x) same)),
+                on ∙ sym (follows.same fact ∙ ap (λ (x : Fact). x.var) same),
               ))
         ]
 

@@ -27,13 +27,6 @@ IsAny effect = Unit {0}
 abbrev pub SetsVariable : EffectPlace → ℕ → ℕ → Type 0
 SetsVariable f var effect = variable_of f.task f.operator effect ≡ var
 
--- an earlier fact is on the same variable as the fact at this index
-pub record FollowsOnVariable (facts : List Fact) (place : ℕ) : Type 0 where
-  pub before : ℕ
-  pub early : before < place
-  pub same : (fact other : Fact) → slice_get facts before ≡ Some fact
-      → slice_get facts place ≡ Some other → fact.var ≡ other.var
-
 -- the index of the first fact of the group that may remain; the number of its facts if there is
 -- none
 pub record IsFirstStaying (f : EffectPlace) (kept : List Bool) (group : List Fact) (first : ℕ)

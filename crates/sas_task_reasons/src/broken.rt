@@ -121,12 +121,9 @@ fn some_lacks_reason(
     ensures { IsFalse result
         → All (λ (place : ℕ). LacksReason operator verdicts.now reasons.now place → ⊥) groups.now }
 {
-    for group in groups {
-        if lacks_reason(*group, operator, verdicts, reasons) {
-            return true;
-        }
-    }
-    false
+    groups
+        .iter()
+        .any(|group| lacks_reason(*group, operator, verdicts, reasons))
 }
 
 /// Returns whether the reason of the group is still missing: the operator breaks it, and no reason was found yet.

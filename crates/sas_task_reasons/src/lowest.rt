@@ -1,12 +1,12 @@
 // The lowest effect that may set another fact of a group in the same step.
-ghost use Rattle.std.specs.Prelude.{◌<◌, length, Contains, IsFalse};
+ghost use Rattle.std.specs.Prelude.{Contains};
 ghost use Rattle.sas_groups.specs.Families.{IsIn};
 ghost use Rattle.sas_groups.specs.Kept.{family_of};
 ghost use Rattle.sas_mutex.specs.ByNotes.{IsNotedAt};
-ghost use Rattle.sas_task_reasons.specs.Lowest.{IsLowestPartner, IsAny, SetsVariable, FollowsOnVariable};
+ghost use Rattle.sas_task_reasons.specs.Lowest.{IsLowestPartner, IsAny, SetsVariable};
 
-use sas_core::{Fact, Grounded};
-use sas_mutex::{Firing, Marks};
+use sas_core::Grounded;
+use sas_mutex::{Firing, Marks, begins_run};
 
 /// Returns the lowest effect that may set a fact of the group on another variable in the same step as this effect, or the number of all
 /// effects if there is none. For a large operator, only effects on variables of the group are checked if the group has fewer facts than the
@@ -77,14 +77,6 @@ fn lowest_by_facts<T: Grounded>(
         }
     }
     lowest
-}
-
-/// Returns whether the fact at this index is the first of a run of facts on one variable.
-fn begins_run(facts: &[Fact], place: usize) -> bool
-    requires { place < length facts.now }
-    ensures { IsFalse result → FollowsOnVariable facts.now place }
-{
-    place == 0 || facts[place - 1].var != facts[place].var
 }
 
 /// `lowest_together` for the effects on variable `var`. May return a lower effect on another variable.
