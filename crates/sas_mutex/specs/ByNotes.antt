@@ -1,5 +1,5 @@
 -- What the recorded facts imply for one effect.
-use Rattle.std.specs.Prelude.{◌≡◌, ◌≢◌, ◌⊎◌, ℕ, ◌<◌, Bool, Option, None, Some, List, [], ◌∷◌, length, slice_index_or, All, Contains}
+use Rattle.std.specs.Prelude.{◌≡◌, ◌≢◌, ◌⊎◌, ℕ, ◌+◌, ◌<◌, Bool, Option, None, Some, List, [], ◌∷◌, length, slice_index_or, All, Contains}
 use Rattle.sas_core.specs.declared.parts.Fact.{Fact}
 use Rattle.sas_core.specs.declared.grounded.Change.{Change}
 use Rattle.sas_core.specs.declared.parts.Effect.{Effect}
@@ -138,6 +138,11 @@ IsSingleOn f kept place var = (other : ℕ) → variable_of f.task f.operator ot
 abbrev pub IsSingleOnFirst : EffectPlace → List Bool → ℕ → List Fact → ℕ → Type 0
 IsSingleOnFirst f kept place facts count = (k : ℕ) (d : Fact) → k < count
     → IsSingleOn f kept place (slice_index_or facts k d).var
+
+-- the fact directly before this index, if any, is on another variable than the fact at it
+abbrev pub BeginsRun : List Fact → ℕ → Type 0
+BeginsRun facts place = (before : ℕ) → before + 1 ≡ place → (d : Fact)
+    → (slice_index_or facts before d).var ≢ (slice_index_or facts place d).var
 
 -- an earlier fact is on the same variable as the fact at this index
 pub record IsOnVariableBefore (facts : List Fact) (place : ℕ) : Type 0 where

@@ -14,7 +14,7 @@ ghost use Rattle.sas_groups.specs.Notes.{IsWide, IsGroupNote};
 ghost use Rattle.sas_mutex.specs.ByNotes.{IsMet, SomeRemoves, RemovesByNotes, known_at};
 ghost use Rattle.sas_mutex.specs.ByNotes.{IsNotedAt, EffectKeepsGroup, EffectKeepsGroupWithItself, BothClashAt, NotBothAt};
 ghost use Rattle.sas_mutex.specs.ByNotes.{ClashesAt, SharesBesideAt};
-ghost use Rattle.sas_mutex.specs.ByNotes.{HasNoPartnerAt, IsSingleOn, IsOnVariableBefore, SetsBeside, SetsOtherValue};
+ghost use Rattle.sas_mutex.specs.ByNotes.{HasNoPartnerAt, IsSingleOn, BeginsRun, IsOnVariableBefore, SetsBeside, SetsOtherValue};
 ghost use Rattle.sas_mutex.specs.ByNotes.{IsGoneAt, AreGoneAt, IsUnknownAt, IsDecidedByFirst, NeverFires};
 ghost use Rattle.sas_mutex.specs.Basis.{SetsNone};
 ghost use Rattle.sas_mutex.specs.Marks.{IsClean, IsNotedFrom};
@@ -545,7 +545,8 @@ impl<'a, 'b, T: Grounded> Firing<'a, 'b, T> {
 /// Returns whether the fact at this index is the first of a run of facts on one variable.
 pub fn begins_run(facts: &[Fact], place: usize) -> bool
     requires { place < length facts.now }
-    ensures { IsFalse result → IsOnVariableBefore facts.now place }
+    ensures begins { IsTrue result → BeginsRun facts.now place }
+    ensures follows { IsFalse result → IsOnVariableBefore facts.now place }
 {
     place == 0 || facts[place - 1].var != facts[place].var
 }
