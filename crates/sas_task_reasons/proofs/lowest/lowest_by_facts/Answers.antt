@@ -14,7 +14,7 @@ loop-place-preserved g c =
       }))
       | else-begins_run w ↦ rw w.marks-is (rw w.lowest-is (record {
         notes = inv.notes;
-        lowest = one_fact_more _ _ _ _ _ _ inv.lowest c.loop-place-test.true (c.begins_run.ensures w.if-begins_run.false);
+        lowest = one_fact_more _ _ _ _ _ _ inv.lowest c.loop-place-test.true (c.begins_run.ensures.follows w.if-begins_run.false);
       }))
     ]
 

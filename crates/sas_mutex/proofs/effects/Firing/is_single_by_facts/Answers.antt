@@ -20,7 +20,7 @@ loop-place-preserved g c =
       })
       | else-begins_run-via-else-begins_run w ↦ rw w.marks-is (record {
         notes = inv.notes;
-        single = (let on = c.begins_run.ensures w.if-begins_run.false in
+        single = (let on = c.begins_run.ensures.follows w.if-begins_run.false in
             each_more Single facts n no_fact c.loop-place-test.true inv.single (subst (IsSingleOn f kept c.args.group) (on.same no_fact) (inv.single on.before no_fact on.early)));
       })
     ]
