@@ -19,8 +19,9 @@ pub use Rattle.sas_core.specs.Checks.{name_checks, signed_checks, variable_check
 pub use Rattle.sas_core.specs.FirstFault.{Check, first_fault, check, listed}
 pub use Rattle.sas_core.specs.Changes.{plain_effect, plain_effects}
 pub use Rattle.sas_core.specs.Grounded.{operator_at, effect_at}
-pub use Rattle.sas_core.specs.Names.{IsName, is_name, is_plain, IsPlain}
+pub use Rattle.sas_core.specs.Names.{IsName, is_name, is_plain}
 pub use Rattle.sas_core.specs.Numbers.{IsNumber, is_number, IsSigned}
+pub use Rattle.sas_core.specs.Plain.{IsPlain}
 pub use Rattle.sas_core.specs.Plans.{IsFirstBadName}
 pub use Rattle.sas_core.specs.Variables.{range_of, HasValue, has_value, MayHaveValue, FactExists, IsState}
 pub use Rattle.sas_core.specs.WellRanged.{Listed, VariableFits, EffectFits, OperatorFits, RuleFits, WellRanged}

@@ -1,4 +1,5 @@
 pub mod Names
+pub mod Plain
 pub mod Numbers
 pub mod PlanParts
 pub mod Plans

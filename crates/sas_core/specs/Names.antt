@@ -6,10 +6,6 @@ use Rattle.std.specs.List.{list_all}
 abbrev pub is_plain : ℕ → Bool
 is_plain byte = not (byte == 10) && not (byte == 13)
 
--- no byte is LF or CR
-abbrev pub IsPlain : List ℕ → Type 0
-IsPlain bytes = IsTrue (list_all is_plain bytes)
-
 -- a name has at least one byte and contains neither LF nor CR; any other byte is allowed, even a
 -- space at the end
 abbrev pub is_name : List ℕ → Bool

@@ -17,7 +17,8 @@ pub use Rattle.std.specs.Prelude.{⊤, IfErr, IsErrOf}
 pub use Rattle.itoa.proofs.Decimal.{decimal_pair, pair}
 pub use Rattle.sas_core.proofs.Plain.{plain_without, plain-append, plain-name}
 pub use Rattle.sas_core.specs.Grounded.{operator_at, effect_at, rule_at}
-pub use Rattle.sas_core.specs.Names.{IsName, IsPlain}
+pub use Rattle.sas_core.specs.Names.{IsName}
+pub use Rattle.sas_core.specs.Plain.{IsPlain}
 pub use Rattle.sas_core.specs.Variables.{value_name}
 pub use Rattle.sas_core.specs.WellRanged.{VariableFits, OperatorFits, WellRanged}
 pub use Rattle.sas_core.specs.declared.parts.Fact.{Fact}

@@ -1,8 +1,9 @@
 -- What holds of the lines of reasons.
 use Rattle.std.specs.Prelude.{◌≡◌, ℕ, ◌^◌, ◌<◌, List, ◌∷◌, IsTrue}
 use Rattle.std.specs.List.{AllByRecursion}
+use Rattle.sas_core.specs.Plain.{IsPlain}
 use Rattle.sas_core.specs.declared.parts.Parts.{Parts}
-use Rattle.sas_core.specs.Names.{IsName, IsPlain}
+use Rattle.sas_core.specs.Names.{IsName}
 use Rattle.sas_core.specs.WellRanged.{WellRanged}
 use Rattle.sas_output.specs.declared.line.Line.{Line}
 use Rattle.sas_output.specs.Line.{line_bytes, rule_numbers, is_rule_line}

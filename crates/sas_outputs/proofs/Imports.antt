@@ -19,7 +19,8 @@ pub use Rattle.sas_answers.specs.LayerWords.{layer_words, layers_line, words_at_
 pub use Rattle.sas_answers.specs.PlanWords.{valid_line, fault_words, invalid_line, step_words}
 pub use Rattle.sas_core.proofs.Plain.{plain-append}
 pub use Rattle.sas_core.specs.FirstFault.{first_fault}
-pub use Rattle.sas_core.specs.Names.{is_plain, IsPlain}
+pub use Rattle.sas_core.specs.Names.{is_plain}
+pub use Rattle.sas_core.specs.Plain.{IsPlain}
 pub use Rattle.sas_core.specs.PlanParts.{PlanParts}
 pub use Rattle.sas_core.specs.Variables.{layer_of}
 pub use Rattle.sas_core.specs.WellRanged.{WellRanged}

@@ -1,6 +1,6 @@
 -- Each line of reasons begins with two spaces, and contains neither LF nor CR.
 use Rattle.std.proofs.lemmas.Grind.{common_steps}
-use Rattle.sas_core.specs.Names.{IsPlain}
+use Rattle.sas_core.specs.Plain.{IsPlain}
 use Rattle.sas_outputs.proofs.Imports.{◌+◌, ℕ, ◌/◌, ◌%◌, ◌<◌, Bool, true, false, List, [], ◌∷◌, ◌++◌, codes, flat_map, refl, arith, ap, IsTrue, not, nat_lt, ◌&&◌, ◌==◌, if◌then◌else◌, list_all, and_from, ne_eqb, ltb-true, is_plain, Kind, fixed_word_bytes, Due, FixedWord, Location, number, number_then, two, location_words, due_words, plan_due_words, least_words, empty_words, found_word, FileLinesAreReasons, hex_digit_of, in_digits, shown_byte, shown_whole, shown}
 use Rattle.sas_core.proofs.Plain.{plain-append}
 use Rattle.sas_reader.specs.declared.fault.Kind.TheVariants as kinds

@@ -11,8 +11,9 @@ pub use Rattle.std.specs.Fmt.{decimal}
 pub use Rattle.std.specs.List.{AllByRecursion}
 pub use Rattle.std.specs.Option.{MatchOption}
 pub use Rattle.sas_core.proofs.Plain.{plain-append, plain-name}
-pub use Rattle.sas_core.specs.Names.{IsName, IsPlain}
+pub use Rattle.sas_core.specs.Names.{IsName}
 pub use Rattle.sas_core.specs.Numbers.{IsPlanCost}
+pub use Rattle.sas_core.specs.Plain.{IsPlain}
 pub use Rattle.sas_core.specs.PlanParts.{PlanParts}
 pub use Rattle.sas_core.specs.Plans.{WellNamed}
 pub use Rattle.sas_core.specs.declared.plan.CostKind.{CostKind}

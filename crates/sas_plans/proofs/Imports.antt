@@ -52,7 +52,7 @@ pub use Rattle.sas_reader.proofs.Plain.{plain, plain-decimal}
 pub use Rattle.sas_reader.specs.Devices.{ValueOf, ReadsAll}
 pub use Rattle.sas_reader.specs.Format.{ReadsAs}
 pub use Rattle.sas_reader.specs.Limit.{most_bytes}
-pub use Rattle.sas_core.specs.Names.{IsPlain}
+pub use Rattle.sas_core.specs.Plain.{IsPlain}
 pub use Rattle.sas_reader.specs.declared.fault.Fault.{Fault}
 pub use Rattle.sas_reader.specs.declared.fault.Kind.{Kind}
 pub use Rattle.sas_task_format.specs.TaskFormat.{task_format}

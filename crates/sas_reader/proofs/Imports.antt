@@ -18,7 +18,8 @@ pub use Rattle.std.specs.Io.KnownBytes.{Consumes, IsAtEnd}
 pub use Rattle.std.specs.List.{prefix_len, list_all, AllByRecursion}
 pub use Rattle.std.specs.Result.{OnOk, IfErr}
 pub use Rattle.sas_core.proofs.Plain.{plain_parts, plain_without, plain-append}
-pub use Rattle.sas_core.specs.Names.{is_plain, IsName, IsPlain}
+pub use Rattle.sas_core.specs.Names.{is_plain, IsName}
+pub use Rattle.sas_core.specs.Plain.{IsPlain}
 pub use Rattle.sas_lines.proofs.EndedLines.{ended_lines}
 pub use Rattle.sas_lines.proofs.Splitting.{lines-append, unfinished-append, lines-few, lines-none, lines-one, unfinished-one, unfinished-without, unfinished-plain_all, lines-end, unfinished-none, lines-plain, unfinished-plain, unfinished-end, lines-part, lines-without, Plain}
 pub use Rattle.sas_lines.proofs.Words.{Without-decimal}

@@ -2,7 +2,7 @@
 -- line.
 use Rattle.std.specs.Prelude.{◌≡◌, ℕ, Bool, List, [], ◌∷◌, IsTrue, map}
 use Rattle.std.specs.List.{AllByRecursion}
-use Rattle.sas_core.specs.Names.{IsPlain}
+use Rattle.sas_core.specs.Plain.{IsPlain}
 use Rattle.sas_reader.specs.declared.fault.Kind.{Kind}
 use Rattle.sas_reader.specs.Texts.{lines_of}
 use Rattle.sas_reader.specs.Format.{Format}

@@ -11,8 +11,9 @@ pub use Rattle.std.specs.List.{flat_map, list_all, AllByRecursion}
 pub use Rattle.std.specs.Option.{option_map_or}
 pub use Rattle.sas_core.proofs.Plain.{plain-append, plain-name}
 pub use Rattle.sas_core.proofs.SameParts.{fact_same}
-pub use Rattle.sas_core.specs.Names.{is_name, is_plain, IsName, IsPlain}
+pub use Rattle.sas_core.specs.Names.{is_name, is_plain, IsName}
 pub use Rattle.sas_core.specs.Numbers.{IsNumber, IsSigned}
+pub use Rattle.sas_core.specs.Plain.{IsPlain}
 pub use Rattle.sas_core.specs.Variables.{has_value, fact_exists, range_of, FactExists, HasValue, MayHaveValue, IsState}
 pub use Rattle.sas_core.specs.WellRanged.{WellRanged, Listed, VariableFits, EffectFits, OperatorFits, RuleFits}
 pub use Rattle.sas_core.specs.declared.parts.Effect.{Effect}

@@ -1,6 +1,6 @@
 -- What the judge of the lines of a task file represents: what may still follow the content so far.
 use Rattle.std.specs.Prelude.{◌≡◌, ◌≢◌, ◌⊎◌, ◌<◌, ℕ, ◌+◌, ◌-◌, Bool, List, [], ◌∷◌, ◌++◌, length, Result, Ok, Err, codes}
-use Rattle.sas_core.specs.Names.{IsPlain}
+use Rattle.sas_core.specs.Plain.{IsPlain}
 use Rattle.sas_core.specs.declared.parts.Variable.{Variable}
 use Rattle.sas_reader.specs.declared.fault.Kind.{Kind}
 use Rattle.sas_reader.specs.declared.fault.Kind.TheVariants as kinds

@@ -11,8 +11,9 @@ pub use Rattle.std.proofs.lemmas.Slice.Eq.{slice_eq-Decides}
 pub use Rattle.std.specs.Fmt.{decimal}
 pub use Rattle.std.specs.List.{list_all, flat_map, AllByRecursion}
 pub use Rattle.sas_core.specs.Changes.{plain_effect}
-pub use Rattle.sas_core.specs.Names.{is_plain, IsName, is_name, IsPlain}
+pub use Rattle.sas_core.specs.Names.{is_plain, IsName, is_name}
 pub use Rattle.sas_core.specs.Numbers.{IsNumber, IsSigned}
+pub use Rattle.sas_core.specs.Plain.{IsPlain}
 pub use Rattle.sas_core.specs.Variables.{range_of}
 pub use Rattle.sas_core.specs.declared.grounded.Change.{Change}
 pub use Rattle.sas_core.specs.declared.parts.Effect.{Effect}

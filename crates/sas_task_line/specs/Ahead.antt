@@ -3,7 +3,7 @@ use Rattle.std.specs.Prelude.{◌≡◌, ℕ, List, ◌∷◌, ◌++◌, Option,
 use Rattle.std.specs.Fmt.{decimal}
 use Rattle.sas_core.specs.Numbers.{IsNumber, IsSigned}
 use Rattle.sas_lines.specs.Spelling.{signed_decimal, joined}
-use Rattle.sas_core.specs.Names.{IsPlain}
+use Rattle.sas_core.specs.Plain.{IsPlain}
 use Rattle.sas_task_format.specs.TaskFormat.{TaskLine, effect, task_line_bytes, TaskLineFits, fact_words, head_words, FactNumbers, HeadNumbers}
 use Rattle.sas_core.specs.declared.grounded.Change.{Change}
 use Rattle.sas_core.specs.declared.parts.Fact.{Fact}

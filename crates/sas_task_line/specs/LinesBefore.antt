@@ -1,8 +1,9 @@
 -- Lines at the beginning of some bytes, before the rest.
 use Rattle.std.specs.Prelude.{◌≡◌, Bool, ℕ, List, ◌∷◌, ◌++◌, length, IsTrue}
 use Rattle.std.specs.List.{flat_map, list_all, AllByRecursion}
+use Rattle.sas_core.specs.Plain.{IsPlain}
 use Rattle.sas_core.specs.declared.parts.Fact.{Fact}
-use Rattle.sas_core.specs.Names.{is_name, IsPlain}
+use Rattle.sas_core.specs.Names.{is_name}
 use Rattle.sas_core.specs.declared.parts.Effect.{Effect}
 use Rattle.sas_lines.specs.Lines.{text}
 use Rattle.sas_task_format.specs.TaskFormat.{TaskLine, name, number, fact, effect, line, TaskLineFits}
