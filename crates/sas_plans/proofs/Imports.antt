@@ -1,5 +1,5 @@
 -- What the proofs use of other crates, and of the definitions of this one.
-pub use Rattle.std.proofs.Common.{◌≡◌, ℕ, ◌<◌, ◌≤◌, ◌⊎◌, List, [], ◌∷◌, ◌++◌, length, append_assoc, refl, sym, ap, ◌∙◌, arith, inl, inr, Option, Some, None, All, codes, decimal, subst, Ok, Err, slice_index_or, Result, IfOk, zip, flat_map, Contains, if◌then◌else◌, zero, suc, ◌+◌, Bool, true, false, cond, eqb, ◌/◌, ◌%◌, nat_lt, ◌≢◌, ◌↔◌, IsErrOf, get_or, IfErr, is_some, append-nil, count_by, min, add-one, Bor, rules}
+pub use Rattle.std.proofs.Common.{◌≡◌, ℕ, ◌<◌, ◌≤◌, ◌⊎◌, List, [], ◌∷◌, ◌++◌, length, append_assoc, refl, sym, ap, ◌∙◌, arith, inl, inr, Option, Some, None, All, codes, decimal, subst, Ok, Err, slice_index_or, Result, IfOk, zip, flat_map, Contains, if◌then◌else◌, zero, suc, ◌+◌, Bool, true, false, cond, eqb, ◌/◌, ◌%◌, nat_lt, ◌≢◌, ◌↔◌, IsErrOf, get_or, IfErr, is_some, append-nil, count_by, min, add-one, Bor, rules, IsErrAnd}
 pub use Rattle.std.proofs.Math.ListN.{get_or-map, get_or-append}
 pub use Rattle.std.proofs.Math.Nat.{le-min, min-le_left, min-le_right}
 pub use Rattle.std.proofs.Math.Seq.{get_or-append_seam}

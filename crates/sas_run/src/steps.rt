@@ -201,7 +201,6 @@ fn take_back<T: Grounded>(task: &Layered<T>, operator: u32, given: &mut Items<Op
 
 /// Moves the values that are stored for the variables of the effects into the state. If deleted facts are noted, `deleted` then contains
 /// those that became false.
-#[tactic(auto, using(crate::proofs::Ranges::change_within, crate::proofs::Giving::all_taken, crate::proofs::Deleted::starting))]
 #[inline(always)]
 fn write_given<T: Grounded>(
     task: &Layered<T>,

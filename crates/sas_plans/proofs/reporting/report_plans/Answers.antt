@@ -1,4 +1,4 @@
-use Rattle.sas_plans.proofs.Imports.{ℕ, List, length, refl, arith, ap, sym, ◌∙◌, ◌++◌, inl, inr, err_from_is_err_and, summary_of}
+use Rattle.sas_plans.proofs.Imports.{ℕ, List, length, refl, arith, ap, sym, ◌∙◌, ◌++◌, ◌⊎◌, ◌↔◌, inl, inr, Result, Ok, Err, IfErr, IsErrAnd, err_from_is_err_and, Status, ToolFault, IsWrite, tool_fault, judge_result, summary_of}
 use Rattle.sas_plans.proofs.SaidPlans.{reported, unreported}
 use Rattle.sas_plans.proofs.Turns.{in_turn_fault, in_turn_written}
 use Rattle.sas_plans.proofs.reporting.report_plans.Goals as goal
@@ -20,6 +20,21 @@ returns-clause-judges g c =
       | else-tally-count w ↦ inr (λ e. w.if-tally-count.false (e ∙ sym count), w.status-is)
     ]))
 
+pub returns-in_err-held-clause-judges : goal.returns-in_err-held-clause-judges
+returns-in_err-held-clause-judges g c =
+    let starved = err_from_is_err_and c.from_residual.result c.from_residual.ensures.1 in
+    rw (starved.1, starved.2) record { output = λ cs have. tt; taken = λ decided. absurd decided; long = tt; reads = λ e. absurd cc }
+
+pub returns-in_err-push_summary-clause-judges : goal.returns-in_err-push_summary-clause-judges
+returns-in_err-push_summary-clause-judges g c =
+    let starved = err_from_is_err_and c.from_residual-in_err-push_summary.result c.from_residual-in_err-push_summary.ensures.1 in
+    rw (starved.1, starved.2) record { output = λ cs have. tt; taken = λ decided. absurd decided; long = tt; reads = λ e. absurd cc }
+
+pub returns-in_err-push_summary-clause-opens : goal.returns-in_err-push_summary-clause-opens
+returns-in_err-push_summary-clause-opens g c = λ task.
+    let starved = err_from_is_err_and c.from_residual-in_err-push_summary.result c.from_residual-in_err-push_summary.ensures.1 in
+    rw (starved.1, starved.2) (length (g.S.PlanInputs.labels c.args.plans.now), omega arith, c.in-Ok.ensures.opened)
+
 pub returns-in_err-held-clause-opens : goal.returns-in_err-held-clause-opens
 returns-in_err-held-clause-opens g c = λ task.
     let starved = err_from_is_err_and c.from_residual.result c.from_residual.ensures.1 in
@@ -31,3 +46,18 @@ returns-in-Err-clause-opens g c = λ task. in_turn_fault g.S.PlanInputs.open_giv
 pub returns-clause-opens : goal.returns-clause-opens
 returns-clause-opens g c = λ task.
     rw c.judge_ended.ensures (in_turn_written g.S.PlanInputs.open_gives task _ _ _ c.write.result c.write.ensures.write c.in-Ok.ensures.opened)
+
+-- the result of a write is that of the call
+failed : (Q : Type 0) (r : Result Status ToolFault) → IfErr r IsWrite → IfErr (judge_result r) (λ e. IsWrite (tool_fault e) ⊎ Q)
+failed Q (Ok status) h = tt
+failed Q (Err fault) h = inl h
+
+writes : (Q : Type 0) (r : Result Status ToolFault) → IsErrAnd r IsWrite ↔ Q → IsErrAnd (judge_result r) (λ e. IsWrite (tool_fault e)) ↔ Q
+writes Q (Ok status) h = h
+writes Q (Err fault) h = h
+
+pub returns-clause-nothing : goal.returns-clause-nothing
+returns-clause-nothing g c = rw c.judge_ended.ensures (failed _ c.write.result c.write.ensures.write)
+
+pub returns-clause-writes : goal.returns-clause-writes
+returns-clause-writes g c = rw c.judge_ended.ensures (writes _ c.write.result c.write.ensures.writes.writes)

@@ -1,8 +1,8 @@
 -- The given value of one more variable is written and removed.
-use Rattle.sas_run.proofs.Imports.{◌≡◌, ◌<◌, length, set, None, Some, sym, ap, subst, ◌∙◌, arith, IsTrue, cases_eq, Change, operator_at, effect_at, IsBasic, state_set, Deleted, NotesOn, given_to, no_effect}
+use Rattle.sas_run.proofs.Imports.{◌≡◌, ◌<◌, ℕ, List, Option, length, set, None, Some, sym, ap, subst, ◌∙◌, arith, IsTrue, cases_eq, Change, operator_at, effect_at, IsBasic, state_set, Deleted, NotesOn, given_to, no_effect}
 use Rattle.sas_run.proofs.Ranges.{change_within}
-use Rattle.sas_run.proofs.Giving.{HasGiven, others_given, fewer_on_effects, one_more_taken, written_same}
-use Rattle.sas_run.proofs.Deleted.{notes_on, deleted_more}
+use Rattle.sas_run.proofs.Giving.{HasGiven, all_taken, others_given, fewer_on_effects, one_more_taken, written_same}
+use Rattle.sas_run.proofs.Deleted.{starting, notes_on, deleted_more}
 use Rattle.sas_run.proofs.NextStates.{effects_basic}
 use Rattle.sas_run.proofs.steps.write_given.Goals as goal
 use Rattle.sas_run.proofs.steps.write_given.Goals.{in-Some, in_default}
@@ -55,6 +55,29 @@ loop-effect-preserved g c =
             notes = inv.notes;
           })
     ]
+
+pub bounds-as_slice-var : goal.bounds-as_slice-var
+bounds-as_slice-var g c = omega (arith, change_within _ c.task.ensures.well_ranged _ c.requires.operator _ (omega arith) _ c.effect_change-var.ensures, ap (λ (list : List (Option ℕ)). length list) c.as_slice.ensures)
+
+pub replace-requires-clause-exists : goal.replace-requires-clause-exists
+replace-requires-clause-exists g c = omega (arith, change_within _ c.task.ensures.well_ranged _ c.requires.operator _ (omega arith) _ c.effect_change-var.ensures)
+
+pub set-requires : goal.set-requires
+set-requires g c = omega (arith, change_within _ c.task.ensures.well_ranged _ c.requires.operator _ (omega arith) _ c.effect_change-var.ensures)
+
+pub replace-requires-clause-room : goal.replace-requires-clause-room
+replace-requires-clause-room g c = λ noted.
+    let inv = c.loop-effect.invariant in
+    omega (arith, (inv.deleted noted).few, inv.notes.room, c.requires.room (sym inv.notes.noted ∙ noted))
+
+pub loop-effect-init : goal.loop-effect-init
+loop-effect-init g c = grind (arith, starting)
+
+pub returns-clause-clean : goal.returns-clause-clean
+returns-clause-clean g c = all_taken _ _ _ _ c.loop-effect.invariant.on_effects (omega arith) c.loop-effect.invariant.taken
+
+pub returns-clause-written : goal.returns-clause-written
+returns-clause-written g c = λ var. rw ((returns-clause-clean g c).none var) at (c.loop-effect.invariant.written var)
 
 pub returns-clause-gone : goal.returns-clause-gone
 returns-clause-gone g c noted = (c.loop-effect.invariant.deleted noted).gone
