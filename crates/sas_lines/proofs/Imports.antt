@@ -18,7 +18,7 @@ pub use Rattle.std.specs.List.{AllByRecursion}
 pub use Rattle.std.specs.Option.{IfNone}
 pub use Rattle.std.specs.Str.Parse.{AllDigits, digits_value}
 pub use Rattle.memchr.specs.Find.{Nowhere, NoneBefore, Passes, is_byte}
-pub use Rattle.sas_lines.specs.FirstLines.{LineStandsFirst, LinesStandFirst, TakesLine}
+pub use Rattle.sas_lines.specs.FirstLines.{LinesStandFirst, TakesLine}
 pub use Rattle.sas_lines.specs.Lines.{text, without_return, lines_among, rest_among, EndedLines, NoEnd}
 pub use Rattle.sas_lines.specs.Parts.{onto_first, StandsFirst, Without}
 pub use Rattle.sas_lines.specs.Progress.{Progress}

@@ -1,5 +1,5 @@
 -- What the proofs use of other crates, and of the definitions of this one.
-pub use Rattle.std.proofs.Common.{◌≡◌, ℕ, ◌-◌, true, false, List, ◌++◌, length, take, drop, sym, ap, ◌∙◌, arith, length-append, Option, None, Some, nat_eq, ◌⊎◌, inl, inr, suc, ◌+◌, ◌<◌, ◌≤◌, [], ◌∷◌, get_or, refl, subst, Ok, append_assoc, codes, map, IsTrue, ◌↔◌, Err, rules}
+pub use Rattle.std.proofs.Common.{◌≡◌, ℕ, ◌-◌, true, false, List, ◌++◌, length, take, drop, sym, ap, ◌∙◌, arith, length-append, Option, None, Some, nat_eq, ◌⊎◌, inl, inr, suc, ◌+◌, ◌<◌, ◌≤◌, [], ◌∷◌, get_or, refl, subst, Ok, append_assoc, codes, map, IsTrue, ◌↔◌, Err}
 pub use Rattle.std.proofs.Math.ListN.{get_or-append}
 pub use Rattle.std.proofs.Math.Seq.{drop-append_seam, take-append_seam}
 pub use Rattle.std.proofs.lemmas.Bool.{false_from_ne_true}
@@ -17,9 +17,8 @@ pub use Rattle.sas_core.specs.Plain.{IsPlain}
 pub use Rattle.sas_core.specs.PlanParts.{PlanParts}
 pub use Rattle.sas_core.specs.Plans.{WellNamed}
 pub use Rattle.sas_core.specs.declared.plan.CostKind.{CostKind}
-pub use Rattle.sas_lines.proofs.Beginnings.{stands_first, one_stands_first}
+pub use Rattle.sas_lines.proofs.Splitting.{lines-one, unfinished-one}
 pub use Rattle.sas_lines.proofs.Words.{NoSpace, NoSpace-decimal}
-pub use Rattle.sas_lines.specs.FirstLines.{LineStandsFirst}
 pub use Rattle.sas_lines.specs.Lines.{text}
 unfoldable pub use Rattle.sas_lines.specs.Lines.{lines}
 pub use Rattle.sas_reader.proofs.About.{about_laws_of}
@@ -28,7 +27,7 @@ pub use Rattle.sas_reader.proofs.Conversion.{Follows, reads_of_format, some_read
 pub use Rattle.sas_reader.proofs.Every.{laws_of}
 pub use Rattle.sas_reader.proofs.Live.{leads_line}
 pub use Rattle.sas_reader.proofs.Paths.{one_ended}
-pub use Rattle.sas_reader.proofs.Plain.{plain, return_stands_first, plain-decimal}
+pub use Rattle.sas_reader.proofs.Plain.{plain, plain-decimal}
 pub use Rattle.sas_reader.proofs.Reading.{end_fault, reads_all, refuses_all, feeds}
 pub use Rattle.sas_reader.proofs.Refusals.{reported_by, explains, reads_explained, refuses_explained}
 pub use Rattle.sas_reader.specs.About.{ConcernsText}
@@ -36,7 +35,6 @@ pub use Rattle.sas_reader.specs.Devices.{ReadsAll, ValueOf}
 pub use Rattle.sas_reader.specs.Format.{ReadsAs}
 pub use Rattle.sas_reader.specs.Laws.{Laws}
 pub use Rattle.sas_reader.specs.Limit.{most_bytes}
-pub use Rattle.sas_reader.specs.Machine.{AcceptsAhead}
 pub use Rattle.sas_reader.specs.Reader.{IsRefused}
 pub use Rattle.sas_reader.specs.Reading.{Finishes}
 pub use Rattle.sas_reader.specs.System.{IsAllowed, Node, ended, LeadsToEnd, Grammar, IsRejected, Leads, Rejects}
@@ -46,7 +44,7 @@ pub use Rattle.sas_reader.specs.declared.fault.Kind.{Kind}
 pub use Rattle.sas_reader.specs.declared.fault.Kind.TheVariants.{Keyword, Name, Shape}
 pub use Rattle.sas_plan_file.specs.PlanFormat.{step, plan_line_bytes, plan_format, PlanLineFits, cost, plan_texts, PlanLine, plan_layout, cost_front, cost_words, like_step, like_cost, like_none, BeginsWith, PlanKind}
 pub use Rattle.sas_plan_file.specs.PlanLaws.{PlanIsFilled, filling_cost_line}
-pub use Rattle.sas_plan_file.specs.PlanLine.{EndsLine, StepStandsFirst, Names, Costs}
+pub use Rattle.sas_plan_file.specs.PlanLine.{StepStandsFirst, Names, Costs}
 pub use Rattle.sas_plan_file.specs.PlanMachine.{plan_line_ok, PlanState, going, closed, plan_node, plan_start, plan_next, HasCostLine, plan_state, StepsOn, plan_stays}
 pub use Rattle.sas_plan_file.specs.PlanReader.{plan_led, plan_rejects, plan_view}
 pub use Rattle.sas_plan_file.specs.PlanRefusal.{fault_of, found_of, nothing_else}

@@ -1,5 +1,5 @@
 -- A step on the first line of some bytes.
-use Rattle.sas_plan_file.proofs.Imports.{◌≡◌, ◌⊎◌, inl, inr, ℕ, suc, ◌+◌, ◌<◌, List, [], ◌∷◌, ◌++◌, length, get_or, take, drop, refl, subst, Ok, sym, ap, ◌∙◌, append_assoc, length-append, arith, codes, length-take-le, get_or-take, take_at, take-append-drop, get_or-append, step, plan_line_bytes, plan_format, PlanLineFits, plan_line_ok, EndsLine, StepStandsFirst, IsName, LineStandsFirst, stands_first, one_stands_first, AcceptsAhead, plain, return_stands_first, IsAllowed}
+use Rattle.sas_plan_file.proofs.Imports.{◌≡◌, ℕ, suc, ◌+◌, ◌-◌, ◌<◌, List, [], ◌∷◌, ◌++◌, length, get_or, take, drop, refl, subst, sym, ap, ◌∙◌, append_assoc, length-append, arith, codes, length-take-le, get_or-take, take_at, take-append-drop, drop_more, get_or-append, step, plan_line_bytes, plan_format, PlanLineFits, plan_line_ok, StepStandsFirst, IsName, LinesAccepted, one_more, plain, lines-one, unfinished-one, IsAllowed}
 use Rattle.sas_reader.proofs.PlainBytes.{plain_name}
 use Rattle.sas_plan_file.proofs.PlanGrammar.{plain-step}
 
@@ -18,49 +18,33 @@ module _ (bytes : List ℕ) (end : ℕ) (first : (end < length bytes) × ((k : �
     names : 0 < length name → IsName name
     names some = plain_name name some (λ k low. subst (λ (b : ℕ). 13 < b) (sym (at_place k low)) (first.1 (suc k) (omega (arith, inside))))
 
-    whole : (behind : List ℕ) → drop end bytes ≡ behind → bytes ≡ plan_line_bytes (step name) ++ behind
-    whole behind e = sym (take-append-drop end bytes) ∙ ap (λ (x : List ℕ). x ++ drop end bytes) line ∙ ap (λ (x : List ℕ). plan_line_bytes (step name) ++ x) e
-
-    line_first : IsName name → (rest : List ℕ) (taken : ℕ)
-        → ((drop end bytes ≡ 10 ∷ rest) × (taken ≡ 1)) ⊎ ((drop end bytes ≡ 13 ∷ 10 ∷ rest) × (taken ≡ 2))
-        → LineStandsFirst bytes (plan_line_bytes (step name)) (end + taken)
-    line_first is rest taken (inl h) =
-        subst (LineStandsFirst bytes (plan_line_bytes (step name))) (omega (arith, inside, h.1, length-append name (codes ")")))
-        (stands_first bytes (plan_line_bytes (step name)) rest (plain _ (plain-step name is)) (whole (10 ∷ rest) h.0))
-    line_first is rest taken (inr h) =
-        subst (LineStandsFirst bytes (plan_line_bytes (step name))) (omega (arith, inside, h.1, length-append name (codes ")")))
-        (return_stands_first (plan_line_bytes (step name)) (plain-step name is) bytes rest (whole (13 ∷ 10 ∷ rest) h.0))
-
-    -- so bytes in parentheses before a line end are a step
-    pub step_before_end : 0 < length name → (taken : ℕ) → EndsLine (drop end bytes) taken → StepStandsFirst bytes name (end + taken)
-    step_before_end some taken ends = record {
+    -- so bytes in parentheses before LF are a step
+    pub step_before_end : 0 < length name → get_or bytes end 0 ≡ 10 → (rest : List ℕ) → rest ≡ drop (end + 1) bytes → StepStandsFirst bytes name rest
+    step_before_end some ends rest e = record {
       is_name = names some;
-      first = line_first (names some) ends.0 taken ends.1;
-      before_end = ap (λ (n : ℕ). take n bytes) inside ∙ line;
+      are =
+          sym (take-append-drop end bytes)
+          ∙ ap (λ (x : List ℕ). x ++ drop end bytes) line
+          ∙ ap (λ (x : List ℕ). plan_line_bytes (step name) ++ x) (drop_more bytes end 0 first.0 ∙ ap (λ (b : ℕ). b ∷ drop (end + 1) bytes) ends ∙ ap (λ (l : List ℕ). 10 ∷ l) (sym e));
     }
 
-module _ (bytes name : List ℕ) (taken : ℕ) (h : StepStandsFirst bytes name taken) where
-  line_bytes : List ℕ
+module _ (bytes name rest : List ℕ) (h : StepStandsFirst bytes name rest) where
+  abbrev line_bytes : List ℕ
   line_bytes = plan_line_bytes (step name)
 
-  -- the byte after the parentheses is LF
-  pub bytes_of_line : taken ≡ length name + 2 + 1 → take taken bytes ≡ plan_line_bytes (step name) ++ 10 ∷ []
-  bytes_of_line e =
-      let t = h.first.taken in
-      let front : take (length name + 2) bytes ≡ t.0 = ap (take (length name + 2)) t.3 ∙ take_at t.0 (10 ∷ t.1) (length name + 2) (omega (arith, e, t.4)) in
-      ap (take taken) (t.3 ∙ sym (append_assoc t.0 (10 ∷ []) t.1))
-      ∙ take_at (t.0 ++ 10 ∷ []) t.1 taken (omega (arith, t.4, length-append t.0 (10 ∷ [])))
-      ∙ ap (λ (x : List ℕ). x ++ 10 ∷ []) (sym front ∙ h.before_end)
+  whole : bytes ≡ (line_bytes ++ 10 ∷ []) ++ rest
+  whole = h.are ∙ sym (append_assoc line_bytes (10 ∷ []) rest)
+
+  -- its line and LF
+  pub bytes_of_line : take (length bytes - length rest) bytes ≡ plan_line_bytes (step name) ++ 10 ∷ []
+  bytes_of_line = ap (take (length bytes - length rest)) whole ∙ take_at (line_bytes ++ 10 ∷ []) rest (length bytes - length rest) (omega (arith, ap length whole, length-append (line_bytes ++ 10 ∷ []) rest))
 
   pub step_ahead_taken : IsAllowed plan_format PlanLineFits tt plan_line_ok (step name)
   step_ahead_taken = record { slot = refl; fits = tt; good = h.is_name }
 
-  -- a machine that adds the step accepts its line
-  pub accepts_step : {M : Type 0} (led_by : List (List ℕ) → M → Type 0) (old new : M)
-      → ((before : List (List ℕ)) → led_by before old → led_by (before ++ plan_line_bytes (step name) ∷ []) new)
-      → AcceptsAhead led_by old bytes new (Ok (record { lines = 1; bytes = taken }))
-  accepts_step led_by old new on = record {
-    took = λ some. (plan_line_bytes (step name) ∷ [], record { stand = one_stands_first bytes (plan_line_bytes (step name)) taken h.first; many = refl }, on);
-    none = λ e. absurd (omega (arith, e, h.first.taken.4));
-    memory = tt;
-  }
+  -- a machine that adds the step accepts its line after others
+  pub next_step : {M : Type 0} (led_by : List (List ℕ) → M → Type 0) (start : M) (all : List ℕ) (old : M) (count : ℕ) → LinesAccepted led_by start all old count bytes → (new : M)
+      → ((before : List (List ℕ)) → led_by before old → led_by (before ++ plan_line_bytes (step name) ∷ []) new) → LinesAccepted led_by start all new (count + 1) rest
+  next_step led_by start all old count so_far new on =
+      let p = plain line_bytes (plain-step name h.is_name) in
+      one_more led_by start all old count bytes so_far new line_bytes (line_bytes ++ 10 ∷ []) rest whole (lines-one line_bytes p.no_end ∙ ap (λ (l : List ℕ). l ∷ []) p.no_return) (unfinished-one line_bytes p.no_end) on

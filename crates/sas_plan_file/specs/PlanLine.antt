@@ -1,10 +1,9 @@
 -- How the code parses a line of a plan file.
-use Rattle.std.specs.Prelude.{◌≡◌, ◌⊎◌, ℕ, ◌+◌, List, ◌∷◌, ◌++◌, length, take, codes, Result, Ok, Err}
+use Rattle.std.specs.Prelude.{◌≡◌, ℕ, List, ◌∷◌, ◌++◌, codes, Result, Ok, Err}
 use Rattle.std.specs.Fmt.{decimal}
 use Rattle.sas_core.specs.declared.plan.CostKind.{CostKind}
 use Rattle.sas_core.specs.Names.{IsName}
 use Rattle.sas_core.specs.Numbers.{IsPlanCost}
-use Rattle.sas_lines.specs.FirstLines.{LineStandsFirst}
 use Rattle.sas_reader.specs.declared.fault.Kind.{Kind}
 use Rattle.sas_plan_file.specs.declared.plan_line.PlanLine as code
 use Rattle.sas_plan_file.specs.declared.plan_line.PlanLine.TheVariants as variants
@@ -32,13 +31,7 @@ JudgesPlanLine line (Ok said) =
     × (plan_line_bytes (line_said said) ≡ line)
 JudgesPlanLine line (Err kind) = IsRejected plan_format PlanLineFits tt plan_line_ok line kind
 
--- the bytes begin with a line end of `taken` bytes: LF or CR LF
-abbrev pub EndsLine : List ℕ → ℕ → Type 0
-EndsLine bytes taken = (rest : List ℕ)
-    × (((bytes ≡ 10 ∷ rest) × (taken ≡ 1)) ⊎ ((bytes ≡ 13 ∷ 10 ∷ rest) × (taken ≡ 2)))
-
--- the bytes begin with the line of this step, which takes `taken` bytes with its line end
-pub record StepStandsFirst (bytes name : List ℕ) (taken : ℕ) : Type 0 where
+-- the bytes are the line of this step, LF and the rest
+pub record StepStandsFirst (bytes name rest : List ℕ) : Type 0 where
   pub is_name : IsName name
-  pub first : LineStandsFirst bytes (plan_line_bytes (step name)) taken
-  pub before_end : take (length name + 2) bytes ≡ plan_line_bytes (step name)
+  pub are : bytes ≡ plan_line_bytes (step name) ++ 10 ∷ rest

@@ -1,9 +1,9 @@
 // Parses one line of a plan file.
-ghost use Rattle.std.specs.Prelude.{◌≡◌, ◌<◌, ◌++◌, ℕ, List, codes, length, drop, MatchOption, IfSome, IfNone};
+ghost use Rattle.std.specs.Prelude.{◌≡◌, ◌<◌, ◌++◌, ℕ, List, codes, length, MatchOption, IfSome, IfNone};
 ghost use Rattle.std.specs.Fmt.{decimal};
 ghost use Rattle.sas_core.specs.Numbers.{IsPlanCost};
 ghost use Rattle.sas_plan_file.specs.PlanFormat.{BeginsWith};
-ghost use Rattle.sas_plan_file.specs.PlanLine.{Names, Costs, JudgesPlanLine, EndsLine, StepStandsFirst};
+ghost use Rattle.sas_plan_file.specs.PlanLine.{Names, Costs, JudgesPlanLine, StepStandsFirst};
 
 use sas_core::{CostKind, is_name};
 use sas_lines::cost;
@@ -14,13 +14,6 @@ use sas_reader::{Kind, plain_end};
 pub enum PlanLine<'a> {
     Step(&'a [u8]),
     Cost(u64, CostKind),
-}
-
-/// A step whose line is the first of some bytes: its name, and the number of bytes of the line with its end.
-#[derive(Clone, Copy, Debug, PartialEq, Eq)]
-pub struct StepAhead<'a> {
-    pub name: &'a [u8],
-    pub taken: usize,
 }
 
 /// Returns the rest of the line after `front`, or `None` if the line doesn't begin with `front`.
@@ -109,31 +102,15 @@ fn in_parentheses(line: &[u8]) -> Option<&[u8]>
     }
 }
 
-/// Returns the number of bytes of the line end at `place` (LF or CR LF), or `None` if there is none.
-#[inline(always)]
-fn end_of_line(bytes: &[u8], place: usize) -> Option<usize>
-    requires { place < length bytes.now }
-    ensures { IfSome result (λ taken. EndsLine (drop place bytes.now) taken) }
-{
-    if bytes[place] == b'\n' {
-        return Some(1);
-    }
-    match &bytes[place..] {
-        [b'\r', b'\n', ..] => Some(2),
-        _ => None,
-    }
-}
-
-/// Returns the step on the first line of the bytes, if the line ends at the first byte that is at most CR. Otherwise returns `None`, and the
-/// line has to be read by `plan_line`.
-pub fn step_ahead(bytes: &[u8]) -> Option<StepAhead<'_>>
-    ensures { IfSome result (λ step. StepStandsFirst bytes.now step.name.now step.taken) }
+/// Returns the name of the step on the first line of the bytes, and the bytes after the line, if it ends with LF at the first byte that is
+/// at most CR. Otherwise returns `None`, and the line has to be read by `plan_line`.
+pub fn step_ahead(bytes: &[u8]) -> Option<(&[u8], &[u8])>
+    ensures { IfSome result (λ a. StepStandsFirst bytes.now a.0.now a.1.now) }
 {
     let end = plain_end(bytes)?;
     let name = in_parentheses(&bytes[..end])?;
-    let end_taken = end_of_line(bytes, end)?;
-    Some(StepAhead {
-        name,
-        taken: end + end_taken,
-    })
+    if bytes[end] != b'\n' {
+        return None;
+    }
+    Some((name, &bytes[end + 1..]))
 }

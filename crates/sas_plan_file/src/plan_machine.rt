@@ -144,10 +144,10 @@ impl<S: StepNames> Machine for PlanMachine<S> {
     fn accept_ahead(&mut self, bytes: &[u8]) -> Result<Front, Kind> {
         let mut lines = 0;
         let mut rest = bytes;
-        while let Some(step) = step_ahead(rest) {
-            self.add_step(step.name)?;
+        while let Some((name, behind)) = step_ahead(rest) {
+            self.add_step(name)?;
             lines += 1;
-            rest = &rest[step.taken..];
+            rest = behind;
         }
         Ok(Front {
             lines,

@@ -73,19 +73,17 @@ impl Machine for PlanText {
     }
 
     fn accept_ahead(&mut self, bytes: &[u8]) -> Result<Front, Kind> {
-        let Some(step) = step_ahead(bytes) else {
-            return Ok(Front::EMPTY);
-        };
-        // The name and the parentheses.
-        let line = step.name.len() + 2;
-        if step.taken == line + 1 {
-            self.text.extend_from_slice(&bytes[..step.taken])?;
-        } else {
-            self.keep(&bytes[..line])?;
+        let mut lines = 0;
+        let mut rest = bytes;
+        while let Some((_name, behind)) = step_ahead(rest) {
+            self.text
+                .extend_from_slice(&rest[..rest.len() - behind.len()])?;
+            lines += 1;
+            rest = behind;
         }
         Ok(Front {
-            lines: 1,
-            bytes: step.taken,
+            lines,
+            bytes: bytes.len() - rest.len(),
         })
     }
 }

@@ -9,7 +9,7 @@ pub use Rattle.std.proofs.Math.Nat.{min_comm}
 pub use Rattle.std.proofs.Math.Seq.{take-add, take-append-add, drop-append_seam}
 pub use Rattle.std.proofs.lemmas.Bool.{leb-false, cases_eq, ne_eqb, cases_lt, lt-ltb, ltb-true, eqb-true, eqb-false, false≢true}
 pub use Rattle.std.proofs.lemmas.Bool.Decides.{eqb_tells}
-pub use Rattle.std.proofs.lemmas.List.{append-nil, length-take, take_all, take-append-drop, drop-take, drop-drop, get_or-take, get_or-drop, length-take-le, take_at, take-take, drop_more, take-append-le, length_push, nil_from_length, append_cancel_left, take_min}
+pub use Rattle.std.proofs.lemmas.List.{append-nil, length-take, take_all, take-append-drop, drop-take, drop-drop, get_or-take, get_or-drop, length-take-le, take_at, take-take, drop_more, take-append-le, nil_from_length, append_cancel_left, take_min}
 pub use Rattle.std.proofs.lemmas.List.Elements.{All-from_get_or, filter-append, filter_more}
 pub use Rattle.std.proofs.lemmas.List.Sums.{list_all-from_AllPass, prefix_len-le-length, prefix_len_passes, prefix_len_stops}
 pub use Rattle.std.proofs.lemmas.Simd.{run_in_chunk_le, run_in_chunk_fails, leading_from_mask_l, trailing_mask_l, length-chunk, take_more_put_chunk, bitmask_splat}

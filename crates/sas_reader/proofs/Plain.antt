@@ -1,5 +1,5 @@
 -- Bytes without LF and CR.
-use Rattle.sas_reader.proofs.Imports.{◌≡◌, ℕ, ◌+◌, List, [], ◌∷◌, ◌++◌, take, refl, sym, ap, ◌∙◌, append_assoc, arith, length, decimal, ne_eqb, take_at, length_push, NoEnd, without_return, lines, unfinished, LineStandsFirst, Without-decimal, Plain, lines-one, unfinished-one, IsPlain, plain_parts, plain_without}
+use Rattle.sas_reader.proofs.Imports.{◌≡◌, ℕ, ◌+◌, List, [], ◌∷◌, ◌++◌, refl, ap, ◌∙◌, arith, decimal, ne_eqb, NoEnd, without_return, lines, unfinished, Without-decimal, Plain, lines-one, unfinished-one, IsPlain, plain_parts, plain_without}
 
 pub plain-decimal : (n : ℕ) → IsPlain (decimal n)
 plain-decimal n = plain_without (decimal n) (Without-decimal 10 n (omega arith)) (Without-decimal 13 n (omega arith))
@@ -36,15 +36,3 @@ module _ (line : List ℕ) (h : IsPlain line) where
 
   pub unfinished-return : unfinished ((line ++ 13 ∷ []) ++ 10 ∷ []) ≡ []
   unfinished-return = unfinished-one (line ++ 13 ∷ []) (return_no_end line h)
-
-  -- which is the first line of all bytes that begin with them
-  pub return_stands_first : (bytes rest : List ℕ) → bytes ≡ line ++ 13 ∷ 10 ∷ rest → LineStandsFirst bytes line (length line + 2)
-  return_stands_first bytes rest e =
-      let front = line ++ 13 ∷ [] in
-      let whole : bytes ≡ front ++ 10 ∷ rest = e ∙ sym (append_assoc line (13 ∷ []) (10 ∷ rest)) in
-      let up_to : take (length line + 2) bytes ≡ front ++ 10 ∷ [] = ap (take (length line + 2)) (whole ∙ sym (append_assoc front (10 ∷ []) rest)) ∙ take_at (front ++ 10 ∷ []) rest (length line + 2) (omega (arith, length_push front 10, length_push line 13)) in
-      record {
-        taken = (front, rest, return_no_end line h, whole, omega (arith, length_push line 13));
-        line = ap lines up_to ∙ lines-return;
-        rest = ap unfinished up_to ∙ unfinished-return;
-      }
