@@ -64,6 +64,11 @@ same_or_not m n = elim (eqb_tells m n) [ inl same ↦ inl same.1 | inr other ↦
 
 -- ---- one plan more
 
+-- the place of the best is that of a plan
+pub placed : (labels : List (List ℕ)) (all : List Judged) (best : Option Best) → length all ≡ length labels → HasBest all best → IsPlace labels best
+placed labels all None many h = tt
+placed labels all (Some best) many (judged, is, place) = omega (arith, many, place, ap (λ (x : List Judged). length x) is.whole, length-append is.front (judged ∷ is.behind))
+
 module _ (p : Parts) (known : ℕ → Option (List ℕ)) (labels : List (List ℕ)) where
   said_at : (all : List Judged) (j : Judged) (n : ℕ) → AreSaid p known labels n all → IsSaid p (known n) (get_or labels n []) j → (k : ℕ) → k < n + 1 → (k < n) ⊎ (n ≡ k)
       → IsSaid p (known k) (get_or labels k []) (get_or (all ++ j ∷ []) k unjudged)
@@ -89,15 +94,11 @@ module _ (p : Parts) (known : ℕ → Option (List ℕ)) (labels : List (List �
   label_at all n k said less = (said.each k less).taken.2.2
 
   module _ (all : List Judged) (said : AreSaid p known labels (length labels) all) where
-    place_of : (best : Option Best) → HasBest all best → IsPlace labels best
-    place_of None h = tt
-    place_of (Some best) (judged, is, place) = omega (arith, said.many, place, ap (λ (x : List Judged). length x) is.whole, length-append is.front (judged ∷ is.behind))
-
     best_of : (best : Best) (judged : Judged) (is : IsBest all judged best.cost) → length is.front ≡ best.number → judged.label ≡ get_or labels best.number []
     best_of best judged is place =
         let at : get_or all best.number unjudged ≡ judged =
         ap (λ (x : List Judged). get_or x best.number unjudged) is.whole ∙ ap (λ (k : ℕ). get_or (is.front ++ judged ∷ is.behind) k unjudged) (sym place) ∙ get_or-append_seam is.front judged is.behind unjudged in
-        let below : best.number < length labels = place_of (Some best) (judged, is, place) in
+        let below : best.number < length labels = placed labels all (Some best) said.many (judged, is, place) in
         ap (λ (j : Judged). j.label) (sym at) ∙ label_at all (length labels) best.number said below
 
     summary_by : (valid : ℕ) (best : Option Best) → valid ≡ count_by is_valid all → HasBest all best → IsSummary all (summary_of labels (record { valid = valid; best = best }))

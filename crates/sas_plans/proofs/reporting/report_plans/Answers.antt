@@ -1,8 +1,13 @@
 use Rattle.sas_plans.proofs.Imports.{ℕ, List, length, refl, arith, ap, sym, ◌∙◌, ◌++◌, ◌⊎◌, ◌↔◌, inl, inr, Result, Ok, Err, IfErr, IsErrAnd, err_from_is_err_and, Status, ToolFault, IsWrite, tool_fault, judge_result, summary_of}
-use Rattle.sas_plans.proofs.SaidPlans.{reported, unreported}
+use Rattle.sas_plans.proofs.SaidPlans.{placed, reported, unreported}
 use Rattle.sas_plans.proofs.Turns.{in_turn_fault, in_turn_written}
 use Rattle.sas_plans.proofs.reporting.report_plans.Goals as goal
 use Rattle.sas_plans.proofs.reporting.report_plans.Goals.{then-tally-count, else-tally-count}
+
+pub push_summary-requires : goal.push_summary-requires
+push_summary-requires g c =
+    let reported = c.in-Ok.ensures.ok in
+    rw c.in-Ok.ensures.labels (placed _ reported.0 c.in-Ok.tally.best reported.1.many reported.3.best)
 
 pub returns-in-Err-clause-judges : goal.returns-in-Err-clause-judges
 returns-in-Err-clause-judges g c =
