@@ -62,12 +62,12 @@ decided_long (tool_fault.Write n) decided writes = absurd (writes tt)
 same_or_not : (m n : ℕ) → (m ≡ n) ⊎ (m ≢ n)
 same_or_not m n = elim (eqb_tells m n) [ inl same ↦ inl same.1 | inr other ↦ inr other.1 ]
 
--- ---- one plan more
-
 -- the place of the best is that of a plan
 pub placed : (labels : List (List ℕ)) (all : List Judged) (best : Option Best) → length all ≡ length labels → HasBest all best → IsPlace labels best
 placed labels all None many h = tt
 placed labels all (Some best) many (judged, is, place) = omega (arith, many, place, ap (λ (x : List Judged). length x) is.whole, length-append is.front (judged ∷ is.behind))
+
+-- ---- one plan more
 
 module _ (p : Parts) (known : ℕ → Option (List ℕ)) (labels : List (List ℕ)) where
   said_at : (all : List Judged) (j : Judged) (n : ℕ) → AreSaid p known labels n all → IsSaid p (known n) (get_or labels n []) j → (k : ℕ) → k < n + 1 → (k < n) ⊎ (n ≡ k)
