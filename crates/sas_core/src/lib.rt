@@ -14,7 +14,7 @@ mod task;
 pub use checks::{PartsFault, check};
 pub use grounded::{Change, Grounded};
 pub use items::Items;
-pub use names::is_name;
+pub use names::{is_name, is_one_line};
 pub use parts::{Effect, Fact, Operator, Parts, Rule, Variable};
 pub use plan::{BadName, CostKind, Plan};
 pub use stepwise::Stepwise;

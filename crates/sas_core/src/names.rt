@@ -13,7 +13,7 @@ pub fn is_name(bytes: &[u8]) -> bool
 }
 
 /// Returns whether the bytes contain no LF and no CR.
-fn is_one_line(bytes: &[u8]) -> bool
+pub fn is_one_line(bytes: &[u8]) -> bool
     ensures { result ≡ list_all spec.is_plain bytes.now }
 {
     memchr2(b'\n', b'\r', bytes).is_none()

@@ -6,7 +6,7 @@ pub use Rattle.std.proofs.Math.Seq.{get_or-append_seam}
 pub use Rattle.std.proofs.lemmas.Bool.{cases_lt, lt-ltb}
 pub use Rattle.std.proofs.lemmas.Grind.{flat_map-append}
 pub use Rattle.std.proofs.lemmas.List.{length-map, append_cancel_left, append_cancel_right, length_push}
-pub use Rattle.std.proofs.lemmas.List.Elements.{All-nil, All-cons, All-head, All-tail, All-same, All-append, All-push, All-weaker, All-contains, Contains-append_right, Contains-append_left, Contains-push, recursion_from_All, All-get_or, All-from_get_or, Contains-get_or, All-map}
+pub use Rattle.std.proofs.lemmas.List.Elements.{All-nil, All-cons, All-head, All-tail, All-same, All-append, All-push, All-weaker, All-contains, Contains-append_right, Contains-append_left, Contains-push, All-get_or, All-from_get_or, Contains-get_or, All-map}
 pub use Rattle.std.proofs.lemmas.List.Sums.{AllPass-from_list_all, list_all-from_AllPass, count_by-le-length, sum_by-cons, sum_by_push}
 pub use Rattle.std.proofs.lemmas.Option.{none-some}
 pub use Rattle.std.proofs.lemmas.Result.{err_from_is_err_and}

@@ -1,5 +1,5 @@
 -- What is printed of each plan is one line, and a task is refused by one.
-use Rattle.sas_plans.proofs.Imports.{◌≡◌, ◌≢◌, ℕ, zero, suc, ◌<◌, List, [], ◌∷◌, ◌++◌, length, get_or, codes, decimal, append_assoc, refl, sym, ap, subst, ◌∙◌, arith, inl, inr, Some, Result, Ok, Err, flat_map, AllByRecursion, get_or-append, recursion_from_All, Parts, PlanParts, LayerFault, lines, text, Plain, lines-append, lines-text, unfinished-text, Fault, IsPlain, plain, plain-decimal, IsLabel, Judged, labelled, unjudged, line_of, plain-append, Output, VerdictAnswer, layers_refusal, layer_words, layers_line, fault_words, invalid_line, No, VerdictOut, IsAnswerOrRefusal, TaskOut, UnlayeredAnswer, plain_refusal, refusal, refusal_line, word_of, file_words, file_plain, kind_plain, layer_plain, invalid_plain, worded}
+use Rattle.sas_plans.proofs.Imports.{◌≡◌, ℕ, zero, suc, ◌<◌, List, [], ◌∷◌, ◌++◌, length, get_or, codes, decimal, append_assoc, refl, sym, ap, subst, ◌∙◌, arith, inl, inr, Some, Result, Ok, Err, flat_map, AllByRecursion, get_or-append, Parts, PlanParts, LayerFault, lines, text, Plain, lines-append, lines-text, unfinished-text, Fault, IsPlain, plain, plain-decimal, IsLabel, Judged, labelled, unjudged, line_of, plain-append, Output, VerdictAnswer, layers_refusal, layer_words, layers_line, fault_words, invalid_line, No, VerdictOut, IsAnswerOrRefusal, TaskOut, UnlayeredAnswer, plain_refusal, refusal, refusal_line, word_of, file_words, file_plain, kind_plain, layer_plain, invalid_plain, worded}
 use Rattle.sas_plans.proofs.LastBytes.{EndsInLetter, letter_behind, kind_letter, layer_letter}
 
 -- the bytes are a line with its end
@@ -37,13 +37,10 @@ pub verdict_line : (p : Parts) (c : List ℕ) (o : Output) → VerdictOut Verdic
 verdict_line p c o out = reading_line p o out.0 out.2
 
 -- with a label in front
-label_plain : (label : List ℕ) → IsLabel label → IsPlain label
-label_plain label h = recursion_from_All (λ (byte : ℕ). (byte ≢ 10) × (byte ≢ 13)) label h
-
 pub labelled_line : (label : List ℕ) (j : Judged) → IsLabel label → j.label ≡ label → IsLine j.line → IsLine (labelled j)
 labelled_line label j is_label e l = record {
   line = label ++ codes ": " ++ l.line;
-  plain = plain-append (label ++ codes ": ") l.line (plain-append label (codes ": ") (label_plain label is_label) refl) l.plain;
+  plain = plain-append (label ++ codes ": ") l.line (plain-append label (codes ": ") is_label refl) l.plain;
   is =
       ap (λ (x : List ℕ). x ++ codes ": " ++ j.line) e ∙ ap (λ (x : List ℕ). label ++ codes ": " ++ x) l.is
       ∙ sym (append_assoc (label ++ codes ": ") l.line (10 ∷ []));

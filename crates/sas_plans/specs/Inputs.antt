@@ -1,5 +1,6 @@
 -- What is known of plans that are opened one after another.
-use Rattle.std.specs.Prelude.{◌≡◌, ◌≢◌, ℕ, ◌<◌, List, [], ◌++◌, length, All, slice_index_or, Option, Some, Result, Ok, Err}
+use Rattle.std.specs.Prelude.{◌≡◌, ℕ, ◌<◌, List, [], ◌++◌, length, slice_index_or, Option, Some, Result, Ok, Err}
+use Rattle.sas_core.specs.Plain.{IsPlain}
 use Rattle.sas_output.specs.declared.ending.ToolFault.{ToolFault}
 use Rattle.sas_output.specs.declared.ending.ToolFault.TheVariants as tool
 use Rattle.sas_plans.specs.declared.inputs.InputFault.TheVariants.{NotOpened, Read, TooLong}
@@ -8,7 +9,7 @@ use Rattle.sas_plans.specs.declared.inputs.JudgeFault.TheVariants.{Tool, Plan}
 
 -- a label ends no line
 abbrev pub IsLabel : List ℕ → Type 0
-IsLabel label = All (λ byte. (byte ≢ 10) × (byte ≢ 13)) label
+IsLabel label = IsPlain label
 
 -- the plan with each of these numbers has these bytes
 abbrev pub HaveBytes : (ℕ → Option (List ℕ)) → ℕ → List (List ℕ) → Type 0

@@ -2,6 +2,7 @@
 ghost use Rattle.std.specs.Prelude.{◌≡◌, ◌<◌, ◌↔◌, ℕ, List, [], length, Option, Some, IfSome, IsTrue, slice_index_or};
 ghost use Rattle.sas_plans.specs.Inputs.{IsLabel, judge_result};
 
+use sas_core::is_one_line;
 use sas_output::{Status, ToolFault};
 use std::alloc::AllocError;
 use std::io::Read;
@@ -83,5 +84,5 @@ pub fn judge_ended(ended: Result<Status, ToolFault>) -> Result<Status, JudgeFaul
 pub fn is_label(label: &[u8]) -> bool
     ensures { IsTrue result ↔ IsLabel label.now }
 {
-    label.iter().all(|byte| *byte != b'\n' && *byte != b'\r')
+    is_one_line(label)
 }
