@@ -1,5 +1,5 @@
 -- The counters of a worklist.
-use Rattle.sas_axioms.proofs.Imports.{◌≡◌, ◌≢◌, ℕ, ◌+◌, ◌<◌, ◌≤◌, ◌==◌, ◌⊎◌, true, cond, List, [], ◌∷◌, ◌++◌, length, get_or, set, refl, sym, ◌∙◌, ap, subst, inl, inr, arith, cases_eq, eqb_tells, get_or-set_same, get_or-set_other, length-set, length-append, vec_capacity, Fact, Rule, Parts, rule_at, IsState, WellRanged, Holds, AllHold, IsOnLayer, on_layer_within, default_of, IsRuleOn, AreGiven, open_conditions, occurrences, asking, Moved, Waiting, waiting_at, IsFullIndex, Work, value_seen, IsRunning, AreCountedBy, HaveFired, HasRoom, IsAtWork, WorkGoesOn, FiresRule, IsLayered, differs, IsSettledAt, AtDefault, equal_places, All, All-nil, All-cons, All-head, All-tail, Fired, fired_there, rule_new, differs_true, differs_same, differs_not, fact_within, forced_at_default}
+use Rattle.sas_axioms.proofs.Imports.{◌≡◌, ◌≢◌, ℕ, ◌+◌, ◌<◌, ◌≤◌, ◌==◌, ◌⊎◌, true, cond, List, [], ◌∷◌, ◌++◌, length, get_or, set, refl, sym, ◌∙◌, ap, subst, inl, inr, arith, cases_eq, eqb_tells, get_or-set_same, get_or-set_other, length-set, length-append, vec_capacity, Fact, Rule, Parts, rule_at, IsState, WellRanged, Holds, AllHold, IsOnLayer, on_layer_within, default_of, IsRuleOn, AreGiven, open_conditions, occurrences, asking, Moved, Waiting, waiting_at, IsFullIndex, Work, value_seen, IsRunning, AreCountedBy, HaveFired, WorkHasRoom, IsAtWork, WorkGoesOn, FiresRule, IsLayered, differs, IsSettledAt, AtDefault, equal_places, All, All-nil, All-cons, All-head, All-tail, Fired, fired_there, rule_new, differs_true, differs_same, differs_not, fact_within, forced_at_default}
 use Rattle.sas_axioms.proofs.AllConditions.{can_recount, open_changed}
 use Rattle.sas_axioms.proofs.CountingEntries.{CanRecount, CountersSoFar, counters_after, left_over}
 use Rattle.sas_axioms.proofs.Sources.{no_rule, settled_when_set}
@@ -285,7 +285,7 @@ fires_nothing t s w k running fired = record {
 pub record Releasing (t : Parts) (moved : Moved) (waiting : List Waiting) (i : ℕ) (s0 : List ℕ) (w0 : Work) (s : List ℕ) (w : Work) : Type 0 where
   pub counters : CountersSoFar moved waiting i w0.counters w.counters
   pub goes_on : WorkGoesOn t s0 w0 s w
-  pub room : HasRoom t w
+  pub room : WorkHasRoom t w
   pub running : IsRunning t w0.layer s w.stack.items
   pub given : AreGiven t w0.layer s w.sources
   pub fired : HaveFired t w0.layer s w.counters

@@ -50,7 +50,7 @@ pub use Rattle.sas_axioms.specs.Conditions.{asking, waiting_entry, waiting_at, r
 pub use Rattle.sas_axioms.specs.Following.{NotesMore, IsFollowed, SameWork, CountsTo, SameFrom, ChangesAreNoted, CountsChange, IsOnTrack, IsFalling, IsRising, CountedSoFar, IsBetween, AsksAbout, HasRisen, KeepsRoom}
 pub use Rattle.sas_axioms.specs.LayerRules.{IsRuleOn, AreRulesOn, IsLate, AreFirstRules, AreRulesOf, IsLayerSpan, AreSpans}
 pub use Rattle.sas_axioms.specs.Sources.{AreGiven, SameSourcesOff, IsHolding, HaveSources, SourcesHold, IsSourceOf}
-pub use Rattle.sas_axioms.specs.Worklist.{AreCountedBy, value_seen, IsRunning, HaveFired, HasRoom, IsAtWork, WorkGoesOn, FiresRule, LayerBeginsAt, left_to_do}
+pub use Rattle.sas_axioms.specs.Worklist.{AreCountedBy, value_seen, IsRunning, HaveFired, WorkHasRoom, IsAtWork, WorkGoesOn, FiresRule, LayerBeginsAt, left_to_do}
 pub use Rattle.sas_axioms.specs.declared.agenda.Agenda.{Agenda}
 pub use Rattle.sas_axioms.specs.declared.conditions.Moved.{Moved}
 pub use Rattle.sas_axioms.specs.declared.conditions.Waiting.{Waiting}

@@ -46,7 +46,7 @@ abbrev pub left_to_do : Parts → List ℕ → List ℕ → ℕ
 left_to_do p s stack = 2 * equal_places s p.init + length stack
 
 -- there is a counter for each rule, and the stack has room for each variable
-pub record HasRoom (p : Parts) (w : Work) : Type 0 where
+pub record WorkHasRoom (p : Parts) (w : Work) : Type 0 where
   pub one_each : length w.counters ≡ length p.rules
   pub variables : length p.variables ≤ vec_capacity w.stack
   pub sources : length w.sources ≡ length p.variables
@@ -54,7 +54,7 @@ pub record HasRoom (p : Parts) (w : Work) : Type 0 where
 -- the rules of the current layer are being fired; the conditions on the variables on the stack are
 -- still to be counted
 pub record IsAtWork (p : Parts) (s stack : List ℕ) (w : Work) : Type 0 where
-  pub room : HasRoom p w
+  pub room : WorkHasRoom p w
   pub running : IsRunning p w.layer s stack
   pub counts : AreCountedBy p (value_seen p s stack) w.counters
   pub fired : HaveFired p w.layer s w.counters
@@ -84,7 +84,7 @@ pub record FiresRule (p : Parts) (rule : ℕ) (s : List ℕ) (w : Work) (s' : Li
 pub record IsFiringReady (p : Parts) (f : Firing) : Type 0 where
   pub counted : IsCounted p f.counted
   pub rules_of : AreRulesOf p f.rules_of
-  pub room : HasRoom p f.work
+  pub room : WorkHasRoom p f.work
   pub empty : f.work.stack.items ≡ []
 
 -- what a worklist holds fits the task

@@ -13,7 +13,7 @@ ghost use Rattle.sas_axioms.specs.Conditions.{AreCounted, IsFullIndex, open_cond
 ghost use Rattle.sas_axioms.specs.Agenda.{IsEmpty};
 ghost use Rattle.sas_axioms.specs.Sources.{AreGiven, SameSourcesOff};
 ghost use Rattle.sas_axioms.specs.Following.{IsFollowed};
-ghost use Rattle.sas_axioms.specs.Worklist.{IsRunning, HasRoom, IsAtWork, WorkGoesOn, FiresRule, IsFiringReady};
+ghost use Rattle.sas_axioms.specs.Worklist.{IsRunning, WorkHasRoom, IsAtWork, WorkGoesOn, FiresRule, IsFiringReady};
 
 use crate::agenda::{Agenda, TooMuch};
 use crate::conditions::{Moved, Waiting, count_after};
@@ -60,7 +60,7 @@ impl Work {
     /// Returns the data before the first layer, with this limit on the work of an update. Allocates all memory that will be needed. `Err`
     /// means out of memory.
     fn new<T: Grounded>(alloc: Global, task: &Layered<T>, share: usize) -> Result<Work, AllocError>
-        ensures room { IfOk result (λ work. HasRoom task.now work) }
+        ensures room { IfOk result (λ work. WorkHasRoom task.now work) }
         ensures empty { IfOk result (λ work. work.stack.items ≡ []) }
     {
         Ok(Work {
@@ -217,7 +217,7 @@ fn fire_ready<T: Grounded>(
     state: &mut State,
 )
     requires rules { AreRulesOn task.now work.old.layer rules.now }
-    requires room { HasRoom task.now work.old }
+    requires room { WorkHasRoom task.now work.old }
     requires running { IsRunning task.now work.old.layer state.old work.old.stack.items }
     requires empty { work.old.stack.items ≡ [] }
     requires counts { AreCounted task.now state.old work.old.counters }
@@ -239,7 +239,7 @@ fn fire_ready<T: Grounded>(
 /// stack.
 fn fire<T: Grounded>(task: &Layered<T>, rule: u32, work: &mut Work, state: &mut State)
     requires rule { (layer : ℕ) × IsRuleOn task.now layer rule }
-    requires room { HasRoom task.now work.old }
+    requires room { WorkHasRoom task.now work.old }
     requires running { IsRunning task.now work.old.layer state.old work.old.stack.items }
     requires hold { IsRuleOn task.now work.old.layer rule
         → AllHold (slice_index state.old) (rule_at task.now rule).conditions }
@@ -268,7 +268,7 @@ fn empty_stack<T: Grounded>(
     requires index { IsFullIndex task.now index.now }
     requires at_work { IsAtWork task.now state.old work.old.stack.items work.old }
     ensures settles { SettlesLayer task.now work.old.layer state.old state.new }
-    ensures room { HasRoom task.now work.new }
+    ensures room { WorkHasRoom task.now work.new }
     ensures empty { work.new.stack.items ≡ [] }
     ensures counts { AreCounted task.now state.new work.new.counters }
     ensures given { AreGiven task.now work.old.layer state.new work.new.sources }

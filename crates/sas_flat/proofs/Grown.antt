@@ -1,5 +1,5 @@
 -- Columns to which an item was appended, or only a part of one.
-use Rattle.sas_flat.proofs.Imports.{◌≡◌, ℕ, ◌+◌, ◌<◌, Option, List, [], ◌∷◌, ◌++◌, length, take, map, refl, sym, ap, ◌∙◌, arith, length-append, slice_index, length-map, map-append, get_or-append, Change, Fact, Effect, Operator, Head, table, start_of, list_at, lists_of, items_after, AreEnds, AreOpen, effect, effects_of, rule, rule_of, rules_of, rules_from, Kept, Hold, OperatorColumns, operator, name_ends, prevail_ends, effect_ends, costs, operators_in, end_head, next_operator, OperatorColumnsAlign, VariableColumns, variable, variables_in, variables_from, VariableColumnsAlign}
+use Rattle.sas_flat.proofs.Imports.{◌≡◌, ℕ, ◌+◌, ◌<◌, Option, List, [], ◌∷◌, ◌++◌, length, take, map, refl, sym, ap, ◌∙◌, arith, length-append, slice_index, length-map, map-append, get_or-append, Change, Fact, Effect, Operator, Head, table, start_of, list_at, lists_of, items_after, AreEnds, AreOpen, effect, effects_of, rule, rule_of, rules_of, rules_from, Kept, Hold, OperatorColumns, operator, name_ends, prevail_ends, effect_ends, costs, operators_in, end_head, open_operator, OperatorColumnsAlign, VariableColumns, variable, variables_in, variables_from, VariableColumnsAlign}
 use Rattle.sas_flat.proofs.Tables.{length-table, table_none, table_same, table_more}
 use Rattle.sas_flat.proofs.EffectRows.{effects_more}
 use Rattle.sas_flat.proofs.Blocks.{no_ends, list_first, list_last, ends_done, list_done, lists_done, ends_closed, lists_closed, ends_opened, list_opened, lists_opened, after_opened}
@@ -122,12 +122,12 @@ module _ (old new : OperatorColumns) (names : new.names.items ≡ old.names.item
   -- an operator with them is appended
   pub operators_more : (align : OperatorColumnsAlign AreEnds old) (prevail : Kept old.prevail.items new.prevail.items) (effects : Kept old.effects new.effects)
       (name : List ℕ) (cost : ℕ) (end : OperatorColumns)
-      → Hold (OperatorColumnsAlign AreEnds) operators_in end (operators_in new ++ next_operator new name cost ∷ [])
+      → Hold (OperatorColumnsAlign AreEnds) operators_in end (operators_in new ++ open_operator new name cost ∷ [])
       → Hold (OperatorColumnsAlign AreEnds) operators_in end (operators_in old ++ operator name prevail.more effects.more cost ∷ [])
   operators_more align prevail effects name cost end closed = record {
     align = closed.align;
     is = closed.is
-        ∙ ap (λ l. l ++ next_operator new name cost ∷ []) (operators_opened align prevail effects).is
+        ∙ ap (λ l. l ++ open_operator new name cost ∷ []) (operators_opened align prevail effects).is
         ∙ ap (λ o. operators_in old ++ o ∷ [])
         (ap (λ hs. operator name (items_after new.prevail.items (prevail_ends hs)) (items_after new.effects (effect_ends hs)) cost) heads
         ∙ same_operator _ _ _ _ _ _ _ _ refl (after_opened _ _ _ align.prevail prevail) (after_opened _ _ _ align.effects effects) refl);
@@ -190,10 +190,10 @@ module _ (old new : OperatorColumns) (name : List ℕ) (cost : ℕ) (align : Ope
   cost_at : costs new.heads.items ≡ costs old.heads.items ++ cost ∷ []
   cost_at = ap costs heads ∙ map-append (λ (h : Head). h.cost) old.heads.items (end_head new cost ∷ [])
 
-  pub operators_closed : Hold (OperatorColumnsAlign AreEnds) operators_in new (operators_in old ++ next_operator old name cost ∷ [])
+  pub operators_closed : Hold (OperatorColumnsAlign AreEnds) operators_in new (operators_in old ++ open_operator old name cost ∷ [])
   operators_closed = record {
     align = record { names = name_grows.ends; prevail = prevail_grows.ends; effects = effects_grow.ends };
-    is = table_more (length old.heads.items) (length new.heads.items) _ _ (next_operator old name cost) (ap length heads ∙ length-append old.heads.items (end_head new cost ∷ []))
+    is = table_more (length old.heads.items) (length new.heads.items) _ _ (open_operator old name cost) (ap length heads ∙ length-append old.heads.items (end_head new cost ∷ []))
         (λ k h. same_operator _ _ _ _ _ _ _ _ (name_grows.same k h) (prevail_grows.same k h) (effects_grow.same k h)
         (ap (λ l. slice_index l k) cost_at ∙ get_or-append (costs old.heads.items) (cost ∷ []) 0 k (omega (arith, h, length-map old.heads.items (λ (h : Head). h.cost)))))
         (same_operator _ _ _ _ _ _ _ _ name_grows.last prevail_grows.last effects_grow.last

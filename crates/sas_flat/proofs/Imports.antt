@@ -26,7 +26,7 @@ pub use Rattle.sas_flat.specs.ByKey.{by_key, AreCounts, ArePlaced}
 pub use Rattle.sas_flat.specs.Effects.{effect, change_in_list, effects_of, effect_in_list}
 pub use Rattle.sas_flat.specs.Growing.{Kept, Hold}
 pub use Rattle.sas_flat.specs.Lists.{start_of, list_at, lists_of, items_after, AreEnds, AreOpen}
-pub use Rattle.sas_flat.specs.Operators.{operator, name_ends, prevail_ends, effect_ends, costs, operators_in, operator_in, end_head, next_operator, OperatorColumnsAlign}
+pub use Rattle.sas_flat.specs.Operators.{operator, name_ends, prevail_ends, effect_ends, costs, operators_in, operator_in, end_head, open_operator, OperatorColumnsAlign}
 pub use Rattle.sas_flat.specs.Rules.{rule, rule_of, rules_of, rules_from}
 pub use Rattle.sas_flat.specs.Variables.{variables_in, variables_from, variable, VariableColumnsAlign}
 pub use Rattle.sas_flat.specs.declared.by_key.Entry.{Entry}

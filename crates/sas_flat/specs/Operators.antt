@@ -50,8 +50,8 @@ end_head c cost = record {
 }
 
 -- the operator with the prevail conditions and effects after those of the last operator
-abbrev pub next_operator : OperatorColumns → List ℕ → ℕ → Operator
-next_operator c name cost =
+abbrev pub open_operator : OperatorColumns → List ℕ → ℕ → Operator
+open_operator c name cost =
     operator name (items_after c.prevail.items (prevail_ends c.heads.items))
     (items_after c.effects (effect_ends c.heads.items)) cost
 

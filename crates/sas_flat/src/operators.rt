@@ -7,7 +7,7 @@ ghost use Rattle.sas_flat.specs.Effects.{effect_in_list};
 ghost use Rattle.sas_flat.specs.Growing.{Hold};
 ghost use Rattle.sas_flat.specs.Lists.{start_of, AreEnds, AreOpen};
 ghost use Rattle.sas_flat.specs.Operators.{operator, operators_in, operator_in, name_ends, prevail_ends, effect_ends, end_head};
-ghost use Rattle.sas_flat.specs.Operators.{next_operator, OperatorColumnsAlign};
+ghost use Rattle.sas_flat.specs.Operators.{open_operator, OperatorColumnsAlign};
 
 use crate::effects::Effects;
 use sas_core::{Change, Fact};
@@ -119,7 +119,7 @@ impl OperatorColumns {
     pub fn push(&mut self, name: &[u8], cost: u32) -> Result<(), AllocError>
         requires { OperatorColumnsAlign AreOpen self.old }
         ensures ok { OnOk result (Hold (OperatorColumnsAlign AreEnds) operators_in self.new
-            (operators_in self.old ++ next_operator self.old name.now cost ∷ [])) }
+            (operators_in self.old ++ open_operator self.old name.now cost ∷ [])) }
         ensures err { OnErr result
             (Hold (OperatorColumnsAlign AreOpen) operators_in self.new (operators_in self.old)) }
     {

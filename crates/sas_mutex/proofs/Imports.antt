@@ -52,7 +52,7 @@ pub use Rattle.sas_groups.specs.declared.notes.Notes.{Notes}
 pub use Rattle.sas_groups.specs.declared.verdict.Verdict.{Verdict}
 pub use Rattle.sas_groups.specs.declared.verdict.Verdict.TheVariants.{Derived, Initial, Broken, Exclusive}
 pub use Rattle.sas_meaning.specs.Steps.{preconditions, old_fact}
-pub use Rattle.sas_mutex.specs.Basis.{Grows, HasGrown, IsBasis, IsOfNone, SetsNone}
+pub use Rattle.sas_mutex.specs.Basis.{BasisGrows, HasGrown, IsBasis, IsOfNone, SetsNone}
 pub use Rattle.sas_mutex.specs.ByNotes.{IsNotedAt, ShareOne, AreKnown, IsMet, RemovesByNotes, SomeRemoves, IsNotedFor, known_at, IsUnknownAt, IsGoneAt, IsDecidedByFirst, NeverFires, NotBothAt, BothClashAt, SetsBeside, IsApartAt, IsSingleOn, IsSingleOnFirst, IsUnknown, ClashesAt, SetsOtherValue, EffectKeepsGroupWithItself, EffectKeepsGroup}
 pub use Rattle.sas_mutex.specs.Effects.{IsKept, KeepsAt, KeepsWithItself, IsUnconditional}
 pub use Rattle.sas_mutex.specs.Falling.{count, IsAtRest, AreCandidates, newly, Falls, FamilyHasRoom, RestsOn, IsWithin}

@@ -36,8 +36,8 @@ IsBasisKept family =
     (place : ℕ) → IsTrue (family_of family.basis place) → IsTrue (family_of family.kept place)
 
 -- all groups of the first basis are in the second one
-abbrev pub Grows : List Bool → List Bool → Type 0
-Grows before after =
+abbrev pub BasisGrows : List Bool → List Bool → Type 0
+BasisGrows before after =
     (place : ℕ) → IsTrue (family_of before place) → IsTrue (family_of after place)
 
 -- groups were added to the basis, and nothing else was changed
@@ -45,4 +45,4 @@ pub record HasGrown (before after : Family) : Type 0 where
   pub kept : after.kept ≡ before.kept
   pub fallen : after.fallen ≡ before.fallen
   pub basis : (groups : ℕ) → IsBasis groups before → IsBasis groups after
-  pub grows : Grows before.basis after.basis
+  pub grows : BasisGrows before.basis after.basis

@@ -1,5 +1,5 @@
 -- What the proofs use of other crates, and of the definitions of this one.
-pub use Rattle.std.proofs.Common.{◌≡◌, ◌⊎◌, inl, inr, ℕ, List, [], ◌∷◌, ◌++◌, length, flat_map, take, ◌≤◌, refl, ap, ◌∙◌, ◌+◌, ◌/◌, ◌%◌, ◌<◌, set, append_assoc, length-append, arith, sym, subst, Option, Some, None, zero, suc, ◌-◌, get_or, IsTrue, not, ◌==◌, if◌then◌else◌, codes, slice_get, append-nil, true, false, ◌^◌, drop, min, Bool, Result, Ok, Err, ◌↔◌, bytes_eq, take_at, map, replicate, rules, MutBor}
+pub use Rattle.std.proofs.Common.{◌≡◌, ◌⊎◌, inl, inr, ℕ, List, [], ◌∷◌, ◌++◌, length, flat_map, take, ◌≤◌, refl, ap, ◌∙◌, ◌+◌, ◌/◌, ◌%◌, ◌<◌, set, append_assoc, length-append, arith, sym, subst, Option, Some, None, zero, suc, ◌-◌, get_or, IsTrue, not, ◌==◌, if◌then◌else◌, codes, slice_get, append-nil, true, false, ◌^◌, drop, min, Bool, Result, Ok, Err, ◌↔◌, bytes_eq, take_at, map, replicate, rules, MutBor, zero-add}
 pub use Rattle.std.proofs.KnownBytes.{Appends-trans}
 pub use Rattle.std.proofs.Math.ListN.{length-set}
 pub use Rattle.std.proofs.lemmas.Bool.{and_parts, and_from, eq-eqb, false≢true}
@@ -7,11 +7,12 @@ pub use Rattle.std.proofs.lemmas.Fmt.{decimal_digit, decimal_step}
 pub use Rattle.std.proofs.lemmas.Grind.{take-set_at, flat_map-append}
 pub use Rattle.std.proofs.lemmas.List.{take_all, length-take-le, take-take, take-append-le, take_more, take-append-drop, length-drop, length-take}
 pub use Rattle.std.proofs.lemmas.List.Folds.{flat_map-map}
+pub use Rattle.std.proofs.lemmas.List.FromFn.{length-enumerate_from, get_or-enumerate_from}
 pub use Rattle.std.proofs.lemmas.Result.{err_from_is_err_and}
 pub use Rattle.std.proofs.lemmas.Slice.Eq.{bytes_eq-Decides}
 pub use Rattle.std.specs.Fmt.{decimal}
 pub use Rattle.std.specs.Io.KnownBytes.{Appends}
-pub use Rattle.std.specs.List.{AllByRecursion, list_all}
+pub use Rattle.std.specs.List.{AllByRecursion, list_all, enumerate_from}
 pub use Rattle.std.specs.Option.{unwrap_or}
 pub use Rattle.std.specs.Prelude.{⊤, IfErr, IsErrOf}
 pub use Rattle.itoa.proofs.Decimal.{decimal_pair, pair}
@@ -33,9 +34,9 @@ unfoldable pub use Rattle.sas_lines.specs.Parts.{parts}
 pub use Rattle.sas_lines.specs.Spelling.{joined}
 pub use Rattle.sas_lines.specs.declared.devices.Short.{Short}
 pub use Rattle.sas_output.specs.Ending.{Output, StopsAt, Ends, EndsCounting, IsWrite, Writes, Answers}
-pub use Rattle.sas_output.specs.Facts.{fact_of_effect, fact_of_rule}
+pub use Rattle.sas_output.specs.Facts.{fact_line, initial_lines, fact_of_effect, fact_of_rule}
 pub use Rattle.sas_output.specs.Laws.{IsReasonLine, LinesAreReasons, RuleLinesDiffer}
-pub use Rattle.sas_output.specs.Line.{line_bytes, words_of, effect_words, rule_words, rule_numbers, is_rule_line, is_same_rule_line}
+pub use Rattle.sas_output.specs.Line.{line_bytes, words_of, named_effect, named_rule, rule_numbers, is_rule_line, is_same_rule_line}
 pub use Rattle.sas_output.specs.Pieces.{Piece, Puts, Breaks, CountsOn, PutsOrBreaks}
 pub use Rattle.sas_output.specs.Placing.{Places, PlacesOrLeaves}
 pub use Rattle.sas_output.specs.Sink.{empty_piece, Pushed, PushedBy, Pushes}

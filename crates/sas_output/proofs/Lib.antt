@@ -6,4 +6,5 @@ pub mod Texts
 mod WordLines
 pub mod PlainLines
 pub mod RuleLines
+pub mod InitialLines
 mod Imports

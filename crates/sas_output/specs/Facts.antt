@@ -1,16 +1,27 @@
 -- Facts as words.
-use Rattle.std.specs.Prelude.{ℕ, List, [], ◌∷◌, decimal}
+use Rattle.std.specs.Prelude.{ℕ, List, [], ◌∷◌, map, codes, decimal}
+use Rattle.std.specs.List.{enumerate_from}
 use Rattle.std.specs.Option.{unwrap_or}
 use Rattle.sas_core.specs.declared.parts.Fact.{Fact}
 use Rattle.sas_core.specs.declared.parts.Effect.{Effect}
 use Rattle.sas_core.specs.declared.parts.Rule.{Rule}
-use Rattle.sas_core.specs.declared.parts.Parts.{Parts}
+use Rattle.sas_core.specs.declared.parts.Variable.{Variable}
 use Rattle.sas_core.specs.Variables.{value_name}
+use Rattle.sas_output.specs.Words.{line}
 
 -- `VAR VALUE NAME`, where NAME is the value's name; a value that doesn't exist has none
-abbrev pub fact_words : Parts → ℕ → ℕ → List (List ℕ)
-fact_words p var value =
-    decimal var ∷ decimal value ∷ unwrap_or (value_name p.variables var value) [] ∷ []
+abbrev pub named_fact : List Variable → ℕ → ℕ → List (List ℕ)
+named_fact variables var value =
+    decimal var ∷ decimal value ∷ unwrap_or (value_name variables var value) [] ∷ []
+
+-- `WORD VAR VALUE NAME`
+abbrev pub fact_line : List ℕ → List Variable → ℕ → ℕ → List ℕ
+fact_line word variables var value = line 0 (word ∷ named_fact variables var value)
+
+-- `initial VAR VALUE NAME` for each variable, with its value in a state
+abbrev pub initial_lines : List Variable → List ℕ → List (List ℕ)
+initial_lines variables s =
+    map (λ (var, value). fact_line (codes "initial") variables var value) (enumerate_from 0 s)
 
 -- what an effect sets, and what a rule gives
 abbrev pub fact_of_effect : Effect → Fact

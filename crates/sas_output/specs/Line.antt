@@ -12,20 +12,20 @@ use Rattle.sas_output.specs.declared.line.Line.TheVariants.{Actual, SinceInitial
 use Rattle.sas_output.specs.declared.line.Line.TheVariants.{RuleRequires, ConflictingEffect, Metric, Steps, CostLines, CouldBe}
 use Rattle.sas_output.specs.declared.line.Line.TheVariants.{EffectSets, Rule, ConditionRequires, OldValue, DefaultValue, OnLayer}
 use Rattle.sas_output.specs.declared.line.Line.TheVariants.{Derived, Holds, MayRemain}
-use Rattle.sas_output.specs.Facts.{fact_words, fact_of_effect, fact_of_rule}
+use Rattle.sas_output.specs.Facts.{named_fact, fact_of_effect, fact_of_rule}
 
 -- the words of a fact: `VAR VALUE NAME`
 abbrev pub words_of : Parts → Fact → List (List ℕ)
-words_of p fact = fact_words p fact.var fact.value
+words_of p fact = named_fact p.variables fact.var fact.value
 
 -- the words of an effect: `effect E sets VAR VALUE NAME`
-abbrev pub effect_words : Parts → ℕ → ℕ → List (List ℕ)
-effect_words p operator effect = codes "effect" ∷ decimal effect ∷ codes "sets"
+abbrev pub named_effect : Parts → ℕ → ℕ → List (List ℕ)
+named_effect p operator effect = codes "effect" ∷ decimal effect ∷ codes "sets"
     ∷ words_of p (fact_of_effect (effect_at (operator_at p operator) effect))
 
 -- the words of a rule: `rule R derives VAR VALUE NAME`
-abbrev pub rule_words : Parts → ℕ → List (List ℕ)
-rule_words p rule =
+abbrev pub named_rule : Parts → ℕ → List (List ℕ)
+named_rule p rule =
     codes "rule" ∷ decimal rule ∷ codes "derives" ∷ words_of p (fact_of_rule (rule_at p rule))
 
 -- The bytes of a line of reasons about a task and a plan, without the line's end. The plan's steps
@@ -44,19 +44,19 @@ line_bytes p steps (Actual fact) = line 4 (codes "actual" ∷ words_of p fact)
 line_bytes p steps SinceInitialState = line 4 (codes "since the initial state" ∷ [])
 line_bytes p steps (SinceStep step) =
     line 4 (codes "since step" ∷ decimal step ∷ slice_index_or steps (step - 1) [] ∷ [])
-line_bytes p steps (RuleDerives rule) = line 4 (rule_words p rule)
+line_bytes p steps (RuleDerives rule) = line 4 (named_rule p rule)
 line_bytes p steps NoRuleDerives = line 4 (codes "no rule derives it" ∷ [])
 line_bytes p steps (RuleRequires rule fact) =
     line 4 (codes "rule" ∷ decimal rule ∷ codes "requires" ∷ words_of p fact)
-line_bytes p steps (ConflictingEffect operator effect) = line 4 (effect_words p operator effect)
+line_bytes p steps (ConflictingEffect operator effect) = line 4 (named_effect p operator effect)
 line_bytes p steps Metric =
     line 2 (codes "metric" ∷ decimal (if p.metric then 1 else 0) ∷ [])
 line_bytes p steps (Steps count) = line 2 (codes "steps" ∷ decimal count ∷ [])
 line_bytes p steps (CostLines sum) = line 2 (codes "sum of cost lines" ∷ decimal sum ∷ [])
 line_bytes p steps (CouldBe step operator) = line 2
     (codes "step" ∷ decimal step ∷ codes "could also be operator" ∷ decimal operator ∷ [])
-line_bytes p steps (EffectSets operator effect) = line 2 (effect_words p operator effect)
-line_bytes p steps (Rule rule) = line 2 (rule_words p rule)
+line_bytes p steps (EffectSets operator effect) = line 2 (named_effect p operator effect)
+line_bytes p steps (Rule rule) = line 2 (named_rule p rule)
 line_bytes p steps (ConditionRequires condition fact) =
     line 2 (codes "condition" ∷ decimal condition ∷ codes "requires" ∷ words_of p fact)
 line_bytes p steps (OldValue fact) = line 2 (codes "old value" ∷ words_of p fact)

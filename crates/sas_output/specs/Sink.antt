@@ -17,11 +17,12 @@ PushedBy start now piece short text true =
 module _ {W : Type 0} (contents : W → Option (List ℕ)) where
   -- the text was added since the device had this start
   abbrev pub Pushed : Option (List ℕ) → Sink W → List ℕ → Type 0
-  Pushed start sink text =
-      PushedBy start (contents sink.out.now.device) sink.pieces.now sink.short text sink.out.now.failed
+  Pushed start sink text = PushedBy start (contents sink.out.now.device)
+      sink.pieces.now sink.short text sink.out.now.failed
 
   -- these bytes were added to the text
   pub record Pushes (old new : Sink W) (bytes : List ℕ) : Type 0 where
     pub same : new.out.ghost_name ≡ old.out.ghost_name
+    pub status : new.status ≡ old.status
     pub text : (start : Option (List ℕ)) (text : List ℕ) → Pushed start old text
         → Pushed start new (text ++ bytes)

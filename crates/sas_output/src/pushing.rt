@@ -39,10 +39,10 @@ pub fn write_reasons<W: Write>(
 {
     // What takes memory comes first.
     let mut pieces = Pieces::new(alloc)?;
-    let mut sink = Sink::new(&mut pieces, out);
+    let mut sink = Sink::new(verdict.status, &mut pieces, out);
     sink.push(verdict.text.as_slice());
     push_lines(&mut sink, named, lines);
-    sink.finish(verdict.status)
+    sink.finish()
 }
 
 /// Adds the lines, each with its end, to the text.

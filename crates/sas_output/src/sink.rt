@@ -12,27 +12,32 @@ use itoa::Buffer;
 use sas_lines::Watched;
 use std::io::Write;
 
-/// A text on its way to a device. It goes out in pieces. After a failed write nothing more is written.
+/// The text of an answer on its way to a device. It goes out in pieces. After a failed write nothing more is written. Whoever opens it
+/// has the answer's status, so nothing is written before the answer is known.
 #[derive(Drop)]
 pub struct Sink<'w, W> {
     pub out: &'w mut Watched<W>,
     pub pieces: &'w mut Pieces,
     /// How many bytes had been written when a write failed.
     pub short: usize,
+    /// The status of the answer.
+    pub status: Status,
 }
 
 impl<'w, W: Write> Sink<'w, W> {
-    /// Opens a text that goes to this device by these pieces, which hold nothing.
-    pub fn new(pieces: &'w mut Pieces, out: &'w mut Watched<W>) -> Sink<'w, W>
+    /// Opens the text of an answer with this status. It goes to this device by these pieces, which hold nothing.
+    pub fn new(status: Status, pieces: &'w mut Pieces, out: &'w mut Watched<W>) -> Sink<'w, W>
         requires failed { out.old.failed ≡ false }
         requires empty { pieces.old ≡ empty_piece }
         ensures same { result.out.ghost_name ≡ out.entry.ghost_name }
+        ensures status { result.status ≡ status }
         ensures text { Pushed W.contents (W.contents out.old.device) result [] }
     {
         Sink {
             out,
             pieces,
             short: 0,
+            status,
         }
     }
 
@@ -121,16 +126,22 @@ impl<'w, W: Write> Sink<'w, W> {
         }
     }
 
-    /// Writes what is held back, and returns the status, or that a write failed.
-    pub fn finish(self, status: Status) -> Result<Status, ToolFault>
+    /// Writes what is held back, and returns the answer's status, or that a write failed.
+    pub fn finish(self) -> Result<Status, ToolFault>
         ensures ends { (start : Option (List ℕ)) (text : List ℕ)
             → Pushed W.contents start self.entry text
-            → EndsCounting (λ output. output ≡ Some (record { text = text; status = status }))
+            → EndsCounting
+            (λ output. output ≡ Some (record { text = text; status = self.entry.status }))
             (Appends start (W.contents self.exit.0.now.device)) result }
         ensures write { IfErr result IsWrite }
         ensures note { IsErrAnd result IsWrite ↔ IsTrue self.exit.0.now.failed }
     {
-        let Sink { out, pieces, short } = self;
+        let Sink {
+            out,
+            pieces,
+            short,
+            status,
+        } = self;
         if out.failed() {
             return Err(ToolFault::Write { written: short });
         }

@@ -1,15 +1,15 @@
 -- What the proofs use of other crates, and of the definitions of this one.
-pub use Rattle.std.proofs.Common.{◌≡◌, ℕ, List, ap, sym, subst, ◌∙◌, Option, Some, None, Result, Ok, Err, IfOk, ◌≢◌, ◌<◌, ◌⊎◌, [], ◌∷◌, ◌++◌, length, codes, get_or, arith, refl, inl, inr, option_map, append-nil, ◌+◌, ◌≤◌, Bool, true, false, ◌==◌, if◌then◌else◌, length-append, decimal, ◌↔◌, ◌||◌, IsTrue, ◌/◌, ◌%◌, flat_map, not, nat_lt, ◌&&◌, ◌-◌, take, drop, append_assoc, eqb-true, nat_eq, zero-add, rules, is_some, option_and_then}
+pub use Rattle.std.proofs.Common.{◌≡◌, ℕ, List, ap, sym, subst, ◌∙◌, Option, Some, None, Result, Ok, Err, IfOk, ◌≢◌, ◌<◌, ◌⊎◌, [], ◌∷◌, ◌++◌, length, codes, get_or, arith, refl, inl, inr, option_map, append-nil, ◌+◌, ◌≤◌, Bool, true, false, ◌==◌, if◌then◌else◌, length-append, decimal, ◌↔◌, ◌||◌, IsTrue, ◌/◌, ◌%◌, flat_map, not, nat_lt, ◌&&◌, ◌-◌, take, drop, append_assoc, eqb-true, nat_eq, rules, is_some, option_and_then}
 pub use Rattle.std.proofs.Math.Seq.{drop-append_seam}
 pub use Rattle.std.proofs.lemmas.Bool.{and_from, ne_eqb, ltb-true}
 pub use Rattle.std.proofs.lemmas.Grind.{elements, common_steps}
 pub use Rattle.std.proofs.lemmas.List.{append_cancel_left, take-append-drop, take_all}
-pub use Rattle.std.proofs.lemmas.List.FromFn.{length-enumerate_from, get_or-enumerate_from}
+pub use Rattle.std.proofs.lemmas.List.Folds.{flat_map-map}
 pub use Rattle.std.proofs.lemmas.List.Sums.{count_by_more_no, count_by_more_yes}
 pub use Rattle.std.proofs.lemmas.Option.{none-some, slice_get-get_or}
 pub use Rattle.std.specs.Cmp.Lexicographic.{pointwise, same_text, other_text}
 pub use Rattle.std.specs.Io.KnownBytes.{Appends}
-pub use Rattle.std.specs.List.{list_all, enumerate_from}
+pub use Rattle.std.specs.List.{list_all}
 pub use Rattle.sas_answers.proofs.AnswerLaws.{OneAnswer, SomeAnswer}
 pub use Rattle.sas_answers.proofs.CheckAnswers.{some_check_answer}
 pub use Rattle.sas_answers.proofs.VerdictAnswers.{one_verdict_answer}
@@ -37,11 +37,12 @@ pub use Rattle.sas_meaning.proofs.LayerChecksAreRules.{checks_are_rules}
 pub use Rattle.sas_meaning.specs.LayerChecks.{layer_checks}
 pub use Rattle.sas_meaning.specs.Layers.{IsLayered}
 pub use Rattle.sas_meaning.specs.declared.layered.LayerFault.{LayerFault}
+pub use Rattle.sas_output.proofs.InitialLines.{initial_texts, initial_all, initial_next}
 pub use Rattle.sas_output.proofs.PlainLines.{number, number_then, two}
 pub use Rattle.sas_output.proofs.Pushed.{pushes_item, pushes_then}
 pub use Rattle.sas_output.proofs.Sent.{counting_ends}
-pub use Rattle.sas_output.proofs.Texts.{text_of_each}
 pub use Rattle.sas_output.specs.Ending.{Output, Ends, EndsCounting}
+pub use Rattle.sas_output.specs.Facts.{fact_line, initial_lines}
 pub use Rattle.sas_output.specs.Sink.{Pushes}
 pub use Rattle.sas_output.specs.declared.ending.Status.{Status}
 pub use Rattle.sas_output.specs.declared.ending.Status.TheVariants.{Yes, No}
@@ -70,6 +71,6 @@ pub use Rattle.sas_outputs.specs.FileReasons.{file_text}
 pub use Rattle.sas_outputs.specs.Headline.{Solves, Headline}
 pub use Rattle.sas_outputs.specs.Laws.{FileLinesAreReasons}
 pub use Rattle.sas_outputs.specs.Output.{word_of, refusal, refusal_line, IsAnswerOrRefusal, UnlayeredAnswer, VerdictOut, PlanOutBy, FileOut, TaskOut, HasOneOutput, ShowAnswer, PrintAnswer, LayeredOut, OutOf, plain_refusal, IsLayeredText, IsLong}
-pub use Rattle.sas_outputs.specs.Summary.{number_lines, fact_lines, initial_lines, goal_fact_lines, summary_lines}
+pub use Rattle.sas_outputs.specs.Summary.{number_lines, goal_fact_lines, summary_lines}
 pub use Rattle.sas_outputs.specs.declared.Request.{Request}
 pub use Rattle.sas_outputs.specs.declared.Request.TheVariants.{Show, Print, Steps, Check, Plan, Mutex}

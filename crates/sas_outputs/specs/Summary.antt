@@ -1,12 +1,10 @@
 -- The summary of a task: a line for each of its numbers, for each variable's initial value
 -- and for each fact of its goal.
-use Rattle.std.specs.Prelude.{ℕ, Bool, if◌then◌else◌, List, [], ◌∷◌, ◌++◌, length, flat_map, count_by, is_some, codes, decimal}
-use Rattle.std.specs.Option.{option_map_or}
-use Rattle.std.specs.List.{enumerate_from}
+use Rattle.std.specs.Prelude.{ℕ, if◌then◌else◌, List, [], ◌∷◌, ◌++◌, length, map, count_by, is_some, codes, decimal}
 use Rattle.sas_core.specs.declared.parts.Fact.{Fact}
 use Rattle.sas_core.specs.declared.parts.Variable.{Variable}
-use Rattle.sas_core.specs.Variables.{value_name}
 use Rattle.sas_output.specs.Words.{line}
+use Rattle.sas_output.specs.Facts.{fact_line, initial_lines}
 use Rattle.sas_flat.specs.declared.outline.Outline.{Outline}
 
 -- `WORD N`
@@ -29,26 +27,10 @@ number_lines o =
     ∷ number_line (codes "rules") o.rules
     ∷ []
 
--- `WORD VAR VALUE NAME`, where NAME is the value's name
-abbrev pub fact_line : List ℕ → ℕ → ℕ → List ℕ → List ℕ
-fact_line word var value name = line 0 (word ∷ decimal var ∷ decimal value ∷ name ∷ [])
-
--- the line of a fact, or no line if the fact doesn't exist
-abbrev pub fact_lines : List ℕ → List Variable → ℕ → ℕ → List (List ℕ)
-fact_lines word variables var value =
-    option_map_or (λ (name : List ℕ). fact_line word var value name ∷ [])
-    (value_name variables var value) []
-
--- `initial VAR VALUE NAME` for each variable, with its value in the state section
-abbrev pub initial_lines : List Variable → List ℕ → List (List ℕ)
-initial_lines variables values =
-    flat_map (λ (var, value). fact_lines (codes "initial") variables var value)
-    (enumerate_from 0 values)
-
 -- `goal VAR VALUE NAME` for each fact of the goal
 abbrev pub goal_fact_lines : List Variable → List Fact → List (List ℕ)
 goal_fact_lines variables facts =
-    flat_map (λ (f : Fact). fact_lines (codes "goal") variables f.var f.value) facts
+    map (λ (f : Fact). fact_line (codes "goal") variables f.var f.value) facts
 
 -- the lines of the summary of a task with this outline, in order
 abbrev pub summary_lines : Outline → List (List ℕ)

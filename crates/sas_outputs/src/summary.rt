@@ -1,7 +1,10 @@
 // The summary of a task, written as it is made: it may be far longer than the task.
 ghost use Rattle.std.specs.Prelude.{◌≡◌, [], ◌∷◌, ◌++◌, false, Some, IfOk, OnOk};
+ghost use Rattle.std.specs.Option.{unwrap_or};
+ghost use Rattle.sas_core.specs.Variables.{value_name};
 ghost use Rattle.sas_lines.specs.Lines.{text};
 ghost use Rattle.sas_output.specs.Ending.{EndsCounting, Writes};
+ghost use Rattle.sas_output.specs.Facts.{fact_line, initial_lines};
 ghost use Rattle.sas_output.specs.Sink.{Pushes};
 ghost use Rattle.sas_outputs.specs.Summary as spec;
 ghost use Rattle.sas_outputs.specs.Summary.{summary_lines};
@@ -27,11 +30,11 @@ pub fn write_summary<W: Write>(
     // What takes memory comes first.
     let numbers = numbers_text(alloc, outline)?;
     let mut pieces = Pieces::new(alloc)?;
-    let mut sink = Sink::new(&mut pieces, out);
+    let mut sink = Sink::new(Status::Yes, &mut pieces, out);
     sink.push(numbers.as_slice());
     push_state(&mut sink, outline);
     push_goal(&mut sink, outline);
-    sink.finish(Status::Yes)
+    sink.finish()
 }
 
 /// Returns the lines with the task's numbers, each ended by LF.
@@ -87,7 +90,7 @@ struct Valued {
 /// Adds a line for each variable: its value in the state section.
 fn push_state<W: Write>(sink: &mut Sink<'_, W>, outline: &Outline)
     ensures { Pushes W.contents sink.old sink.new
-        (text (spec.initial_lines outline.now.variables outline.now.init)) }
+        (text (initial_lines outline.now.variables outline.now.init)) }
 {
     for (var, value) in outline.init.as_slice().iter().enumerate() {
         let valued = Valued { var, value: *value };
@@ -109,28 +112,30 @@ fn push_goal<W: Write>(sink: &mut Sink<'_, W>, outline: &Outline)
     }
 }
 
-/// Adds the line of a word and a fact, with the name of the fact's value. A fact that doesn't exist has no line.
+/// Adds the line of a word and a fact, with the name of the fact's value.
 fn push_fact<W: Write>(sink: &mut Sink<'_, W>, word: &[u8], outline: &Outline, valued: Valued)
     ensures { Pushes W.contents sink.old sink.new
-        (text (spec.fact_lines word.now outline.now.variables valued.var valued.value)) }
+        (fact_line word.now outline.now.variables valued.var valued.value ++ 10 ∷ []) }
 {
-    let variables = &outline.variables;
-    if let Some(name) = variables.value_name(valued.var, valued.value as usize) {
-        push_fact_line(sink, word, valued, name);
-    }
-}
-
-/// Adds the line of a word, a variable, its value and the value's name.
-fn push_fact_line<W: Write>(sink: &mut Sink<'_, W>, word: &[u8], valued: Valued, name: &[u8])
-    ensures { Pushes W.contents sink.old sink.new
-        (spec.fact_line word.now valued.var valued.value name.now ++ 10 ∷ []) }
-{
-    let var = Word::Number(valued.var as u64);
-    let value = Word::Number(valued.value as u64);
-    let rest = [var, value, Word::Text(name)];
+    let rest = [
+        Word::Number(valued.var as u64),
+        Word::Number(u64::from(valued.value)),
+        Word::Text(name_of(&outline.variables, valued)),
+    ];
     sink.push_line(Words {
         indent: Indent::None,
         first: word,
         rest: &rest,
     });
+}
+
+/// Returns the name of a variable's value; if there is no such value, no bytes.
+fn name_of(variables: &Variables, valued: Valued) -> &[u8]
+    ensures { result.now
+        ≡ unwrap_or (value_name variables.now valued.var valued.value) [] }
+{
+    match variables.value_name(valued.var, valued.value as usize) {
+        Some(name) => name,
+        None => b"",
+    }
 }

@@ -84,7 +84,8 @@ cost_lines_sum p operators = sum_by (λ operator. (operator_at p operator).cost)
 -- the task's metric, the number of steps, and this sum
 abbrev pub cost_lines : Parts → Run → List Line
 cost_lines p run =
-    line.Metric ∷ line.Steps (length run.steps) ∷ line.CostLines (cost_lines_sum p run.operators) ∷ []
+    line.Metric ∷ line.Steps (length run.steps)
+    ∷ line.CostLines (cost_lines_sum p run.operators) ∷ []
 
 -- ---- after each of these
 

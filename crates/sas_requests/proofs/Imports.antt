@@ -13,7 +13,7 @@ pub use Rattle.std.specs.Fmt.{digits_onto, digit_glyph}
 unfoldable pub use Rattle.std.specs.Fmt.{digits}
 pub use Rattle.std.specs.Io.KnownBytes.{Consumes, IsAtEnd, Appends}
 pub use Rattle.std.specs.List.{AllByRecursion, Contains, enumerate_from, flat_map}
-pub use Rattle.std.specs.Option.{option_map_or}
+pub use Rattle.std.specs.Option.{option_map_or, unwrap_or}
 pub use Rattle.sas_answers.proofs.CheckAnswers.{layered_answer, one_check_answer, some_check_answer}
 pub use Rattle.sas_answers.proofs.MutexAnswers.{groups_answered, one_mutex_answer, some_mutex_answer}
 pub use Rattle.sas_answers.proofs.VerdictAnswers.{one_verdict_answer, some_verdict_answer}
@@ -44,14 +44,17 @@ pub use Rattle.sas_lines.proofs.Words.{same_first, NoSpace-decimal, own_decimal}
 pub use Rattle.sas_lines.specs.Device.{Device}
 pub use Rattle.sas_lines.specs.Lines.{text}
 unfoldable pub use Rattle.sas_lines.specs.Lines.{lines, unfinished}
+pub use Rattle.sas_lines.specs.Spelling.{joined}
 pub use Rattle.sas_meaning.proofs.LayerChecksAreRules.{checks_are_rules}
 pub use Rattle.sas_meaning.proofs.Members.{contains_cases, contains_none}
 pub use Rattle.sas_meaning.specs.LayerChecks.{layer_checks}
 pub use Rattle.sas_meaning.specs.Layers.{IsLayered}
 pub use Rattle.sas_meaning.specs.declared.layered.LayerFault.{LayerFault}
+pub use Rattle.sas_output.proofs.InitialLines.{initial_text, initial_is}
 pub use Rattle.sas_output.proofs.PlainLines.{lines_are_reasons}
 pub use Rattle.sas_output.proofs.Sent.{ends_by, exact_ends, writes_by, writes_as, writes_counting, writes_answers, answers_by}
 pub use Rattle.sas_output.specs.Ending.{Output, Ends, EndsCounting, IsDecided, Writes, Answers, output_of}
+pub use Rattle.sas_output.specs.Facts.{fact_line, initial_lines}
 pub use Rattle.sas_output.specs.Laws.{IsReasonLine}
 pub use Rattle.sas_output.specs.Line.{line_bytes, reasons_text}
 pub use Rattle.sas_output.specs.declared.ending.Status.{Status}
@@ -64,13 +67,13 @@ pub use Rattle.sas_outputs.proofs.Outputs.{refused_kind, too_long_else, reading_
 pub use Rattle.sas_outputs.proofs.PlainLines.{file_words, file_plain, kind_plain, layer_plain, invalid_plain}
 pub use Rattle.sas_outputs.proofs.PlanOutputs.{reported_fault, output_for, not_refused, first_alone, second_alone, OneVerdictAnswer, SomeVerdictAnswer, IsRefusal, Refuses, plain_refuses, judged_output}
 pub use Rattle.sas_outputs.proofs.ReasonLines.{file_lines_are_reasons}
-pub use Rattle.sas_outputs.proofs.Summaries.{goal_text, initial_text, goal_is, initial_is, summary_is}
+pub use Rattle.sas_outputs.proofs.Summaries.{goal_text, goal_is, summary_is}
 pub use Rattle.sas_outputs.specs.EndsFile.{EndsFile}
 pub use Rattle.sas_outputs.specs.FileLine.{FileLine, file_line_bytes}
 pub use Rattle.sas_outputs.specs.FileReasons.{file_text, file_lines}
 pub use Rattle.sas_outputs.specs.Headline.{HasInvariant, Invariants, Solves, Headline}
 pub use Rattle.sas_outputs.specs.Output.{refusal, IsAnswerOrRefusal, FileOut, word_of, refusal_line, HasOneOutput, IsLong, IsLayeredText, TaskOut, UnlayeredAnswer, ShowAnswer, PrintAnswer, VerdictOut, PlanOutBy, AreInputs, reads_task, Out, plain_refusal, ShortOutput, PlanOut}
-pub use Rattle.sas_outputs.specs.Summary.{fact_line, fact_lines, derived_count, number_line, number_lines, initial_lines, goal_fact_lines, summary_lines}
+pub use Rattle.sas_outputs.specs.Summary.{derived_count, number_line, number_lines, goal_fact_lines, summary_lines}
 pub use Rattle.sas_outputs.specs.declared.Request.{Request}
 pub use Rattle.sas_outputs.specs.declared.Request.TheVariants.{Plan, Mutex, Show, Print, Steps, Check}
 pub use Rattle.sas_plan_file.proofs.PlanGrammar.{plan_grammar}
@@ -105,7 +108,7 @@ pub use Rattle.sas_task_format.proofs.TaskGrammar.{task_grammar}
 pub use Rattle.sas_task_format.proofs.TaskLaws.{task_laws_hold}
 pub use Rattle.sas_task_format.proofs.TaskSections.{less, is_less, all_map}
 pub use Rattle.sas_task_format.specs.Process.{process_node}
-pub use Rattle.sas_task_format.specs.TaskFormat.{task_format, task_texts, TaskLineFits, TaskLine, word, name, number, signed, fact, task_line_bytes, line, between, counted, version_lines, metric_lines, variable_lines, group_lines, state_lines, operator_lines, rule_lines, task_layout}
+pub use Rattle.sas_task_format.specs.TaskFormat.{task_format, task_texts, TaskLineFits, TaskLine, word, name, number, signed, fact, task_line_bytes, line_of, between, counted, version_lines, metric_lines, variable_lines, group_lines, state_lines, operator_lines, rule_lines, task_layout}
 pub use Rattle.sas_task_format.specs.TaskProcess.{task_start}
 pub use Rattle.sas_task_format.specs.TaskReasons.{IsTaskReason}
 pub use Rattle.sas_task_reader.specs.Outline.{OutlineOf}

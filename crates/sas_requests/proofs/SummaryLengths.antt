@@ -1,5 +1,5 @@
 -- How long a summary is. What is read of a task is at most 4 GiB, and so a `usize` holds the length of its summary.
-use Rattle.sas_requests.proofs.Imports.{◌≡◌, ℕ, suc, zero, ◌+◌, ◌*◌, ◌^◌, ◌<◌, ◌≤◌, Bool, true, false, if◌then◌else◌, List, [], ◌∷◌, ◌++◌, length, map, codes, length-append, arith, refl, sym, ap, subst, ◌∙◌, inl, inr, Option, Some, None, ◌⊎◌, decimal, slice_get, is_some, option_map_or, enumerate_from, flat_map, length-decimal-le, flat_map-append, map-append, cases_lt, count_by-le-length, none-some, mul-le-mul_left, Fact, Variable, Parts, WellRanged, text, ValueOf, TaskLine, word, name, number, signed, fact, task_line_bytes, line, between, counted, version_lines, metric_lines, variable_lines, group_lines, state_lines, operator_lines, rule_lines, task_layout, task_format, Outline, OutlineOf, outline_of, value_name, fact_line, fact_lines, derived_count, number_line, number_lines, initial_lines, goal_fact_lines, summary_lines, text_short, goal_text, initial_text, goal_is, initial_is, summary_is}
+use Rattle.sas_requests.proofs.Imports.{◌≡◌, ℕ, suc, zero, ◌+◌, ◌*◌, ◌^◌, ◌<◌, ◌≤◌, Bool, true, false, if◌then◌else◌, List, [], ◌∷◌, ◌++◌, length, map, codes, length-append, arith, refl, sym, ap, subst, ◌∙◌, inl, inr, Option, Some, None, ◌⊎◌, decimal, slice_get, is_some, enumerate_from, flat_map, length-decimal-le, flat_map-append, map-append, cases_lt, count_by-le-length, none-some, mul-le-mul_left, Fact, Variable, Parts, WellRanged, text, ValueOf, TaskLine, word, name, number, signed, fact, task_line_bytes, line_of, between, counted, version_lines, metric_lines, variable_lines, group_lines, state_lines, operator_lines, rule_lines, task_layout, task_format, Outline, OutlineOf, outline_of, value_name, unwrap_or, joined, fact_line, derived_count, number_line, number_lines, initial_lines, goal_fact_lines, summary_lines, text_short, goal_text, initial_text, goal_is, initial_is, summary_is}
 use Rattle.sas_task_format.specs.TaskFormat as file
 
 -- ---- how many bytes lines of a file take
@@ -20,9 +20,9 @@ unfolding size
 size_of_one item = omega (arith, length-append (task_line_bytes item ++ 10 ∷ []) [], length-append (task_line_bytes item) (10 ∷ []))
 
 -- each takes a byte at least
-size_of_each : {A : Type 0} (says : A → TaskLine) (items : List A) → length items ≤ size (flat_map (line says) items)
+size_of_each : {A : Type 0} (says : A → TaskLine) (items : List A) → length items ≤ size (flat_map (line_of says) items)
 size_of_each says [] = omega arith
-size_of_each says (a ∷ items) = omega (arith, size_of_both (says a ∷ []) (flat_map (line says) items), size_of_one (says a), size_of_each says items)
+size_of_each says (a ∷ items) = omega (arith, size_of_both (says a ∷ []) (flat_map (line_of says) items), size_of_one (says a), size_of_each says items)
 
 -- what stands within takes no more than all
 size_within : (a b c : List TaskLine) → size b ≤ size (a ++ b ++ c)
@@ -36,19 +36,19 @@ size_before a b = omega (arith, size_of_both a b)
 
 -- ---- names
 
-value_short : (values : List (List ℕ)) (value : ℕ) (bytes : List ℕ) → slice_get values value ≡ Some bytes → length bytes ≤ size (flat_map (line name) values)
+value_short : (values : List (List ℕ)) (value : ℕ) (bytes : List ℕ) → slice_get values value ≡ Some bytes → length bytes ≤ size (flat_map (line_of name) values)
 value_short [] value bytes is = absurd (none-some bytes is)
 value_short (first ∷ values) zero bytes is =
     let same : first ≡ bytes = cc in
-    omega (arith, size_before (name first ∷ []) (flat_map (line name) values), size_of_one (name first), ap (λ (l : List ℕ). length l) same)
+    omega (arith, size_before (name first ∷ []) (flat_map (line_of name) values), size_of_one (name first), ap (λ (l : List ℕ). length l) same)
 value_short (first ∷ values) (suc value) bytes is =
-    omega (arith, size_behind (name first ∷ []) (flat_map (line name) values), value_short values value bytes is)
+    omega (arith, size_behind (name first ∷ []) (flat_map (line_of name) values), value_short values value bytes is)
 
-values_short : (v : Variable) → size (flat_map (line name) v.values) ≤ size (variable_lines v)
+values_short : (v : Variable) → size (flat_map (line_of name) v.values) ≤ size (variable_lines v)
 values_short v =
-    let names = flat_map (line name) v.values in
+    let names = flat_map (line_of name) v.values in
     let count = number (length v.values) ∷ [] in
-    let heads = line name v.name ++ line signed v.layer in
+    let heads = line_of name v.name ++ line_of signed v.layer in
     omega (arith, size_behind count names, size_behind heads (count ++ names), size_within (word (codes "begin_variable") ∷ []) (heads ++ (count ++ names)) (word (codes "end_variable") ∷ []))
 
 name_short : (variables : List Variable) (var value : ℕ) (bytes : List ℕ) → value_name variables var value ≡ Some bytes → length bytes ≤ size (flat_map variable_lines variables)
@@ -60,24 +60,24 @@ name_short (v ∷ variables) (suc var) value bytes is =
 
 -- ---- the lines of facts
 
-fact_text_short : (first : List ℕ) (variables : List Variable) (var value n : ℕ) → size (flat_map variable_lines variables) ≤ n → length (text (fact_lines first variables var value)) ≤ length first + length (decimal var) + length (decimal value) + n + 4
+fact_text_short : (first : List ℕ) (variables : List Variable) (var value n : ℕ) → size (flat_map variable_lines variables) ≤ n → length (fact_line first variables var value ++ 10 ∷ []) ≤ length first + length (decimal var) + length (decimal value) + n + 4
 fact_text_short first variables var value n h = said (value_name variables var value) (λ bytes is. name_short variables var value bytes is)
   where
-    said : (found : Option (List ℕ)) → ((bytes : List ℕ) → found ≡ Some bytes → length bytes ≤ size (flat_map variable_lines variables)) → length (text (option_map_or (λ (bytes : List ℕ). fact_line first var value bytes ∷ []) found [])) ≤ length first + length (decimal var) + length (decimal value) + n + 4
-    said None short = omega arith
+    said : (found : Option (List ℕ)) → ((bytes : List ℕ) → found ≡ Some bytes → length bytes ≤ size (flat_map variable_lines variables)) → length (joined (first ∷ decimal var ∷ decimal value ∷ unwrap_or found [] ∷ []) ++ 10 ∷ []) ≤ length first + length (decimal var) + length (decimal value) + n + 4
+    said None short = grind (arith, length-append {A = ℕ})
     said (Some bytes) short = grind (arith, h, short bytes refl, length-append {A = ℕ})
 
-fact_line_size : (f : Fact) → size (line fact f) ≡ length (decimal f.var) + length (decimal f.value) + 2
+fact_line_size : (f : Fact) → size (line_of fact f) ≡ length (decimal f.var) + length (decimal f.value) + 2
 fact_line_size f = omega (arith, size_of_one (fact f), length-append (decimal f.var) (32 ∷ decimal f.value))
 
-goal_short : (variables : List Variable) (n : ℕ) → size (flat_map variable_lines variables) ≤ n → (facts : List Fact) → length (flat_map (goal_text variables) facts) ≤ length facts * (n + 21) + size (flat_map (line fact) facts)
+goal_short : (variables : List Variable) (n : ℕ) → size (flat_map variable_lines variables) ≤ n → (facts : List Fact) → length (flat_map (goal_text variables) facts) ≤ length facts * (n + 21) + size (flat_map (line_of fact) facts)
 goal_short variables n h [] = omega arith
 goal_short variables n h (f ∷ facts) = omega (arith, length-append {A = ℕ}, fact_text_short (codes "goal") variables f.var f.value n h, fact_line_size f, size_of_both, goal_short variables n h facts)
 
-number_line_size : (n : ℕ) → size (line number n) ≡ length (decimal n) + 1
+number_line_size : (n : ℕ) → size (line_of number n) ≡ length (decimal n) + 1
 number_line_size n = size_of_one (number n)
 
-initial_short : (variables : List Variable) (n : ℕ) → size (flat_map variable_lines variables) ≤ n → (from : ℕ) (values : List ℕ) → from + length values < 10 ^ 10 → length (flat_map (initial_text variables) (enumerate_from from values)) ≤ length values * (n + 21) + size (flat_map (line number) values)
+initial_short : (variables : List Variable) (n : ℕ) → size (flat_map variable_lines variables) ≤ n → (from : ℕ) (values : List ℕ) → from + length values < 10 ^ 10 → length (flat_map (initial_text variables) (enumerate_from from values)) ≤ length values * (n + 21) + size (flat_map (line_of number) values)
 initial_short variables n h from [] fits = omega arith
 initial_short variables n h from (value ∷ values) fits = omega (arith, length-append {A = ℕ}, fact_text_short (codes "initial") variables from value n h, length-decimal-le 10 from (omega arith) (omega (arith, fits)) (omega (arith, fits)), number_line_size value, size_of_both, initial_short variables n h (from + 1) values (omega (arith, fits)))
 
@@ -112,14 +112,14 @@ size_of_sections : (a b c d e f g h : List TaskLine) → size c + size e + size 
 size_of_sections a b c d e f g h = omega (arith, size_of_both)
 
 counted_size : {A : Type 0} (lines_of : A → List TaskLine) (items : List A) → size (flat_map lines_of items) ≤ size (counted lines_of items)
-counted_size lines_of items = size_behind (line number (length items)) (flat_map lines_of items)
+counted_size lines_of items = size_behind (line_of number (length items)) (flat_map lines_of items)
 
 between_size : (first : List ℕ) (inner : List TaskLine) (last : List ℕ) → size inner ≤ size (between first inner last)
 between_size first inner last = size_within (word first ∷ []) inner (word last ∷ [])
 
-goal_size : (facts : List Fact) → size (flat_map (line fact) facts) ≤ size (file.goal_lines facts)
+goal_size : (facts : List Fact) → size (flat_map (line_of fact) facts) ≤ size (file.goal_lines facts)
 goal_size facts =
-    omega (arith, counted_size (line fact) facts, between_size (codes "begin_goal") (counted (line fact) facts) (codes "end_goal"))
+    omega (arith, counted_size (line_of fact) facts, between_size (codes "begin_goal") (counted (line_of fact) facts) (codes "end_goal"))
 
 -- a text that was read takes as many bytes as were read, at most
 size_of_read : (bytes : List ℕ) (p : Parts) → ValueOf task_format bytes p → size (task_layout p) ≤ 2 ^ 32
@@ -151,8 +151,8 @@ product_fits n v g numbers rest whole few small short h = either (cases_lt n (2 
 pub summary_fits : (bytes : List ℕ) (o : Outline) → OutlineOf bytes o → length (text (summary_lines o)) < 2 ^ 64
 summary_fits bytes o (p, value, is) =
     let variables = flat_map variable_lines p.variables in
-    let values = flat_map (line number) p.init in
-    let facts = flat_map (line fact) p.goal in
+    let values = flat_map (line_of number) p.init in
+    let facts = flat_map (line_of fact) p.goal in
     let n = size variables in
     let sections = size_of_sections version_lines (metric_lines p.metric) (counted variable_lines p.variables) (counted group_lines p.groups) (state_lines p.init) (file.goal_lines p.goal) (counted operator_lines p.operators) (counted rule_lines p.rules) in
     let of_variables = counted_size variable_lines p.variables in

@@ -46,7 +46,7 @@ pub use Rattle.sas_names.proofs.Searching.{left}
 pub use Rattle.sas_names.specs.Chains.{IsChain, HaveChains}
 pub use Rattle.sas_names.specs.Named.{IsNamed}
 pub use Rattle.sas_names.specs.Names.{AreFirsts, IsNextNamed}
-pub use Rattle.sas_run.specs.Deletions.{HasRoom, NotesOn}
+pub use Rattle.sas_run.specs.Deletions.{DeletedHasRoom, NotesOn}
 pub use Rattle.sas_run.specs.Executions.{Executed, next_name, next_operator, Executes, IsFound, Advances, executed_of, IsExecuting}
 pub use Rattle.sas_run.specs.Given.{given_to, Replaces, value_after, NothingGiven, IsGiven, IsGivenTo, GivesValue, GivesOther}
 pub use Rattle.sas_run.specs.Laws.{LeadsToReachable, LastIsReachable, SomeVerdict, ValidHasNoFault, ValidIsOne, FaultIsOne, SomeRun, OneRun}

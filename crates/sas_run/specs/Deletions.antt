@@ -5,8 +5,8 @@ use Rattle.sas_meaning.specs.Following.{HaveGone}
 use Rattle.sas_run.specs.declared.deletions.Deleted.{Deleted}
 
 -- there is room for so many facts, if they are noted
-abbrev pub HasRoom : Deleted → ℕ → Type 0
-HasRoom d many = IsTrue d.noted → many ≤ vec_capacity d.facts
+abbrev pub DeletedHasRoom : Deleted → ℕ → Type 0
+DeletedHasRoom d many = IsTrue d.noted → many ≤ vec_capacity d.facts
 
 -- facts are noted or not, as before, and there is at least the same room
 pub record NotesOn (d d' : Deleted) : Type 0 where

@@ -11,7 +11,7 @@ use Rattle.sas_meaning.specs.Layers.{IsBasic}
 use Rattle.sas_meaning.specs.States.{AllHold}
 use Rattle.sas_meaning.specs.Touched.{MayHaveChanged}
 use Rattle.sas_run.specs.declared.stepper.Stepper.{Stepper}
-use Rattle.sas_run.specs.Deletions.{HasRoom}
+use Rattle.sas_run.specs.Deletions.{DeletedHasRoom}
 use Rattle.sas_run.specs.Given.{NothingGiven}
 
 -- The evaluator is ready, and no value is given. If deleted facts are noted, each operator's effects
@@ -21,7 +21,7 @@ pub record IsPrepared {E : Type 0} (Ready : E → Parts → Type 0) (p : Parts) 
   pub ready : Ready w.evaluator p
   pub clean : NothingGiven p w.given
   pub room : (operator : ℕ) → operator < length p.operators
-      → HasRoom w.deleted (length (operator_at p operator).effects)
+      → DeletedHasRoom w.deleted (length (operator_at p operator).effects)
   pub basic : IsFalse w.deleted.noted → (var : ℕ) → IsBasic p var
 
 -- if deleted facts are noted, this is the state that the evaluator settled last

@@ -4,7 +4,7 @@ ghost use Rattle.std.specs.Prelude.{◌≡◌, ◌≢◌, ◌+◌, ◌<◌, leng
 ghost use Rattle.sas_core.specs.declared.grounded.Change.{Change};
 ghost use Rattle.sas_core.specs.Grounded.{operator_at};
 ghost use Rattle.sas_core.specs.Variables.{IsState};
-ghost use Rattle.sas_run.specs.Deletions.{HasRoom, NotesOn, NotesGone};
+ghost use Rattle.sas_run.specs.Deletions.{DeletedHasRoom, NotesOn, NotesGone};
 ghost use Rattle.sas_run.specs.Given.{Replaces};
 ghost use Rattle.sas_run.specs.PlainSteps.{AreApart, AreMade, IsPlainStep, OldHolds};
 
@@ -81,7 +81,7 @@ pub fn make_changes<T: Grounded>(
     requires operator { operator < length task.now.operators }
     requires plain { IsPlainStep (operator_at task.now operator) changes.now }
     requires state { IsState task.now.variables state.old }
-    requires room { HasRoom deleted.old (length changes.now) }
+    requires room { DeletedHasRoom deleted.old (length changes.now) }
     ensures made { AreMade task.now state.old changes.now state.new }
     ensures gone { NotesGone task.now deleted.new state.old state.new }
     ensures notes { NotesOn deleted.old deleted.new }
@@ -99,7 +99,7 @@ pub fn make_changes<T: Grounded>(
 #[inline(always)]
 pub fn replace(fact: Fact, deleted: &mut Deleted, state: &mut State)
     requires exists { fact.var < length state.old }
-    requires room { HasRoom deleted.old (length deleted.old.facts.items + 1) }
+    requires room { DeletedHasRoom deleted.old (length deleted.old.facts.items + 1) }
     ensures state { state.new ≡ slice_set state.old fact.var fact.value }
     ensures deleted { IsTrue deleted.old.noted
         → Replaces state.old fact deleted.old.facts.items deleted.new.facts.items }

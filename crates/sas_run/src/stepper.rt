@@ -4,7 +4,7 @@ ghost use Rattle.sas_core.specs.Grounded.{operator_at};
 ghost use Rattle.sas_core.specs.Variables.{IsState};
 ghost use Rattle.sas_meaning.specs.Layers.{IsBasic};
 ghost use Rattle.sas_meaning.specs.Reachable.{IsInitial};
-ghost use Rattle.sas_run.specs.Deletions.{HasRoom};
+ghost use Rattle.sas_run.specs.Deletions.{DeletedHasRoom};
 ghost use Rattle.sas_run.specs.Given.{NothingGiven};
 ghost use Rattle.sas_run.specs.Plans.{IsApplicable};
 ghost use Rattle.sas_run.specs.Running.{Steps};
@@ -234,7 +234,7 @@ fn nothing_deleted<T: Grounded>(
 ) -> Result<Deleted, AllocError>
     ensures noted { IfOk result (λ deleted. deleted.noted ≡ noted) }
     ensures room { IfOk result (λ deleted. (operator : ℕ) → operator < length task.now.operators
-        → HasRoom deleted (length (operator_at task.now operator).effects)) }
+        → DeletedHasRoom deleted (length (operator_at task.now operator).effects)) }
 {
     let room = if noted { most_effects(task) } else { 0 };
     let facts = Vec::with_capacity(alloc, room)?;

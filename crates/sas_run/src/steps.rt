@@ -3,7 +3,7 @@ ghost use Rattle.std.specs.Prelude.{◌≡◌, ℕ, ◌<◌, length, IsTrue, IsF
 ghost use Rattle.sas_core.specs.Changes.{plain_effects};
 ghost use Rattle.sas_core.specs.Grounded.{operator_at};
 ghost use Rattle.sas_core.specs.Variables.{IsState};
-ghost use Rattle.sas_run.specs.Deletions.{HasRoom, NotesOn, NotesGone};
+ghost use Rattle.sas_run.specs.Deletions.{DeletedHasRoom, NotesOn, NotesGone};
 ghost use Rattle.sas_run.specs.Plans.{IsApplicable};
 ghost use Rattle.sas_run.specs.Running.{IsFirstConflict, IsStepFault, Applies};
 ghost use Rattle.sas_run.specs.Stepping.{IsPrepared};
@@ -90,7 +90,7 @@ fn apply_given<T: Grounded>(
     requires state { IsState task.now.variables state.old }
     requires applicable { IsApplicable state.old (operator_at task.now operator) }
     requires clean { NothingGiven task.now given.old }
-    requires room { HasRoom deleted.old (length (operator_at task.now operator).effects) }
+    requires room { DeletedHasRoom deleted.old (length (operator_at task.now operator).effects) }
     ensures applies { Applies task.now state.old operator state.new result }
     ensures gone { OnOk result (NotesGone task.now deleted.new state.old state.new) }
     ensures same { OnErr result (deleted.new ≡ deleted.old) }
@@ -212,7 +212,7 @@ fn write_given<T: Grounded>(
     requires operator { operator < length task.now.operators }
     requires state { IsState task.now.variables state.old }
     requires given_to { IsGivenTo task.now (operator_at task.now operator) given.old }
-    requires room { HasRoom deleted.old (length (operator_at task.now operator).effects) }
+    requires room { DeletedHasRoom deleted.old (length (operator_at task.now operator).effects) }
     ensures state { IsState task.now.variables state.new }
     ensures written { (var : ℕ) → slice_index state.new var ≡ value_after given.old state.old var }
     ensures gone { NotesGone task.now deleted.new state.old state.new }

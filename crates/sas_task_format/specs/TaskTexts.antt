@@ -59,26 +59,26 @@ task_line_bytes (head var old new) = joined (head_words var old new)
 
 -- ---- the sections
 
--- one line, by its kind and its value: `line number 3` is the line `3`, and `line fact f` is the
--- line of the fact f
-abbrev pub line : {A : Type 0} → (A → TaskLine) → A → List TaskLine
-line says a = says a ∷ []
+-- one line, by its kind and its value: `line_of number 3` is the line `3`, and `line_of fact f` is
+-- the line of the fact f
+abbrev pub line_of : {A : Type 0} → (A → TaskLine) → A → List TaskLine
+line_of says a = says a ∷ []
 
 -- lines between a first and a last word
 abbrev pub between : List ℕ → List TaskLine → List ℕ → List TaskLine
-between first lines last = line word first ++ lines ++ line word last
+between first lines last = line_of word first ++ lines ++ line_of word last
 
 -- the number of items, then the lines of each
 abbrev pub counted : {A : Type 0} → (A → List TaskLine) → List A → List TaskLine
-counted lines items = line number (length items) ++ flat_map lines items
+counted lines items = line_of number (length items) ++ flat_map lines items
 
 -- the version is 3
 abbrev pub version_lines : List TaskLine
-version_lines = between (codes "begin_version") (line number 3) (codes "end_version")
+version_lines = between (codes "begin_version") (line_of number 3) (codes "end_version")
 
 -- the metric is 1 if the operators' cost lines are used, else 0
 abbrev pub metric_lines : Bool → List TaskLine
-metric_lines metric = between (codes "begin_metric") (line number (if metric then 1 else 0))
+metric_lines metric = between (codes "begin_metric") (line_of number (if metric then 1 else 0))
     (codes "end_metric")
 
 -- a variable's name, its axiom layer (`-1` for none), the number of its values, and the name of
@@ -86,40 +86,40 @@ metric_lines metric = between (codes "begin_metric") (line number (if metric the
 abbrev pub variable_lines : Variable → List TaskLine
 variable_lines v =
     between (codes "begin_variable")
-    (line name v.name
-    ++ line signed v.layer
-    ++ counted (line name) v.values)
+    (line_of name v.name
+    ++ line_of signed v.layer
+    ++ counted (line_of name) v.values)
     (codes "end_variable")
 
 -- the facts of a mutex group
 abbrev pub group_lines : List Fact → List TaskLine
-group_lines facts = between (codes "begin_mutex_group") (counted (line fact) facts)
+group_lines facts = between (codes "begin_mutex_group") (counted (line_of fact) facts)
     (codes "end_mutex_group")
 
 -- the initial state: a value for each variable, in order
 abbrev pub state_lines : List ℕ → List TaskLine
-state_lines values = between (codes "begin_state") (flat_map (line number) values)
+state_lines values = between (codes "begin_state") (flat_map (line_of number) values)
     (codes "end_state")
 
 -- the facts of the goal
 abbrev pub goal_lines : List Fact → List TaskLine
-goal_lines facts = between (codes "begin_goal") (counted (line fact) facts) (codes "end_goal")
+goal_lines facts = between (codes "begin_goal") (counted (line_of fact) facts) (codes "end_goal")
 
 -- an operator's name, its prevail conditions, its effects and its cost
 abbrev pub operator_lines : Operator → List TaskLine
 operator_lines o =
     between (codes "begin_operator")
-    (line name o.name
-    ++ counted (line fact) o.prevail
-    ++ counted (line effect) o.effects
-    ++ line number o.cost)
+    (line_of name o.name
+    ++ counted (line_of fact) o.prevail
+    ++ counted (line_of effect) o.effects
+    ++ line_of number o.cost)
     (codes "end_operator")
 
 -- the conditions of a rule (an axiom) and its head
 abbrev pub rule_lines : Rule → List TaskLine
 rule_lines r =
     between (codes "begin_rule")
-    (counted (line fact) r.conditions
+    (counted (line_of fact) r.conditions
     ++ head r.var r.old r.new ∷ [])
     (codes "end_rule")
 

@@ -43,9 +43,9 @@ pub fn write_groups<W: Write>(
     let all = verdicts.as_slice();
     let reasons = wanted_reasons(alloc, with_reasons, task, all)?;
     let mut pieces = Pieces::new(alloc)?;
-    let mut sink = Sink::new(&mut pieces, out);
+    let mut sink = Sink::new(groups_status(all), &mut pieces, out);
     push_groups(&mut sink, task.task(), all, reasons.as_slice());
-    sink.finish(groups_status(all))
+    sink.finish()
 }
 
 /// Returns the reasons for the verdicts if they are wanted, and otherwise none.

@@ -24,10 +24,12 @@ pub use Rattle.sas_lines.specs.Lines.{text}
 pub use Rattle.sas_meaning.proofs.DerivedVariables.{derived_within}
 pub use Rattle.sas_meaning.specs.Layers.{IsLayered}
 pub use Rattle.sas_meaning.specs.declared.touched.Touched.{Touched}
+pub use Rattle.sas_output.proofs.InitialLines.{initial_texts, initial_all, initial_next}
 pub use Rattle.sas_output.proofs.Pushed.{pushes_then, pushes_lost}
 pub use Rattle.sas_output.proofs.Sent.{ends_counting_as}
 pub use Rattle.sas_output.proofs.Texts.{text_of_each}
 pub use Rattle.sas_output.specs.Ending.{Output, output_of}
+pub use Rattle.sas_output.specs.Facts.{initial_lines}
 pub use Rattle.sas_output.specs.Sink.{Pushes}
 pub use Rattle.sas_output.specs.Words.{line}
 pub use Rattle.sas_output.specs.declared.ending.Status.{Status}
@@ -45,6 +47,6 @@ pub use Rattle.sas_run.specs.declared.plan_check.PlanFault.{PlanFault}
 pub use Rattle.sas_run.specs.declared.plan_check.PlanFault.TheVariants.{Memory, NoOperator, NotApplicable, Conflict, GoalMissed, CostDiffers}
 pub use Rattle.sas_trace.specs.Changes.{change_text, ListCoversChanges, IsListedIfChanged, Grows}
 pub use Rattle.sas_trace.specs.Laws.{EndsWithVerdict, CostsAddUp, SomeTrace, OneTrace, facts_printed, Replays}
-pub use Rattle.sas_trace.specs.Trace.{run_lines, variables_of, is_changed, change_line, change_lines, initial_line, initial_lines, step_lines, step_line}
+pub use Rattle.sas_trace.specs.Trace.{run_lines, variables_of, is_changed, change_line, change_lines, step_lines, step_line}
 pub use Rattle.sas_trace.specs.Traced.{EndsWith, TraceVerdict, IsTraced}
 pub use Rattle.sas_trace.specs.Tracing.{HasTraced, HasVerdict}

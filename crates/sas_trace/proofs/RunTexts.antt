@@ -1,14 +1,6 @@
 -- The text of a run: of its initial state, and of its steps.
-use Rattle.sas_trace.proofs.Imports.{◌≡◌, ℕ, List, [], ◌∷◌, ◌++◌, flat_map, length, sym, ◌∙◌, ap, range_with_len, flat_map-map, Parts, text, text_of_both, text_of_each, Run, state_at, variables_of, initial_line, initial_lines, step_lines, run_lines}
+use Rattle.sas_trace.proofs.Imports.{◌≡◌, ℕ, List, ◌++◌, flat_map, length, sym, ◌∙◌, ap, range_with_len, Parts, text, text_of_both, text_of_each, initial_lines, Run, state_at, step_lines, run_lines}
 use Rattle.sas_trace.proofs.Numbers.{said}
-
-module _ (p : Parts) (s : List ℕ) where
-  -- the line of a variable in the initial state, with its end
-  abbrev pub initial_text : ℕ → List ℕ
-  initial_text var = initial_line p s var ++ 10 ∷ []
-
-  pub initial_all : (n : ℕ) → n ≡ length p.variables → said initial_text n ≡ text (initial_lines p s)
-  initial_all n e = ap (said initial_text) e ∙ sym (flat_map-map (λ (line : List ℕ). line ++ 10 ∷ []) (initial_line p s) (variables_of p))
 
 module _ (p : Parts) (run : Run) where
   -- the lines of a step, each with its end
@@ -22,6 +14,6 @@ module _ (p : Parts) (run : Run) where
   steps_all n e = ap (said step_text) e ∙ sym (text_of_each (step_lines p run) (range_with_len 0 (length run.steps)))
 
   -- all lines of a run that begins with this state
-  pub run_text : (s : List ℕ) → s ≡ state_at run 0 → text (initial_lines p s) ++ text all_step_lines ≡ text (run_lines p run)
+  pub run_text : (s : List ℕ) → s ≡ state_at run 0 → text (initial_lines p.variables s) ++ text all_step_lines ≡ text (run_lines p run)
   run_text s start =
-      ap (λ (i : List ℕ). text (initial_lines p i) ++ text all_step_lines) start ∙ sym (text_of_both (initial_lines p (state_at run 0)) all_step_lines)
+      ap (λ (i : List ℕ). text (initial_lines p.variables i) ++ text all_step_lines) start ∙ sym (text_of_both (initial_lines p.variables (state_at run 0)) all_step_lines)

@@ -8,22 +8,12 @@ use Rattle.sas_core.specs.Grounded.{operator_at}
 use Rattle.sas_core.specs.Tasks.{cost_of}
 use Rattle.sas_core.specs.Variables.{value_name}
 use Rattle.sas_output.specs.Words.{line}
-use Rattle.sas_output.specs.Facts.{fact_words}
+use Rattle.sas_output.specs.Facts.{initial_lines}
 use Rattle.sas_run.specs.Runs.{Run, state_at}
 
 -- the variables of a task, ascending
 abbrev pub variables_of : Parts → List ℕ
 variables_of p = range_with_len 0 (length p.variables)
-
--- ---- the initial state
-
--- `initial VAR VALUE NAME`, with the variable's value in the state
-abbrev pub initial_line : Parts → List ℕ → ℕ → List ℕ
-initial_line p s var = line 0 (codes "initial" ∷ fact_words p var (slice_index s var))
-
--- so for each variable
-abbrev pub initial_lines : Parts → List ℕ → List (List ℕ)
-initial_lines p s = map (initial_line p s) (variables_of p)
 
 -- ---- a step
 
@@ -61,5 +51,5 @@ step_lines p run k = step_line p (k + 1) (slice_index run.operators k)
 
 -- the lines of a run: of its initial state, and of its steps
 abbrev pub run_lines : Parts → Run → List (List ℕ)
-run_lines p run = initial_lines p (state_at run 0)
+run_lines p run = initial_lines p.variables (state_at run 0)
     ++ flat_map (step_lines p run) (range_with_len 0 (length run.steps))

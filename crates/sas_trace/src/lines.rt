@@ -1,10 +1,11 @@
 // The lines of a trace, as they go out: here names are put in.
-ghost use Rattle.std.specs.Prelude.{◌≡◌, ◌<◌, [], ◌∷◌, ◌++◌, length, codes, decimal};
+ghost use Rattle.std.specs.Prelude.{◌≡◌, ◌<◌, [], ◌∷◌, ◌++◌, length, slice_index, codes, decimal};
 ghost use Rattle.std.specs.Option.{unwrap_or};
 ghost use Rattle.sas_core.specs.Variables as spec;
+ghost use Rattle.sas_output.specs.Facts.{fact_line};
 ghost use Rattle.sas_output.specs.Sink.{Pushes};
 ghost use Rattle.sas_output.specs.Words.{line};
-ghost use Rattle.sas_trace.specs.Trace.{initial_line, step_line};
+ghost use Rattle.sas_trace.specs.Trace.{step_line};
 
 use sas_core::{Fact, Grounded};
 use sas_flat::FlatTask;
@@ -21,7 +22,7 @@ pub fn push_initial_line<W: Write>(
 )
     requires { var < length state.now }
     ensures { Pushes W.contents sink.old sink.new
-        (initial_line task.now state.now var ++ 10 ∷ []) }
+        (fact_line (codes "initial") task.now.variables var (slice_index state.now var) ++ 10 ∷ []) }
 {
     let value = state.value(var);
     let rest = [

@@ -53,10 +53,10 @@ fn write_execution<W: Write, E: Settle<FlatTask> + Drop>(
     let verdict = plan_verdict(alloc, plan, execution)?;
     let mut tracer = Tracer::new(alloc, execution.state())?;
     let mut pieces = Pieces::new(alloc)?;
-    let mut sink = Sink::new(&mut pieces, out);
+    let mut sink = Sink::new(verdict.status, &mut pieces, out);
     tracer.push_run(&mut sink, task, execution);
     sink.push(verdict.text.as_slice());
-    let ended = sink.finish(verdict.status);
+    let ended = sink.finish();
     drop(pieces);
     drop(tracer);
     drop(verdict);

@@ -3,13 +3,14 @@ ghost use Rattle.std.specs.Prelude.{◌≡◌, ◌<◌, ◌∷◌, ◌++◌, ℕ
 ghost use Rattle.std.specs.List.{range_with_len};
 ghost use Rattle.std.specs.List.Sorted.{IsNonDecreasing};
 ghost use Rattle.sas_lines.specs.Lines.{text};
+ghost use Rattle.sas_output.specs.Facts.{initial_lines};
 ghost use Rattle.sas_output.specs.Sink.{Pushes};
 ghost use Rattle.sas_run.specs.Executions.{Executes, Advances, next_operator};
 ghost use Rattle.sas_run.specs.Stepping.{ListsChanges};
 ghost use Rattle.sas_run.specs.Runs.{Run};
 ghost use Rattle.sas_trace.specs.Changes.{ListCoversChanges, change_text};
 ghost use Rattle.sas_trace.specs.Tracing.{HasTraced};
-ghost use Rattle.sas_trace.specs.Trace.{initial_lines, step_line, change_lines, step_lines, run_lines};
+ghost use Rattle.sas_trace.specs.Trace.{step_line, change_lines, step_lines, run_lines};
 
 use crate::changes::list_changes;
 use crate::lines::{push_change_line, push_initial_line, push_step_line};
@@ -196,7 +197,8 @@ impl Tracer {
 /// Adds the lines of the initial state to the text.
 fn push_initial_lines<W: Write>(sink: &mut Sink<'_, W>, task: &Layered<FlatTask>, state: &State)
     requires { length state.now ≡ length task.now.variables }
-    ensures { Pushes W.contents sink.old sink.new (text (initial_lines task.now state.now)) }
+    ensures { Pushes W.contents sink.old sink.new
+        (text (initial_lines task.now.variables state.now)) }
 {
     for var in 0..task.variables() {
         push_initial_line(sink, task, state, var);

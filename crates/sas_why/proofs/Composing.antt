@@ -1,7 +1,7 @@
 -- What functions report, one behind the other.
 use Rattle.std.proofs.Common.{arith}
 use Rattle.std.proofs.lemmas.Grind.{common_steps}
-use Rattle.sas_why.proofs.Imports.{◌≡◌, ℕ, zero, suc, ◌+◌, ◌<◌, true, false, List, [], ◌∷◌, ◌++◌, length, get_or, set, map, take, refl, sym, ◌∙◌, ap, subst, append_assoc, Vec, Global, if◌then◌else◌, flat_map, slice_index, AllByRecursion, append-nil, map-append, take_more, flat_map-cons, flat_map-append, Fact, Parts, needs_rules, Line, with_lines, LineThen, Origins, Retraced, Report, AreOrigins, ReportsDerivation, IsBehind, lines_of_keepers, is_kept, IsReportOf, Adds, LinesOfEach, Run, last_state, IsDerivation, is_given, since_line, AreDerivationLines, can_be_given, keeping_lines, missing_lines, IsCause}
+use Rattle.sas_why.proofs.Imports.{◌≡◌, ℕ, zero, suc, ◌+◌, ◌<◌, true, false, List, [], ◌∷◌, ◌++◌, length, get_or, set, map, take, refl, sym, ◌∙◌, ap, subst, append_assoc, Vec, Global, if◌then◌else◌, flat_map, slice_index, AllByRecursion, append-nil, map-append, take_more, flat_map-cons, flat_map-append, Fact, Parts, needs_rules, Line, with_lines, LineThen, Origins, Retraced, Report, AreOrigins, ReportsDerivation, IsBehind, lines_of_keepers, is_kept, IsReportOf, AddsLines, LinesOfEach, Run, last_state, IsDerivation, is_given, since_line, AreDerivationLines, can_be_given, keeping_lines, missing_lines, IsCause}
 use Rattle.sas_output.specs.declared.line.Line.TheVariants as line
 use Rattle.sas_why.proofs.Once.{IsPlain, lines_append, plain_lines}
 use Rattle.sas_why.proofs.Adding.{plain_added, derivation_once, derivation_added, keepers_again, keepers_once, keepers_added}
@@ -22,11 +22,11 @@ module _ (p : Parts) (noted : Retraced) where
       → IsReportOf p noted report → IsReportOf p noted (record report { lines = new })
   plain_is_report report new more plain add can = (can.0, can.1, plain_added p noted.last report new more plain add can.2)
 
-  pub more_is_report : (Are : Run → List Line → Type 0) (old new : Report) → Adds p noted old new Are → IsReportOf p noted old → IsReportOf p noted new
+  pub more_is_report : (Are : Run → List Line → Type 0) (old new : Report) → AddsLines p noted old new Are → IsReportOf p noted old → IsReportOf p noted new
   more_is_report Are old new adds can = let w = adds can.0 can.1 can.2 in (can.0, can.1, w.3)
 
   pub line_and_more : (report after : Report) (new : List Line) (l : Line) (Are : Run → List Line → Type 0) → IsPlain l → new ≡ report.lines ++ l ∷ []
-      → Adds p noted (record report { lines = new }) after Are → Adds p noted report after (λ run. LineThen l (Are run))
+      → AddsLines p noted (record report { lines = new }) after Are → AddsLines p noted report after (λ run. LineThen l (Are run))
   line_and_more report after new l Are plain add adds run behind is =
       let w = adds run behind (plain_added p noted.last report new (l ∷ []) (plain, tt) add is) in
       (l ∷ w.0, (w.0, w.1, refl), w.2 ∙ plain_then report new (l ∷ []) w.0 (plain, tt) add, w.3)
@@ -46,9 +46,9 @@ module _ (p : Parts) (noted : Retraced) where
 
   pub cause_added : (report : Report) (new : List Line) (between after : Report) (fact : Fact) → fact.var < length p.variables
       → new ≡ report.lines ++ first_lines fact
-      → Adds p noted (record report { lines = new }) between (λ run. AreDerivationLines (is_given p (last_state run) fact.var) p (last_state run) fact.var)
-      → Adds p noted between after (λ run lines. lines ≡ missing_lines p (last_state run) fact)
-      → Adds p noted report after (λ run. IsCause p run fact)
+      → AddsLines p noted (record report { lines = new }) between (λ run. AreDerivationLines (is_given p (last_state run) fact.var) p (last_state run) fact.var)
+      → AddsLines p noted between after (λ run lines. lines ≡ missing_lines p (last_state run) fact)
+      → AddsLines p noted report after (λ run. IsCause p run fact)
   cause_added report new between after fact lt add givers missing run behind is =
       let since = slice_index noted.since.items fact.var in
       let g = givers run behind (plain_added p noted.last report new (first_lines fact) (first_plain fact) add is) in
@@ -73,7 +73,7 @@ module _ (p : Parts) (noted : Retraced) where
   pub some_givers : (report : Report) (new : List Line) (origins : Origins) (next : Vec ℕ Global) (var : ℕ) → is_given p noted.last var ≡ true
       → ((s : List ℕ) → AreOrigins p s report.origins → ReportsDerivation p s var report.origins origins [] next.items)
       → new ≡ report.lines ++ map line.RuleDerives next.items
-      → Adds p noted report (record report { lines = new; origins = origins; next = next })
+      → AddsLines p noted report (record report { lines = new; origins = origins; next = next })
       (λ run. AreDerivationLines (is_given p (last_state run) var) p (last_state run) var)
   some_givers report new origins next var so decides add run behind is =
       let t = decides noted.last is.origins in (
@@ -92,7 +92,7 @@ module _ (p : Parts) (noted : Retraced) where
       ∙ sym (ap (λ b. if b then lines_of_keepers p (last_state run) fact.var else line.NoRuleDerives ∷ []) so)
 
   pub no_rule : (report : Report) (new : List Line) (fact : Fact) → can_be_given p fact ≡ false → new ≡ report.lines ++ line.NoRuleDerives ∷ []
-      → Adds p noted report (record report { lines = new }) (λ run lines. lines ≡ keeping_lines p (last_state run) fact)
+      → AddsLines p noted report (record report { lines = new }) (λ run lines. lines ≡ keeping_lines p (last_state run) fact)
   no_rule report new fact not_so add run behind is = (
     line.NoRuleDerives ∷ [],
     sym (ap (λ b. if b then lines_of_keepers p (last_state run) fact.var else line.NoRuleDerives ∷ []) not_so),
@@ -101,13 +101,13 @@ module _ (p : Parts) (noted : Retraced) where
   )
 
   pub reported_before : (report : Report) (fact : Fact) → can_be_given p fact ≡ true → is_kept report fact.var ≡ true
-      → Adds p noted report report (λ run lines. lines ≡ keeping_lines p (last_state run) fact)
+      → AddsLines p noted report report (λ run lines. lines ≡ keeping_lines p (last_state run) fact)
   reported_before report fact so kept run behind is =
       (lines_of_keepers p noted.last fact.var, keepers_of_last run behind fact so, keepers_again p noted.last report fact.var is kept, is)
 
   pub reported_now : (report : Report) (new : List Line) (fact : Fact) → fact.var < length p.variables → can_be_given p fact ≡ true
       → is_kept report fact.var ≡ false → new ≡ report.lines ++ lines_of_keepers p noted.last fact.var
-      → Adds p noted report (record report { lines = new; kept = set report.kept fact.var true }) (λ run lines. lines ≡ keeping_lines p (last_state run) fact)
+      → AddsLines p noted report (record report { lines = new; kept = set report.kept fact.var true }) (λ run lines. lines ≡ keeping_lines p (last_state run) fact)
   reported_now report new fact lt so not_kept add run behind is = (
     lines_of_keepers p noted.last fact.var,
     keepers_of_last run behind fact so,
@@ -115,11 +115,11 @@ module _ (p : Parts) (noted : Retraced) where
     keepers_added p noted.last report fact.var is new lt not_kept add,
   )
 
-  pub nothing_missing : (report : Report) (fact : Fact) → needs_rules p fact ≡ false → Adds p noted report report (λ run lines. lines ≡ missing_lines p (last_state run) fact)
+  pub nothing_missing : (report : Report) (fact : Fact) → needs_rules p fact ≡ false → AddsLines p noted report report (λ run lines. lines ≡ missing_lines p (last_state run) fact)
   nothing_missing report fact not_so run behind is = ([], sym (ap (λ b. if b then keeping_lines p (last_state run) fact else []) not_so), refl, is)
 
-  pub missing_reported : (report after : Report) (fact : Fact) → needs_rules p fact ≡ true → Adds p noted report after (λ run lines. lines ≡ keeping_lines p (last_state run) fact)
-      → Adds p noted report after (λ run lines. lines ≡ missing_lines p (last_state run) fact)
+  pub missing_reported : (report after : Report) (fact : Fact) → needs_rules p fact ≡ true → AddsLines p noted report after (λ run lines. lines ≡ keeping_lines p (last_state run) fact)
+      → AddsLines p noted report after (λ run lines. lines ≡ missing_lines p (last_state run) fact)
   missing_reported report after fact so adds run behind is = grind (arith, common_steps)
 
 -- ---- each of some items
@@ -130,11 +130,11 @@ each_more Are [] item lines its none decides = (its, [], decides, refl, ap (λ (
 each_more Are (first ∷ items) item lines its each decides = grind (arith, common_steps, each_more Are items item each.1 its each.3 decides, append_assoc)
 
 module _ (p : Parts) (noted : Retraced) {A : Type 0} (Are : Run → A → List Line → Type 0) where
-  pub none_yet : (report : Report) → Adds p noted report report (λ run. LinesOfEach (Are run) [])
+  pub none_yet : (report : Report) → AddsLines p noted report report (λ run. LinesOfEach (Are run) [])
   none_yet report run behind is = ([], refl, refl, is)
 
-  pub one_more : (first old new : Report) (items : List A) (item : A) → Adds p noted first old (λ run. LinesOfEach (Are run) items)
-      → Adds p noted old new (λ run. Are run item) → Adds p noted first new (λ run. LinesOfEach (Are run) (items ++ item ∷ []))
+  pub one_more : (first old new : Report) (items : List A) (item : A) → AddsLines p noted first old (λ run. LinesOfEach (Are run) items)
+      → AddsLines p noted old new (λ run. Are run item) → AddsLines p noted first new (λ run. LinesOfEach (Are run) (items ++ item ∷ []))
   one_more first old new items item before adds run behind is =
       let b = before run behind is in
       let a = adds run behind b.3 in

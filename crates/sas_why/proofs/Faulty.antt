@@ -1,7 +1,7 @@
 -- What is reported of each fault.
 use Rattle.std.proofs.Common.{arith}
 use Rattle.std.proofs.lemmas.Grind.{common_steps}
-use Rattle.sas_why.proofs.Imports.{◌≡◌, ℕ, ◌+◌, ◌<◌, Bool, true, false, not, List, [], ◌∷◌, ◌++◌, length, get_or, Option, ◌∙◌, ap, if◌then◌else◌, filter, slice_index, option_map_or, ne_eqb, eq-eqb, append-nil, filter-append, Fact, Parts, places_to, places_one_more, Line, LinesOfEach, Run, last_state, fails, similar_operator, similar_name_lines, Retraced, Report, IsBehind, IsReport, Adds, ReportsOnce}
+use Rattle.sas_why.proofs.Imports.{◌≡◌, ℕ, ◌+◌, ◌<◌, Bool, true, false, not, List, [], ◌∷◌, ◌++◌, length, get_or, Option, ◌∙◌, ap, if◌then◌else◌, filter, slice_index, option_map_or, ne_eqb, eq-eqb, append-nil, filter-append, Fact, Parts, places_to, places_one_more, Line, LinesOfEach, Run, last_state, fails, similar_operator, similar_name_lines, Retraced, Report, IsBehind, IsReport, AddsLines, ReportsOnce}
 use Rattle.sas_output.specs.declared.line.Line.TheVariants as line
 
 -- ---- no operator of the name
@@ -37,10 +37,10 @@ module _ {A : Type 0} (test : A → Bool) (k : ℕ) (items : List A) (d : A) (lt
 
 module _ (p : Parts) (noted : Retraced) where
   pub at_last : {A : Type 0} (Are : Run → A → List Line → Type 0) (items_of : List ℕ → List A) (old new : Report)
-      → Adds p noted old new (λ run. LinesOfEach (Are run) (items_of noted.last)) → Adds p noted old new (λ run. LinesOfEach (Are run) (items_of (last_state run)))
+      → AddsLines p noted old new (λ run. LinesOfEach (Are run) (items_of noted.last)) → AddsLines p noted old new (λ run. LinesOfEach (Are run) (items_of (last_state run)))
   at_last Are items_of old new adds run behind is = grind (arith, common_steps)
 
   -- from a report without a line
-  pub all_reported : (Are : Run → List Line → Type 0) (first last : Report) → IsReport p noted.last first → first.lines ≡ [] → Adds p noted first last Are
+  pub all_reported : (Are : Run → List Line → Type 0) (first last : Report) → IsReport p noted.last first → first.lines ≡ [] → AddsLines p noted first last Are
       → (run : Run) → IsBehind p noted run → ReportsOnce last.lines (Are run)
   all_reported Are first last is none adds run behind = grind (arith, common_steps)

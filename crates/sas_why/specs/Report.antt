@@ -52,8 +52,8 @@ abbrev pub IsReportOf : Parts → Retraced → Report → Type 0
 IsReportOf p noted report = (run : Run) × IsBehind p noted run × IsReport p noted.last report
 
 -- such lines of a run are added, each line of a rule once
-abbrev pub Adds : Parts → Retraced → Report → Report → (Run → List Line → Type 0) → Type 0
-Adds p noted old new Are = (run : Run) → IsBehind p noted run → IsReport p noted.last old
+abbrev pub AddsLines : Parts → Retraced → Report → Report → (Run → List Line → Type 0) → Type 0
+AddsLines p noted old new Are = (run : Run) → IsBehind p noted run → IsReport p noted.last old
     → (more : List Line)
     × Are run more
     × (new.lines ≡ with_lines old.lines more)

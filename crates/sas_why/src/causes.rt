@@ -6,7 +6,7 @@ ghost use Rattle.sas_meaning.specs.Places.{places, can_give};
 ghost use Rattle.sas_run.specs.Runs.{last_state};
 ghost use Rattle.sas_reasons.specs.Cause.{fails, is_given, since_line, failing_lines};
 ghost use Rattle.sas_reasons.specs.Cause.{AreDerivationLines, can_be_given, keeping_lines, IsCause};
-ghost use Rattle.sas_why.specs.Report.{IsReportOf, Adds};
+ghost use Rattle.sas_why.specs.Report.{IsReportOf, AddsLines};
 
 use crate::origins::requires_rules;
 use crate::report::Report;
@@ -25,7 +25,7 @@ pub fn report_cause<T: Grounded>(
 ) -> Result<(), AllocError>
     requires fact { fact.var < length task.now.variables }
     requires report { IsReportOf task.now noted.now report.old }
-    ensures { OnOk result (Adds task.now noted.now report.old report.new
+    ensures { OnOk result (AddsLines task.now noted.now report.old report.new
         (λ run. IsCause task.now run fact)) }
 {
     report_values(noted, fact, &mut report.lines)?;
@@ -71,7 +71,7 @@ fn report_givers<T: Grounded>(
 ) -> Result<(), AllocError>
     requires var { var < length task.now.variables }
     requires report { IsReportOf task.now noted.now report.old }
-    ensures { OnOk result (Adds task.now noted.now report.old report.new
+    ensures { OnOk result (AddsLines task.now noted.now report.old report.new
         (λ run. AreDerivationLines
         (is_given task.now (last_state run) var) task.now (last_state run) var)) }
 {
@@ -108,7 +108,7 @@ fn report_keepers<T: Grounded>(
 ) -> Result<(), AllocError>
     requires fact { fact.var < length task.now.variables }
     requires report { IsReportOf task.now noted.now report.old }
-    ensures { OnOk result (Adds task.now noted.now report.old report.new
+    ensures { OnOk result (AddsLines task.now noted.now report.old report.new
         (λ run lines. lines ≡ keeping_lines task.now (last_state run) fact)) }
 {
     // By its contract the task is well ranged and layered.

@@ -8,7 +8,7 @@ ghost use Rattle.sas_run.specs.Runs.{Run};
 ghost use Rattle.sas_reasons.specs.WhyPlan.{similar_name_lines, AreFailedPreconditionLines, AreOperatorLines, AreConflictLines};
 ghost use Rattle.sas_reasons.specs.WhyPlan.{AreGoalLines, AreFaultLines, IsWhy, cost_lines, cost_lines_sum};
 ghost use Rattle.sas_why.specs.Retracing.{Retraces, IsRetraced};
-ghost use Rattle.sas_why.specs.Report.{IsBehind, IsReportOf, Adds, ReportsOnce};
+ghost use Rattle.sas_why.specs.Report.{IsBehind, IsReportOf, AddsLines, ReportsOnce};
 
 use crate::causes::report_cause;
 use crate::conflicts::conflict;
@@ -117,7 +117,7 @@ fn report_blocked<T: Grounded>(
     report: &mut Report,
 ) -> Result<(), AllocError>
     requires { IsReportOf task.now noted.now report.old }
-    ensures { OnOk result (Adds task.now noted.now report.old report.new
+    ensures { OnOk result (AddsLines task.now noted.now report.old report.new
         (λ run. LineThen (Line.Step step) (AreOperatorLines task.now run name.now))) }
 {
     report.lines.push(Line::Step { step })?;
@@ -138,7 +138,7 @@ fn report_inapplicable<T: Grounded>(
 ) -> Result<(), AllocError>
     requires operator { operator < length task.now.operators }
     requires report { IsReportOf task.now noted.now report.old }
-    ensures { OnOk result (Adds task.now noted.now report.old report.new
+    ensures { OnOk result (AddsLines task.now noted.now report.old report.new
         (λ run. AreFailedPreconditionLines task.now run operator)) }
 {
     // By its contract the task is well ranged and layered.
@@ -207,7 +207,8 @@ fn report_missed<T: Grounded>(
     report: &mut Report,
 ) -> Result<(), AllocError>
     requires { IsReportOf task.now noted.now report.old }
-    ensures { OnOk result (Adds task.now noted.now report.old report.new (AreGoalLines task.now)) }
+    ensures { OnOk result (AddsLines task.now noted.now report.old report.new
+        (AreGoalLines task.now)) }
 {
     // By its contract the task is well ranged and layered.
     let _ = task.task();

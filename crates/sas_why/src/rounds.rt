@@ -3,7 +3,7 @@ ghost use Rattle.std.specs.Prelude.{◌≡◌, ℕ, ◌+◌, ◌^◌, ◌<◌, �
 ghost use Rattle.sas_core.specs.Grounded.{rule_at};
 ghost use Rattle.sas_core.specs.Variables.{IsState};
 ghost use Rattle.sas_meaning.specs.Settled.{IsSettled};
-ghost use Rattle.sas_why.specs.Rounds.{HaveOrigins, value_in_round, IsReached, OriginsUpToRound, IsFirstOpen, AtRound, InRound, ContinuesRound, Reaches, AreAllRules, AreBefore, rules_of};
+ghost use Rattle.sas_why.specs.Rounds.{HaveOrigins, value_in_round, IsReached, OriginsUpToRound, IsFirstOpen, AtRound, InRound, ContinuesRound, Reaches, AreAllRules, AreBefore, waiting_rules};
 
 use sas_axioms::{Waiting, index_of_all};
 use sas_core::Grounded;
@@ -241,7 +241,7 @@ impl Rounds {
 
 /// Adds the rules of these conditions.
 fn push_rules(waiting: &[Waiting], rules: &mut Vec<u32>) -> Result<(), AllocError>
-    ensures { OnOk result (rules.new.items ≡ rules.old.items ++ rules_of waiting.now) }
+    ensures { OnOk result (rules.new.items ≡ rules.old.items ++ waiting_rules waiting.now) }
 {
     for condition in waiting {
         rules.push(condition.rule)?;

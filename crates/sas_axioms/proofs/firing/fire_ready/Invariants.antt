@@ -1,5 +1,5 @@
 -- The rules so far that have no open conditions have fired.
-use Rattle.sas_axioms.proofs.Imports.{◌≡◌, ℕ, ◌<◌, get_or, rule_at, LayerRule, value_seen, IsRunning, AreCountedBy, HasRoom, WorkGoesOn, AreGiven}
+use Rattle.sas_axioms.proofs.Imports.{◌≡◌, ℕ, ◌<◌, get_or, rule_at, LayerRule, value_seen, IsRunning, AreCountedBy, WorkHasRoom, WorkGoesOn, AreGiven}
 use Rattle.sas_axioms.proofs.firing.fire_ready.Given as goal
 
 abbrev pub invariant-loop-entry : goal.invariant-loop-entry
@@ -7,7 +7,7 @@ invariant-loop-entry g l = record {
   goes_on : WorkGoesOn l.task l.fn.state l.fn.work l.state l.work;
   same : l.work.counters ≡ l.fn.work.counters;
   given : AreGiven l.task l.fn.work.layer l.state l.work.sources;
-  room : HasRoom l.task l.work;
+  room : WorkHasRoom l.task l.work;
   running : IsRunning l.task l.fn.work.layer l.state l.work.stack.items;
   counts : AreCountedBy l.task (value_seen l.task l.state l.work.stack.items) l.fn.work.counters;
   fired : (j : ℕ) (d : LayerRule) → j < l.entry-index → get_or l.fn.work.counters (get_or l.rules j d).rule 0 ≡ 0

@@ -1,12 +1,8 @@
-use Rattle.sas_outputs.proofs.Imports.{arith, subst, Pushes, pushes_item}
-use Rattle.sas_outputs.proofs.Summaries.{initial_text, initial_all, item_is, within}
+use Rattle.sas_outputs.proofs.Imports.{arith, subst, Pushes, initial_all, initial_next}
 use Rattle.sas_outputs.proofs.summary.push_state.Goals as goal
 
 pub loop-var-preserved : goal.loop-var-preserved
-loop-var-preserved g c =
-    let below = c.loop-var-test.true in
-    let put = subst (Pushes g.W.Write.contents _ _) (item_is c.args.outline.now.variables _ _ below) c.push_fact.ensures in
-    pushes_item _ (initial_text c.args.outline.now.variables) _ _ (0, 0) _ _ _ (within c.args.outline.now.variables _ _ below) c.loop-var.invariant put
+loop-var-preserved g c = initial_next _ _ _ _ _ _ _ c.loop-var-test.true c.loop-var.invariant c.push_fact.ensures
 
 pub returns : goal.returns
 returns g c =

@@ -14,8 +14,9 @@ returns g c =
     let pushed = made (text (why_lines c.task.result.now all c.as_slice.result.now)) c.groups_status.result in
     let whole = ap (λ (lines : List ℕ). made lines c.groups_status.result) is ∙ ap (made (text (why_lines p all reasons))) c.groups_status.ensures in
     let name = c.push_groups.ensures.same ∙ c.new-sink.ensures.same in
+    let status = c.push_groups.ensures.status ∙ c.new-sink.ensures.status in
     let answer = answers_with c.args.with_reasons p all reasons joint c.in_ok-reasons.ensures.none c.in_ok-reasons.ensures.wanted in
     let ends = ends_counting_as pushed _ (λ (output : Option Output). IsSomeAnd output (GroupsAnswerWith c.args.with_reasons p)) _ (subst (GroupsAnswerWith c.args.with_reasons p) (sym whole) answer)
-    (c.finish.ensures.ends _ _ (c.push_groups.ensures.text _ _ c.new-sink.ensures.text)) in
+    (rw status at (c.finish.ensures.ends _ _ (c.push_groups.ensures.text _ _ c.new-sink.ensures.text))) in
     let note = c.finish.ensures.note in
     record { ends = search rules; nothing = search rules; writes = search rules }

@@ -13,8 +13,9 @@ returns g c =
     let has = subst (λ (q : Parts). HasVerdict q plan w.0 verdict execution) c.requires.execution.task w.1 in
     let run = c.push_run.ensures w.0 (stands_first p plan w.0 verdict execution c.in_ok-tracer.tracer.printed.items has (rw c.state.ensures.now at c.in_ok-tracer.ensures)) in
     let answer = rw c.as_slice.ensures.value at c.push.ensures in
+    let status = answer.status ∙ (run.status ∙ c.new-sink.ensures.status) in
     let ends = ends_counting_as (written p verdict w.0) _ (IsTraced p plan) _ (is_traced p plan verdict w.0 execution has)
-    (c.finish-ended.ensures.ends _ _ (answer.text _ _ (run.text _ _ c.new-sink.ensures.text))) in
+    (rw status at (c.finish-ended.ensures.ends _ _ (answer.text _ _ (run.text _ _ c.new-sink.ensures.text)))) in
     let name = answer.same ∙ (run.same ∙ c.new-sink.ensures.same) in
     let is = c.out-1.given.1 (sym name) in
     record { ends = rw is ends; nothing = search rules; writes = rw is c.finish-ended.ensures.note }

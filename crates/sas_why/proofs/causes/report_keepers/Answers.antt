@@ -1,5 +1,5 @@
 -- No rule derives the value, or all of the variable's rules were reported before, or they are reported now.
-use Rattle.sas_why.proofs.Imports.{◌≡◌, ◌<◌, ℕ, Bool, List, ◌++◌, length, get_or, false, sym, ◌∙◌, ap, subst, flat_map, All, on_ok_weaker, Contains-get_or, of_variable, places, can_give, failing_lines, keeping_lines, last_state, Adds}
+use Rattle.sas_why.proofs.Imports.{◌≡◌, ◌<◌, ℕ, Bool, List, ◌++◌, length, get_or, false, sym, ◌∙◌, ap, subst, flat_map, All, on_ok_weaker, Contains-get_or, of_variable, places, can_give, failing_lines, keeping_lines, last_state, AddsLines}
 use Rattle.sas_why.proofs.Composing.{no_rule, reported_before, reported_now}
 use Rattle.sas_why.proofs.causes.report_keepers.Goals as goal
 
@@ -28,7 +28,7 @@ returns g c =
     let are : c.get-rules.result.now ≡ places (can_give p c.args.fact.var) p.rules =
     c.get-rules.ensures ∙ c.requires.report.2.rules.each c.args.fact.var c.requires.fact in
     on_ok_weaker c.push_keepers.result
-    (λ add. subst (λ (kept : List Bool). Adds p c.args.noted.now report
+    (λ add. subst (λ (kept : List Bool). AddsLines p c.args.noted.now report
     (record { lines = c.push_keepers.new.lines; origins = report.origins; rules = report.rules; kept = kept; next = report.next })
     (λ run lines. lines ≡ keeping_lines p (last_state run) c.args.fact)) (sym c.set.ensures)
     (reported_now p c.args.noted.now report c.push_keepers.new.lines c.args.fact c.requires.fact

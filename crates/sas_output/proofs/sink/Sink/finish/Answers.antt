@@ -14,7 +14,7 @@ returns-then-failed-clause-ends g c start text pushed =
 pub returns-clause-ends : goal.returns-clause-ends
 returns-clause-ends g c start text pushed =
     let puts = puts_so_far g.W.Write.contents c.args.self (sym c.failed.ensures ∙ c.if-failed.false) start text pushed in
-    let out = λ (output : Option Output). output ≡ Some (record { text = text; status = c.args.status }) in
+    let out = λ (output : Option Output). output ≡ Some (record { text = text; status = c.args.self.status }) in
     let sent = Appends start (g.W.Write.contents c.flush.new.out.device) in
     elim c.match-flush.branch [
       | in-Ok w ↦ subst (EndsCounting out sent) (sym w.result-is) (_, refl, refl, all_sent _ _ _ _ _ _ refl w.in-Ok.ensures.empty refl (finish_puts _ _ _ _ _ _ _ puts w.in-Ok.ensures.adds.puts))
