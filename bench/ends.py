@@ -5,7 +5,7 @@
 
 The inputs are made in FOLDER if they aren't there. For each request the instructions over the files with LF are printed, those
 over the files with CR LF, and the ratio, the second over the first. The answer has to be the same. The exit status is 1 if a
-ratio is above 1.3, or an answer isn't right. It needs valgrind.
+ratio is above 1.35, or an answer isn't right. It needs valgrind.
 """
 import argparse
 import os
@@ -18,7 +18,7 @@ from cases import Case, files_of
 from count import answer_word, counted
 from make import case_input
 
-MOST = 1.3
+MOST = 1.35
 SIZES = [("gripper", 2), ("blocks", 2)]
 REQUESTS = ["check", "show", "print", "plan", "steps"]
 STEPS = 20000

@@ -1,10 +1,9 @@
 // Counters of open (false) conditions, which are updated when a variable changes.
-ghost use Rattle.std.specs.Prelude.{◌≡◌, ◌<◌, ◌≤◌, ℕ, IfOk, IsFalse, length, slice_index, slice_set};
+ghost use Rattle.std.specs.Prelude.{◌≡◌, ◌<◌, ◌≤◌, ◌^◌, ℕ, All, IfOk, IsFalse, length, slice_index, slice_set};
 ghost use Rattle.sas_core.specs.declared.parts.Parts.{Parts};
-ghost use Rattle.sas_axioms.specs.Conditions.{AreCounted, IsCounted};
+ghost use Rattle.sas_axioms.specs.Conditions.{AreCounted, IsCounted, open_conditions};
 
 use crate::conditions::{Moved, Waiting, count_after, index_of_all};
-use crate::firing::open_of;
 use sas_core::{Fact, Grounded, Items};
 use sas_flat::Lists;
 use sas_meaning::{Layered, State};
@@ -156,4 +155,19 @@ fn open_counters<T: Grounded>(
         counters.push(open_of(values, task.rule_conditions(rule)))?;
     }
     Ok(counters)
+}
+
+/// Returns the number of conditions that don't hold.
+fn open_of(state: &State, conditions: &[Fact]) -> u32
+    requires exist { All (λ (c : Fact). c.var < length state.now) conditions.now }
+    requires few { length conditions.now < 2 ^ 31 }
+    ensures { result ≡ open_conditions (slice_index state.now) conditions.now }
+{
+    let mut open = 0;
+    for condition in conditions {
+        if state.value(condition.var) != condition.value {
+            open += 1;
+        }
+    }
+    open
 }

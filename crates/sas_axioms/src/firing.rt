@@ -1,5 +1,5 @@
 // Settles one layer by counters: each rule counts its open conditions, and fires when none is left.
-ghost use Rattle.std.specs.Prelude.{◌≡◌, ℕ, ◌<◌, ◌^◌, [], ◌∷◌, ◌++◌, List, length, All, IfOk, OnOk, slice_index};
+ghost use Rattle.std.specs.Prelude.{◌≡◌, ℕ, ◌<◌, [], ◌∷◌, ◌++◌, List, IfOk, OnOk, slice_index};
 ghost use Rattle.sas_core.specs.Grounded.{rule_at};
 ghost use Rattle.sas_core.specs.Variables.{IsState};
 ghost use Rattle.sas_meaning.specs.States.{AllHold};
@@ -9,7 +9,7 @@ ghost use Rattle.sas_meaning.specs.Settled.{SameBasic};
 ghost use Rattle.sas_meaning.specs.Touched.{StillCovers};
 ghost use Rattle.sas_axioms.specs.ByLayers.{SettlesLayer};
 ghost use Rattle.sas_axioms.specs.LayerRules.{IsRuleOn, AreRulesOn};
-ghost use Rattle.sas_axioms.specs.Conditions.{AreCounted, IsFullIndex, open_conditions};
+ghost use Rattle.sas_axioms.specs.Conditions.{AreCounted, IsFullIndex};
 ghost use Rattle.sas_axioms.specs.Agenda.{IsEmpty};
 ghost use Rattle.sas_axioms.specs.Sources.{AreGiven, SameSourcesOff};
 ghost use Rattle.sas_axioms.specs.Following.{IsFollowed};
@@ -191,21 +191,6 @@ impl Firing {
         count_gone(task, index, gone, &mut self.work, state)?;
         settle_noted(task, index, &self.rules_of, &mut self.work, state, touched)
     }
-}
-
-/// Returns the number of conditions that don't hold.
-pub fn open_of(state: &State, conditions: &[Fact]) -> u32
-    requires exist { All (λ (c : Fact). c.var < length state.now) conditions.now }
-    requires few { length conditions.now < 2 ^ 31 }
-    ensures { result ≡ open_conditions (slice_index state.now) conditions.now }
-{
-    let mut open = 0;
-    for condition in conditions {
-        if state.value(condition.var) != condition.value {
-            open += 1;
-        }
-    }
-    open
 }
 
 /// Fires the rules of the layer that have no open conditions. All variables of the layer must have their defaults, so that none of the

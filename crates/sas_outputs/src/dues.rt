@@ -1,5 +1,5 @@
 // Lines with the location of a line, and with what is expected there.
-ghost use Rattle.std.specs.Prelude.{◌≡◌, ◌++◌, [], ◌∷◌, decimal, codes, OnOk};
+ghost use Rattle.std.specs.Prelude.{◌≡◌, ◌++◌, decimal, codes, OnOk};
 ghost use Rattle.sas_outputs.specs.FileLine as line;
 ghost use Rattle.sas_outputs.specs.FileLine.{due_words, ended, location_words, plan_due_words};
 

@@ -1,5 +1,5 @@
 // The line with the text at a fault.
-ghost use Rattle.std.specs.Prelude.{◌≡◌, ◌<◌, ◌++◌, [], ◌∷◌, codes, flat_map, OnOk};
+ghost use Rattle.std.specs.Prelude.{◌≡◌, ◌<◌, ◌++◌, codes, flat_map, OnOk};
 ghost use Rattle.sas_reader.specs.Found.{kept_bytes};
 ghost use Rattle.sas_outputs.specs.FileLine as line;
 ghost use Rattle.sas_outputs.specs.FileLine.{empty_words, ended, found_word, hex_digit_of, is_shown, shown, shown_byte, shown_whole};

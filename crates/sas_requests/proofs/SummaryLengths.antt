@@ -67,19 +67,26 @@ fact_text_short first variables var value n h = said (value_name variables var v
     said None short = grind (arith, length-append {A = ℕ})
     said (Some bytes) short = grind (arith, h, short bytes refl, length-append {A = ℕ})
 
+both_short : (a b : List ℕ) (m n : ℕ) → length a ≤ m → length b ≤ n → length (a ++ b) ≤ m + n
+both_short a b m n first second = omega (arith, length-append a b, first, second)
+
 fact_line_size : (f : Fact) → size (line_of fact f) ≡ length (decimal f.var) + length (decimal f.value) + 2
 fact_line_size f = omega (arith, size_of_one (fact f), length-append (decimal f.var) (32 ∷ decimal f.value))
 
 goal_short : (variables : List Variable) (n : ℕ) → size (flat_map variable_lines variables) ≤ n → (facts : List Fact) → length (flat_map (goal_text variables) facts) ≤ length facts * (n + 21) + size (flat_map (line_of fact) facts)
 goal_short variables n h [] = omega arith
-goal_short variables n h (f ∷ facts) = omega (arith, length-append {A = ℕ}, fact_text_short (codes "goal") variables f.var f.value n h, fact_line_size f, size_of_both, goal_short variables n h facts)
+goal_short variables n h (f ∷ facts) =
+    let both = both_short (goal_text variables f) (flat_map (goal_text variables) facts) _ _ (fact_text_short (codes "goal") variables f.var f.value n h) (goal_short variables n h facts) in
+    omega (arith, both, fact_line_size f, size_of_both)
 
 number_line_size : (n : ℕ) → size (line_of number n) ≡ length (decimal n) + 1
 number_line_size n = size_of_one (number n)
 
 initial_short : (variables : List Variable) (n : ℕ) → size (flat_map variable_lines variables) ≤ n → (from : ℕ) (values : List ℕ) → from + length values < 10 ^ 10 → length (flat_map (initial_text variables) (enumerate_from from values)) ≤ length values * (n + 21) + size (flat_map (line_of number) values)
 initial_short variables n h from [] fits = omega arith
-initial_short variables n h from (value ∷ values) fits = omega (arith, length-append {A = ℕ}, fact_text_short (codes "initial") variables from value n h, length-decimal-le 10 from (omega arith) (omega (arith, fits)) (omega (arith, fits)), number_line_size value, size_of_both, initial_short variables n h (from + 1) values (omega (arith, fits)))
+initial_short variables n h from (value ∷ values) fits =
+    let both = both_short (initial_text variables (from, value)) (flat_map (initial_text variables) (enumerate_from (from + 1) values)) _ _ (fact_text_short (codes "initial") variables from value n h) (initial_short variables n h (from + 1) values (omega (arith, fits))) in
+    omega (arith, both, length-decimal-le 10 from (omega arith) (omega (arith, fits)) (omega (arith, fits)), number_line_size value, size_of_both)
 
 -- ---- the lines of numbers
 

@@ -1,5 +1,5 @@
 // The lines of a trace, as they go out: here names are put in.
-ghost use Rattle.std.specs.Prelude.{◌≡◌, ◌<◌, [], ◌∷◌, ◌++◌, length, slice_index, codes, decimal};
+ghost use Rattle.std.specs.Prelude.{◌<◌, [], ◌∷◌, ◌++◌, length, slice_index, codes, decimal};
 ghost use Rattle.std.specs.Option.{unwrap_or};
 ghost use Rattle.sas_core.specs.Variables as spec;
 ghost use Rattle.sas_output.specs.Facts.{fact_line};

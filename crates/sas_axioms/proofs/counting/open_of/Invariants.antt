@@ -1,6 +1,6 @@
 -- The open conditions so far.
 use Rattle.sas_axioms.proofs.Imports.{◌≡◌, ◌+◌, ◌≤◌, drop, slice_index, open_conditions}
-use Rattle.sas_axioms.proofs.firing.open_of.Given as goal
+use Rattle.sas_axioms.proofs.counting.open_of.Given as goal
 
 abbrev pub invariant-loop-condition : goal.invariant-loop-condition
 invariant-loop-condition l = record {
