@@ -136,7 +136,8 @@ impl Firing {
         ensures settles { SettlesLayer task.now layer state.old state.new }
         ensures counts { AreCounted task.now state.new self.new.work.counters }
         ensures given { AreGiven task.now layer state.new self.new.work.sources }
-        ensures sources { SameSourcesOff task.now layer self.old.work.sources self.new.work.sources }
+        ensures sources { SameSourcesOff task.now layer self.old.work.sources
+            self.new.work.sources }
     {
         self.work.layer = layer;
         fire_ready(task, rules, &mut self.work, state);

@@ -1,6 +1,5 @@
 // Effects in a few blocks of memory.
 ghost use Rattle.std.specs.Prelude.{◌≡◌, ◌<◌, ◌≤◌, [], ◌∷◌, ◌++◌, length, take, slice_range, IfSome, OnOk, OnErr};
-ghost use Rattle.sas_core.specs.Grounded as grounded;
 ghost use Rattle.sas_core.specs.Changes as changes;
 ghost use Rattle.sas_core.specs.Changes.{plain_effects};
 ghost use Rattle.sas_flat.specs.Effects.{effect, effects_of, effect_in_list};

@@ -1,6 +1,5 @@
 // Operators in a few blocks of memory.
 ghost use Rattle.std.specs.Prelude.{◌≡◌, ◌<◌, ◌≤◌, [], ◌∷◌, ◌++◌, length, IfSome, OnOk, OnErr};
-ghost use Rattle.sas_core.specs.Grounded as grounded;
 ghost use Rattle.sas_core.specs.Changes as changes;
 ghost use Rattle.sas_core.specs.Changes.{plain_effects};
 ghost use Rattle.sas_flat.specs.Effects.{effect_in_list};

@@ -1,5 +1,5 @@
 // Variables in a few blocks of memory.
-ghost use Rattle.std.specs.Prelude.{◌≡◌, ◌<◌, ◌≤◌, [], ◌∷◌, ◌++◌, length, slice_get, option_map, OnOk, OnErr};
+ghost use Rattle.std.specs.Prelude.{◌≡◌, ◌<◌, [], ◌∷◌, ◌++◌, length, slice_get, option_map, OnOk, OnErr};
 ghost use Rattle.sas_core.specs.declared.parts.Variable.{Variable};
 ghost use Rattle.sas_core.specs.Variables as spec;
 ghost use Rattle.sas_flat.specs.Growing.{Hold};

@@ -1,5 +1,5 @@
 // The runs of a group: consecutive facts on the same variable.
-ghost use Rattle.std.specs.Prelude.{◌≡◌, ℕ, ◌<◌, ◌≤◌, ◌^◌, length, take, All, IfOk, slice_index_or};
+ghost use Rattle.std.specs.Prelude.{◌≡◌, ◌<◌, ◌≤◌, ◌^◌, length, take, All, IfOk, slice_index_or};
 ghost use Rattle.sas_core.specs.declared.parts.Fact.{Fact};
 ghost use Rattle.sas_groups.specs.Distinct.{AreOwnLists};
 ghost use Rattle.sas_groups.specs.Runs.{AreRuns, AreRunsOf};

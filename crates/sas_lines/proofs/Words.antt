@@ -72,11 +72,11 @@ pub NoSpace-signed : (n : Option ℕ) → IfSome n (λ k. k < 2 ^ 31) → NoSpac
 NoSpace-signed None h = (omega arith, (omega arith, tt))
 NoSpace-signed (Some n) h = NoSpace-number n h
 
--- a number of more than 64 digits has its last 64 as its decimal
-ten_pos : (k : ℕ) → 0 < 10 ^ k
+pub ten_pos : (k : ℕ) → 0 < 10 ^ k
 ten_pos zero = omega arith
 ten_pos (suc k) = let h = ten_pos k in omega (arith, h)
 
+-- a number of more than 64 digits has its last 64 as its decimal
 long_onto : (k n : ℕ) (acc : List ℕ) → 10 ^ k ≤ n → length (digits_onto k 10 false n acc) ≡ k + length acc
 long_onto zero n acc l = let e : length acc ≡ 0 + length acc = omega arith in e
 long_onto (suc k) n acc l =

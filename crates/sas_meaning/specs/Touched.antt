@@ -30,4 +30,5 @@ pub record CoversChanges (p : Parts) (s s' : List ℕ) (t : Touched) : Type 0 wh
 
 -- any changes up to s that t covers are covered by t' up to s'
 abbrev pub StillCovers : Parts → List ℕ → Touched → List ℕ → Touched → Type 0
-StillCovers p s t s' t' = (before : List ℕ) → CoversChanges p before s t → CoversChanges p before s' t'
+StillCovers p s t s' t' =
+    (before : List ℕ) → CoversChanges p before s t → CoversChanges p before s' t'

@@ -68,7 +68,8 @@ impl Touched {
 
     /// Returns the variables that may have changed, or `None` if any variable may have.
     pub fn vars(&self) -> Option<&[u32]>
-        ensures some { IfSome result (λ vars. IsFalse self.now.any × (vars.now ≡ self.now.vars.items)) }
+        ensures some { IfSome result (λ vars. IsFalse self.now.any
+            × (vars.now ≡ self.now.vars.items)) }
         ensures none { IfNone result (IsTrue self.now.any) }
     {
         if self.any {

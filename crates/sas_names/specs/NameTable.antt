@@ -23,7 +23,8 @@ module _ {V : Type 0} where
   -- the value from the map of digests if it identifies this name, else the other value
   abbrev pub own_else : (V → List ℕ) → List ℕ → Option V → Option V → Option V
   own_else names name None other = other
-  own_else names name (Some own) other = if pointwise nat_eq (names own) name then Some own else other
+  own_else names name (Some own) other =
+      if pointwise nat_eq (names own) name then Some own else other
 
   -- the value of the name, if any
   abbrev pub value_of : (V → List ℕ) → NameTable V → List ℕ → Option V
@@ -47,7 +48,8 @@ module _ {V : Type 0} where
 
   -- each value in the map of digests identifies a name
   abbrev pub Exist : (V → Type 0) → NameTable V → Type 0
-  Exist exists table = (digest : ℕ) (value : V) → get nat_eq table.first digest ≡ Some value → exists value
+  Exist exists table =
+      (digest : ℕ) (value : V) → get nat_eq table.first digest ≡ Some value → exists value
 
   -- the name of the value is mapped to the value; all other names are as before
   abbrev pub PutsName : (V → List ℕ) → V → NameTable V → NameTable V → Type 0

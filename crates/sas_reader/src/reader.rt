@@ -382,7 +382,8 @@ impl<M: Machine> Reader<M> {
         ensures none { IfNone result (M.ended self.now.machine × (self.now.fault ≡ None)) }
         ensures kept { (f : Fault) → self.now.fault ≡ Some f → result ≡ Some f }
         ensures early { self.now.fault ≡ None → IfSome result
-            (λ f. (M.ended self.now.machine → ⊥) × (f.line ≡ self.now.lines + 1) × (f.kind ≡ Kind.End)) }
+            (λ f. (M.ended self.now.machine → ⊥) × (f.line ≡ self.now.lines + 1)
+            × (f.kind ≡ Kind.End)) }
     {
         if let Some(fault) = self.fault {
             return Some(fault);

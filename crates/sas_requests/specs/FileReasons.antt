@@ -26,7 +26,8 @@ module _ {V I S : Type 0} (F : Format V I S)
   -- the reasons why the bytes are refused for their fault, by what it is about; a file that is
   -- too long is refused without a line
   pub data FaultReasons (bytes : List ℕ) (fault : Fault) (reasons : List FileLine) : Type 0 where
-    reported : (begun : List (List ℕ)) → (found : List ℕ) → IsAbout F most_bytes bytes fault begun found
+    reported : (begun : List (List ℕ)) → (found : List ℕ)
+        → IsAbout F most_bytes bytes fault begun found
         → Explains fault.kind begun found reasons → FaultReasons bytes fault reasons
     past_limit : fault.kind ≡ TooLong → reasons ≡ [] → FaultReasons bytes fault reasons
 

@@ -14,8 +14,8 @@ use Rattle.sas_run.specs.declared.stepper.Stepper.{Stepper}
 use Rattle.sas_run.specs.Deletions.{DeletedHasRoom}
 use Rattle.sas_run.specs.Given.{NothingGiven}
 
--- The evaluator is ready, and no value is given. If deleted facts are noted, each operator's effects
--- may all delete a fact without allocation. If not, no variable is derived.
+-- The evaluator is ready, and no value is given. If deleted facts are noted, each operator's
+-- effects may all delete a fact without allocation. If not, no variable is derived.
 pub record IsPrepared {E : Type 0} (Ready : E → Parts → Type 0) (p : Parts) (w : Stepper E)
     : Type 0 where
   pub ready : Ready w.evaluator p

@@ -52,7 +52,8 @@ pub fn judge_last<T: Grounded>(
     cost: u64,
 ) -> Option<PlanFault>
     requires state { IsState layered.now.variables progress.now.state }
-    requires exist { All (λ (o : ℕ). o < length layered.now.operators) progress.now.operators.items }
+    requires exist { All (λ (o : ℕ). o < length layered.now.operators)
+        progress.now.operators.items }
     ensures { IsFinalVerdict layered.now progress.now.operators.items
         progress.now.state cost result }
 {

@@ -1,9 +1,9 @@
 // Judges the lines of a task file, one after another: whether each line is allowed at its place, and what it adds.
 ghost use Rattle.std.specs.Prelude.{◌≡◌, ◌<◌, ◌≤◌, ◌-◌, ◌^◌, ◌↔◌, length, nat_lt, IsTrue, []};
 ghost use Rattle.sas_task_format.specs.TaskFormat as format;
-ghost use Rattle.sas_task_format.specs.TaskProcess.{a_word, a_name, a_number, any, number_in, fact_in, effect_in, head_in};
+ghost use Rattle.sas_task_format.specs.TaskProcess.{a_word, a_name, a_number, any, number_in, fact_in, effect_in};
 ghost use Rattle.sas_task_line.specs.TaskEvents.{after};
-ghost use Rattle.sas_task_line.specs.TaskRanges.{range_in, fact_in_ranges, effect_in_ranges, head_in_ranges};
+ghost use Rattle.sas_task_line.specs.TaskRanges.{range_in, fact_in_ranges, effect_in_ranges};
 ghost use Rattle.sas_task_judge.specs.TaskJudge.{Due, FactDue, JudgesLine, MovesBy, HasEnded, IsBehindGroups};
 
 mod ahead;

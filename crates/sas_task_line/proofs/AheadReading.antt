@@ -1,5 +1,5 @@
 -- Reading the first line of some bytes up to its LF.
-use Rattle.sas_task_line.proofs.Imports.{subst, ◌≡◌, ℕ, zero, suc, ◌+◌, ◌*◌, ◌-◌, ◌<◌, ◌≤◌, ◌^◌, List, [], ◌∷◌, ◌++◌, length, take, drop, refl, sym, ap, ap₂, ◌∙◌, append_assoc, arith, Option, get_or, true, false, Bool, not, ◌&&◌, ◌==◌, IsTrue, decimal, list_all, list_all-append, decimal_digit, length-take-le, take_rest, get_or-take, take-append-drop, drop-drop, drop_more, LineAhead, NumberAhead, SignedAhead, FactAhead, ChangeAhead, is_plain, IsName, Fact, TaskLine, word, name, number, signed, fact, effect, head, task_line_bytes, TaskLineFits, EffectNumbers, fact_words, effect_words, signed_decimal, joined, IsNumber, TakesFacts, fact_in_ranges, Sayable, plain-line, Change, plain_effect}
+use Rattle.sas_task_line.proofs.Imports.{ten_pos, subst, ◌≡◌, ℕ, zero, suc, ◌+◌, ◌*◌, ◌-◌, ◌<◌, ◌≤◌, ◌^◌, List, [], ◌∷◌, ◌++◌, length, take, drop, refl, sym, ap, ap₂, ◌∙◌, append_assoc, arith, Option, get_or, true, false, Bool, not, ◌&&◌, ◌==◌, IsTrue, decimal, list_all, list_all-append, decimal_digit, length-take-le, take_rest, get_or-take, take-append-drop, drop-drop, drop_more, LineAhead, NumberAhead, SignedAhead, FactAhead, ChangeAhead, is_plain, IsName, Fact, TaskLine, word, name, number, signed, fact, effect, head, task_line_bytes, TaskLineFits, EffectNumbers, fact_words, effect_words, signed_decimal, joined, IsNumber, TakesFacts, fact_in_ranges, Sayable, plain-line, Change, plain_effect}
 use Rattle.sas_flat.specs.Effects as flat
 use Rattle.sas_reader.proofs.PlainBytes.{plain_name}
 use Rattle.sas_task_line.proofs.TaskReading.{one_more_fact}
@@ -31,10 +31,6 @@ pub one_digit_ahead : (bytes : List ℕ) (end : ℕ) → 2 ≤ length bytes → 
 one_digit_ahead bytes end long low high next =
     let d = get_or bytes 0 0 in
     (omega arith, bytes_in_front bytes d end long refl next ∙ ap (λ (x : List ℕ). x ++ end ∷ take (length bytes - 2) (drop 2 bytes)) (sym (digit_is d low high)))
-
-ten_pos : (k : ℕ) → 0 < 10 ^ k
-ten_pos zero = omega arith
-ten_pos (suc k) = let h = ten_pos k in omega (arith, h)
 
 pub tens_grow : (i k : ℕ) → i ≤ k → 10 ^ i ≤ 10 ^ k
 tens_grow zero k l = let h = ten_pos k in omega (arith, h)

@@ -22,7 +22,7 @@ pub use Rattle.sas_core.specs.declared.parts.Variable.{Variable}
 pub use Rattle.sas_lines.proofs.Beginnings.{lines_stand_first}
 pub use Rattle.sas_lines.proofs.EndedLines.{text_of_both}
 pub use Rattle.sas_lines.proofs.Splitting.{Plain}
-pub use Rattle.sas_lines.proofs.Words.{NoSpace, NoSpace-number, NoSpace-signed, words-joined, joined-words}
+pub use Rattle.sas_lines.proofs.Words.{ten_pos, NoSpace, NoSpace-number, NoSpace-signed, words-joined, joined-words}
 pub use Rattle.sas_lines.specs.FirstLines.{LinesStandFirst}
 pub use Rattle.sas_lines.specs.Lines.{text}
 unfoldable pub use Rattle.sas_lines.specs.Parts.{parts}

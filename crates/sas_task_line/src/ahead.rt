@@ -1,7 +1,6 @@
 // Parses the first line of some bytes directly, if it ends with LF and has the expected content. Otherwise these functions return `None`.
 // Then the line is cut out and parsed by the functions of `task_line.rt`, which report its fault.
-ghost use Rattle.std.specs.Prelude.{◌≡◌, ℕ, ◌+◌, ◌-◌, ◌<◌, ◌≤◌, ◌++◌, length, take, drop, slice_index, IfSome, IsTrue};
-ghost use Rattle.std.specs.Fmt.{decimal};
+ghost use Rattle.std.specs.Prelude.{◌≡◌, ◌+◌, ◌-◌, ◌<◌, ◌≤◌, length, take, drop, IfSome, IsTrue};
 ghost use Rattle.sas_core.specs.Names.{IsName};
 ghost use Rattle.sas_task_format.specs.TaskFormat as format;
 ghost use Rattle.sas_task_line.specs.Ahead.{LineAhead, NumberAhead, SignedAhead, FactAhead, ChangeAhead};

@@ -7,7 +7,7 @@ ghost use Rattle.sas_core.specs.declared.parts.Rule.{Rule};
 ghost use Rattle.sas_core.specs.WellRanged.{WellRanged};
 ghost use Rattle.sas_task_line.specs.declared.task_events.Event.TheVariants as event;
 ghost use Rattle.sas_task_line.specs.declared.task_events.Said.{Said};
-ghost use Rattle.sas_task_line.specs.Sections.{VariableAhead, GroupAhead, OperatorAhead, RuleAhead};
+ghost use Rattle.sas_task_line.specs.Sections.{GroupAhead, OperatorAhead, RuleAhead};
 ghost use Rattle.sas_task_line.specs.TaskEvents.{nothing_yet, after};
 ghost use Rattle.sas_task_judge.specs.Sections.{VariableWithRange, behind_variable, behind_group, behind_operator, behind_rule};
 ghost use Rattle.sas_task_reader.specs.TaskOutline.{outline_with};

@@ -15,7 +15,8 @@ use Rattle.sas_trace.specs.Traced.{TraceVerdict}
 
 -- the facts that step k + 1 of a run brings, as the lines of its changes have them
 abbrev pub facts_printed : Parts → Run → ℕ → List Fact
-facts_printed p run k = map (λ var. record { var = var; value = slice_index (state_at run (k + 1)) var })
+facts_printed p run k =
+    map (λ var. record { var = var; value = slice_index (state_at run (k + 1)) var })
     (changed p (state_at run k) (state_at run (k + 1)))
 
 -- the values that a reader of a trace has after the first k steps: those of the initial lines,

@@ -22,7 +22,8 @@ pub fn push_initial_line<W: Write>(
 )
     requires { var < length state.now }
     ensures { Pushes W.contents sink.old sink.new
-        (fact_line (codes "initial") task.now.variables var (slice_index state.now var) ++ 10 ∷ []) }
+        (fact_line (codes "initial") task.now.variables var (slice_index state.now var)
+        ++ 10 ∷ []) }
 {
     let value = state.value(var);
     let rest = [

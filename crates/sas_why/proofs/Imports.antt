@@ -89,7 +89,7 @@ pub use Rattle.sas_run.specs.Verdicts.{ComesTo, IsFaultOf}
 pub use Rattle.sas_run.specs.declared.plan_check.PlanFault.{PlanFault}
 pub use Rattle.sas_run.specs.declared.plan_check.PlanFault.TheVariants.{Conflict}
 pub use Rattle.sas_why.specs.Conflicts.{first_on, AgreesWithFirst, AreFirstEffects}
-pub use Rattle.sas_why.specs.Explained.{IsExplained}
+pub use Rattle.sas_why.specs.Explained.{MakeAnswer, IsExplained}
 pub use Rattle.sas_why.specs.Noting.{HavePlaces, NotedAt, LeftAt, NotesSome, NotesChanges, looked_at, CoverChanges, AreFirstChanges, AddsOther, NotesStep}
 pub use Rattle.sas_why.specs.Origins.{needs_rules, is_reported, AreOrigins, ReportsDerivation, nowhere, place_cmp, place_at, ArePlaces, AreInOrder, AddsDerivation, OriginsMatchState, HasRule, HasRuleBelow, IsReportedOf, AreReportedBelow, SameOrigins, unreported, AddsRules}
 pub use Rattle.sas_why.specs.Report.{lines_of_keepers, is_kept, IsReport, IsBehind, ReportsOnce, IsReportOf, AddsLines}

@@ -52,8 +52,8 @@ pub record NotesChanges (step : ℕ) (s : List ℕ) (old new : Changes) : Type 0
 abbrev pub looked_at : List ℕ → Touched → List ℕ
 looked_at derived touched = if touched.any then derived else touched.vars.items
 
--- these facts and variables exist, and each variable whose value in the state s isn't the one before
--- is one of these, or of one of these facts
+-- these facts and variables exist, and each variable whose value in the state s isn't the one
+-- before is one of these, or of one of these facts
 pub record CoverChanges (before s : List ℕ) (deleted : List Fact) (touched : List ℕ) : Type 0 where
   pub facts : All (λ (f : Fact). f.var < length s) deleted
   pub variables : All (λ (var : ℕ). var < length s) touched
@@ -73,7 +73,8 @@ AddsOther e None (Some other) = (other.step ≡ e.made + 1)
 -- ---- both
 
 -- the next step was made, and noted
-pub record NotesStep (old : Executed) (notes : Notes) (new : Executed) (notes' : Notes) : Type 0 where
+pub record NotesStep (old : Executed) (notes : Notes) (new : Executed) (notes' : Notes)
+    : Type 0 where
   pub operator : ℕ
   pub advances : Advances old operator new
   pub other : AddsOther old notes.other notes'.other

@@ -42,7 +42,8 @@ fn report_values(noted: &Retraced, fact: Fact, lines: &mut Items<Line>) -> Resul
     requires state { fact.var < length noted.now.last }
     requires since { fact.var < length noted.now.since.items }
     ensures { OnOk result (lines.new ≡ lines.old
-        ++ (Line.Requires fact ∷ Line.Actual (record { var = fact.var; value = slice_index noted.now.last fact.var })
+        ++ (Line.Requires fact
+        ∷ Line.Actual (record { var = fact.var; value = slice_index noted.now.last fact.var })
         ∷ since_line (slice_index noted.now.since.items fact.var) ∷ [])) }
 {
     let var = fact.var;

@@ -30,7 +30,8 @@ pub fn conflict<T: Grounded>(
     requires state { IsState task.now.variables state.now }
     requires disagree { Agree state.now (operator_at task.now operator).effects → ⊥ }
     ensures { IfOk result (λ clash.
-        AreLowest (ConflictsWith state.now (operator_at task.now operator)) clash.later clash.earlier) }
+        AreLowest (ConflictsWith state.now (operator_at task.now operator))
+        clash.later clash.earlier) }
 {
     let mut firsts = Items::from_vec(vec![in alloc; None; task.variables() as usize]?);
     for later in 0..task.effects(operator) {

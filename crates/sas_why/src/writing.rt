@@ -1,6 +1,8 @@
 // The answer about a plan with the reasons why it isn't valid, as it goes out.
-ghost use Rattle.std.specs.Prelude.{◌≡◌, false, IfOk};
+ghost use Rattle.std.specs.Prelude.{◌≡◌, ℕ, List, false, IfOk};
+ghost use Rattle.sas_core.specs.declared.parts.Parts.{Parts};
 ghost use Rattle.sas_output.specs.Ending.{EndsCounting, Writes};
+ghost use Rattle.sas_run.specs.Plans.{IsValid};
 ghost use Rattle.sas_why.specs.Explained.{IsExplained, MakeAnswer};
 ghost use Rattle.sas_why.specs.Retracing.{IsRetraced};
 
@@ -53,7 +55,7 @@ fn explain_plan(
     match execution.find_fault() {
         None => {
             drop(execution);
-            Ok((accept_plan(alloc, plan)?, Vec::new(alloc)))
+            explain_valid(alloc, plan)
         }
         Some(fault) => {
             let noted = retrace(alloc, execution, fault)?;
@@ -62,6 +64,14 @@ fn explain_plan(
             explained
         }
     }
+}
+
+/// Returns the verdict on a valid plan, which has no reasons.
+fn explain_valid(alloc: Global, plan: &FlatPlan) -> Result<(Answer, Vec<Line>), AllocError>
+    ensures { IfOk result (λ found. (p : Parts) (operators : List ℕ)
+        → IsValid p plan.now operators → MakeAnswer p plan.now found.0 found.1.items) }
+{
+    Ok((accept_plan(alloc, plan)?, Vec::new(alloc)))
 }
 
 /// Returns the verdict on the plan's fault, and the reasons for it.
