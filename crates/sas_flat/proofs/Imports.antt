@@ -23,7 +23,7 @@ pub use Rattle.sas_core.specs.declared.parts.Fact.{Fact}
 pub use Rattle.sas_core.specs.declared.parts.Operator.{Operator}
 pub use Rattle.sas_core.specs.declared.parts.Variable.{Variable}
 pub use Rattle.sas_flat.specs.ByKey.{by_key, AreCounts, ArePlaced}
-pub use Rattle.sas_flat.specs.Effects.{effect, change_in_list, effects_of, effect_in_list}
+pub use Rattle.sas_flat.specs.Effects.{effect_with, change_in_list, effects_of, effect_in_list}
 pub use Rattle.sas_flat.specs.Growing.{Kept, Hold}
 pub use Rattle.sas_flat.specs.Lists.{start_of, list_at, lists_of, items_after, AreEnds, AreOpen}
 pub use Rattle.sas_flat.specs.Operators.{operator, name_ends, prevail_ends, effect_ends, costs, operators_in, operator_in, end_head, open_operator, OperatorColumnsAlign}

@@ -6,8 +6,8 @@ use Rattle.sas_core.specs.declared.parts.Effect.{Effect}
 use Rattle.sas_flat.specs.Table.{table}
 
 -- the effect with this change and these conditions
-abbrev pub effect : Change → List Fact → Effect
-effect c conditions = record { conditions = conditions; var = c.var; old = c.old; new = c.new }
+abbrev pub effect_with : Change → List Fact → Effect
+effect_with c conditions = record { conditions = conditions; var = c.var; old = c.old; new = c.new }
 
 -- the change at this index; past the last change, one that sets variable 0 to value 0
 abbrev pub change_in_list : List Change → ℕ → Change
@@ -17,7 +17,7 @@ change_in_list changes index = slice_index_or changes index
 abbrev pub effects_of : List Change → List (List Fact) → List Effect
 effects_of changes conditions =
     table (length changes)
-    (λ index. effect (change_in_list changes index) (slice_index_or conditions index []))
+    (λ index. effect_with (change_in_list changes index) (slice_index_or conditions index []))
 
 -- the effect at this index; past the last effect, one that sets variable 0 to value 0
 abbrev pub effect_in_list : List Effect → ℕ → Effect

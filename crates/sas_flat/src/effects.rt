@@ -2,7 +2,7 @@
 ghost use Rattle.std.specs.Prelude.{◌≡◌, ◌<◌, ◌≤◌, [], ◌∷◌, ◌++◌, length, take, slice_range, IfSome, OnOk, OnErr};
 ghost use Rattle.sas_core.specs.Changes as changes;
 ghost use Rattle.sas_core.specs.Changes.{plain_effects};
-ghost use Rattle.sas_flat.specs.Effects.{effect, effects_of, effect_in_list};
+ghost use Rattle.sas_flat.specs.Effects.{effect_with, effects_of, effect_in_list};
 
 use crate::lists::Lists;
 use sas_core::{Change, Fact};
@@ -109,7 +109,7 @@ impl Effects {
     /// Appends an effect. On `Err` (out of memory) the effects are unchanged.
     #[inline(always)]
     pub fn push(&mut self, conditions: &[Fact], change: Change) -> Result<(), AllocError>
-        ensures ok { OnOk result (self.new ≡ self.old ++ effect change conditions.now ∷ []) }
+        ensures ok { OnOk result (self.new ≡ self.old ++ effect_with change conditions.now ∷ []) }
         ensures err { OnErr result (self.new ≡ self.old) }
     {
         self.changes.reserve(1)?;

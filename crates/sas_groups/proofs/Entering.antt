@@ -1,5 +1,5 @@
 -- The entries of groups by the numbers of their facts.
-use Rattle.sas_groups.proofs.Imports.{◌≡◌, ℕ, ◌+◌, ◌-◌, ◌<◌, ◌≤◌, ◌↔◌, List, ◌++◌, length, get_or, refl, sym, ap, subst, ◌∙◌, inl, inr, arith, All, Contains, IsNonDecreasingBy, cases_eq, cases_lt, get_or_append_left, get_or-append_right, length-append, Contains-get_or, Contains-append_left, Contains-append_right, Contains-append_cases, Fact, Parts, group_at, FactExists, WellRanged, common_steps, facts_at, AreOwnLists, facts_below, number, entries_of, AreFirstNumbers, AreByFact, HasFact, under, holds_at, Entry, by_key, under_holds, under_ascends, fact_within}
+use Rattle.sas_groups.proofs.Imports.{◌≡◌, ℕ, ◌+◌, ◌-◌, ◌<◌, ◌≤◌, ◌↔◌, List, ◌++◌, length, get_or, refl, sym, ap, subst, ◌∙◌, inl, inr, arith, All, Contains, IsNonDecreasingBy, cases_eq, cases_lt, get_or_append_left, get_or-append_right, length-append, Contains-get_or, Contains-append_left, Contains-append_right, Contains-append_cases, Fact, Parts, group_at, FactExists, WellRanged, common_steps, facts_at, AreOwnLists, facts_below, fact_number, entries_of, AreFirstNumbers, AreByFact, HasFact, under, holds_at, Entry, by_key, under_holds, under_ascends, fact_within}
 use Rattle.sas_groups.proofs.InLists.{in_map, from_map}
 use Rattle.sas_groups.proofs.Numbering.{number_low, one_number}
 
@@ -45,12 +45,12 @@ ascends_append k entries more up low high i j d le lt = elim (cases_lt j (length
 
 -- the entry of a place for a fact
 abbrev entry_of : List ℕ → ℕ → Fact → Entry ℕ
-entry_of firsts place fact = record { key = number firsts fact; item = place }
+entry_of firsts place fact = record { key = fact_number firsts fact; item = place }
 
 -- the entries of the first `k` places; each has these facts
 pub record EnteredUpTo (firsts : List ℕ) (facts_of : ℕ → List Fact) (k : ℕ) (entries : List (Entry ℕ)) : Type 0 where
-  pub only : (e : Entry ℕ) → Contains entries e → (e.item < k) × ((f : Fact) × Contains (facts_of e.item) f × (number firsts f ≡ e.key))
-  pub each : (place : ℕ) (f : Fact) → place < k → Contains (facts_of place) f → Contains entries (record { key = number firsts f; item = place })
+  pub only : (e : Entry ℕ) → Contains entries e → (e.item < k) × ((f : Fact) × Contains (facts_of e.item) f × (fact_number firsts f ≡ e.key))
+  pub each : (place : ℕ) (f : Fact) → place < k → Contains (facts_of place) f → Contains entries (record { key = fact_number firsts f; item = place })
   pub ascending : IsNonDecreasingBy (λ (e : Entry ℕ). e.item) entries
 
 pub entered_more : (firsts : List ℕ) (facts_of : ℕ → List Fact) (k : ℕ) (entries : List (Entry ℕ)) → EnteredUpTo firsts facts_of k entries
@@ -102,8 +102,8 @@ entered_by_fact p firsts facts_of n entries are exist has up = record {
 }
   where
     holds : (fact : Fact) (place : ℕ)
-        → Contains (under (by_key entries (facts_below p (length p.variables))) (number firsts fact)) place ↔ Contains entries (entry_of firsts place fact)
-    holds fact place = under_holds entries (facts_below p (length p.variables)) (number firsts fact) place (entered_low p firsts facts_of n entries are exist up)
+        → Contains (under (by_key entries (facts_below p (length p.variables))) (fact_number firsts fact)) place ↔ Contains entries (entry_of firsts place fact)
+    holds fact place = under_holds entries (facts_below p (length p.variables)) (fact_number firsts fact) place (entered_low p firsts facts_of n entries are exist up)
 
 -- the facts of the groups
 pub group_facts_exist : (p : Parts) (own : List (List Fact)) → WellRanged p → AreOwnLists p own → AllExist p (facts_at p own) (length p.groups)

@@ -1,5 +1,5 @@
 -- Different facts have different numbers.
-use Rattle.sas_groups.proofs.Imports.{◌≡◌, ℕ, zero, suc, ◌+◌, ◌*◌, ◌^◌, ◌<◌, ◌≤◌, List, [], ◌∷◌, length, ap, subst, inl, inr, arith, AllByRecursion, cases_lt, Fact, Parts, Variable, FactExists, range_of, WellRanged, VariableFits, fact_within, common_steps, facts_below, number, AreFirstNumbers, fact_same}
+use Rattle.sas_groups.proofs.Imports.{◌≡◌, ℕ, zero, suc, ◌+◌, ◌*◌, ◌^◌, ◌<◌, ◌≤◌, List, [], ◌∷◌, length, ap, subst, inl, inr, arith, AllByRecursion, cases_lt, Fact, Parts, Variable, FactExists, range_of, WellRanged, VariableFits, fact_within, common_steps, facts_below, fact_number, AreFirstNumbers, fact_same}
 
 -- a variable has fewer than 2^31 values
 range_low : (variables : List Variable) (var : ℕ) → AllByRecursion VariableFits variables → range_of variables var < 2 ^ 31
@@ -31,12 +31,12 @@ below_up p low (suc var) lt = elim (cases_lt low var) [
 ]
 
 -- the number of a fact of the task
-number_is : (p : Parts) (firsts : List ℕ) (fact : Fact) → AreFirstNumbers p firsts → FactExists p.variables fact → number firsts fact ≡ facts_below p fact.var + fact.value
+number_is : (p : Parts) (firsts : List ℕ) (fact : Fact) → AreFirstNumbers p firsts → FactExists p.variables fact → fact_number firsts fact ≡ facts_below p fact.var + fact.value
 number_is p firsts fact are exists = ap (λ first. first + fact.value) (are.are fact.var (fact_within p fact.var fact.value exists))
 
 -- it is below how many there are
 pub number_low : (p : Parts) (firsts : List ℕ) (fact : Fact) → AreFirstNumbers p firsts → FactExists p.variables fact
-    → number firsts fact < facts_below p (length p.variables)
+    → fact_number firsts fact < facts_below p (length p.variables)
 number_low p firsts fact are exists =
     let is = number_is p firsts fact are exists in
     let within = fact_within p fact.var fact.value exists in
@@ -45,7 +45,7 @@ number_low p firsts fact are exists =
 
 -- facts of the task with one number are one
 pub one_number : (p : Parts) (firsts : List ℕ) (f g : Fact) → AreFirstNumbers p firsts → FactExists p.variables f → FactExists p.variables g
-    → number firsts f ≡ number firsts g → f ≡ g
+    → fact_number firsts f ≡ fact_number firsts g → f ≡ g
 one_number p firsts f g are here there same =
     let its = number_is p firsts f are here in
     let other = number_is p firsts g are there in

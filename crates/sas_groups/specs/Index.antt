@@ -24,8 +24,8 @@ pub record AreFirstNumbers (p : Parts) (firsts : List ℕ) : Type 0 where
 
 -- the number of the fact, given the number of each variable's first fact; if the variable doesn't
 -- exist, that number is taken as 0
-abbrev pub number : List ℕ → Fact → ℕ
-number firsts fact = slice_index_or firsts fact.var 0 + fact.value
+abbrev pub fact_number : List ℕ → Fact → ℕ
+fact_number firsts fact = slice_index_or firsts fact.var 0 + fact.value
 
 -- the group with this index exists and contains the fact
 pub record HasFact (p : Parts) (place : ℕ) (fact : Fact) : Type 0 where
@@ -42,13 +42,13 @@ AreLow firsts = All (λ (first : ℕ). first ≤ 2 ^ 62) firsts
 
 -- the groups of a fact in the index
 abbrev pub groups_of : Index → Fact → List ℕ
-groups_of index fact = under index.groups (number index.firsts.items fact)
+groups_of index fact = under index.groups (fact_number index.firsts.items fact)
 
 -- the list of each fact of the task contains the groups that contain the fact; every list is
 -- ascending
 pub record AreByFact (p : Parts) (firsts : List ℕ) (groups : List (List ℕ)) : Type 0 where
   pub are : (fact : Fact) → FactExists p.variables fact
-      → (place : ℕ) → Contains (under groups (number firsts fact)) place ↔ HasFact p place fact
+      → (place : ℕ) → Contains (under groups (fact_number firsts fact)) place ↔ HasFact p place fact
   pub ascending : (key : ℕ) → IsNonDecreasing (under groups key)
 
 -- the index of a task: the groups of each fact, the facts of each group without duplicates, the
@@ -66,4 +66,4 @@ pub record IsIndexOf (p : Parts) (index : Index) : Type 0 where
 -- one entry of the item for each fact; the key is the number of the fact
 abbrev pub entries_of : List ℕ → ℕ → List Fact → List (Entry ℕ)
 entries_of firsts item facts =
-    map (λ (fact : Fact). record { key = number firsts fact; item = item }) facts
+    map (λ (fact : Fact). record { key = fact_number firsts fact; item = item }) facts

@@ -4,7 +4,7 @@ ghost use Rattle.std.specs.List.Sorted.{IsNonDecreasing};
 ghost use Rattle.sas_groups.specs.Index as spec;
 ghost use Rattle.sas_groups.specs.ByVariable.{AreOn};
 ghost use Rattle.sas_groups.specs.Distinct.{facts_at};
-ghost use Rattle.sas_groups.specs.Index.{under, number, IsIndexOf, AreLow, AreFirstNumbers, facts_below};
+ghost use Rattle.sas_groups.specs.Index.{under, fact_number, IsIndexOf, AreLow, AreFirstNumbers, facts_below};
 
 use crate::by_fact::groups_by_fact;
 use crate::by_variable::{FEW_EFFECTS, effects_by_variable, place_of};
@@ -126,7 +126,7 @@ impl Index {
     #[inline(always)]
     fn number_of(&self, fact: Fact) -> usize
         requires { AreLow self.now.firsts.items }
-        ensures { result ≡ number self.now.firsts.items fact }
+        ensures { result ≡ fact_number self.now.firsts.items fact }
     {
         let first = match self.firsts.as_slice().get(fact.var as usize) {
             Some(first) => *first,

@@ -66,7 +66,7 @@ pub use Rattle.sas_task_format.specs.TaskFormat.{task_texts, task_format, TaskSl
 pub use Rattle.sas_task_format.specs.declared.marks.Due.{Due}
 pub use Rattle.sas_task_format.specs.declared.marks.FixedWord.{FixedWord}
 pub use Rattle.sas_task_format.specs.declared.marks.Location.{Location}
-pub use Rattle.sas_outputs.specs.FileLine.{FileLine, ended, At, Expected, ExpectedInPlan, NumberMustBe, Found, location_words, due_words, plan_due_words, least_words, empty_words, found_word, hex_digit_of, in_digits, shown_byte, shown_whole, shown}
+pub use Rattle.sas_outputs.specs.FileLine.{FileLine, ended_line, At, Expected, ExpectedInPlan, NumberMustBe, Found, location_words, due_words, plan_due_words, least_words, empty_words, found_word, hex_digit_of, in_digits, shown_byte, shown_whole, shown}
 pub use Rattle.sas_outputs.specs.FileReasons.{file_text}
 pub use Rattle.sas_outputs.specs.Headline.{Solves, Headline}
 pub use Rattle.sas_outputs.specs.Laws.{FileLinesAreReasons}

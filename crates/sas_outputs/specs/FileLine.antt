@@ -113,5 +113,5 @@ file_line_bytes (Found kind (b ∷ bytes) more) =
     line 2 (found_word kind ∷ shown (b ∷ bytes) more ∷ [])
 
 -- the bytes of a line, with its end
-abbrev pub ended : FileLine → List ℕ
-ended l = file_line_bytes l ++ 10 ∷ []
+abbrev pub ended_line : FileLine → List ℕ
+ended_line l = file_line_bytes l ++ 10 ∷ []

@@ -1,7 +1,7 @@
 // Lines with the location of a line, and with what is expected there.
 ghost use Rattle.std.specs.Prelude.{◌≡◌, ◌++◌, decimal, codes, OnOk};
 ghost use Rattle.sas_outputs.specs.FileLine as line;
-ghost use Rattle.sas_outputs.specs.FileLine.{due_words, ended, location_words, plan_due_words};
+ghost use Rattle.sas_outputs.specs.FileLine.{due_words, ended_line, location_words, plan_due_words};
 
 use sas_lines::{push_line, push_number};
 use sas_reader::Kind;
@@ -10,7 +10,7 @@ use std::alloc::AllocError;
 
 /// Appends the line with a location.
 pub(crate) fn push_location(out: &mut Vec<u8>, at: Location) -> Result<(), AllocError>
-    ensures { OnOk result (out.new.items ≡ out.old.items ++ ended (line.At at)) }
+    ensures { OnOk result (out.new.items ≡ out.old.items ++ ended_line (line.At at)) }
 {
     out.extend_from_slice(b"  at ")?;
     push_location_words(out, at)?;
@@ -49,7 +49,7 @@ fn push_counted(out: &mut Vec<u8>, bytes: &[u8], n: u32) -> Result<(), AllocErro
 
 /// Appends the line with what is expected in a task.
 pub(crate) fn push_due(out: &mut Vec<u8>, due: Due) -> Result<(), AllocError>
-    ensures { OnOk result (out.new.items ≡ out.old.items ++ ended (line.Expected due)) }
+    ensures { OnOk result (out.new.items ≡ out.old.items ++ ended_line (line.Expected due)) }
 {
     out.extend_from_slice(b"  expected ")?;
     push_due_words(out, due)?;
@@ -86,7 +86,7 @@ fn push_range(out: &mut Vec<u8>, least: u32, most: u32) -> Result<(), AllocError
 
 /// Appends the line with the wrong number, and which numbers are allowed.
 pub(crate) fn push_wrong_word(out: &mut Vec<u8>, wrong: WrongWord) -> Result<(), AllocError>
-    ensures { OnOk result (out.new.items ≡ out.old.items ++ ended (line.NumberMustBe wrong)) }
+    ensures { OnOk result (out.new.items ≡ out.old.items ++ ended_line (line.NumberMustBe wrong)) }
 {
     out.extend_from_slice(b"  number ")?;
     push_number(out, u128::from(wrong.word))?;
@@ -101,7 +101,7 @@ pub(crate) fn push_wrong_word(out: &mut Vec<u8>, wrong: WrongWord) -> Result<(),
 
 /// Appends the line with what is expected in a plan at a fault of this kind.
 pub(crate) fn push_plan_due(out: &mut Vec<u8>, kind: Kind) -> Result<(), AllocError>
-    ensures { OnOk result (out.new.items ≡ out.old.items ++ ended (line.ExpectedInPlan kind)) }
+    ensures { OnOk result (out.new.items ≡ out.old.items ++ ended_line (line.ExpectedInPlan kind)) }
 {
     out.extend_from_slice(b"  expected ")?;
     push_line(out, plan_due(kind))

@@ -2,7 +2,7 @@
 ghost use Rattle.std.specs.Prelude.{◌≡◌, ◌<◌, ◌++◌, codes, flat_map, OnOk};
 ghost use Rattle.sas_reader.specs.Found.{kept_bytes};
 ghost use Rattle.sas_outputs.specs.FileLine as line;
-ghost use Rattle.sas_outputs.specs.FileLine.{empty_words, ended, found_word, hex_digit_of, is_shown, shown, shown_byte, shown_whole};
+ghost use Rattle.sas_outputs.specs.FileLine.{empty_words, ended_line, found_word, hex_digit_of, is_shown, shown, shown_byte, shown_whole};
 
 use sas_lines::push_line;
 use sas_reader::{Found, Kind};
@@ -11,7 +11,7 @@ use std::alloc::AllocError;
 /// Appends the line with the text at a fault of this kind.
 pub(crate) fn push_found(out: &mut Vec<u8>, kind: Kind, found: &Found) -> Result<(), AllocError>
     ensures { OnOk result (out.new.items ≡ out.old.items
-        ++ ended (line.Found kind (kept_bytes found.now) found.now.more)) }
+        ++ ended_line (line.Found kind (kept_bytes found.now) found.now.more)) }
 {
     if found.bytes().is_empty() {
         return push_line(out, empty_line(kind));

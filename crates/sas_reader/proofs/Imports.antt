@@ -31,7 +31,7 @@ pub use Rattle.sas_lines.specs.Progress.{Progress, completed}
 pub use Rattle.sas_reader.specs.About.{IsAbout, of_line, of_byte, of_end, ConcernsText, AboutLaws}
 pub use Rattle.sas_reader.specs.Devices.{Refuses, unread_at, ended_at, faulty_at, ReadsAll}
 pub use Rattle.sas_reader.specs.Faults.{IsOfBytes, answer}
-pub use Rattle.sas_reader.specs.Format.{Format, KindAt, too_long, trailing, wrong, FaultOf, EndOf, Live, MoreIsDue, ReadsAs, IsBegun, Next}
+pub use Rattle.sas_reader.specs.Format.{Format, KindAt, too_long, trailing, wrong, FaultOf, EndOf, Live, MoreIsDue, ReadsAs, IsBegun, MayFollow}
 pub use Rattle.sas_reader.specs.Found.{IsFoundOf, behind_ends, kept_bytes}
 pub use Rattle.sas_reader.specs.Laws.{Laws, FaultlessIsLive, SomeReading, TextsAreEndedLines, TextIsRead, OneValue, OneSlot, NoSlotAtEnd, FaultIsDead, OneFault, TextIsLive, FaultIsNoText, OneReading}
 pub use Rattle.sas_reader.specs.Limit.{most_bytes}

@@ -1,5 +1,5 @@
 -- What a path through the states implies for the bytes, for any format with a grammar.
-use Rattle.sas_reader.proofs.Imports.{◌≡◌, ℕ, ◌+◌, ◌≤◌, ◌≢◌, Bool, List, [], ◌∷◌, ◌++◌, length, map, refl, sym, ap, subst, ◌∙◌, append_assoc, arith, inl, inr, length-append, append-nil, eqb_tells, without_return, lines, unfinished, lines-none, unfinished-none, lines-plain, unfinished-plain, lines-end, unfinished-end, Fault, Kind, End, Trailing, TooLong, lines_of, Reads, Format, IsBegun, Live, Next, too_long, trailing, wrong, FaultOf, EndOf, Node, ended, before, OneLine, After, LeadsToEnd, IsRejected, Rejects, Leads, Grammar}
+use Rattle.sas_reader.proofs.Imports.{◌≡◌, ℕ, ◌+◌, ◌≤◌, ◌≢◌, Bool, List, [], ◌∷◌, ◌++◌, length, map, refl, sym, ap, subst, ◌∙◌, append_assoc, arith, inl, inr, length-append, append-nil, eqb_tells, without_return, lines, unfinished, lines-none, unfinished-none, lines-plain, unfinished-plain, lines-end, unfinished-end, Fault, Kind, End, Trailing, TooLong, lines_of, Reads, Format, IsBegun, Live, MayFollow, too_long, trailing, wrong, FaultOf, EndOf, Node, ended, before, OneLine, After, LeadsToEnd, IsRejected, Rejects, Leads, Grammar}
 use Rattle.sas_reader.proofs.Paths.{Path, cut_at, map-append, ended_stops, after_append, after_ends, ends_split, ends_after, same_path}
 
 -- one more byte
@@ -110,7 +110,7 @@ module _ {T V I S : Type 0} (F : Format V I S) (Fits : I → Type 0) (node : T �
   begins p s ok next v [] e a = absurd cc
   begins p s ok next v (i ∷ is) e a = (i, is, refl, ((subst (λ n. OneLine F Fits n i (λ r. LeadsToEnd F Fits node r is v)) e a).0).slot)
 
-  pub next_slot : (p : T) (s : S) (ok : I → Bool) (next : I → T) (ls : List (List ℕ)) → node p ≡ before s ok next → Leads F Fits node start ls p → Next F ls s
+  pub next_slot : (p : T) (s : S) (ok : I → Bool) (next : I → T) (ls : List (List ℕ)) → node p ≡ before s ok next → Leads F Fits node start ls p → MayFollow F ls s
   next_slot p s ok next ls e h =
       let c = g.fillable h.items p h.after in
       let w = g.sound (h.items ++ c.0) c.1 (after_ends F Fits node start p c.1 h.items c.0 h.after c.2) in

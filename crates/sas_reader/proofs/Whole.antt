@@ -1,6 +1,6 @@
 -- The laws of any format with a grammar.
 use Rattle.std.proofs.lemmas.Grind.{common_steps}
-use Rattle.sas_reader.proofs.Imports.{◌≡◌, ◌≢◌, ℕ, ◌+◌, ◌≤◌, List, [], ◌∷◌, ◌++◌, length, map, refl, sym, ap, subst, ◌∙◌, append_assoc, arith, ◌⊎◌, inl, inr, length-append, Ok, Err, append-nil, append_cancel_left, eqb_tells, lines, unfinished, lines-plain, unfinished-plain, lines-end, Fault, Kind, TooLong, lines_of, Reads, Format, Live, Next, KindAt, too_long, trailing, wrong, FaultOf, EndOf, Node, ended, After, LeadsToEnd, Grammar, OneValue, OneSlot, NoSlotAtEnd, FaultIsDead, OneFault, TextIsLive, FaultIsNoText, OneReading}
+use Rattle.sas_reader.proofs.Imports.{◌≡◌, ◌≢◌, ℕ, ◌+◌, ◌≤◌, List, [], ◌∷◌, ◌++◌, length, map, refl, sym, ap, subst, ◌∙◌, append_assoc, arith, ◌⊎◌, inl, inr, length-append, Ok, Err, append-nil, append_cancel_left, eqb_tells, lines, unfinished, lines-plain, unfinished-plain, lines-end, Fault, Kind, TooLong, lines_of, Reads, Format, Live, MayFollow, KindAt, too_long, trailing, wrong, FaultOf, EndOf, Node, ended, After, LeadsToEnd, Grammar, OneValue, OneSlot, NoSlotAtEnd, FaultIsDead, OneFault, TextIsLive, FaultIsNoText, OneReading}
 use Rattle.sas_reader.proofs.Paths.{cut_at, ended_stops, same_path, ends_split, ends_after, slot_at, takes_at, one_ended}
 
 -- ---- how bytes can be extended: with more lines, or with a longer rest
@@ -131,7 +131,7 @@ module _ {T V I S : Type 0} (F : Format V I S) (Fits : I → Type 0) (node : T �
     more : List I
     goes : LeadsToEnd F Fits node state (i ∷ more) value
 
-  stop_of : (ls : List (List ℕ)) (s : S) (n : Next F ls s) → Stop ls n.item
+  stop_of : (ls : List (List ℕ)) (s : S) (n : MayFollow F ls s) → Stop ls n.item
   stop_of ls s n =
       let t = ends_split F Fits node start n.value n.before (n.item ∷ n.more) (subst (λ x. LeadsToEnd F Fits node start x n.value) n.layout (g.complete n.value n.good)) in
       record { state = t.0; before = n.before; after = t.1; spells = n.spells; slot = λ z. takes_at F Fits (node t.0) n.item (λ r. LeadsToEnd F Fits node r n.more n.value) z t.2; value = n.value; more = n.more; goes = t.2 }

@@ -5,7 +5,7 @@ use Rattle.sas_reader.specs.declared.fault.Fault.{Fault}
 use Rattle.sas_reader.specs.declared.fault.Kind.{Kind}
 use Rattle.sas_reader.specs.declared.fault.Kind.TheVariants as kinds
 use Rattle.sas_reader.specs.Texts.{Reads}
-use Rattle.sas_reader.specs.Format.{Format, Next, FaultOf, EndOf}
+use Rattle.sas_reader.specs.Format.{Format, MayFollow, FaultOf, EndOf}
 
 -- a fault of this kind is about a text; one of kind `Read`, `TooLong` or `Memory` is not
 abbrev pub ConcernsText : Kind → Type 0
@@ -18,7 +18,7 @@ module _ {V I S : Type 0} (F : Format V I S) where
     -- a complete line that may not follow the accepted lines
     of_line : (h : FaultOf F limit bytes f) → accepted ≡ lines h.before
         → lines (h.before ++ h.byte ∷ []) ≡ accepted ++ text ∷ []
-        → (s : S) → Next F accepted s → F.KindOf s text f.kind
+        → (s : S) → MayFollow F accepted s → F.KindOf s text f.kind
         → IsAbout limit bytes f accepted text
     -- the byte after a whole text
     of_byte : (h : FaultOf F limit bytes f) → accepted ≡ lines h.before → text ≡ h.byte ∷ []

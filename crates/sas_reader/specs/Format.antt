@@ -32,7 +32,7 @@ module _ {V I S : Type 0} (F : Format V I S) where
         → unfinished bytes ≡ []
 
   -- after these lines some value has a line that belongs to the slot
-  pub record Next (begun : List (List ℕ)) (s : S) : Type 0 where
+  pub record MayFollow (begun : List (List ℕ)) (s : S) : Type 0 where
     pub value : V
     pub before : List I
     pub item : I
@@ -50,7 +50,7 @@ module _ {V I S : Type 0} (F : Format V I S) where
         → KindAt limit bytes byte kind
     wrong : length bytes + 1 ≤ limit → (line : List ℕ)
         → lines (bytes ++ byte ∷ []) ≡ lines bytes ++ line ∷ []
-        → (s : S) → Next (lines bytes) s → F.KindOf s line kind → KindAt limit bytes byte kind
+        → (s : S) → MayFollow (lines bytes) s → F.KindOf s line kind → KindAt limit bytes byte kind
 
   -- the fault of bytes that aren't live: they are live before some byte but not with it, and the
   -- fault is on the line after those that were complete before this byte

@@ -4,7 +4,7 @@ use Rattle.sas_lines.specs.Lines.{text, EndedLines}
 use Rattle.sas_reader.specs.declared.fault.Fault.{Fault}
 use Rattle.sas_reader.specs.declared.fault.Kind.TheVariants.{TooLong}
 use Rattle.sas_reader.specs.Texts.{lines_of, Reads}
-use Rattle.sas_reader.specs.Format.{Format, Live, Next, FaultOf, ReadsAs}
+use Rattle.sas_reader.specs.Format.{Format, Live, MayFollow, FaultOf, ReadsAs}
 
 module _ {V I S : Type 0} (F : Format V I S) where
   -- no byte list is a text of two values
@@ -22,10 +22,10 @@ module _ {V I S : Type 0} (F : Format V I S) where
 
   -- after the same lines every value has a line of the same slot, or every value ends there
   abbrev pub OneSlot : Type 0
-  OneSlot = (begun : List (List ℕ)) (s t : S) → Next F begun s → Next F begun t → s ≡ t
+  OneSlot = (begun : List (List ℕ)) (s t : S) → MayFollow F begun s → MayFollow F begun t → s ≡ t
 
   abbrev pub NoSlotAtEnd : Type 0
-  NoSlotAtEnd = (begun : List (List ℕ)) (s : S) (v : V) → Next F begun s → F.texts.Good v
+  NoSlotAtEnd = (begun : List (List ℕ)) (s : S) (v : V) → MayFollow F begun s → F.texts.Good v
       → lines_of F.texts v ≡ begun → ⊥
 
   -- a text within the limit is live

@@ -108,7 +108,7 @@ pub use Rattle.sas_task_format.proofs.TaskGrammar.{task_grammar}
 pub use Rattle.sas_task_format.proofs.TaskLaws.{task_laws_hold}
 pub use Rattle.sas_task_format.proofs.TaskSections.{less, is_less, all_map}
 pub use Rattle.sas_task_format.specs.Process.{process_node}
-pub use Rattle.sas_task_format.specs.TaskFormat.{task_format, task_texts, TaskLineFits, TaskLine, word, name, number, signed, fact, task_line_bytes, line_of, between, counted, version_lines, metric_lines, variable_lines, group_lines, state_lines, operator_lines, rule_lines, task_layout}
+pub use Rattle.sas_task_format.specs.TaskFormat.{task_format, task_texts, TaskLineFits, TaskLine, word, name, number, signed, fact, task_line_bytes, single_line, between, counted, version_lines, metric_lines, variable_lines, group_lines, state_lines, operator_lines, rule_lines, task_layout}
 pub use Rattle.sas_task_format.specs.TaskProcess.{task_start}
 pub use Rattle.sas_task_format.specs.TaskReasons.{IsTaskReason}
 pub use Rattle.sas_task_reader.specs.Outline.{OutlineOf}

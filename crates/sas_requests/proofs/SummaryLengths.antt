@@ -1,5 +1,5 @@
 -- How long a summary is. What is read of a task is at most 4 GiB, and so a `usize` holds the length of its summary.
-use Rattle.sas_requests.proofs.Imports.{◌≡◌, ℕ, suc, zero, ◌+◌, ◌*◌, ◌^◌, ◌<◌, ◌≤◌, Bool, true, false, if◌then◌else◌, List, [], ◌∷◌, ◌++◌, length, map, codes, length-append, arith, refl, sym, ap, subst, ◌∙◌, inl, inr, Option, Some, None, ◌⊎◌, decimal, slice_get, is_some, enumerate_from, flat_map, length-decimal-le, flat_map-append, map-append, cases_lt, count_by-le-length, none-some, mul-le-mul_left, Fact, Variable, Parts, WellRanged, text, ValueOf, TaskLine, word, name, number, signed, fact, task_line_bytes, line_of, between, counted, version_lines, metric_lines, variable_lines, group_lines, state_lines, operator_lines, rule_lines, task_layout, task_format, Outline, OutlineOf, outline_of, value_name, unwrap_or, joined, fact_line, derived_count, number_line, number_lines, initial_lines, goal_fact_lines, summary_lines, text_short, goal_text, initial_text, goal_is, initial_is, summary_is}
+use Rattle.sas_requests.proofs.Imports.{◌≡◌, ℕ, suc, zero, ◌+◌, ◌*◌, ◌^◌, ◌<◌, ◌≤◌, Bool, true, false, if◌then◌else◌, List, [], ◌∷◌, ◌++◌, length, map, codes, length-append, arith, refl, sym, ap, subst, ◌∙◌, inl, inr, Option, Some, None, ◌⊎◌, decimal, slice_get, is_some, enumerate_from, flat_map, length-decimal-le, flat_map-append, map-append, cases_lt, count_by-le-length, none-some, mul-le-mul_left, Fact, Variable, Parts, WellRanged, text, ValueOf, TaskLine, word, name, number, signed, fact, task_line_bytes, single_line, between, counted, version_lines, metric_lines, variable_lines, group_lines, state_lines, operator_lines, rule_lines, task_layout, task_format, Outline, OutlineOf, outline_of, value_name, unwrap_or, joined, fact_line, derived_count, number_line, number_lines, initial_lines, goal_fact_lines, summary_lines, text_short, goal_text, initial_text, goal_is, initial_is, summary_is}
 use Rattle.sas_task_format.specs.TaskFormat as file
 
 -- ---- how many bytes lines of a file take
@@ -20,9 +20,9 @@ unfolding size
 size_of_one item = omega (arith, length-append (task_line_bytes item ++ 10 ∷ []) [], length-append (task_line_bytes item) (10 ∷ []))
 
 -- each takes a byte at least
-size_of_each : {A : Type 0} (says : A → TaskLine) (items : List A) → length items ≤ size (flat_map (line_of says) items)
+size_of_each : {A : Type 0} (says : A → TaskLine) (items : List A) → length items ≤ size (flat_map (single_line says) items)
 size_of_each says [] = omega arith
-size_of_each says (a ∷ items) = omega (arith, size_of_both (says a ∷ []) (flat_map (line_of says) items), size_of_one (says a), size_of_each says items)
+size_of_each says (a ∷ items) = omega (arith, size_of_both (says a ∷ []) (flat_map (single_line says) items), size_of_one (says a), size_of_each says items)
 
 -- what stands within takes no more than all
 size_within : (a b c : List TaskLine) → size b ≤ size (a ++ b ++ c)
@@ -36,19 +36,19 @@ size_before a b = omega (arith, size_of_both a b)
 
 -- ---- names
 
-value_short : (values : List (List ℕ)) (value : ℕ) (bytes : List ℕ) → slice_get values value ≡ Some bytes → length bytes ≤ size (flat_map (line_of name) values)
+value_short : (values : List (List ℕ)) (value : ℕ) (bytes : List ℕ) → slice_get values value ≡ Some bytes → length bytes ≤ size (flat_map (single_line name) values)
 value_short [] value bytes is = absurd (none-some bytes is)
 value_short (first ∷ values) zero bytes is =
     let same : first ≡ bytes = cc in
-    omega (arith, size_before (name first ∷ []) (flat_map (line_of name) values), size_of_one (name first), ap (λ (l : List ℕ). length l) same)
+    omega (arith, size_before (name first ∷ []) (flat_map (single_line name) values), size_of_one (name first), ap (λ (l : List ℕ). length l) same)
 value_short (first ∷ values) (suc value) bytes is =
-    omega (arith, size_behind (name first ∷ []) (flat_map (line_of name) values), value_short values value bytes is)
+    omega (arith, size_behind (name first ∷ []) (flat_map (single_line name) values), value_short values value bytes is)
 
-values_short : (v : Variable) → size (flat_map (line_of name) v.values) ≤ size (variable_lines v)
+values_short : (v : Variable) → size (flat_map (single_line name) v.values) ≤ size (variable_lines v)
 values_short v =
-    let names = flat_map (line_of name) v.values in
+    let names = flat_map (single_line name) v.values in
     let count = number (length v.values) ∷ [] in
-    let heads = line_of name v.name ++ line_of signed v.layer in
+    let heads = single_line name v.name ++ single_line signed v.layer in
     omega (arith, size_behind count names, size_behind heads (count ++ names), size_within (word (codes "begin_variable") ∷ []) (heads ++ (count ++ names)) (word (codes "end_variable") ∷ []))
 
 name_short : (variables : List Variable) (var value : ℕ) (bytes : List ℕ) → value_name variables var value ≡ Some bytes → length bytes ≤ size (flat_map variable_lines variables)
@@ -70,19 +70,19 @@ fact_text_short first variables var value n h = said (value_name variables var v
 both_short : (a b : List ℕ) (m n : ℕ) → length a ≤ m → length b ≤ n → length (a ++ b) ≤ m + n
 both_short a b m n first second = omega (arith, length-append a b, first, second)
 
-fact_line_size : (f : Fact) → size (line_of fact f) ≡ length (decimal f.var) + length (decimal f.value) + 2
+fact_line_size : (f : Fact) → size (single_line fact f) ≡ length (decimal f.var) + length (decimal f.value) + 2
 fact_line_size f = omega (arith, size_of_one (fact f), length-append (decimal f.var) (32 ∷ decimal f.value))
 
-goal_short : (variables : List Variable) (n : ℕ) → size (flat_map variable_lines variables) ≤ n → (facts : List Fact) → length (flat_map (goal_text variables) facts) ≤ length facts * (n + 21) + size (flat_map (line_of fact) facts)
+goal_short : (variables : List Variable) (n : ℕ) → size (flat_map variable_lines variables) ≤ n → (facts : List Fact) → length (flat_map (goal_text variables) facts) ≤ length facts * (n + 21) + size (flat_map (single_line fact) facts)
 goal_short variables n h [] = omega arith
 goal_short variables n h (f ∷ facts) =
     let both = both_short (goal_text variables f) (flat_map (goal_text variables) facts) _ _ (fact_text_short (codes "goal") variables f.var f.value n h) (goal_short variables n h facts) in
     omega (arith, both, fact_line_size f, size_of_both)
 
-number_line_size : (n : ℕ) → size (line_of number n) ≡ length (decimal n) + 1
+number_line_size : (n : ℕ) → size (single_line number n) ≡ length (decimal n) + 1
 number_line_size n = size_of_one (number n)
 
-initial_short : (variables : List Variable) (n : ℕ) → size (flat_map variable_lines variables) ≤ n → (from : ℕ) (values : List ℕ) → from + length values < 10 ^ 10 → length (flat_map (initial_text variables) (enumerate_from from values)) ≤ length values * (n + 21) + size (flat_map (line_of number) values)
+initial_short : (variables : List Variable) (n : ℕ) → size (flat_map variable_lines variables) ≤ n → (from : ℕ) (values : List ℕ) → from + length values < 10 ^ 10 → length (flat_map (initial_text variables) (enumerate_from from values)) ≤ length values * (n + 21) + size (flat_map (single_line number) values)
 initial_short variables n h from [] fits = omega arith
 initial_short variables n h from (value ∷ values) fits =
     let both = both_short (initial_text variables (from, value)) (flat_map (initial_text variables) (enumerate_from (from + 1) values)) _ _ (fact_text_short (codes "initial") variables from value n h) (initial_short variables n h (from + 1) values (omega (arith, fits))) in
@@ -119,14 +119,14 @@ size_of_sections : (a b c d e f g h : List TaskLine) → size c + size e + size 
 size_of_sections a b c d e f g h = omega (arith, size_of_both)
 
 counted_size : {A : Type 0} (lines_of : A → List TaskLine) (items : List A) → size (flat_map lines_of items) ≤ size (counted lines_of items)
-counted_size lines_of items = size_behind (line_of number (length items)) (flat_map lines_of items)
+counted_size lines_of items = size_behind (single_line number (length items)) (flat_map lines_of items)
 
 between_size : (first : List ℕ) (inner : List TaskLine) (last : List ℕ) → size inner ≤ size (between first inner last)
 between_size first inner last = size_within (word first ∷ []) inner (word last ∷ [])
 
-goal_size : (facts : List Fact) → size (flat_map (line_of fact) facts) ≤ size (file.goal_lines facts)
+goal_size : (facts : List Fact) → size (flat_map (single_line fact) facts) ≤ size (file.goal_lines facts)
 goal_size facts =
-    omega (arith, counted_size (line_of fact) facts, between_size (codes "begin_goal") (counted (line_of fact) facts) (codes "end_goal"))
+    omega (arith, counted_size (single_line fact) facts, between_size (codes "begin_goal") (counted (single_line fact) facts) (codes "end_goal"))
 
 -- a text that was read takes as many bytes as were read, at most
 size_of_read : (bytes : List ℕ) (p : Parts) → ValueOf task_format bytes p → size (task_layout p) ≤ 2 ^ 32
@@ -158,8 +158,8 @@ product_fits n v g numbers rest whole few small short h = either (cases_lt n (2 
 pub summary_fits : (bytes : List ℕ) (o : Outline) → OutlineOf bytes o → length (text (summary_lines o)) < 2 ^ 64
 summary_fits bytes o (p, value, is) =
     let variables = flat_map variable_lines p.variables in
-    let values = flat_map (line_of number) p.init in
-    let facts = flat_map (line_of fact) p.goal in
+    let values = flat_map (single_line number) p.init in
+    let facts = flat_map (single_line fact) p.goal in
     let n = size variables in
     let sections = size_of_sections version_lines (metric_lines p.metric) (counted variable_lines p.variables) (counted group_lines p.groups) (state_lines p.init) (file.goal_lines p.goal) (counted operator_lines p.operators) (counted rule_lines p.rules) in
     let of_variables = counted_size variable_lines p.variables in

@@ -1,5 +1,5 @@
 -- What is expected after the first lines of a task, by a tracker over them.
-use Rattle.sas_task_format.proofs.Imports.{◌≡◌, ℕ, zero, suc, List, [], ◌∷◌, ◌++◌, length, map, refl, sym, ap, subst, ◌∙◌, slice_get, Some, None, append-nil, map-append, length-map, Parts, WellRanged, cut_at, Place, Due, Mark, TaskLine, task_slot, task_line_bytes, task_layout, any_number, slot_of_due, task_marks, IsDue, Tracker, tracker_start, by_count, step, track, mark, mark_at, mark_in, next_number}
+use Rattle.sas_task_format.proofs.Imports.{◌≡◌, ℕ, zero, suc, List, [], ◌∷◌, ◌++◌, length, map, refl, sym, ap, subst, ◌∙◌, slice_get, Some, None, append-nil, map-append, length-map, Parts, WellRanged, cut_at, Place, Due, Mark, TaskLine, task_slot, task_line_bytes, task_layout, any_number, slot_of_due, task_marks, IsDue, Tracker, tracker_start, by_count, track_line, track, mark, mark_at, mark_in, next_number}
 use Rattle.sas_task_format.specs.declared.places.Place.TheVariants as place
 use Rattle.sas_task_format.specs.declared.marks.Due.TheVariants as due
 use Rattle.sas_task_format.specs.declared.marks.FixedWord.TheVariants as fixed
@@ -12,15 +12,15 @@ use Rattle.sas_task_format.proofs.WrongWords.{HasBounds}
 
 mark_at_line : (t : Tracker) (before : List TaskLine) (i : TaskLine) (more : List TaskLine) → slice_get (track_marks t (before ++ i ∷ more)) (length before) ≡ Some (mark_in (track t before))
 mark_at_line t [] i more = refl
-mark_at_line t (j ∷ before) i more = mark_at_line (step t j) before i more
+mark_at_line t (j ∷ before) i more = mark_at_line (track_line t j) before i more
 
 no_mark_at_end : (t : Tracker) (items : List TaskLine) → slice_get (track_marks t items) (length items) ≡ None
 no_mark_at_end t [] = refl
-no_mark_at_end t (j ∷ items) = no_mark_at_end (step t j) items
+no_mark_at_end t (j ∷ items) = no_mark_at_end (track_line t j) items
 
 along_rest : (ranges : List ℕ) (t : Tracker) (before more : List TaskLine) → Along ranges t (before ++ more) → Along ranges (track t before) more
 along_rest ranges t [] more h = h
-along_rest ranges t (i ∷ before) more h = along_rest ranges (step t i) before more h.2
+along_rest ranges t (i ∷ before) more h = along_rest ranges (track_line t i) before more h.2
 
 along_known : (ranges : List ℕ) (t : Tracker) (items : List TaskLine) → Along ranges t items → Known ranges t
 along_known ranges t [] h = h

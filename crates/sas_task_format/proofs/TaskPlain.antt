@@ -1,5 +1,5 @@
 -- No line of a well ranged task contains LF or CR.
-use Rattle.sas_task_format.proofs.Imports.{ℕ, ◌<◌, Bool, true, false, List, [], ◌∷◌, ◌++◌, length, map, refl, arith, IsTrue, Option, Some, None, codes, flat_map, list_all, AllByRecursion, decimal, Fact, Variable, Effect, Operator, Rule, Parts, is_plain, IsName, IsNumber, IsSigned, FactExists, Listed, VariableFits, EffectFits, OperatorFits, RuleFits, WellRanged, signed_decimal, joined, lines_of, Paired, TaskLine, word, name, number, signed, fact, effect, head, fact_words, head_words, effect_words, task_line_bytes, TaskLineFits, FactNumbers, HeadNumbers, EffectNumbers, line_of, between, counted, version_lines, metric_lines, variable_lines, group_lines, goal_lines, operator_lines, rule_lines, task_layout, task_texts, IsPlain, plain-decimal, plain-name, plain-append}
+use Rattle.sas_task_format.proofs.Imports.{ℕ, ◌<◌, Bool, true, false, List, [], ◌∷◌, ◌++◌, length, map, refl, arith, IsTrue, Option, Some, None, codes, flat_map, list_all, AllByRecursion, decimal, Fact, Variable, Effect, Operator, Rule, Parts, is_plain, IsName, IsNumber, IsSigned, FactExists, Listed, VariableFits, EffectFits, OperatorFits, RuleFits, WellRanged, signed_decimal, joined, lines_of, Paired, TaskLine, word, name, number, signed, fact, effect, head, fact_words, head_words, effect_words, task_line_bytes, TaskLineFits, FactNumbers, HeadNumbers, EffectNumbers, single_line, between, counted, version_lines, metric_lines, variable_lines, group_lines, goal_lines, operator_lines, rule_lines, task_layout, task_texts, IsPlain, plain-decimal, plain-name, plain-append}
 use Rattle.sas_task_format.proofs.TaskSections.{Known, known, Ranged, InRange, state_paired, fact_numbers, effect_numbers, change_numbers}
 
 -- ---- one line
@@ -75,24 +75,24 @@ of_metric : (m : Bool) → AllSayable (metric_lines m)
 of_metric true = record { all = (refl, (omega arith, (refl, tt))) }
 of_metric false = record { all = (refl, (omega arith, (refl, tt))) }
 
-of_names : (xs : List (List ℕ)) → Listed IsName xs → AllSayable (counted (line_of name) xs)
-of_names xs h = of_list (line_of name) (λ b g. one (name b) g) xs h
+of_names : (xs : List (List ℕ)) → Listed IsName xs → AllSayable (counted (single_line name) xs)
+of_names xs h = of_list (single_line name) (λ b g. one (name b) g) xs h
 
 of_variable : (v : Variable) → VariableFits v → AllSayable (variable_lines v)
 of_variable v h = enclosed (codes "begin_variable") (codes "end_variable") refl refl (also (also (one (name v.name) h.name) (one (signed v.layer) h.layer)) (of_names v.values h.values))
 
-of_values : (vs : List Variable) (xs : List ℕ) → AllByRecursion Ranged vs → Paired InRange vs xs → AllSayable (flat_map (line_of number) xs)
+of_values : (vs : List Variable) (xs : List ℕ) → AllByRecursion Ranged vs → Paired InRange vs xs → AllSayable (flat_map (single_line number) xs)
 of_values [] [] r h = record { all = tt }
 of_values [] (x ∷ xs) r h = absurd h
 of_values (v ∷ vs) [] r h = absurd h
 of_values (v ∷ vs) (x ∷ xs) r h = also (one (number x) (let n : IsNumber (length v.values) = r.0.1 in let l : x < length v.values = h.0 in omega arith)) (of_values vs xs r.1 h.1)
 
 module _ (vs : List Variable) (k : Known vs) where
-  of_facts : (fs : List Fact) → Listed (FactExists vs) fs → AllSayable (counted (line_of fact) fs)
-  of_facts fs h = of_list (line_of fact) (λ f g. one (fact f) (fact_numbers vs k f g)) fs h
+  of_facts : (fs : List Fact) → Listed (FactExists vs) fs → AllSayable (counted (single_line fact) fs)
+  of_facts fs h = of_list (single_line fact) (λ f g. one (fact f) (fact_numbers vs k f g)) fs h
 
-  of_effects : (es : List Effect) → Listed (EffectFits vs) es → AllSayable (counted (line_of effect) es)
-  of_effects es h = of_list (line_of effect) (λ e g. one (effect e) (effect_numbers vs k e g)) es h
+  of_effects : (es : List Effect) → Listed (EffectFits vs) es → AllSayable (counted (single_line effect) es)
+  of_effects es h = of_list (single_line effect) (λ e g. one (effect e) (effect_numbers vs k e g)) es h
 
   of_group : (fs : List Fact) → Listed (FactExists vs) fs → AllSayable (group_lines fs)
   of_group fs h = enclosed (codes "begin_mutex_group") (codes "end_mutex_group") refl refl (of_facts fs h)

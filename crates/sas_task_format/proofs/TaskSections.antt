@@ -1,5 +1,5 @@
 -- The sections of task files.
-use Rattle.sas_task_format.proofs.Imports.{◌≡◌, ℕ, zero, suc, ◌<◌, Bool, true, false, List, [], ◌∷◌, ◌++◌, length, refl, sym, ap, subst, ◌∙◌, append_assoc, arith, IsTrue, rules, Some, None, Option, codes, nat_lt, ◌==◌, slice_index, if◌then◌else◌, list_all, AllByRecursion, ltb-true, eqb-true, Fact, Variable, Effect, IsName, IsNumber, IsSigned, range_of, HasValue, has_value, MayHaveValue, done, Paired, a_list, TaskLine, word, name, number, signed, fact, effect, head, word_slot, name_slot, number_slot, signed_slot, fact_slot, effect_slot, head_slot, task_slot, FactNumbers, HeadNumbers, EffectNumbers, line_of, between, counted, version_lines, metric_lines, variable_lines, group_lines, state_lines, goal_lines, operator_lines, rule_lines, task_layout, task_format, TaskLineFits, TaskPart, name_in, number_in, signed_in, fact_in, effect_in, Head, head_in, any, positive, may_change, effect_may_stand, a_word, a_name, a_number, a_signed, a_fact, an_effect, a_head, a_value, a_version, a_metric, a_variable, a_group, a_state, a_goal, an_operator, a_rule, a_task, FactExists, fact_exists, IsState, Listed, VariableFits, EffectFits, OperatorFits, RuleFits, WellRanged, and_from, and_parts}
+use Rattle.sas_task_format.proofs.Imports.{◌≡◌, ℕ, zero, suc, ◌<◌, Bool, true, false, List, [], ◌∷◌, ◌++◌, length, refl, sym, ap, subst, ◌∙◌, append_assoc, arith, IsTrue, rules, Some, None, Option, codes, nat_lt, ◌==◌, slice_index, if◌then◌else◌, list_all, AllByRecursion, ltb-true, eqb-true, Fact, Variable, Effect, IsName, IsNumber, IsSigned, range_of, HasValue, has_value, MayHaveValue, done, Paired, a_list, TaskLine, word, name, number, signed, fact, effect, head, word_slot, name_slot, number_slot, signed_slot, fact_slot, effect_slot, head_slot, task_slot, FactNumbers, HeadNumbers, EffectNumbers, single_line, between, counted, version_lines, metric_lines, variable_lines, group_lines, state_lines, goal_lines, operator_lines, rule_lines, task_layout, task_format, TaskLineFits, TaskPart, name_in, number_in, signed_in, fact_in, effect_in, Head, head_in, any, positive, may_change, effect_may_stand, a_word, a_name, a_number, a_signed, a_fact, an_effect, a_head, a_value, a_version, a_metric, a_variable, a_group, a_state, a_goal, an_operator, a_rule, a_task, FactExists, fact_exists, IsState, Listed, VariableFits, EffectFits, OperatorFits, RuleFits, WellRanged, and_from, and_parts}
 use Rattle.sas_task_format.proofs.Sections.{Always, LineFor, Section, leaf, silent, both, ◌then◌, converted, restated, within, list, for_each, Meets, meets}
 
 -- ---- tests
@@ -81,16 +81,16 @@ head_says = record { slot = λ h. refl; backs = λ h. refl; only = head_is }
 word_section : (w : List ℕ) → Section task_format TaskLineFits (λ _. word w ∷ []) Always (a_word w)
 word_section w = leaf (word_says w) (record { fits = λ u g. tt; passes = λ u g. refl; good = λ u f t. tt; first = tt; first_good = tt })
 
-name_section : Section task_format TaskLineFits (line_of name) IsName a_name
+name_section : Section task_format TaskLineFits (single_line name) IsName a_name
 name_section = leaf name_says (record { fits = λ b g. tt; passes = λ b g. g; good = λ b f t. t; first = codes "x"; first_good = refl })
 
 abbrev NumberFits : (ℕ → Bool) → ℕ → Type 0
 NumberFits ok n = IsNumber n × IsTrue (ok n)
 
-number_section : (ok : ℕ → Bool) (first : ℕ) → NumberFits ok first → Section task_format TaskLineFits (line_of number) (NumberFits ok) (a_number ok)
+number_section : (ok : ℕ → Bool) (first : ℕ) → NumberFits ok first → Section task_format TaskLineFits (single_line number) (NumberFits ok) (a_number ok)
 number_section ok first g = leaf number_says (record { fits = λ n h. h.0; passes = λ n h. h.1; good = λ n f t. (f, t); first = first; first_good = g })
 
-signed_section : Section task_format TaskLineFits (line_of signed) IsSigned a_signed
+signed_section : Section task_format TaskLineFits (single_line signed) IsSigned a_signed
 signed_section = leaf signed_says (record { fits = λ n h. h; passes = λ n h. refl; good = λ n f t. f; first = None; first_good = tt })
 
 three_section : Section task_format TaskLineFits (λ _. number 3 ∷ []) Always (λ k. a_number (λ n. n == 3) (λ _. k tt))
@@ -171,7 +171,7 @@ value_small vs k i x h = let f : IsNumber (range_of vs i) = k.few i in omega ari
 pub fact_numbers : (vs : List Variable) → Known vs → (f : Fact) → FactExists vs f → FactNumbers f
 fact_numbers vs k f g = (k.below f.var f.value g, value_small vs k f.var f.value g)
 
-fact_section : (vs : List Variable) → Known vs → Section task_format TaskLineFits (line_of fact) (FactExists vs) (a_fact vs)
+fact_section : (vs : List Variable) → Known vs → Section task_format TaskLineFits (single_line fact) (FactExists vs) (a_fact vs)
 fact_section vs k = leaf fact_says (record {
   fits = λ f g. fact_numbers vs k f g;
   passes = λ f g. less f.value (range_of vs f.var) g;
@@ -214,7 +214,7 @@ effect_tested vs e n t =
 pub effect_numbers : (vs : List Variable) → Known vs → (e : Effect) → EffectFits vs e → EffectNumbers e
 effect_numbers vs k e g = record { count = g.conditions.count; conditions = all_map (FactExists vs) FactNumbers (fact_numbers vs k) e.conditions g.conditions.each; head = change_numbers vs k e.var e.old e.new (g.old, g.new) }
 
-effect_section : (vs : List Variable) → Known vs → Section task_format TaskLineFits (line_of effect) (EffectFits vs) (an_effect vs)
+effect_section : (vs : List Variable) → Known vs → Section task_format TaskLineFits (single_line effect) (EffectFits vs) (an_effect vs)
 effect_section vs k = leaf effect_says (record {
   fits = λ e g. effect_numbers vs k e g;
   passes = λ e g. effect_test vs e g;
@@ -223,7 +223,7 @@ effect_section vs k = leaf effect_says (record {
   first_good = record { conditions = record { count = omega arith; each = tt }; new = k.first; old = tt };
 })
 
-head_section : (vs : List Variable) → Known vs → Section task_format TaskLineFits (line_of head_line) (λ h. Changes vs h.var h.old h.new) (a_head vs)
+head_section : (vs : List Variable) → Known vs → Section task_format TaskLineFits (single_line head_line) (λ h. Changes vs h.var h.old h.new) (a_head vs)
 head_section vs k = leaf head_says (record {
   fits = λ h g. change_numbers vs k h.var h.old h.new g;
   passes = λ h g. change_test vs h.var h.old h.new g;
@@ -253,7 +253,7 @@ state_paired [] (x ∷ xs) s = absurd (omega (arith, s.one_each))
 state_paired (v ∷ vs) [] s = absurd (omega (arith, s.one_each))
 state_paired (v ∷ vs) (x ∷ xs) s = (s.in_range 0 (omega arith), state_paired vs xs (record { one_each = omega (arith, s.one_each); in_range = λ i l. s.in_range (suc i) (omega arith) }))
 
-value_section : (v : Variable) → Ranged v → Section task_format TaskLineFits (line_of number) (InRange v) (a_value v)
+value_section : (v : Variable) → Ranged v → Section task_format TaskLineFits (single_line number) (InRange v) (a_value v)
 value_section v r = restated (λ x g. is_less x (length v.values) g.1) (λ x g. (omega (arith, r.1), less x (length v.values) g)) (number_section (λ n. nat_lt n (length v.values)) 0 (omega arith, less 0 (length v.values) r.0))
 
 -- ---- the sections
@@ -296,7 +296,7 @@ operator_section vs k = converted (λ p. record { name = p.0; prevail = p.1.0; e
     (enclosed_section (codes "begin_operator") (codes "end_operator") (name_section then list_section (fact_section vs k) then list_section (effect_section vs k) then number_section any 0 (omega arith, refl)))
     (record {
       good = λ p g. record { name = g.0; prevail = g.1.0; effects = g.1.1.0; cost = g.1.1.1.0 };
-      lines = λ p g. ap (λ (x : List TaskLine). between (codes "begin_operator") x (codes "end_operator")) (four (line_of name p.0) (counted (line_of fact) p.1.0) (counted (line_of effect) p.1.1.0) (line_of number p.1.1.1));
+      lines = λ p g. ap (λ (x : List TaskLine). between (codes "begin_operator") x (codes "end_operator")) (four (single_line name p.0) (counted (single_line fact) p.1.0) (counted (single_line effect) p.1.1.0) (single_line number p.1.1.1));
       back = λ o g. ((o.name, (o.prevail, (o.effects, o.cost))), (g.name, (g.prevail, (g.effects, (g.cost, refl)))), refl);
     })
 

@@ -1,7 +1,7 @@
 -- A tracker over the sections of a task: its marks are those of each section, and its counts after
 -- each section are right.
 use Rattle.std.proofs.lemmas.Grind.{common_steps}
-use Rattle.sas_task_format.proofs.Imports.{◌≡◌, ℕ, suc, ◌+◌, ◌-◌, Bool, List, [], ◌∷◌, ◌++◌, length, map, refl, sym, ap, ◌∙◌, append_assoc, arith, codes, flat_map, map-append, Fact, Variable, Operator, Rule, Place, Due, Location, Mark, TaskLine, word, name, number, signed, fact, effect, head, task_slot, line_of, version_lines, metric_lines, variable_lines, group_lines, goal_lines, operator_lines, rule_lines, between_words, counted_dues, there, slot_of_due, any_number, variable_dues, group_dues, operator_dues, rule_dues, numbered, Tracker, tracker_start, step, mark, mark_in, this_number}
+use Rattle.sas_task_format.proofs.Imports.{◌≡◌, ℕ, suc, ◌+◌, ◌-◌, Bool, List, [], ◌∷◌, ◌++◌, length, map, refl, sym, ap, ◌∙◌, append_assoc, arith, codes, flat_map, map-append, Fact, Variable, Operator, Rule, Place, Due, Location, Mark, TaskLine, word, name, number, signed, fact, effect, head, task_slot, single_line, version_lines, metric_lines, variable_lines, group_lines, goal_lines, operator_lines, rule_lines, between_words, counted_dues, there, slot_of_due, any_number, variable_dues, group_dues, operator_dues, rule_dues, numbered, Tracker, tracker_start, track_line, mark, mark_in, this_number}
 use Rattle.std.proofs.Common.{append-nil}
 use Rattle.sas_task_format.specs.declared.places.Place.TheVariants as place
 use Rattle.sas_task_format.specs.declared.marks.Due.TheVariants as due
@@ -48,7 +48,7 @@ module _ (ranges : List ℕ) where
   -- ---- n lines of one kind, which are counted down
 
   module _ {A : Type 0} (says : A → TaskLine) (p : Place) (where_it_stands : Location) (d : Due) (t : Tracker)
-      (moves : (n : ℕ) (i : TaskLine) → step (record t { place = p; more = suc n }) i ≡ record t { place = p; more = suc n - 1 })
+      (moves : (n : ℕ) (i : TaskLine) → track_line (record t { place = p; more = suc n }) i ≡ record t { place = p; more = suc n - 1 })
       (marks : (n : ℕ) → mark_in (record t { place = p; more = suc n }) ≡ mark where_it_stands d)
       (belongs : (a : A) → slot_of_due d ≡ task_slot (says a))
       (known : IsBehindVariables p → t.ranges ≡ ranges) where
@@ -58,7 +58,7 @@ module _ (ranges : List ℕ) where
         marked ranges (one ranges (says a) known (ap (λ (m : Mark). slot_of_due m.due) (marks n) ∙ belongs a) (moves n (says a) ∙ ap (λ (x : ℕ). let r : Tracker = record t { place = p; more = x } in r) less) known)
         (ap (λ (m : Mark). m ∷ []) (marks n))
 
-    pub each_scan : (xs : List A) → Scan ranges (record t { place = p; more = length xs }) (flat_map (line_of says) xs) (there where_it_stands (for_each d xs)) (record t { place = p; more = 0 })
+    pub each_scan : (xs : List A) → Scan ranges (record t { place = p; more = length xs }) (flat_map (single_line says) xs) (there where_it_stands (for_each d xs)) (record t { place = p; more = 0 })
     each_scan [] = record { marks = refl; ends = refl; along = known }
     each_scan (x ∷ xs) = ◌then◌ ranges (one_of_each (length xs) x) (each_scan xs)
 
@@ -122,9 +122,9 @@ module _ (ranges : List ℕ) where
 
   module _ (t : Tracker) (k : t.ranges ≡ ranges) where
     facts_scan : (p : Place) (where_it_stands : Location) (left : ℕ)
-        (moves : (n : ℕ) (i : TaskLine) → step (record t { place = p; left = left; more = suc n }) i ≡ record t { place = p; left = left; more = suc n - 1 })
+        (moves : (n : ℕ) (i : TaskLine) → track_line (record t { place = p; left = left; more = suc n }) i ≡ record t { place = p; left = left; more = suc n - 1 })
         (marks : (n : ℕ) → mark_in (record t { place = p; left = left; more = suc n }) ≡ mark where_it_stands due.Fact)
-        (facts : List Fact) → Scan ranges (record t { place = p; left = left; more = length facts }) (flat_map (line_of fact) facts) (there where_it_stands (for_each due.Fact facts)) (record t { place = p; left = left; more = 0 })
+        (facts : List Fact) → Scan ranges (record t { place = p; left = left; more = length facts }) (flat_map (single_line fact) facts) (there where_it_stands (for_each due.Fact facts)) (record t { place = p; left = left; more = 0 })
     facts_scan p where_it_stands left moves marks facts = each_scan fact p where_it_stands due.Fact (record t { left = left }) moves marks (λ a. refl) (λ h. k) facts
 
     pub goal_scan : (facts : List Fact) → Scan ranges (record t { place = place.GoalBegin; left = 0; more = 0 }) (goal_lines facts) (there at.Goal (between_words fixed.BeginGoal (counted_dues due.Fact facts) fixed.EndGoal)) (record t { place = place.OperatorCount; left = 0; more = 0 })

@@ -1,5 +1,5 @@
 -- A tracker over all lines of a task: its marks are those of the task.
-use Rattle.sas_task_format.proofs.Imports.{◌≡◌, ℕ, ◌+◌, ◌-◌, Bool, true, false, nat_lt, List, [], ◌∷◌, ◌++◌, length, map, refl, sym, ap, ◌∙◌, append_assoc, arith, codes, length-append, slice_index_or, if◌then◌else◌, flat_map, lt-ltb, le-ltb, map-append, get_or-append-add, Variable, Parts, WellRanged, Due, Mark, Paired, TaskLine, word, number, line_of, counted, version_lines, metric_lines, variable_lines, group_lines, state_lines, goal_lines, operator_lines, rule_lines, task_layout, between_words, there, slot_of_due, any_number, positive_number, numbered, variable_dues, group_dues, operator_dues, rule_dues, task_marks, Tracker, tracker_start, step, mark, mark_in}
+use Rattle.sas_task_format.proofs.Imports.{◌≡◌, ℕ, ◌+◌, ◌-◌, Bool, true, false, nat_lt, List, [], ◌∷◌, ◌++◌, length, map, refl, sym, ap, ◌∙◌, append_assoc, arith, codes, length-append, slice_index_or, if◌then◌else◌, flat_map, lt-ltb, le-ltb, map-append, get_or-append-add, Variable, Parts, WellRanged, Due, Mark, Paired, TaskLine, word, number, single_line, counted, version_lines, metric_lines, variable_lines, group_lines, state_lines, goal_lines, operator_lines, rule_lines, task_layout, between_words, there, slot_of_due, any_number, positive_number, numbered, variable_dues, group_dues, operator_dues, rule_dues, task_marks, Tracker, tracker_start, track_line, mark, mark_in}
 use Rattle.std.proofs.Common.{append-nil}
 use Rattle.sas_task_format.specs.declared.places.Place.TheVariants as place
 use Rattle.sas_task_format.specs.declared.marks.Due.TheVariants as due
@@ -35,13 +35,13 @@ module _ (ranges : List ℕ) (t : Tracker) where
       ∙ ap (λ (r : List ℕ). mark at.State (due.Number 0 (slice_index_or r (length done) 0 - 1))) e
       ∙ ap (λ (n : ℕ). mark at.State (due.Number 0 (n - 1))) (read_next done (length v.values) (ranges_in vs)) in
       let next : length done + 1 ≡ length (done ++ length v.values ∷ []) = sym (length-append done (length v.values ∷ [])) in
-      let moves : step (at_value (length done)) (number x) ≡ at_value (length (done ++ length v.values ∷ [])) =
+      let moves : track_line (at_value (length done)) (number x) ≡ at_value (length (done ++ length v.values ∷ [])) =
       ap (λ (b : Bool). if b then at_value (length done + 1) else (record (at_value (length done)) { place = place.GoalBegin })) some
       ∙ ap at_value next in
       marked ranges (one ranges (number x) (λ h. refl) (ap (λ (m : Mark). slot_of_due m.due) due_is) moves (λ h. refl)) (ap (λ (m : Mark). m ∷ []) due_is)
 
   values_scan : (done : List ℕ) (vs : List Variable) (xs : List ℕ) → Paired InRange vs xs → ranges ≡ done ++ ranges_in vs
-      → Scan ranges (at_value (length done)) (flat_map (line_of number) xs) (there at.State (map value_due vs)) (at_value (length ranges))
+      → Scan ranges (at_value (length done)) (flat_map (single_line number) xs) (there at.State (map value_due vs)) (at_value (length ranges))
   values_scan done [] [] p e = record { marks = refl; ends = ap (λ (x : List ℕ). at_value (length x)) (sym (append-nil done) ∙ sym e); along = λ h. refl }
   values_scan done [] (x ∷ xs) p e = absurd p
   values_scan done (v ∷ vs) [] p e = absurd p
@@ -53,7 +53,7 @@ module _ (ranges : List ℕ) (t : Tracker) where
       let none : nat_lt (length ranges) (length ranges) ≡ false = le-ltb (length ranges) (length ranges) (omega arith) in
       let due_is : mark_in (at_value (length ranges)) ≡ mark at.State (due.Word fixed.EndState) =
       ap (λ (b : Bool). mark at.State (if b then due.Number 0 (slice_index_or ranges (length ranges) 0 - 1) else due.Word fixed.EndState)) none in
-      let moves : step (at_value (length ranges)) (word (codes "end_state")) ≡ record (at_value (length ranges)) { place = place.GoalBegin } =
+      let moves : track_line (at_value (length ranges)) (word (codes "end_state")) ≡ record (at_value (length ranges)) { place = place.GoalBegin } =
       ap (λ (b : Bool). if b then at_value (length ranges + 1) else (record (at_value (length ranges)) { place = place.GoalBegin })) none in
       marked ranges (one ranges (word (codes "end_state")) (λ h. refl) (ap (λ (m : Mark). slot_of_due m.due) due_is) moves (λ h. refl)) (ap (λ (m : Mark). m ∷ []) due_is)
 

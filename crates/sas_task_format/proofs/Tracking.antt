@@ -1,12 +1,12 @@
 -- A tracker has what is expected on each line of a task: its marks, line by line, are those of a
 -- section.
-use Rattle.sas_task_format.proofs.Imports.{◌≡◌, ℕ, List, [], ◌∷◌, ◌++◌, refl, sym, ap, subst, ◌∙◌, Place, Mark, TaskLine, task_slot, slot_of_due, Tracker, step, track, mark_in}
+use Rattle.sas_task_format.proofs.Imports.{◌≡◌, ℕ, List, [], ◌∷◌, ◌++◌, refl, sym, ap, subst, ◌∙◌, Place, Mark, TaskLine, task_slot, slot_of_due, Tracker, track_line, track, mark_in}
 use Rattle.sas_task_format.specs.declared.places.Place.TheVariants as place
 
 -- the marks of lines after a tracker
 abbrev pub track_marks : Tracker → List TaskLine → List Mark
 track_marks t [] = []
-track_marks t (i ∷ items) = mark_in t ∷ track_marks (step t i) items
+track_marks t (i ∷ items) = mark_in t ∷ track_marks (track_line t i) items
 
 -- places after the last variable
 abbrev pub IsBehindVariables : Place → Type 0
@@ -34,11 +34,11 @@ IsBehindVariables _ = ⊥
 
 pub track-append : (t : Tracker) (a b : List TaskLine) → track t (a ++ b) ≡ track (track t a) b
 track-append t [] b = refl
-track-append t (i ∷ a) b = track-append (step t i) a b
+track-append t (i ∷ a) b = track-append (track_line t i) a b
 
 pub track_marks-append : (t : Tracker) (a b : List TaskLine) → track_marks t (a ++ b) ≡ track_marks t a ++ track_marks (track t a) b
 track_marks-append t [] b = refl
-track_marks-append t (i ∷ a) b = ap (λ (x : List Mark). mark_in t ∷ x) (track_marks-append (step t i) a b)
+track_marks-append t (i ∷ a) b = ap (λ (x : List Mark). mark_in t ∷ x) (track_marks-append (track_line t i) a b)
 
 module _ (ranges : List ℕ) where
   -- after the last variable all ranges are known
@@ -48,7 +48,7 @@ module _ (ranges : List ℕ) where
   -- each line belongs where one is expected, and after the last variable all ranges are known
   abbrev pub Along : Tracker → List TaskLine → Type 0
   Along t [] = Known t
-  Along t (i ∷ items) = Known t × (slot_of_due (mark_in t).due ≡ task_slot i) × Along (step t i) items
+  Along t (i ∷ items) = Known t × (slot_of_due (mark_in t).due ≡ task_slot i) × Along (track_line t i) items
 
   -- after this tracker the lines have these marks, and lead to that tracker
   pub record Scan (t : Tracker) (items : List TaskLine) (said : List Mark) (u : Tracker) : Type 0 where
@@ -60,7 +60,7 @@ module _ (ranges : List ℕ) where
 
   pub along-append : (t : Tracker) (a b : List TaskLine) → Along t a → Along (track t a) b → Along t (a ++ b)
   along-append t [] b h g = g
-  along-append t (i ∷ a) b h g = (h.0, h.1, along-append (step t i) a b h.2 g)
+  along-append t (i ∷ a) b h g = (h.0, h.1, along-append (track_line t i) a b h.2 g)
 
   infixl 20 ◌then◌
   pub ◌then◌ : {t u v : Tracker} {a b : List TaskLine} {m n : List Mark} → Scan t a m u → Scan u b n v → Scan t (a ++ b) (m ++ n) v
@@ -81,5 +81,5 @@ module _ (ranges : List ℕ) where
   spelled {t = t} {u = u} {m = m} s e = subst (λ (x : List TaskLine). Scan t x m u) e s
 
   -- one line
-  pub one : {t u : Tracker} (i : TaskLine) → Known t → slot_of_due (mark_in t).due ≡ task_slot i → step t i ≡ u → Known u → Scan t (i ∷ []) (mark_in t ∷ []) u
+  pub one : {t u : Tracker} (i : TaskLine) → Known t → slot_of_due (mark_in t).due ≡ task_slot i → track_line t i ≡ u → Known u → Scan t (i ∷ []) (mark_in t ∷ []) u
   one i h s e k = record { marks = refl; ends = e; along = (h, s, subst Known (sym e) k) }

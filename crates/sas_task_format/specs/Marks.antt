@@ -5,7 +5,7 @@ use Rattle.sas_core.specs.declared.parts.Variable.{Variable}
 use Rattle.sas_core.specs.declared.parts.Operator.{Operator}
 use Rattle.sas_core.specs.declared.parts.Rule.{Rule}
 use Rattle.sas_core.specs.declared.parts.Parts.{Parts}
-use Rattle.sas_reader.specs.Format.{IsBegun, Next}
+use Rattle.sas_reader.specs.Format.{IsBegun, MayFollow}
 use Rattle.sas_task_format.specs.declared.marks.Due.{Due}
 use Rattle.sas_task_format.specs.declared.marks.Due.TheVariants as due
 use Rattle.sas_task_format.specs.declared.marks.FixedWord.{FixedWord}
@@ -123,5 +123,5 @@ OneDue = (begun : List (List ℕ)) (m n : Mark) → IsDue begun m → IsDue begu
 
 -- if a task has a line of a slot there, something is expected, which belongs to this slot
 abbrev pub SomeDue : Type 0
-SomeDue = (begun : List (List ℕ)) (s : TaskSlot) → Next task_format begun s
+SomeDue = (begun : List (List ℕ)) (s : TaskSlot) → MayFollow task_format begun s
     → (m : Mark) × IsDue begun m × (slot_of_due m.due ≡ s)

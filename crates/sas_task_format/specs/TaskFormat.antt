@@ -8,7 +8,7 @@ use Rattle.sas_core.specs.Numbers.{IsNumber, IsSigned}
 use Rattle.sas_reader.specs.declared.fault.Kind.{Kind}
 use Rattle.sas_reader.specs.declared.fault.Kind.TheVariants.{Keyword, Name, Shape, Value}
 use Rattle.sas_reader.specs.Format.{Format}
-pub use Rattle.sas_task_format.specs.TaskTexts.{TaskLine, word, name, number, signed, fact, effect, head, fact_words, head_words, effect_words, task_line_bytes, line_of, between, counted, version_lines, metric_lines, variable_lines, group_lines, state_lines, goal_lines, operator_lines, rule_lines, task_layout, task_texts}
+pub use Rattle.sas_task_format.specs.TaskTexts.{TaskLine, word, name, number, signed, fact, effect, head, fact_words, head_words, effect_words, task_line_bytes, single_line, between, counted, version_lines, metric_lines, variable_lines, group_lines, state_lines, goal_lines, operator_lines, rule_lines, task_layout, task_texts}
 
 -- the slot of a line: a fixed word, or any line of this kind
 pub data TaskSlot : Type 0 where

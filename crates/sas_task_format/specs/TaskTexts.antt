@@ -59,26 +59,26 @@ task_line_bytes (head var old new) = joined (head_words var old new)
 
 -- ---- the sections
 
--- one line, by its kind and its value: `line_of number 3` is the line `3`, and `line_of fact f` is
--- the line of the fact f
-abbrev pub line_of : {A : Type 0} → (A → TaskLine) → A → List TaskLine
-line_of says a = says a ∷ []
+-- one line, by its kind and its value: `single_line number 3` is the line `3`, and
+-- `single_line fact f` is the line of the fact f
+abbrev pub single_line : {A : Type 0} → (A → TaskLine) → A → List TaskLine
+single_line says a = says a ∷ []
 
 -- lines between a first and a last word
 abbrev pub between : List ℕ → List TaskLine → List ℕ → List TaskLine
-between first lines last = line_of word first ++ lines ++ line_of word last
+between first lines last = single_line word first ++ lines ++ single_line word last
 
 -- the number of items, then the lines of each
 abbrev pub counted : {A : Type 0} → (A → List TaskLine) → List A → List TaskLine
-counted lines items = line_of number (length items) ++ flat_map lines items
+counted lines items = single_line number (length items) ++ flat_map lines items
 
 -- the version is 3
 abbrev pub version_lines : List TaskLine
-version_lines = between (codes "begin_version") (line_of number 3) (codes "end_version")
+version_lines = between (codes "begin_version") (single_line number 3) (codes "end_version")
 
 -- the metric is 1 if the operators' cost lines are used, else 0
 abbrev pub metric_lines : Bool → List TaskLine
-metric_lines metric = between (codes "begin_metric") (line_of number (if metric then 1 else 0))
+metric_lines metric = between (codes "begin_metric") (single_line number (if metric then 1 else 0))
     (codes "end_metric")
 
 -- a variable's name, its axiom layer (`-1` for none), the number of its values, and the name of
@@ -86,40 +86,41 @@ metric_lines metric = between (codes "begin_metric") (line_of number (if metric 
 abbrev pub variable_lines : Variable → List TaskLine
 variable_lines v =
     between (codes "begin_variable")
-    (line_of name v.name
-    ++ line_of signed v.layer
-    ++ counted (line_of name) v.values)
+    (single_line name v.name
+    ++ single_line signed v.layer
+    ++ counted (single_line name) v.values)
     (codes "end_variable")
 
 -- the facts of a mutex group
 abbrev pub group_lines : List Fact → List TaskLine
-group_lines facts = between (codes "begin_mutex_group") (counted (line_of fact) facts)
+group_lines facts = between (codes "begin_mutex_group") (counted (single_line fact) facts)
     (codes "end_mutex_group")
 
 -- the initial state: a value for each variable, in order
 abbrev pub state_lines : List ℕ → List TaskLine
-state_lines values = between (codes "begin_state") (flat_map (line_of number) values)
+state_lines values = between (codes "begin_state") (flat_map (single_line number) values)
     (codes "end_state")
 
 -- the facts of the goal
 abbrev pub goal_lines : List Fact → List TaskLine
-goal_lines facts = between (codes "begin_goal") (counted (line_of fact) facts) (codes "end_goal")
+goal_lines facts = between (codes "begin_goal") (counted (single_line fact) facts)
+    (codes "end_goal")
 
 -- an operator's name, its prevail conditions, its effects and its cost
 abbrev pub operator_lines : Operator → List TaskLine
 operator_lines o =
     between (codes "begin_operator")
-    (line_of name o.name
-    ++ counted (line_of fact) o.prevail
-    ++ counted (line_of effect) o.effects
-    ++ line_of number o.cost)
+    (single_line name o.name
+    ++ counted (single_line fact) o.prevail
+    ++ counted (single_line effect) o.effects
+    ++ single_line number o.cost)
     (codes "end_operator")
 
 -- the conditions of a rule (an axiom) and its head
 abbrev pub rule_lines : Rule → List TaskLine
 rule_lines r =
     between (codes "begin_rule")
-    (counted (line_of fact) r.conditions
+    (counted (single_line fact) r.conditions
     ++ head r.var r.old r.new ∷ [])
     (codes "end_rule")
 

@@ -60,54 +60,54 @@ abbrev pub one_less : Tracker → Tracker
 one_less t = record t { more = t.more - 1 }
 
 -- the tracker after one more line, by place
-abbrev pub step_from : Place → Tracker → TaskLine → Tracker
-step_from place.VersionBegin t i = goes_to place.VersionNumber t
-step_from place.VersionNumber t i = goes_to place.VersionEnd t
-step_from place.VersionEnd t i = goes_to place.MetricBegin t
-step_from place.MetricBegin t i = goes_to place.MetricNumber t
-step_from place.MetricNumber t i = goes_to place.MetricEnd t
-step_from place.MetricEnd t i = goes_to place.VariableCount t
-step_from place.VariableCount t i = goes_before place.Variables (number_in i) t
-step_from place.Variables t i = by_count t.left (goes_before place.Groups (number_in i) t)
+abbrev pub track_line_at : Place → Tracker → TaskLine → Tracker
+track_line_at place.VersionBegin t i = goes_to place.VersionNumber t
+track_line_at place.VersionNumber t i = goes_to place.VersionEnd t
+track_line_at place.VersionEnd t i = goes_to place.MetricBegin t
+track_line_at place.MetricBegin t i = goes_to place.MetricNumber t
+track_line_at place.MetricNumber t i = goes_to place.MetricEnd t
+track_line_at place.MetricEnd t i = goes_to place.VariableCount t
+track_line_at place.VariableCount t i = goes_before place.Variables (number_in i) t
+track_line_at place.Variables t i = by_count t.left (goes_before place.Groups (number_in i) t)
     (begins_one place.VariableName t)
-step_from place.VariableName t i = goes_to place.VariableLayer t
-step_from place.VariableLayer t i = goes_to place.VariableRange t
-step_from place.VariableRange t i =
+track_line_at place.VariableName t i = goes_to place.VariableLayer t
+track_line_at place.VariableLayer t i = goes_to place.VariableRange t
+track_line_at place.VariableRange t i =
     record (goes_with_more place.VariableValues (number_in i) t) {
       ranges = t.ranges ++ number_in i ∷ [];
     }
-step_from place.VariableValues t i = by_count t.more (goes_to place.Variables t) (one_less t)
-step_from place.Groups t i = by_count t.left (goes_to place.StateValues t)
+track_line_at place.VariableValues t i = by_count t.more (goes_to place.Variables t) (one_less t)
+track_line_at place.Groups t i = by_count t.left (goes_to place.StateValues t)
     (begins_one place.GroupSize t)
-step_from place.GroupSize t i = goes_with_more place.GroupFacts (number_in i) t
-step_from place.GroupFacts t i = by_count t.more (goes_to place.Groups t) (one_less t)
-step_from place.StateValues t i = if nat_lt t.valued (length t.ranges)
+track_line_at place.GroupSize t i = goes_with_more place.GroupFacts (number_in i) t
+track_line_at place.GroupFacts t i = by_count t.more (goes_to place.Groups t) (one_less t)
+track_line_at place.StateValues t i = if nat_lt t.valued (length t.ranges)
     then record t { valued = t.valued + 1 }
     else goes_to place.GoalBegin t
-step_from place.GoalBegin t i = goes_to place.GoalSize t
-step_from place.GoalSize t i = goes_with_more place.GoalFacts (number_in i) t
-step_from place.GoalFacts t i = by_count t.more (goes_to place.OperatorCount t) (one_less t)
-step_from place.OperatorCount t i = goes_before place.Operators (number_in i) t
-step_from place.Operators t i = by_count t.left (goes_before place.Rules (number_in i) t)
+track_line_at place.GoalBegin t i = goes_to place.GoalSize t
+track_line_at place.GoalSize t i = goes_with_more place.GoalFacts (number_in i) t
+track_line_at place.GoalFacts t i = by_count t.more (goes_to place.OperatorCount t) (one_less t)
+track_line_at place.OperatorCount t i = goes_before place.Operators (number_in i) t
+track_line_at place.Operators t i = by_count t.left (goes_before place.Rules (number_in i) t)
     (begins_one place.OperatorName t)
-step_from place.OperatorName t i = goes_to place.PrevailCount t
-step_from place.PrevailCount t i = goes_with_more place.Prevail (number_in i) t
-step_from place.Prevail t i = by_count t.more
+track_line_at place.OperatorName t i = goes_to place.PrevailCount t
+track_line_at place.PrevailCount t i = goes_with_more place.Prevail (number_in i) t
+track_line_at place.Prevail t i = by_count t.more
     (goes_with_more place.Effects (number_in i) t) (one_less t)
-step_from place.Effects t i = by_count t.more (goes_to place.OperatorEnd t) (one_less t)
-step_from place.OperatorEnd t i = goes_to place.Operators t
-step_from place.Rules t i = begins_one place.RuleSize t
-step_from place.RuleSize t i = goes_with_more place.RuleConditions (number_in i) t
-step_from place.RuleConditions t i = by_count t.more (goes_to place.RuleEnd t) (one_less t)
-step_from place.RuleEnd t i = goes_to place.Rules t
+track_line_at place.Effects t i = by_count t.more (goes_to place.OperatorEnd t) (one_less t)
+track_line_at place.OperatorEnd t i = goes_to place.Operators t
+track_line_at place.Rules t i = begins_one place.RuleSize t
+track_line_at place.RuleSize t i = goes_with_more place.RuleConditions (number_in i) t
+track_line_at place.RuleConditions t i = by_count t.more (goes_to place.RuleEnd t) (one_less t)
+track_line_at place.RuleEnd t i = goes_to place.Rules t
 
-abbrev pub step : Tracker → TaskLine → Tracker
-step t i = step_from t.place t i
+abbrev pub track_line : Tracker → TaskLine → Tracker
+track_line t i = track_line_at t.place t i
 
 -- the tracker after all of these lines
 abbrev pub track : Tracker → List TaskLine → Tracker
 track t [] = t
-track t (i ∷ items) = track (step t i) items
+track t (i ∷ items) = track (track_line t i) items
 
 -- ---- what is expected
 

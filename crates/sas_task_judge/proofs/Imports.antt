@@ -35,10 +35,10 @@ pub use Rattle.sas_task_format.proofs.Tracking.{IsBehindVariables, track-append}
 pub use Rattle.sas_task_format.proofs.WrongWords.{HasBounds, same_bounds}
 pub use Rattle.sas_task_format.specs.Marks.{slot_of_due, IsDue}
 pub use Rattle.sas_task_format.specs.Process.{process_node, a_line, repeat, done, read}
-pub use Rattle.sas_task_format.specs.TaskFormat.{TaskLine, word, name, number, signed, fact, effect, head, TaskSlot, task_slot, task_line_bytes, task_layout, task_format, TaskLineFits, HasShape, name_slot, fact_slot, effect_slot, line_of, variable_lines, group_lines, operator_lines, rule_lines, number_slot}
+pub use Rattle.sas_task_format.specs.TaskFormat.{TaskLine, word, name, number, signed, fact, effect, head, TaskSlot, task_slot, task_line_bytes, task_layout, task_format, TaskLineFits, HasShape, name_slot, fact_slot, effect_slot, single_line, variable_lines, group_lines, operator_lines, rule_lines, number_slot}
 pub use Rattle.sas_task_format.specs.TaskProcess.{task_start, TaskProcess, name_in, fact_in, effect_in, effect_may_stand, a_name, a_fact, an_effect, a_variable, a_group, an_operator, a_rule, a_word, a_number, number_in, may_change, head_may_stand, head_in}
 pub use Rattle.sas_task_format.specs.TaskReasons.{first_wrong, line_bounds, IsFirstWrong, IsTaskReason}
-pub use Rattle.sas_task_format.specs.Tracker.{mark_at, Tracker, tracker_start, track, mark_in, step, step_from, goes_to}
+pub use Rattle.sas_task_format.specs.Tracker.{mark_at, Tracker, tracker_start, track, mark_in, track_line, track_line_at, goes_to}
 pub use Rattle.sas_task_format.specs.declared.marks.Due.{Due}
 pub use Rattle.sas_task_format.specs.declared.marks.Location.{Location}
 pub use Rattle.sas_task_format.specs.declared.marks.Mark.{Mark}

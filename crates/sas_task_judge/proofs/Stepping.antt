@@ -1,25 +1,25 @@
 -- The tracker follows the judge.
-use Rattle.sas_task_judge.proofs.Imports.{◌≡◌, ℕ, suc, ◌<◌, ◌≤◌, ◌+◌, ◌-◌, List, [], ◌∷◌, ◌++◌, Bool, true, false, nat_lt, length, sym, ap, ◌∙◌, arith, nat_tests, if◌then◌else◌, Place, TaskLine, Tracker, tracker_start, step, step_from, goes_to, TaskJudge, more_in, tracker_at, tracker_of}
+use Rattle.sas_task_judge.proofs.Imports.{◌≡◌, ℕ, suc, ◌<◌, ◌≤◌, ◌+◌, ◌-◌, List, [], ◌∷◌, ◌++◌, Bool, true, false, nat_lt, length, sym, ap, ◌∙◌, arith, nat_tests, if◌then◌else◌, Place, TaskLine, Tracker, tracker_start, track_line, track_line_at, goes_to, TaskJudge, more_in, tracker_at, tracker_of}
 use Rattle.sas_task_format.specs.declared.places.Place.TheVariants as at
 use Rattle.sas_task_judge.proofs.TaskMoves.{next_of}
 
 module _ (j : TaskJudge) (i : TaskLine) (t : Tracker) (place : Place) (here : j.place ≡ place) where
   -- a step from the place of the judge
-  pub steps_here : step (tracker_at place j.left j.more j) i ≡ t → step (tracker_of j) i ≡ t
-  steps_here e = ap (λ (p : Place). step (tracker_at p j.left j.more j) i) here ∙ e
+  pub steps_here : track_line (tracker_at place j.left j.more j) i ≡ t → track_line (tracker_of j) i ≡ t
+  steps_here e = ap (λ (p : Place). track_line (tracker_at p j.left j.more j) i) here ∙ e
 
   -- a step that also changes a count
-  pub steps_with_left : (left : ℕ) → j.left ≡ left → step (tracker_at place left j.more j) i ≡ t → step (tracker_of j) i ≡ t
-  steps_with_left left many e = steps_here (ap (λ (n : ℕ). step (tracker_at place n j.more j) i) many ∙ e)
+  pub steps_with_left : (left : ℕ) → j.left ≡ left → track_line (tracker_at place left j.more j) i ≡ t → track_line (tracker_of j) i ≡ t
+  steps_with_left left many e = steps_here (ap (λ (n : ℕ). track_line (tracker_at place n j.more j) i) many ∙ e)
 
-  pub steps_with_more : (more : ℕ) → j.more ≡ more → step (tracker_at place j.left more j) i ≡ t → step (tracker_of j) i ≡ t
-  steps_with_more more many e = steps_here (ap (λ (n : ℕ). step (tracker_at place j.left n j) i) many ∙ e)
+  pub steps_with_more : (more : ℕ) → j.more ≡ more → track_line (tracker_at place j.left more j) i ≡ t → track_line (tracker_of j) i ≡ t
+  steps_with_more more many e = steps_here (ap (λ (n : ℕ). track_line (tracker_at place j.left n j) i) many ∙ e)
 
 -- ---- one line of a list
 
 -- a place at which a line of a list is counted down
 abbrev pub CountsDown : Place → Type 0
-CountsDown place = (t : Tracker) (n : ℕ) (i : TaskLine) → step_from place (record t { place = place; more = suc n }) i ≡ record t { place = place; more = n }
+CountsDown place = (t : Tracker) (n : ℕ) (i : TaskLine) → track_line_at place (record t { place = place; more = suc n }) i ≡ record t { place = place; more = n }
 
 one_less_is : (place : Place) (t : Tracker) (n : ℕ) → (let m : ℕ = suc n - 1 in record t { place = place; more = m }) ≡ record t { place = place; more = n }
 one_less_is place t n = let e : suc n - 1 ≡ n = omega arith in ap (λ (m : ℕ). record t { place = place; more = m }) e
@@ -46,10 +46,10 @@ module _ (place : Place) (counts : CountsDown place) (is : (n : ℕ) → more_in
   abbrev there : ℕ → Tracker
   there n = record (tracker_at place j.left j.more j) { more = n }
 
-  pub list_steps : step (tracker_of j) i ≡ tracker_at j.place j.left (j.more - 1) j
+  pub list_steps : track_line (tracker_of j) i ≡ tracker_at j.place j.left (j.more - 1) j
   list_steps =
       steps_with_more j i _ place here (suc (j.more - 1)) (next_of j.more some)
-      (ap (λ (n : ℕ). step (there n) i) (is (suc (j.more - 1)))
+      (ap (λ (n : ℕ). track_line (there n) i) (is (suc (j.more - 1)))
       ∙ counts (tracker_at place j.left j.more j) (j.more - 1) i
       ∙ ap there (sym (is (j.more - 1)))
       ∙ ap (λ (p : Place). tracker_at p j.left (j.more - 1) j) (sym here))
@@ -57,7 +57,7 @@ module _ (place : Place) (counts : CountsDown place) (is : (n : ℕ) → more_in
 -- ---- the initial state
 
 -- the value of the next variable, and the end
-pub value_steps : (j : TaskJudge) (i : TaskLine) → j.place ≡ at.StateValues → j.valued < length j.ranges → step (tracker_of j) i ≡ tracker_of (record j { valued = j.valued + 1 })
+pub value_steps : (j : TaskJudge) (i : TaskLine) → j.place ≡ at.StateValues → j.valued < length j.ranges → track_line (tracker_of j) i ≡ tracker_of (record j { valued = j.valued + 1 })
 value_steps j i here l =
     let goes : nat_lt j.valued (length j.ranges) ≡ true = grind (arith, nat_tests) in
     let t = tracker_at at.StateValues j.left j.more j in
@@ -65,7 +65,7 @@ value_steps j i here l =
     (ap (λ (b : Bool). if b then record t { valued = t.valued + 1 } else goes_to at.GoalBegin t) goes
     ∙ ap (λ (p : Place). tracker_at p j.left j.more (record j { valued = j.valued + 1 })) (sym here))
 
-pub state_end_steps : (j : TaskJudge) (i : TaskLine) → j.place ≡ at.StateValues → length j.ranges ≤ j.valued → step (tracker_of j) i ≡ tracker_of (record j { place = at.GoalBegin })
+pub state_end_steps : (j : TaskJudge) (i : TaskLine) → j.place ≡ at.StateValues → length j.ranges ≤ j.valued → track_line (tracker_of j) i ≡ tracker_of (record j { place = at.GoalBegin })
 state_end_steps j i here l =
     let ends : nat_lt j.valued (length j.ranges) ≡ false = grind (arith, nat_tests) in
     let t = tracker_at at.StateValues j.left j.more j in
@@ -83,7 +83,7 @@ starts j here total left ranges valued =
 
 -- ---- the last line of a section
 
-pub variable_end_steps : (j : TaskJudge) (i : TaskLine) (ranges : List ℕ) → j.place ≡ at.VariableValues → j.more ≡ 0 → ranges ≡ j.ranges ++ j.range ∷ [] → step (tracker_of j) i ≡ tracker_of (record j { place = at.Variables; ranges = ranges })
+pub variable_end_steps : (j : TaskJudge) (i : TaskLine) (ranges : List ℕ) → j.place ≡ at.VariableValues → j.more ≡ 0 → ranges ≡ j.ranges ++ j.range ∷ [] → track_line (tracker_of j) i ≡ tracker_of (record j { place = at.Variables; ranges = ranges })
 variable_end_steps j i ranges here all are =
     steps_with_more j i _ at.VariableValues here 0 all
     (ap (λ (rs : List ℕ). tracker_of (record j { place = at.Variables; ranges = rs })) (sym are))

@@ -1,5 +1,5 @@
 -- One line of a task moves the judge.
-use Rattle.sas_task_judge.proofs.Imports.{IsTrue, ◌≡◌, ◌≢◌, ℕ, zero, suc, ◌<◌, ◌≤◌, ◌-◌, Bool, nat_lt, length, List, [], ◌∷◌, ◌++◌, refl, sym, ap, subst, ◌∙◌, arith, codes, Result, Ok, Err, take, drop, take_at, length-append, Plain, plain, Option, Some, None, result_err, none-some, Kind, IsOfBytes, IsAllowed, OneLine, IsRejected, Rejects, read, process_node, TaskLine, effect, TaskSlot, number_slot, task_line_bytes, task_format, TaskJudge, state_values, state_values_of, goal_begin, process_at, state_of, tracker_of, KnownTo, LeadsOn, RejectsLine, StandsAsBefore, TakesMemory, JudgesLine, MovesBy, MovesAhead, TaskLineFits, Parts, Variable, range_of, Event, Said, SoFar, Place, step, Effect, Change, plain_effect, LineAhead, change_in_ranges, effect_in_ranges, IsOfLine, TaskProcess, a_word, a_number, number_in, effect_in}
+use Rattle.sas_task_judge.proofs.Imports.{IsTrue, ◌≡◌, ◌≢◌, ℕ, zero, suc, ◌<◌, ◌≤◌, ◌-◌, Bool, nat_lt, length, List, [], ◌∷◌, ◌++◌, refl, sym, ap, subst, ◌∙◌, arith, codes, Result, Ok, Err, take, drop, take_at, length-append, Plain, plain, Option, Some, None, result_err, none-some, Kind, IsOfBytes, IsAllowed, OneLine, IsRejected, Rejects, read, process_node, TaskLine, effect, TaskSlot, number_slot, task_line_bytes, task_format, TaskJudge, state_values, state_values_of, goal_begin, process_at, state_of, tracker_of, KnownTo, LeadsOn, RejectsLine, StandsAsBefore, TakesMemory, JudgesLine, MovesBy, MovesAhead, TaskLineFits, Parts, Variable, range_of, Event, Said, SoFar, Place, track_line, Effect, Change, plain_effect, LineAhead, change_in_ranges, effect_in_ranges, IsOfLine, TaskProcess, a_word, a_number, number_in, effect_in}
 use Rattle.sas_reader.specs.declared.fault.Kind.TheVariants as kinds
 use Rattle.sas_task_format.specs.declared.places.Place.TheVariants as at
 use Rattle.sas_task_judge.proofs.TaskRanges.{many_same}
@@ -7,7 +7,7 @@ use Rattle.sas_task_judge.proofs.VariablesBehind.{behind}
 
 -- a line that may stand leads to a next state
 pub on : (j k : TaskJudge) (s t : SoFar) (slot : TaskSlot) (test : TaskLine → Bool) (next : TaskLine → TaskProcess) (i : TaskLine) (line : List ℕ)
-    → state_of j s ≡ read slot test next → IsAllowed task_format TaskLineFits slot test i × (task_line_bytes i ≡ line) → next i ≡ state_of k t → step (tracker_of j) i ≡ tracker_of k → LeadsOn j s line k t
+    → state_of j s ≡ read slot test next → IsAllowed task_format TaskLineFits slot test i × (task_line_bytes i ≡ line) → next i ≡ state_of k t → track_line (tracker_of j) i ≡ tracker_of k → LeadsOn j s line k t
 on j k s t slot test next i line at says n steps = record {
   item = i;
   leads = subst (λ (p : TaskProcess). OneLine task_format TaskLineFits (process_node p) i (λ r. r ≡ state_of k t)) (sym at) (says.0, n);

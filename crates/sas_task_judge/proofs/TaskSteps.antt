@@ -1,5 +1,5 @@
 -- One more line of a task moves the machine.
-use Rattle.sas_task_judge.proofs.Imports.{◌≡◌, ℕ, ◌+◌, List, [], ◌∷◌, ◌++◌, sym, ap, ◌∙◌, append_assoc, Ok, Plain, lines-one, unfinished-one, LinesAccepted, one_more, Leads, process_node, task_line_bytes, task_format, TaskLineFits, Tracker, tracker_start, track, step, TaskProcess, task_start, SoFar, Event, Said, after, map-append, after_append, track-append, TaskJudge, state_of, tracker_of, LeadsOn, JudgesLine, TaskMachine, LedBy}
+use Rattle.sas_task_judge.proofs.Imports.{◌≡◌, ℕ, ◌+◌, List, [], ◌∷◌, ◌++◌, sym, ap, ◌∙◌, append_assoc, Ok, Plain, lines-one, unfinished-one, LinesAccepted, one_more, Leads, process_node, task_line_bytes, task_format, TaskLineFits, Tracker, tracker_start, track, track_line, TaskProcess, task_start, SoFar, Event, Said, after, map-append, after_append, track-append, TaskJudge, state_of, tracker_of, LeadsOn, JudgesLine, TaskMachine, LedBy}
 
 -- the lines lead from the start to the state
 abbrev pub TaskLed : List (List ℕ) → TaskProcess → Type 0
@@ -18,7 +18,7 @@ line_led before j k s t line h on tracked = record {
     after = after_append task_format TaskLineFits process_node task_start (state_of j s) (state_of k t) h.items (on.item ∷ []) h.after on.leads;
     spells = map-append task_line_bytes h.items (on.item ∷ []) ∙ ap (λ (l : List (List ℕ)). l ++ task_line_bytes on.item ∷ []) h.spells ∙ ap (λ (l : List ℕ). before ++ l ∷ []) on.spells;
   };
-  tracked = track-append tracker_start h.items (on.item ∷ []) ∙ ap (λ (x : Tracker). step x on.item) tracked ∙ on.steps;
+  tracked = track-append tracker_start h.items (on.item ∷ []) ∙ ap (λ (x : Tracker). track_line x on.item) tracked ∙ on.steps;
 }
 
 -- a machine that a line moves is led by this line as well, whatever `said` becomes

@@ -14,7 +14,7 @@ use Rattle.sas_task_judge.specs.declared.task_judge.TaskJudge.{TaskJudge}
 use Rattle.sas_reader.specs.Faults.{IsOfBytes}
 use Rattle.sas_task_format.specs.Process.{process_node, ◌>>◌}
 use Rattle.sas_reader.specs.System.{OneLine, Rejects, IsAllowed}
-use Rattle.sas_task_format.specs.Tracker.{Tracker, step}
+use Rattle.sas_task_format.specs.Tracker.{Tracker, track_line}
 use Rattle.sas_task_line.specs.TaskEvents.{after}
 use Rattle.sas_task_format.specs.TaskFormat.{TaskLine, fact, task_slot, task_line_bytes, task_format, TaskLineFits}
 use Rattle.sas_task_format.specs.TaskProcess.{TaskProcess, TaskPart, a_word, a_fact}
@@ -140,7 +140,7 @@ abbrev pub Due : {A : Type 0} → TaskJudge → (List Variable → TaskPart A) �
 Due {A} j part says next adds = (s : SoFar) → KnownTo s j
     → (state_of j s ≡ part s.parts.variables (λ a. state_of (next a) (adds a s)))
     × ((a : A) → KnownTo (adds a s) (next a))
-    × ((a : A) → step (tracker_of j) (says a) ≡ tracker_of (next a))
+    × ((a : A) → track_line (tracker_of j) (says a) ≡ tracker_of (next a))
 
 -- a fact is expected that adds to the content what `event` says; one item less is then left
 abbrev pub FactDue : TaskJudge → Event → Type 0
@@ -155,7 +155,7 @@ pub record LeadsOn (j : TaskJudge) (s : SoFar) (line : List ℕ) (k : TaskJudge)
   pub leads : OneLine task_format TaskLineFits (process_node (state_of j s)) item
       (λ r. r ≡ state_of k t)
   pub spells : task_line_bytes item ≡ line
-  pub steps : step (tracker_of j) item ≡ tracker_of k
+  pub steps : track_line (tracker_of j) item ≡ tracker_of k
 
 -- the line may not follow, and this is the kind of its fault
 abbrev pub RejectsLine : TaskJudge → List ℕ → Kind → Type 0

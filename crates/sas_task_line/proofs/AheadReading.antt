@@ -111,12 +111,12 @@ module _ (ranges : List ℕ) (count : ℕ) (bytes : List ℕ) where
         (so_far.0, one_more_fact so_far.0 _ (w ∷ ws) done fs f so_far.1 (g.0, refl), so_far.2);
   }
 
-  pub effect_is_ahead : (fs : List Fact) (more rest : List ℕ) (c : Change) → IsNumber count → ConditionsBefore ranges count count fs bytes more → ChangeAhead more c rest → LineAhead (effect (flat.effect c fs)) bytes rest
+  pub effect_is_ahead : (fs : List Fact) (more rest : List ℕ) (c : Change) → IsNumber count → ConditionsBefore ranges count count fs bytes more → ChangeAhead more c rest → LineAhead (effect (flat.effect_with c fs)) bytes rest
   effect_is_ahead fs more rest c few h g =
       let all = h.before (decimal c.var) (signed_decimal c.old ∷ decimal c.new ∷ []) (10 ∷ rest) g.1 in
-      let numbers : EffectNumbers (flat.effect c fs) = record { count = omega (arith, few, all.1.many); conditions = all.1.numbers; head = g.0 } in
-      let words : decimal count ∷ all.0 ≡ effect_words (flat.effect c fs) = ap₂ (λ n ws. decimal n ∷ ws) (sym all.1.many) all.1.before in
-      says_line (effect (flat.effect c fs)) bytes rest numbers numbers (all.2 ∙ ap (λ ws. joined ws ++ 10 ∷ rest) words)
+      let numbers : EffectNumbers (flat.effect_with c fs) = record { count = omega (arith, few, all.1.many); conditions = all.1.numbers; head = g.0 } in
+      let words : decimal count ∷ all.0 ≡ effect_words (flat.effect_with c fs) = ap₂ (λ n ws. decimal n ∷ ws) (sym all.1.many) all.1.before in
+      says_line (effect (flat.effect_with c fs)) bytes rest numbers numbers (all.2 ∙ ap (λ ws. joined ws ++ 10 ∷ rest) words)
 
 pub plain_effect_is_ahead : (bytes more rest : List ℕ) (c : Change) → bytes ≡ 48 ∷ 32 ∷ more → ChangeAhead more c rest → LineAhead (effect (plain_effect c)) bytes rest
 plain_effect_is_ahead bytes more rest c e h =

@@ -38,7 +38,7 @@ pub use Rattle.sas_task_format.proofs.TaskLines.{one_task_line, NoSpace-facts}
 pub use Rattle.sas_task_format.proofs.TaskPlain.{Sayable, plain-line}
 pub use Rattle.sas_task_format.proofs.TaskSections.{number_is, signed_is, fact_is, effect_is, head_is, is_less}
 pub use Rattle.sas_task_format.proofs.WrongWords.{may_stand, wrong_at}
-pub use Rattle.sas_task_format.specs.TaskFormat.{TaskLine, word, name, number, signed, fact, effect, head, task_line_bytes, TaskLineFits, EffectNumbers, line_of, variable_lines, group_lines, operator_lines, rule_lines, TaskSlot, number_slot, signed_slot, fact_slot, effect_slot, head_slot, task_slot, HasShape, NumbersKind, no_shape, no_value, TaskKind, task_format, fact_words, head_words, effect_words, FactNumbers}
+pub use Rattle.sas_task_format.specs.TaskFormat.{TaskLine, word, name, number, signed, fact, effect, head, task_line_bytes, TaskLineFits, EffectNumbers, single_line, variable_lines, group_lines, operator_lines, rule_lines, TaskSlot, number_slot, signed_slot, fact_slot, effect_slot, head_slot, task_slot, HasShape, NumbersKind, no_shape, no_value, TaskKind, task_format, fact_words, head_words, effect_words, FactNumbers}
 pub use Rattle.sas_task_format.specs.TaskProcess.{number_in, signed_in, fact_in, effect_in, head_in}
 pub use Rattle.sas_task_format.specs.TaskReasons.{Bounded, below, first_wrong, fact_bounds, change_bounds, line_bounds}
 pub use Rattle.sas_task_format.specs.declared.marks.WrongWord.{WrongWord}

@@ -1,5 +1,5 @@
 -- Reading several lines, each up to its LF.
-use Rattle.sas_task_line.proofs.Imports.{◌≡◌, ℕ, ◌+◌, ◌-◌, ◌<◌, Bool, List, [], ◌∷◌, ◌++◌, length, take, Option, refl, sym, ap, subst, ◌∙◌, append-nil, append_assoc, length-append, arith, IsTrue, codes, flat_map, list_all, AllByRecursion, and_parts, flat_map-append, map-append, take_at, length-map, list_all-append, Fact, is_name, IsName, Change, Effect, text, LinesStandFirst, lines_stand_first, Plain, LineAhead, NumberAhead, LinesBefore, CountedBefore, AppendedBefore, spelled, LinesAhead, VariableAhead, GroupAhead, OperatorAhead, RuleAhead, fact_in_ranges, effect_in_ranges, change_in_ranges, Front, plain, IsPlain, TaskLine, word, name, number, signed, fact, effect, head, line_of, task_line_bytes, TaskLineFits, variable_lines, group_lines, operator_lines, rule_lines, text_of_both, and_from}
+use Rattle.sas_task_line.proofs.Imports.{◌≡◌, ℕ, ◌+◌, ◌-◌, ◌<◌, Bool, List, [], ◌∷◌, ◌++◌, length, take, Option, refl, sym, ap, subst, ◌∙◌, append-nil, append_assoc, length-append, arith, IsTrue, codes, flat_map, list_all, AllByRecursion, and_parts, flat_map-append, map-append, take_at, length-map, list_all-append, Fact, is_name, IsName, Change, Effect, text, LinesStandFirst, lines_stand_first, Plain, LineAhead, NumberAhead, LinesBefore, CountedBefore, AppendedBefore, spelled, LinesAhead, VariableAhead, GroupAhead, OperatorAhead, RuleAhead, fact_in_ranges, effect_in_ranges, change_in_ranges, Front, plain, IsPlain, TaskLine, word, name, number, signed, fact, effect, head, single_line, task_line_bytes, TaskLineFits, variable_lines, group_lines, operator_lines, rule_lines, text_of_both, and_from}
 use Rattle.sas_flat.specs.Operators as flat
 use Rattle.sas_flat.specs.Rules as flat_rules
 use Rattle.sas_flat.specs.Variables as flat_variables
@@ -39,7 +39,7 @@ module _ {A : Type 0} (says : A → TaskLine) (may_stand : A → Bool) where
 
   pub one_more : {count : ℕ} (xs : List A) (x : A) {bytes more rest : List ℕ} → CountedBefore says may_stand count xs bytes more → LineAhead (says x) more rest → IsTrue (may_stand x) → CountedBefore says may_stand count (xs ++ x ∷ []) bytes rest
   one_more {count = count} xs x {bytes = bytes} {rest = rest} h g may =
-      let more_lines : number count ∷ flat_map (line_of says) (xs ++ x ∷ []) ≡ (number count ∷ flat_map (line_of says) xs) ++ says x ∷ [] = ap (λ l. number count ∷ l) (flat_map-append (line_of says) xs (x ∷ [])) in
+      let more_lines : number count ∷ flat_map (single_line says) (xs ++ x ∷ []) ≡ (number count ∷ flat_map (single_line says) xs) ++ says x ∷ [] = ap (λ l. number count ∷ l) (flat_map-append (single_line says) xs (x ∷ [])) in
       record {
         lines = subst (λ l. LinesBefore l bytes rest) (sym more_lines) (lines_then h.lines (one_line g));
         stand = list_all-append may_stand xs (x ∷ []) ∙ and_from (list_all may_stand xs) (list_all may_stand (x ∷ [])) h.stand (and_from (may_stand x) _ may refl);
@@ -80,7 +80,7 @@ lines_are_ahead items bytes rest front h taken many =
       whole = ap (take front.bytes) h.before ∙ take_at (text (spelled items)) rest front.bytes (sym long);
     }
 
-one_each : {A : Type 0} (says : A → TaskLine) (xs : List A) → length (flat_map (line_of says) xs) ≡ length xs
+one_each : {A : Type 0} (says : A → TaskLine) (xs : List A) → length (flat_map (single_line says) xs) ≡ length xs
 one_each says [] = refl
 one_each says (x ∷ xs) = let e = one_each says xs in omega (arith, e)
 
@@ -97,11 +97,11 @@ first_lines label layer = word (codes "begin_variable") ∷ name label ∷ signe
 
 pub variable_is_ahead : (label : List ℕ) (layer : Option ℕ) (values : List (List ℕ)) (front : Front) {bytes names_on end_on rest : List ℕ} → IsName label × LinesBefore (first_lines label layer) bytes names_on → 0 < length values → CountedBefore name is_name (length values) values names_on end_on → LineAhead (word (codes "end_variable")) end_on rest → front.bytes ≡ length bytes - length rest → front.lines ≡ 5 + length values → VariableAhead bytes (flat_variables.variable label layer values) front
 variable_is_ahead label layer values front {bytes = bytes} {rest = rest} begins some names ends taken many =
-    let name_lines : List TaskLine = number (length values) ∷ flat_map (line_of name) values in
+    let name_lines : List TaskLine = number (length values) ∷ flat_map (single_line name) values in
     let last : List TaskLine = word (codes "end_variable") ∷ [] in
     let items = variable_lines (flat_variables.variable label layer values) in
     let all : LinesBefore items bytes rest = lines_then (lines_then begins.1 names.lines) (one_line ends) in
-    let long : length items ≡ 5 + length values = omega (arith, length-append (flat_map (line_of name) values) last, one_each name values) in
+    let long : length items ≡ 5 + length values = omega (arith, length-append (flat_map (single_line name) values) last, one_each name values) in
     (record { name = begins.0; values = all_named values names.stand; some = some }, lines_are_ahead items bytes rest front all taken (many ∙ sym long))
 
 pub group_is_ahead : (ranges : List ℕ) (facts : List Fact) (front : Front) {bytes facts_on end_on rest : List ℕ} → LineAhead (word (codes "begin_mutex_group")) bytes facts_on → CountedBefore fact (fact_in_ranges ranges) (length facts) facts facts_on end_on → LineAhead (word (codes "end_mutex_group")) end_on rest → front.bytes ≡ length bytes - length rest → front.lines ≡ 3 + length facts → GroupAhead ranges bytes facts front
@@ -109,7 +109,7 @@ group_is_ahead ranges facts front {bytes = bytes} {rest = rest} begins before en
     let last : List TaskLine = word (codes "end_mutex_group") ∷ [] in
     let items = group_lines facts in
     let all : LinesBefore items bytes rest = lines_then (lines_then (one_line begins) before.lines) (one_line ends) in
-    let long : length items ≡ 3 + length facts = omega (arith, length-append (flat_map (line_of fact) facts) last, one_each fact facts) in
+    let long : length items ≡ 3 + length facts = omega (arith, length-append (flat_map (single_line fact) facts) last, one_each fact facts) in
     (before.stand, lines_are_ahead items bytes rest front all taken (many ∙ sym long))
 
 -- ---- an operator, a rule
@@ -123,8 +123,8 @@ end_lines cost = number cost ∷ word (codes "end_operator") ∷ []
 module _ (ranges label : List ℕ) (cost : ℕ) (prevail : List Fact) (effects : List Effect) (front : Front) {bytes facts_on effects_on end_on rest : List ℕ} where
   pub operator_is_ahead : IsName label × LinesBefore (begin_lines label) bytes facts_on → CountedBefore fact (fact_in_ranges ranges) (length prevail) prevail facts_on effects_on → CountedBefore effect (effect_in_ranges ranges) (length effects) effects effects_on end_on → LinesBefore (end_lines cost) end_on rest → front.bytes ≡ length bytes - length rest → front.lines ≡ 6 + length prevail + length effects → OperatorAhead ranges bytes (flat.operator label prevail effects cost) front
   operator_is_ahead begins facts changes ends taken many =
-      let fact_lines : List TaskLine = number (length prevail) ∷ flat_map (line_of fact) prevail in
-      let effect_lines : List TaskLine = number (length effects) ∷ flat_map (line_of effect) effects in
+      let fact_lines : List TaskLine = number (length prevail) ∷ flat_map (single_line fact) prevail in
+      let effect_lines : List TaskLine = number (length effects) ∷ flat_map (single_line effect) effects in
       let items = operator_lines (flat.operator label prevail effects cost) in
       let all = lines_then (lines_then (lines_then begins.1 facts.lines) changes.lines) ends in
       let same : begin_lines label ++ fact_lines ++ effect_lines ++ end_lines cost ≡ items = ap (λ l. word (codes "begin_operator") ∷ name label ∷ l) (sym (append_assoc (fact_lines ++ effect_lines) (number cost ∷ []) (word (codes "end_operator") ∷ []))) in
@@ -136,7 +136,7 @@ last_lines c = head c.var c.old c.new ∷ word (codes "end_rule") ∷ []
 
 pub rule_is_ahead : (ranges : List ℕ) (c : Change) (facts : List Fact) (front : Front) {bytes facts_on head_on rest : List ℕ} → LineAhead (word (codes "begin_rule")) bytes facts_on → CountedBefore fact (fact_in_ranges ranges) (length facts) facts facts_on head_on → IsTrue (change_in_ranges ranges c.var c.old c.new) × LinesBefore (last_lines c) head_on rest → front.bytes ≡ length bytes - length rest → front.lines ≡ 4 + length facts → RuleAhead ranges bytes (flat_rules.rule c facts) front
 rule_is_ahead ranges c facts front {bytes = bytes} {rest = rest} begins before ends taken many =
-    let fact_lines : List TaskLine = number (length facts) ∷ flat_map (line_of fact) facts in
+    let fact_lines : List TaskLine = number (length facts) ∷ flat_map (single_line fact) facts in
     let items = rule_lines (flat_rules.rule c facts) in
     let all = lines_then (lines_then (one_line begins) before.lines) ends.1 in
     let same : word (codes "begin_rule") ∷ (fact_lines ++ last_lines c) ≡ items = ap (λ l. word (codes "begin_rule") ∷ l) (sym (append_assoc fact_lines (head c.var c.old c.new ∷ []) (word (codes "end_rule") ∷ []))) in

@@ -6,7 +6,7 @@ use Rattle.sas_core.specs.declared.parts.Fact.{Fact}
 use Rattle.sas_core.specs.Names.{is_name}
 use Rattle.sas_core.specs.declared.parts.Effect.{Effect}
 use Rattle.sas_lines.specs.Lines.{text}
-use Rattle.sas_task_format.specs.TaskFormat.{TaskLine, name, number, fact, effect, line_of, TaskLineFits}
+use Rattle.sas_task_format.specs.TaskFormat.{TaskLine, name, number, fact, effect, single_line, TaskLineFits}
 use Rattle.sas_task_line.specs.Sections.{spelled}
 use Rattle.sas_task_line.specs.TaskRanges.{fact_in_ranges, effect_in_ranges}
 
@@ -20,7 +20,7 @@ pub record LinesBefore (items : List TaskLine) (bytes rest : List ℕ) : Type 0 
 -- rest
 pub record CountedBefore {A : Type 0} (says : A → TaskLine) (may_stand : A → Bool)
     (count : ℕ) (each : List A) (bytes rest : List ℕ) : Type 0 where
-  pub lines : LinesBefore (number count ∷ flat_map (line_of says) each) bytes rest
+  pub lines : LinesBefore (number count ∷ flat_map (single_line says) each) bytes rest
   pub stand : IsTrue (list_all may_stand each)
 
 -- items were appended to a list, as many as `done`: the bytes are this number, a line for each of

@@ -4,7 +4,7 @@ ghost use Rattle.std.specs.Prelude.{◌≡◌, List, [], ◌∷◌, ◌++◌, co
 ghost use Rattle.sas_core.specs.declared.parts.Fact.{Fact};
 ghost use Rattle.sas_core.specs.declared.parts.Effect.{Effect};
 ghost use Rattle.sas_core.specs.Names.{IsName};
-ghost use Rattle.sas_flat.specs.Effects.{effect};
+ghost use Rattle.sas_flat.specs.Effects.{effect_with};
 ghost use Rattle.sas_flat.specs.Growing.{Kept};
 ghost use Rattle.sas_flat.specs.Operators.{operator};
 ghost use Rattle.sas_flat.specs.Rules.{rule};
@@ -83,7 +83,7 @@ fn any_effect_before<'a>(
     conditions: &mut Vec<Fact>,
 ) -> Result<Option<(Change, &'a [u8])>, AllocError>
     ensures { IfOk result (λ found. IfSome found (λ f.
-        EffectAhead ranges.now bytes.now (effect f.0 conditions.new.items) f.1.now)) }
+        EffectAhead ranges.now bytes.now (effect_with f.0 conditions.new.items) f.1.now)) }
 {
     conditions.clear();
     let Some((count, mut rest)) = number_before(bytes, b' ') else {

@@ -1,5 +1,5 @@
 -- The text of lines of a task file, part by part.
-use Rattle.sas_text.proofs.Imports.{◌≡◌, ℕ, List, [], ◌∷◌, ◌++◌, length, map, refl, sym, ap, ◌∙◌, append_assoc, Result, Ok, Err, flat_map, OnOk, flat_map-append, map-append, decimal, Effect, signed_decimal, joined, TaskLine, word, effect, head, fact_words, task_line_bytes, line_of, between, text_of, spaced}
+use Rattle.sas_text.proofs.Imports.{◌≡◌, ℕ, List, [], ◌∷◌, ◌++◌, length, map, refl, sym, ap, ◌∙◌, append_assoc, Result, Ok, Err, flat_map, OnOk, flat_map-append, map-append, decimal, Effect, signed_decimal, joined, TaskLine, word, effect, head, fact_words, task_line_bytes, single_line, between, text_of, spaced}
 
 -- lines one after another
 pub text_of_append : (a b : List TaskLine) → text_of (a ++ b) ≡ text_of a ++ text_of b
@@ -15,8 +15,8 @@ lines_on_ok (Ok u) before middle after first others e f = lines_after before mid
 lines_on_ok (Err u) before middle after first others e f = tt
 
 -- lines appended between their first and their last word
-pub between_on_ok : {E : Type 0} (result : Result (Unit {0}) E) (before start middle after : List ℕ) (first : List ℕ) (lines : List TaskLine) (last : List ℕ) → start ≡ before ++ text_of (line_of word first) → middle ≡ start ++ text_of lines → OnOk result (after ≡ middle ++ text_of (line_of word last)) → OnOk result (after ≡ before ++ text_of (between first lines last))
-between_on_ok result before start middle after first lines last e f g = lines_on_ok result before middle after (line_of word first ++ lines) (line_of word last) (lines_after before start middle (line_of word first) lines e f) g
+pub between_on_ok : {E : Type 0} (result : Result (Unit {0}) E) (before start middle after : List ℕ) (first : List ℕ) (lines : List TaskLine) (last : List ℕ) → start ≡ before ++ text_of (single_line word first) → middle ≡ start ++ text_of lines → OnOk result (after ≡ middle ++ text_of (single_line word last)) → OnOk result (after ≡ before ++ text_of (between first lines last))
+between_on_ok result before start middle after first lines last e f g = lines_on_ok result before middle after (single_line word first ++ lines) (single_line word last) (lines_after before start middle (single_line word first) lines e f) g
 
 -- a word before other words
 joined_first : (first : List ℕ) (words : List (List ℕ)) (next : List ℕ) (more : List (List ℕ)) → joined (first ∷ words ++ next ∷ more) ≡ first ++ 32 ∷ joined (words ++ next ∷ more)
@@ -30,7 +30,7 @@ joined_spaced (w ∷ words) next more = joined_first w words next more ∙ ap (�
 
 -- the line of an effect, appended as the number of its conditions, a space, its conditions, each
 -- followed by a space, and its head
-effect_after : (before counted spaced_count conditions after : List ℕ) (e : Effect) → counted ≡ before ++ decimal (length e.conditions) → spaced_count ≡ counted ++ 32 ∷ [] → conditions ≡ spaced_count ++ spaced (flat_map fact_words e.conditions) → after ≡ conditions ++ text_of (head e.var e.old e.new ∷ []) → after ≡ before ++ text_of (line_of effect e)
+effect_after : (before counted spaced_count conditions after : List ℕ) (e : Effect) → counted ≡ before ++ decimal (length e.conditions) → spaced_count ≡ counted ++ 32 ∷ [] → conditions ≡ spaced_count ++ spaced (flat_map fact_words e.conditions) → after ≡ conditions ++ text_of (head e.var e.old e.new ∷ []) → after ≡ before ++ text_of (single_line effect e)
 effect_after before counted spaced_count conditions after e p q r s =
     let count = decimal (length e.conditions) in
     let facts = flat_map fact_words e.conditions in
@@ -38,7 +38,7 @@ effect_after before counted spaced_count conditions after e p q r s =
     s ∙ ap (λ (x : List ℕ). x ++ last) (r ∙ ap (λ (x : List ℕ). x ++ spaced facts) (q ∙ ap (λ (x : List ℕ). x ++ 32 ∷ []) p))
     ∙ sym (rw (joined_spaced (count ∷ facts) (decimal e.var) (signed_decimal e.old ∷ decimal e.new ∷ [])) (simp append_assoc))
 
-pub effect_on_ok : {E : Type 0} (result : Result (Unit {0}) E) (before counted spaced_count conditions after : List ℕ) (e : Effect) → counted ≡ before ++ decimal (length e.conditions) → spaced_count ≡ counted ++ 32 ∷ [] → conditions ≡ spaced_count ++ spaced (flat_map fact_words e.conditions) → OnOk result (after ≡ conditions ++ text_of (head e.var e.old e.new ∷ [])) → OnOk result (after ≡ before ++ text_of (line_of effect e))
+pub effect_on_ok : {E : Type 0} (result : Result (Unit {0}) E) (before counted spaced_count conditions after : List ℕ) (e : Effect) → counted ≡ before ++ decimal (length e.conditions) → spaced_count ≡ counted ++ 32 ∷ [] → conditions ≡ spaced_count ++ spaced (flat_map fact_words e.conditions) → OnOk result (after ≡ conditions ++ text_of (head e.var e.old e.new ∷ [])) → OnOk result (after ≡ before ++ text_of (single_line effect e))
 effect_on_ok (Ok u) before counted spaced_count conditions after e p q r s = effect_after before counted spaced_count conditions after e p q r s
 effect_on_ok (Err u) before counted spaced_count conditions after e p q r s = tt
 

@@ -7,7 +7,7 @@ ghost use Rattle.sas_lines.specs.Lines.{text};
 ghost use Rattle.sas_lines.specs.Spelling.{signed_decimal, joined};
 ghost use Rattle.sas_reader.specs.Texts.{lines_of};
 ghost use Rattle.sas_task_format.specs.TaskFormat as format;
-ghost use Rattle.sas_task_format.specs.TaskFormat.{TaskLine, line_of, counted, version_lines, metric_lines};
+ghost use Rattle.sas_task_format.specs.TaskFormat.{TaskLine, single_line, counted, version_lines, metric_lines};
 ghost use Rattle.sas_task_format.specs.TaskFormat.{variable_lines, group_lines, state_lines, goal_lines};
 ghost use Rattle.sas_task_format.specs.TaskFormat.{operator_lines, rule_lines, fact_words, task_texts};
 ghost use Rattle.sas_text.specs.TaskText.{text_of, spaced};
@@ -31,14 +31,14 @@ trait Encode {
 /// Appends the line of a fixed word.
 fn push_word(out: &mut Vec<u8>, word: &[u8]) -> Result<(), AllocError>
     ensures { OnOk result (out.new.items
-        ≡ out.old.items ++ text_of (line_of format.word word.now)) }
+        ≡ out.old.items ++ text_of (single_line format.word word.now)) }
 {
     push_line(out, word)
 }
 
 /// Appends the line of a number.
 fn push_number_line(out: &mut Vec<u8>, n: u128) -> Result<(), AllocError>
-    ensures { OnOk result (out.new.items ≡ out.old.items ++ text_of (line_of format.number n)) }
+    ensures { OnOk result (out.new.items ≡ out.old.items ++ text_of (single_line format.number n)) }
 {
     push_number(out, n)?;
     out.push(b'\n')?;
@@ -75,7 +75,8 @@ fn push_signed(out: &mut Vec<u8>, n: Option<u32>) -> Result<(), AllocError>
 
 /// Appends the line of an axiom layer.
 fn push_layer(out: &mut Vec<u8>, layer: Option<u32>) -> Result<(), AllocError>
-    ensures { OnOk result (out.new.items ≡ out.old.items ++ text_of (line_of format.signed layer)) }
+    ensures { OnOk result (out.new.items
+        ≡ out.old.items ++ text_of (single_line format.signed layer)) }
 {
     push_signed(out, layer)?;
     out.push(b'\n')?;
@@ -119,7 +120,7 @@ fn push_head(out: &mut Vec<u8>, var: u32, old: Option<u32>, new: u32) -> Result<
 
 /// A name on its line.
 impl Encode for Items<u8> {
-    ghost lines = { line_of format.name };
+    ghost lines = { single_line format.name };
 
     fn encode(&self, out: &mut Vec<u8>) -> Result<(), AllocError> {
         push_line(out, self.as_slice())
@@ -128,7 +129,7 @@ impl Encode for Items<u8> {
 
 /// A number on its line.
 impl Encode for u32 {
-    ghost lines = { line_of format.number };
+    ghost lines = { single_line format.number };
 
     fn encode(&self, out: &mut Vec<u8>) -> Result<(), AllocError> {
         push_number_line(out, u128::from(*self))
@@ -137,7 +138,7 @@ impl Encode for u32 {
 
 /// A fact on its line.
 impl Encode for Fact {
-    ghost lines = { line_of format.fact };
+    ghost lines = { single_line format.fact };
 
     fn encode(&self, out: &mut Vec<u8>) -> Result<(), AllocError> {
         push_fact(out, self)?;
@@ -148,7 +149,7 @@ impl Encode for Fact {
 
 /// An effect on its line.
 impl Encode for Effect {
-    ghost lines = { line_of format.effect };
+    ghost lines = { single_line format.effect };
 
     fn encode(&self, out: &mut Vec<u8>) -> Result<(), AllocError> {
         push_number(out, self.conditions.len() as u128)?;

@@ -1,4 +1,4 @@
-use Rattle.sas_flat.proofs.Imports.{eqb-true, nil_from_length, ◌≡◌, ◌-◌, [], ◌∷◌, ◌++◌, length, sym, ap, ◌∙◌, effect, effects_of}
+use Rattle.sas_flat.proofs.Imports.{eqb-true, nil_from_length, ◌≡◌, ◌-◌, [], ◌∷◌, ◌++◌, length, sym, ap, ◌∙◌, effect_with, effects_of}
 use Rattle.sas_flat.proofs.EffectRows.{effects_filled, filled_more, plain_more}
 use Rattle.sas_flat.proofs.Kept.{on_any_error}
 use Rattle.sas_flat.proofs.effects.Effects.push.Goals as goal
@@ -12,7 +12,7 @@ returns-in_err-push-clause-err c =
 
 pub returns-clause-ok : goal.returns-clause-ok
 returns-clause-ok c =
-    let behind = ap (λ l. l ++ effect c.args.change c.args.conditions.now ∷ []) c.self.view_is in
+    let behind = ap (λ l. l ++ effect_with c.args.change c.args.conditions.now ∷ []) c.self.view_is in
     elim c.if-not-is_empty.branch [
       | then-not-is_empty+in_ok-fill+in_ok-push w ↦
           rw (c.in_ok-push-2.ensures.items, w.self-inside-is, c.reserve.ensures.items, w.in_ok-push.ensures.ok, w.in_ok-fill.ensures.ok)
@@ -22,5 +22,5 @@ returns-clause-ok c =
           let none : [] ≡ c.args.conditions.now = sym (nil_from_length c.args.conditions.now (eqb-true _ 0 (sym w.if-not-is_empty.ensures))) in
           (rw (c.in_ok-push-2.ensures.items, w.self-inside-is, c.reserve.ensures.items)
           (plain_more (c.args.change ∷ []) c.self.inside.changes.items c.self.inside.conditions c.self.invariant
-          ∙ ap (λ d. effects_of c.self.inside.changes.items c.self.inside.conditions ++ effect c.args.change d ∷ []) none ∙ behind))
+          ∙ ap (λ d. effects_of c.self.inside.changes.items c.self.inside.conditions ++ effect_with c.args.change d ∷ []) none ∙ behind))
     ]

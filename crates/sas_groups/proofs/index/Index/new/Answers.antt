@@ -1,5 +1,5 @@
 -- Each field has the contract of the call that returned it.
-use Rattle.sas_groups.proofs.Imports.{ℕ, List, subst, number, AreByFact}
+use Rattle.sas_groups.proofs.Imports.{ℕ, List, subst, fact_number, AreByFact}
 use Rattle.sas_groups.proofs.index.Index.new.Goals as goal
 
 pub returns : goal.returns
@@ -11,7 +11,7 @@ returns g c =
       firsts = c.in_ok-facts.ensures.firsts;
       low = c.in_ok-facts.ensures.low;
       groups = groups.are;
-      ascending = λ fact. groups.ascending (number firsts fact);
+      ascending = λ fact. groups.ascending (fact_number firsts fact);
       facts = c.in_ok-own_facts.ensures;
       runs = c.in_ok-runs.ensures;
       effects = c.in_ok-effects.ensures;
