@@ -10,7 +10,8 @@
 #
 # `rt`, the command of the toolchain, has to be on the PATH, and python3; `make lib`, `make dist` and `make test` want a C compiler, $CC or
 # cc, too. The tests of the library use what is there of gcc, g++, clang, clang++, rustc, cargo, cmake, pkg-config, pip, nm, readelf and
-# valgrind. JOBS is how many processors `make` uses to prove; each takes one to four GB.
+# valgrind, and those of docs/GUIDE.md what is there of GNU parallel and Slurm; .ci/run installs these. JOBS is how many processors `make`
+# and `make lib` use to prove; each takes one to four GB.
 
 JOBS ?= $(shell nproc)
 
@@ -30,7 +31,7 @@ test:
 	@python3 cases/gate.py
 
 lib:
-	@python3 library/build.py
+	@python3 library/build.py $(JOBS)
 
 install:
 	@./install.sh install $(PLACE)

@@ -55,11 +55,12 @@ def files_of(crate):
 
 @functools.cache
 def sum_of(crate):
-    """Returns a sum of all that a crate is made of, the toolchain and the crates below among them."""
-    made = hashlib.sha256(repr([KIT, USED[crate], *map(sum_of, below(crate))]).encode())
-    for path in [f"{KIT}/KIT-ID", *files_of(crate)]:
+    """Returns a sum of all that a crate is made of, the toolchain and the crates below among them. It is the same in a copied clone."""
+    with open(f"{KIT}/KIT-ID", "rb") as file:
+        made = hashlib.sha256(repr([file.read(), USED[crate], *map(sum_of, below(crate))]).encode())
+    for path in files_of(crate):
         with open(path, "rb") as file:
-            made.update(path.encode() + hashlib.sha256(file.read()).digest())
+            made.update(os.path.relpath(path, TOP).encode() + hashlib.sha256(file.read()).digest())
     return made.hexdigest()
 
 

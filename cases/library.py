@@ -302,6 +302,7 @@ def held_tests(_, library, __):
         ("no room", lambda: [number("read", fuses), number("read", fuses, room=12), number(plan)], [YES, ROOM_TOO_SHORT, *none]),
         ("just room", lambda: [number("read", fuses, room=13), number(plan)], [YES, YES]),
         ("no room for a plan", lambda: [number("read", fuses), number(plan, room=3), number(plan)], [YES, ROOM_TOO_SHORT, YES]),
+        ("a plan without its cost line", lambda: [number("read", fuses), *each(b"(take f1)\n", plan)], [YES] + [NO] * 3 + [YES] * 3),
         ("plans that are refused", lambda: [number("read", fuses), number(b""), number(b"\xff\n"), number(plan)], [YES, NO, NO, YES]),
     ):
         came = calls()
@@ -958,6 +959,20 @@ def builder_tests(_, __, ___):
         yield f"built with {compiler}", [] if said and before == after else [f"{ran}"]
 
 
+def processor_tests(_, __, folder):
+    """Yields what `make lib` hands on to build.py. It could show a number of processors that is lost."""
+    for name in ("Makefile", "library/build.py"):
+        os.makedirs(os.path.dirname(os.path.join(folder, name)), exist_ok=True)
+        shutil.copy(os.path.join(TOP, name), os.path.join(folder, name))
+    with open(os.path.join(folder, "build.py"), "w", encoding="utf-8") as file:
+        file.write("import sys\nif __name__ == '__main__':\n    sys.exit(' '.join(sys.argv[1:]))\n")
+    env = {name: value for name, value in os.environ.items() if name not in ("MAKEFLAGS", "MFLAGS", "MAKELEVEL", "JOBS")}
+    for words, processors in ((["JOBS=1"], 1), (["JOBS=3"], 3), ([], int(ended("nproc").stdout))):
+        ran = ended("make", "-s", "lib", *words, cwd=folder, env=env)
+        said = ran.stderr.decode().partition("\n")[0]
+        yield f"make lib {words}", [] if said == f"sas_c {processors}" else [f"{ran}"]
+
+
 # the page of the library, and its sections about languages: how their programs are marked, the end of their files' names, and what
 # compiles or runs them
 PAGE = "docs/LIBRARY.md"
@@ -980,13 +995,13 @@ def page_folder(library, place):
     shutil.copytree(library.folder, os.path.join(place, "library/out"))
 
 
-def page_tests(_, library, folder):
-    """Yields the commands of the sections about languages, over the programs that they show. They could show a page that is wrong."""
+def page_tests(_, library, place):
+    """Yields the commands of the sections about languages, over the programs that they show, all in one folder. They could show a page
+    that is wrong, and a section that another one is in the way of."""
+    page_folder(library, place)
     for section, (_, suffix, compiler) in SECTIONS.items():
         if not compilers(compiler):
             continue
-        place = os.path.join(folder, section)
-        page_folder(library, place)
         program, commands = shown(section)
         with open(os.path.join(place, f"judge{suffix}"), "w", encoding="utf-8") as file:
             file.write(program)
@@ -1029,6 +1044,7 @@ TESTS = (
     no_exception_tests,
     refused_code_tests,
     builder_tests,
+    processor_tests,
     example_tests,
     page_tests,
     driver_tests,

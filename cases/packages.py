@@ -10,14 +10,16 @@ line that begins with `without`.
 No proof knows these packages. One that names a file that isn't there, or lacks one, would be found here alone.
 """
 import os
+import re
 import shlex
+import shutil
 import subprocess
 import sys
 import tempfile
 
 import report
 from pages import is_there
-from texts import TOP
+from texts import TOP, text_of
 
 PROJECT = """\
 cmake_minimum_required(VERSION 3.10)
@@ -121,7 +123,8 @@ def cargo_tests(top, place):
 
 
 def pip_tests(top, place):
-    """Yields what pip installs. It could show a module that doesn't find its library, and a package that another one has to build."""
+    """Yields what pip installs. It could show a module that doesn't find its library, a package that another one has to build, and one
+    that is installed without the library."""
     site = os.path.join(place, "site")
     pip = [sys.executable, "-m", "pip", "install", "-q", "--no-index", "--disable-pip-version-check"]
     if ended(sys.executable, "-m", "pip", "--version")[0] != 0:
@@ -130,9 +133,18 @@ def pip_tests(top, place):
     yield "pip", wrong(*pip, "--target", site, os.path.join(top, "library/python"))
     env = {**os.environ, "PYTHONPATH": site}
     yield "pip, the program", wrong_held(top, sys.executable, os.path.join(top, "library/examples/held.py"), env=env, cwd=place)
-    command = "import sas, importlib.metadata as it; print(sas.__file__, sas.__version__ == it.version('sas'))"
-    got, expected = ended(sys.executable, "-c", command, env=env, cwd=place), (0, f"{site}/sas.py True\n")
+    command = "import sas, importlib.metadata as it; about = it.metadata('sas')"
+    command += "; print(sas.__file__, sas.__version__ == about['Version'], about['Summary'])"
+    summary = re.search('^description = "(.+)"$', text_of(os.path.join(top, "library/python/pyproject.toml")), re.MULTILINE)[1]
+    got, expected = ended(sys.executable, "-c", command, env=env, cwd=place), (0, f"{site}/sas.py True {summary}\n")
     yield "pip, the module", [] if got == expected else [f"{got}"]
+    bare, none = os.path.join(place, "bare/python"), os.path.join(place, "none")
+    shutil.copytree(os.path.join(top, "library/python"), bare, ignore=shutil.ignore_patterns("__pycache__"))
+    status, said = ended(*pip, "--target", none, bare)
+    lines = [it.strip() for it in said.splitlines()]
+    line = f"run make lib first: there is no {os.path.join(place, 'bare/out/libsas.so')}"
+    yield "pip, without the library", [] if status and line in lines and "Traceback" not in said else [f"status {status}: {said}"]
+    yield "pip, without the library, nothing is installed", os.listdir(none) if os.path.isdir(none) else []
 
 
 def package_tests(top, place):

@@ -4,9 +4,10 @@
     python3 cases/shown.py SAS
 
 A command of a document is a line that is set off by four spaces and begins with `$ `; the lines after it that are set off, too, up to
-the next command, are what it prints on standard output. In the manual page they stand in literal displays. It is run by a shell in a
-folder that has the documents' examples, what the commands of the same document have made, and SAS, as `./sas`; the page calls it `sas`.
-Each that prints something else has a line, and the last line is 'N passed, M failed'. The exit status is 0 where none failed.
+the next command, are what it prints on standard output. If it ends with `<< 'WORD'`, the lines up to WORD belong to the command. In the
+manual page they stand in literal displays. It is run by a shell in a folder that has the documents' examples, what the commands of the
+same document have made, and SAS, as `./sas`; the page calls it `sas`. Each that prints something else has a line, and the last line is
+'N passed, M failed'. The exit status is 0 where none failed.
 
 No proof reads a document. One that shows what the program doesn't print, or no longer prints, would be found here alone.
 """
@@ -23,6 +24,8 @@ from texts import TOP, text_of
 
 PAGE = "man/sas.1"
 MARGIN, PROMPT = "    ", "    $ "
+# the end of a command that goes on until a line is this word
+HERE_DOCUMENT = re.compile(r"<< '(\w+)'$")
 # what stands for a character in the manual page
 ESCAPES = {r"\-": "-", r"\(aq": "'", r"\e": "\\", r"\(ti": "~", r"\(ha": "^", r"\&": ""}
 
@@ -46,20 +49,27 @@ def lines_of(document, top):
 
 
 def shown(document, top=TOP):
-    """Yields the commands of a document, each with what it prints."""
-    found = None
-    for line in lines_of(document, top):
-        if line.startswith(PROMPT):
-            if found:
-                yield found
-            found = {"name": f"{document}: {line[len(PROMPT):]}", "command": line[len(PROMPT) :], "output": ""}
-        elif found and line.startswith(MARGIN):
-            found["output"] += line[len(MARGIN) :] + "\n"
-        elif found:
-            yield found
-            found = None
-    if found:
-        yield found
+    """Returns the commands of a document, each with what it prints."""
+    return commands_in(lines_of(document, top), document)
+
+
+def commands_in(lines, document):
+    """Returns the commands in these lines of a document, each with what it prints."""
+    cases, word, is_inside = [], None, False
+    for line in lines:
+        is_inside = line.startswith(PROMPT) or (is_inside and line.startswith(MARGIN))
+        text = line[len(MARGIN) :]
+        if is_inside and word:
+            cases[-1]["command"] += f"\n{text}"
+            word = None if text == word else word
+        elif line.startswith(PROMPT):
+            command = line[len(PROMPT) :]
+            cases.append({"name": f"{document}: {command}", "command": command, "output": ""})
+            here = HERE_DOCUMENT.search(command)
+            word = here and here[1]
+        elif is_inside:
+            cases[-1]["output"] += text + "\n"
+    return cases
 
 
 def wrong(case, folder):
@@ -78,7 +88,7 @@ def all_wrong(cases, sas, top=TOP):
 
 
 def main(sas):
-    groups = [list(shown(document)) for document in documents()]
+    groups = [shown(document) for document in documents()]
     report.end(sum(groups, []), sum((all_wrong(cases, sas) for cases in groups), []))
 
 

@@ -2,12 +2,14 @@
 """Builds the library, into library/out/: libsas.a and libsas.so, and beside them what a program includes, imports or looks for, sas.h,
 sas.hpp, sas.py, sas.pc and the package files of CMake.
 
-    python3 library/build.py [--over-gate]
+    python3 library/build.py [PROCESSORS]
+    python3 library/build.py --over-gate
 
 It is made of the archive of the proved crate sas_c. If there is none yet, or a file of a crate is younger, build.py proves the crate and
-what it uses, and builds it; build.log has what the prover prints. With --over-gate the archive is built over the libraries that `rt ci`
-has just proved and left in each out/rlib/, so that nothing is proved twice. Two files in C are added: sas_memory.c, which allocates, and
-sas_version.c. The C compiler is $CC or cc, and `ar` is $AR or ar. A library that was there is replaced only after the new one was built.
+what it uses, and builds it; PROCESSORS is how many it uses, and build.log has what the prover prints. With --over-gate the archive is
+built over the libraries that `rt ci` has just proved and left in each out/rlib/, so that nothing is proved twice. Two files in C are
+added: sas_memory.c, which allocates, and sas_version.c. The C compiler is $CC or cc, and `ar` is $AR or ar. A library that was there is
+replaced only after the new one was built.
 """
 import glob
 import os
@@ -68,9 +70,9 @@ def build_over_gate():
         sys.exit("not built; build.log says why")
 
 
-def prove():
-    """Proves the crate and what it stands on, and builds the archive."""
-    ended = subprocess.run([sys.executable, f"{TOP}/build.py", NAME], check=False)
+def prove(processors):
+    """Proves the crate and what it stands on, and builds the archive. The list has the number of processors, or nothing for all."""
+    ended = subprocess.run([sys.executable, f"{TOP}/build.py", NAME, *processors], check=False)
     if ended.returncode:
         sys.exit(ended.returncode)
 
@@ -97,7 +99,7 @@ def main():
     if sys.argv[1:] == ["--over-gate"]:
         build_over_gate()
     elif not is_there():
-        prove()
+        prove(sys.argv[1:])
     shutil.rmtree(NEW, ignore_errors=True)
     os.mkdir(NEW)
     link()

@@ -1,6 +1,7 @@
 -- What the proofs use of other crates, and of the definitions of this one.
 pub use Rattle.std.proofs.Common.{◌≡◌, ℕ, ◌-◌, true, false, List, ◌++◌, length, take, drop, sym, ap, ◌∙◌, arith, length-append, Option, None, Some, nat_eq, ◌⊎◌, inl, inr, suc, ◌+◌, ◌<◌, ◌≤◌, [], ◌∷◌, get_or, refl, subst, Ok, append_assoc, codes, map, IsTrue, ◌↔◌, Err}
 pub use Rattle.std.proofs.Math.ListN.{get_or-append}
+pub use Rattle.std.proofs.Math.Logic.{∥∥₁_map}
 pub use Rattle.std.proofs.Math.Seq.{drop-append_seam, take-append_seam}
 pub use Rattle.std.proofs.lemmas.Bool.{false_from_ne_true}
 pub use Rattle.std.proofs.lemmas.Fmt.{decimal_injective}
@@ -45,8 +46,8 @@ pub use Rattle.sas_reader.specs.declared.fault.Kind.TheVariants.{Keyword, Name, 
 pub use Rattle.sas_plan_file.specs.PlanFormat.{step, plan_line_bytes, plan_format, PlanLineFits, cost, plan_texts, PlanLine, plan_layout, cost_front, cost_words, like_step, like_cost, like_none, BeginsWith, PlanKind}
 pub use Rattle.sas_plan_file.specs.PlanLaws.{PlanIsFilled, filling_cost_line}
 pub use Rattle.sas_plan_file.specs.PlanLine.{StepStandsFirst, Names, Costs}
-pub use Rattle.sas_plan_file.specs.PlanMachine.{plan_line_ok, PlanState, going, closed, plan_node, plan_start, plan_next, HasCostLine, plan_state, StepsOn, plan_stays}
-pub use Rattle.sas_plan_file.specs.PlanReader.{plan_led, plan_rejects, plan_view}
+pub use Rattle.sas_plan_file.specs.PlanMachine.{plan_line_ok, PlanState, going, closed, plan_node, plan_start, plan_next, HasCostLine, plan_led, plan_rejects, plan_state, StepsOn, plan_stays}
+pub use Rattle.sas_plan_file.specs.PlanReader.{plan_view}
 pub use Rattle.sas_plan_file.specs.PlanRefusal.{fault_of, found_of, nothing_else}
 pub use Rattle.sas_plan_file.specs.PlanText.{KeepsLines, text_stays}
 pub use Rattle.sas_plan_file.specs.declared.plan_text.PlanText.{PlanText}

@@ -4,8 +4,8 @@ use Rattle.sas_core.specs.declared.plan.CostKind.{CostKind}
 use Rattle.sas_core.specs.Names.{is_name}
 use Rattle.sas_core.specs.PlanParts.{PlanParts}
 use Rattle.sas_reader.specs.declared.fault.Kind.{Kind}
-use Rattle.sas_plan_file.specs.PlanFormat.{PlanLine, step, cost}
-use Rattle.sas_reader.specs.System.{Node, ended, before}
+use Rattle.sas_reader.specs.System.{Node, ended, before, Leads, Rejects}
+use Rattle.sas_plan_file.specs.PlanFormat.{PlanLine, PlanLineFits, step, cost, plan_format}
 
 -- only these steps were read so far; or the cost was read as well, and the plan is complete
 pub data PlanState : Type 0 where
@@ -27,6 +27,14 @@ plan_node (closed p) = ended p
 
 abbrev pub plan_start : PlanState
 plan_start = going []
+
+-- the lines lead from the start to this state
+abbrev pub plan_led : List (List ℕ) → PlanState → Type 0
+plan_led lines p = Leads plan_format PlanLineFits plan_node plan_start lines p
+
+-- the line may not follow, and this is the kind of its fault
+abbrev pub plan_rejects : PlanState → List ℕ → Kind → Type 0
+plan_rejects p line k = Rejects plan_format PlanLineFits (plan_node p) line k
 
 -- the state with these steps, and the cost if it was read
 abbrev pub plan_state : List (List ℕ) → Option (ℕ × CostKind) → PlanState

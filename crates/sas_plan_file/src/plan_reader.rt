@@ -1,6 +1,9 @@
 // Reads a plan file in pieces.
+ghost use Rattle.std.specs.Prelude.{◌≤◌, ℕ, List};
 ghost use Rattle.sas_reader.specs.Limit.{most_bytes};
+ghost use Rattle.sas_reader.specs.Reader as reading;
 ghost use Rattle.sas_reader.specs.Reading.{Starts, Feeds, Finishes};
+ghost use Rattle.sas_plan_file.specs.PlanMachine.{HasCostLine, plan_led, plan_rejects, plan_stays};
 
 use crate::plan_machine::PlanMachine;
 use sas_core::Plan;
@@ -11,6 +14,9 @@ use std::alloc::Global;
 #[derive(Drop)]
 pub struct PlanReader {
     reader: Reader<PlanMachine>,
+    // It represents some bytes: those that it has read.
+    ghost some: { ∥ ((bytes : List ℕ)
+        × reading.Stands plan_led HasCostLine plan_rejects plan_stays reader bytes) ∥₁ },
 }
 
 impl PlanReader {
@@ -20,8 +26,17 @@ impl PlanReader {
     pub fn new(alloc: Global) -> Self
         ensures { Starts plan_view most_bytes result }
     {
+        PlanReader::within(alloc, LIMIT)
+    }
+
+    /// Returns a reader that has read nothing yet and refuses more than `limit` bytes. Only tests of the limit lower it.
+    #[doc(hidden)]
+    pub fn within(alloc: Global, limit: u64) -> Self
+        requires { limit ≤ most_bytes }
+        ensures { Starts plan_view limit result }
+    {
         PlanReader {
-            reader: Reader::new(alloc, PlanMachine::new(alloc), LIMIT),
+            reader: Reader::new(alloc, PlanMachine::new(alloc), limit),
         }
     }
 

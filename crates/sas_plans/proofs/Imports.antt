@@ -46,11 +46,11 @@ pub use Rattle.sas_outputs.specs.Headline.{Solves, Headline}
 pub use Rattle.sas_outputs.specs.Output.{Out, VerdictOut, plain_refusal, IsAnswerOrRefusal, HasOneOutput, refusal_line, word_of, refusal, TaskOut, UnlayeredAnswer, IsLayeredText}
 pub use Rattle.sas_outputs.specs.declared.Request.TheVariants.{Plan}
 pub use Rattle.sas_plan_file.proofs.PlanLaws.{plan_laws_hold}
-pub use Rattle.sas_plan_file.specs.PlanFormat.{plan_format}
+pub use Rattle.sas_plan_file.specs.PlanFormat.{plan_format, PlanKind, like_step, like_cost, like_none}
 pub use Rattle.sas_reader.proofs.Known.{known_answer, known_fault}
 pub use Rattle.sas_reader.proofs.Plain.{plain, plain-decimal}
 pub use Rattle.sas_reader.specs.Devices.{ValueOf, ReadsAll}
-pub use Rattle.sas_reader.specs.Format.{ReadsAs}
+pub use Rattle.sas_reader.specs.Format.{ReadsAs, KindAt, too_long, trailing, wrong}
 pub use Rattle.sas_reader.specs.Limit.{most_bytes}
 pub use Rattle.sas_core.specs.Plain.{IsPlain}
 pub use Rattle.sas_reader.specs.declared.fault.Fault.{Fault}

@@ -1,5 +1,5 @@
 -- The verdict on one plan, by what was read of it.
-use Rattle.sas_plans.proofs.Imports.{◌≡◌, ◌≢◌, ℕ, List, codes, refl, sym, ◌∙◌, Option, Some, None, Result, Ok, Err, IfOk, IfErr, IsErrOf, Consumes, IsAtEnd, Parts, PlanParts, Device, Fault, ValueOf, ReadsAll, ReadsAs, most_bytes, known_answer, known_fault, plan_format, Status, Yes, No, ToolFault, Answer, Output, output_of, IsWrite, VerdictAnswer, refusal, refusal_line, word_of, refused_kind, too_long_else, Verdict, HasCost, KnownBeginsWith, VerdictOut, IsVerdictOnRefusal, IsVerdict, IsVerdictOnPlan, cost_if, Judges, reading_of_refusal, file_refused, file_too_long, worded}
+use Rattle.sas_plans.proofs.Imports.{◌≡◌, ◌≢◌, ◌⊎◌, inl, inr, ℕ, List, codes, refl, sym, ◌∙◌, Option, Some, None, Result, Ok, Err, IfOk, IfErr, IsErrOf, Consumes, IsAtEnd, Parts, PlanParts, Device, Fault, Kind, ValueOf, ReadsAll, ReadsAs, KindAt, too_long, trailing, wrong, most_bytes, known_answer, known_fault, plan_format, PlanKind, like_step, like_cost, like_none, Status, Yes, No, ToolFault, Answer, Output, output_of, IsWrite, VerdictAnswer, refusal, refusal_line, word_of, refused_kind, too_long_else, Verdict, HasCost, KnownBeginsWith, VerdictOut, IsVerdictOnRefusal, IsVerdict, IsVerdictOnPlan, cost_if, Judges, reading_of_refusal, file_refused, file_too_long, worded}
 use Rattle.sas_reader.specs.declared.fault.Kind.TheVariants as kinds
 use Rattle.sas_output.specs.declared.ending.ToolFault.TheVariants as tool_fault
 
@@ -33,6 +33,22 @@ refused_verdict : (p : Parts) (c : List ℕ) (f : Fault) (v : Verdict) → IsVer
 refused_verdict p c f v (o, is, line, cost) fault =
     (o, file_refused plan_format (codes "plan") (VerdictAnswer p) c f o is fault, line, no_cost c o.status v.cost (refused_status (codes "plan") f o is) cost)
 
+-- a plan in memory never has the fault of a failed read
+
+plan_kind_apart : (line : List ℕ) (k : Kind) → PlanKind line k → k ≢ kinds.Read
+plan_kind_apart line k (like_step h) = λ e. cc
+plan_kind_apart line k (like_cost h) = λ e. cc
+plan_kind_apart line k (like_none a b) = λ e. cc
+
+byte_apart : (bytes : List ℕ) (byte : ℕ) (k : Kind) → KindAt plan_format most_bytes bytes byte k → k ≢ kinds.Read
+byte_apart bytes byte k (too_long long is) = λ e. let other : kinds.TooLong ≡ kinds.Read = sym is ∙ e in cc
+byte_apart bytes byte k (trailing short p reads is) = λ e. let other : kinds.Trailing ≡ kinds.Read = sym is ∙ e in cc
+byte_apart bytes byte k (wrong short line ends slot may kind) = plan_kind_apart line k kind
+
+never_unread : (bytes : List ℕ) (f : Fault) → ReadsAs plan_format most_bytes bytes (Err f) → f.kind ≢ kinds.Read
+never_unread bytes f (inl h) = byte_apart h.before h.byte f.kind h.kind
+never_unread bytes f (inr h) = λ e. let other : kinds.End ≡ kinds.Read = sym h.kind ∙ e in cc
+
 -- of bytes in memory
 module _ (b : List ℕ) (p : Parts) (f : Fault) (fault : f.kind ≢ kinds.Memory → ReadsAs plan_format most_bytes b (Err f)) where
   pub judged_refused : (r : Result Answer ToolFault) → IfOk r (λ reported. refusal (codes "plan") f ≡ Some (output_of reported)) → IfOk r (λ reported. VerdictOut VerdictAnswer p b (Some (output_of reported)))
@@ -41,6 +57,19 @@ module _ (b : List ℕ) (p : Parts) (f : Fault) (fault : f.kind ≢ kinds.Memory
 
   pub judged_long : f.kind ≡ kinds.TooLong → VerdictOut VerdictAnswer p b None
   judged_long long = file_too_long plan_format (codes "plan") (VerdictAnswer p) b f long (λ memory read. fault memory)
+
+  judged_err_of : (why : ToolFault) → (IsErrOf {T = Answer} (Err why) tool_fault.Read → f.kind ≡ kinds.Read) → (IsWrite why → ⊥) → (why ≡ tool_fault.Memory) ⊎ (why ≡ tool_fault.TooLong)
+  judged_err_of tool_fault.Memory read writes = inl refl
+  judged_err_of tool_fault.TooLong read writes = inr refl
+  judged_err_of tool_fault.Read read writes =
+      let unread = read refl in
+      absurd (never_unread b f (fault (λ e. let other : kinds.Read ≡ kinds.Memory = sym unread ∙ e in cc)) unread)
+  judged_err_of (tool_fault.Write n) read writes = absurd (writes tt)
+
+  -- so there is no answer only if memory is refused, or the plan is too long
+  pub judged_err : (r : Result Answer ToolFault) → (IsErrOf r tool_fault.Read → f.kind ≡ kinds.Read) → IfErr r (λ e. IsWrite e → ⊥) → IfErr r (λ e. (e ≡ tool_fault.Memory) ⊎ (e ≡ tool_fault.TooLong))
+  judged_err (Ok reported) read writes = tt
+  judged_err (Err why) read writes = judged_err_of why read writes
 
 -- ---- as it is read from a device
 

@@ -1,5 +1,5 @@
 // A task that is held for plans to come; and plans in memory, judged for it.
-ghost use Rattle.std.specs.Prelude.{◌≡◌, Some, None, IfOk, IsErrOf};
+ghost use Rattle.std.specs.Prelude.{◌≡◌, ◌⊎◌, Some, None, IfErr, IfOk, IsErrOf};
 ghost use Rattle.sas_answers.specs.Answers.{VerdictAnswer};
 ghost use Rattle.sas_output.specs.Ending.{output_of};
 ghost use Rattle.sas_outputs.specs.Output.{VerdictOut};
@@ -36,6 +36,8 @@ pub fn judge_bytes(
         VerdictOut VerdictAnswer held.old plan.now (Some (output_of reported))) }
     ensures long { IsErrOf result ToolFault.TooLong
         → VerdictOut VerdictAnswer held.old plan.now None }
+    // Bytes in memory can be read, and nothing is written.
+    ensures err { IfErr result (λ e. (e ≡ ToolFault.Memory) ⊎ (e ≡ ToolFault.TooLong)) }
     ensures same { held.new ≡ held.old }
 {
     match flat_plan_of(alloc, plan) {

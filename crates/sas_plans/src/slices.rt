@@ -2,9 +2,10 @@
 ghost use Rattle.std.specs.Prelude.{◌≡◌, ◌↔◌, All, Some, None, IfOk, IfErr, IsTrue};
 ghost use Rattle.sas_output.specs.Ending.{output_of};
 ghost use Rattle.sas_plans.specs.Inputs.{IsLabel, tool_fault};
+ghost use Rattle.sas_plans.specs.InTurn.{IsRightlyLong};
 ghost use Rattle.sas_plans.specs.Judged.{JudgeOut};
 ghost use Rattle.sas_plans.specs.PlansHeadline.{PlansHeadline};
-ghost use Rattle.sas_plans.specs.Slices.{bytes_of, labels_of};
+ghost use Rattle.sas_plans.specs.Slices.{IsOfOpened, bytes_of, known_bytes, labels_of};
 
 use crate::inputs::{JudgeFault, PlanInputs, is_label};
 use crate::judging::judge;
@@ -26,14 +27,14 @@ pub struct PlanSlices<'p> {
 }
 
 impl<'p> PlanInputs for PlanSlices<'p> {
-    ghost use Rattle.std.specs.Prelude.{◌≡◌, [], Some, IsSomeAnd, slice_index_or};
-    ghost use Rattle.sas_plans.specs.Slices.{bytes_of, labels_of};
+    ghost use Rattle.std.specs.Prelude.{◌≡◌, [], IsSomeAnd, slice_index_or};
+    ghost use Rattle.sas_plans.specs.Slices.{bytes_of, known_bytes, labels_of};
 
     type Input = &'p [u8];
 
     ghost labels = { λ slices. labels_of slices.plans.now };
 
-    ghost bytes = { λ slices number. Some (slice_index_or (bytes_of slices.plans.now) number []) };
+    ghost bytes = { λ slices. known_bytes slices.plans.now };
 
     // They stay as they were.
     ghost open_gives = { λ before number given after. (after ≡ before)
@@ -65,6 +66,9 @@ pub fn judge_slices(
         (bytes_of plans.now) (Some (output_of reported))) }
     ensures long { IfErr result (λ e. tool_fault e ≡ ToolFault.TooLong
         → JudgeOut (labels_of plans.now) task.now (bytes_of plans.now) None) }
+    // A plan that is reported to be too long is, and none is reported as not opened.
+    ensures rightly { IfErr result (IsRightlyLong (known_bytes plans.now)) }
+    ensures opened { IfErr result IsOfOpened }
     // `LABEL: plan valid` is in the text exactly if the plan solves the task at that cost.
     ensures headline { IfOk result (λ reported. PlansHeadline (labels_of plans.now) task.now
         (bytes_of plans.now) (λ text. reported.text.items ≡ text) reported.status) }

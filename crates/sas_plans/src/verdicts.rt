@@ -1,5 +1,5 @@
 // The verdict on one of many plans.
-ghost use Rattle.std.specs.Prelude.{◌≡◌, ◌↔◌, ◌<◌, ℕ, length, IfOk, IfErr, IsErrOf};
+ghost use Rattle.std.specs.Prelude.{◌≡◌, ◌↔◌, ◌<◌, ℕ, length, false, IfOk, IfErr, IsErrOf, IsTrue};
 ghost use Rattle.sas_output.specs.Ending.{IsWrite};
 ghost use Rattle.sas_plans.specs.Inputs.{tool_fault, tool_result};
 ghost use Rattle.sas_plans.specs.Judging.{EndsAt, IsBehindOpening, IsOpened, IsVerdictOnRefusal, Judges, IsVerdictOnPlan};
@@ -46,7 +46,10 @@ pub fn judge_plan<S: PlanInputs>(
             fault: InputFault::NotOpened,
         });
     };
-    match judge_input(alloc, held, input) {
+    let mut plan = Watched::new(input);
+    let judged = judge_input(alloc, held, &mut plan);
+    drop(plan);
+    match judged {
         Ok(verdict) => Ok(verdict),
         Err(fault) => Err(fault_of_plan(number, fault)),
     }
@@ -71,17 +74,18 @@ fn fault_of_plan(number: usize, fault: ToolFault) -> JudgeFault
     }
 }
 
-/// Reads a plan, and returns the verdict on it. A plan file that is refused has a verdict, too. The input is let go.
-fn judge_input<P: Read + Drop>(
+/// Reads a plan, and returns the verdict on it. A plan file that is refused has a verdict, too.
+fn judge_input<P: Read>(
     alloc: Global,
     held: &mut Held<Worklist, FlatTask>,
-    input: P,
+    plan: &mut Watched<P>,
 ) -> Result<Verdict, ToolFault>
-    ensures judges { Judges held.old (P.remaining input) result }
+    requires { plan.old.failed ≡ false }
+    ensures judges { Judges held.old (P.remaining plan.old.device) result }
+    ensures reads { IsErrOf result ToolFault.Read ↔ IsTrue plan.new.failed }
     ensures same { held.new ≡ held.old }
 {
-    let mut plan = Watched::new(input);
-    match read_flat_plan(alloc, &mut plan) {
+    match read_flat_plan(alloc, plan) {
         Ok(read) => Ok(verdict_by(alloc, held, &read)?),
         Err(refusal) => refuse_plan(alloc, refusal.fault),
     }

@@ -30,8 +30,9 @@ impl TaskReader {
         TaskReader::within(alloc, LIMIT)
     }
 
-    /// Returns a reader that has read nothing yet and refuses more than `limit` bytes.
-    pub(crate) fn within(alloc: Global, limit: u64) -> Self
+    /// Returns a reader that has read nothing yet and refuses more than `limit` bytes. Only tests of the limit lower it.
+    #[doc(hidden)]
+    pub fn within(alloc: Global, limit: u64) -> Self
         requires { limit ≤ most_bytes }
         ensures { Starts task_view limit result }
     {

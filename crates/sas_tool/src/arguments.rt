@@ -1,4 +1,11 @@
 // The arguments of the command line.
+ghost use Rattle.std.specs.Prelude.{◌≡◌, [], codes, IfOk};
+ghost use Rattle.std.specs.Option.{option_map_or};
+ghost use Rattle.clap.specs.Words.{first_value, found_of, matched_of, raw_values};
+ghost use Rattle.sas_tool.specs.Jobs.{IsNamed, NamesInputOnce, asked_name, name_of, request_name};
+ghost use Rattle.sas_tool.specs.Jobs.{HasLabels, IsSource};
+ghost use Rattle.sas_tool.specs.Labels.{bytes_of_labels};
+
 use crate::Request;
 use clap::error::ErrorKind;
 use clap::{Arg, ArgAction, ArgMatches, Command, Error};
@@ -55,7 +62,7 @@ pub enum Job {
 
 /// Why the arguments are no job.
 #[derive(Drop)]
-pub enum ArgumentsFault {
+pub enum WordsFault {
     /// The arguments are invalid, or request help; the error has the text for the user.
     Refused(Error),
     /// Standard input is named twice.
@@ -64,15 +71,17 @@ pub enum ArgumentsFault {
     Memory,
 }
 
-impl From<AllocError> for ArgumentsFault {
-    fn from(_error: AllocError) -> ArgumentsFault {
-        ArgumentsFault::Memory
+impl From<AllocError> for WordsFault {
+    fn from(_error: AllocError) -> WordsFault {
+        WordsFault::Memory
     }
 }
 
-/// Returns the job of the arguments. The first one is the program's name.
-pub fn command(alloc: Global, arguments: Vec<String>) -> Result<Job, ArgumentsFault> {
-    match grammar(alloc)?.try_get_matches_from(arguments.as_slice()) {
+/// Returns the job that the words of the command line request. The first word is the program's name.
+pub fn command(alloc: Global, words: Vec<String>) -> Result<Job, WordsFault>
+    ensures { IfOk result NamesInputOnce }
+{
+    match grammar(alloc)?.try_get_matches_from(words.as_slice()) {
         Ok(matches) => job_of(alloc, &matches)?.with_one_input(),
         Err(error) => Err(refused(error)),
     }
@@ -80,13 +89,15 @@ pub fn command(alloc: Global, arguments: Vec<String>) -> Result<Job, ArgumentsFa
 
 impl Job {
     /// Returns the job, unless both of its sources are standard input.
-    fn with_one_input(self) -> Result<Job, ArgumentsFault> {
+    fn with_one_input(self) -> Result<Job, WordsFault>
+        ensures { IfOk result (λ job. (job ≡ self) × NamesInputOnce job) }
+    {
         match &self {
             Job::Files {
                 task: Some(Source::Input),
                 plan: Some(Source::Input),
                 ..
-            } => Err(ArgumentsFault::InputTwice),
+            } => Err(WordsFault::InputTwice),
             _ => Ok(self),
         }
     }
@@ -261,7 +272,9 @@ fn job_of(alloc: Global, matches: &ArgMatches<'_>) -> Result<Job, AllocError> {
 }
 
 /// Returns the job of the request of this name.
-fn job_named(alloc: Global, name: &str, matches: &ArgMatches<'_>) -> Result<Job, AllocError> {
+fn job_named(alloc: Global, name: &str, matches: &ArgMatches<'_>) -> Result<Job, AllocError>
+    ensures { IfOk result (IsNamed name.now) }
+{
     match name {
         "plan" => job_over_files(alloc, by_flag(Request::Plan, matches), matches),
         "plans" => job_over_many(alloc, matches),
@@ -275,7 +288,9 @@ fn job_named(alloc: Global, name: &str, matches: &ArgMatches<'_>) -> Result<Job,
 }
 
 /// Returns the request with or without reasons, by its flag.
-fn by_flag(request: Request, matches: &ArgMatches<'_>) -> Asked {
+fn by_flag(request: Request, matches: &ArgMatches<'_>) -> Asked
+    ensures { asked_name result ≡ request_name request }
+{
     if matches.get_flag(WHY) {
         Asked::Explanation(request)
     } else {
@@ -284,25 +299,30 @@ fn by_flag(request: Request, matches: &ArgMatches<'_>) -> Asked {
 }
 
 /// Returns the job over a task, a plan or both: over those that the arguments name.
-fn job_over_files(
-    alloc: Global,
-    asked: Asked,
-    matches: &ArgMatches<'_>,
-) -> Result<Job, AllocError> {
+fn job_over_files(alloc: Global, asked: Asked, matches: &ArgMatches<'_>) -> Result<Job, AllocError>
+    ensures { IfOk result (λ job. name_of job ≡ asked_name asked) }
+{
     let task = named(alloc, matches, "TASK")?;
     let plan = named(alloc, matches, "PLAN")?;
     Ok(Job::Files { asked, task, plan })
 }
 
 /// Returns the job over a task and many plans.
-fn job_over_many(alloc: Global, matches: &ArgMatches<'_>) -> Result<Job, AllocError> {
+fn job_over_many(alloc: Global, matches: &ArgMatches<'_>) -> Result<Job, AllocError>
+    ensures named { IfOk result (λ job. name_of job ≡ codes "plans") }
+    ensures labels { IfOk result (HasLabels
+        (option_map_or raw_values (matched_of (found_of matches.now) (codes "PLAN")) [])) }
+{
     let labels = labels_of(alloc, matches)?;
     let task = named(alloc, matches, "TASK")?;
     Ok(Job::Plans { task, labels })
 }
 
-/// Returns the arguments that name the plans.
-fn labels_of(alloc: Global, matches: &ArgMatches<'_>) -> Result<Vec<String>, AllocError> {
+/// Returns the arguments that name the plans, in order.
+fn labels_of(alloc: Global, matches: &ArgMatches<'_>) -> Result<Vec<String>, AllocError>
+    ensures { IfOk result (λ labels. bytes_of_labels labels.items
+        ≡ option_map_or raw_values (matched_of (found_of matches.now) (codes "PLAN")) []) }
+{
     let mut labels = Vec::new(alloc);
     if let Some(names) = matches.get_strs("PLAN") {
         for name in names {
@@ -313,7 +333,9 @@ fn labels_of(alloc: Global, matches: &ArgMatches<'_>) -> Result<Vec<String>, All
 }
 
 /// Returns the source that an argument names.
-fn named(alloc: Global, matches: &ArgMatches<'_>, id: &str) -> Result<Option<Source>, AllocError> {
+fn named(alloc: Global, matches: &ArgMatches<'_>, id: &str) -> Result<Option<Source>, AllocError>
+    ensures { IfOk result (IsSource (first_value (found_of matches.now) id.now)) }
+{
     match matches.get_str(id) {
         Some("-") => Ok(Some(Source::Input)),
         Some(name) => Ok(Some(Source::File(String::from_str(alloc, name)?))),
@@ -321,9 +343,9 @@ fn named(alloc: Global, matches: &ArgMatches<'_>, id: &str) -> Result<Option<Sou
     }
 }
 
-fn refused(error: Error) -> ArgumentsFault {
+fn refused(error: Error) -> WordsFault {
     match error.kind() {
-        ErrorKind::OutOfMemory => ArgumentsFault::Memory,
-        _ => ArgumentsFault::Refused(error),
+        ErrorKind::OutOfMemory => WordsFault::Memory,
+        _ => WordsFault::Refused(error),
     }
 }

@@ -56,7 +56,7 @@ impl<'p, R: Files + Input> PlanInputs for PlanFiles<'p, R> {
 
 /// Returns whether none of the labels has a line end.
 pub fn are_labels(labels: &[String]) -> bool
-    ensures { IsTrue result → All (λ label. IsLabel (string_bytes label)) labels.now }
+    ensures { IsTrue result ↔ All (λ label. IsLabel (string_bytes label)) labels.now }
 {
     for label in labels {
         if !is_label(label.as_bytes()) {

@@ -1,9 +1,11 @@
 // The program: its arguments, its devices and how it ends.
 ghost use Rattle.std.specs.Prelude.{◌≡◌, false, All};
+ghost use Rattle.std.specs.Option.{option_copied};
 ghost use Rattle.std.specs.String.{string_bytes};
 ghost use Rattle.sas_plans.specs.Inputs.{IsLabel};
+ghost use Rattle.sas_tool.specs.Statuses.{error_line, exit_status};
 
-use crate::arguments::{ArgumentsFault, Asked, Job, Source, command};
+use crate::arguments::{Asked, Job, Source, WordsFault, command};
 use crate::plan_files::{PlanFiles, are_labels, name_input_twice};
 use crate::streams::replace_closed;
 use crate::until_end::UntilEnd;
@@ -151,15 +153,26 @@ fn judge_plans<R: AllocGlobal + Files + Input + Print + Eprint>(
     }
 }
 
-/// Ends with the status of the result.
-fn end<R: Eprint>(rt: &R, outcome: &Result<Status, ToolFault>) -> ExitCode {
-    match outcome {
-        Ok(Status::Yes) => ExitCode::from(YES),
-        Ok(Status::No) => ExitCode::from(NO),
-        Err(ToolFault::Memory) => stop(rt, FAULT, OUT_OF_MEMORY),
-        Err(ToolFault::Read) => stop(rt, FAULT, "sas: read failed"),
-        Err(ToolFault::TooLong) => stop(rt, FAULT, "sas: input too long"),
-        Err(ToolFault::Write { .. }) => stop(rt, FAULT, WRITE_FAILED),
+/// Returns the exit status of a result, and the line for standard error, without its end, if there is no answer.
+pub fn ending(ended: &Result<Status, ToolFault>) -> (u8, Option<&'static str>)
+    ensures status { result.0 ≡ exit_status ended.now }
+    ensures line { option_copied result.1 ≡ error_line ended.now }
+{
+    match ended {
+        Ok(Status::Yes) => (YES, None),
+        Ok(Status::No) => (NO, None),
+        Err(ToolFault::Memory) => (FAULT, Some(OUT_OF_MEMORY)),
+        Err(ToolFault::Read) => (FAULT, Some("sas: read failed")),
+        Err(ToolFault::TooLong) => (FAULT, Some("sas: input too long")),
+        Err(ToolFault::Write { .. }) => (FAULT, Some(WRITE_FAILED)),
+    }
+}
+
+/// Ends with the status of the result, after the line on standard error, if there is one.
+fn end<R: Eprint>(rt: &R, ended: &Result<Status, ToolFault>) -> ExitCode {
+    match ending(ended) {
+        (status, Some(line)) => stop(rt, status, line),
+        (status, None) => ExitCode::from(status),
     }
 }
 
@@ -188,12 +201,12 @@ fn job_of_arguments<R: AllocGlobal + Env + Eprint>(rt: &R) -> Result<Job, ExitCo
     };
     match command(rt.alloc(), arguments) {
         Ok(job) => Ok(job),
-        Err(ArgumentsFault::Refused(error)) => {
+        Err(WordsFault::Refused(error)) => {
             let _ = rt.eprint(error);
             Err(ExitCode::from(INVALID_ARGUMENTS))
         }
-        Err(ArgumentsFault::InputTwice) => Err(stop(rt, INVALID_ARGUMENTS, INPUT_TWICE)),
-        Err(ArgumentsFault::Memory) => Err(stop(rt, FAULT, OUT_OF_MEMORY)),
+        Err(WordsFault::InputTwice) => Err(stop(rt, INVALID_ARGUMENTS, INPUT_TWICE)),
+        Err(WordsFault::Memory) => Err(stop(rt, FAULT, OUT_OF_MEMORY)),
     }
 }
 

@@ -3,9 +3,9 @@
 
 mod reader_calls;
 
-use reader_calls::{feed_plan, feed_task, feed_within, read};
+use reader_calls::{feed_plan, feed_plan_within, feed_task, feed_task_within, read};
 use sas_text::{plan_laws, task_laws};
-use test_words::{Asked, answer, say};
+use test_words::{Asked, answer, number_in, say};
 
 /// Makes the call, or returns `None` if it doesn't.
 fn call(rt: &HostRuntime, asked: Asked<'_>) -> Option<()> {
@@ -13,7 +13,8 @@ fn call(rt: &HostRuntime, asked: Asked<'_>) -> Option<()> {
         "read" => read(rt, asked.kind, asked.bytes),
         "feed-plan" => feed_plan(rt, asked.bytes),
         "feed-task" => feed_task(rt, asked.bytes),
-        "feed-within" => feed_within(rt, asked.kind, asked.bytes)?,
+        "feed-plan-within" => feed_plan_within(rt, number_in(asked.kind.as_bytes())?, asked.bytes),
+        "feed-task-within" => feed_task_within(rt, number_in(asked.kind.as_bytes())?, asked.bytes),
         "laws" => say_laws(rt),
         _ => return None,
     }

@@ -3,15 +3,13 @@ ghost use Rattle.std.specs.Prelude.{◌≡◌, false};
 
 use sas_core::{Plan, Task};
 use sas_lines::Watched;
-use sas_plan_file::PlanMachine;
-use sas_reader::Reader;
 use sas_text::{
     Fault, Kind, PlanReader, PlanRefusal, TaskReader, TaskRefusal, encode_plan, encode_task,
     read_flat_plan, read_flat_task, read_outline, read_plan, read_plan_text, read_task,
     read_task_text,
 };
 use std::io::Read;
-use test_words::{ReportedReader, number_in, say, say_text};
+use test_words::{ReportedReader, say, say_text};
 
 /// Prints a fault.
 fn say_fault(rt: &HostRuntime, fault: Fault) {
@@ -115,14 +113,18 @@ pub fn feed_task(rt: &HostRuntime, pieces: &[u8]) {
     say_task(rt, reader.finish());
 }
 
-/// Feeds a plan to a reader with a smaller limit than that of files, and prints the result. The reader is made from a machine, since the
-/// constructor of `PlanReader` that takes a limit is private to its crate. Detects a definition of the limit that is too small.
-pub fn feed_within(rt: &HostRuntime, limit: &str, bytes: &[u8]) -> Option<()> {
-    let limit = u64::from(number_in(limit.as_bytes())?);
-    let mut reader = Reader::new(rt.alloc(), PlanMachine::new(rt.alloc()), limit);
-    match reader.feed(bytes) {
-        Ok(()) => say_end(rt, reader.finish().map_err(|refused| refused.into_fault())),
-        Err(fault) => say_fault(rt, fault),
-    }
-    Some(())
+/// Feeds a plan to a reader with a smaller limit than that of files, and prints the result. Detects a limit that is too small, and a
+/// reader that ignores it.
+pub fn feed_plan_within(rt: &HostRuntime, limit: u32, bytes: &[u8]) {
+    let mut reader = PlanReader::within(rt.alloc(), u64::from(limit));
+    // The reader keeps a fault, and returns it at the end.
+    let _ = reader.feed(bytes);
+    say_end(rt, reader.finish());
+}
+
+/// Feeds a task to a reader with a smaller limit, as `feed_plan_within` does.
+pub fn feed_task_within(rt: &HostRuntime, limit: u32, bytes: &[u8]) {
+    let mut reader = TaskReader::within(rt.alloc(), u64::from(limit));
+    let _ = reader.feed(bytes);
+    say_end(rt, reader.finish());
 }

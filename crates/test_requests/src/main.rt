@@ -1,8 +1,9 @@
-//! Test program for `run`, `explain`, `trace` and `judge` over devices. Standard input requests calls, as `test_words` describes.
+//! Test program for `run`, `explain`, `trace` and `judge` over devices, and for the words of the command line. Standard input requests calls, as `test_words` describes.
 #![tactic(auto)]
 
 mod judge_calls;
 mod run_calls;
+mod tool_calls;
 
 use judge_calls::{judge_in_memory, judge_listed};
 use run_calls::{answer_question, say_messages};
@@ -10,6 +11,7 @@ use sas_plans::judge_laws;
 use sas_requests::{explain_laws, run_laws, trace_output_laws};
 use std::fmt::Debug;
 use test_words::{Asked, answer, say, say_debug, say_line};
+use tool_calls::{say_endings, say_job};
 
 /// The longest read of an input.
 const LONGEST_READ: usize = 65_536;
@@ -21,6 +23,8 @@ fn call(rt: &HostRuntime, asked: Asked<'_>) -> Option<()> {
         "judge" => judge_listed(rt, asked.bytes)?,
         "judge-slices" => judge_in_memory(rt, asked.bytes)?,
         "messages" => say_messages(rt),
+        "words" => say_job(rt, asked.bytes)?,
+        "endings" => say_endings(rt),
         "laws" => say_laws(rt),
         _ => return None,
     }

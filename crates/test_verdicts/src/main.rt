@@ -1,11 +1,13 @@
 //! Test program for the meaning of tasks, plans, and mutex groups. Standard input requests calls, as `test_words` describes.
 #![tactic(auto)]
 
+mod caller;
 mod evaluator_calls;
 mod group_calls;
 mod runner_calls;
 mod task_calls;
 
+use caller::cost_if_valid;
 use evaluator_calls::call_by_kind;
 use group_calls::{check_all, say_facts};
 use sas_axioms::{Layered, meaning_laws};
@@ -14,7 +16,7 @@ use sas_mutex::group_laws;
 use sas_run::verdict_laws;
 use std::alloc::Global;
 use task_calls::{new_layered, new_state};
-use test_words::{Asked, answer, cut, say, task_of};
+use test_words::{Asked, answer, cut, say, say_debug, task_of};
 
 /// Makes the call, or returns `None` if it doesn't. The bytes are the arguments of the call, a `|`, and the file of a task.
 fn call(rt: &HostRuntime, asked: Asked<'_>) -> Option<()> {
@@ -23,6 +25,10 @@ fn call(rt: &HostRuntime, asked: Asked<'_>) -> Option<()> {
         return Some(());
     }
     let (words, file) = cut(asked.bytes, b'|');
+    if asked.call == "caller" {
+        say_debug(rt, &cost_if_valid(rt.alloc(), file, words));
+        return Some(());
+    }
     let task = task_of(rt.alloc(), file)?;
     match asked.call {
         "layered" => {

@@ -1,0 +1,51 @@
+-- What the arguments request.
+use Rattle.std.specs.Prelude.{◌≡◌, ◌≢◌, ◌⊎◌, ℕ, List, codes, ⊤, Option, Some, None}
+use Rattle.std.specs.String.{string_bytes}
+use Rattle.sas_outputs.specs.declared.Request.{Request}
+use Rattle.sas_outputs.specs.declared.Request.TheVariants as request
+use Rattle.sas_tool.specs.declared.arguments.Asked.{Asked}
+use Rattle.sas_tool.specs.declared.arguments.Asked.TheVariants.{Answer, Explanation, Trace}
+use Rattle.sas_tool.specs.declared.arguments.Job.{Job}
+use Rattle.sas_tool.specs.declared.arguments.Job.TheVariants.{Files, Plans}
+use Rattle.sas_tool.specs.declared.arguments.Source.{Source}
+use Rattle.sas_tool.specs.declared.arguments.Source.TheVariants.{Input, File}
+use Rattle.sas_tool.specs.Labels.{bytes_of_labels}
+
+-- the name of a request
+abbrev pub request_name : Request → List ℕ
+request_name request.Plan = codes "plan"
+request_name request.Mutex = codes "mutex"
+request_name request.Show = codes "show"
+request_name request.Check = codes "check"
+request_name request.Print = codes "print"
+request_name request.Steps = codes "steps"
+
+abbrev pub asked_name : Asked → List ℕ
+asked_name (Answer r) = request_name r
+asked_name (Explanation r) = request_name r
+asked_name Trace = codes "trace"
+
+-- the name of what a job requests
+abbrev pub name_of : Job → List ℕ
+name_of (Files asked task plan) = asked_name asked
+name_of (Plans task labels) = codes "plans"
+
+-- the job requests what has this name; all other names are those of `steps`
+abbrev pub IsNamed : List ℕ → Job → Type 0
+IsNamed name job = (name_of job ≡ name) ⊎ (name_of job ≡ codes "steps")
+
+-- the job is over plans with these labels, in order
+abbrev pub HasLabels : List (List ℕ) → Job → Type 0
+HasLabels words (Files asked task plan) = ⊥
+HasLabels words (Plans task labels) = bytes_of_labels labels.items ≡ words
+
+-- the word `-` names standard input, any other word a file, and no word nothing
+abbrev pub IsSource : Option (List ℕ) → Option Source → Type 0
+IsSource word None = word ≡ None
+IsSource word (Some Input) = word ≡ Some (codes "-")
+IsSource word (Some (File name)) = (word ≡ Some (string_bytes name)) × (string_bytes name ≢ codes "-")
+
+-- a task and a plan aren't both standard input
+abbrev pub NamesInputOnce : Job → Type 0
+NamesInputOnce (Files asked task plan) = task ≡ Some Input → plan ≡ Some Input → ⊥
+NamesInputOnce (Plans task labels) = ⊤
