@@ -1,8 +1,7 @@
 -- What is expected after the first lines of a task, by a tracker over them.
-use Rattle.sas_task_format.proofs.Imports.{◌≡◌, ℕ, zero, suc, List, [], ◌∷◌, ◌++◌, length, map, refl, sym, ap, subst, ◌∙◌, slice_get, Some, None, append-nil, map-append, length-map, Parts, WellRanged, cut_at, Place, Due, Mark, TaskLine, task_slot, task_line_bytes, task_layout, any_number, slot_of_due, task_marks, IsDue, Tracker, tracker_start, by_count, track_line, track, mark, mark_at, mark_in, next_number}
+use Rattle.sas_task_format.proofs.Imports.{◌≡◌, ℕ, zero, suc, List, [], ◌∷◌, ◌++◌, length, map, refl, sym, ap, subst, ◌∙◌, slice_get, Some, None, append-nil, map-append, length-map, Parts, WellRanged, cut_at, Place, Due, Mark, TaskLine, task_slot, task_line_bytes, task_layout, slot_of_due, task_marks, IsDue, Tracker, tracker_start, by_count, track_line, track, mark_in, Row, row_at}
 use Rattle.sas_task_format.specs.declared.places.Place.TheVariants as place
 use Rattle.sas_task_format.specs.declared.marks.Due.TheVariants as due
-use Rattle.sas_task_format.specs.declared.marks.FixedWord.TheVariants as fixed
 use Rattle.sas_task_format.specs.declared.marks.Location.TheVariants as at
 use Rattle.sas_task_format.proofs.Tracking.{track_marks, IsBehindVariables, Known, Along}
 use Rattle.sas_task_format.proofs.TrackedTask.{ranges_in, behind_all, task_scan}
@@ -79,15 +78,11 @@ module _ (v : Parts) (good : WellRanged v) where
 abbrev pub HasFacts : Due → Type 0
 HasFacts d = HasBounds (slot_of_due d)
 
-no_facts : (n : ℕ) (m k : Mark) → (HasFacts m.due → ⊥) → (HasFacts k.due → ⊥) → HasFacts (by_count n m k).due → ⊥
-no_facts zero m k f g h = f h
-no_facts (suc n) m k f g h = g h
+no_facts : (n : ℕ) (a b : Row) → (HasFacts a.due → ⊥) → (HasFacts b.due → ⊥) → HasFacts (by_count n a b).due → ⊥
+no_facts zero a b f g h = f h
+no_facts (suc n) a b f g h = g h
 
-no_fact : (n : ℕ) (d e : Due) → (HasFacts d → ⊥) → (HasFacts e → ⊥) → HasFacts (by_count n d e) → ⊥
-no_fact zero d e f g h = f h
-no_fact (suc n) d e f g h = g h
-
-facts_behind_variables : (p : Place) (t : Tracker) → HasFacts (mark_at p t).due → IsBehindVariables p
+facts_behind_variables : (p : Place) (t : Tracker) → HasFacts (row_at p t).due → IsBehindVariables p
 facts_behind_variables place.VersionBegin t h = h
 facts_behind_variables place.VersionNumber t h = h
 facts_behind_variables place.VersionEnd t h = h
@@ -95,11 +90,11 @@ facts_behind_variables place.MetricBegin t h = h
 facts_behind_variables place.MetricNumber t h = h
 facts_behind_variables place.MetricEnd t h = h
 facts_behind_variables place.VariableCount t h = h
-facts_behind_variables place.Variables t h = no_facts t.left (mark at.Groups any_number) (mark (at.Variable (next_number t)) (due.Word fixed.BeginVariable)) (λ x. x) (λ x. x) h
+facts_behind_variables place.Variables t h = no_facts t.left _ _ (λ x. x) (λ x. x) h
 facts_behind_variables place.VariableName t h = h
 facts_behind_variables place.VariableLayer t h = h
 facts_behind_variables place.VariableRange t h = h
-facts_behind_variables place.VariableValues t h = no_fact t.more (due.Word fixed.EndVariable) due.Name (λ x. x) (λ x. x) h
+facts_behind_variables place.VariableValues t h = no_facts t.more _ _ (λ x. x) (λ x. x) h
 facts_behind_variables _ t h = tt
 
 -- such lines are expected only after the variables

@@ -46,9 +46,11 @@ pub use Rattle.sas_task_format.specs.TaskFormat.{TaskLine, TaskLineFits, TaskSlo
 pub use Rattle.sas_task_format.specs.TaskLaws.{number_filling, filling, FillingsInBytes, last_slot, AreFillings, Completion, TaskIsFilled, OneCompletion}
 pub use Rattle.sas_task_format.specs.TaskProcess.{TaskProcess, task_start, TaskPart, name_in, number_in, signed_in, fact_in, effect_in, head_in, any, positive, may_change, effect_may_stand, head_may_stand, a_word, a_name, a_number, a_signed, a_fact, an_effect, a_head, a_value, a_version, a_metric, a_variable, a_group, a_state, a_goal, an_operator, a_rule, a_task, Head}
 pub use Rattle.sas_task_format.specs.TaskReasons.{first_wrong, line_bounds, OneTaskReason, OneWrongWord, Bounded, fact_bounds, change_bounds, IsTaskReason, SomeTaskReason, IsFirstWrong, SpeaksOfFacts, SomeWrongWord, WrongWordIsNamed}
-pub use Rattle.sas_task_format.specs.Tracker.{tracker_start, track, mark_in, Tracker, by_count, track_line, mark, mark_at, next_number, this_number}
+pub use Rattle.sas_task_format.specs.Tracker.{tracker_start, track, mark_in, by_count, track_line, mark, row_at, row_in, IsRow, this_number, value_due}
+pub use Rattle.sas_task_format.specs.declared.tracker.Tracker.{Tracker}
 pub use Rattle.sas_task_format.specs.declared.marks.Due.{Due}
 pub use Rattle.sas_task_format.specs.declared.marks.Location.{Location}
 pub use Rattle.sas_task_format.specs.declared.marks.Mark.{Mark}
 pub use Rattle.sas_task_format.specs.declared.marks.WrongWord.{WrongWord}
 pub use Rattle.sas_task_format.specs.declared.places.Place.{Place}
+pub use Rattle.sas_task_format.specs.declared.places.Row.{Row}

@@ -5,6 +5,7 @@ pub mod TaskPlain
 pub mod TaskGrammar
 pub mod TaskFilling
 pub mod TaskLaws
+pub mod RowsOfPlaces
 pub mod Tracking
 pub mod TrackedSections
 pub mod TrackedTask

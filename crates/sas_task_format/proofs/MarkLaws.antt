@@ -2,7 +2,6 @@
 -- So there is one reason why it is refused.
 use Rattle.sas_task_format.proofs.Imports.{◌≡◌, ℕ, List, ◌∷◌, ◌++◌, map, sym, ap, subst, ◌∙◌, Parts, WellRanged, IsBegun, After, LeadsToEnd, cut_at, ends_split, same_path, Mark, process_node, TaskLine, TaskLineFits, task_line_bytes, task_layout, task_format, TaskProcess, task_start, slot_of_due, IsDue, OneDue, SomeDue, tracker_start, track, mark_in, first_wrong, line_bounds, OneTaskReason, OneWrongWord}
 use Rattle.sas_reader.specs.declared.fault.Kind.TheVariants as kinds
-use Rattle.sas_task_format.specs.declared.marks.Due.TheVariants as due
 use Rattle.sas_task_format.proofs.TaskGrammar.{task_grammar}
 use Rattle.sas_task_format.proofs.DueBehind.{belongs_behind, ranges_behind, is_due, HasFacts, speaks_behind_variables, standing}
 use Rattle.sas_task_format.proofs.TaskLines.{one_task_line}

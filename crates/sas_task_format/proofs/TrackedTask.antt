@@ -1,6 +1,5 @@
 -- A tracker over all lines of a task: its marks are those of the task.
-use Rattle.sas_task_format.proofs.Imports.{◌≡◌, ℕ, ◌+◌, ◌-◌, Bool, true, false, nat_lt, List, [], ◌∷◌, ◌++◌, length, map, refl, sym, ap, ◌∙◌, append_assoc, arith, codes, length-append, slice_index_or, if◌then◌else◌, flat_map, lt-ltb, le-ltb, map-append, get_or-append-add, Variable, Parts, WellRanged, Due, Mark, Paired, TaskLine, word, number, single_line, counted, version_lines, metric_lines, variable_lines, group_lines, state_lines, goal_lines, operator_lines, rule_lines, task_layout, between_words, there, slot_of_due, any_number, positive_number, numbered, variable_dues, group_dues, operator_dues, rule_dues, task_marks, Tracker, tracker_start, track_line, mark, mark_in}
-use Rattle.std.proofs.Common.{append-nil}
+use Rattle.sas_task_format.proofs.Imports.{◌≡◌, ℕ, suc, ◌+◌, ◌-◌, List, [], ◌∷◌, ◌++◌, length, map, refl, sym, ap, ◌∙◌, append_assoc, arith, codes, length-append, slice_index_or, flat_map, map-append, length-map, get_or-append-add, Variable, Parts, WellRanged, Due, Mark, Paired, TaskLine, word, number, single_line, counted, version_lines, metric_lines, variable_lines, group_lines, state_lines, goal_lines, operator_lines, rule_lines, task_layout, between_words, there, any_number, positive_number, numbered, variable_dues, group_dues, operator_dues, rule_dues, task_marks, Tracker, tracker_start, mark}
 use Rattle.sas_task_format.specs.declared.places.Place.TheVariants as place
 use Rattle.sas_task_format.specs.declared.marks.Due.TheVariants as due
 use Rattle.sas_task_format.specs.declared.marks.FixedWord.TheVariants as fixed
@@ -13,57 +12,46 @@ use Rattle.sas_task_format.proofs.TrackedSections.{version_scan, metric_scan, va
 abbrev pub ranges_in : List Variable → List ℕ
 ranges_in vs = map (λ v. length v.values) vs
 
--- the value of a variable in the initial state
-abbrev value_due : Variable → Due
-value_due v = due.Number 0 (length v.values - 1)
+-- what is expected as the value of a variable in the initial state
+abbrev due_of : Variable → Due
+due_of v = due.Number 0 (length v.values - 1)
 
 read_next : (done : List ℕ) (x : ℕ) (rest : List ℕ) → slice_index_or (done ++ x ∷ rest) (length done) 0 ≡ x
 read_next done x rest = let all : length done ≡ length done + 0 = omega arith in ap (λ (i : ℕ). slice_index_or (done ++ x ∷ rest) i 0) all ∙ get_or-append-add done (x ∷ rest) 0 0
 
 module _ (ranges : List ℕ) (t : Tracker) where
-  -- this many values have been read
+  -- this many values are left
   abbrev at_value : ℕ → Tracker
-  at_value n = record t { place = place.StateValues; left = 0; more = 0; ranges = ranges; valued = n }
+  at_value n = record t { place = place.StateValues; left = 0; more = n; ranges = ranges }
 
   value_scan : (done : List ℕ) (v : Variable) (vs : List Variable) (x : ℕ) → ranges ≡ done ++ ranges_in (v ∷ vs)
-      → Scan ranges (at_value (length done)) (number x ∷ []) (there at.State (value_due v ∷ [])) (at_value (length (done ++ length v.values ∷ [])))
+      → Scan ranges (at_value (suc (length vs))) (number x ∷ []) (there at.State (due_of v ∷ [])) (at_value (length vs))
   value_scan done v vs x e =
-      let more : length ranges ≡ length done + length (ranges_in (v ∷ vs)) = ap length e ∙ length-append done (ranges_in (v ∷ vs)) in
-      let some : nat_lt (length done) (length ranges) ≡ true = lt-ltb (length done) (length ranges) (omega (arith, more)) in
-      let due_is : mark_in (at_value (length done)) ≡ mark at.State (value_due v) =
-      ap (λ (b : Bool). mark at.State (if b then due.Number 0 (slice_index_or ranges (length done) 0 - 1) else due.Word fixed.EndState)) some
-      ∙ ap (λ (r : List ℕ). mark at.State (due.Number 0 (slice_index_or r (length done) 0 - 1))) e
-      ∙ ap (λ (n : ℕ). mark at.State (due.Number 0 (n - 1))) (read_next done (length v.values) (ranges_in vs)) in
-      let next : length done + 1 ≡ length (done ++ length v.values ∷ []) = sym (length-append done (length v.values ∷ [])) in
-      let moves : track_line (at_value (length done)) (number x) ≡ at_value (length (done ++ length v.values ∷ [])) =
-      ap (λ (b : Bool). if b then at_value (length done + 1) else (record (at_value (length done)) { place = place.GoalBegin })) some
-      ∙ ap at_value next in
-      marked ranges (one ranges (number x) (λ h. refl) (ap (λ (m : Mark). slot_of_due m.due) due_is) moves (λ h. refl)) (ap (λ (m : Mark). m ∷ []) due_is)
+      let many : length ranges ≡ length done + length (ranges_in (v ∷ vs)) = ap length e ∙ length-append done (ranges_in (v ∷ vs)) in
+      let next : length ranges - suc (length vs) ≡ length done = omega (arith, many, length-map vs (λ (w : Variable). length w.values)) in
+      let less : suc (length vs) - 1 ≡ length vs = omega arith in
+      marked ranges (one ranges (number x) (λ h. refl) refl (ap at_value less) (λ h. refl))
+      (ap (λ (i : ℕ). mark at.State (due.Number 0 (slice_index_or ranges i 0 - 1)) ∷ []) next
+      ∙ ap (λ (r : List ℕ). mark at.State (due.Number 0 (slice_index_or r (length done) 0 - 1)) ∷ []) e
+      ∙ ap (λ (n : ℕ). mark at.State (due.Number 0 (n - 1)) ∷ []) (read_next done (length v.values) (ranges_in vs)))
 
   values_scan : (done : List ℕ) (vs : List Variable) (xs : List ℕ) → Paired InRange vs xs → ranges ≡ done ++ ranges_in vs
-      → Scan ranges (at_value (length done)) (flat_map (single_line number) xs) (there at.State (map value_due vs)) (at_value (length ranges))
-  values_scan done [] [] p e = record { marks = refl; ends = ap (λ (x : List ℕ). at_value (length x)) (sym (append-nil done) ∙ sym e); along = λ h. refl }
+      → Scan ranges (at_value (length vs)) (flat_map (single_line number) xs) (there at.State (map due_of vs)) (at_value 0)
+  values_scan done [] [] p e = record { marks = refl; ends = refl; along = λ h. refl }
   values_scan done [] (x ∷ xs) p e = absurd p
   values_scan done (v ∷ vs) [] p e = absurd p
   values_scan done (v ∷ vs) (x ∷ xs) p e =
       ◌then◌ ranges (value_scan done v vs x e) (values_scan (done ++ length v.values ∷ []) vs xs p.1 (e ∙ sym (append_assoc done (length v.values ∷ []) (ranges_in vs))))
 
-  end_scan : Scan ranges (at_value (length ranges)) (word (codes "end_state") ∷ []) (there at.State (due.Word fixed.EndState ∷ [])) (record (at_value (length ranges)) { place = place.GoalBegin })
-  end_scan =
-      let none : nat_lt (length ranges) (length ranges) ≡ false = le-ltb (length ranges) (length ranges) (omega arith) in
-      let due_is : mark_in (at_value (length ranges)) ≡ mark at.State (due.Word fixed.EndState) =
-      ap (λ (b : Bool). mark at.State (if b then due.Number 0 (slice_index_or ranges (length ranges) 0 - 1) else due.Word fixed.EndState)) none in
-      let moves : track_line (at_value (length ranges)) (word (codes "end_state")) ≡ record (at_value (length ranges)) { place = place.GoalBegin } =
-      ap (λ (b : Bool). if b then at_value (length ranges + 1) else (record (at_value (length ranges)) { place = place.GoalBegin })) none in
-      marked ranges (one ranges (word (codes "end_state")) (λ h. refl) (ap (λ (m : Mark). slot_of_due m.due) due_is) moves (λ h. refl)) (ap (λ (m : Mark). m ∷ []) due_is)
-
   state_scan : (vs : List Variable) (xs : List ℕ) → Paired InRange vs xs → ranges ≡ ranges_in vs
-      → Scan ranges (record t { place = place.Groups; left = 0; more = 0; ranges = ranges; valued = 0 }) (state_lines xs) (there at.State (between_words fixed.BeginState (map value_due vs) fixed.EndState))
-      (record (at_value (length ranges)) { place = place.GoalBegin })
+      → Scan ranges (record t { place = place.Groups; left = 0; more = 0; ranges = ranges }) (state_lines xs) (there at.State (between_words fixed.BeginState (map due_of vs) fixed.EndState))
+      (record t { place = place.GoalBegin; left = 0; more = 0; ranges = ranges })
   state_scan vs xs p e =
-      let begins : Scan ranges (record t { place = place.Groups; left = 0; more = 0; ranges = ranges; valued = 0 }) (word (codes "begin_state") ∷ []) (there at.State (due.Word fixed.BeginState ∷ [])) (at_value 0) = record { marks = refl; ends = refl; along = (λ h. refl, refl, λ h. refl) } in
-      marked ranges (◌then◌ ranges begins (◌then◌ ranges (values_scan [] vs xs p e) end_scan))
-      (ap (λ (x : List Mark). there at.State (due.Word fixed.BeginState ∷ []) ++ x) (sym (map-append (mark at.State) (map value_due vs) (due.Word fixed.EndState ∷ []))))
+      let many : length ranges ≡ length vs = ap length e ∙ length-map vs (λ (w : Variable). length w.values) in
+      let begins : Scan ranges (record t { place = place.Groups; left = 0; more = 0; ranges = ranges }) (word (codes "begin_state") ∷ []) (there at.State (due.Word fixed.BeginState ∷ [])) (at_value (length vs)) = record { marks = refl; ends = ap at_value many; along = (λ h. refl, refl, λ h. refl) } in
+      let ends : Scan ranges (at_value 0) (word (codes "end_state") ∷ []) (there at.State (due.Word fixed.EndState ∷ [])) (record t { place = place.GoalBegin; left = 0; more = 0; ranges = ranges }) = record { marks = refl; ends = refl; along = (λ h. refl, refl, λ h. refl) } in
+      marked ranges (◌then◌ ranges begins (◌then◌ ranges (values_scan [] vs xs p e) ends))
+      (ap (λ (x : List Mark). there at.State (due.Word fixed.BeginState ∷ []) ++ x) (sym (map-append (mark at.State) (map due_of vs) (due.Word fixed.EndState ∷ []))))
 
 -- ---- the task
 
@@ -76,7 +64,7 @@ module _ (p : Parts) where
   behind_groups = record behind_variables { place = place.Groups; total = length p.groups }
 
   abbrev behind_state : Tracker
-  behind_state = record behind_groups { place = place.GoalBegin; valued = length (ranges_in p.variables) }
+  behind_state = record behind_groups { place = place.GoalBegin }
 
   abbrev behind_operators : Tracker
   behind_operators = record behind_state { place = place.Operators; total = length p.operators }

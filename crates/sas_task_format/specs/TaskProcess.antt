@@ -1,5 +1,5 @@
 -- What may still follow in a task file, as a tree of reads.
-use Rattle.std.specs.Prelude.{ℕ, Bool, true, ◌&&◌, List, [], ◌==◌, nat_lt, length, Option, Some, None, codes}
+use Rattle.std.specs.Prelude.{ℕ, ◌+◌, Bool, true, ◌&&◌, List, [], ◌==◌, nat_lt, length, Option, Some, None, codes}
 use Rattle.std.specs.List.{list_all}
 use Rattle.sas_core.specs.declared.parts.Fact.{Fact}
 use Rattle.sas_core.specs.declared.parts.Variable.{Variable}
@@ -68,6 +68,10 @@ any n = true
 -- at least 1
 abbrev pub positive : ℕ → Bool
 positive n = nat_lt 0 n
+
+-- from `least` to `most`
+abbrev pub is_from : ℕ → ℕ → ℕ → Bool
+is_from least most n = nat_lt least (n + 1) && nat_lt n (most + 1)
 
 -- the variable exists, and its new value and its old value, if any, are in its range
 abbrev pub may_change : List Variable → ℕ → Option ℕ → ℕ → Bool

@@ -4,7 +4,10 @@
 mod laws;
 mod marks;
 mod places;
+mod rows;
+mod tracker;
 
 pub use laws::{mark_laws, task_laws};
 pub use marks::{Due, FixedWord, Location, Mark, WrongWord};
-pub use places::Place;
+pub use places::{Event, Move, Place, Row};
+pub use tracker::Tracker;

@@ -1,6 +1,6 @@
 -- What the proofs use of other crates, and of the definitions of this one.
-pub use Rattle.std.proofs.Common.{◌≡◌, ℕ, List, Option, Some, None, Result, refl, sym, ap, subst, ◌∙◌, IfOk, ◌≢◌, [], ◌∷◌, ◌++◌, Bool, length, append_assoc, IsTrue, codes, suc, ◌<◌, ◌-◌, arith, Ok, ◌≤◌, ◌+◌, true, false, nat_lt, if◌then◌else◌, zero, drop, Err, take, ◌&&◌, rules, inr, length-append}
-pub use Rattle.std.proofs.lemmas.Bool.Decides.{nat_tests}
+pub use Rattle.std.proofs.Common.{◌≡◌, ℕ, List, Option, Some, None, Result, refl, sym, ap, subst, ◌∙◌, IfOk, ◌≢◌, [], ◌∷◌, ◌++◌, Bool, length, append_assoc, IsTrue, codes, suc, ◌<◌, ◌-◌, arith, Ok, ◌≤◌, ◌+◌, true, false, nat_lt, if◌then◌else◌, zero, drop, Err, take, ◌&&◌, rules, inr, inl, length-append, ◌==◌, ◌↔◌, slice_index_or}
+pub use Rattle.std.proofs.lemmas.Bool.{eqb-true}
 pub use Rattle.std.proofs.lemmas.List.{append-nil, take_at}
 pub use Rattle.std.proofs.lemmas.Option.{none-some}
 pub use Rattle.std.proofs.lemmas.Result.{on_ok_weaker}
@@ -30,15 +30,18 @@ pub use Rattle.sas_reader.specs.declared.reader.Front.{Front}
 pub use Rattle.sas_task_format.proofs.DueBehind.{HasFacts, end_mark, ranges_behind, is_due, speaks_behind_variables}
 pub use Rattle.sas_task_format.proofs.MarkLaws.{same_items}
 pub use Rattle.sas_task_format.proofs.TaskGrammar.{task_grammar}
-pub use Rattle.sas_task_format.proofs.TaskSections.{less}
+pub use Rattle.sas_task_format.proofs.TaskSections.{less, is_less}
 pub use Rattle.sas_task_format.proofs.Tracking.{IsBehindVariables, track-append}
 pub use Rattle.sas_task_format.proofs.WrongWords.{HasBounds, same_bounds}
-pub use Rattle.sas_task_format.specs.Marks.{slot_of_due, IsDue}
+pub use Rattle.sas_task_format.specs.Marks.{slot_of_due, IsDue, fixed_word_bytes}
 pub use Rattle.sas_task_format.specs.Process.{process_node, a_line, repeat, done, read}
 pub use Rattle.sas_task_format.specs.TaskFormat.{TaskLine, word, name, number, signed, fact, effect, head, TaskSlot, task_slot, task_line_bytes, task_layout, task_format, TaskLineFits, HasShape, name_slot, fact_slot, effect_slot, single_line, variable_lines, group_lines, operator_lines, rule_lines, number_slot}
-pub use Rattle.sas_task_format.specs.TaskProcess.{task_start, TaskProcess, name_in, fact_in, effect_in, effect_may_stand, a_name, a_fact, an_effect, a_variable, a_group, an_operator, a_rule, a_word, a_number, number_in, may_change, head_may_stand, head_in}
+pub use Rattle.sas_task_format.specs.TaskProcess.{task_start, TaskProcess, name_in, fact_in, effect_in, effect_may_stand, a_name, a_fact, an_effect, a_variable, a_group, an_operator, a_rule, a_word, a_number, number_in, is_from, any, positive, may_change, head_may_stand, head_in}
 pub use Rattle.sas_task_format.specs.TaskReasons.{first_wrong, line_bounds, IsFirstWrong, IsTaskReason}
-pub use Rattle.sas_task_format.specs.Tracker.{mark_at, Tracker, tracker_start, track, mark_in, track_line, track_line_at, goes_to}
+pub use Rattle.sas_task_format.specs.Tracker.{IsRow, value_due, tracker_start, track, mark_in, track_line, row_at, row_in, after_move}
+pub use Rattle.sas_task_format.specs.declared.tracker.Tracker.{Tracker}
+pub use Rattle.sas_task_format.specs.declared.places.Row.{Row}
+pub use Rattle.sas_task_format.specs.declared.places.Move.{Move}
 pub use Rattle.sas_task_format.specs.declared.marks.Due.{Due}
 pub use Rattle.sas_task_format.specs.declared.marks.Location.{Location}
 pub use Rattle.sas_task_format.specs.declared.marks.Mark.{Mark}
@@ -49,14 +52,14 @@ pub use Rattle.sas_task_line.specs.Ahead.{LineAhead}
 pub use Rattle.sas_task_line.specs.FirstWrong.{HasWrong, FirstWrong}
 pub use Rattle.sas_task_line.specs.Sections.{HasNames, OperatorInRanges, RuleInRanges, spelled}
 pub use Rattle.sas_task_line.specs.TaskEvents.{after, nothing_yet}
-pub use Rattle.sas_task_line.specs.TaskLine.{IsOfLine}
-pub use Rattle.sas_task_line.specs.TaskRanges.{ranges_of, fact_in_ranges, effect_in_ranges, change_in_ranges, range_in, value_in}
+pub use Rattle.sas_task_line.specs.TaskLine.{IsOfLine, ParsesDue, test_of_due, line_of_due}
+pub use Rattle.sas_task_line.specs.TaskRanges.{ranges_of, fact_in_ranges, effect_in_ranges, change_in_ranges, head_in_ranges, range_in, value_in}
 pub use Rattle.sas_task_line.specs.declared.so_far.SoFar.{SoFar}
-pub use Rattle.sas_task_line.specs.declared.task_events.Event.{Event}
+pub use Rattle.sas_task_format.specs.declared.places.Event.{Event}
 pub use Rattle.sas_task_line.specs.declared.task_events.Said.{Said}
-pub use Rattle.sas_task_judge.specs.Marks.{due_slot, DueIs, LocationIs, mark_of, WrongWordIn}
+pub use Rattle.sas_task_judge.specs.Marks.{due_slot, mark_of, WrongWordIn}
 pub use Rattle.sas_task_judge.specs.Sections.{KeepsGroup, KeepsOperator, KeepsRule, behind_variable, behind_group, behind_operator, behind_rule}
-pub use Rattle.sas_task_judge.specs.TaskJudge.{tracker_at, state_of, tracker_of, ranges_in, HasEnded, process_at, KnownTo, SectionDue, more_in, LeadsOn, RejectsLine, StandsAsBefore, TakesMemory, JudgesLine, MovesBy, MovesAhead}
+pub use Rattle.sas_task_judge.specs.TaskJudge.{state_in, state_of, tracker_of, row_of, HasEnded, process_at, MayLack, Knows, KnownTo, ranges_at, SectionDue, past_section, past_variable, LeadsOn, RejectsLine, StandsAsBefore, TakesMemory, JudgesLine, MovesAhead, HasRow}
 pub use Rattle.sas_task_judge.specs.TaskMachine.{LedBy, MachineStopped}
 pub use Rattle.sas_task_judge.specs.TaskPlaces.{variable_begin, variable_values, group_begin, group_facts, state_values_of, goal_facts, operator_begin, operator_prevail, operator_effects, rule_begin, rule_conditions, state_values, goal_begin}
 pub use Rattle.sas_task_judge.specs.declared.task_judge.TaskJudge.{TaskJudge}

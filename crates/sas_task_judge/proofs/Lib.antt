@@ -1,6 +1,6 @@
 pub mod TaskMoves
 pub mod TaskRanges
-pub mod Stepping
+pub mod Following
 pub mod TaskEnds
 pub mod VariablesBehind
 pub mod TaskSteps

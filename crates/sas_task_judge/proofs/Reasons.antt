@@ -1,5 +1,5 @@
 -- Why a line is refused: what the machine expects, and which number of the line is wrong.
-use Rattle.sas_task_judge.proofs.Imports.{◌≡◌, ◌≢◌, ℕ, List, [], ◌∷◌, ◌++◌, Option, None, refl, sym, ap, subst, ◌∙◌, Parts, WellRanged, Kind, IsBegun, LeadsToEnd, cut_at, after_ends, Mark, WrongWord, Place, IsDue, process_node, TaskLine, task_line_bytes, task_layout, task_format, TaskLineFits, HasShape, task_start, first_wrong, IsFirstWrong, IsTaskReason, Tracker, tracker_start, track, mark_in, TaskJudge, TaskMachine, mark_of, due_slot, WrongWordIn, state_of, tracker_at, tracker_of, ranges_in, HasEnded, LedBy, MachineStopped, mark_at, end_mark, ranges_behind, is_due, HasFacts, speaks_behind_variables, same_items, task_grammar, IsBehindVariables, same_bounds, SoFar, Said, FirstWrong, ranges_of, first_back}
+use Rattle.sas_task_judge.proofs.Imports.{◌≡◌, ◌≢◌, ℕ, List, [], ◌∷◌, ◌++◌, Option, None, refl, sym, ap, subst, ◌∙◌, Parts, WellRanged, Kind, IsBegun, LeadsToEnd, cut_at, after_ends, Mark, WrongWord, Place, IsDue, process_node, TaskLine, task_line_bytes, task_layout, task_format, TaskLineFits, HasShape, task_start, first_wrong, IsFirstWrong, IsTaskReason, Tracker, tracker_start, track, mark_in, TaskJudge, TaskMachine, mark_of, due_slot, WrongWordIn, state_of, tracker_of, HasEnded, LedBy, MachineStopped, end_mark, ranges_behind, is_due, HasFacts, speaks_behind_variables, same_items, task_grammar, IsBehindVariables, same_bounds, SoFar, Said, FirstWrong, ranges_of, first_back}
 use Rattle.sas_reader.specs.declared.fault.Kind.TheVariants as kinds
 use Rattle.sas_task_format.specs.declared.places.Place.TheVariants as at
 use Rattle.sas_task_judge.proofs.TaskEnds.{done_is, ended_if_done}
@@ -14,11 +14,6 @@ pub record Completed (items : List TaskLine) : Type 0 where
   pub more : List TaskLine
   pub layout : task_layout task ≡ items ++ item ∷ more
 
--- after the variables, the judge and the tracker have the same ranges
-ranges_there : (place : Place) (ranges : List ℕ) (range : ℕ) → IsBehindVariables place → ranges_in place ranges range ≡ ranges
-ranges_there at.VariableValues ranges range h = absurd h
-ranges_there _ ranges range h = refl
-
 module _ {K : Type 0} (keeps : List (List ℕ) → SoFar → K → Type 0) (lines : List (List ℕ)) (m : TaskMachine K) (h : LedBy keeps lines m) where
   -- the mark of the machine
   abbrev pub mark_there : Mark
@@ -29,8 +24,8 @@ module _ {K : Type 0} (keeps : List (List ℕ) → SoFar → K → Type 0) (line
   pub mark_at_end : HasEnded m.judge → mark_there ≡ end_mark
   mark_at_end e =
       let j = m.judge in
-      ap (λ (p : Place). mark_at p (tracker_at p j.left j.more j)) e.0
-      ∙ ap (λ (n : ℕ). mark_at at.Rules (tracker_at at.Rules n j.more j)) e.1
+      ap (λ (p : Place). mark_in (record j.tracker { place = p })) e.0
+      ∙ ap (λ (n : ℕ). mark_in (record j.tracker { place = at.Rules; left = n })) e.1
 
   module _ (going_on : HasEnded m.judge → ⊥) where
     -- ---- what is expected
@@ -53,25 +48,24 @@ module _ {K : Type 0} (keeps : List (List ℕ) → SoFar → K → Type 0) (line
 
     -- if facts are expected, the judge's ranges are those of the variables of any task with these
     -- lines
-    ranges_are : (b : IsBegun task_format lines) → HasFacts mark_there.due → m.judge.ranges ≡ ranges_of b.0.variables
+    ranges_are : (b : IsBegun task_format lines) → HasFacts mark_there.due → m.judge.tracker.ranges ≡ ranges_of b.0.variables
     ranges_are b has =
         let c = completed in
         let cut = cut_at task_line_bytes lines b.1 (task_layout b.0) b.3 in
         let same : cut.before ≡ h.leads.items = same_items b.0 c.task b.2 c.good cut.before cut.after h.leads.items (c.item ∷ c.more) cut.whole c.layout (cut.front_is ∙ sym h.leads.spells) in
-        let behind : IsBehindVariables m.judge.place = speaks_behind_variables (tracker_of m.judge) has in
+        let behind : IsBehindVariables m.judge.tracker.place = speaks_behind_variables (tracker_of m.judge) has in
         let is : track tracker_start cut.before ≡ tracker_of m.judge = ap (track tracker_start) same ∙ h.tracked in
         let there : IsBehindVariables (track tracker_start cut.before).place = subst (λ (t : Tracker). IsBehindVariables t.place) (sym is) behind in
-        sym (ranges_there m.judge.place m.judge.ranges m.judge.range behind)
-        ∙ sym (ap (λ (t : Tracker). t.ranges) is)
+        sym (ap (λ (t : Tracker). t.ranges) is)
         ∙ ranges_behind b.0 b.2 cut.before cut.after cut.whole there
 
     module _ (found : List ℕ) where
       -- the number that the judge found is the first wrong one
-      first_there : (word : Option WrongWord) → FirstWrong m.judge.ranges (due_slot m.judge) found word → HasShape (due_slot m.judge) found → IsFirstWrong lines mark_there found word
+      first_there : (word : Option WrongWord) → FirstWrong m.judge.tracker.ranges (due_slot m.judge) found word → HasShape (due_slot m.judge) found → IsFirstWrong lines mark_there found word
       first_there word f shape =
           let due = due_there in
-          let bounds = same_bounds m.judge.ranges (ranges_of due.begins.0.variables) (due_slot m.judge) shape.0 shape.1 (ranges_are due.begins) in
-          record { due = due; shape = shape; first = first_back m.judge.ranges (due_slot m.judge) found shape.0 word shape.1 (shape.2, shape.3) f ∙ ap (first_wrong 1) bounds }
+          let bounds = same_bounds m.judge.tracker.ranges (ranges_of due.begins.0.variables) (due_slot m.judge) shape.0 shape.1 (ranges_are due.begins) in
+          record { due = due; shape = shape; first = first_back m.judge.tracker.ranges (due_slot m.judge) found shape.0 word shape.1 (shape.2, shape.3) f ∙ ap (first_wrong 1) bounds }
 
       -- if the machine hasn't ended, what it knows is the reason
       pub task_reason : (kind : Kind) (word : Option WrongWord) → kind ≢ kinds.Trailing → (kind ≡ kinds.Value → HasShape (due_slot m.judge) found) → WrongWordIn m.judge found kind word → IsTaskReason kind lines found mark_there word
@@ -87,7 +81,7 @@ module _ {K : Type 0} (keeps : List (List ℕ) → SoFar → K → Type 0) (line
 
 module _ {K : Type 0} (keeps : List (List ℕ) → SoFar → K → Type 0) (lines : List (List ℕ)) (m n : TaskMachine K) (line : List ℕ) (kind : Kind) where
   as_before : (said : Said) (word : Option WrongWord) → LedBy keeps lines m → LedBy keeps lines (record { judge = record m.judge { said = said }; kept = m.kept; wrong = word })
-  as_before said word h = record { so_far = h.so_far; leads = h.leads; known = record { ranges = h.known.ranges; valued = h.known.valued; range = h.known.range }; tracked = h.tracked; kept = h.kept }
+  as_before said word h = record { so_far = h.so_far; leads = h.leads; known = h.known; tracked = h.tracked; kept = h.kept }
 
   -- it is led by the same lines
   pub led_still : MachineStopped m line kind n → LedBy keeps lines m → LedBy keeps lines n

@@ -1,5 +1,5 @@
 -- The judge has ended exactly if no line of a task may follow.
-use Rattle.sas_task_judge.proofs.Imports.{◌≡◌, ℕ, zero, suc, List, [], ◌∷◌, Option, refl, ap, ◌∙◌, length, drop, Fact, Variable, Effect, Parts, Place, SoFar, done, read, process_node, TaskProcess, ended, TaskJudge, process_at, state_of, HasEnded, variable_begin, variable_values, group_begin, group_facts, state_values_of, goal_facts, operator_begin, operator_prevail, operator_effects, rule_begin, rule_conditions}
+use Rattle.sas_task_judge.proofs.Imports.{◌≡◌, ℕ, zero, suc, ◌-◌, List, [], ◌∷◌, Option, refl, ap, ◌∙◌, length, drop, Fact, Variable, Effect, Parts, Place, SoFar, done, read, process_node, TaskProcess, ended, TaskJudge, process_at, state_of, HasEnded, variable_begin, variable_values, group_begin, group_facts, state_values_of, goal_facts, operator_begin, operator_prevail, operator_effects, rule_begin, rule_conditions}
 use Rattle.sas_task_format.specs.declared.places.Place.TheVariants as at
 
 -- the last line has been read
@@ -65,7 +65,7 @@ ends_at at.Variables left more s h = absurd (variables left s.parts h)
 ends_at at.VariableValues left more s h = absurd (values left s.parts s.name s.layer more s.values h)
 ends_at at.Groups left more s h = absurd (groups left s.parts h)
 ends_at at.GroupFacts left more s h = absurd (facts left s.parts more s.facts h)
-ends_at at.StateValues left more s h = absurd (state (drop (length s.parts.init) s.parts.variables) s.parts h)
+ends_at at.StateValues left more s h = absurd (state (drop (length s.parts.variables - more) s.parts.variables) s.parts h)
 ends_at at.GoalFacts left more s h = absurd (goal more s.parts h)
 ends_at at.Operators left more s h = absurd (operators left s.parts h)
 ends_at at.Prevail left more s h = absurd (prevail left s.parts s.name more s.facts h)
@@ -75,8 +75,8 @@ ends_at at.RuleConditions left more s h = absurd (conditions left s.parts more s
 ends_at _ left more s h = absurd h
 
 pub ended_if_done : (j : TaskJudge) (s : SoFar) → IsDone (state_of j s) → HasEnded j
-ended_if_done j s h = ends_at j.place j.left j.more s h
+ended_if_done j s h = ends_at j.tracker.place j.tracker.left j.tracker.more s h
 
 -- if it has ended, it is at the end with its parts
 pub ends_with : (j : TaskJudge) (s : SoFar) → HasEnded j → process_node (state_of j s) ≡ ended s.parts
-ends_with j s h = ap (λ (place : Place). process_node (process_at place j.left j.more s)) h.0 ∙ ap (λ (left : ℕ). process_node (rule_begin left s.parts)) h.1
+ends_with j s h = ap (λ (place : Place). process_node (process_at place j.tracker.left j.tracker.more s)) h.0 ∙ ap (λ (left : ℕ). process_node (rule_begin left s.parts)) h.1

@@ -1,108 +1,107 @@
--- One line of a task moves the judge.
-use Rattle.sas_task_judge.proofs.Imports.{IsTrue, ◌≡◌, ◌≢◌, ℕ, zero, suc, ◌<◌, ◌≤◌, ◌-◌, Bool, nat_lt, length, List, [], ◌∷◌, ◌++◌, refl, sym, ap, subst, ◌∙◌, arith, codes, Result, Ok, Err, take, drop, take_at, length-append, Plain, plain, Option, Some, None, result_err, none-some, Kind, IsOfBytes, IsAllowed, OneLine, IsRejected, Rejects, read, process_node, TaskLine, effect, TaskSlot, number_slot, task_line_bytes, task_format, TaskJudge, state_values, state_values_of, goal_begin, process_at, state_of, tracker_of, KnownTo, LeadsOn, RejectsLine, StandsAsBefore, TakesMemory, JudgesLine, MovesBy, MovesAhead, TaskLineFits, Parts, Variable, range_of, Event, Said, SoFar, Place, track_line, Effect, Change, plain_effect, LineAhead, change_in_ranges, effect_in_ranges, IsOfLine, TaskProcess, a_word, a_number, number_in, effect_in}
+-- One line of a task moves the judge, as the table of places says.
+use Rattle.sas_task_judge.proofs.Imports.{IsTrue, ◌≡◌, ℕ, zero, suc, ◌<◌, ◌-◌, ◌↔◌, Bool, length, List, ◌∷◌, ◌++◌, refl, sym, ap, subst, ◌∙◌, arith, Result, Ok, Err, Option, Some, None, result_err, none-some, take, take_at, length-append, Plain, plain, inl, inr, Kind, IsAllowed, OneLine, IsRejected, Rejects, process_node, TaskLine, TaskSlot, task_slot, slot_of_due, task_line_bytes, task_format, TaskLineFits, Due, Row, Move, row_at, after_move, Tracker, TaskJudge, state_in, state_of, tracker_of, row_of, Knows, RejectsLine, JudgesLine, MovesAhead, HasEnded, IsRow, HasRow, ParsesDue, test_of_due, line_of_due, Event, Said, Place, after, LineAhead, TaskProcess}
 use Rattle.sas_reader.specs.declared.fault.Kind.TheVariants as kinds
 use Rattle.sas_task_format.specs.declared.places.Place.TheVariants as at
-use Rattle.sas_task_judge.proofs.TaskRanges.{many_same}
-use Rattle.sas_task_judge.proofs.VariablesBehind.{behind}
-
--- a line that may stand leads to a next state
-pub on : (j k : TaskJudge) (s t : SoFar) (slot : TaskSlot) (test : TaskLine → Bool) (next : TaskLine → TaskProcess) (i : TaskLine) (line : List ℕ)
-    → state_of j s ≡ read slot test next → IsAllowed task_format TaskLineFits slot test i × (task_line_bytes i ≡ line) → next i ≡ state_of k t → track_line (tracker_of j) i ≡ tracker_of k → LeadsOn j s line k t
-on j k s t slot test next i line at says n steps = record {
-  item = i;
-  leads = subst (λ (p : TaskProcess). OneLine task_format TaskLineFits (process_node p) i (λ r. r ≡ state_of k t)) (sym at) (says.0, n);
-  spells = says.1;
-  steps = steps;
-}
-
--- a line that may not stand is rejected
-pub off : (p : TaskProcess) (slot : TaskSlot) (test : TaskLine → Bool) (next : TaskLine → TaskProcess) (line : List ℕ) (kind : Kind)
-    → p ≡ read slot test next → IsRejected task_format TaskLineFits slot test line kind → Rejects task_format TaskLineFits (process_node p) line kind
-off p slot test next line kind at j = subst (λ (t : TaskProcess). Rejects task_format TaskLineFits (process_node t) line kind) (sym at) j
+use Rattle.sas_task_format.specs.declared.marks.Due.TheVariants as due
+use Rattle.sas_task_format.specs.declared.places.Move.TheVariants as moves
+use Rattle.sas_task_judge.proofs.Following.{follows}
 
 -- one of n items, and then n - 1 items
 pub next_of : (n : ℕ) → 0 < n → n ≡ suc (n - 1)
 next_of zero h = absurd (omega arith)
 next_of (suc n) h = omega arith
 
--- one more value, whichever it is
-one_longer : (xs : List ℕ) → ◌≡◌ {A = ℕ → ℕ} (λ x. length (xs ++ x ∷ [])) (λ x. suc (length xs))
-one_longer [] = refl
-one_longer (y ∷ xs) = ap {B = ℕ → ℕ} (λ (f : ℕ → ℕ) (x : ℕ). suc (f x)) (one_longer xs)
+-- ---- equivalent tests
 
--- before the value of the next variable
-pub value_due : (p : Parts) → length p.init < length p.variables
-    → state_values p ≡ a_number (λ n. nat_lt n (range_of p.variables (length p.init))) (λ n. state_values (record p { init = p.init ++ n ∷ [] }))
-value_due p l =
-    let b = behind p.variables (length p.init) l in
-    let after : TaskLine → Parts = λ i. record p { init = p.init ++ number_in i ∷ [] } in
-    ap (λ (vs : List Variable). state_values_of vs p) b.are
-    ∙ ap (λ (r : ℕ). read number_slot (λ i. nat_lt (number_in i) r) (λ i. state_values_of (drop (suc (length p.init)) p.variables) (after i))) (sym b.range)
-    ∙ ap (λ (f : ℕ → ℕ). read number_slot (λ i. nat_lt (number_in i) (range_of p.variables (length p.init))) (λ i. state_values_of (drop (f (number_in i)) p.variables) (after i))) (sym (one_longer p.init))
+module _ (slot : TaskSlot) (test other : TaskLine → Bool) (same : (i : TaskLine) → TaskLineFits i → IsTrue (test i) ↔ IsTrue (other i)) where
+  takes_as : (i : TaskLine) → IsAllowed task_format TaskLineFits slot other i → IsAllowed task_format TaskLineFits slot test i
+  takes_as i t = record { slot = t.slot; fits = t.fits; good = (same i t.fits).1 t.good }
 
--- ---- the judge
+  judged_as : (line : List ℕ) (kind : Kind) → IsRejected task_format TaskLineFits slot other line kind → IsRejected task_format TaskLineFits slot test line kind
+  judged_as line kind j = record { none = λ i t e. j.none i (record { slot = t.slot; fits = t.fits; good = (same i t.fits).0 t.good }) e; kind = j.kind }
 
--- `end_state` is expected if each variable has its value
-over : (n : ℕ) (vs : List Variable) → length vs ≤ n → drop n vs ≡ []
-over zero [] h = refl
-over zero (v ∷ vs) h = absurd (omega arith)
-over (suc n) [] h = refl
-over (suc n) (v ∷ vs) h = over n vs (omega arith)
+-- ---- a line that is allowed, and one that isn't
 
-pub state_is_over : (j : TaskJudge) (s : SoFar) → j.place ≡ at.StateValues → length j.ranges ≤ j.valued → KnownTo s j → state_of j s ≡ a_word (codes "end_state") (λ _. goal_begin s.parts)
-state_is_over j s here l f =
-    ap (λ (place : Place). process_at place j.left j.more s) here
-    ∙ ap (λ (vs : List Variable). state_values_of vs s.parts) (over (length s.parts.init) s.parts.variables (omega (arith, l, many_same s j f, f.valued)))
+module _ (j : TaskJudge) (going_on : HasEnded j → ⊥) (line : List ℕ) where
+  pub judged : (k : TaskJudge) → (let i : TaskLine = line_of_due (row_of j).due k.said line in IsAllowed task_format TaskLineFits (slot_of_due (row_of j).due) (test_of_due j.tracker.ranges (row_of j).due) i → task_line_bytes i ≡ line
+      → k.tracker ≡ after_move (row_of j).moves k.said.number j.tracker → JudgesLine j line k (Ok (row_of j).adds))
+  judged k allowed spells moved = λ s known.
+      let r = row_of j in
+      let f = follows (tracker_of j) s known going_on in
+      let t = after s r.adds k.said line in
+      let i = line_of_due r.due k.said line in (
+        subst (Knows t) (sym moved) (f.known k.said line allowed.good),
+        record {
+          item = i;
+          leads = subst (λ (p : TaskProcess). OneLine task_format TaskLineFits (process_node p) i (λ q. q ≡ state_of k t)) (sym f.reads)
+              (takes_as _ _ _ f.same i allowed, f.leads k.said line ∙ ap (λ (u : Tracker). state_in u t) (sym moved));
+          spells = spells;
+          steps = f.steps k.said line ∙ sym moved;
+        },
+      )
 
--- otherwise the value of the next variable is expected
-pub state_goes_on : (j : TaskJudge) (s : SoFar) → j.place ≡ at.StateValues → j.valued < length j.ranges → KnownTo s j
-    → state_of j s ≡ a_number (λ n. nat_lt n (range_of s.parts.variables (length s.parts.init))) (λ n. state_values (record s.parts { init = s.parts.init ++ n ∷ [] }))
-state_goes_on j s here l f = ap (λ (place : Place). process_at place j.left j.more s) here ∙ value_due s.parts (omega (arith, l, many_same s j f, f.valued))
+  pub rejected : (kind : Kind) → IsRejected task_format TaskLineFits (slot_of_due (row_of j).due) (test_of_due j.tracker.ranges (row_of j).due) line kind → RejectsLine j line kind
+  rejected kind h = λ s known.
+      let f = follows (tracker_of j) s known going_on in
+      subst (λ (p : TaskProcess). Rejects task_format TaskLineFits (process_node p) line kind) (sym f.reads) (judged_as _ _ _ f.same line kind h)
+
+  -- ---- the judge
+
+  module _ (r : Row) (is : IsRow j.tracker r) where
+    pub took : (said : Said) (t : Tracker) → ParsesDue j.tracker.ranges r.due line said (Ok tt) → t ≡ after_move r.moves said.number j.tracker
+        → JudgesLine j line (record { tracker = t; said = said }) (Ok r.adds)
+    took said t =
+        subst (λ (x : Row). ParsesDue j.tracker.ranges x.due line said (Ok tt) → t ≡ after_move x.moves said.number j.tracker → JudgesLine j line (record { tracker = t; said = said }) (Ok x.adds)) (sym is.is)
+        (λ parsed moved. judged (record { tracker = t; said = said }) parsed.0 parsed.1 moved)
+
+    pub refused : (said : Said) (kind : Kind) → ParsesDue j.tracker.ranges r.due line said (Err kind) → JudgesLine j line (record j { said = said }) (Err kind)
+    refused said kind =
+        subst (λ (x : Row). ParsesDue j.tracker.ranges x.due line said (Err kind) → JudgesLine j line (record j { said = said }) (Err kind)) (sym is.is)
+        (λ p. (p.0, λ e. inr (p.1 e), λ n. rejected kind (p.2 n), λ n. refl))
+
+    pub out_of_memory : (k : TaskJudge) (p : Place) → r.moves ≡ moves.Range p → JudgesLine j line k (Err kinds.Memory)
+    out_of_memory k p e = ((λ h. cc, λ h. cc), λ h. inl (p, ap (λ (x : Row). x.moves) (sym is.is) ∙ e), λ n. absurd (n refl), λ n. absurd (n refl))
 
 -- the kind of the fault, if any
-abbrev pub some_or : Kind → Option Kind → Kind
+abbrev some_or : Kind → Option Kind → Kind
 some_or other None = other
 some_or other (Some kind) = kind
 
--- a line that the judge refuses
-pub refused : (j k : TaskJudge) (line : List ℕ) (r : Result Event Kind) (kind : Kind) → result_err r ≡ Some kind → IsOfBytes kind × (kind ≡ kinds.Memory → TakesMemory j) × (kind ≢ kinds.Memory → RejectsLine j line kind) × (kind ≢ kinds.Memory → StandsAsBefore j k) → JudgesLine j line k r
-refused j k line (Ok event) kind e h = absurd (none-some kind e)
-refused j k line (Err other) kind e h = subst (λ (x : Kind). IsOfBytes x × (x ≡ kinds.Memory → TakesMemory j) × (x ≢ kinds.Memory → RejectsLine j line x) × (x ≢ kinds.Memory → StandsAsBefore j k)) (sym (ap (some_or other) e)) h
-
--- a line that may not stand, if the judge needs no memory
-pub refused_line : (j k : TaskJudge) (line : List ℕ) (r : Result Event Kind) (kind : Kind) → result_err r ≡ Some kind → IsOfLine kind → RejectsLine j line kind → StandsAsBefore j k → JudgesLine j line k r
-refused_line j k line r kind e of_line rejects before = refused j k line r kind e (of_line.0, λ m. absurd (of_line.1 m), λ n. rejects, λ n. before)
-
--- ---- the old `said` doesn't matter
-
-pub said_apart : (j k : TaskJudge) (said : Said) (line : List ℕ) (event : Event) → JudgesLine (record j { said = said }) line k (Ok event) → JudgesLine j line k (Ok event)
-said_apart j k said line event moves = λ s f.
-    let moved = moves s (record { ranges = f.ranges; valued = f.valued; range = f.range }) in
-    (moved.0, record { item = moved.1.item; leads = moved.1.leads; spells = moved.1.spells; steps = moved.1.steps })
+pub refused_as : (j k : TaskJudge) (line : List ℕ) (r : Result Event Kind) (kind : Kind) → result_err r ≡ Some kind → JudgesLine j line k (Err kind) → JudgesLine j line k r
+refused_as j k line (Ok event) kind e h = absurd (none-some kind e)
+refused_as j k line (Err other) kind e h = subst (λ (x : Kind). JudgesLine j line k (Err x)) (sym (ap (some_or other) e)) h
 
 -- ---- the first line of some bytes
 
-module _ (j k : TaskJudge) (bytes rest : List ℕ) (event : Event) where
-  -- the first line has this content, which may stand under the test
-  pub moves_ahead : (test : TaskLine → Bool) (i : TaskLine) → LineAhead i bytes rest → IsTrue (test i) → MovesBy j test i k event → MovesAhead j bytes k event rest
-  moves_ahead test i ahead good by = record {
+-- after all lines nothing is expected
+ended_nothing : (j : TaskJudge) → HasEnded j → (row_of j).due ≡ due.Nothing
+ended_nothing j h =
+    ap (λ (p : Place). (row_at p (record j.tracker { place = p })).due) h.0
+    ∙ ap (λ (n : ℕ). (row_at at.Rules (record j.tracker { place = at.Rules; left = n })).due) h.1
+
+module _ (j k : TaskJudge) (bytes rest : List ℕ) where
+  -- the first line has this content, which is what is expected
+  pub moves_ahead : (d : Due) (e : Event) (m : Move) (i : TaskLine) → HasRow j.tracker d e m → (d ≡ due.Nothing → ⊥) → LineAhead i bytes rest → line_of_due d k.said (task_line_bytes i) ≡ i → task_slot i ≡ slot_of_due d → IsTrue (test_of_due j.tracker.ranges d i)
+      → k.tracker ≡ after_move m k.said.number j.tracker → MovesAhead j bytes k e rest
+  moves_ahead d e m i says some ahead is slot good moved = record {
     line = task_line_bytes i;
     plain = ahead.plain;
     before = ahead.before;
-    moves = by (task_line_bytes i) (record { slot = refl; fits = ahead.fits; good = good }, refl);
+    moves =
+        let line = task_line_bytes i in
+        let same : line_of_due (row_of j).due k.said line ≡ i = ap (λ (x : Due). line_of_due x k.said line) says.due ∙ is in
+        let allowed : IsAllowed task_format TaskLineFits (slot_of_due (row_of j).due) (test_of_due j.tracker.ranges (row_of j).due) i =
+        subst (λ (x : Due). IsAllowed task_format TaskLineFits (slot_of_due x) (test_of_due j.tracker.ranges x) i) (sym says.due) (record { slot = slot; fits = ahead.fits; good = good }) in
+        subst (λ (x : Event). JudgesLine j line k (Ok x)) says.adds
+        (judged j (λ h. some (sym says.due ∙ ended_nothing j h)) line k
+        (subst (λ (x : TaskLine). IsAllowed task_format TaskLineFits (slot_of_due (row_of j).due) (test_of_due j.tracker.ranges (row_of j).due) x) (sym same) allowed)
+        (ap task_line_bytes same)
+        (moved ∙ ap (λ (x : Move). after_move x k.said.number j.tracker) (sym says.moves)));
   }
 
   -- the line is the bytes before the last byte that was taken
-  pub taken_line : MovesAhead j bytes k event rest → (let line : List ℕ = take (length bytes - length rest - 1) bytes in Plain line × (bytes ≡ line ++ 10 ∷ rest) × JudgesLine j line k (Ok event))
-  taken_line h =
+  pub taken_line : (event : Event) → MovesAhead j bytes k event rest → (let line : List ℕ = take (length bytes - length rest - 1) bytes in Plain line × (bytes ≡ line ++ 10 ∷ rest) × JudgesLine j line k (Ok event))
+  taken_line event h =
       let n = length bytes - length rest - 1 in
       let is : h.line ≡ take n bytes = sym (ap (take n) h.before ∙ take_at h.line (10 ∷ rest) n (omega (arith, ap length h.before, length-append h.line (10 ∷ rest)))) in
       subst (λ (l : List ℕ). Plain l × (bytes ≡ l ++ 10 ∷ rest) × JudgesLine j l k (Ok event)) is (plain h.line h.plain, h.before, h.moves)
-
-  -- its effect was stored before the judge moved
-  pub effect_moves_ahead : (said : Said) (change : Change) → said.effect ≡ plain_effect change → LineAhead (effect (plain_effect change)) bytes rest → IsTrue (change_in_ranges j.ranges change.var change.old change.new)
-      → MovesBy (record j { said = said }) (λ i. effect_in_ranges j.ranges (effect_in i)) (effect said.effect) k event → MovesAhead j bytes k event rest
-  effect_moves_ahead said change e spells good by =
-      let test : TaskLine → Bool = λ i. effect_in_ranges j.ranges (effect_in i) in
-      let by_change : MovesBy (record j { said = said }) test (effect (plain_effect change)) k event = subst (λ (f : Effect). MovesBy (record j { said = said }) test (effect f) k event) e by in
-      moves_ahead test (effect (plain_effect change)) spells good (λ line says. said_apart j k said line event (by_change line says))

@@ -30,7 +30,7 @@ led_on keeps before m j said kept event line h moves keeps_on =
     record {
       so_far = after h.so_far event j.said line;
       leads = led.leads;
-      known = record { ranges = moved.0.ranges; valued = moved.0.valued; range = moved.0.range };
+      known = moved.0;
       tracked = led.tracked;
       kept = keeps_on before h.so_far h.kept;
     }

@@ -1,7 +1,5 @@
 -- The location of the next line, and what is expected there.
 use Rattle.std.specs.Prelude.{◌≡◌, ◌≢◌, ℕ, List, Option, None}
-use Rattle.sas_task_format.specs.declared.marks.Due.{Due}
-use Rattle.sas_task_format.specs.declared.marks.Location.{Location}
 use Rattle.sas_task_format.specs.declared.marks.Mark.{Mark}
 use Rattle.sas_task_format.specs.Tracker.{mark_in}
 use Rattle.sas_task_line.specs.FirstWrong.{FirstWrong}
@@ -17,14 +15,6 @@ use Rattle.sas_task_judge.specs.TaskJudge.{tracker_of}
 abbrev pub mark_of : TaskJudge → Mark
 mark_of j = mark_in (tracker_of j)
 
--- the next line has this location
-pub record LocationIs (j : TaskJudge) (at : Location) : Type 0 where
-  pub is : at ≡ (mark_of j).at
-
--- this is expected on the next line
-pub record DueIs (j : TaskJudge) (due : Due) : Type 0 where
-  pub is : due ≡ (mark_of j).due
-
 -- the slot to which the next line belongs
 abbrev pub due_slot : TaskJudge → TaskSlot
 due_slot j = slot_of_due (mark_of j).due
@@ -33,5 +23,5 @@ due_slot j = slot_of_due (mark_of j).due
 -- `None`.
 pub record WrongWordIn (j : TaskJudge) (line : List ℕ) (kind : Kind) (word : Option WrongWord)
     : Type 0 where
-  pub of_value : kind ≡ kinds.Value → FirstWrong j.ranges (due_slot j) line word
+  pub of_value : kind ≡ kinds.Value → FirstWrong j.tracker.ranges (due_slot j) line word
   pub of_another : kind ≢ kinds.Value → word ≡ None

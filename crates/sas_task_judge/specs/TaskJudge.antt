@@ -1,10 +1,15 @@
 -- What the judge of the lines of a task file represents: what may still follow the content so far.
-use Rattle.std.specs.Prelude.{◌≡◌, ◌≢◌, ◌⊎◌, ◌<◌, ℕ, ◌+◌, ◌-◌, Bool, List, [], ◌∷◌, ◌++◌, length, Result, Ok, Err, codes}
+use Rattle.std.specs.List.{AllByRecursion}
+use Rattle.std.specs.Prelude.{◌≡◌, ◌≢◌, ◌⊎◌, ◌<◌, ◌≤◌, ℕ, ◌+◌, ◌-◌, List, [], ◌∷◌, ◌++◌, length, Result, Ok, Err, codes}
 use Rattle.sas_core.specs.Plain.{IsPlain}
-use Rattle.sas_core.specs.declared.parts.Variable.{Variable}
 use Rattle.sas_reader.specs.declared.fault.Kind.{Kind}
 use Rattle.sas_reader.specs.declared.fault.Kind.TheVariants as kinds
-use Rattle.sas_task_line.specs.declared.task_events.Event.{Event}
+use Rattle.sas_task_format.specs.declared.places.Event.{Event}
+use Rattle.sas_task_format.specs.declared.places.Row.{Row}
+use Rattle.sas_task_format.specs.declared.places.Move.{Move}
+use Rattle.sas_task_format.specs.declared.places.Move.TheVariants as moves
+use Rattle.sas_task_format.specs.declared.marks.Due.{Due}
+use Rattle.sas_task_format.specs.declared.marks.Due.TheVariants as due
 use Rattle.sas_task_line.specs.declared.so_far.SoFar.{SoFar}
 use Rattle.sas_task_format.specs.declared.places.Place.{Place}
 use Rattle.sas_task_format.specs.declared.places.Place.TheVariants as at
@@ -13,11 +18,12 @@ use Rattle.sas_task_judge.specs.declared.task_judge.sections.Section.TheVariants
 use Rattle.sas_task_judge.specs.declared.task_judge.TaskJudge.{TaskJudge}
 use Rattle.sas_reader.specs.Faults.{IsOfBytes}
 use Rattle.sas_task_format.specs.Process.{process_node, ◌>>◌}
-use Rattle.sas_reader.specs.System.{OneLine, Rejects, IsAllowed}
-use Rattle.sas_task_format.specs.Tracker.{Tracker, track_line}
+use Rattle.sas_reader.specs.System.{OneLine, Rejects}
+use Rattle.sas_task_format.specs.Tracker.{track_line, row_in}
+use Rattle.sas_task_format.specs.declared.tracker.Tracker.{Tracker}
 use Rattle.sas_task_line.specs.TaskEvents.{after}
-use Rattle.sas_task_format.specs.TaskFormat.{TaskLine, fact, task_slot, task_line_bytes, task_format, TaskLineFits}
-use Rattle.sas_task_format.specs.TaskProcess.{TaskProcess, TaskPart, a_word, a_fact}
+use Rattle.sas_task_format.specs.TaskFormat.{TaskLine, task_line_bytes, task_format, TaskLineFits}
+use Rattle.sas_task_format.specs.TaskProcess.{TaskProcess, a_word}
 use Rattle.sas_task_line.specs.TaskRanges.{ranges_of}
 use Rattle.sas_task_judge.specs.TaskPlaces.{version_begin, version_number, version_end, metric_begin, metric_number, metric_end, variable_count, variable_begin, variable_name, variable_layer, variable_range, variable_values, group_begin, group_size, group_facts, state_values, goal_begin, goal_size, goal_facts, operator_count, operator_begin, operator_name, operator_prevail_count, operator_prevail, operator_effects, rule_begin, rule_size, rule_conditions}
 
@@ -41,7 +47,7 @@ process_at at.VariableValues left more s = variable_values left s.parts s.name s
 process_at at.Groups left more s = group_begin left s.parts
 process_at at.GroupSize left more s = group_size left s.parts
 process_at at.GroupFacts left more s = group_facts left s.parts more s.facts
-process_at at.StateValues left more s = state_values s.parts
+process_at at.StateValues left more s = state_values more s.parts
 process_at at.GoalBegin left more s = goal_begin s.parts
 process_at at.GoalSize left more s = goal_size s.parts
 process_at at.GoalFacts left more s = goal_facts more s.parts
@@ -58,94 +64,67 @@ process_at at.RuleSize left more s = rule_size left s.parts
 process_at at.RuleConditions left more s = rule_conditions left s.parts more s.facts
 process_at at.RuleEnd left more s = a_word (codes "end_rule") >> rule_begin left s.parts
 
-abbrev pub state_of : TaskJudge → SoFar → TaskProcess
-state_of j s = process_at j.place j.left j.more s
+abbrev pub state_in : Tracker → SoFar → TaskProcess
+state_in t s = process_at t.place t.left t.more s
 
 -- ---- what is expected
 
--- how many items are left in the current list; at other places the judge's count is meaningless
-abbrev pub more_in : Place → ℕ → ℕ
-more_in at.VariableValues more = more
-more_in at.GroupFacts more = more
-more_in at.GoalFacts more = more
-more_in at.Prevail more = more
-more_in at.Effects more = more
-more_in at.RuleConditions more = more
-more_in _ more = 0
-
--- the number of values of each variable, including the current one
-abbrev pub ranges_in : Place → List ℕ → ℕ → List ℕ
-ranges_in at.VariableValues ranges range = ranges ++ range ∷ []
-ranges_in _ ranges range = ranges
-
--- the tracker at a place, with these counts and the other fields of the judge
-abbrev pub tracker_at : Place → ℕ → ℕ → TaskJudge → Tracker
-tracker_at place left more j = record {
-  place = place;
-  total = j.total;
-  left = left;
-  more = more_in place more;
-  ranges = ranges_in place j.ranges j.range;
-  valued = j.valued;
-}
-
 -- the tracker of the judge
 abbrev pub tracker_of : TaskJudge → Tracker
-tracker_of j = tracker_at j.place j.left j.more j
+tracker_of j = j.tracker
+
+abbrev pub state_of : TaskJudge → SoFar → TaskProcess
+state_of j s = state_in (tracker_of j) s
+
+-- the row of the next line
+abbrev pub row_of : TaskJudge → Row
+row_of j = row_in (tracker_of j)
+
+-- the row of the next line has this: what is expected, what the line adds, and how it moves the
+-- tracker
+pub record HasRow (t : Tracker) (d : Due) (e : Event) (m : Move) : Type 0 where
+  pub due : (row_in t).due ≡ d
+  pub adds : (row_in t).adds ≡ e
+  pub moves : (row_in t).moves ≡ m
 
 -- all lines have been read
 abbrev pub HasEnded : TaskJudge → Type 0
-HasEnded j = (j.place ≡ at.Rules) × (j.left ≡ 0)
-
--- the place is after the mutex groups
-abbrev pub IsBehindGroups : Place → Type 0
-IsBehindGroups at.VersionBegin = ⊥
-IsBehindGroups at.VersionNumber = ⊥
-IsBehindGroups at.VersionEnd = ⊥
-IsBehindGroups at.MetricBegin = ⊥
-IsBehindGroups at.MetricNumber = ⊥
-IsBehindGroups at.MetricEnd = ⊥
-IsBehindGroups at.VariableCount = ⊥
-IsBehindGroups at.Variables = ⊥
-IsBehindGroups at.VariableName = ⊥
-IsBehindGroups at.VariableLayer = ⊥
-IsBehindGroups at.VariableRange = ⊥
-IsBehindGroups at.VariableValues = ⊥
-IsBehindGroups at.Groups = ⊥
-IsBehindGroups at.GroupSize = ⊥
-IsBehindGroups at.GroupFacts = ⊥
-IsBehindGroups _ = Unit {0}
+HasEnded j = (j.tracker.place ≡ at.Rules) × (j.tracker.left ≡ 0)
 
 -- the first line of such a section is expected
 abbrev pub SectionDue : TaskJudge → Section → Type 0
-SectionDue j section.Variable = (j.place ≡ at.Variables) × (0 < j.left)
-SectionDue j section.Group = (j.place ≡ at.Groups) × (0 < j.left)
-SectionDue j section.Operator = (j.place ≡ at.Operators) × (0 < j.left)
-SectionDue j section.Rule = (j.place ≡ at.Rules) × (0 < j.left)
+SectionDue j section.Variable = (j.tracker.place ≡ at.Variables) × (0 < j.tracker.left)
+SectionDue j section.Group = (j.tracker.place ≡ at.Groups) × (0 < j.tracker.left)
+SectionDue j section.Operator = (j.tracker.place ≡ at.Operators) × (0 < j.tracker.left)
+SectionDue j section.Rule = (j.tracker.place ≡ at.Rules) × (0 < j.tracker.left)
+
+-- the tracker past this section, and past the variable, which has this many values
+abbrev pub past_section : Tracker → Tracker
+past_section t = record t { left = t.left - 1; more = 0 }
+
+abbrev pub past_variable : ℕ → Tracker → Tracker
+past_variable range t = record (past_section t) { ranges = t.ranges ++ range ∷ [] }
 
 -- ---- one line
 
--- the judge knows what decides which lines may follow the content s
-pub record KnownTo (s : SoFar) (j : TaskJudge) : Type 0 where
-  pub ranges : j.ranges ≡ ranges_of s.parts.variables
-  pub valued : j.valued ≡ length s.parts.init
-  -- the range of the current variable counts the values read so far and those that are left
-  pub range : j.place ≡ at.VariableValues → j.range ≡ length s.values + j.more
+-- the number of values of each variable; among the values of a variable, this is the last one
+abbrev pub ranges_at : Place → List ℕ → ℕ → List ℕ
+ranges_at at.VariableValues ranges range = ranges ++ range ∷ []
+ranges_at _ ranges range = ranges
 
--- A part is expected that yields an A, the value of a line. After the line, the judge is `next a`
--- and the content is `adds a s`, of which it knows what it needs. The tracker moves accordingly.
-abbrev pub Due : {A : Type 0} → TaskJudge → (List Variable → TaskPart A) → (A → TaskLine)
-    → (A → TaskJudge) → (A → SoFar → SoFar)
-    → Type 0
-Due {A} j part says next adds = (s : SoFar) → KnownTo s j
-    → (state_of j s ≡ part s.parts.variables (λ a. state_of (next a) (adds a s)))
-    × ((a : A) → KnownTo (adds a s) (next a))
-    × ((a : A) → track_line (tracker_of j) (says a) ≡ tracker_of (next a))
+-- at most this many values of the initial state are left
+abbrev pub MayLack : Place → ℕ → ℕ → Type 0
+MayLack at.StateValues more most = more ≤ most
+MayLack _ more most = Unit {0}
 
--- a fact is expected that adds to the content what `event` says; one item less is then left
-abbrev pub FactDue : TaskJudge → Event → Type 0
-FactDue j event = (line : List ℕ) → Due j a_fact fact (λ _. record j { more = j.more - 1 })
-    (λ f s. after s event (record j.said { fact = f }) line)
+-- the tracker has what decides which lines may follow the content s
+pub record Knows (s : SoFar) (t : Tracker) : Type 0 where
+  pub ranges : t.ranges ≡ ranges_at t.place (ranges_of s.parts.variables) (length s.values + t.more)
+  pub state : MayLack t.place t.more (length t.ranges)
+  pub some : AllByRecursion (λ n. 0 < n) t.ranges
+
+abbrev pub KnownTo : SoFar → TaskJudge → Type 0
+KnownTo s j = Knows s (tracker_of j)
 
 -- the line leads from the judge j with content s to the judge k with t; the tracker moves
 -- accordingly
@@ -162,11 +141,10 @@ abbrev pub RejectsLine : TaskJudge → List ℕ → Kind → Type 0
 RejectsLine j line kind = (s : SoFar) → KnownTo s j
     → Rejects task_format TaskLineFits (process_node (state_of j s)) line kind
 
--- the judge needs memory for the next line: for the range of a complete variable, or for the
--- conditions of an effect
+-- the judge needs memory for the next line: for a range, or for the conditions of an effect
 abbrev pub TakesMemory : TaskJudge → Type 0
-TakesMemory j = ((j.place ≡ at.VariableValues) × (j.more ≡ 0))
-    ⊎ ((j.place ≡ at.Effects) × (0 < j.more))
+TakesMemory j =
+    ((p : Place) × ((row_of j).moves ≡ moves.Range p)) ⊎ ((row_of j).due ≡ due.Effect)
 
 -- the judge is unchanged, except for `said`
 abbrev pub StandsAsBefore : TaskJudge → TaskJudge → Type 0
@@ -183,12 +161,6 @@ JudgesLine j line k (Err kind) =
     × (kind ≡ kinds.Memory → TakesMemory j)
     × (kind ≢ kinds.Memory → RejectsLine j line kind)
     × (kind ≢ kinds.Memory → StandsAsBefore j k)
-
--- a line with this content moves the judge, if it is allowed under the test
-abbrev pub MovesBy : TaskJudge → (TaskLine → Bool) → TaskLine → TaskJudge → Event → Type 0
-MovesBy j test i k event = (line : List ℕ)
-    → IsAllowed task_format TaskLineFits (task_slot i) test i × (task_line_bytes i ≡ line)
-    → JudgesLine j line k (Ok event)
 
 -- The bytes are a line, then LF, then the rest. The line leads to the content with what it adds.
 pub record MovesAhead (j : TaskJudge) (bytes : List ℕ) (k : TaskJudge) (event : Event)

@@ -1,6 +1,6 @@
 -- The states while a task file is read: what may still follow. They are listed from the last to the
 -- first. Each has the parts read so far and, within a list, the number of items that are left.
-use Rattle.std.specs.Prelude.{ℕ, List, [], ◌∷◌, ◌++◌, ◌==◌, nat_lt, drop, length, Option, codes}
+use Rattle.std.specs.Prelude.{ℕ, ◌-◌, List, [], ◌∷◌, ◌++◌, ◌==◌, nat_lt, drop, length, Option, codes}
 use Rattle.sas_core.specs.declared.parts.Fact.{Fact}
 use Rattle.sas_core.specs.declared.parts.Variable.{Variable}
 use Rattle.sas_core.specs.declared.parts.Effect.{Effect}
@@ -124,15 +124,15 @@ state_values_of variables p = do
   a_word (codes "end_state")
   goal_begin (record p { init = init })
 
--- the values of the other variables are expected
-abbrev pub state_values : Parts → TaskProcess
-state_values p = state_values_of (drop (length p.init) p.variables) p
+-- the values of the last `more` variables are expected
+abbrev pub state_values : ℕ → Parts → TaskProcess
+state_values more p = state_values_of (drop (length p.variables - more) p.variables) p
 
 -- `begin_state` is expected
 abbrev pub state_begin : Parts → TaskProcess
 state_begin p = do
   a_word (codes "begin_state")
-  state_values p
+  state_values_of p.variables p
 
 -- ---- the mutex groups
 

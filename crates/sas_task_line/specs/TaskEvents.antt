@@ -6,8 +6,8 @@ use Rattle.sas_core.specs.declared.parts.Variable.{Variable}
 use Rattle.sas_core.specs.declared.parts.Operator.{Operator}
 use Rattle.sas_core.specs.declared.parts.Rule.{Rule}
 use Rattle.sas_core.specs.declared.parts.Parts.{Parts}
-use Rattle.sas_task_line.specs.declared.task_events.Event.{Event}
-use Rattle.sas_task_line.specs.declared.task_events.Event.TheVariants as event
+use Rattle.sas_task_format.specs.declared.places.Event.{Event}
+use Rattle.sas_task_format.specs.declared.places.Event.TheVariants as event
 use Rattle.sas_task_line.specs.declared.task_events.Said.{Said}
 use Rattle.sas_task_line.specs.declared.so_far.SoFar.{SoFar}
 

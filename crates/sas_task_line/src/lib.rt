@@ -13,10 +13,7 @@ pub use ahead::{effect_before, fact_before, name_before, number_line_before};
 pub use sections::{OperatorFound, RuleFound, operator_found, rule_found};
 pub use so_far::SoFar;
 pub use task_events::{Event, Said};
-pub use task_line::{
-    change_in, effect_at, fact_at, head_at, name_at, number_at, number_below, positive_at,
-    signed_at, value_in, version_at, word_at,
-};
+pub use task_line::{change_in, value_in};
 pub use variables_and_groups::{VariableFound, group_found, variable_found};
 pub use wrong_word::{
     change_wrong, effect_wrong, fact_wrong, wrong_in_effect, wrong_in_fact, wrong_in_head,

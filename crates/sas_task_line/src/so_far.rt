@@ -1,6 +1,6 @@
 // Stores the content of a task file while it is read.
 ghost use Rattle.std.specs.Prelude.{◌≡◌, [], OnOk};
-ghost use Rattle.sas_task_line.specs.declared.task_events.Event.TheVariants as event;
+ghost use Rattle.sas_task_format.specs.declared.places.Event.TheVariants as event;
 ghost use Rattle.sas_task_line.specs.declared.task_events.Said.{Said};
 ghost use Rattle.sas_task_line.specs.TaskEvents.{nothing_yet, after};
 

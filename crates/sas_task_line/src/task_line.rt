@@ -3,21 +3,20 @@ ghost use Rattle.std.specs.Prelude.{◌≡◌, ◌↔◌, ℕ, List, [], Option,
 ghost use Rattle.std.specs.List.{list_all};
 ghost use Rattle.sas_core.specs.Names.{is_name};
 ghost use Rattle.sas_task_format.specs.TaskFormat as format;
-ghost use Rattle.sas_task_format.specs.TaskProcess.{any, positive, name_in, number_in, fact_in, effect_in, head_in};
+ghost use Rattle.sas_task_format.specs.TaskProcess.{is_from, name_in, number_in, fact_in, effect_in, head_in};
 ghost use Rattle.sas_task_line.specs.TaskRanges.{value_in, change_in_ranges, fact_in_ranges, effect_in_ranges, head_in_ranges};
-ghost use Rattle.sas_task_line.specs.TaskLine.{ParsesLine, ParsesLineOrMemory};
+ghost use Rattle.sas_task_line.specs.TaskLine.{ParsesLine, ParsesLineOrMemory, ParsesDue};
 ghost use Rattle.sas_task_line.specs.TaskWords.{Spells, TakesNumber, TakesSigned, TakesFact, TakesFacts, TakesHead};
 
+use crate::task_events::Said;
 use sas_core::{Change, Effect, Fact, Items, is_name};
 use sas_lines::{Numbers, number, signed};
 use sas_reader::Kind;
+use sas_task_format::Due;
 use std::alloc::AllocError;
 
-/// The version of the format.
-const VERSION: u32 = 3;
-
 /// Checks that the line is the fixed word. Returns the kind of its fault if it isn't.
-pub fn word_at(line: &[u8], word: &[u8]) -> Result<(), Kind>
+fn word_at(line: &[u8], word: &[u8]) -> Result<(), Kind>
     ensures { ParsesLine (format.word_slot word.now) (λ _. true) (λ _. format.word word.now)
         line.now result }
 {
@@ -29,7 +28,7 @@ pub fn word_at(line: &[u8], word: &[u8]) -> Result<(), Kind>
 }
 
 /// Checks that the line is a name. Returns the kind of its fault if it isn't.
-pub fn name_at(line: &[u8]) -> Result<(), Kind>
+fn name_at(line: &[u8]) -> Result<(), Kind>
     ensures { ParsesLine format.name_slot (λ i. is_name (name_in i)) (λ _. format.name line.now)
         line.now result }
 {
@@ -40,53 +39,20 @@ pub fn name_at(line: &[u8]) -> Result<(), Kind>
     }
 }
 
-/// Returns the number on the line, or the kind of its fault.
-pub fn number_at(line: &[u8]) -> Result<u32, Kind>
-    ensures { ParsesLine format.number_slot (λ i. any (number_in i)) format.number line.now result }
-{
-    match number(line) {
-        Some(found) => Ok(found),
-        None => Err(Kind::Shape),
-    }
-}
-
-/// Returns the positive number on the line, or the kind of its fault.
-pub fn positive_at(line: &[u8]) -> Result<u32, Kind>
-    ensures { ParsesLine format.number_slot
-        (λ i. positive (number_in i)) format.number line.now result }
-{
-    match number(line) {
-        None => Err(Kind::Shape),
-        Some(0) => Err(Kind::Value),
-        Some(n) => Ok(n),
-    }
-}
-
-/// Returns the number below `bound` on the line, or the kind of its fault.
-pub fn number_below(line: &[u8], bound: usize) -> Result<u32, Kind>
-    ensures { ParsesLine format.number_slot (λ i. nat_lt (number_in i) bound) format.number
+/// Returns the number from `least` to `most` on the line, or the kind of its fault.
+fn number_from(line: &[u8], least: u32, most: u32) -> Result<u32, Kind>
+    ensures { ParsesLine format.number_slot (λ i. is_from least most (number_in i)) format.number
         line.now result }
 {
     match number(line) {
         None => Err(Kind::Shape),
-        Some(n) if (n as usize) < bound => Ok(n),
-        Some(_) => Err(Kind::Value),
-    }
-}
-
-/// Returns the version on the line, or the kind of its fault.
-pub fn version_at(line: &[u8]) -> Result<u32, Kind>
-    ensures { ParsesLine format.number_slot (λ i. number_in i == 3) format.number line.now result }
-{
-    match number(line) {
-        None => Err(Kind::Shape),
-        Some(VERSION) => Ok(VERSION),
+        Some(n) if least <= n && n <= most => Ok(n),
         Some(_) => Err(Kind::Value),
     }
 }
 
 /// Returns the number on the line (`None` for `-1`), or the kind of its fault.
-pub fn signed_at(line: &[u8]) -> Result<Option<u32>, Kind>
+fn signed_at(line: &[u8]) -> Result<Option<u32>, Kind>
     ensures { ParsesLine format.signed_slot (λ _. true) format.signed line.now result }
 {
     match signed(line) {
@@ -278,7 +244,7 @@ fn effect_in_ranges(ranges: &Items<u32>, effect: &Effect) -> bool
 }
 
 /// Returns the fact on the line, or the kind of its fault: `Shape`, or `Value` if the fact doesn't exist.
-pub fn fact_at(ranges: &Items<u32>, line: &[u8]) -> Result<Fact, Kind>
+fn fact_at(ranges: &Items<u32>, line: &[u8]) -> Result<Fact, Kind>
     ensures { ParsesLine format.fact_slot (λ i. fact_in_ranges ranges.now (fact_in i)) format.fact
         line.now result }
 {
@@ -291,7 +257,7 @@ pub fn fact_at(ranges: &Items<u32>, line: &[u8]) -> Result<Fact, Kind>
 
 /// Reads the effect on the line into `effect`, and reuses its memory. Returns the kind of fault: `Shape`, `Value` if a fact doesn't exist,
 /// or `Memory` if out of memory.
-pub fn effect_at(effect: &mut Effect, ranges: &Items<u32>, line: &[u8]) -> Result<(), Kind>
+fn effect_at(effect: &mut Effect, ranges: &Items<u32>, line: &[u8]) -> Result<(), Kind>
     ensures { ParsesLineOrMemory format.effect_slot (λ i. effect_in_ranges ranges.now (effect_in i))
         (λ _. format.effect effect.exit.now) line.now result }
 {
@@ -307,7 +273,7 @@ pub fn effect_at(effect: &mut Effect, ranges: &Items<u32>, line: &[u8]) -> Resul
 }
 
 /// Returns the head of a rule on the line, or the kind of its fault: `Shape`, or `Value` if a fact of it doesn't exist.
-pub fn head_at(ranges: &Items<u32>, line: &[u8]) -> Result<Change, Kind>
+fn head_at(ranges: &Items<u32>, line: &[u8]) -> Result<Change, Kind>
     ensures { ParsesLine format.head_slot (λ i. head_in_ranges ranges.now (head_in i))
         (λ (c : Change). format.head c.var c.old c.new) line.now result }
 {
@@ -315,5 +281,24 @@ pub fn head_at(ranges: &Items<u32>, line: &[u8]) -> Result<Change, Kind>
         None => Err(Kind::Shape),
         Some(change) if change_in(ranges, change.var, change.old, change.new) => Ok(change),
         Some(_) => Err(Kind::Value),
+    }
+}
+
+impl Said {
+    /// Parses a line on which this is expected. Returns the kind of its fault if it isn't that, or `Memory` if out of memory. `ranges` has
+    /// the number of values of each variable.
+    pub fn parse(&mut self, ranges: &Items<u32>, due: Due, line: &[u8]) -> Result<(), Kind>
+        ensures { ParsesDue ranges.now due line.now self.new result }
+    {
+        match due {
+            Due::Word(word) => word_at(line, word.bytes())?,
+            Due::Name | Due::Nothing => name_at(line)?,
+            Due::Number { least, most } => self.number = number_from(line, least, most)?,
+            Due::Layer => self.layer = signed_at(line)?,
+            Due::Fact => self.fact = fact_at(ranges, line)?,
+            Due::Head => self.head = head_at(ranges, line)?,
+            Due::Effect => effect_at(&mut self.effect, ranges, line)?,
+        }
+        Ok(())
     }
 }

@@ -36,7 +36,8 @@ pub use Rattle.sas_task_format.specs.Process.{process_node}
 pub use Rattle.sas_task_format.specs.TaskFormat.{TaskLine, TaskSlot, word_slot, name_slot, number_slot, signed_slot, fact_slot, effect_slot, head_slot, HasShape, NumbersKind, no_shape, no_value, TaskKind, task_format, TaskLineFits, task_texts}
 pub use Rattle.sas_task_format.specs.TaskProcess.{TaskProcess, task_start}
 pub use Rattle.sas_task_format.specs.TaskReasons.{IsTaskReason}
-pub use Rattle.sas_task_format.specs.Tracker.{Tracker, tracker_start, track, mark_in}
+pub use Rattle.sas_task_format.specs.Tracker.{tracker_start, track, mark_in}
+pub use Rattle.sas_task_format.specs.declared.tracker.Tracker.{Tracker}
 pub use Rattle.sas_task_format.specs.declared.marks.Mark.{Mark}
 pub use Rattle.sas_task_format.specs.declared.marks.WrongWord.{WrongWord}
 pub use Rattle.sas_task_judge.proofs.Reasons.{task_reason, trailing_reason, led_still, ended_still, shape_still, wrong_still}
@@ -49,7 +50,7 @@ pub use Rattle.sas_task_judge.specs.declared.task_machine.TaskMachine.{TaskMachi
 pub use Rattle.sas_task_line.specs.FirstWrong.{FirstWrong}
 pub use Rattle.sas_task_line.specs.TaskEvents.{after}
 pub use Rattle.sas_task_line.specs.declared.so_far.SoFar.{SoFar}
-pub use Rattle.sas_task_line.specs.declared.task_events.Event.{Event}
+pub use Rattle.sas_task_format.specs.declared.places.Event.{Event}
 pub use Rattle.sas_task_line.specs.declared.task_events.Said.{Said}
 pub use Rattle.sas_task_reader.specs.TaskOutline.{outline_in, kept_of}
 pub use Rattle.sas_task_reader.specs.TaskReader.{task_view}

@@ -39,7 +39,7 @@ module _ {K : Type 0} (keeps : List (List ℕ) → SoFar → K → Type 0) (line
   reported_reason (behind_line old led going_on rejects stopped) =
       let still = led_still keeps lines old m text kind stopped led in
       let known = wrong_still keeps lines old m text kind stopped in
-      let is : WrongWordIn m.judge text kind word = record { of_value = λ v. subst (FirstWrong m.judge.ranges (due_slot m.judge) text) (sym (of_value v)) (known.of_value v); of_another = of_another } in
+      let is : WrongWordIn m.judge text kind word = record { of_value = λ v. subst (FirstWrong m.judge.tracker.ranges (due_slot m.judge) text) (sym (of_value v)) (known.of_value v); of_another = of_another } in
       let p = state_of old.judge led.so_far in
       let shape : kind ≡ kinds.Value → HasShape (due_slot m.judge) text = λ v. shape_still keeps lines old m text kind stopped
       (subst (λ (t : Tracker). HasShape (slot_of_due (mark_in t).due) text) led.tracked (rejects_shape p led.leads.items led.leads.after (process_node p) refl text kind (rejects led.so_far led.known) v)) in

@@ -5,7 +5,7 @@ ghost use Rattle.sas_core.specs.declared.parts.Variable.{Variable};
 ghost use Rattle.sas_core.specs.declared.parts.Operator.{Operator};
 ghost use Rattle.sas_core.specs.declared.parts.Rule.{Rule};
 ghost use Rattle.sas_core.specs.WellRanged.{WellRanged};
-ghost use Rattle.sas_task_line.specs.declared.task_events.Event.TheVariants as event;
+ghost use Rattle.sas_task_format.specs.declared.places.Event.TheVariants as event;
 ghost use Rattle.sas_task_line.specs.declared.task_events.Said.{Said};
 ghost use Rattle.sas_task_line.specs.Sections.{GroupAhead, OperatorAhead, RuleAhead};
 ghost use Rattle.sas_task_line.specs.TaskEvents.{nothing_yet, after};

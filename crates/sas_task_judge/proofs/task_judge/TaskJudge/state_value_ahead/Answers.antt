@@ -1,8 +1,10 @@
-use Rattle.sas_task_judge.proofs.Imports.{◌≡◌, true, nat_lt, arith, nat_tests, range_in}
+use Rattle.sas_task_judge.proofs.Imports.{refl, ap, arith, number, value_due}
+use Rattle.sas_task_format.specs.declared.places.Event.TheVariants as adds
+use Rattle.sas_task_format.specs.declared.places.Move.TheVariants as moves
 use Rattle.sas_task_judge.proofs.TaskMoves.{moves_ahead}
+use Rattle.sas_task_judge.proofs.Following.{is_between}
 use Rattle.sas_task_judge.proofs.task_judge.TaskJudge.state_value_ahead.Goals as goal
 
 pub returns-clause-some : goal.returns-clause-some
 returns-clause-some c =
-    let below : nat_lt c.in_ok-value.value (range_in c.args.self.now.ranges c.args.self.now.valued) ≡ true = grind (arith, nat_tests) in
-    moves_ahead _ _ _ _ _ _ _ c.in_ok-value.ensures below c.took_state_value.ensures
+    moves_ahead c.args.self.now _ c.args.bytes.now c.in_ok-value.rest.now (value_due c.args.self.now.tracker) adds.State moves.Item (number c.in_ok-value.value) c.requires (λ e. cc) c.in_ok-value.ensures refl refl (is_between 0 _ c.in_ok-value.value (omega arith) (omega (arith, c.most_value.ensures, c.if-value-most_value.false))) (ap (λ n. record c.args.self.now.tracker { more = n }) c.saturating_sub-self.ensures)

@@ -1,6 +1,0 @@
-use Rattle.sas_task_judge.proofs.Imports.{refl}
-use Rattle.sas_task_judge.proofs.TaskMoves.{on}
-use Rattle.sas_task_judge.proofs.task_judge.TaskJudge.name.Goals as goal
-
-pub returns : goal.returns
-returns c = λ s f. let due = c.requires s f in (due.1 _, on _ _ _ _ _ _ _ _ _ due.0 c.in_ok-name_at.ensures refl (due.2 _))
