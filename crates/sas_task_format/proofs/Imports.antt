@@ -1,6 +1,6 @@
 -- What the proofs use of other crates, and of the definitions of this one.
 pub use Rattle.std.proofs.Common.{◌≡◌, Bool, List, [], ◌∷◌, ◌++◌, map, refl, sym, subst, ◌∙◌, ℕ, zero, suc, length, ap, slice_get, Some, None, true, ◌⊎◌, inl, inr, Option, IsTrue, codes, nat_lt, ◌==◌, slice_index, append_assoc, ◌+◌, ◌≤◌, length-append, arith, IsSome, ◌<◌, false, rules, if◌then◌else◌, ◌-◌, slice_index_or}
-pub use Rattle.std.proofs.lemmas.Bool.{ltb-true, eqb-true, lt-ltb, le-ltb, and_from, and_parts}
+pub use Rattle.std.proofs.lemmas.Bool.{ltb-true, eqb-true, and_from, and_parts}
 pub use Rattle.std.proofs.lemmas.Bool.Decides.{eqb_tells}
 pub use Rattle.std.proofs.lemmas.Fmt.{decimal_digit, decimal_injective}
 pub use Rattle.std.proofs.lemmas.List.{append-nil, map-append, length-map, get_or-append-add}
@@ -35,7 +35,7 @@ pub use Rattle.sas_reader.specs.About.{of_line, of_byte, of_end}
 pub use Rattle.sas_reader.specs.Format.{IsBegun, Format, EndOf, KindAt, too_long, trailing, wrong, FaultOf}
 pub use Rattle.sas_reader.specs.Laws.{Laws}
 pub use Rattle.sas_reader.specs.Limit.{most_bytes}
-pub use Rattle.sas_reader.specs.System.{before, OneLine, After, LeadsToEnd, Leads, IsAllowed, Grammar}
+pub use Rattle.sas_reader.specs.System.{After, LeadsToEnd, Leads, IsAllowed, Grammar}
 pub use Rattle.sas_reader.specs.Texts.{lines_of}
 pub use Rattle.sas_reader.specs.declared.fault.Fault.{Fault}
 pub use Rattle.sas_reader.specs.declared.fault.Kind.{Kind}
@@ -46,7 +46,7 @@ pub use Rattle.sas_task_format.specs.TaskFormat.{TaskLine, TaskLineFits, TaskSlo
 pub use Rattle.sas_task_format.specs.TaskLaws.{number_filling, filling, FillingsInBytes, last_slot, AreFillings, Completion, TaskIsFilled, OneCompletion}
 pub use Rattle.sas_task_format.specs.TaskProcess.{TaskProcess, task_start, TaskPart, name_in, number_in, signed_in, fact_in, effect_in, head_in, any, positive, may_change, effect_may_stand, head_may_stand, a_word, a_name, a_number, a_signed, a_fact, an_effect, a_head, a_value, a_version, a_metric, a_variable, a_group, a_state, a_goal, an_operator, a_rule, a_task, Head}
 pub use Rattle.sas_task_format.specs.TaskReasons.{first_wrong, line_bounds, OneTaskReason, OneWrongWord, Bounded, fact_bounds, change_bounds, IsTaskReason, SomeTaskReason, IsFirstWrong, SpeaksOfFacts, SomeWrongWord, WrongWordIsNamed}
-pub use Rattle.sas_task_format.specs.Tracker.{tracker_start, track, mark_in, by_count, track_line, mark, row_at, row_in, IsRow, this_number, value_due}
+pub use Rattle.sas_task_format.specs.Tracker.{tracker_start, track, mark_in, by_count, track_line, mark, row_at, IsRow, this_number}
 pub use Rattle.sas_task_format.specs.declared.tracker.Tracker.{Tracker}
 pub use Rattle.sas_task_format.specs.declared.marks.Due.{Due}
 pub use Rattle.sas_task_format.specs.declared.marks.Location.{Location}

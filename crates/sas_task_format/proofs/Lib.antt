@@ -10,7 +10,6 @@ pub mod Tracking
 pub mod TrackedSections
 pub mod TrackedTask
 pub mod DueBehind
-pub mod DueAfter
 pub mod WrongWords
 pub mod MarkLaws
 pub mod SomeReason

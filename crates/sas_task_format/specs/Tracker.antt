@@ -1,7 +1,7 @@
--- The table of places: for each place of a task file the location of the next line, what is expected
--- there, what the line adds to the task, and how it moves the tracker. A tracker follows the lines of
--- a task, one after another, by this table. Proofs use it. The definition of what is expected is in
--- the marks of a task.
+-- The table of places: for each place of a task file the location of the next line, what is
+-- expected there, what the line adds to the task, and how it moves the tracker. A tracker follows
+-- the lines of a task, one after another, by this table. Proofs use it. The definition of what is
+-- expected is in the marks of a task.
 use Rattle.std.specs.Prelude.{◌≡◌, ℕ, zero, suc, ◌-◌, List, [], ◌∷◌, ◌++◌, length, slice_index_or}
 use Rattle.sas_task_format.specs.declared.places.Place.{Place}
 use Rattle.sas_task_format.specs.declared.places.Place.TheVariants as place

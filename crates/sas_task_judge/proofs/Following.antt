@@ -1,11 +1,28 @@
 -- What the table of places says is what may follow: at each place, the same lines are allowed, and
 -- they lead to the same next states.
-use Rattle.sas_task_judge.proofs.Imports.{◌≡◌, ℕ, zero, suc, ◌+◌, ◌-◌, ◌<◌, ◌≤◌, ◌==◌, ◌↔◌, slice_index_or, Bool, true, false, nat_lt, length, drop, List, [], ◌∷◌, ◌++◌, refl, sym, ap, subst, ◌∙◌, arith, length-append, IsTrue, and_from, and_parts, eqb-true, less, is_less, AllByRecursion, Parts, Variable, read, done, TaskLine, TaskLineFits, number, slot_of_due, TaskProcess, is_from, positive, number_in, fact_in, effect_in, head_in, fact_exists, effect_may_stand, head_may_stand, fact_in_ranges, effect_in_ranges, head_in_ranges, ranges_of, ranges_many, range_of, SoFar, Said, after, Place, Row, Tracker, row_in, after_move, process_at, state_in, state_values, state_values_of, number_slot, a_number, test_of_due, line_of_due, Knows}
+use Rattle.sas_task_judge.proofs.Imports.{◌≡◌, ℕ, zero, suc, ◌+◌, ◌-◌, ◌<◌, ◌≤◌, ◌==◌, ◌↔◌, slice_index_or, Bool, true, false, nat_lt, length, drop, List, [], ◌∷◌, ◌++◌, refl, sym, ap, subst, ◌∙◌, arith, length-append, IsTrue, and_from, and_parts, eqb-true, less, is_less, AllByRecursion, Parts, Variable, read, done, TaskLine, TaskLineFits, number, slot_of_due, TaskProcess, is_from, positive, number_in, fact_in, effect_in, head_in, fact_exists, effect_may_stand, head_may_stand, fact_in_ranges, effect_in_ranges, head_in_ranges, ranges_of, ranges_many, range_of, SoFar, after, Place, Row, Tracker, row_in, after_move, number_slot, a_number, test_of_due, numbers_of, name_in}
+use Rattle.sas_task_judge.proofs.TaskPlaces.{process_at, process_in, state_values, state_values_of}
 use Rattle.sas_task_format.specs.declared.places.Place.TheVariants as at
 use Rattle.sas_task_judge.proofs.TaskRanges.{ranges_push, fact_is, effect_is, change_is}
 use Rattle.sas_task_judge.proofs.VariablesBehind.{behind}
 
--- the test of a state, and where it leads
+-- the number of values of each variable; among the values of a variable, this is the last one
+abbrev pub ranges_at : Place → List ℕ → ℕ → List ℕ
+ranges_at at.VariableValues ranges range = ranges ++ range ∷ []
+ranges_at _ ranges range = ranges
+
+-- at most this many values of the initial state are left
+abbrev pub MayLack : Place → ℕ → ℕ → Type 0
+MayLack at.StateValues more most = more ≤ most
+MayLack _ more most = Unit {0}
+
+-- the tracker has what decides which lines may follow the content s
+pub record Knows (s : SoFar) (t : Tracker) : Type 0 where
+  pub ranges : t.ranges ≡ ranges_at t.place (ranges_of s.parts.variables) (length s.values + t.more)
+  pub state : MayLack t.place t.more (length t.ranges)
+  pub some : AllByRecursion (λ n. 0 < n) t.ranges
+
+-- the test of a process, and where it leads
 abbrev pub test_in : TaskProcess → TaskLine → Bool
 test_in (read slot test next) i = test i
 test_in (done v) i = false
@@ -18,9 +35,8 @@ next_in (done v) i = done v
 pub record RowFollows (r : Row) (p : TaskProcess) (t : Tracker) (s : SoFar) : Type 0 where
   pub reads : p ≡ read (slot_of_due r.due) (test_in p) (next_in p)
   pub same : (i : TaskLine) → TaskLineFits i → IsTrue (test_in p i) ↔ IsTrue (test_of_due t.ranges r.due i)
-  pub leads : (said : Said) (line : List ℕ) → next_in p (line_of_due r.due said line) ≡ state_in (after_move r.moves said.number t) (after s r.adds said line)
-  pub steps : (said : Said) (line : List ℕ) → after_move r.moves (number_in (line_of_due r.due said line)) t ≡ after_move r.moves said.number t
-  pub known : (said : Said) (line : List ℕ) → IsTrue (test_of_due t.ranges r.due (line_of_due r.due said line)) → Knows (after s r.adds said line) (after_move r.moves said.number t)
+  pub leads : (i : TaskLine) → next_in p i ≡ process_in (after_move r.moves (number_in i) t) (after s r.adds (numbers_of i) (name_in i))
+  pub known : (i : TaskLine) → IsTrue (test_of_due t.ranges r.due i) → Knows (after s r.adds (numbers_of i) (name_in i)) (after_move r.moves (number_in i) t)
 
 -- ---- tests
 
@@ -123,7 +139,7 @@ some_there (r ∷ ranges) (suc i) h l = some_there ranges i h.1 (omega arith)
 many_ranges : (s : SoFar) (ranges : List ℕ) → ranges ≡ ranges_of s.parts.variables → length ranges ≡ length s.parts.variables
 many_ranges s ranges e = ap (λ (rs : List ℕ). length rs) e ∙ ranges_many s.parts.variables
 
-state_follows : (left more : ℕ) (t : Tracker) (s : SoFar) → (let u : Tracker = record t { place = at.StateValues; left = left; more = more } in Knows s u → RowFollows (row_in u) (state_in u s) u s)
+state_follows : (left more : ℕ) (t : Tracker) (s : SoFar) → (let u : Tracker = record t { place = at.StateValues; left = left; more = more } in Knows s u → RowFollows (row_in u) (process_in u s) u s)
 state_follows left zero t s k =
     let u : Tracker = record t { place = at.StateValues; left = left; more = 0 } in
     let vs = s.parts.variables in
@@ -131,9 +147,8 @@ state_follows left zero t s k =
     (record {
       reads = refl;
       same = λ i f. (λ h. h, λ h. h);
-      leads = λ said line. refl;
-      steps = λ said line. refl;
-      known = λ said line ok. record { ranges = k.ranges; state = tt; some = k.some };
+      leads = λ i. refl;
+      known = λ i ok. record { ranges = k.ranges; state = tt; some = k.some };
     })
 state_follows left (suc more) t s k =
     let u : Tracker = record t { place = at.StateValues; left = left; more = suc more } in
@@ -149,9 +164,8 @@ state_follows left (suc more) t s k =
     (record {
       reads = refl;
       same = λ i f. subst (λ (n : ℕ). IsTrue (nat_lt (number_in i) range) ↔ IsTrue (is_from 0 (n - 1) (number_in i))) (sym there) (below_same (number_in i) range some);
-      leads = λ said line. refl;
-      steps = λ said line. refl;
-      known = λ said line ok. record { ranges = k.ranges; state = omega (arith, below); some = k.some };
+      leads = λ i. refl;
+      known = λ i ok. record { ranges = k.ranges; state = omega (arith, below); some = k.some };
     })
 
 -- ---- all places
@@ -159,53 +173,44 @@ state_follows left (suc more) t s k =
 abbrev pub tracker_with : Place → ℕ → ℕ → Tracker → Tracker
 tracker_with p left more t = record t { place = p; left = left; more = more }
 
-abbrev pub Follows : Tracker → SoFar → Type 0
-Follows t s = RowFollows (row_in t) (state_in t s) t s
+abbrev pub TableFollows : Tracker → SoFar → Type 0
+TableFollows t s = RowFollows (row_in t) (process_in t s) t s
 
-follows_at : (p : Place) (left more : ℕ) (t : Tracker) (s : SoFar) → Knows s (tracker_with p left more t) → ((p ≡ at.Rules) × (left ≡ 0) → ⊥) → Follows (tracker_with p left more t) s
-follows_at at.VersionBegin left more t s k g = record { reads = refl; same = λ i f. (λ h. h, λ h. h); leads = λ said line. refl; steps = λ said line. refl; known = λ said line ok. record { ranges = k.ranges; state = tt; some = k.some } }
-follows_at at.VersionNumber left more t s k g = record { reads = refl; same = λ i f. three_same (number_in i); leads = λ said line. refl; steps = λ said line. refl; known = λ said line ok. record { ranges = k.ranges; state = tt; some = k.some } }
-follows_at at.VersionEnd left more t s k g = record { reads = refl; same = λ i f. (λ h. h, λ h. h); leads = λ said line. refl; steps = λ said line. refl; known = λ said line ok. record { ranges = k.ranges; state = tt; some = k.some } }
-follows_at at.MetricBegin left more t s k g = record { reads = refl; same = λ i f. (λ h. h, λ h. h); leads = λ said line. refl; steps = λ said line. refl; known = λ said line ok. record { ranges = k.ranges; state = tt; some = k.some } }
-follows_at at.MetricNumber left more t s k g = record { reads = refl; same = λ i f. two_same (number_in i); leads = λ said line. refl; steps = λ said line. refl; known = λ said line ok. record { ranges = k.ranges; state = tt; some = k.some } }
-follows_at at.MetricEnd left more t s k g = record { reads = refl; same = λ i f. (λ h. h, λ h. h); leads = λ said line. refl; steps = λ said line. refl; known = λ said line ok. record { ranges = k.ranges; state = tt; some = k.some } }
-follows_at at.VariableCount left more t s k g = record { reads = refl; same = λ i f. positive_same i f; leads = λ said line. refl; steps = λ said line. refl; known = λ said line ok. record { ranges = k.ranges; state = tt; some = k.some } }
-follows_at at.Variables zero more t s k g = record { reads = refl; same = λ i f. any_same i f; leads = λ said line. refl; steps = λ said line. refl; known = λ said line ok. record { ranges = k.ranges; state = tt; some = k.some } }
-follows_at at.Variables (suc left) more t s k g = record { reads = refl; same = λ i f. (λ h. h, λ h. h); leads = λ said line. ap (λ (n : ℕ). process_at at.VariableName n more s) (sym (one_less left)); steps = λ said line. refl; known = λ said line ok. record { ranges = k.ranges; state = tt; some = k.some } }
-follows_at at.VariableName left more t s k g = record { reads = refl; same = λ i f. (λ h. h, λ h. h); leads = λ said line. refl; steps = λ said line. refl; known = λ said line ok. record { ranges = k.ranges; state = tt; some = k.some } }
-follows_at at.VariableLayer left more t s k g = record { reads = refl; same = λ i f. (λ h. h, λ h. h); leads = λ said line. refl; steps = λ said line. refl; known = λ said line ok. record { ranges = k.ranges; state = tt; some = k.some } }
-follows_at at.VariableRange left more t s k g = record { reads = refl; same = λ i f. positive_same i f; leads = λ said line. refl; steps = λ said line. refl; known = λ said line ok. record { ranges = ap (λ (rs : List ℕ). rs ++ said.number ∷ []) k.ranges ∙ ap (λ (n : ℕ). ranges_of s.parts.variables ++ n ∷ []) (from_none said.number); state = tt; some = all_and_one t.ranges said.number k.some (from_positive said.number ok) } }
-follows_at at.VariableValues left zero t s k g = record { reads = refl; same = λ i f. (λ h. h, λ h. h); leads = λ said line. refl; steps = λ said line. refl; known = λ said line ok. record { ranges = values_done s t.ranges k.ranges; state = tt; some = k.some } }
-follows_at at.VariableValues left (suc more) t s k g = record { reads = refl; same = λ i f. (λ h. h, λ h. h); leads = λ said line. ap (λ (n : ℕ). process_at at.VariableValues left n (record s { values = s.values ++ line ∷ [] })) (sym (one_less more)); steps = λ said line. refl; known = λ said line ok. record { ranges = values_on s line more t.ranges k.ranges; state = tt; some = k.some } }
+follows_at : (p : Place) (left more : ℕ) (t : Tracker) (s : SoFar) → Knows s (tracker_with p left more t) → ((p ≡ at.Rules) × (left ≡ 0) → ⊥) → TableFollows (tracker_with p left more t) s
+follows_at at.VersionNumber left more t s k g = record { reads = refl; same = λ i f. three_same (number_in i); leads = λ i. refl; known = λ i ok. record { ranges = k.ranges; state = tt; some = k.some } }
+follows_at at.MetricNumber left more t s k g = record { reads = refl; same = λ i f. two_same (number_in i); leads = λ i. refl; known = λ i ok. record { ranges = k.ranges; state = tt; some = k.some } }
+follows_at at.VariableCount left more t s k g = record { reads = refl; same = λ i f. positive_same i f; leads = λ i. refl; known = λ i ok. record { ranges = k.ranges; state = tt; some = k.some } }
+follows_at at.Variables zero more t s k g = record { reads = refl; same = λ i f. any_same i f; leads = λ i. refl; known = λ i ok. record { ranges = k.ranges; state = tt; some = k.some } }
+follows_at at.Variables (suc left) more t s k g = record { reads = refl; same = λ i f. (λ h. h, λ h. h); leads = λ i. ap (λ (n : ℕ). process_at at.VariableName n more s) (sym (one_less left)); known = λ i ok. record { ranges = k.ranges; state = tt; some = k.some } }
+follows_at at.VariableRange left more t s k g = record { reads = refl; same = λ i f. positive_same i f; leads = λ i. refl; known = λ i ok. record { ranges = ap (λ (rs : List ℕ). rs ++ number_in i ∷ []) k.ranges ∙ ap (λ (n : ℕ). ranges_of s.parts.variables ++ n ∷ []) (from_none (number_in i)); state = tt; some = all_and_one t.ranges (number_in i) k.some (from_positive (number_in i) ok) } }
+follows_at at.VariableValues left zero t s k g = record { reads = refl; same = λ i f. (λ h. h, λ h. h); leads = λ i. refl; known = λ i ok. record { ranges = values_done s t.ranges k.ranges; state = tt; some = k.some } }
+follows_at at.VariableValues left (suc more) t s k g = record { reads = refl; same = λ i f. (λ h. h, λ h. h); leads = λ i. ap (λ (n : ℕ). process_at at.VariableValues left n (record s { values = s.values ++ name_in i ∷ [] })) (sym (one_less more)); known = λ i ok. record { ranges = values_on s (name_in i) more t.ranges k.ranges; state = tt; some = k.some } }
 follows_at at.Groups zero more t s k g =
     let vs = s.parts.variables in
     let all : 0 ≡ length vs - length t.ranges = omega (arith, many_ranges s t.ranges k.ranges) in
-    record { reads = refl; same = λ i f. (λ h. h, λ h. h); leads = λ said line. ap (λ (n : ℕ). state_values_of (drop n vs) s.parts) all; steps = λ said line. refl; known = λ said line ok. record { ranges = k.ranges; state = omega arith; some = k.some } }
-follows_at at.Groups (suc left) more t s k g = record { reads = refl; same = λ i f. (λ h. h, λ h. h); leads = λ said line. ap (λ (n : ℕ). process_at at.GroupSize n more s) (sym (one_less left)); steps = λ said line. refl; known = λ said line ok. record { ranges = k.ranges; state = tt; some = k.some } }
-follows_at at.GroupSize left more t s k g = record { reads = refl; same = λ i f. any_same i f; leads = λ said line. refl; steps = λ said line. refl; known = λ said line ok. record { ranges = k.ranges; state = tt; some = k.some } }
-follows_at at.GroupFacts left zero t s k g = record { reads = refl; same = λ i f. (λ h. h, λ h. h); leads = λ said line. refl; steps = λ said line. refl; known = λ said line ok. record { ranges = k.ranges; state = tt; some = k.some } }
-follows_at at.GroupFacts left (suc more) t s k g = record { reads = refl; same = λ i f. equal_tests (sym (fact_same s k.ranges i)); leads = λ said line. ap (λ (n : ℕ). process_at at.GroupFacts left n (record s { facts = s.facts ++ said.fact ∷ [] })) (sym (one_less more)); steps = λ said line. refl; known = λ said line ok. record { ranges = k.ranges; state = tt; some = k.some } }
+    record { reads = refl; same = λ i f. (λ h. h, λ h. h); leads = λ i. ap (λ (n : ℕ). state_values_of (drop n vs) s.parts) all; known = λ i ok. record { ranges = k.ranges; state = omega arith; some = k.some } }
+follows_at at.Groups (suc left) more t s k g = record { reads = refl; same = λ i f. (λ h. h, λ h. h); leads = λ i. ap (λ (n : ℕ). process_at at.GroupSize n more s) (sym (one_less left)); known = λ i ok. record { ranges = k.ranges; state = tt; some = k.some } }
+follows_at at.GroupSize left more t s k g = record { reads = refl; same = λ i f. any_same i f; leads = λ i. refl; known = λ i ok. record { ranges = k.ranges; state = tt; some = k.some } }
+follows_at at.GroupFacts left zero t s k g = record { reads = refl; same = λ i f. (λ h. h, λ h. h); leads = λ i. refl; known = λ i ok. record { ranges = k.ranges; state = tt; some = k.some } }
+follows_at at.GroupFacts left (suc more) t s k g = record { reads = refl; same = λ i f. equal_tests (sym (fact_same s k.ranges i)); leads = λ i. ap (λ (n : ℕ). process_at at.GroupFacts left n (record s { facts = s.facts ++ fact_in i ∷ [] })) (sym (one_less more)); known = λ i ok. record { ranges = k.ranges; state = tt; some = k.some } }
 follows_at at.StateValues left more t s k g = state_follows left more t s k
-follows_at at.GoalBegin left more t s k g = record { reads = refl; same = λ i f. (λ h. h, λ h. h); leads = λ said line. refl; steps = λ said line. refl; known = λ said line ok. record { ranges = k.ranges; state = tt; some = k.some } }
-follows_at at.GoalSize left more t s k g = record { reads = refl; same = λ i f. any_same i f; leads = λ said line. refl; steps = λ said line. refl; known = λ said line ok. record { ranges = k.ranges; state = tt; some = k.some } }
-follows_at at.GoalFacts left zero t s k g = record { reads = refl; same = λ i f. (λ h. h, λ h. h); leads = λ said line. refl; steps = λ said line. refl; known = λ said line ok. record { ranges = k.ranges; state = tt; some = k.some } }
-follows_at at.GoalFacts left (suc more) t s k g = record { reads = refl; same = λ i f. equal_tests (sym (fact_same s k.ranges i)); leads = λ said line. ap (λ (n : ℕ). process_at at.GoalFacts left n (record s { parts = record s.parts { goal = s.parts.goal ++ said.fact ∷ [] } })) (sym (one_less more)); steps = λ said line. refl; known = λ said line ok. record { ranges = k.ranges; state = tt; some = k.some } }
-follows_at at.OperatorCount left more t s k g = record { reads = refl; same = λ i f. any_same i f; leads = λ said line. refl; steps = λ said line. refl; known = λ said line ok. record { ranges = k.ranges; state = tt; some = k.some } }
-follows_at at.Operators zero more t s k g = record { reads = refl; same = λ i f. any_same i f; leads = λ said line. refl; steps = λ said line. refl; known = λ said line ok. record { ranges = k.ranges; state = tt; some = k.some } }
-follows_at at.Operators (suc left) more t s k g = record { reads = refl; same = λ i f. (λ h. h, λ h. h); leads = λ said line. ap (λ (n : ℕ). process_at at.OperatorName n more s) (sym (one_less left)); steps = λ said line. refl; known = λ said line ok. record { ranges = k.ranges; state = tt; some = k.some } }
-follows_at at.OperatorName left more t s k g = record { reads = refl; same = λ i f. (λ h. h, λ h. h); leads = λ said line. refl; steps = λ said line. refl; known = λ said line ok. record { ranges = k.ranges; state = tt; some = k.some } }
-follows_at at.PrevailCount left more t s k g = record { reads = refl; same = λ i f. any_same i f; leads = λ said line. refl; steps = λ said line. refl; known = λ said line ok. record { ranges = k.ranges; state = tt; some = k.some } }
-follows_at at.Prevail left zero t s k g = record { reads = refl; same = λ i f. any_same i f; leads = λ said line. refl; steps = λ said line. refl; known = λ said line ok. record { ranges = k.ranges; state = tt; some = k.some } }
-follows_at at.Prevail left (suc more) t s k g = record { reads = refl; same = λ i f. equal_tests (sym (fact_same s k.ranges i)); leads = λ said line. ap (λ (n : ℕ). process_at at.Prevail left n (record s { facts = s.facts ++ said.fact ∷ [] })) (sym (one_less more)); steps = λ said line. refl; known = λ said line ok. record { ranges = k.ranges; state = tt; some = k.some } }
-follows_at at.Effects left zero t s k g = record { reads = refl; same = λ i f. any_same i f; leads = λ said line. refl; steps = λ said line. refl; known = λ said line ok. record { ranges = k.ranges; state = tt; some = k.some } }
-follows_at at.Effects left (suc more) t s k g = record { reads = refl; same = λ i f. equal_tests (sym (effect_same s k.ranges i)); leads = λ said line. ap (λ (n : ℕ). process_at at.Effects left n (record s { effects = s.effects ++ said.effect ∷ [] })) (sym (one_less more)); steps = λ said line. refl; known = λ said line ok. record { ranges = k.ranges; state = tt; some = k.some } }
-follows_at at.OperatorEnd left more t s k g = record { reads = refl; same = λ i f. (λ h. h, λ h. h); leads = λ said line. refl; steps = λ said line. refl; known = λ said line ok. record { ranges = k.ranges; state = tt; some = k.some } }
+follows_at at.GoalSize left more t s k g = record { reads = refl; same = λ i f. any_same i f; leads = λ i. refl; known = λ i ok. record { ranges = k.ranges; state = tt; some = k.some } }
+follows_at at.GoalFacts left zero t s k g = record { reads = refl; same = λ i f. (λ h. h, λ h. h); leads = λ i. refl; known = λ i ok. record { ranges = k.ranges; state = tt; some = k.some } }
+follows_at at.GoalFacts left (suc more) t s k g = record { reads = refl; same = λ i f. equal_tests (sym (fact_same s k.ranges i)); leads = λ i. ap (λ (n : ℕ). process_at at.GoalFacts left n (record s { parts = record s.parts { goal = s.parts.goal ++ fact_in i ∷ [] } })) (sym (one_less more)); known = λ i ok. record { ranges = k.ranges; state = tt; some = k.some } }
+follows_at at.OperatorCount left more t s k g = record { reads = refl; same = λ i f. any_same i f; leads = λ i. refl; known = λ i ok. record { ranges = k.ranges; state = tt; some = k.some } }
+follows_at at.Operators zero more t s k g = record { reads = refl; same = λ i f. any_same i f; leads = λ i. refl; known = λ i ok. record { ranges = k.ranges; state = tt; some = k.some } }
+follows_at at.Operators (suc left) more t s k g = record { reads = refl; same = λ i f. (λ h. h, λ h. h); leads = λ i. ap (λ (n : ℕ). process_at at.OperatorName n more s) (sym (one_less left)); known = λ i ok. record { ranges = k.ranges; state = tt; some = k.some } }
+follows_at at.PrevailCount left more t s k g = record { reads = refl; same = λ i f. any_same i f; leads = λ i. refl; known = λ i ok. record { ranges = k.ranges; state = tt; some = k.some } }
+follows_at at.Prevail left zero t s k g = record { reads = refl; same = λ i f. any_same i f; leads = λ i. refl; known = λ i ok. record { ranges = k.ranges; state = tt; some = k.some } }
+follows_at at.Prevail left (suc more) t s k g = record { reads = refl; same = λ i f. equal_tests (sym (fact_same s k.ranges i)); leads = λ i. ap (λ (n : ℕ). process_at at.Prevail left n (record s { facts = s.facts ++ fact_in i ∷ [] })) (sym (one_less more)); known = λ i ok. record { ranges = k.ranges; state = tt; some = k.some } }
+follows_at at.Effects left zero t s k g = record { reads = refl; same = λ i f. any_same i f; leads = λ i. refl; known = λ i ok. record { ranges = k.ranges; state = tt; some = k.some } }
+follows_at at.Effects left (suc more) t s k g = record { reads = refl; same = λ i f. equal_tests (sym (effect_same s k.ranges i)); leads = λ i. ap (λ (n : ℕ). process_at at.Effects left n (record s { effects = s.effects ++ effect_in i ∷ [] })) (sym (one_less more)); known = λ i ok. record { ranges = k.ranges; state = tt; some = k.some } }
 follows_at at.Rules zero more t s k g = absurd (g (refl, refl))
-follows_at at.Rules (suc left) more t s k g = record { reads = refl; same = λ i f. (λ h. h, λ h. h); leads = λ said line. ap (λ (n : ℕ). process_at at.RuleSize n more s) (sym (one_less left)); steps = λ said line. refl; known = λ said line ok. record { ranges = k.ranges; state = tt; some = k.some } }
-follows_at at.RuleSize left more t s k g = record { reads = refl; same = λ i f. any_same i f; leads = λ said line. refl; steps = λ said line. refl; known = λ said line ok. record { ranges = k.ranges; state = tt; some = k.some } }
-follows_at at.RuleConditions left zero t s k g = record { reads = refl; same = λ i f. equal_tests (sym (head_same s k.ranges i)); leads = λ said line. refl; steps = λ said line. refl; known = λ said line ok. record { ranges = k.ranges; state = tt; some = k.some } }
-follows_at at.RuleConditions left (suc more) t s k g = record { reads = refl; same = λ i f. equal_tests (sym (fact_same s k.ranges i)); leads = λ said line. ap (λ (n : ℕ). process_at at.RuleConditions left n (record s { facts = s.facts ++ said.fact ∷ [] })) (sym (one_less more)); steps = λ said line. refl; known = λ said line ok. record { ranges = k.ranges; state = tt; some = k.some } }
-follows_at at.RuleEnd left more t s k g = record { reads = refl; same = λ i f. (λ h. h, λ h. h); leads = λ said line. refl; steps = λ said line. refl; known = λ said line ok. record { ranges = k.ranges; state = tt; some = k.some } }
+follows_at at.Rules (suc left) more t s k g = record { reads = refl; same = λ i f. (λ h. h, λ h. h); leads = λ i. ap (λ (n : ℕ). process_at at.RuleSize n more s) (sym (one_less left)); known = λ i ok. record { ranges = k.ranges; state = tt; some = k.some } }
+follows_at at.RuleSize left more t s k g = record { reads = refl; same = λ i f. any_same i f; leads = λ i. refl; known = λ i ok. record { ranges = k.ranges; state = tt; some = k.some } }
+follows_at at.RuleConditions left zero t s k g = record { reads = refl; same = λ i f. equal_tests (sym (head_same s k.ranges i)); leads = λ i. refl; known = λ i ok. record { ranges = k.ranges; state = tt; some = k.some } }
+follows_at at.RuleConditions left (suc more) t s k g = record { reads = refl; same = λ i f. equal_tests (sym (fact_same s k.ranges i)); leads = λ i. ap (λ (n : ℕ). process_at at.RuleConditions left n (record s { facts = s.facts ++ fact_in i ∷ [] })) (sym (one_less more)); known = λ i ok. record { ranges = k.ranges; state = tt; some = k.some } }
+follows_at _ left more t s k g = record { reads = refl; same = λ i f. (λ h. h, λ h. h); leads = λ i. refl; known = λ i ok. record { ranges = k.ranges; state = tt; some = k.some } }
 
-pub follows : (t : Tracker) (s : SoFar) → Knows s t → ((t.place ≡ at.Rules) × (t.left ≡ 0) → ⊥) → Follows t s
+pub follows : (t : Tracker) (s : SoFar) → Knows s t → ((t.place ≡ at.Rules) × (t.left ≡ 0) → ⊥) → TableFollows t s
 follows t s k g = follows_at t.place t.left t.more t s k g

@@ -1,11 +1,12 @@
-pub mod TaskMoves
+pub mod TaskPlaces
 pub mod TaskRanges
+pub mod VariablesBehind
 pub mod Following
 pub mod TaskEnds
-pub mod VariablesBehind
+pub mod TableGrammar
+pub mod TaskMoves
 pub mod TaskSteps
 pub mod SectionLines
-pub mod SectionTracks
 pub mod SectionSteps
 pub mod Marking
 pub mod Reasons

@@ -1,8 +1,9 @@
 -- Why a line is refused: what the machine expects, and which number of the line is wrong.
-use Rattle.sas_task_judge.proofs.Imports.{◌≡◌, ◌≢◌, ℕ, List, [], ◌∷◌, ◌++◌, Option, None, refl, sym, ap, subst, ◌∙◌, Parts, WellRanged, Kind, IsBegun, LeadsToEnd, cut_at, after_ends, Mark, WrongWord, Place, IsDue, process_node, TaskLine, task_line_bytes, task_layout, task_format, TaskLineFits, HasShape, task_start, first_wrong, IsFirstWrong, IsTaskReason, Tracker, tracker_start, track, mark_in, TaskJudge, TaskMachine, mark_of, due_slot, WrongWordIn, state_of, tracker_of, HasEnded, LedBy, MachineStopped, end_mark, ranges_behind, is_due, HasFacts, speaks_behind_variables, same_items, task_grammar, IsBehindVariables, same_bounds, SoFar, Said, FirstWrong, ranges_of, first_back}
+use Rattle.sas_task_judge.proofs.Imports.{◌≡◌, ◌≢◌, ℕ, List, [], ◌∷◌, ◌++◌, Option, None, refl, sym, ap, subst, ◌∙◌, Parts, WellRanged, Kind, IsBegun, LeadsToEnd, cut_at, after_ends, Mark, WrongWord, Place, IsDue, TaskLine, task_line_bytes, task_layout, task_format, TaskLineFits, HasShape, first_wrong, IsFirstWrong, IsTaskReason, Tracker, tracker_start, track, mark_in, TaskJudge, TaskMachine, mark_of, due_slot, WrongWordIn, table_node, table_start, state_of, HasEnded, LedBy, MachineStopped, end_mark, ranges_behind, is_due, HasFacts, speaks_behind_variables, same_items, IsBehindVariables, same_bounds, SoFar, Said, FirstWrong, ranges_of, first_back}
 use Rattle.sas_reader.specs.declared.fault.Kind.TheVariants as kinds
 use Rattle.sas_task_format.specs.declared.places.Place.TheVariants as at
-use Rattle.sas_task_judge.proofs.TaskEnds.{done_is, ended_if_done}
+use Rattle.sas_task_judge.proofs.TaskEnds.{over_if_ended}
+use Rattle.sas_task_judge.proofs.TableGrammar.{tracked, table_grammar}
 
 -- ---- a task that begins with the lines
 
@@ -30,19 +31,23 @@ module _ {K : Type 0} (keeps : List (List ℕ) → SoFar → K → Type 0) (line
   module _ (going_on : HasEnded m.judge → ⊥) where
     -- ---- what is expected
 
-    completed_by : (more : List TaskLine) (v : Parts) → LeadsToEnd task_format TaskLineFits process_node (state_of m.judge h.so_far) more v → Completed h.leads.items
-    completed_by [] v e = absurd (going_on (ended_if_done m.judge h.so_far (done_is (state_of m.judge h.so_far) v e)))
+    completed_by : (more : List TaskLine) (v : Parts) → LeadsToEnd task_format TaskLineFits table_node (state_of m.judge h.so_far) more v → Completed h.leads.items
+    completed_by [] v e = absurd (going_on (over_if_ended (state_of m.judge h.so_far) v e))
     completed_by (i ∷ more) v e =
-        let s = task_grammar.sound (h.leads.items ++ i ∷ more) v (after_ends task_format TaskLineFits process_node task_start (state_of m.judge h.so_far) v h.leads.items (i ∷ more) h.leads.after e) in
+        let s = table_grammar.sound (h.leads.items ++ i ∷ more) v (after_ends task_format TaskLineFits table_node table_start (state_of m.judge h.so_far) v h.leads.items (i ∷ more) h.leads.after e) in
         record { task = v; good = s.0; item = i; more = more; layout = sym s.1 }
 
     completed : Completed h.leads.items
-    completed = let f = task_grammar.fillable h.leads.items (state_of m.judge h.so_far) h.leads.after in completed_by f.0 f.1 f.2
+    completed = let f = table_grammar.fillable h.leads.items (state_of m.judge h.so_far) h.leads.after in completed_by f.0 f.1 f.2
+
+    -- the tracker has followed the lines
+    followed : track tracker_start h.leads.items ≡ m.judge.tracker
+    followed = tracked h.leads.items table_start (state_of m.judge h.so_far) h.leads.after
 
     pub due_there : IsDue lines mark_there
     due_there =
         let c = completed in
-        subst (λ (t : Tracker). IsDue lines (mark_in t)) h.tracked (is_due c.task c.good lines h.leads.items c.item c.more h.leads.spells c.layout)
+        subst (λ (t : Tracker). IsDue lines (mark_in t)) followed (is_due c.task c.good lines h.leads.items c.item c.more h.leads.spells c.layout)
 
     -- ---- the reason
 
@@ -53,8 +58,8 @@ module _ {K : Type 0} (keeps : List (List ℕ) → SoFar → K → Type 0) (line
         let c = completed in
         let cut = cut_at task_line_bytes lines b.1 (task_layout b.0) b.3 in
         let same : cut.before ≡ h.leads.items = same_items b.0 c.task b.2 c.good cut.before cut.after h.leads.items (c.item ∷ c.more) cut.whole c.layout (cut.front_is ∙ sym h.leads.spells) in
-        let behind : IsBehindVariables m.judge.tracker.place = speaks_behind_variables (tracker_of m.judge) has in
-        let is : track tracker_start cut.before ≡ tracker_of m.judge = ap (track tracker_start) same ∙ h.tracked in
+        let behind : IsBehindVariables m.judge.tracker.place = speaks_behind_variables (m.judge.tracker) has in
+        let is : track tracker_start cut.before ≡ m.judge.tracker = ap (track tracker_start) same ∙ followed in
         let there : IsBehindVariables (track tracker_start cut.before).place = subst (λ (t : Tracker). IsBehindVariables t.place) (sym is) behind in
         sym (ap (λ (t : Tracker). t.ranges) is)
         ∙ ranges_behind b.0 b.2 cut.before cut.after cut.whole there
@@ -81,7 +86,7 @@ module _ {K : Type 0} (keeps : List (List ℕ) → SoFar → K → Type 0) (line
 
 module _ {K : Type 0} (keeps : List (List ℕ) → SoFar → K → Type 0) (lines : List (List ℕ)) (m n : TaskMachine K) (line : List ℕ) (kind : Kind) where
   as_before : (said : Said) (word : Option WrongWord) → LedBy keeps lines m → LedBy keeps lines (record { judge = record m.judge { said = said }; kept = m.kept; wrong = word })
-  as_before said word h = record { so_far = h.so_far; leads = h.leads; known = h.known; tracked = h.tracked; kept = h.kept }
+  as_before said word h = record { so_far = h.so_far; leads = h.leads; kept = h.kept }
 
   -- it is led by the same lines
   pub led_still : MachineStopped m line kind n → LedBy keeps lines m → LedBy keeps lines n

@@ -1,49 +1,51 @@
 -- One line of a task moves the judge, as the table of places says.
-use Rattle.sas_task_judge.proofs.Imports.{IsTrue, ◌≡◌, ℕ, zero, suc, ◌<◌, ◌-◌, ◌↔◌, Bool, length, List, ◌∷◌, ◌++◌, refl, sym, ap, subst, ◌∙◌, arith, Result, Ok, Err, Option, Some, None, result_err, none-some, take, take_at, length-append, Plain, plain, inl, inr, Kind, IsAllowed, OneLine, IsRejected, Rejects, process_node, TaskLine, TaskSlot, task_slot, slot_of_due, task_line_bytes, task_format, TaskLineFits, Due, Row, Move, row_at, after_move, Tracker, TaskJudge, state_in, state_of, tracker_of, row_of, Knows, RejectsLine, JudgesLine, MovesAhead, HasEnded, IsRow, HasRow, ParsesDue, test_of_due, line_of_due, Event, Said, Place, after, LineAhead, TaskProcess}
+use Rattle.sas_task_judge.proofs.Imports.{IsTrue, ◌≡◌, ℕ, zero, suc, ◌-◌, length, List, ◌∷◌, ◌++◌, refl, sym, ap, subst, ◌∙◌, arith, Result, Ok, Err, Option, Some, None, result_err, none-some, take, take_at, length-append, Plain, plain, inl, inr, Kind, IsAllowed, IsRejected, Rejects, TaskLine, task_slot, slot_of_due, task_line_bytes, task_format, TaskLineFits, name_in, number_in, Due, Row, Move, row_at, row_in, after_move, Tracker, TaskJudge, TaskState, numbers_of, state_after, state_of, row_of, RejectsLine, JudgesLine, MovesAhead, HasEnded, IsRow, HasRow, ParsesDue, test_of_due, line_of_due, Event, Said, SoFar, Place, after, LineAhead}
 use Rattle.sas_reader.specs.declared.fault.Kind.TheVariants as kinds
 use Rattle.sas_task_format.specs.declared.places.Place.TheVariants as at
 use Rattle.sas_task_format.specs.declared.marks.Due.TheVariants as due
 use Rattle.sas_task_format.specs.declared.places.Move.TheVariants as moves
-use Rattle.sas_task_judge.proofs.Following.{follows}
+use Rattle.sas_task_judge.proofs.TaskEnds.{over_if_nothing, nothing_if_over}
+use Rattle.sas_task_judge.proofs.TableGrammar.{due_node, table_line}
 
--- one of n items, and then n - 1 items
-pub next_of : (n : ℕ) → 0 < n → n ≡ suc (n - 1)
-next_of zero h = absurd (omega arith)
-next_of (suc n) h = omega arith
+-- ---- a parsed line
 
--- ---- equivalent tests
+-- what the parser stored of the expected line moves the tracker and the content as the line does
+pub record SaysLine (r : Row) : Type 0 where
+  pub moves : (said : Said) (line : List ℕ) (t : Tracker) → after_move r.moves (number_in (line_of_due r.due said line)) t ≡ after_move r.moves said.number t
+  pub adds : (said : Said) (line : List ℕ) (s : SoFar) → (let i = line_of_due r.due said line in after s r.adds (numbers_of i) (name_in i) ≡ after s r.adds said line)
 
-module _ (slot : TaskSlot) (test other : TaskLine → Bool) (same : (i : TaskLine) → TaskLineFits i → IsTrue (test i) ↔ IsTrue (other i)) where
-  takes_as : (i : TaskLine) → IsAllowed task_format TaskLineFits slot other i → IsAllowed task_format TaskLineFits slot test i
-  takes_as i t = record { slot = t.slot; fits = t.fits; good = (same i t.fits).1 t.good }
+says_line : (p : Place) (left more : ℕ) (t : Tracker) → SaysLine (row_at p (record t { place = p; left = left; more = more }))
+says_line at.Rules zero more t = record { moves = λ said line t. refl; adds = λ said line s. refl }
+says_line at.Rules (suc left) more t = record { moves = λ said line t. refl; adds = λ said line s. refl }
+says_line _ zero zero t = record { moves = λ said line t. refl; adds = λ said line s. refl }
+says_line _ zero (suc more) t = record { moves = λ said line t. refl; adds = λ said line s. refl }
+says_line _ (suc left) zero t = record { moves = λ said line t. refl; adds = λ said line s. refl }
+says_line _ (suc left) (suc more) t = record { moves = λ said line t. refl; adds = λ said line s. refl }
 
-  judged_as : (line : List ℕ) (kind : Kind) → IsRejected task_format TaskLineFits slot other line kind → IsRejected task_format TaskLineFits slot test line kind
-  judged_as line kind j = record { none = λ i t e. j.none i (record { slot = t.slot; fits = t.fits; good = (same i t.fits).0 t.good }) e; kind = j.kind }
+said_here : (t : Tracker) → SaysLine (row_in t)
+said_here t = says_line t.place t.left t.more t
 
 -- ---- a line that is allowed, and one that isn't
 
 module _ (j : TaskJudge) (going_on : HasEnded j → ⊥) (line : List ℕ) where
   pub judged : (k : TaskJudge) → (let i : TaskLine = line_of_due (row_of j).due k.said line in IsAllowed task_format TaskLineFits (slot_of_due (row_of j).due) (test_of_due j.tracker.ranges (row_of j).due) i → task_line_bytes i ≡ line
       → k.tracker ≡ after_move (row_of j).moves k.said.number j.tracker → JudgesLine j line k (Ok (row_of j).adds))
-  judged k allowed spells moved = λ s known.
+  judged k allowed spells moved = λ s.
       let r = row_of j in
-      let f = follows (tracker_of j) s known going_on in
-      let t = after s r.adds k.said line in
-      let i = line_of_due r.due k.said line in (
-        subst (Knows t) (sym moved) (f.known k.said line allowed.good),
-        record {
-          item = i;
-          leads = subst (λ (p : TaskProcess). OneLine task_format TaskLineFits (process_node p) i (λ q. q ≡ state_of k t)) (sym f.reads)
-              (takes_as _ _ _ f.same i allowed, f.leads k.said line ∙ ap (λ (u : Tracker). state_in u t) (sym moved));
-          spells = spells;
-          steps = f.steps k.said line ∙ sym moved;
-        },
-      )
+      let i : TaskLine = line_of_due r.due k.said line in
+      let says = said_here j.tracker in
+      let t : SoFar = after s r.adds k.said line in
+      let next : state_after (state_of j s) i ≡ state_of k t =
+      ap (λ (u : Tracker). let x : TaskState = record { tracker = u; so_far = after s r.adds (numbers_of i) (name_in i) } in x) (says.moves k.said line j.tracker ∙ sym moved)
+      ∙ ap (λ (u : SoFar). let x : TaskState = record { tracker = k.tracker; so_far = u } in x) (says.adds k.said line s) in
+      record {
+        item = i;
+        leads = table_line (state_of j s) i (λ x. x ≡ state_of k t) going_on allowed next;
+        spells = spells;
+      }
 
   pub rejected : (kind : Kind) → IsRejected task_format TaskLineFits (slot_of_due (row_of j).due) (test_of_due j.tracker.ranges (row_of j).due) line kind → RejectsLine j line kind
-  rejected kind h = λ s known.
-      let f = follows (tracker_of j) s known going_on in
-      subst (λ (p : TaskProcess). Rejects task_format TaskLineFits (process_node p) line kind) (sym f.reads) (judged_as _ _ _ f.same line kind h)
+  rejected kind h = λ s. subst (λ n. Rejects task_format TaskLineFits n line kind) (sym (due_node (row_of j).due (state_of j s) (λ e. going_on (over_if_nothing j.tracker e)))) h
 
   -- ---- the judge
 
@@ -73,12 +75,6 @@ refused_as j k line (Err other) kind e h = subst (λ (x : Kind). JudgesLine j li
 
 -- ---- the first line of some bytes
 
--- after all lines nothing is expected
-ended_nothing : (j : TaskJudge) → HasEnded j → (row_of j).due ≡ due.Nothing
-ended_nothing j h =
-    ap (λ (p : Place). (row_at p (record j.tracker { place = p })).due) h.0
-    ∙ ap (λ (n : ℕ). (row_at at.Rules (record j.tracker { place = at.Rules; left = n })).due) h.1
-
 module _ (j k : TaskJudge) (bytes rest : List ℕ) where
   -- the first line has this content, which is what is expected
   pub moves_ahead : (d : Due) (e : Event) (m : Move) (i : TaskLine) → HasRow j.tracker d e m → (d ≡ due.Nothing → ⊥) → LineAhead i bytes rest → line_of_due d k.said (task_line_bytes i) ≡ i → task_slot i ≡ slot_of_due d → IsTrue (test_of_due j.tracker.ranges d i)
@@ -93,7 +89,7 @@ module _ (j k : TaskJudge) (bytes rest : List ℕ) where
         let allowed : IsAllowed task_format TaskLineFits (slot_of_due (row_of j).due) (test_of_due j.tracker.ranges (row_of j).due) i =
         subst (λ (x : Due). IsAllowed task_format TaskLineFits (slot_of_due x) (test_of_due j.tracker.ranges x) i) (sym says.due) (record { slot = slot; fits = ahead.fits; good = good }) in
         subst (λ (x : Event). JudgesLine j line k (Ok x)) says.adds
-        (judged j (λ h. some (sym says.due ∙ ended_nothing j h)) line k
+        (judged j (λ h. some (sym says.due ∙ nothing_if_over j.tracker h)) line k
         (subst (λ (x : TaskLine). IsAllowed task_format TaskLineFits (slot_of_due (row_of j).due) (test_of_due j.tracker.ranges (row_of j).due) x) (sym same) allowed)
         (ap task_line_bytes same)
         (moved ∙ ap (λ (x : Move). after_move x k.said.number j.tracker) (sym says.moves)));

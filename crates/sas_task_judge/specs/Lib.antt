@@ -1,4 +1,4 @@
-pub mod TaskPlaces
+pub mod TaskStates
 pub mod TaskJudge
 pub mod TaskMachine
 pub mod Sections

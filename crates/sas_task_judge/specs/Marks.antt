@@ -9,11 +9,10 @@ use Rattle.sas_task_format.specs.declared.marks.WrongWord.{WrongWord}
 use Rattle.sas_task_format.specs.Marks.{slot_of_due}
 use Rattle.sas_task_format.specs.TaskFormat.{TaskSlot}
 use Rattle.sas_task_judge.specs.declared.task_judge.TaskJudge.{TaskJudge}
-use Rattle.sas_task_judge.specs.TaskJudge.{tracker_of}
 
 -- the mark of the next line
 abbrev pub mark_of : TaskJudge → Mark
-mark_of j = mark_in (tracker_of j)
+mark_of j = mark_in j.tracker
 
 -- the slot to which the next line belongs
 abbrev pub due_slot : TaskJudge → TaskSlot

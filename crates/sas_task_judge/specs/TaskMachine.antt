@@ -5,24 +5,19 @@ use Rattle.std.specs.Global.{Global}
 use Rattle.sas_reader.specs.declared.fault.Kind.{Kind}
 use Rattle.sas_task_line.specs.declared.so_far.SoFar.{SoFar}
 use Rattle.sas_task_judge.specs.declared.task_machine.TaskMachine.{TaskMachine}
-use Rattle.sas_task_format.specs.Process.{process_node}
 use Rattle.sas_reader.specs.System.{Leads}
 use Rattle.sas_task_format.specs.TaskFormat.{task_format, TaskLineFits}
-use Rattle.sas_task_format.specs.TaskProcess.{task_start}
-use Rattle.sas_task_format.specs.Tracker.{track, tracker_start}
 use Rattle.sas_task_line.specs.TaskEvents.{nothing_yet}
-use Rattle.sas_task_judge.specs.TaskJudge.{KnownTo, state_of, tracker_of, HasEnded, RejectsLine, StandsAsBefore}
+use Rattle.sas_task_judge.specs.TaskJudge.{state_of, HasEnded, RejectsLine, StandsAsBefore}
+use Rattle.sas_task_judge.specs.TaskStates.{table_node, table_start}
 use Rattle.sas_task_judge.specs.Marks.{WrongWordIn}
 
 module _ {K : Type 0} (keeps : List (List ℕ) → SoFar → K → Type 0) where
-  -- these lines have the content `so_far`, of which the judge knows what it needs and the keeper
-  -- has stored what it needs
+  -- these lines have the content `so_far`, of which the keeper has stored what it needs
   pub record LedBy (lines : List (List ℕ)) (m : TaskMachine K) : Type 0 where
     pub so_far : SoFar
-    pub leads : Leads task_format TaskLineFits process_node task_start lines
+    pub leads : Leads task_format TaskLineFits table_node table_start lines
         (state_of m.judge so_far)
-    pub known : KnownTo so_far m.judge
-    pub tracked : track tracker_start leads.items ≡ tracker_of m.judge
     pub kept : keeps lines so_far m.kept
 
   -- the keeper before any line was read

@@ -2,10 +2,12 @@
 #![tactic(auto)]
 
 mod keeper;
+mod laws;
 mod task_judge;
 mod task_machine;
 
 pub use keeper::{Keeper, VariableKept};
+pub use laws::table_law;
 pub use sas_task_format::Place;
 pub use task_judge::{Section, TaskJudge};
 pub use task_machine::TaskMachine;

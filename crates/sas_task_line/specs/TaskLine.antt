@@ -59,8 +59,8 @@ line_of_due due.Head said line = head said.head.var said.head.old said.head.new
 line_of_due due.Effect said line = effect said.effect
 line_of_due due.Nothing said line = name line
 
--- The content of the line is in `said`, and is allowed as what is expected. Or it isn't, and this is
--- the kind of its fault. Or it is an effect, and memory ran out.
+-- The content of the line is in `said`, and is allowed as what is expected. Or it isn't, and this
+-- is the kind of its fault. Or it is an effect, and memory ran out.
 abbrev pub ParsesDue : List ℕ → Due → List ℕ → Said → Result (Unit {0}) Kind → Type 0
 ParsesDue ranges d line said (Ok u) = IsAllowed task_format TaskLineFits
     (slot_of_due d) (test_of_due ranges d) (line_of_due d said line)

@@ -24,27 +24,25 @@ pub use Rattle.sas_reader.specs.Devices.{ValueOf, ReadsAll}
 pub use Rattle.sas_reader.specs.Format.{ReadsAs}
 pub use Rattle.sas_reader.specs.Reading.{Finishes}
 pub use Rattle.sas_reader.specs.Refusals.{behind_line, behind_text, at_end}
-pub use Rattle.sas_reader.specs.System.{Node, ended, before, After, Rejects}
+pub use Rattle.sas_reader.specs.System.{Node, ended, before, Rejects}
 pub use Rattle.sas_reader.specs.Texts.{Reads}
 pub use Rattle.sas_reader.specs.declared.fault.Fault.{Fault}
 pub use Rattle.sas_reader.specs.declared.fault.Kind.{Kind}
-pub use Rattle.sas_task_format.proofs.DueAfter.{due_after}
 pub use Rattle.sas_task_format.proofs.SomeWrongWord.{shape_of_value}
-pub use Rattle.sas_task_format.proofs.TaskGrammar.{task_grammar}
 pub use Rattle.sas_task_format.specs.Marks.{slot_of_due}
-pub use Rattle.sas_task_format.specs.Process.{process_node}
 pub use Rattle.sas_task_format.specs.TaskFormat.{TaskLine, TaskSlot, word_slot, name_slot, number_slot, signed_slot, fact_slot, effect_slot, head_slot, HasShape, NumbersKind, no_shape, no_value, TaskKind, task_format, TaskLineFits, task_texts}
-pub use Rattle.sas_task_format.specs.TaskProcess.{TaskProcess, task_start}
 pub use Rattle.sas_task_format.specs.TaskReasons.{IsTaskReason}
-pub use Rattle.sas_task_format.specs.Tracker.{tracker_start, track, mark_in}
-pub use Rattle.sas_task_format.specs.declared.tracker.Tracker.{Tracker}
+pub use Rattle.sas_task_format.specs.Tracker.{row_in}
+pub use Rattle.sas_task_format.specs.declared.marks.Due.{Due}
 pub use Rattle.sas_task_format.specs.declared.marks.Mark.{Mark}
 pub use Rattle.sas_task_format.specs.declared.marks.WrongWord.{WrongWord}
 pub use Rattle.sas_task_judge.proofs.Reasons.{task_reason, trailing_reason, led_still, ended_still, shape_still, wrong_still}
-pub use Rattle.sas_task_judge.proofs.TaskEnds.{done_is, ended_if_done, ends_with}
+pub use Rattle.sas_task_judge.proofs.TableGrammar.{table_grammar}
+pub use Rattle.sas_task_judge.proofs.TaskEnds.{over_if_ended, ends_with}
 pub use Rattle.sas_task_judge.specs.Marks.{mark_of, due_slot, WrongWordIn}
 pub use Rattle.sas_task_judge.specs.Sections.{behind_variable}
 pub use Rattle.sas_task_judge.specs.TaskJudge.{state_of, HasEnded, RejectsLine}
+pub use Rattle.sas_task_judge.specs.TaskStates.{TaskState, table_node, table_start, node_of_due}
 pub use Rattle.sas_task_judge.specs.TaskMachine.{LedBy, LedTo, EndedAt, RejectsAt, MachineStopped}
 pub use Rattle.sas_task_judge.specs.declared.task_machine.TaskMachine.{TaskMachine}
 pub use Rattle.sas_task_line.specs.FirstWrong.{FirstWrong}

@@ -1,24 +1,24 @@
 -- What a reader of tasks represents, in terms of the task format.
-use Rattle.sas_task_reader.proofs.Imports.{◌≡◌, ℕ, ◌≤◌, List, length, sym, subst, Ok, ∥∥₁_elim, props, checks_are_the_rules, WellRanged, SoFar, TaskMachine, Reads, ReadsAs, process_node, task_texts, task_format, TaskLineFits, state_of, HasEnded, RejectsLine, LedBy, task_start, LedTo, EndedAt, RejectsAt, Follows, reads_of_format, done_is, ended_if_done, ends_with, task_grammar}
+use Rattle.sas_task_reader.proofs.Imports.{◌≡◌, ℕ, ◌≤◌, List, length, sym, subst, Ok, ∥∥₁_elim, props, checks_are_the_rules, WellRanged, SoFar, TaskMachine, Reads, ReadsAs, table_node, task_texts, task_format, TaskLineFits, state_of, HasEnded, RejectsLine, LedBy, table_start, LedTo, EndedAt, RejectsAt, Follows, reads_of_format, over_if_ended, ends_with, table_grammar}
 use Rattle.sas_reader.specs.Reader as reading
 
 module _ {K : Type 0} (keeps : List (List ℕ) → SoFar → K → Type 0) where
-  pub machine_follows : Follows task_format TaskLineFits process_node task_start (LedBy keeps) (λ (m : TaskMachine K). HasEnded m.judge) (λ (m : TaskMachine K) line kind. RejectsLine m.judge line kind)
+  pub machine_follows : Follows task_format TaskLineFits table_node table_start (LedBy keeps) (λ (m : TaskMachine K). HasEnded m.judge) (λ (m : TaskMachine K) line kind. RejectsLine m.judge line kind)
   machine_follows ls m h = record {
     state = state_of m.judge h.so_far;
     leads = h.leads;
-    value = λ d. (h.so_far.parts, ends_with m.judge h.so_far d);
-    is_ended = λ v e. ended_if_done m.judge h.so_far (done_is (state_of m.judge h.so_far) v e);
-    refuses = λ line k going_on r. r h.so_far h.known;
+    value = λ d. (h.so_far.parts, ends_with (state_of m.judge h.so_far) d);
+    is_ended = λ v e. over_if_ended (state_of m.judge h.so_far) v e;
+    refuses = λ line k going_on r. r h.so_far;
   }
 
   -- if the machine has ended, the bytes are read as the content so far
   pub reads_so_far : (m : TaskMachine K) (bytes : List ℕ) (h : reading.Reached (LedBy keeps) (λ (n : TaskMachine K). HasEnded n.judge) m bytes) → HasEnded m.judge → Reads task_texts bytes h.led.so_far.parts
   unfolding machine_follows
-  reads_so_far m bytes h d = reads_of_format task_format TaskLineFits process_node task_start task_grammar (LedBy keeps) _ _ machine_follows m h.led.so_far.parts bytes h (ends_with m.judge h.led.so_far d)
+  reads_so_far m bytes h d = reads_of_format task_format TaskLineFits table_node table_start table_grammar (LedBy keeps) _ _ machine_follows m h.led.so_far.parts bytes h (ends_with (state_of m.judge h.led.so_far) d)
 
 -- the reader stores the whole content
-pub reader_follows : Follows task_format TaskLineFits process_node task_start LedTo EndedAt RejectsAt
+pub reader_follows : Follows task_format TaskLineFits table_node table_start LedTo EndedAt RejectsAt
 reader_follows = machine_follows (λ lines s kept. kept ≡ s)
 
 -- ---- the end

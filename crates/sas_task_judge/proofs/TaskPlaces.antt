@@ -1,14 +1,8 @@
--- The states while a task file is read: what may still follow. They are listed from the last to the
--- first. Each has the parts read so far and, within a list, the number of items that are left.
-use Rattle.std.specs.Prelude.{ℕ, ◌-◌, List, [], ◌∷◌, ◌++◌, ◌==◌, nat_lt, drop, length, Option, codes}
-use Rattle.sas_core.specs.declared.parts.Fact.{Fact}
-use Rattle.sas_core.specs.declared.parts.Variable.{Variable}
-use Rattle.sas_core.specs.declared.parts.Effect.{Effect}
-use Rattle.sas_core.specs.declared.parts.Operator.{Operator}
-use Rattle.sas_core.specs.declared.parts.Rule.{Rule}
-use Rattle.sas_core.specs.declared.parts.Parts.{Parts}
-use Rattle.sas_task_format.specs.Process.{done, ◌>>=◌, ◌>>◌, repeat, each}
-use Rattle.sas_task_format.specs.TaskProcess.{TaskProcess, any, positive, a_word, a_name, a_number, a_signed, a_fact, an_effect, a_head, a_value, a_variable, a_group, an_operator, a_rule}
+-- What may still follow at each place of a task file, as a part of the process of task files. The parts
+-- are listed from the last to the first. Each has the parts read so far and, within a list, the number
+-- of items that are left.
+use Rattle.sas_task_judge.proofs.Imports.{ℕ, ◌-◌, List, [], ◌∷◌, ◌++◌, ◌==◌, nat_lt, drop, length, Option, codes, Fact, Variable, Effect, Operator, Rule, Parts, done, ◌>>=◌, ◌>>◌, repeat, each, TaskProcess, any, positive, a_word, a_name, a_number, a_signed, a_fact, an_effect, a_head, a_value, a_variable, a_group, an_operator, a_rule, Place, Tracker, SoFar}
+use Rattle.sas_task_format.specs.declared.places.Place.TheVariants as at
 
 -- ---- the rules
 
@@ -242,3 +236,43 @@ abbrev pub version_begin : Parts → TaskProcess
 version_begin p = do
   a_word (codes "begin_version")
   version_number p
+
+-- ---- all places
+
+-- What may follow at a place, after the content s. Still to come are `left` variables, groups,
+-- operators or rules, and of the current one `more` values, facts or effects.
+abbrev pub process_at : Place → ℕ → ℕ → SoFar → TaskProcess
+process_at at.VersionBegin left more s = version_begin s.parts
+process_at at.VersionNumber left more s = version_number s.parts
+process_at at.VersionEnd left more s = version_end s.parts
+process_at at.MetricBegin left more s = metric_begin s.parts
+process_at at.MetricNumber left more s = metric_number s.parts
+process_at at.MetricEnd left more s = metric_end s.parts
+process_at at.VariableCount left more s = variable_count s.parts
+process_at at.Variables left more s = variable_begin left s.parts
+process_at at.VariableName left more s = variable_name left s.parts
+process_at at.VariableLayer left more s = variable_layer left s.parts s.name
+process_at at.VariableRange left more s = variable_range left s.parts s.name s.layer
+process_at at.VariableValues left more s = variable_values left s.parts s.name s.layer more s.values
+process_at at.Groups left more s = group_begin left s.parts
+process_at at.GroupSize left more s = group_size left s.parts
+process_at at.GroupFacts left more s = group_facts left s.parts more s.facts
+process_at at.StateValues left more s = state_values more s.parts
+process_at at.GoalBegin left more s = goal_begin s.parts
+process_at at.GoalSize left more s = goal_size s.parts
+process_at at.GoalFacts left more s = goal_facts more s.parts
+process_at at.OperatorCount left more s = operator_count s.parts
+process_at at.Operators left more s = operator_begin left s.parts
+process_at at.OperatorName left more s = operator_name left s.parts
+process_at at.PrevailCount left more s = operator_prevail_count left s.parts s.name
+process_at at.Prevail left more s = operator_prevail left s.parts s.name more s.facts
+process_at at.Effects left more s = operator_effects left s.parts s.name s.facts more s.effects
+-- the operator and the rule of the last line are already among the parts
+process_at at.OperatorEnd left more s = a_word (codes "end_operator") >> operator_begin left s.parts
+process_at at.Rules left more s = rule_begin left s.parts
+process_at at.RuleSize left more s = rule_size left s.parts
+process_at at.RuleConditions left more s = rule_conditions left s.parts more s.facts
+process_at at.RuleEnd left more s = a_word (codes "end_rule") >> rule_begin left s.parts
+
+abbrev pub process_in : Tracker → SoFar → TaskProcess
+process_in t s = process_at t.place t.left t.more s
