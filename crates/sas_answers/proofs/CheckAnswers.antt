@@ -1,5 +1,5 @@
 -- A task has an answer about its layers, and only one.
-use Rattle.sas_answers.proofs.Imports.{◌≡◌, ℕ, ◌+◌, Bool, true, false, if◌then◌else◌, List, [], ◌∷◌, ◌++◌, flat_map, codes, refl, ap, Option, Some, enumerate_from, Operator, Rule, Parts, Check, first_fault, check, LayerFault, can_fire, IsLayered, effect_layer_checks, operator_layer_checks, firing_checks, rule_layer_checks, layer_checks, checks_are_rules, Yes, Output, layers_refusal, layers_verdict, CheckAnswer}
+use Rattle.sas_answers.proofs.Imports.{◌≡◌, ℕ, ◌+◌, Bool, true, false, if◌then◌else◌, List, [], ◌∷◌, ◌++◌, flat_map, codes, refl, ap, Option, Some, enumerate_from, Operator, Effect, Parts, Check, first_fault, check, LayerFault, can_fire, IsLayered, effect_layer_checks, operator_layer_checks, firing_checks, rule_layer_checks, layer_checks, checks_are_rules, Yes, Output, layers_refusal, layers_verdict, CheckAnswer}
 use Rattle.sas_answers.proofs.AnswerLaws.{OneAnswer, SomeAnswer}
 
 -- a layered task is said to be so
@@ -48,10 +48,10 @@ module _ (p : Parts) where
   answered_operator : (place : ℕ) (o : Operator) → IsAnsweredOf (operator_layer_checks p place o)
   answered_operator place o = answered_numbered (effect_layer_checks p place) (λ effect e. answered_check _ _ _ refl) 0 o.effects
 
-  answered_firing : (place : ℕ) (rule : Rule) → IsAnsweredOf (firing_checks p place rule)
+  answered_firing : (place : ℕ) (rule : Effect) → IsAnsweredOf (firing_checks p place rule)
   answered_firing place rule = answered_both _ _ (answered_check _ _ _ refl) (answered_both _ _ (answered_check _ _ _ refl) (answered_numbered _ (λ condition c. answered_check _ _ _ refl) 0 rule.conditions))
 
-  answered_rule : (place : ℕ) (rule : Rule) → IsAnsweredOf (rule_layer_checks p place rule)
+  answered_rule : (place : ℕ) (rule : Effect) → IsAnsweredOf (rule_layer_checks p place rule)
   answered_rule place rule = answered_both _ _ (answered_check _ _ _ refl) (answered_if (can_fire p rule) _ (answered_firing place rule))
 
   answered_layers : IsAnsweredOf (layer_checks p)

@@ -8,7 +8,7 @@ pub use Rattle.sas_core.specs.PlanParts.{PlanParts}
 pub use Rattle.sas_core.specs.WellRanged.{WellRanged}
 pub use Rattle.sas_core.specs.declared.parts.Operator.{Operator}
 pub use Rattle.sas_core.specs.declared.parts.Parts.{Parts}
-pub use Rattle.sas_core.specs.declared.parts.Rule.{Rule}
+pub use Rattle.sas_core.specs.declared.parts.Effect.{Effect}
 pub use Rattle.sas_groups.proofs.JointLists.{one_list, some_list}
 pub use Rattle.sas_groups.specs.declared.verdict.Verdict.{Verdict}
 pub use Rattle.sas_lines.specs.Lines.{text}

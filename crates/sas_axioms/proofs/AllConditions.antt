@@ -1,5 +1,5 @@
 -- The index of all conditions, and how the counters change with the value of a variable.
-use Rattle.sas_axioms.proofs.Imports.{◌≡◌, ◌≢◌, ℕ, ◌+◌, ◌<◌, ◌≤◌, ◌==◌, ◌&&◌, ◌^◌, Bool, true, false, cond, List, [], ◌∷◌, ◌++◌, length, get_or, set, None, refl, sym, ◌∙◌, ap, subst, inl, inr, arith, All, get_or-set_same, get_or-set_other, length-set, cases_eq, eq-eqb, eqb_tells, All-nil, All-cons, All-tail, All-append, All-weaker, Fact, Parts, rule_at, WellRanged, RuleFits, holds_at, Entry, Moved, Waiting, IsRuleOn, asking, waiting_entry, waiting_at, released, occurrences, open_conditions, IsOfRule, entries, IsFullIndex, AreCounted, AreCountedBy, items_of, by_key, length-table, items_none, items_cons, under_key, all_items, condition_within}
+use Rattle.sas_axioms.proofs.Imports.{◌≡◌, ◌≢◌, ℕ, ◌+◌, ◌<◌, ◌≤◌, ◌==◌, ◌&&◌, ◌^◌, Bool, true, false, cond, List, [], ◌∷◌, ◌++◌, length, get_or, set, refl, sym, ◌∙◌, ap, subst, inl, inr, arith, All, get_or-set_same, get_or-set_other, length-set, cases_eq, eq-eqb, eqb_tells, All-nil, All-cons, All-tail, All-append, All-weaker, Fact, Parts, rule_at, WellRanged, Entry, Moved, Waiting, IsRuleOn, asking, waiting_entry, waiting_at, released, occurrences, open_conditions, IsOfRule, entries, IsFullIndex, AreCounted, AreCountedBy, items_of, by_key, length-table, items_none, items_cons, under_key, all_items, condition_within, rule_fits}
 use Rattle.sas_axioms.proofs.CountingEntries.{CanRecount}
 
 -- ---- building the index
@@ -166,9 +166,6 @@ asking_open value v x (c ∷ cs) ne =
       ]
     ]
 
-pub few_conditions : (p : Parts) (k : ℕ) → WellRanged p → k < length p.rules → length (rule_at p k).conditions < 2 ^ 31
-few_conditions p k ranged lt = (holds_at (RuleFits p.variables) (record { conditions = []; var = 0; old = None; new = 0 }) p.rules ranged.rules.each k lt).conditions.count
-
 -- ---- counting anew what waits for a variable that gets another value
 
 pub can_recount : (p : Parts) (index : List (List Waiting)) (var : ℕ) → IsFullIndex p index → (seen : ℕ → ℕ) (counters : List ℕ) → length counters ≡ length p.rules → AreCountedBy p seen counters
@@ -182,7 +179,7 @@ can_recount p index var is_index seen counters one_each counts ranged moved was 
   where
     small : (rule : ℕ) → (layer : ℕ) × IsRuleOn p layer rule → get_or counters rule 0 + occurrences rule (released moved.former (waiting_at index var)) < 2 ^ 32
     small rule is =
-        let few = few_conditions p rule ranged is.1.exists in
+        let few = (rule_fits p ranged rule is.1.exists).conditions.count in
         let a = asking_length var moved.former (rule_at p rule).conditions in
         let b = open_length seen (rule_at p rule).conditions in
         let e = counts is.0 rule is.1 in

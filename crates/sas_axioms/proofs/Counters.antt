@@ -1,8 +1,8 @@
 -- The counters of a worklist.
-use Rattle.sas_axioms.proofs.Imports.{◌≡◌, ◌≢◌, ℕ, ◌+◌, ◌<◌, ◌≤◌, ◌==◌, ◌⊎◌, true, cond, List, [], ◌∷◌, ◌++◌, length, get_or, set, refl, sym, ◌∙◌, ap, subst, inl, inr, arith, cases_eq, eqb_tells, get_or-set_same, get_or-set_other, length-set, length-append, vec_capacity, Fact, Rule, Parts, rule_at, IsState, WellRanged, Holds, AllHold, IsOnLayer, on_layer_within, default_of, IsRuleOn, AreGiven, open_conditions, occurrences, asking, Moved, Waiting, waiting_at, IsFullIndex, Work, value_seen, IsRunning, AreCountedBy, HaveFired, WorkHasRoom, IsAtWork, WorkGoesOn, FiresRule, IsLayered, differs, IsSettledAt, AtDefault, equal_places, All, All-nil, All-cons, All-head, All-tail, Fired, fired_there, rule_new, differs_true, differs_same, differs_not, fact_within, forced_at_default}
+use Rattle.sas_axioms.proofs.Imports.{◌≡◌, ◌≢◌, ℕ, ◌+◌, ◌<◌, ◌≤◌, ◌==◌, ◌⊎◌, true, cond, List, [], ◌∷◌, ◌++◌, length, get_or, set, refl, sym, ◌∙◌, ap, subst, inl, inr, arith, cases_eq, eqb_tells, get_or-set_same, get_or-set_other, length-set, length-append, vec_capacity, Fact, Effect, Parts, rule_at, IsState, WellRanged, Holds, AllHold, IsOnLayer, on_layer_within, default_of, IsRuleOn, AreGiven, open_conditions, occurrences, asking, Moved, Waiting, waiting_at, IsFullIndex, Work, value_seen, IsRunning, AreCountedBy, HaveFired, WorkHasRoom, IsAtWork, WorkGoesOn, FiresRule, IsLayered, differs, IsSettledAt, AtDefault, equal_places, All, All-nil, All-cons, All-head, All-tail, Fired, fired_there, rule_new, differs_true, differs_same, differs_not, fact_within, forced_at_default, no_effect}
 use Rattle.sas_axioms.proofs.AllConditions.{can_recount, open_changed}
 use Rattle.sas_axioms.proofs.CountingEntries.{CanRecount, CountersSoFar, counters_after, left_over}
-use Rattle.sas_axioms.proofs.Sources.{no_rule, settled_when_set}
+use Rattle.sas_axioms.proofs.Sources.{settled_when_set}
 
 pub occurrences-append : (n : ℕ) (xs ys : List ℕ) → occurrences n (xs ++ ys) ≡ occurrences n xs + occurrences n ys
 occurrences-append n [] ys = omega arith
@@ -22,7 +22,7 @@ seen_shows t s stack v = elim (eqb_tells (occurrences v stack) 0) [
 ]
 
 -- a rule that changes its variable's value, with the variable put on the stack
-pub record Pushed (t : Parts) (layer : ℕ) (s stack : List ℕ) (rule : Rule) : Type 0 where
+pub record Pushed (t : Parts) (layer : ℕ) (s stack : List ℕ) (rule : Effect) : Type 0 where
   pub fires : Fired t layer s rule
   pub running : IsRunning t layer (set s rule.var rule.new) (stack ++ rule.var ∷ [])
   pub seen : (v : ℕ) → value_seen t (set s rule.var rule.new) (stack ++ rule.var ∷ []) v ≡ value_seen t s stack v
@@ -31,7 +31,7 @@ pub record Pushed (t : Parts) (layer : ℕ) (s stack : List ℕ) (rule : Rule) :
 -- the variable of a rule exists
 pub rule_within : (t : Parts) (s : List ℕ) (k : ℕ) → WellRanged t → IsState t.variables s → k < length t.rules → (rule_at t k).var < length s
 rule_within t s k ranged state lt =
-    let within = fact_within t (rule_at t k).var (rule_at t k).new (rule_new t ranged k no_rule lt) in
+    let within = fact_within t (rule_at t k).var (rule_at t k).new (rule_new t ranged k no_effect lt) in
     let len = state.one_each in omega arith
 
 pub pushed : (t : Parts) (layer : ℕ) (s stack : List ℕ) (k : ℕ) → WellRanged t → IsLayered t → IsRunning t layer s stack → IsRuleOn t layer k
@@ -47,7 +47,7 @@ pushed t layer s stack k ranged layered run on_k hold changes = record {
     within = rule_within t s k ranged run.state on_k.exists
 
     f : Fired t layer s (rule_at t k)
-    f = fired_there t layer s k no_rule ranged layered run.state run.forced on_k.exists (record { on = on_k.on; can = on_k.can; hold = hold; new = changes })
+    f = fired_there t layer s k no_effect ranged layered run.state run.forced on_k.exists (record { on = on_k.on; can = on_k.can; hold = hold; new = changes })
 
     kept : (v : ℕ) → differs t s v ≡ true → get_or (set s (rule_at t k).var (rule_at t k).new) v 0 ≡ get_or s v 0
     kept v d = get_or-set_other s (rule_at t k).var v (rule_at t k).new 0 (λ e. differs_not t s v d (subst (λ x. get_or s x 0 ≡ default_of t x) (sym e) f.default))
@@ -151,7 +151,7 @@ pub ready : (t : Parts) (layer : ℕ) (s stack : List ℕ) (k : ℕ) → IsLayer
 ready t layer s stack k layered run on none j e lt' =
     elim (seen_shows t s stack (get_or (rule_at t k).conditions j e).var) [
       | inl w ↦ sym w.1 ∙ holds
-      | inr w ↦ (let down = (layered.rules k no_rule on.exists on.can).order j e lt' in
+      | inr w ↦ (let down = (layered.rules k no_effect on.exists on.can).order j e lt' in
           let z : layer < layer = (down layer layer on.on (run.fired (get_or (rule_at t k).conditions j e).var w.0).0).1 (sym holds ∙ w.1) in absurd (omega arith))
     ]
   where
@@ -231,7 +231,7 @@ module _ (t : Parts) (layer : ℕ) (s rest : List ℕ) (v : ℕ) (run : IsRunnin
   -- no rule of its layer asks for its default
   pub none_own : IsLayered t → (k : ℕ) → IsRuleOn t layer k → asking v (default_of t v) (rule_at t k).conditions ≡ 0
   none_own layered k on = asking_none v (default_of t v) (rule_at t k).conditions (λ j e lt' is_v is_default.
-      let down = (layered.rules k no_rule on.exists on.can).order j e lt' in
+      let down = (layered.rules k no_effect on.exists on.can).order j e lt' in
       let v_on = (top_is t layer s rest v run).0 in
       let z : layer < layer = (down layer layer on.on (subst (λ u. IsOnLayer t layer u) (sym is_v) v_on)).1 (is_default ∙ ap (default_of t) (sym is_v)) in absurd (omega arith))
 

@@ -15,15 +15,15 @@ pub use Rattle.std.specs.Option.{option_eq}
 pub use Rattle.std.specs.Ordering.{is_lt}
 pub use Rattle.std.specs.Result.{is_ok}
 pub use Rattle.std.specs.declared.cmp.Reverse.{Reverse}
-pub use Rattle.sas_core.proofs.Places.{holds_at}
-pub use Rattle.sas_core.specs.Changes.{rule_change}
-pub use Rattle.sas_core.specs.Grounded.{rule_at}
+pub use Rattle.sas_core.proofs.Fitting.{rule_fits}
+pub use Rattle.sas_core.specs.Changes.{change_of}
+pub use Rattle.sas_core.specs.Grounded.{rule_at, no_effect}
 pub use Rattle.sas_core.specs.Variables.{IsState, FactExists, layer_of}
-pub use Rattle.sas_core.specs.WellRanged.{WellRanged, RuleFits}
+pub use Rattle.sas_core.specs.WellRanged.{WellRanged}
 pub use Rattle.sas_core.specs.declared.grounded.Change.{Change}
 pub use Rattle.sas_core.specs.declared.parts.Fact.{Fact}
 pub use Rattle.sas_core.specs.declared.parts.Parts.{Parts}
-pub use Rattle.sas_core.specs.declared.parts.Rule.{Rule}
+pub use Rattle.sas_core.specs.declared.parts.Effect.{Effect}
 pub use Rattle.sas_flat.proofs.ByKey.{under_key, all_items, items_none, items_cons, item_if, items_append}
 pub use Rattle.sas_flat.proofs.Tables.{length-table}
 pub use Rattle.sas_flat.specs.ByKey.{items_of, by_key}

@@ -1,7 +1,7 @@
 -- The rules of a layer that hold set their variables, one by one.
-use Rattle.sas_axioms.proofs.Imports.{◌≡◌, ◌≢◌, ◌⊎◌, ◌↔◌, ℕ, ◌+◌, ◌<◌, ◌≤◌, true, List, [], length, get_or, set, sym, ◌∙◌, ap, subst, inl, inr, arith, heap_items, cases_eq, cases_lt, get_or-set_same, get_or-set_other, length-set, All-nil, All-contains, Reverse, Parts, rule_at, WellRanged, IsOnLayer, IsLayered, differs, IsSettledAt, SameOff, Fired, fired_there, differs_true, differs_same, Work, Agenda, LayerRule, entry_for, IsOnAgenda, IsAwaited, NoLowerLayer, AreBehind, RemovesFromAgenda, SameWork, CountsChange, IsBetween, IsFalling, IsRising, HasRisen, IsFollowed, IsRuleOn, IsHolding, HaveSources, SourcesHold, AreGiven, settled_off}
+use Rattle.sas_axioms.proofs.Imports.{◌≡◌, ◌≢◌, ◌⊎◌, ◌↔◌, ℕ, ◌+◌, ◌<◌, ◌≤◌, true, List, [], length, get_or, set, sym, ◌∙◌, ap, subst, inl, inr, arith, heap_items, cases_eq, cases_lt, get_or-set_same, get_or-set_other, length-set, All-nil, All-contains, Reverse, Parts, rule_at, WellRanged, IsOnLayer, IsLayered, differs, IsSettledAt, SameOff, Fired, fired_there, differs_true, differs_same, Work, Agenda, LayerRule, entry_for, IsOnAgenda, IsAwaited, NoLowerLayer, AreBehind, RemovesFromAgenda, SameWork, CountsChange, IsBetween, IsFalling, IsRising, HasRisen, IsFollowed, IsRuleOn, IsHolding, HaveSources, SourcesHold, AreGiven, settled_off, no_effect}
 use Rattle.sas_axioms.proofs.FallingSteps.{noted_taken, noted_moved, same_moved, still_awaited}
-use Rattle.sas_axioms.proofs.Sources.{no_rule, forced_when_given, sources_same, given_off, given_when_fired, differs_where_holding, settled_when_given}
+use Rattle.sas_axioms.proofs.Sources.{forced_when_given, sources_same, given_off, given_when_fired, differs_where_holding, settled_when_given}
 use Rattle.sas_axioms.proofs.Tracking.{with_agenda, awaited_on, track_taken, track_moved, track_set}
 
 -- a rule that is taken off doesn't hold, or its variable differs from its default
@@ -35,7 +35,7 @@ module _ (p : Parts) (s0 s : List ℕ) (rule : ℕ) (w : Work) (a : Agenda) (ran
 
   -- what the rule sets
   pub fires : Fired p w.layer s (rule_at p rule)
-  fires = fired_there p w.layer s rule no_rule ranged layered rising.track.state (forced_when_given p w.layer s w.sources layered given) is.exists
+  fires = fired_there p w.layer s rule no_effect ranged layered rising.track.state (forced_when_given p w.layer s w.sources layered given) is.exists
       (record { on = is.on; can = is.can; hold = holding; new = ne })
 
   module _ (w' : Work) (within : (rule_at p rule).var < length s) (place : (rule_at p rule).var < length w.sources) (same : SameWork (with_agenda w a) w')

@@ -1,14 +1,10 @@
 -- The variables and values in a rule of a task exist.
-use Rattle.sas_axioms.proofs.Imports.{◌≡◌, ◌≢◌, ◌⊎◌, ℕ, ◌<◌, ◌^◌, true, false, not, nat_eq, Option, None, Some, List, length, refl, sym, ap, subst, inl, inr, option_eq, eqb_tells, slice_index, All, All-weaker, All-from_recursion, Fact, Parts, Change, rule_change, rule_at, FactExists, WellRanged, RuleFits, holds_at, default_of, differs, fact_within, ◌==◌}
-use Rattle.sas_axioms.proofs.Sources.{no_rule}
+use Rattle.sas_axioms.proofs.Imports.{◌≡◌, ◌≢◌, ◌⊎◌, ℕ, ◌<◌, ◌^◌, true, false, not, nat_eq, Option, None, Some, List, length, refl, sym, ap, subst, inl, inr, option_eq, eqb_tells, slice_index, All, All-weaker, All-from_recursion, Fact, Parts, Change, change_of, rule_at, FactExists, WellRanged, default_of, differs, fact_within, ◌==◌, rule_fits}
 
 module _ (p : Parts) (ranged : WellRanged p) (rule : ℕ) (exists : rule < length p.rules) where
-  rule_fits : RuleFits p.variables (rule_at p rule)
-  rule_fits = holds_at (RuleFits p.variables) no_rule p.rules ranged.rules.each rule exists
-
   -- the variable of the rule exists
-  pub change_within : (change : Change) → change ≡ rule_change (rule_at p rule) → change.var < length p.variables
-  change_within change is = subst (λ (change : Change). change.var < length p.variables) (sym is) (fact_within p (rule_at p rule).var (rule_at p rule).new rule_fits.new)
+  pub change_within : (change : Change) → change ≡ change_of (rule_at p rule) → change.var < length p.variables
+  change_within change is = subst (λ (change : Change). change.var < length p.variables) (sym is) (fact_within p (rule_at p rule).var (rule_at p rule).new (rule_fits p ranged rule exists).new)
 
   -- and so do those of its conditions
   pub conditions_within : (s : List ℕ) → length s ≡ length p.variables → (conditions : List Fact) → conditions ≡ (rule_at p rule).conditions
@@ -16,14 +12,14 @@ module _ (p : Parts) (ranged : WellRanged p) (rule : ℕ) (exists : rule < lengt
   conditions_within s one_each conditions are = subst (All (λ (f : Fact). f.var < length s)) (sym are)
       (subst (λ n. All (λ (f : Fact). f.var < n) (rule_at p rule).conditions) (sym one_each)
       (All-weaker (FactExists p.variables) (λ (f : Fact). f.var < length p.variables) (λ f is. fact_within p f.var f.value is) (rule_at p rule).conditions
-      (All-from_recursion (FactExists p.variables) (rule_at p rule).conditions rule_fits.conditions.each)))
+      (All-from_recursion (FactExists p.variables) (rule_at p rule).conditions (rule_fits p ranged rule exists).conditions.each)))
 
   -- of which there are few enough to count them
   pub conditions_few : (conditions : List Fact) → conditions ≡ (rule_at p rule).conditions → length conditions < 2 ^ 31
-  conditions_few conditions are = subst (λ (cs : List Fact). length cs < 2 ^ 31) (sym are) rule_fits.conditions.count
+  conditions_few conditions are = subst (λ (cs : List Fact). length cs < 2 ^ 31) (sym are) (rule_fits p ranged rule exists).conditions.count
 
 -- what was read shows whether the variable of the rule differs from its default
-pub differs_read : (p : Parts) (s : List ℕ) (rule value default : ℕ) (change : Change) → change ≡ rule_change (rule_at p rule)
+pub differs_read : (p : Parts) (s : List ℕ) (rule value default : ℕ) (change : Change) → change ≡ change_of (rule_at p rule)
     → value ≡ slice_index s change.var → default ≡ default_of p change.var → not (nat_eq value default) ≡ differs p s (rule_at p rule).var
 differs_read p s rule value default change of_rule is is_default = rw (is, is_default, of_rule) refl
 

@@ -1,5 +1,5 @@
 -- The rules of each variable that can fire, one rule more.
-use Rattle.sas_axioms.proofs.Imports.{◌≡◌, ◌≢◌, ℕ, ◌+◌, ◌<◌, ◌≤◌, Bool, true, false, List, [], ◌∷◌, ◌++◌, length, get_or, refl, sym, ◌∙◌, ap, subst, inl, inr, arith, ◌==◌, ◌&&◌, not, if◌then◌else◌, All, Contains, eqb-true, eq-eqb, ne_eqb, and_parts, and_from, eqb_tells, Decides-eqb, Decides-not, append-nil, All-nil, All-push, Contains-get_or, Rule, Parts, rule_at, Entry, items_of, by_key, IsRuleOn, AreRulesOf, length-table, item_if, items_none, items_append, items_cons, under_key, IsOnLayer, default_of, CanFire, can_fire, places, can_give, on_layer_within, places_to, places_one_more, places_all, place_is, is_place}
+use Rattle.sas_axioms.proofs.Imports.{◌≡◌, ◌≢◌, ℕ, ◌+◌, ◌<◌, ◌≤◌, Bool, true, false, List, [], ◌∷◌, ◌++◌, length, get_or, refl, sym, ◌∙◌, ap, subst, inl, inr, arith, ◌==◌, ◌&&◌, not, if◌then◌else◌, All, Contains, eqb-true, eq-eqb, ne_eqb, and_parts, and_from, eqb_tells, Decides-eqb, Decides-not, append-nil, All-nil, All-push, Contains-get_or, Effect, Parts, rule_at, Entry, items_of, by_key, IsRuleOn, AreRulesOf, length-table, item_if, items_none, items_append, items_cons, under_key, IsOnLayer, default_of, CanFire, can_fire, places, can_give, on_layer_within, places_to, places_one_more, places_all, place_is, is_place}
 
 module _ (p : Parts) where
   abbrev pub entry_of : ℕ → Entry ℕ
@@ -68,7 +68,7 @@ module _ (p : Parts) where
         passes,
       )
 
-  pub can_of : (var : ℕ) (rule : Rule) → can_give p var rule ≡ true → CanFire p rule × (rule.var ≡ var)
+  pub can_of : (var : ℕ) (rule : Effect) → can_give p var rule ≡ true → CanFire p rule × (rule.var ≡ var)
   can_of var rule is =
       let both = and_parts (rule.var == var) (can_fire p rule) is in
       ((Decides-not (rule.new == default_of p rule.var) (Decides-eqb rule.new (default_of p rule.var))).0 both.1, eqb-true rule.var var both.0)

@@ -1,16 +1,13 @@
 -- Variables set by sources are forced, and a rule that fires is a source.
-use Rattle.sas_axioms.proofs.Imports.{◌≡◌, ◌≢◌, ℕ, zero, suc, ◌+◌, ◌<◌, ◌==◌, Bool, true, cond, List, [], ◌∷◌, length, get_or, set, None, refl, sym, ◌∙◌, ap, subst, inl, inr, arith, cases_eq, eq-eqb, eqb_tells, get_or_default, get_or-set_same, get_or-set_other, Fact, Rule, Parts, rule_at, IsOnLayer, default_of, IsLayered, new_value_of, value_with, IsClosed, differs, IsSettledAt, OnlyForced, IsRuleOn, IsLate, AllHold, IsHolding, IsSourceOf, HaveSources, AreGiven, HasFired, AtDefault, SameOff, differs_true, differs_same, differs_not, layer_decides, given_on, looks_down, new_value_is, settled_when_fired, differs_decides}
+use Rattle.sas_axioms.proofs.Imports.{◌≡◌, ◌≢◌, ℕ, zero, suc, ◌+◌, ◌<◌, ◌==◌, Bool, true, cond, List, [], ◌∷◌, length, get_or, set, refl, sym, ◌∙◌, ap, subst, inl, inr, arith, cases_eq, eq-eqb, eqb_tells, get_or_default, get_or-set_same, get_or-set_other, Fact, Effect, Parts, rule_at, IsOnLayer, default_of, IsLayered, new_value_of, value_with, IsClosed, differs, IsSettledAt, OnlyForced, IsRuleOn, IsLate, AllHold, IsHolding, IsSourceOf, HaveSources, AreGiven, HasFired, AtDefault, SameOff, differs_true, differs_same, differs_not, layer_decides, given_on, looks_down, new_value_is, settled_when_fired, differs_decides, no_effect}
 use Rattle.sas_meaning.proofs.Layers.{given_off as value_off}
-
-abbrev pub no_rule : Rule
-no_rule = record { conditions = []; var = 0; old = None; new = 0 }
 
 -- a condition on the layer that holds is on a variable that differs from its default
 pub condition_differs : (p : Parts) (layer rule : ℕ) (s : List ℕ) → IsLayered p → IsRuleOn p layer rule → (j : ℕ) (e : Fact) → j < length (rule_at p rule).conditions
     → IsOnLayer p layer (get_or (rule_at p rule).conditions j e).var → get_or s (get_or (rule_at p rule).conditions j e).var 0 ≡ (get_or (rule_at p rule).conditions j e).value
     → differs p s (get_or (rule_at p rule).conditions j e).var ≡ true
 condition_differs p layer rule s layered is j e lt on hold = differs_true p s (get_or (rule_at p rule).conditions j e).var (λ default.
-    let z : layer < layer = ((layered.rules rule no_rule is.exists is.can).order j e lt layer layer is.on on).1 (sym hold ∙ default) in absurd (omega arith))
+    let z : layer < layer = ((layered.rules rule no_effect is.exists is.can).order j e lt layer layer is.on on).1 (sym hold ∙ default) in absurd (omega arith))
 
 -- what sources give is in every closed set
 module _ (p : Parts) (layer : ℕ) (s sources : List ℕ) (layered : IsLayered p) (given : AreGiven p layer s sources) where
@@ -34,7 +31,7 @@ module _ (p : Parts) (layer : ℕ) (s sources : List ℕ) (layered : IsLayered p
     by_rank zero v lt on d = absurd (omega arith)
     by_rank (suc n) v lt on d =
         let source = given.have.source v on d in
-        subst (λ u. set u ≡ true) source.sets (closed (get_or sources v 0) no_rule source.is.exists source.is.on source.is.can
+        subst (λ u. set u ≡ true) source.sets (closed (get_or sources v 0) no_effect source.is.exists source.is.on source.is.can
         (condition_holds v on d (λ u less on_u d_u. by_rank n u (omega arith) on_u d_u)))
 
   pub forced_when_given : OnlyForced p layer s
@@ -87,7 +84,7 @@ given_off p layer m s s' sources sources' layered off same lt given = record {
     holds v on d j e within =
         let source = given.have.source v on d in
         sym (off (get_or (rule_at p (get_or sources v 0)).conditions j e).var (λ on'.
-        (let le = looks_down p (rule_at p (get_or sources v 0)) (get_or (rule_at p (get_or sources v 0)).conditions j e) layer m ((layered.rules (get_or sources v 0) no_rule source.is.exists source.is.can).order j e within) on' source.is.on in omega arith)))
+        (let le = looks_down p (rule_at p (get_or sources v 0)) (get_or (rule_at p (get_or sources v 0)).conditions j e) layer m ((layered.rules (get_or sources v 0) no_effect source.is.exists source.is.can).order j e within) on' source.is.on in omega arith)))
         ∙ given.hold v on d j e within
 
 -- ---- a rule that fires
@@ -168,7 +165,7 @@ module _ (p : Parts) (layer rule : ℕ) (s sources : List ℕ) (layered : IsLaye
         | inr ne ↦ rw (get_or-set_other sources its v rule 0 ne) (old_source v ne on (differed v ne d))
       ];
       new = λ v on d. elim (cases_eq v (rule_at p rule).var) [
-        | inl e ↦ rw e (get_or-set_same s (rule_at p rule).var (rule_at p rule).new 0 within ∙ sym (new_value_is p rule no_rule layered is.exists is.can))
+        | inl e ↦ rw e (get_or-set_same s (rule_at p rule).var (rule_at p rule).new 0 within ∙ sym (new_value_is p rule no_effect layered is.exists is.can))
         | inr ne ↦ get_or-set_other s its v (rule_at p rule).new 0 ne ∙ given.have.new v on (differed v ne d)
       ];
     };
@@ -193,21 +190,21 @@ settled_value p layer s settled v = elim (layer_decides p layer v) [
 -- on a settled layer, the variable of a rule that holds differs from its default
 pub differs_where_holding : (p : Parts) (layer rule : ℕ) (s : List ℕ) → IsSettledAt p layer s → IsRuleOn p layer rule → IsHolding p s rule → differs p s (rule_at p rule).var ≡ true
 differs_where_holding p layer rule s settled on hold =
-    settled.closed rule no_rule on.exists on.on on.can (λ j e lt. settled_value p layer s settled (get_or (rule_at p rule).conditions j e).var ∙ hold j e lt)
+    settled.closed rule no_effect on.exists on.on on.can (λ j e lt. settled_value p layer s settled (get_or (rule_at p rule).conditions j e).var ∙ hold j e lt)
 
 -- a layer on which only forced variables differ is settled, where each rule that holds has set its
 -- variable
 pub settled_when_set : (p : Parts) (layer : ℕ) (s : List ℕ) → OnlyForced p layer s
     → ((k : ℕ) → IsRuleOn p layer k → IsHolding p s k → get_or s (rule_at p k).var 0 ≡ (rule_at p k).new) → IsSettledAt p layer s
 settled_when_set p layer s forced done = settled_when_fired p layer s forced (λ k d lt.
-    subst (λ (r : Rule). HasFired p layer s r) (get_or_default p.rules k no_rule d lt) (λ on can hold. done k (record { exists = lt; on = on; can = can }) hold))
+    subst (λ (r : Effect). HasFired p layer s r) (get_or_default p.rules k no_effect d lt) (λ on can hold. done k (record { exists = lt; on = on; can = can }) hold))
 
 -- a layer that sources give is settled, where the variable of each rule that holds differs from its
 -- default
 pub settled_when_given : (p : Parts) (layer : ℕ) (s sources : List ℕ) → IsLayered p → AreGiven p layer s sources
     → ((rule : ℕ) → IsRuleOn p layer rule → IsHolding p s rule → differs p s (rule_at p rule).var ≡ true) → IsSettledAt p layer s
 settled_when_given p layer s sources layered given fired = settled_when_set p layer s (forced_when_given p layer s sources layered given)
-    (λ k is hold. given.have.new (rule_at p k).var is.on (fired k is hold) ∙ new_value_is p k no_rule layered is.exists is.can)
+    (λ k is hold. given.have.new (rule_at p k).var is.on (fired k is hold) ∙ new_value_is p k no_effect layered is.exists is.can)
 
 -- a late rule doesn't hold while the variables of its layer have their defaults
 pub late_waits : (p : Parts) (layer k : ℕ) (s : List ℕ) → IsLayered p → IsRuleOn p layer k → IsLate p layer k → AtDefault p layer s → AllHold (λ v. get_or s v 0) (rule_at p k).conditions → ⊥

@@ -1,7 +1,6 @@
 -- What is counted and noted goes on to fit the state.
-use Rattle.sas_axioms.proofs.Imports.{◌≡◌, ℕ, ◌≤◌, List, ◌++◌, length, get_or, set, is_some, sym, ap, ◌∙◌, subst, inl, inr, All, Contains, heap_items, All-contains, All-append, Reverse, Parts, rule_at, IsState, IsOnLayer, IsLayered, LooksDown, Touched, AddsTouched, StillCovers, looks_down, covers_set, SameOff, get_or-set_other, Agenda, Work, LayerRule, IsAwaited, RemovesFromAgenda, AreCounted, IsHolding, AsksAbout, CountsChange, IsOnTrack, SameWork, KeepsRoom, IsRuleOn}
+use Rattle.sas_axioms.proofs.Imports.{◌≡◌, ℕ, ◌≤◌, List, ◌++◌, length, get_or, set, is_some, sym, ap, ◌∙◌, subst, inl, inr, All, Contains, heap_items, All-contains, All-append, Reverse, Parts, rule_at, IsState, IsOnLayer, IsLayered, LooksDown, Touched, AddsTouched, StillCovers, looks_down, covers_set, SameOff, get_or-set_other, Agenda, Work, LayerRule, IsAwaited, RemovesFromAgenda, AreCounted, IsHolding, AsksAbout, CountsChange, IsOnTrack, SameWork, KeepsRoom, IsRuleOn, no_effect}
 use Rattle.sas_axioms.proofs.Counters.{all_hold_when_none_open, none_open_when_all_hold}
-use Rattle.sas_axioms.proofs.Sources.{no_rule}
 
 -- what holds of all elements of a list holds of those of one that has no others
 pub all_still : {X : Type 0} (P : X → Type 0) (xs ys : List X) → All (Contains xs) ys → All P xs → All P ys
@@ -55,7 +54,7 @@ track_ready p layer s w a' rules track all ready noted = record {
 -- a rule that asks about a variable is on no lower layer
 pub asks_down : (p : Parts) (layer its var rule : ℕ) → IsLayered p → IsOnLayer p layer var → IsRuleOn p its rule → AsksAbout p var rule → layer ≤ its
 asks_down p layer its var rule layered on is asks =
-    let down : LooksDown p (rule_at p rule).var asks.0 = All-contains (LooksDown p (rule_at p rule).var) (rule_at p rule).conditions asks.0 (layered.rules rule no_rule is.exists is.can).order asks.1 in
+    let down : LooksDown p (rule_at p rule).var asks.0 = All-contains (LooksDown p (rule_at p rule).var) (rule_at p rule).conditions asks.0 (layered.rules rule no_effect is.exists is.can).order asks.1 in
     looks_down p (rule_at p rule) asks.0 layer its down (subst (λ v. IsOnLayer p layer v) (sym asks.2) on) is.on
 
 -- a variable of the layer changes

@@ -1,7 +1,7 @@
 -- All checks of a task pass if and only if its parts are well ranged: each section's checks are
 -- equivalent to its rules.
 use Rattle.std.proofs.lemmas.Grind.{common_steps}
-use Rattle.sas_core.proofs.Imports.{◌≡◌, ℕ, zero, suc, ◌^◌, ◌<◌, true, not, ◌==◌, nat_lt, ◌↔◌, List, [], ◌∷◌, ◌++◌, length, flat_map, slice_index, Option, Some, None, refl, arith, ltb-true, lt-ltb, AllByRecursion, nat_tests, first_so, second_so, both_true, PartsFault, NoVariable, TooMany, BadName, BadNumber, BadRange, BadFact, Fact, Variable, Effect, Operator, Rule, Parts, IsName, is_name, IsNumber, is_number, IsSigned, range_of, HasValue, has_value, MayHaveValue, FactExists, IsState, Listed, VariableFits, EffectFits, OperatorFits, RuleFits, WellRanged, name_checks, signed_checks, variable_checks, fact_checks, change_checks, effect_checks, operator_checks, rule_checks, values_in_range, state_checks, checks, ChecksAreTheRules, Check, check, listed}
+use Rattle.sas_core.proofs.Imports.{◌≡◌, ℕ, zero, suc, ◌^◌, ◌<◌, true, not, ◌==◌, nat_lt, ◌↔◌, List, [], ◌∷◌, ◌++◌, length, flat_map, slice_index, Option, Some, None, refl, arith, ltb-true, lt-ltb, AllByRecursion, nat_tests, first_so, second_so, both_true, PartsFault, NoVariable, TooMany, BadName, BadNumber, BadRange, BadFact, Fact, Variable, Effect, Operator, Parts, IsName, is_name, IsNumber, is_number, IsSigned, range_of, HasValue, has_value, MayHaveValue, FactExists, IsState, Listed, VariableFits, EffectFits, OperatorFits, WellRanged, name_checks, signed_checks, variable_checks, fact_checks, change_checks, effect_checks, operator_checks, values_in_range, state_checks, checks, ChecksAreTheRules, Check, check, listed}
 use Rattle.sas_core.proofs.Passing.{Pass, by_test, and_then}
 
 number : (n : ℕ) (e : PartsFault) → Pass (check (is_number n) e) ↔ IsNumber n
@@ -67,15 +67,6 @@ module _ (variables : List Variable) where
         λ p. all.1 (p.conditions, (p.old, p.new)),
       )
 
-  rule_fits : (r : Rule) → Pass (rule_checks variables r) ↔ RuleFits variables r
-  rule_fits r =
-      let all = and_then (listed TooMany (fact_checks variables) r.conditions) (change_checks variables r.var r.old r.new) _ _ (facts r.conditions) (change r.var r.old r.new) in (
-        λ pass.
-            let p = all.0 pass in
-            record { conditions = p.0; old = p.1.0; new = p.1.1 },
-        λ p. all.1 (p.conditions, (p.old, p.new)),
-      )
-
   operator_fits : (o : Operator) → Pass (operator_checks variables o) ↔ OperatorFits variables o
   operator_fits o =
       let prevail = and_then (name_checks o.name) (listed TooMany (fact_checks variables) o.prevail) _ _ (name o.name) (facts o.prevail) in
@@ -118,7 +109,7 @@ sections p =
     let state_fits = and_then to_groups (state_checks variables p.init) _ _ groups_fit (state variables p.init) in
     let goal_fits = and_then to_state (listed TooMany (fact_checks variables) p.goal) _ _ state_fits (facts variables p.goal) in
     let operators_fit = and_then to_goal (listed TooMany (operator_checks variables) p.operators) _ _ goal_fits (listed_follow (operator_checks variables) (OperatorFits variables) (operator_fits variables) p.operators) in
-    let all = and_then to_operators (listed TooMany (rule_checks variables) p.rules) _ _ operators_fit (listed_follow (rule_checks variables) (RuleFits variables) (rule_fits variables) p.rules) in (
+    let all = and_then to_operators (listed TooMany (effect_checks variables) p.rules) _ _ operators_fit (listed_follow (effect_checks variables) (EffectFits variables) (effect_fits variables) p.rules) in (
       λ pass.
           let q = all.0 pass in
           record {

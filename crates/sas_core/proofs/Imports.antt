@@ -15,16 +15,16 @@ pub use Rattle.std.specs.List.{AllByRecursion, list_all}
 pub use Rattle.std.specs.Option.{is_some, option_eq}
 pub use Rattle.std.specs.Result.{result_err}
 pub use Rattle.memchr.specs.Find.{IsFirstByte, is_byte2}
-pub use Rattle.sas_core.specs.Checks.{name_checks, signed_checks, variable_checks, fact_checks, change_checks, effect_checks, operator_checks, rule_checks, values_in_range, state_checks, checks, ChecksAreTheRules}
+pub use Rattle.sas_core.specs.Checks.{name_checks, signed_checks, variable_checks, fact_checks, change_checks, effect_checks, operator_checks, values_in_range, state_checks, checks, ChecksAreTheRules}
 pub use Rattle.sas_core.specs.FirstFault.{Check, first_fault, check, listed}
 pub use Rattle.sas_core.specs.Changes.{plain_effect, plain_effects}
-pub use Rattle.sas_core.specs.Grounded.{operator_at, effect_at}
+pub use Rattle.sas_core.specs.Grounded.{operator_at, no_effect, effect_at, rule_at}
 pub use Rattle.sas_core.specs.Names.{IsName, is_name, is_plain}
 pub use Rattle.sas_core.specs.Numbers.{IsNumber, is_number, IsSigned}
 pub use Rattle.sas_core.specs.Plain.{IsPlain}
 pub use Rattle.sas_core.specs.Plans.{IsFirstBadName}
 pub use Rattle.sas_core.specs.Variables.{range_of, HasValue, has_value, MayHaveValue, FactExists, IsState}
-pub use Rattle.sas_core.specs.WellRanged.{Listed, VariableFits, EffectFits, OperatorFits, RuleFits, WellRanged}
+pub use Rattle.sas_core.specs.WellRanged.{Listed, VariableFits, EffectFits, OperatorFits, WellRanged}
 pub use Rattle.sas_core.specs.declared.checks.PartsFault.{PartsFault}
 pub use Rattle.sas_core.specs.declared.checks.PartsFault.TheVariants.{NoVariable, TooMany, BadName, BadNumber, BadRange, BadFact}
 pub use Rattle.sas_core.specs.declared.grounded.Change.{Change}
@@ -32,5 +32,4 @@ pub use Rattle.sas_core.specs.declared.parts.Effect.{Effect}
 pub use Rattle.sas_core.specs.declared.parts.Fact.{Fact}
 pub use Rattle.sas_core.specs.declared.parts.Operator.{Operator}
 pub use Rattle.sas_core.specs.declared.parts.Parts.{Parts}
-pub use Rattle.sas_core.specs.declared.parts.Rule.{Rule}
 pub use Rattle.sas_core.specs.declared.parts.Variable.{Variable}

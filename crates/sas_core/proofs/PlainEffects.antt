@@ -1,9 +1,5 @@
 -- Effects without conditions, in terms of their changes.
-use Rattle.sas_core.proofs.Imports.{◌≡◌, ℕ, ◌<◌, List, [], length, get_or, None, ◌∙◌, ap, length-map, get_or-map, Change, Effect, Operator, plain_effect, plain_effects, effect_at}
-
--- a default for indices that are out of range
-abbrev pub no_effect : Effect
-no_effect = record { conditions = []; var = 0; old = None; new = 0 }
+use Rattle.sas_core.proofs.Imports.{◌≡◌, ℕ, ◌<◌, List, length, get_or, ◌∙◌, ap, length-map, get_or-map, Change, Effect, Operator, plain_effect, plain_effects, no_effect, effect_at}
 
 module _ (o : Operator) (changes : List Change) (is : o.effects ≡ plain_effects changes) where
   pub as_many_effects : length o.effects ≡ length changes

@@ -1,7 +1,7 @@
 -- The equality of each type of parts, and of a whole task, decides whether the values are the same.
 use Rattle.std.proofs.Common.{arith}
 use Rattle.std.proofs.lemmas.Grind.{common_steps}
-use Rattle.sas_core.proofs.Imports.{◌≡◌, ℕ, Bool, ◌&&◌, Option, Some, None, refl, ap, nat_eq, List, Decides, beq, option_eq, unsigned_Decides, booleans_Decides, pointwise, pointwise_decides, false≢true, Fact, Variable, Effect, Operator, Rule, Parts}
+use Rattle.sas_core.proofs.Imports.{◌≡◌, ℕ, Bool, ◌&&◌, Option, Some, None, refl, ap, nat_eq, List, Decides, beq, option_eq, unsigned_Decides, booleans_Decides, pointwise, pointwise_decides, false≢true, Fact, Variable, Effect, Operator, Parts}
 
 also : {P Q : Type 0} {a b : Bool} → Decides a P → Decides b Q → Decides (a && b) (P × Q)
 also {P} {Q} {a} {b} first second = grind (arith, common_steps)
@@ -54,20 +54,11 @@ operator o p =
     (λ fields i. record { name = fields.0 i; prevail = fields.1.0 i; effects = fields.1.1.0 i; cost = fields.1.1.1 i })
     (λ same. (λ i. (same i).name, (λ i. (same i).prevail, (λ i. (same i).effects, λ i. (same i).cost))))
 
-abbrev rule_eq : Rule → Rule → Bool
-rule_eq r s = pointwise fact_eq r.conditions s.conditions && (nat_eq r.var s.var && (option_eq nat_eq r.old s.old && nat_eq r.new s.new))
-
-rule : (r s : Rule) → Decides (rule_eq r s) (r ≡ s)
-rule r s =
-    that (also (pointwise_decides fact r.conditions s.conditions) (also (unsigned_Decides r.var s.var) (also (optional r.old s.old) (unsigned_Decides r.new s.new))))
-    (λ fields i. record { conditions = fields.0 i; var = fields.1.0 i; old = fields.1.1.0 i; new = fields.1.1.1 i })
-    (λ same. (λ i. (same i).conditions, (λ i. (same i).var, (λ i. (same i).old, λ i. (same i).new))))
-
 abbrev parts_eq : Parts → Parts → Bool
-parts_eq p q = beq p.metric q.metric && (pointwise variable_eq p.variables q.variables && (pointwise (pointwise fact_eq) p.groups q.groups && (pointwise nat_eq p.init q.init && (pointwise fact_eq p.goal q.goal && (pointwise operator_eq p.operators q.operators && pointwise rule_eq p.rules q.rules)))))
+parts_eq p q = beq p.metric q.metric && (pointwise variable_eq p.variables q.variables && (pointwise (pointwise fact_eq) p.groups q.groups && (pointwise nat_eq p.init q.init && (pointwise fact_eq p.goal q.goal && (pointwise operator_eq p.operators q.operators && pointwise effect_eq p.rules q.rules)))))
 
 pub parts : (p q : Parts) → Decides (parts_eq p q) (p ≡ q)
 parts p q =
-    that (also (booleans_Decides p.metric q.metric) (also (pointwise_decides variable p.variables q.variables) (also (pointwise_decides (pointwise_decides fact) p.groups q.groups) (also (bytes p.init q.init) (also (pointwise_decides fact p.goal q.goal) (also (pointwise_decides operator p.operators q.operators) (pointwise_decides rule p.rules q.rules)))))))
+    that (also (booleans_Decides p.metric q.metric) (also (pointwise_decides variable p.variables q.variables) (also (pointwise_decides (pointwise_decides fact) p.groups q.groups) (also (bytes p.init q.init) (also (pointwise_decides fact p.goal q.goal) (also (pointwise_decides operator p.operators q.operators) (pointwise_decides effect p.rules q.rules)))))))
     (λ fields i. record { metric = fields.0 i; variables = fields.1.0 i; groups = fields.1.1.0 i; init = fields.1.1.1.0 i; goal = fields.1.1.1.1.0 i; operators = fields.1.1.1.1.1.0 i; rules = fields.1.1.1.1.1.1 i })
     (λ same. (λ i. (same i).metric, (λ i. (same i).variables, (λ i. (same i).groups, (λ i. (same i).init, (λ i. (same i).goal, (λ i. (same i).operators, λ i. (same i).rules)))))))

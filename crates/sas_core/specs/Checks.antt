@@ -7,7 +7,6 @@ use Rattle.sas_core.specs.declared.parts.Fact.{Fact}
 use Rattle.sas_core.specs.declared.parts.Variable.{Variable}
 use Rattle.sas_core.specs.declared.parts.Effect.{Effect}
 use Rattle.sas_core.specs.declared.parts.Operator.{Operator}
-use Rattle.sas_core.specs.declared.parts.Rule.{Rule}
 use Rattle.sas_core.specs.declared.parts.Parts.{Parts}
 use Rattle.sas_core.specs.FirstFault.{Check, first_fault, check, listed}
 use Rattle.sas_core.specs.Names.{is_name}
@@ -39,6 +38,7 @@ change_checks variables var None new = check (has_value variables var new) BadFa
 change_checks variables var (Some old) new =
     check (has_value variables var old) BadFact ++ check (has_value variables var new) BadFact
 
+-- an effect or a rule
 abbrev pub effect_checks : List Variable → Effect → List (Check PartsFault)
 effect_checks variables e =
     listed TooMany (fact_checks variables) e.conditions ++ change_checks variables e.var e.old e.new
@@ -49,10 +49,6 @@ operator_checks variables o =
     ++ listed TooMany (fact_checks variables) o.prevail
     ++ listed TooMany (effect_checks variables) o.effects
     ++ check (is_number o.cost) BadNumber
-
-abbrev pub rule_checks : List Variable → Rule → List (Check PartsFault)
-rule_checks variables r =
-    listed TooMany (fact_checks variables) r.conditions ++ change_checks variables r.var r.old r.new
 
 -- whether each value is in the range of the variable with the same index
 abbrev pub values_in_range : List Variable → List ℕ → Bool
@@ -73,7 +69,7 @@ checks p =
     ++ state_checks p.variables p.init
     ++ listed TooMany (fact_checks p.variables) p.goal
     ++ listed TooMany (operator_checks p.variables) p.operators
-    ++ listed TooMany (rule_checks p.variables) p.rules
+    ++ listed TooMany (effect_checks p.variables) p.rules
 
 -- parts are well ranged if and only if all checks pass
 abbrev pub ChecksAreTheRules : Type 0

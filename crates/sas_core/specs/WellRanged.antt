@@ -4,7 +4,6 @@ use Rattle.std.specs.List.{AllByRecursion}
 use Rattle.sas_core.specs.declared.parts.Variable.{Variable}
 use Rattle.sas_core.specs.declared.parts.Effect.{Effect}
 use Rattle.sas_core.specs.declared.parts.Operator.{Operator}
-use Rattle.sas_core.specs.declared.parts.Rule.{Rule}
 use Rattle.sas_core.specs.declared.parts.Parts.{Parts}
 use Rattle.sas_core.specs.Names.{IsName}
 use Rattle.sas_core.specs.Numbers.{IsNumber, IsSigned}
@@ -25,6 +24,7 @@ pub record VariableFits (v : Variable) : Type 0 where
   -- the number of values is a number, and each value is a name
   pub values : Listed IsName v.values
 
+-- an effect or a rule
 pub record EffectFits (variables : List Variable) (e : Effect) : Type 0 where
   -- the number of conditions is a number, and each condition is a fact that exists
   pub conditions : Listed (FactExists variables) e.conditions
@@ -43,12 +43,6 @@ pub record OperatorFits (variables : List Variable) (o : Operator) : Type 0 wher
   -- its cost is a number
   pub cost : IsNumber o.cost
 
--- an axiom rule meets the same conditions as an effect
-pub record RuleFits (variables : List Variable) (r : Rule) : Type 0 where
-  pub conditions : Listed (FactExists variables) r.conditions
-  pub new : HasValue variables r.var r.new
-  pub old : MayHaveValue variables r.var r.old
-
 pub record WellRanged (p : Parts) : Type 0 where
   -- there is at least one variable
   pub some_variable : 0 < length p.variables
@@ -63,4 +57,4 @@ pub record WellRanged (p : Parts) : Type 0 where
   -- the number of operators is a number, and each operator fits
   pub operators : Listed (OperatorFits p.variables) p.operators
   -- the number of rules is a number, and each rule fits
-  pub rules : Listed (RuleFits p.variables) p.rules
+  pub rules : Listed (EffectFits p.variables) p.rules

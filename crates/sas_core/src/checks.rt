@@ -8,11 +8,11 @@ ghost use Rattle.sas_core.specs.declared.checks.PartsFault.TheVariants.{TooMany}
 ghost use Rattle.sas_core.specs.Variables as spec;
 ghost use Rattle.sas_core.specs.Checks.{name_checks, signed_checks, variable_checks, fact_checks, change_checks, effect_checks};
 ghost use Rattle.sas_core.specs.FirstFault.{first_fault, check, listed};
-ghost use Rattle.sas_core.specs.Checks.{operator_checks, rule_checks, state_checks, values_in_range, checks};
+ghost use Rattle.sas_core.specs.Checks.{operator_checks, state_checks, values_in_range, checks};
 
 use crate::items::Items;
 use crate::names::is_name;
-use crate::parts::{Effect, Fact, Operator, Parts, Rule, Variable};
+use crate::parts::{Effect, Fact, Operator, Parts, Variable};
 
 /// The rule of the file format that some parts violate.
 #[derive(Clone, Copy, Debug, PartialEq, Eq)]
@@ -150,17 +150,9 @@ impl Checked for Operator {
     }
 }
 
+/// An effect or a rule.
 impl Checked for Effect {
     ghost checks_of = { effect_checks };
-
-    fn check_among(&self, variables: &Items<Variable>) -> Result<(), PartsFault> {
-        check_list(variables, &self.conditions)?;
-        check_change(variables, self.var, self.old, self.new)
-    }
-}
-
-impl Checked for Rule {
-    ghost checks_of = { rule_checks };
 
     fn check_among(&self, variables: &Items<Variable>) -> Result<(), PartsFault> {
         check_list(variables, &self.conditions)?;

@@ -1,5 +1,6 @@
 // How a grounded task is read, regardless of how it is stored.
 ghost use Rattle.std.specs.Prelude.{◌≡◌, ◌<◌, length};
+ghost use Rattle.sas_core.specs.Changes.{change_of, fact_of};
 ghost use Rattle.sas_core.specs.Grounded as spec;
 ghost use Rattle.sas_core.specs.WellRanged.{OperatorFits};
 
@@ -17,7 +18,7 @@ pub struct Change {
 impl Change {
     /// Returns the fact that becomes true.
     pub fn fact(self) -> Fact
-        ensures { result ≡ record { var = self.var; value = self.new } }
+        ensures { result ≡ fact_of self }
     {
         Fact {
             var: self.var,
@@ -32,7 +33,7 @@ pub trait Grounded {
     ghost use Rattle.std.specs.Prelude.{◌≡◌, ◌<◌, length, slice_index, IfSome};
     ghost use Rattle.sas_core.specs.declared.parts.Parts.{Parts};
     ghost use Rattle.sas_core.specs.Grounded.{operator_at, effect_at, rule_at, group_at};
-    ghost use Rattle.sas_core.specs.Changes.{effect_change, plain_effects, rule_change};
+    ghost use Rattle.sas_core.specs.Changes.{change_of, plain_effects};
     ghost use Rattle.sas_core.specs.Tasks.{cost_of};
     ghost use Rattle.sas_core.specs.Variables.{range_of, layer_of};
     ghost use Rattle.sas_core.specs.WellRanged.{WellRanged};
@@ -118,7 +119,7 @@ pub trait Grounded {
         requires operator { operator < length (says self.now).operators }
         requires effect { effect < length (operator_at (says self.now) operator).effects }
         ensures { result
-            ≡ effect_change (effect_at (operator_at (says self.now) operator) effect) };
+            ≡ change_of (effect_at (operator_at (says self.now) operator) effect) };
 
     /// Returns the changes of the operator's effects, in order, if none of them has conditions and the task stores them consecutively.
     /// Steps are faster with them. The default returns `None`.
@@ -139,7 +140,7 @@ pub trait Grounded {
     /// Returns the change that the rule makes.
     fn rule_change(&self, rule: u32) -> Change
         requires { rule < length (says self.now).rules }
-        ensures { result ≡ rule_change (rule_at (says self.now) rule) };
+        ensures { result ≡ change_of (rule_at (says self.now) rule) };
 }
 
 impl Grounded for Task {
@@ -206,12 +207,7 @@ impl Grounded for Task {
     }
 
     fn effect_change(&self, operator: u32, effect: u32) -> Change {
-        let effect = effect_of(self, operator, effect);
-        Change {
-            var: effect.var,
-            old: effect.old,
-            new: effect.new,
-        }
+        change_of(effect_of(self, operator, effect))
     }
 
     fn rule_conditions(&self, rule: u32) -> &[Fact] {
@@ -219,12 +215,7 @@ impl Grounded for Task {
     }
 
     fn rule_change(&self, rule: u32) -> Change {
-        let rule = rule_of(self, rule);
-        Change {
-            var: rule.var,
-            old: rule.old,
-            new: rule.new,
-        }
+        change_of(rule_of(self, rule))
     }
 }
 
@@ -249,4 +240,14 @@ fn rule_of(task: &Task, rule: u32) -> &Rule
     ensures { result.now ≡ spec.rule_at task.now rule }
 {
     &task.parts().rules.as_slice()[rule as usize]
+}
+
+fn change_of(effect: &Effect) -> Change
+    ensures { result ≡ change_of effect.now }
+{
+    Change {
+        var: effect.var,
+        old: effect.old,
+        new: effect.new,
+    }
 }

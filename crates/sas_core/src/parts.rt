@@ -36,14 +36,8 @@ pub struct Operator {
     pub cost: u32,
 }
 
-/// A rule (axiom) for a derived variable: if its conditions hold, the variable gets the new value.
-#[derive(Debug, PartialEq, Eq, Drop)]
-pub struct Rule {
-    pub conditions: Items<Fact>,
-    pub var: u32,
-    pub old: Option<u32>,
-    pub new: u32,
-}
+/// A rule (axiom) for a derived variable: if its conditions hold, the variable gets the new value. A rule has the form of an effect.
+pub type Rule = Effect;
 
 /// The contents of a task file, in the order of its sections.
 #[derive(Debug, PartialEq, Eq, Drop)]

@@ -2,8 +2,8 @@
 use Rattle.sas_flat.proofs.Imports.{◌≡◌, ℕ, zero, suc, ◌+◌, ◌-◌, ◌<◌, ◌≤◌, List, [], ◌∷◌, ◌++◌, length, take, replicate, get_or, refl, sym, ap, ◌∙◌, arith, append-nil, append_assoc, length-append, slice_range, drop, length-take-le, length-replicate, get_or-take, get_or-append-add, take-append-drop, take-map, get_or-append, get_or-append_seam, drop-append_seam, Change, Fact, table, effect_with, change_in_list, effects_of, effect_in_list, Effect, plain_effect, plain_effects}
 use Rattle.sas_flat.proofs.Tables.{length-table, table_same, table_none, table_more, table_append, get_or-table, take-table}
 
-pub no_effect : (cs : List Change) (ds : List (List Fact)) → cs ≡ [] → effects_of cs ds ≡ []
-no_effect cs ds none = table_none (length cs) _ (ap length none)
+pub no_effects : (cs : List Change) (ds : List (List Fact)) → cs ≡ [] → effects_of cs ds ≡ []
+no_effects cs ds none = table_none (length cs) _ (ap length none)
 
 same_effect : (c c' : Change) (d d' : List Fact) → c ≡ c' → d ≡ d' → effect_with c d ≡ effect_with c' d'
 same_effect c c' d d' changes conditions = ap (λ x. effect_with x d) changes ∙ ap (λ x. effect_with c' x) conditions

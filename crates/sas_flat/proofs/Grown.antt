@@ -1,5 +1,5 @@
 -- Columns to which an item was appended, or only a part of one.
-use Rattle.sas_flat.proofs.Imports.{◌≡◌, ℕ, ◌+◌, ◌<◌, Option, List, [], ◌∷◌, ◌++◌, length, take, map, refl, sym, ap, ◌∙◌, arith, length-append, slice_index, length-map, map-append, get_or-append, Change, Fact, Effect, Operator, Head, table, start_of, list_at, lists_of, items_after, AreEnds, AreOpen, effect_with, effects_of, rule, rule_of, rules_of, rules_from, Kept, Hold, OperatorColumns, operator, name_ends, prevail_ends, effect_ends, costs, operators_in, end_head, open_operator, OperatorColumnsAlign, VariableColumns, variable, variables_in, variables_from, VariableColumnsAlign}
+use Rattle.sas_flat.proofs.Imports.{◌≡◌, ℕ, ◌+◌, ◌<◌, Option, List, [], ◌∷◌, ◌++◌, length, take, map, refl, sym, ap, ◌∙◌, arith, length-append, slice_index, length-map, map-append, get_or-append, Change, Fact, Effect, Operator, Head, table, start_of, list_at, lists_of, items_after, AreEnds, AreOpen, effect_with, effects_of, Kept, Hold, OperatorColumns, operator, name_ends, prevail_ends, effect_ends, costs, operators_in, end_head, open_operator, OperatorColumnsAlign, VariableColumns, variable, variables_in, variables_from, VariableColumnsAlign}
 use Rattle.sas_flat.proofs.Tables.{length-table, table_none, table_same, table_more}
 use Rattle.sas_flat.proofs.EffectRows.{effects_more}
 use Rattle.sas_flat.proofs.Blocks.{no_ends, list_first, list_last, ends_done, list_done, lists_done, ends_closed, lists_closed, ends_opened, list_opened, lists_opened, after_opened}
@@ -9,8 +9,8 @@ use Rattle.sas_flat.proofs.Rows.{no_variable, last_item, rows_more}
 
 module _ (changes longer : List Change) (lists more : List (List Fact)) (c : Change) (facts : List Fact) (pairs : length lists ≡ length changes)
     (one_change : longer ≡ changes ++ c ∷ []) (one_list : more ≡ lists ++ facts ∷ []) where
-  pub rules_more : rules_from longer more ≡ rules_from changes lists ++ rule c facts ∷ []
-  rules_more = rw (one_change, one_list) (ap rules_of (effects_more changes lists c facts pairs) ∙ map-append rule_of (effects_of changes lists) (effect_with c facts ∷ []))
+  pub rules_more : effects_of longer more ≡ effects_of changes lists ++ effect_with c facts ∷ []
+  rules_more = rw (one_change, one_list) (effects_more changes lists c facts pairs)
 
   pub pairs_more : length more ≡ length longer
   pairs_more = omega (arith, pairs, ap length one_change, ap length one_list, length-append changes (c ∷ []), length-append lists (facts ∷ []))

@@ -15,7 +15,7 @@ pub use Rattle.std.proofs.lemmas.Result.{on_ok_weaker, on_err_weaker}
 pub use Rattle.std.specs.List.{All, Contains, filter}
 pub use Rattle.std.specs.List.Sorted.{IsNonDecreasing, IsNonDecreasingBy}
 pub use Rattle.std.specs.Option.{option_map_or}
-pub use Rattle.sas_core.specs.Changes.{plain_effect, plain_effects, effect_change}
+pub use Rattle.sas_core.specs.Changes.{plain_effect, plain_effects, change_of}
 pub use Rattle.sas_core.specs.Variables.{range_of, layer_of, value_name}
 pub use Rattle.sas_core.specs.declared.grounded.Change.{Change}
 pub use Rattle.sas_core.specs.declared.parts.Effect.{Effect}
@@ -27,7 +27,6 @@ pub use Rattle.sas_flat.specs.Effects.{effect_with, change_in_list, effects_of, 
 pub use Rattle.sas_flat.specs.Growing.{Kept, Hold}
 pub use Rattle.sas_flat.specs.Lists.{start_of, list_at, lists_of, items_after, AreEnds, AreOpen}
 pub use Rattle.sas_flat.specs.Operators.{operator, name_ends, prevail_ends, effect_ends, costs, operators_in, operator_in, end_head, open_operator, OperatorColumnsAlign}
-pub use Rattle.sas_flat.specs.Rules.{rule, rule_of, rules_of, rules_from}
 pub use Rattle.sas_flat.specs.Variables.{variables_in, variables_from, variable, VariableColumnsAlign}
 pub use Rattle.sas_flat.specs.declared.by_key.Entry.{Entry}
 pub use Rattle.sas_flat.specs.declared.operators.Head.{Head}

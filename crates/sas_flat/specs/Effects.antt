@@ -1,8 +1,9 @@
--- Effects in columns: the change and the conditions of each effect.
+-- Effects and rules in columns: the change and the conditions of each.
 use Rattle.std.specs.Prelude.{ℕ, List, [], length, slice_index_or, None}
 use Rattle.sas_core.specs.declared.grounded.Change.{Change}
 use Rattle.sas_core.specs.declared.parts.Fact.{Fact}
 use Rattle.sas_core.specs.declared.parts.Effect.{Effect}
+use Rattle.sas_core.specs.Grounded.{no_effect}
 use Rattle.sas_flat.specs.Table.{table}
 
 -- the effect with this change and these conditions
@@ -19,7 +20,6 @@ effects_of changes conditions =
     table (length changes)
     (λ index. effect_with (change_in_list changes index) (slice_index_or conditions index []))
 
--- the effect at this index; past the last effect, one that sets variable 0 to value 0
+-- the effect at this index
 abbrev pub effect_in_list : List Effect → ℕ → Effect
-effect_in_list effects index =
-    slice_index_or effects index (record { conditions = []; var = 0; old = None; new = 0 })
+effect_in_list effects index = slice_index_or effects index no_effect

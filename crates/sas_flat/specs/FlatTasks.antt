@@ -1,6 +1,5 @@
 -- The contents of a flat task.
 use Rattle.sas_core.specs.declared.parts.Parts.{Parts}
-use Rattle.sas_flat.specs.Rules.{rules_of}
 use Rattle.sas_flat.specs.declared.columns.TaskColumns.{TaskColumns}
 
 -- the contents that the columns represent
@@ -12,5 +11,5 @@ parts_in c = record {
   init = c.init;
   goal = c.goal;
   operators = c.operators;
-  rules = rules_of c.rules;
+  rules = c.rules;
 }

@@ -3,7 +3,6 @@ pub mod Lists
 pub mod ByKey
 pub mod Growing
 pub mod Effects
-pub mod Rules
 pub mod Operators
 pub mod Variables
 pub mod FlatTasks

@@ -14,6 +14,5 @@ pub struct TaskColumns {
     pub init: Items<u32>,
     pub goal: Items<Fact>,
     pub operators: Operators,
-    /// The rules, as effects with the same conditions and changes.
     pub rules: Effects,
 }

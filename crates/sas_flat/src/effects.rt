@@ -1,7 +1,6 @@
-// Effects in a few blocks of memory.
+// Effects or rules in a few blocks of memory.
 ghost use Rattle.std.specs.Prelude.{◌≡◌, ◌<◌, ◌≤◌, [], ◌∷◌, ◌++◌, length, take, slice_range, IfSome, OnOk, OnErr};
-ghost use Rattle.sas_core.specs.Changes as changes;
-ghost use Rattle.sas_core.specs.Changes.{plain_effects};
+ghost use Rattle.sas_core.specs.Changes.{change_of, plain_effects};
 ghost use Rattle.sas_flat.specs.Effects.{effect_with, effects_of, effect_in_list};
 
 use crate::lists::Lists;
@@ -9,7 +8,7 @@ use sas_core::{Change, Fact};
 use std::alloc::{AllocError, Global};
 use std::marker::Model;
 
-/// A list of effects. In a contract its value is that list.
+/// A list of effects, or of rules, which have the same form. In a contract its value is that list.
 ///
 /// Most effects have no conditions. So `conditions` may be shorter than `changes`; the effects past its end have none.
 #[derive(Debug)]
@@ -73,7 +72,7 @@ impl Effects {
     /// Returns the change that the effect makes.
     pub(crate) fn change(&self, index: usize) -> Change
         requires { index < length self.now }
-        ensures { result ≡ changes.effect_change (effect_in_list self.now index) }
+        ensures { result ≡ change_of (effect_in_list self.now index) }
     {
         self.changes.as_slice()[index]
     }

@@ -1,7 +1,6 @@
 // Operators in a few blocks of memory.
 ghost use Rattle.std.specs.Prelude.{◌≡◌, ◌<◌, ◌≤◌, [], ◌∷◌, ◌++◌, length, IfSome, OnOk, OnErr};
-ghost use Rattle.sas_core.specs.Changes as changes;
-ghost use Rattle.sas_core.specs.Changes.{plain_effects};
+ghost use Rattle.sas_core.specs.Changes.{change_of, plain_effects};
 ghost use Rattle.sas_flat.specs.Effects.{effect_in_list};
 ghost use Rattle.sas_flat.specs.Growing.{Hold};
 ghost use Rattle.sas_flat.specs.Lists.{start_of, AreEnds, AreOpen};
@@ -218,8 +217,7 @@ impl Operators {
         requires operator { operator < length self.now }
         requires effect { effect < length (operator_in self.now operator).effects }
         ensures { result
-            ≡ changes.effect_change
-            (effect_in_list (operator_in self.now operator).effects effect) }
+            ≡ change_of (effect_in_list (operator_in self.now operator).effects effect) }
     {
         // The number of all effects fits into a `usize`, so this index doesn't overflow.
         let _effects = self.columns.effects.len();

@@ -1,9 +1,9 @@
 -- Properties of all effects as properties of the effect at each index, and when an operator
 -- preserves a group.
-use Rattle.sas_groups.proofs.Imports.{◌≡◌, ℕ, ◌<◌, length, ◌∙◌, ap, subst, get_or_default, Contains-get_or, Contains, List, Change, Fact, Effect, Operator, effect_at, effect_change, Keeps, IsRemoved, sets, Removes, NotBoth, KeepsIfSets, known, no_effect}
+use Rattle.sas_groups.proofs.Imports.{◌≡◌, ℕ, ◌<◌, length, ◌∙◌, ap, subst, get_or_default, Contains-get_or, Contains, List, Change, Fact, Effect, Operator, effect_at, change_of, Keeps, IsRemoved, sets, Removes, NotBoth, KeepsIfSets, known, no_effect}
 
 -- the fact that a change sets
-pub set_is : (e : Effect) (change : Change) (fact : Fact) → change ≡ effect_change e → fact ≡ record { var = change.var; value = change.new }
+pub set_is : (e : Effect) (change : Change) (fact : Fact) → change ≡ change_of e → fact ≡ record { var = change.var; value = change.new }
     → fact ≡ sets e
 set_is e change fact is set = set ∙ ap (λ (c : Change). record { var = c.var; value = c.new }) is
 

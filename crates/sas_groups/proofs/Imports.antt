@@ -18,12 +18,11 @@ pub use Rattle.std.specs.List.Sorted.{IsNonDecreasingBy, IsPermutation, IsSorted
 pub use Rattle.std.specs.Option.{option_to_list}
 pub use Rattle.std.specs.Ordering.{eq_by_cmp, nat_cmp, ordering_reverse, ordering_then}
 pub use Rattle.std.specs.Result.{MatchResult, is_ok}
-pub use Rattle.sas_core.proofs.PlainEffects.{no_effect}
 pub use Rattle.sas_core.proofs.SameParts.{fact_same}
 pub use Rattle.sas_meaning.proofs.Members.{contains_none}
 pub use Rattle.sas_core.proofs.Places.{holds_at, each_more}
-pub use Rattle.sas_core.specs.Changes.{effect_change}
-pub use Rattle.sas_core.specs.Grounded.{operator_at, effect_at, group_at}
+pub use Rattle.sas_core.specs.Changes.{change_of}
+pub use Rattle.sas_core.specs.Grounded.{operator_at, no_effect, effect_at, group_at}
 pub use Rattle.sas_core.specs.Variables.{FactExists, range_of}
 pub use Rattle.sas_core.specs.WellRanged.{WellRanged, VariableFits}
 pub use Rattle.sas_core.specs.declared.grounded.Change.{Change}

@@ -1,11 +1,11 @@
 -- For all values of the basic variables there is a settled state.
-use Rattle.sas_meaning.proofs.Imports.{◌≡◌, ℕ, zero, suc, ◌+◌, ◌<◌, ◌≤◌, ◌⊎◌, List, [], ◌∷◌, length, get_or, set, Option, None, Some, refl, sym, ◌∙◌, subst, inl, inr, arith, cases_eq, get_or-set_same, get_or-set_other, get_or_default, slice_get, option_and_then, Rule, Variable, Parts, IsState, WellRanged, SettledExists, InitialExists, IsBasic, IsOnLayer, default_of, IsLayered, IsSettledAt, SameBasic, OnlyForced, HasFired, Changes, SameOff, AtDefault, equal_places}
+use Rattle.sas_meaning.proofs.Imports.{◌≡◌, ℕ, zero, suc, ◌+◌, ◌<◌, ◌≤◌, ◌⊎◌, List, [], ◌∷◌, length, get_or, set, Option, None, Some, refl, sym, ◌∙◌, subst, inl, inr, arith, cases_eq, get_or-set_same, get_or-set_other, get_or_default, slice_get, option_and_then, Effect, Variable, Parts, no_effect, IsState, WellRanged, SettledExists, InitialExists, IsBasic, IsOnLayer, default_of, IsLayered, IsSettledAt, SameBasic, OnlyForced, HasFired, Changes, SameOff, AtDefault, equal_places}
 use Rattle.sas_meaning.proofs.Layers.{layer_decides, layer_cases, on_layer_within}
 use Rattle.sas_meaning.proofs.Forced.{Fired, fired_there, state_set}
 use Rattle.sas_meaning.proofs.Facts.{hold_or_not}
 use Rattle.sas_meaning.proofs.Settling.{forced_at_default, settled_when_fired, basic_off, default_off, settled_off, all_settled}
 
-changes_or_fired : (t : Parts) (layer : ℕ) (s : List ℕ) (rule : Rule) → Changes t layer s rule ⊎ HasFired t layer s rule
+changes_or_fired : (t : Parts) (layer : ℕ) (s : List ℕ) (rule : Effect) → Changes t layer s rule ⊎ HasFired t layer s rule
 changes_or_fired t layer s rule = elim (layer_decides t layer rule.var) [
   | inr a ↦ inr (λ on can hold. absurd (a.0 on))
   | inl a ↦ elim (cases_eq rule.new (default_of t rule.var)) [
@@ -20,10 +20,7 @@ changes_or_fired t layer s rule = elim (layer_decides t layer rule.var) [
   ]
 ]
 
-no_rule : Rule
-no_rule = record { conditions = []; var = 0; old = None; new = 0 }
-
-search_rules : (t : Parts) (layer : ℕ) (s : List ℕ) (d : Rule) (n : ℕ) → n ≤ length t.rules
+search_rules : (t : Parts) (layer : ℕ) (s : List ℕ) (d : Effect) (n : ℕ) → n ≤ length t.rules
     → ((k : ℕ) × (k < length t.rules) × Changes t layer s (get_or t.rules k d)) ⊎ ((k : ℕ) → k < n → HasFired t layer s (get_or t.rules k d))
 search_rules t layer s d zero le = inr (λ k lt. absurd (omega arith))
 search_rules t layer s d (suc n) le = elim (search_rules t layer s d n (omega arith)) [
@@ -44,27 +41,27 @@ module _ (t : Parts) (ranged : WellRanged t) (layered : IsLayered t) where
     off : SameOff t layer s result
     settled : IsSettledAt t layer result
 
-  finished : (layer : ℕ) (s : List ℕ) → IsState t.variables s → OnlyForced t layer s → ((k : ℕ) → k < length t.rules → HasFired t layer s (get_or t.rules k no_rule)) → Fixed layer s
+  finished : (layer : ℕ) (s : List ℕ) → IsState t.variables s → OnlyForced t layer s → ((k : ℕ) → k < length t.rules → HasFired t layer s (get_or t.rules k no_effect)) → Fixed layer s
   finished layer s state forced done = record {
     result = s;
     state = state;
     off = λ v _. refl;
-    settled = settled_when_fired t layer s forced (λ k d lt. subst (λ (r : Rule). HasFired t layer s r) (get_or_default t.rules k no_rule d lt) (done k lt));
+    settled = settled_when_fired t layer s forced (λ k d lt. subst (λ (r : Effect). HasFired t layer s r) (get_or_default t.rules k no_effect d lt) (done k lt));
   }
 
   settle_at : (fuel layer : ℕ) (s : List ℕ) → IsState t.variables s → OnlyForced t layer s → equal_places s t.init ≤ fuel → Fixed layer s
-  settle_at zero layer s state forced le = elim (search_rules t layer s no_rule (length t.rules) (omega arith)) [
-    | inl w ↦ (let f = (fired_there t layer s w.0 no_rule ranged layered state forced w.1 w.2).fewer in absurd (omega arith))
+  settle_at zero layer s state forced le = elim (search_rules t layer s no_effect (length t.rules) (omega arith)) [
+    | inl w ↦ (let f = (fired_there t layer s w.0 no_effect ranged layered state forced w.1 w.2).fewer in absurd (omega arith))
     | inr done ↦ finished layer s state forced done
   ]
-  settle_at (suc n) layer s state forced le = elim (search_rules t layer s no_rule (length t.rules) (omega arith)) [
-    | inl w ↦ again (settle_at n layer) w.0 (fired_there t layer s w.0 no_rule ranged layered state forced w.1 w.2)
+  settle_at (suc n) layer s state forced le = elim (search_rules t layer s no_effect (length t.rules) (omega arith)) [
+    | inl w ↦ again (settle_at n layer) w.0 (fired_there t layer s w.0 no_effect ranged layered state forced w.1 w.2)
     | inr done ↦ finished layer s state forced done
   ]
     where
-      again : ((s' : List ℕ) → IsState t.variables s' → OnlyForced t layer s' → equal_places s' t.init ≤ n → Fixed layer s') → (k : ℕ) → Fired t layer s (get_or t.rules k no_rule) → Fixed layer s
+      again : ((s' : List ℕ) → IsState t.variables s' → OnlyForced t layer s' → equal_places s' t.init ≤ n → Fixed layer s') → (k : ℕ) → Fired t layer s (get_or t.rules k no_effect) → Fixed layer s
       again rest k f = let fewer = f.fewer in
-          let r = rest (set s (get_or t.rules k no_rule).var (get_or t.rules k no_rule).new) f.state f.forced (omega arith) in
+          let r = rest (set s (get_or t.rules k no_effect).var (get_or t.rules k no_effect).new) f.state f.forced (omega arith) in
           record { result = r.result; state = r.state; off = λ v off. f.off v off ∙ r.off v off; settled = r.settled }
 
   record Below (s : List ℕ) (n : ℕ) : Type 0 where

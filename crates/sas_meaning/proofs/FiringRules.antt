@@ -1,5 +1,5 @@
 -- A rule that can fire: the tests of it by what is known of the rules before it, and which of its checks is the first to fail.
-use Rattle.sas_meaning.proofs.Imports.{◌≡◌, ◌∙◌, ℕ, ◌+◌, ◌<◌, ◌==◌, Bool, true, false, List, ◌++◌, length, take, slice_index, slice_index_or, slice_set, Option, Some, None, refl, sym, ap, subst, arith, option_map_or, Change, Rule, Parts, Check, first_fault, check, rule_at, rule_change, RuleFits, WellRanged, fails_before, decides_after, holds_at, LayerFault, OldValue, TwoValues, LayerOrder, CanFire, default_of, numbered_checks, agrees_with, looks_down, firing_checks, NewValues}
+use Rattle.sas_meaning.proofs.Imports.{◌≡◌, ◌∙◌, ℕ, ◌+◌, ◌<◌, ◌==◌, Bool, true, false, List, ◌++◌, length, take, slice_index, slice_index_or, slice_set, Option, Some, None, refl, sym, ap, subst, arith, option_map_or, Change, Effect, Parts, Check, first_fault, check, rule_at, change_of, WellRanged, fails_before, decides_after, rule_fits, LayerFault, OldValue, TwoValues, LayerOrder, CanFire, default_of, numbered_checks, agrees_with, looks_down, firing_checks, NewValues}
 use Rattle.sas_meaning.proofs.Forced.{fact_within}
 use Rattle.sas_meaning.proofs.NumberedChecks.{same_check}
 use Rattle.sas_meaning.proofs.KnownValues.{agrees_by_value, known_behind}
@@ -9,16 +9,15 @@ passed true e none = refl
 passed false e none = absurd (cc)
 
 -- the checks of the conditions of a rule
-abbrev pub condition_checks : Parts → ℕ → Rule → List (Check LayerFault)
+abbrev pub condition_checks : Parts → ℕ → Effect → List (Check LayerFault)
 condition_checks p place rule =
     numbered_checks (λ condition c. check (looks_down p rule.var c) (LayerOrder place condition)) rule.conditions
 
 -- the rule at a place, and what it changes
-module _ (p : Parts) (place : ℕ) (change : Change) (is : change ≡ rule_change (rule_at p place)) (below : place < length p.rules) where
+module _ (p : Parts) (place : ℕ) (change : Change) (is : change ≡ change_of (rule_at p place)) (below : place < length p.rules) where
   pub var_exists : WellRanged p → change.var < length p.variables
   var_exists ranged =
-      let fits : RuleFits p.variables (rule_at p place) = holds_at (RuleFits p.variables) _ p.rules ranged.rules.each place below in
-      let its = fact_within p (rule_at p place).var (rule_at p place).new fits.new in
+      let its = fact_within p (rule_at p place).var (rule_at p place).new (rule_fits p ranged place below).new in
       let same = ap (λ (c : Change). c.var) is in
       omega arith
 

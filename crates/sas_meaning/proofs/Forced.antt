@@ -1,5 +1,5 @@
 -- When one rule fires, all variables that differ from their default are still forced.
-use Rattle.sas_meaning.proofs.Imports.{◌≡◌, ◌≢◌, ℕ, zero, suc, ◌<◌, Bool, true, cond, List, [], ◌∷◌, length, get_or, set, sym, ◌∙◌, ap, subst, inl, inr, arith, cases_eq, eqb_tells, get_or-set_same, get_or-set_other, length-set, slice_get, option_map_or, Fact, Variable, Rule, Parts, rule_at, range_of, HasValue, FactExists, IsState, WellRanged, RuleFits, holds_at, AllHold, IsOnLayer, default_of, CanFire, LooksDown, IsLayered, new_value_of, value_with, IsClosed, differs, OnlyForced, HasFired, Changes, SameOff, equal_places}
+use Rattle.sas_meaning.proofs.Imports.{◌≡◌, ◌≢◌, ℕ, zero, suc, ◌<◌, Bool, true, cond, List, [], ◌∷◌, length, get_or, set, sym, ◌∙◌, ap, subst, inl, inr, arith, cases_eq, eqb_tells, get_or-set_same, get_or-set_other, length-set, slice_get, option_map_or, Fact, Variable, Effect, Parts, rule_at, range_of, HasValue, FactExists, IsState, WellRanged, EffectFits, holds_at, rule_fits, AllHold, IsOnLayer, default_of, CanFire, LooksDown, IsLayered, new_value_of, value_with, IsClosed, differs, OnlyForced, HasFired, Changes, SameOff, equal_places}
 use Rattle.sas_meaning.proofs.Layers.{AgreeBelow, agree_sym, closed_agrees, layer_decides, given_on, given_off}
 use Rattle.sas_meaning.proofs.Rules.{new_value_is}
 use Rattle.sas_meaning.proofs.Unique.{differs_decides}
@@ -21,7 +21,7 @@ agree_off t layer s s' same = record {
   derived = λ v m lt on. same v (λ on'. let e = on in let f = on' in let g : m ≡ layer = cc in omega arith);
 }
 
-module _ (t : Parts) (layer : ℕ) (layered : IsLayered t) (k : ℕ) (d : Rule) (lt : k < length t.rules) where
+module _ (t : Parts) (layer : ℕ) (layered : IsLayered t) (k : ℕ) (d : Effect) (lt : k < length t.rules) where
   -- a condition that holds where all is forced holds under each closed set
   condition_given : (s : List ℕ) (set : ℕ → Bool) (c : Fact) → OnlyForced t layer s → IsClosed t layer s set
       → IsOnLayer t layer (get_or t.rules k d).var → LooksDown t (get_or t.rules k d).var c
@@ -68,7 +68,7 @@ module _ (t : Parts) (layer : ℕ) (layered : IsLayered t) (k : ℕ) (d : Rule) 
                 (agree_sym t layer s (set s (get_or t.rules k d).var (get_or t.rules k d).new) (agree_off t layer s (set s (get_or t.rules k d).var (get_or t.rules k d).new) (fired_off on))) closed'
 
 -- where every rule has fired, the variables that differ are a closed set
-pub closed_when_fired : (t : Parts) (layer : ℕ) (s : List ℕ) → OnlyForced t layer s → ((k : ℕ) (d : Rule) → k < length t.rules → HasFired t layer s (get_or t.rules k d))
+pub closed_when_fired : (t : Parts) (layer : ℕ) (s : List ℕ) → OnlyForced t layer s → ((k : ℕ) (d : Effect) → k < length t.rules → HasFired t layer s (get_or t.rules k d))
     → IsClosed t layer s (differs t s)
 closed_when_fired t layer s forced done k d lt on fire hold =
     differs_true t s (get_or t.rules k d).var (λ e. fire (sym (done k d lt on fire (λ j f lt'. sym (is_value (get_or (get_or t.rules k d).conditions j f).var) ∙ hold j f lt')) ∙ e))
@@ -113,26 +113,25 @@ fact_within t v x fits = within t.variables v x fits
     within (y ∷ ys) (suc v) x fits = let ih = within ys v x fits in omega arith
 
 -- a rule's variable has its new value
-pub rule_new : (t : Parts) → WellRanged t → (k : ℕ) (d : Rule) → k < length t.rules → HasValue t.variables (get_or t.rules k d).var (get_or t.rules k d).new
-rule_new t ranged k d lt = (holds_at (RuleFits t.variables) d t.rules ranged.rules.each k lt).new
+pub rule_new : (t : Parts) → WellRanged t → (k : ℕ) (d : Effect) → k < length t.rules → HasValue t.variables (get_or t.rules k d).var (get_or t.rules k d).new
+rule_new t ranged k d lt = (holds_at (EffectFits t.variables) d t.rules ranged.rules.each k lt).new
 
 -- a rule's condition is on a variable of the task
 pub condition_within : (t : Parts) (k j : ℕ) (c : Fact) → WellRanged t → k < length t.rules → j < length (rule_at t k).conditions
     → (get_or (rule_at t k).conditions j c).var < length t.variables
 condition_within t k j c ranged lt lt' =
-    let fits : RuleFits t.variables (rule_at t k) = holds_at (RuleFits t.variables) _ t.rules ranged.rules.each k lt in
     fact_within t (get_or (rule_at t k).conditions j c).var (get_or (rule_at t k).conditions j c).value
-    (holds_at (FactExists t.variables) c (rule_at t k).conditions fits.conditions.each j lt')
+    (holds_at (FactExists t.variables) c (rule_at t k).conditions (rule_fits t ranged k lt).conditions.each j lt')
 
 -- what one rule of the task changes
-pub record Fired (t : Parts) (layer : ℕ) (s : List ℕ) (rule : Rule) : Type 0 where
+pub record Fired (t : Parts) (layer : ℕ) (s : List ℕ) (rule : Effect) : Type 0 where
   pub default : get_or s rule.var 0 ≡ default_of t rule.var
   pub state : IsState t.variables (set s rule.var rule.new)
   pub forced : OnlyForced t layer (set s rule.var rule.new)
   pub off : SameOff t layer s (set s rule.var rule.new)
   pub fewer : equal_places (set s rule.var rule.new) t.init < equal_places s t.init
 
-pub fired_there : (t : Parts) (layer : ℕ) (s : List ℕ) (k : ℕ) (d : Rule) → WellRanged t → IsLayered t → IsState t.variables s → OnlyForced t layer s
+pub fired_there : (t : Parts) (layer : ℕ) (s : List ℕ) (k : ℕ) (d : Effect) → WellRanged t → IsLayered t → IsState t.variables s → OnlyForced t layer s
     → k < length t.rules → Changes t layer s (get_or t.rules k d) → Fired t layer s (get_or t.rules k d)
 fired_there t layer s k d ranged layered state forced lt ch = record {
   default = default;

@@ -14,19 +14,19 @@ pub use Rattle.std.specs.List.{All, Contains, slice_get, enumerate_from, AllPair
 pub use Rattle.std.specs.Option.{option_and_then, option_map_or, is_some}
 pub use Rattle.std.specs.Result.{result_err, IfOk}
 pub use Rattle.sas_core.proofs.FirstFaults.{fails_before, decides_after}
+pub use Rattle.sas_core.proofs.Fitting.{rule_fits}
 pub use Rattle.sas_core.proofs.Passing.{Pass, by_test, split_row, join_row, and_then}
 pub use Rattle.sas_core.proofs.Places.{holds_at}
-pub use Rattle.sas_core.specs.Changes.{rule_change, effect_change}
+pub use Rattle.sas_core.specs.Changes.{change_of}
 pub use Rattle.sas_core.specs.FirstFault.{Check, first_fault, check}
-pub use Rattle.sas_core.specs.Grounded.{rule_at, operator_at, effect_at}
+pub use Rattle.sas_core.specs.Grounded.{no_effect, rule_at, operator_at, effect_at}
 pub use Rattle.sas_core.specs.Variables.{IsDerived, layer_of, IsState, range_of, HasValue, FactExists}
-pub use Rattle.sas_core.specs.WellRanged.{WellRanged, RuleFits}
+pub use Rattle.sas_core.specs.WellRanged.{WellRanged, EffectFits}
 pub use Rattle.sas_core.specs.declared.grounded.Change.{Change}
 pub use Rattle.sas_core.specs.declared.parts.Effect.{Effect}
 pub use Rattle.sas_core.specs.declared.parts.Fact.{Fact}
 pub use Rattle.sas_core.specs.declared.parts.Operator.{Operator}
 pub use Rattle.sas_core.specs.declared.parts.Parts.{Parts}
-pub use Rattle.sas_core.specs.declared.parts.Rule.{Rule}
 pub use Rattle.sas_core.specs.declared.parts.Variable.{Variable}
 pub use Rattle.sas_meaning.specs.DerivedVariables.{AreDerived}
 pub use Rattle.sas_meaning.specs.Following.{HaveGone}

@@ -1,6 +1,6 @@
 -- The stored new values of the rules before an index: whether the rule at the index agrees with
 -- them, and what is stored after it.
-use Rattle.sas_meaning.proofs.Imports.{◌≡◌, ◌≢◌, ℕ, ◌+◌, ◌<◌, ◌≤◌, ◌⊎◌, inl, inr, ◌==◌, Bool, true, false, List, length, take, slice_index_or, slice_set, Option, Some, None, refl, sym, ap, ◌∙◌, arith, eqb-true, eq-eqb, below_more, false_from_ne_true, option_map_or, Rule, Parts, rule_at, CanFire, agrees_with, IsGiverBefore, NewValues}
+use Rattle.sas_meaning.proofs.Imports.{◌≡◌, ◌≢◌, ℕ, ◌+◌, ◌<◌, ◌≤◌, ◌⊎◌, inl, inr, ◌==◌, Bool, true, false, List, length, take, slice_index_or, slice_set, Option, Some, None, refl, sym, ap, ◌∙◌, arith, eqb-true, eq-eqb, below_more, false_from_ne_true, option_map_or, Effect, Parts, rule_at, CanFire, agrees_with, IsGiverBefore, NewValues}
 use Rattle.std.proofs.Common.{length-set, get_or-set_same, get_or-set_other}
 use Rattle.sas_meaning.proofs.RuleTests.{agrees_with_earlier}
 
@@ -14,7 +14,7 @@ module _ (p : Parts) (place : ℕ) (values : List (Option ℕ)) (known : NewValu
   value_of var value is k before can same =
       sym (known.all k before can) ∙ ap (λ v. slice_index_or values v None) same ∙ is
 
-  module _ (rule : Rule) (within : place ≤ length p.rules) where
+  module _ (rule : Effect) (within : place ≤ length p.rules) where
     -- the value that is known is the rule's
     all_same : (value : ℕ) → slice_index_or values rule.var None ≡ Some value → (value == rule.new) ≡ true → (k : ℕ) → k < place → CanFire p (rule_at p k) → (rule_at p k).var ≡ rule.var → (rule_at p k).new ≡ rule.new
     all_same value is same k before can at =

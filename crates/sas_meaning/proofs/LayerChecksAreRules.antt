@@ -1,5 +1,5 @@
 -- All layer checks pass if and only if the task is layered: each check is equivalent to its rule.
-use Rattle.sas_meaning.proofs.Imports.{◌≡◌, ℕ, zero, suc, ◌+◌, ◌<◌, ◌≤◌, ◌==◌, ◌↔◌, Bool, true, false, nat_lt, nat_le, if◌then◌else◌, List, [], ◌∷◌, ◌++◌, length, take, flat_map, get_or, ◌⊎◌, inl, inr, not, Option, Some, None, refl, sym, ap, ◌∙◌, subst, arith, eqb-true, eq-eqb, ltb-true, lt-ltb, leb-true, le-leb, get_or_default, cases_lt, enumerate_from, option_map_or, is_some, Effect, Operator, LayerFault, EffectOnDerived, RuleOnBasic, OldValue, TwoValues, LayerOrder, IsBasic, default_of, CanFire, can_fire, LooksDown, IsLayeredRule, IsLayered, numbered_checks, effect_layer_checks, operator_layer_checks, agrees_with, looks_down, firing_checks, rule_layer_checks, layer_checks, LayerChecksAreTheRules, Rule, Parts, Pass, by_test, split_row, join_row, and_then, Check, first_fault, check, rule_at, layer_of, IsDerived}
+use Rattle.sas_meaning.proofs.Imports.{◌≡◌, ℕ, zero, suc, ◌+◌, ◌<◌, ◌≤◌, ◌==◌, ◌↔◌, Bool, true, false, nat_lt, nat_le, if◌then◌else◌, List, [], ◌∷◌, ◌++◌, length, take, flat_map, get_or, ◌⊎◌, inl, inr, not, Option, Some, None, refl, sym, ap, ◌∙◌, subst, arith, eqb-true, eq-eqb, ltb-true, lt-ltb, leb-true, le-leb, get_or_default, cases_lt, enumerate_from, option_map_or, is_some, Effect, Operator, LayerFault, EffectOnDerived, RuleOnBasic, OldValue, TwoValues, LayerOrder, IsBasic, default_of, CanFire, can_fire, LooksDown, IsLayeredRule, IsLayered, numbered_checks, effect_layer_checks, operator_layer_checks, agrees_with, looks_down, firing_checks, rule_layer_checks, layer_checks, LayerChecksAreTheRules, Parts, Pass, by_test, split_row, join_row, and_then, Check, first_fault, check, rule_at, layer_of, IsDerived}
 use Rattle.std.proofs.Common.{All}
 use Rattle.sas_meaning.proofs.RuleTests.{fires, agrees_with_earlier}
 
@@ -99,16 +99,16 @@ down_is (Some here) (Some its) value default = (
 )
 
 module _ (p : Parts) where
-  conditions_follow : (place : ℕ) (rule : Rule) → Pass (numbered_checks (λ condition c. check (looks_down p rule.var c) (LayerOrder place condition)) rule.conditions) ↔ All (LooksDown p rule.var) rule.conditions
+  conditions_follow : (place : ℕ) (rule : Effect) → Pass (numbered_checks (λ condition c. check (looks_down p rule.var c) (LayerOrder place condition)) rule.conditions) ↔ All (LooksDown p rule.var) rule.conditions
   conditions_follow place rule =
       all_follow (λ condition c. check (looks_down p rule.var c) (LayerOrder place condition)) (LooksDown p rule.var) rule.conditions (λ condition c. by_test (looks_down p rule.var c) (LayerOrder place condition) (LooksDown p rule.var c) (down_is (layer_of p.variables rule.var) (layer_of p.variables c.var) c.value (default_of p c.var)))
 
   -- what the checks of a rule that can fire say of it
-  abbrev Firing : ℕ → Rule → Type 0
+  abbrev Firing : ℕ → Effect → Type 0
   Firing place rule =
       (((value : ℕ) → rule.old ≡ Some value → value ≡ default_of p rule.var) × ((k : ℕ) → k < place → CanFire p (rule_at p k) → (rule_at p k).var ≡ rule.var → (rule_at p k).new ≡ rule.new)) × All (LooksDown p rule.var) rule.conditions
 
-  firing_follows : (place : ℕ) (rule : Rule) → place ≤ length p.rules → Pass (firing_checks p place rule) ↔ Firing place rule
+  firing_follows : (place : ℕ) (rule : Effect) → place ≤ length p.rules → Pass (firing_checks p place rule) ↔ Firing place rule
   firing_follows place rule within =
       let test_of_old = option_map_or (λ old. old == default_of p rule.var) rule.old true in
       let old = by_test test_of_old (OldValue place) _ (old_is rule.old (default_of p rule.var)) in
@@ -117,14 +117,14 @@ module _ (p : Parts) where
       let both = and_then (check test_of_old (OldValue place)) (check test_of_others (TwoValues place)) _ _ old others in
       and_then (check test_of_old (OldValue place) ++ check test_of_others (TwoValues place)) _ _ _ both (conditions_follow place rule)
 
-  rule_follows : (place : ℕ) (rule : Rule) → place ≤ length p.rules → Pass (rule_layer_checks p place rule) ↔ (IsDerived p.variables rule.var × (CanFire p rule → Firing place rule))
+  rule_follows : (place : ℕ) (rule : Effect) → place ≤ length p.rules → Pass (rule_layer_checks p place rule) ↔ (IsDerived p.variables rule.var × (CanFire p rule → Firing place rule))
   rule_follows place rule within =
       let derived = by_test (is_some (layer_of p.variables rule.var)) (RuleOnBasic place) (IsDerived p.variables rule.var) (λ is. is, λ is. is) in
       let firing = where_so (can_fire p rule) (firing_checks p place rule) _ _ (fires p rule) (firing_follows place rule within) in
       and_then (check (is_some (layer_of p.variables rule.var)) (RuleOnBasic place)) (if can_fire p rule then firing_checks p place rule else []) _ _ derived firing
 
   -- each rule, read as a task says it
-  each_rule : (P : Rule → Type 0) → ((place : ℕ) → place < length p.rules → P (rule_at p place)) → All P p.rules
+  each_rule : (P : Effect → Type 0) → ((place : ℕ) → place < length p.rules → P (rule_at p place)) → All P p.rules
   each_rule P each place d below = subst P (get_or_default p.rules place _ d below) (each place below)
 
   abbrev Followed : Type 0
@@ -135,7 +135,7 @@ module _ (p : Parts) where
     λ pass place below.
         (rule_follows place (rule_at p place) (omega arith)).0 ((numbered_pass (rule_layer_checks p) p.rules).0 pass place _ below),
     λ each. (numbered_pass (rule_layer_checks p) p.rules).1 (λ place d below.
-        (rule_follows place (get_or p.rules place d) (omega arith)).1 (subst (λ (rule : Rule). IsDerived p.variables rule.var × (CanFire p rule → Firing place rule)) (get_or_default p.rules place _ d below) (each place below))),
+        (rule_follows place (get_or p.rules place d) (omega arith)).1 (subst (λ (rule : Effect). IsDerived p.variables rule.var × (CanFire p rule → Firing place rule)) (get_or_default p.rules place _ d below) (each place below))),
   )
 
   -- two rules of a variable that can fire, of which one is before the other
@@ -152,7 +152,7 @@ module _ (p : Parts) where
       let firing = (each place below).1 can in
       record {
         old = firing.0.0;
-        one_value = each_rule (λ (other : Rule). CanFire p other → other.var ≡ (rule_at p place).var → other.new ≡ (rule_at p place).new) (λ k k_below k_can same. one_value each place below can k k_below k_can same (order k place));
+        one_value = each_rule (λ (other : Effect). CanFire p other → other.var ≡ (rule_at p place).var → other.new ≡ (rule_at p place).new) (λ k k_below k_can same. one_value each place below can k k_below k_can same (order k place));
         order = firing.1;
       }
 
@@ -164,8 +164,8 @@ module _ (p : Parts) where
             let q = both.0 pass in
             record {
               effects = q.0;
-              derived = each_rule (λ (rule : Rule). IsDerived p.variables rule.var) (λ place below. (q.1 place below).0);
-              rules = each_rule (λ (rule : Rule). CanFire p rule → IsLayeredRule p rule) (layered_rule q.1);
+              derived = each_rule (λ (rule : Effect). IsDerived p.variables rule.var) (λ place below. (q.1 place below).0);
+              rules = each_rule (λ (rule : Effect). CanFire p rule → IsLayeredRule p rule) (layered_rule q.1);
             },
         λ layered. both.1 (
           layered.effects,

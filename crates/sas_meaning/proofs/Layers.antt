@@ -1,5 +1,5 @@
 -- Which variables the conditions of a layer's rules may mention.
-use Rattle.sas_meaning.proofs.Imports.{◌≡◌, ◌≢◌, ℕ, zero, suc, ◌<◌, ◌≤◌, ◌==◌, ◌⊎◌, Bool, true, false, cond, List, [], ◌∷◌, length, get_or, Option, None, Some, refl, sym, ◌∙◌, ap, subst, inl, inr, arith, eqb_tells, slice_get, option_map_or, option_and_then, Variable, Fact, Rule, Parts, layer_of, IsBasic, IsOnLayer, default_of, LooksDown, IsLayered, is_on_layer, new_value_of, value_with, IsClosed, SameBasic}
+use Rattle.sas_meaning.proofs.Imports.{◌≡◌, ◌≢◌, ℕ, zero, suc, ◌<◌, ◌≤◌, ◌==◌, ◌⊎◌, Bool, true, false, cond, List, [], ◌∷◌, length, get_or, Option, None, Some, refl, sym, ◌∙◌, ap, subst, inl, inr, arith, eqb_tells, slice_get, option_map_or, option_and_then, Variable, Fact, Effect, Parts, layer_of, IsBasic, IsOnLayer, default_of, LooksDown, IsLayered, is_on_layer, new_value_of, value_with, IsClosed, SameBasic}
 
 -- a variable is on the layer or off it, and the test shows which
 option_shows : (o : Option ℕ) (layer : ℕ) → ((o ≡ Some layer) × (option_map_or (λ m. m == layer) o false ≡ true)) ⊎ ((o ≢ Some layer) × (option_map_or (λ m. m == layer) o false ≡ false))
@@ -33,12 +33,12 @@ pub record AgreeBelow (t : Parts) (n : ℕ) (s s' : List ℕ) : Type 0 where
   pub derived : (v m : ℕ) → m < n → IsOnLayer t m v → get_or s v 0 ≡ get_or s' v 0
 
 -- a condition of a rule on the layer is not above it
-pub looks_down : (t : Parts) (rule : Rule) (c : Fact) (below here : ℕ) → LooksDown t rule.var c → IsOnLayer t below c.var → IsOnLayer t here rule.var → below ≤ here
+pub looks_down : (t : Parts) (rule : Effect) (c : Fact) (below here : ℕ) → LooksDown t rule.var c → IsOnLayer t below c.var → IsOnLayer t here rule.var → below ≤ here
 looks_down t rule c below here h b r = (h here below r b).0
 
 -- what a set gives to the conditions of a rule on the layer depends on the basic variables and the
 -- layers below alone
-given_agrees : (t : Parts) (layer : ℕ) (s s' : List ℕ) (set : ℕ → Bool) (rule : Rule) (c : Fact) → AgreeBelow t layer s s' → IsOnLayer t layer rule.var → LooksDown t rule.var c
+given_agrees : (t : Parts) (layer : ℕ) (s s' : List ℕ) (set : ℕ → Bool) (rule : Effect) (c : Fact) → AgreeBelow t layer s s' → IsOnLayer t layer rule.var → LooksDown t rule.var c
     → value_with t layer s set c.var ≡ value_with t layer s' set c.var
 given_agrees t layer s s' set rule c agree on down = elim (layer_decides t layer c.var) [
   | inl w ↦ given_on t layer s set c.var w.0 ∙ sym (given_on t layer s' set c.var w.0)

@@ -1,5 +1,5 @@
 -- The new value of the rules of a variable.
-use Rattle.sas_meaning.proofs.Imports.{◌≡◌, ℕ, zero, suc, ◌<◌, ◌==◌, ◌&&◌, Bool, true, false, List, [], ◌∷◌, length, get_or, Option, Some, refl, sym, ◌∙◌, ap, subst, inl, inr, arith, cases_Bool, eqb_tells, find, option_map_or, Rule, Parts, default_of, CanFire, can_fire, IsLayered, new_value_of}
+use Rattle.sas_meaning.proofs.Imports.{◌≡◌, ℕ, zero, suc, ◌<◌, ◌==◌, ◌&&◌, Bool, true, false, List, [], ◌∷◌, length, get_or, Option, Some, refl, sym, ◌∙◌, ap, subst, inl, inr, arith, cases_Bool, eqb_tells, find, option_map_or, Effect, Parts, default_of, CanFire, can_fire, IsLayered, new_value_of}
 
 -- what `find` finds, where an element passes
 pub record Found {X : Type 0} (p : X → Bool) (xs : List X) (d : X) : Type 0 where
@@ -22,23 +22,23 @@ find_passing {X} p (x ∷ xs) (suc k) d lt e = elim (cases_Bool (p x)) [
     later n f = record { it = f.it; found = rw n f.found; passes = f.passes; place = suc f.place; within = let w = f.within in omega arith; there = f.there }
 
 -- in a layered task each rule that can fire has the new value of its variable's rules
-pub new_value_is : (t : Parts) (k : ℕ) (d : Rule) → IsLayered t → k < length t.rules → CanFire t (get_or t.rules k d)
+pub new_value_is : (t : Parts) (k : ℕ) (d : Effect) → IsLayered t → k < length t.rules → CanFire t (get_or t.rules k d)
     → new_value_of t (get_or t.rules k d).var ≡ (get_or t.rules k d).new
 new_value_is t k d layered lt fire = from (find_passing test t.rules k d lt (passes (get_or t.rules k d) refl fire))
   where
     v : ℕ
     v = (get_or t.rules k d).var
 
-    test : Rule → Bool
+    test : Effect → Bool
     test = λ rule. (rule.var == (get_or t.rules k d).var) && can_fire t rule
 
-    passes : (rule : Rule) → rule.var ≡ (get_or t.rules k d).var → CanFire t rule → test rule ≡ true
+    passes : (rule : Effect) → rule.var ≡ (get_or t.rules k d).var → CanFire t rule → test rule ≡ true
     passes rule e f = elim (eqb_tells rule.var (get_or t.rules k d).var) [
       | inl a ↦ elim (eqb_tells rule.new (default_of t rule.var)) [ inl b ↦ absurd (f b.1) | inr b ↦ rw (a.0, b.0) refl ]
       | inr a ↦ absurd (a.1 e)
     ]
 
-    covered : (rule : Rule) → test rule ≡ true → (rule.var ≡ (get_or t.rules k d).var) × CanFire t rule
+    covered : (rule : Effect) → test rule ≡ true → (rule.var ≡ (get_or t.rules k d).var) × CanFire t rule
     covered rule e = elim (eqb_tells rule.var (get_or t.rules k d).var) [
       | inl a ↦ elim (eqb_tells rule.new (default_of t rule.var)) [
         | inl b ↦ (let f = rw (a.0, b.0) at e in absurd (let g : false ≡ true = f in cc))
@@ -50,5 +50,5 @@ new_value_is t k d layered lt fire = from (find_passing test t.rules k d lt (pas
     from : Found test t.rules d → new_value_of t (get_or t.rules k d).var ≡ (get_or t.rules k d).new
     from f = let w = covered f.it f.passes in
         let e : (get_or t.rules f.place d).new ≡ (get_or t.rules k d).new =
-        (layered.rules k d lt fire).one_value f.place d f.within (subst (λ r. CanFire t r) (sym f.there) w.1) (ap (λ (r : Rule). r.var) f.there ∙ w.0) in
-        ap (λ (o : Option Rule). option_map_or (λ (r : Rule). r.new) o (default_of t (get_or t.rules k d).var)) f.found ∙ (sym (ap (λ (r : Rule). r.new) f.there) ∙ e)
+        (layered.rules k d lt fire).one_value f.place d f.within (subst (λ r. CanFire t r) (sym f.there) w.1) (ap (λ (r : Effect). r.var) f.there ∙ w.0) in
+        ap (λ (o : Option Effect). option_map_or (λ (r : Effect). r.new) o (default_of t (get_or t.rules k d).var)) f.found ∙ (sym (ap (λ (r : Effect). r.new) f.there) ∙ e)

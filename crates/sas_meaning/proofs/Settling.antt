@@ -1,5 +1,5 @@
 -- From a layer to all layers.
-use Rattle.sas_meaning.proofs.Imports.{◌≡◌, ◌≢◌, ℕ, suc, ◌+◌, ◌<◌, ◌≤◌, ◌==◌, Bool, true, not, cond, List, length, get_or, sym, ◌∙◌, ap, subst, inl, inr, arith, cases_eq, cases_lt, Rule, Parts, IsOnLayer, default_of, IsLayered, new_value_of, value_with, IsClosed, differs, IsSettledAt, IsSettled, SameBasic, OnlyForced, HasFired, SameOff, AtDefault, Occurs}
+use Rattle.sas_meaning.proofs.Imports.{◌≡◌, ◌≢◌, ℕ, suc, ◌+◌, ◌<◌, ◌≤◌, ◌==◌, Bool, true, not, cond, List, length, get_or, sym, ◌∙◌, ap, subst, inl, inr, arith, cases_eq, cases_lt, Effect, Parts, IsOnLayer, default_of, IsLayered, new_value_of, value_with, IsClosed, differs, IsSettledAt, IsSettled, SameBasic, OnlyForced, HasFired, SameOff, AtDefault, Occurs}
 use Rattle.sas_meaning.proofs.Layers.{AgreeBelow, agree_sym, closed_agrees, layer_decides, given_on, given_off}
 use Rattle.sas_meaning.proofs.Forced.{closed_when_fired, differs_not}
 
@@ -10,7 +10,7 @@ forced_at_default t layer s at = record {
   least = λ set closed v on d. absurd (differs_not t s v d (at v on));
 }
 
-pub settled_when_fired : (t : Parts) (layer : ℕ) (s : List ℕ) → OnlyForced t layer s → ((k : ℕ) (d : Rule) → k < length t.rules → HasFired t layer s (get_or t.rules k d)) → IsSettledAt t layer s
+pub settled_when_fired : (t : Parts) (layer : ℕ) (s : List ℕ) → OnlyForced t layer s → ((k : ℕ) (d : Effect) → k < length t.rules → HasFired t layer s (get_or t.rules k d)) → IsSettledAt t layer s
 settled_when_fired t layer s forced done = record { new = forced.new; closed = closed_when_fired t layer s forced done; least = forced.least }
 
 -- a layer without a variable is settled in every state

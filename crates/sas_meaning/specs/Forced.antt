@@ -1,6 +1,6 @@
 -- Intermediate states while the rules of a layer fire.
 use Rattle.std.specs.Prelude.{◌≡◌, ◌≢◌, ℕ, ◌+◌, ◌==◌, Bool, if◌then◌else◌, IsTrue, List, [], ◌∷◌, slice_index}
-use Rattle.sas_core.specs.declared.parts.Rule.{Rule}
+use Rattle.sas_core.specs.declared.parts.Effect.{Effect}
 use Rattle.sas_core.specs.declared.parts.Parts.{Parts}
 use Rattle.sas_meaning.specs.States.{AllHold}
 use Rattle.sas_meaning.specs.Layers.{IsOnLayer, default_of, CanFire}
@@ -21,12 +21,12 @@ equal_places (x ∷ xs) [] = 0
 equal_places (x ∷ xs) (y ∷ ys) = (if x == y then 1 else 0) + equal_places xs ys
 
 -- if the rule is on the layer and fires, its variable has its new value
-abbrev pub HasFired : Parts → ℕ → List ℕ → Rule → Type 0
+abbrev pub HasFired : Parts → ℕ → List ℕ → Effect → Type 0
 HasFired t layer s rule = IsOnLayer t layer rule.var → CanFire t rule
     → AllHold (slice_index s) rule.conditions → slice_index s rule.var ≡ rule.new
 
 -- the rule is on the layer and fires, and its variable doesn't have its new value yet
-pub record Changes (t : Parts) (layer : ℕ) (s : List ℕ) (rule : Rule) : Type 0 where
+pub record Changes (t : Parts) (layer : ℕ) (s : List ℕ) (rule : Effect) : Type 0 where
   pub on : IsOnLayer t layer rule.var
   pub can : CanFire t rule
   pub hold : AllHold (slice_index s) rule.conditions

@@ -6,7 +6,6 @@ use Rattle.std.specs.Option.{option_map_or}
 use Rattle.sas_core.specs.declared.parts.Fact.{Fact}
 use Rattle.sas_core.specs.declared.parts.Effect.{Effect}
 use Rattle.sas_core.specs.declared.parts.Operator.{Operator}
-use Rattle.sas_core.specs.declared.parts.Rule.{Rule}
 use Rattle.sas_core.specs.declared.parts.Parts.{Parts}
 use Rattle.sas_core.specs.FirstFault.{Check, first_fault, check}
 use Rattle.sas_core.specs.Variables.{layer_of}
@@ -32,9 +31,9 @@ operator_layer_checks p operator o = numbered_checks (effect_layer_checks p oper
 -- ---- rules
 
 -- whether all earlier rules of the same variable that can fire have the same new value
-abbrev pub agrees_with : Parts → List Rule → Rule → Bool
+abbrev pub agrees_with : Parts → List Effect → Effect → Bool
 agrees_with p earlier rule =
-    list_all (λ (other : Rule). not ((other.var == rule.var) && can_fire p other)
+    list_all (λ (other : Effect). not ((other.var == rule.var) && can_fire p other)
     || (other.new == rule.new)) earlier
 
 -- whether a condition of a rule for variable `var` follows the order of layers
@@ -47,14 +46,14 @@ looks_down p var condition =
     (layer_of p.variables var) true
 
 -- the checks of a rule that can fire
-abbrev pub firing_checks : Parts → ℕ → Rule → List (Check LayerFault)
+abbrev pub firing_checks : Parts → ℕ → Effect → List (Check LayerFault)
 firing_checks p place rule =
     check (option_map_or (λ old. old == default_of p rule.var) rule.old true) (OldValue place)
     ++ check (agrees_with p (take place p.rules) rule) (TwoValues place)
     ++ numbered_checks (λ condition c. check (looks_down p rule.var c) (LayerOrder place condition))
     rule.conditions
 
-abbrev pub rule_layer_checks : Parts → ℕ → Rule → List (Check LayerFault)
+abbrev pub rule_layer_checks : Parts → ℕ → Effect → List (Check LayerFault)
 rule_layer_checks p place rule =
     check (is_some (layer_of p.variables rule.var)) (RuleOnBasic place)
     ++ (if can_fire p rule then firing_checks p place rule else [])

@@ -4,7 +4,6 @@ use Rattle.std.specs.Prelude.{◌≡◌, ◌≢◌, ℕ, ◌<◌, ◌≤◌, ◌
 use Rattle.sas_core.specs.declared.parts.Fact.{Fact}
 use Rattle.sas_core.specs.declared.parts.Effect.{Effect}
 use Rattle.sas_core.specs.declared.parts.Operator.{Operator}
-use Rattle.sas_core.specs.declared.parts.Rule.{Rule}
 use Rattle.sas_core.specs.declared.parts.Parts.{Parts}
 use Rattle.sas_core.specs.Variables.{layer_of, IsDerived}
 
@@ -22,10 +21,10 @@ default_of p var = slice_index p.init var
 
 -- a rule can fire if its new value isn't the default of its variable; a rule that sets the default
 -- has no effect
-abbrev pub CanFire : Parts → Rule → Type 0
+abbrev pub CanFire : Parts → Effect → Type 0
 CanFire p rule = rule.new ≢ default_of p rule.var
 
-abbrev pub can_fire : Parts → Rule → Bool
+abbrev pub can_fire : Parts → Effect → Bool
 can_fire p rule = not (rule.new == default_of p rule.var)
 
 -- If the condition is on a derived variable, the layer of that variable isn't higher than that of
@@ -36,11 +35,11 @@ LooksDown p var condition = (here there : ℕ) → IsOnLayer p here var
     → (there ≤ here) × (condition.value ≡ default_of p condition.var → there < here)
 
 -- the requirements for a rule that can fire
-pub record IsLayeredRule (p : Parts) (rule : Rule) : Type 0 where
+pub record IsLayeredRule (p : Parts) (rule : Effect) : Type 0 where
   -- its old value, if given, is the default
   pub old : (value : ℕ) → rule.old ≡ Some value → value ≡ default_of p rule.var
   -- all rules of its variable that can fire have the same new value
-  pub one_value : All (λ (other : Rule). CanFire p other → other.var ≡ rule.var
+  pub one_value : All (λ (other : Effect). CanFire p other → other.var ≡ rule.var
       → other.new ≡ rule.new) p.rules
   -- its conditions follow the order of layers
   pub order : All (LooksDown p rule.var) rule.conditions
@@ -49,6 +48,6 @@ pub record IsLayered (p : Parts) : Type 0 where
   -- no operator has an effect on a derived variable
   pub effects : All (λ (o : Operator). All (λ (e : Effect). IsBasic p e.var) o.effects) p.operators
   -- the variable of each rule is derived
-  pub derived : All (λ (rule : Rule). IsDerived p.variables rule.var) p.rules
+  pub derived : All (λ (rule : Effect). IsDerived p.variables rule.var) p.rules
   -- the rules that can fire meet the requirements
-  pub rules : All (λ (rule : Rule). CanFire p rule → IsLayeredRule p rule) p.rules
+  pub rules : All (λ (rule : Effect). CanFire p rule → IsLayeredRule p rule) p.rules

@@ -1,6 +1,6 @@
 -- The places of the items of a list that pass a test, such as of the rules of a variable.
 use Rattle.std.specs.Prelude.{ℕ, ◌+◌, ◌==◌, ◌&&◌, Bool, if◌then◌else◌, List, [], ◌∷◌}
-use Rattle.sas_core.specs.declared.parts.Rule.{Rule}
+use Rattle.sas_core.specs.declared.parts.Effect.{Effect}
 use Rattle.sas_core.specs.declared.parts.Parts.{Parts}
 use Rattle.sas_meaning.specs.Layers.{can_fire}
 
@@ -16,5 +16,5 @@ abbrev pub places : {A : Type 0} → (A → Bool) → List A → List ℕ
 places passes items = places_from 0 passes items
 
 -- whether a rule is one of the variable that can fire
-abbrev pub can_give : Parts → ℕ → Rule → Bool
+abbrev pub can_give : Parts → ℕ → Effect → Bool
 can_give p var rule = (rule.var == var) && can_fire p rule

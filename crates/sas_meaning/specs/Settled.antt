@@ -6,7 +6,7 @@
 -- each other: if no other rule derives b or c, both keep their defaults.
 use Rattle.std.specs.Prelude.{◌≡◌, ℕ, ◌==◌, ◌&&◌, Bool, false, not, if◌then◌else◌, IsTrue, List, All, slice_index, find}
 use Rattle.std.specs.Option.{option_map_or}
-use Rattle.sas_core.specs.declared.parts.Rule.{Rule}
+use Rattle.sas_core.specs.declared.parts.Effect.{Effect}
 use Rattle.sas_core.specs.declared.parts.Parts.{Parts}
 use Rattle.sas_core.specs.Variables.{layer_of, IsState}
 use Rattle.sas_meaning.specs.States.{AllHold}
@@ -19,8 +19,8 @@ is_on_layer p layer var = option_map_or (λ its. its == layer) (layer_of p.varia
 -- the new value of the variable's rules that can fire; in a layered task it is the same for all of
 -- them. If no rule can fire, the default.
 abbrev pub new_value_of : Parts → ℕ → ℕ
-new_value_of p var = option_map_or (λ (rule : Rule). rule.new)
-    (find (λ (rule : Rule). (rule.var == var) && can_fire p rule) p.rules) (default_of p var)
+new_value_of p var = option_map_or (λ (rule : Effect). rule.new)
+    (find (λ (rule : Effect). (rule.var == var) && can_fire p rule) p.rules) (default_of p var)
 
 -- The value of a variable, given the members of the layer: members have the new value of their
 -- rules, other variables of the layer have their default, and all other variables have their value
@@ -34,7 +34,7 @@ value_with p layer s members var =
 -- the members are closed under the rules of the layer: if a rule can fire and its conditions hold,
 -- given these members, then its variable is a member
 abbrev pub IsClosed : Parts → ℕ → List ℕ → (ℕ → Bool) → Type 0
-IsClosed p layer s members = All (λ (rule : Rule). IsOnLayer p layer rule.var → CanFire p rule
+IsClosed p layer s members = All (λ (rule : Effect). IsOnLayer p layer rule.var → CanFire p rule
     → AllHold (value_with p layer s members) rule.conditions → IsTrue (members rule.var)) p.rules
 
 -- whether the value of the variable isn't its default

@@ -4,7 +4,7 @@ ghost use Rattle.std.specs.Option.{option_map_or};
 ghost use Rattle.std.specs.Result.{result_err};
 ghost use Rattle.sas_core.specs.FirstFault.{first_fault, check};
 ghost use Rattle.sas_core.specs.Grounded.{operator_at, rule_at};
-ghost use Rattle.sas_core.specs.Changes.{rule_change};
+ghost use Rattle.sas_core.specs.Changes.{change_of};
 ghost use Rattle.sas_core.specs.WellRanged.{WellRanged};
 ghost use Rattle.sas_meaning.specs.LayerChecks as spec;
 ghost use Rattle.sas_meaning.specs.Layers.{CanFire};
@@ -108,7 +108,7 @@ fn check_firing_rule<T: Grounded>(
 ) -> Result<(), LayerFault>
     requires well_ranged { WellRanged (T.says task.now) }
     requires rule { rule < length (T.says task.now).rules }
-    requires change { change ≡ rule_change (rule_at (T.says task.now) rule) }
+    requires change { change ≡ change_of (rule_at (T.says task.now) rule) }
     requires can_fire { CanFire (T.says task.now) (rule_at (T.says task.now) rule) }
     requires known { NewValues (T.says task.now) rule new_values.old }
     ensures first { result_err result

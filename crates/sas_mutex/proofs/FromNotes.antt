@@ -1,5 +1,5 @@
 -- What the notes of facts that don't clash imply for another fact.
-use Rattle.sas_mutex.proofs.Imports.{◌≡◌, ◌≢◌, ◌⊎◌, ℕ, ◌<◌, Bool, [], length, get_or, List, ◌∷◌, ◌++◌, None, Some, subst, refl, sym, ap, ◌∙◌, inl, inr, append-nil, All, Any, Contains, cases_eq, get_or_default, Contains-append_left, Contains-append_right, Contains-append_cases, Contains-push, Contains-push_cases, Contains-get_or, Change, Fact, Effect, effect_change, Operator, Parts, effect_at, group_at, FactExists, EffectKeeps, AreGone, Marks, IsKept, EffectPlace, operator_of, effect_of, IsNotedAt, ShareOne, AreKnown, IsMet, RemovesByNotes, SomeRemoves, IsNotedFor, known_at, preconditions, Contradict, Clash, IsRemoved, IsIn, known, Index, Notes, IsGone, clash_more, group_of_larger, family_of, IsIndexOf, HasFact, groups_of, value_note, group_note, IsOfGroupBeside, HasOtherValue, HasNotedGroup, ShareKept, SharesApart, WellRanged, variable_below, a_note, apart_or_not, one_or_two, value_note_shows, no_value_note_shows, no_note_shows, some_note_shows, shared_turned}
+use Rattle.sas_mutex.proofs.Imports.{◌≡◌, ◌≢◌, ◌⊎◌, ℕ, ◌<◌, Bool, [], length, get_or, List, ◌∷◌, ◌++◌, None, Some, subst, refl, sym, ap, ◌∙◌, inl, inr, append-nil, All, Any, Contains, cases_eq, get_or_default, Contains-append_left, Contains-append_right, Contains-append_cases, Contains-push, Contains-push_cases, Contains-get_or, Change, Fact, Effect, change_of, Operator, Parts, effect_at, group_at, FactExists, EffectKeeps, AreGone, Marks, IsKept, EffectPlace, operator_of, effect_of, IsNotedAt, ShareOne, AreKnown, IsMet, RemovesByNotes, SomeRemoves, IsNotedFor, known_at, preconditions, Contradict, Clash, IsRemoved, IsIn, known, Index, Notes, IsGone, clash_more, group_of_larger, family_of, IsIndexOf, HasFact, groups_of, value_note, group_note, IsOfGroupBeside, HasOtherValue, HasNotedGroup, ShareKept, SharesApart, WellRanged, variable_below, a_note, apart_or_not, one_or_two, value_note_shows, no_value_note_shows, no_note_shows, some_note_shows, shared_turned, no_effect}
 use Rattle.sas_mutex.proofs.TaskFacts.{known_at_exist, conditions_exist}
 use Rattle.sas_mutex.proofs.KnownFacts.{contradict_turned, not_itself, shares_contradicts, contradicts_shares, share_one, share_kept}
 
@@ -9,7 +9,7 @@ IsFiring f index change = WellRanged f.task
     × IsIndexOf f.task index
     × (f.operator < length f.task.operators)
     × (f.effect < length (operator_of f).effects)
-    × (change ≡ effect_change (effect_of f))
+    × (change ≡ change_of (effect_of f))
 
 module _ (at : EffectPlace) (index : Index) {change : Change} (fits : IsFiring at index change) (kept : List Bool) (marks : Marks) (noted : IsNotedAt at kept marks)
     (fact : Fact) (exists : FactExists at.task.variables fact) where
@@ -180,7 +180,7 @@ module _ (at : EffectPlace) (index : Index) {change : Change} (fits : IsFiring a
   pub removes_is_removed : SomeRemoves o notes fact → IsRemoved o with fact
   removes_is_removed (effect, lt, removes) = record {
     effect = effect_at o effect;
-    among = Contains-get_or o.effects effect (record { conditions = []; var = 0; old = None; new = 0 }) lt;
+    among = Contains-get_or o.effects effect no_effect lt;
     fires = λ k d below. met_is_in (get_or (effect_at o effect).conditions k d) (conditions_there effect lt k d below) (removes.fires k d below);
     var = removes.var;
     other = removes.other;
@@ -189,7 +189,7 @@ module _ (at : EffectPlace) (index : Index) {change : Change} (fits : IsFiring a
   pub removed_is_removes : IsRemoved o with fact → SomeRemoves o notes fact
   removed_is_removes is =
       let (effect, lt, at) = is.among in
-      let same : effect_at o effect ≡ is.effect = get_or_default o.effects effect (record { conditions = []; var = 0; old = None; new = 0 }) is.effect lt ∙ at in (
+      let same : effect_at o effect ≡ is.effect = get_or_default o.effects effect no_effect is.effect lt ∙ at in (
         effect,
         lt,
         subst (λ (e : Effect). RemovesByNotes notes fact e) (sym same) (record {

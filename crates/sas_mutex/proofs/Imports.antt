@@ -14,8 +14,8 @@ pub use Rattle.sas_core.proofs.Fitting.{operator_fits, effect_fits}
 pub use Rattle.sas_core.proofs.PlainEffects.{as_many_effects, effect_is_plain}
 pub use Rattle.sas_meaning.proofs.Members.{contains_none}
 pub use Rattle.sas_core.proofs.Places.{holds_at, each_more}
-pub use Rattle.sas_core.specs.Changes.{effect_change, plain_effects}
-pub use Rattle.sas_core.specs.Grounded.{operator_at, effect_at, group_at}
+pub use Rattle.sas_core.specs.Changes.{change_of, fact_of, plain_effects}
+pub use Rattle.sas_core.specs.Grounded.{operator_at, effect_at, group_at, no_effect}
 pub use Rattle.sas_core.specs.Variables.{FactExists, MayHaveValue}
 pub use Rattle.sas_core.specs.WellRanged.{WellRanged, Listed, EffectFits}
 pub use Rattle.sas_core.specs.declared.grounded.Change.{Change}

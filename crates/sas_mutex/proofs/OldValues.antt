@@ -1,6 +1,6 @@
 -- If an effect requires an old value that is a fact of a group, no other fact of the group can have
 -- held before.
-use Rattle.sas_mutex.proofs.Imports.{◌≡◌, ℕ, ◌<◌, length, List, [], ◌++◌, Bool, Option, Some, subst, refl, sym, ap, ◌∙◌, arith, Contains, filter_map, option_to_list, Contains-append_left, Contains-append_right, Contains-get_or, Change, Fact, Effect, Operator, Parts, operator_at, effect_at, group_at, effect_change, WellRanged, old_fact, preconditions, IsIn, Index, AreGone, IsKept, family_of, IsIndexOf, groups_of, in_flat, given_is}
+use Rattle.sas_mutex.proofs.Imports.{◌≡◌, ℕ, ◌<◌, length, List, [], ◌++◌, Bool, Option, Some, subst, refl, sym, ap, ◌∙◌, arith, Contains, filter_map, option_to_list, Contains-append_left, Contains-append_right, Contains-get_or, Change, Fact, Effect, Operator, Parts, operator_at, effect_at, group_at, change_of, WellRanged, old_fact, preconditions, IsIn, Index, AreGone, IsKept, family_of, IsIndexOf, groups_of, in_flat, given_is}
 use Rattle.sas_mutex.proofs.TaskFacts.{known_at_exist}
 use Rattle.sas_mutex.proofs.FromNotes.{known_one_is_all}
 
@@ -16,7 +16,7 @@ required_is e value is = rw is refl
 
 pub old_one_is_all : (p : Parts) (index : Index) (operator effect place value : ℕ) (change : Change) → WellRanged p → IsIndexOf p index
     → operator < length p.operators → effect < length (operator_at p operator).effects
-    → change ≡ effect_change (effect_at (operator_at p operator) effect) → change.old ≡ Some value
+    → change ≡ change_of (effect_at (operator_at p operator) effect) → change.old ≡ Some value
     → Contains (groups_of index (record { var = change.var; value = value })) place
     → (kept : List Bool) → IsIn p (family_of kept) place
     → AreGone (IsKept p kept) (operator_at p operator) (group_at p place) (effect_at (operator_at p operator) effect)

@@ -1,12 +1,8 @@
 -- The facts that changes set exist, so the index contains their groups.
-use Rattle.sas_mutex.proofs.Imports.{◌≡◌, ℕ, ◌<◌, Bool, List, length, get_or, sym, ◌∙◌, ap, subst, Contains, ◌↔◌, get_or_default, Change, Fact, Parts, operator_at, effect_at, group_at, effect_change, FactExists, WellRanged, sets, Index, IsIndexOf, HasFact, groups_of, EffectPlace, operator_of, SetsBeside, NotBothAt, BothClashAt, effect_fits}
-
--- the fact that a change sets
-abbrev pub fact_of : Change → Fact
-fact_of change = record { var = change.var; value = change.new }
+use Rattle.sas_mutex.proofs.Imports.{◌≡◌, ℕ, ◌<◌, Bool, List, length, get_or, sym, ◌∙◌, ap, subst, Contains, ◌↔◌, get_or_default, Change, Parts, operator_at, effect_at, group_at, change_of, fact_of, FactExists, WellRanged, sets, Index, IsIndexOf, HasFact, groups_of, EffectPlace, operator_of, SetsBeside, NotBothAt, BothClashAt, effect_fits}
 
 module _ (p : Parts) (ranged : WellRanged p) (operator effect : ℕ) (exists : operator < length p.operators) (lt : effect < length (operator_at p operator).effects)
-    (change : Change) (is : change ≡ effect_change (effect_at (operator_at p operator) effect)) where
+    (change : Change) (is : change ≡ change_of (effect_at (operator_at p operator) effect)) where
   pub change_exists : FactExists p.variables (fact_of change)
   change_exists = subst (λ (c : Change). FactExists p.variables (fact_of c)) (sym is) (effect_fits p ranged operator exists effect lt).new
 
@@ -18,7 +14,7 @@ module _ (p : Parts) (ranged : WellRanged p) (operator effect : ℕ) (exists : o
 
 -- another effect with this change sets no fact of the group on another variable, or the effects
 -- can't fire together
-module _ (f : EffectPlace) (kept : List Bool) (group other : ℕ) (change : Change) (is : change ≡ effect_change (effect_at (operator_of f) other)) where
+module _ (f : EffectPlace) (kept : List Bool) (group other : ℕ) (change : Change) (is : change ≡ change_of (effect_at (operator_of f) other)) where
   pub not_beside : (SetsBeside f change group → ⊥) → NotBothAt f kept other group
   not_beside none has on_other = absurd (none (record {
     beside = λ same. on_other (same ∙ ap (λ (c : Change). c.var) is);

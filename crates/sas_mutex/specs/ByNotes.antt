@@ -5,6 +5,7 @@ use Rattle.sas_core.specs.declared.grounded.Change.{Change}
 use Rattle.sas_core.specs.declared.parts.Effect.{Effect}
 use Rattle.sas_core.specs.declared.parts.Operator.{Operator}
 use Rattle.sas_core.specs.declared.parts.Parts.{Parts}
+use Rattle.sas_core.specs.Changes.{fact_of}
 use Rattle.sas_core.specs.Grounded.{operator_at, effect_at, group_at}
 use Rattle.sas_groups.specs.Clashes.{Clash}
 use Rattle.sas_groups.specs.Lists.{known}
@@ -115,7 +116,7 @@ SharesBesideAt f kept fact apart = (known : Fact)
 -- the change sets a fact of the group on another variable than the effect
 pub record SetsBeside (f : EffectPlace) (change : Change) (place : ℕ) : Type 0 where
   pub beside : (effect_of f).var ≢ change.var
-  pub has : Contains (group_at f.task place) (record { var = change.var; value = change.new })
+  pub has : Contains (group_at f.task place) (fact_of change)
 
 abbrev pub NotBothAt : EffectPlace → List Bool → ℕ → ℕ → Type 0
 NotBothAt f kept other place = NotBoth (IsKept f.task kept) (operator_of f)

@@ -2,7 +2,7 @@
 ghost use Rattle.std.specs.Prelude.{◌≡◌, ◌<◌, ◌↔◌, ℕ, Bool, List, length, IsTrue, IsFalse, All, Contains};
 ghost use Rattle.std.specs.List.{Any};
 ghost use Rattle.sas_core.specs.Grounded.{operator_at, effect_at};
-ghost use Rattle.sas_core.specs.Changes.{plain_effects};
+ghost use Rattle.sas_core.specs.Changes.{fact_of, plain_effects};
 ghost use Rattle.sas_core.specs.Variables.{FactExists};
 ghost use Rattle.sas_groups.specs.Clashes.{sets};
 ghost use Rattle.sas_groups.specs.Families.{IsIn};
@@ -42,7 +42,7 @@ pub struct Firing<'a, 'b, T: Grounded> {
 
 impl<'a, 'b, T: Grounded> Model for Firing<'a, 'b, T> {
     ghost use Rattle.std.specs.Prelude.{◌≡◌, ◌<◌, length};
-    ghost use Rattle.sas_core.specs.Changes.{effect_change};
+    ghost use Rattle.sas_core.specs.Changes.{change_of};
     ghost use Rattle.sas_core.specs.Grounded.{operator_at, effect_at};
     ghost use Rattle.sas_core.specs.WellRanged.{WellRanged};
     ghost use Rattle.sas_groups.specs.Index.{IsIndexOf};
@@ -56,7 +56,7 @@ impl<'a, 'b, T: Grounded> Model for Firing<'a, 'b, T> {
         × IsIndexOf f.task.now f.index.now
         × (f.operator < length f.task.now.operators)
         × (f.effect < length (operator_at f.task.now f.operator).effects)
-        × (f.change ≡ effect_change (effect_at (operator_at f.task.now f.operator) f.effect)) };
+        × (f.change ≡ change_of (effect_at (operator_at f.task.now f.operator) f.effect)) };
 }
 
 impl<'a, 'b, T: Grounded> Firing<'a, 'b, T> {
@@ -305,7 +305,7 @@ impl<'a, 'b, T: Grounded> Firing<'a, 'b, T> {
     #[inline(always)]
     fn sets_beside(&self, change: Change, group: u32) -> bool
         requires fact { let f = self.now in
-            FactExists f.task.variables (record { var = change.var; value = change.new }) }
+            FactExists f.task.variables (fact_of change) }
         requires group { group < length self.now.task.groups }
         ensures { IsTrue result ↔ SetsBeside self.now change group }
     {

@@ -17,6 +17,7 @@ pub use Rattle.std.specs.Option.{unwrap_or}
 pub use Rattle.std.specs.Prelude.{⊤, IfErr, IsErrOf}
 pub use Rattle.itoa.proofs.Decimal.{decimal_pair, pair}
 pub use Rattle.sas_core.proofs.Plain.{plain_without, plain-append, plain-name}
+pub use Rattle.sas_core.specs.Changes.{change_of, fact_of}
 pub use Rattle.sas_core.specs.Grounded.{operator_at, effect_at, rule_at}
 pub use Rattle.sas_core.specs.Names.{IsName}
 pub use Rattle.sas_core.specs.Plain.{IsPlain}
@@ -34,7 +35,7 @@ unfoldable pub use Rattle.sas_lines.specs.Parts.{parts}
 pub use Rattle.sas_lines.specs.Spelling.{joined}
 pub use Rattle.sas_lines.specs.declared.devices.Short.{Short}
 pub use Rattle.sas_output.specs.Ending.{Output, StopsAt, Ends, EndsCounting, IsWrite, Writes, Answers}
-pub use Rattle.sas_output.specs.Facts.{fact_line, initial_lines, fact_of_effect, fact_of_rule}
+pub use Rattle.sas_output.specs.Facts.{fact_line, initial_lines}
 pub use Rattle.sas_output.specs.Laws.{IsReasonLine, LinesAreReasons, RuleLinesDiffer}
 pub use Rattle.sas_output.specs.Line.{line_bytes, words_of, named_effect, named_rule, rule_numbers, is_rule_line, is_same_rule_line}
 pub use Rattle.sas_output.specs.Pieces.{Piece, Puts, Breaks, CountsOn, PutsOrBreaks}

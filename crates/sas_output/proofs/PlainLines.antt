@@ -1,5 +1,5 @@
 -- Each line begins with two spaces, and holds neither LF nor CR.
-use Rattle.sas_output.proofs.Imports.{ℕ, zero, suc, ◌-◌, List, [], ◌∷◌, ◌++◌, get_or, refl, arith, if◌then◌else◌, codes, slice_get, AllByRecursion, unwrap_or, Fact, Operator, Variable, Parts, operator_at, effect_at, rule_at, IsPlain, plain_without, plain-append, plain-name, IsName, value_name, VariableFits, OperatorFits, WellRanged, joined, Without-decimal, Line, Step, SimilarOperator, NamedOperator, GoalFact, Requires, Actual, SinceInitialState, SinceStep, RuleDerives, NoRuleDerives, RuleRequires, ConflictingEffect, Metric, Steps, CostLines, CouldBe, EffectSets, Rule, ConditionRequires, OldValue, DefaultValue, OnLayer, Derived, Holds, MayRemain, fact_of_effect, fact_of_rule, words_of, named_effect, named_rule, line_bytes, IsReasonLine, LinesAreReasons}
+use Rattle.sas_output.proofs.Imports.{ℕ, zero, suc, ◌-◌, List, [], ◌∷◌, ◌++◌, get_or, refl, arith, if◌then◌else◌, codes, slice_get, AllByRecursion, unwrap_or, Fact, Operator, Variable, Parts, operator_at, effect_at, rule_at, IsPlain, plain_without, plain-append, plain-name, IsName, value_name, VariableFits, OperatorFits, WellRanged, joined, Without-decimal, Line, Step, SimilarOperator, NamedOperator, GoalFact, Requires, Actual, SinceInitialState, SinceStep, RuleDerives, NoRuleDerives, RuleRequires, ConflictingEffect, Metric, Steps, CostLines, CouldBe, EffectSets, Rule, ConditionRequires, OldValue, DefaultValue, OnLayer, Derived, Holds, MayRemain, change_of, fact_of, words_of, named_effect, named_rule, line_bytes, IsReasonLine, LinesAreReasons}
 use Rattle.std.specs.Prelude.{decimal}
 use Rattle.sas_output.specs.declared.line.Line.TheVariants.{Operator as TheOperator}
 
@@ -47,10 +47,10 @@ module _ (p : Parts) (steps : List (List ℕ)) (ranged : WellRanged p) (names : 
   part n verb f plain = number_then n (32 ∷ joined (verb ∷ words_of p f)) (plain-append verb (32 ∷ joined (words_of p f)) plain (of_fact f))
 
   effect : (o e : ℕ) → IsPlain (joined (named_effect p o e))
-  effect o e = part e (codes "sets") (fact_of_effect (effect_at (operator_at p o) e)) refl
+  effect o e = part e (codes "sets") (fact_of (change_of (effect_at (operator_at p o) e))) refl
 
   rule : (r : ℕ) → IsPlain (joined (named_rule p r))
-  rule r = part r (codes "derives") (fact_of_rule (rule_at p r)) refl
+  rule r = part r (codes "derives") (fact_of (change_of (rule_at p r))) refl
 
   is_reason_line : (l : Line) → IsReasonLine (line_bytes p steps l)
   is_reason_line (Step n) = two _ (step n)

@@ -1,5 +1,5 @@
 -- The bytes of a line of a rule are those of no other line.
-use Rattle.sas_output.proofs.Imports.{◌≡◌, ◌⊎◌, inl, inr, ℕ, ◌<◌, ◌^◌, true, false, List, [], ◌∷◌, ◌++◌, length, drop, get_or, refl, sym, ap, subst, ◌∙◌, arith, ◌==◌, not, bytes_eq, codes, AllByRecursion, list_all, and_parts, and_from, eq-eqb, false≢true, bytes_eq-Decides, unwrap_or, Fact, Parts, rule_at, value_name, parts, joined, NoSpace, words-first, same_first, NoSpace-decimal, own_decimal, line, Line, RuleDerives, RuleRequires, Metric, fact_of_rule, words_of, line_bytes, rule_numbers, is_rule_line, is_same_rule_line, RuleLinesDiffer}
+use Rattle.sas_output.proofs.Imports.{◌≡◌, ◌⊎◌, inl, inr, ℕ, ◌<◌, ◌^◌, true, false, List, [], ◌∷◌, ◌++◌, length, drop, get_or, refl, sym, ap, subst, ◌∙◌, arith, ◌==◌, not, bytes_eq, codes, AllByRecursion, list_all, and_parts, and_from, eq-eqb, false≢true, bytes_eq-Decides, unwrap_or, Fact, Parts, rule_at, value_name, parts, joined, NoSpace, words-first, same_first, NoSpace-decimal, own_decimal, line, Line, RuleDerives, RuleRequires, Metric, change_of, fact_of, words_of, line_bytes, rule_numbers, is_rule_line, is_same_rule_line, RuleLinesDiffer}
 use Rattle.std.specs.Prelude.{decimal}
 
 -- ---- lines of rules
@@ -88,11 +88,11 @@ module _ (p : Parts) where
   both_rules : (steps : List (List ℕ)) (l other : Line) → IsOfRule l → IsOfRule other → AllByRecursion (λ n. n < 2 ^ 64) (rule_numbers l)
       → line_bytes p steps l ≡ line_bytes p steps other → l ≡ other
   both_rules steps l other (Deriving r) (Deriving r') small e =
-      let words = words_of p (fact_of_rule (rule_at p r)) in
-      let words' = words_of p (fact_of_rule (rule_at p r')) in
+      let words = words_of p (fact_of (change_of (rule_at p r))) in
+      let words' = words_of p (fact_of (change_of (rule_at p r'))) in
       ap (λ n. RuleDerives n) (own_decimal r r' small.0 (behind_number r r' (codes "derives") (codes "derives") words words' e).0)
-  both_rules steps l other (Deriving r) (Requiring r' f) small e = absurd (verbs_apart r r' (fact_of_rule (rule_at p r)) f e)
-  both_rules steps l other (Requiring r f) (Deriving r') small e = absurd (verbs_apart r' r (fact_of_rule (rule_at p r')) f (sym e))
+  both_rules steps l other (Deriving r) (Requiring r' f) small e = absurd (verbs_apart r r' (fact_of (change_of (rule_at p r))) f e)
+  both_rules steps l other (Requiring r f) (Deriving r') small e = absurd (verbs_apart r' r (fact_of (change_of (rule_at p r'))) f (sym e))
   both_rules steps l other (Requiring r f) (Requiring r' f') small e =
       let behind = behind_number r r' (codes "requires") (codes "requires") (words_of p f) (words_of p f') e in
       let first = first_word (codes "requires") (codes "requires") (joined (words_of p f)) (joined (words_of p f')) (no_space (codes "requires") refl) (no_space (codes "requires") refl) behind.1 in

@@ -2,9 +2,6 @@
 use Rattle.std.specs.Prelude.{ℕ, List, [], ◌∷◌, map, codes, decimal}
 use Rattle.std.specs.List.{enumerate_from}
 use Rattle.std.specs.Option.{unwrap_or}
-use Rattle.sas_core.specs.declared.parts.Fact.{Fact}
-use Rattle.sas_core.specs.declared.parts.Effect.{Effect}
-use Rattle.sas_core.specs.declared.parts.Rule.{Rule}
 use Rattle.sas_core.specs.declared.parts.Variable.{Variable}
 use Rattle.sas_core.specs.Variables.{value_name}
 use Rattle.sas_output.specs.Words.{line}
@@ -22,10 +19,3 @@ fact_line word variables var value = line 0 (word ∷ named_fact variables var v
 abbrev pub initial_lines : List Variable → List ℕ → List (List ℕ)
 initial_lines variables s =
     map (λ (var, value). fact_line (codes "initial") variables var value) (enumerate_from 0 s)
-
--- what an effect sets, and what a rule gives
-abbrev pub fact_of_effect : Effect → Fact
-fact_of_effect e = record { var = e.var; value = e.new }
-
-abbrev pub fact_of_rule : Rule → Fact
-fact_of_rule r = record { var = r.var; value = r.new }

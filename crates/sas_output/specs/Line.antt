@@ -3,6 +3,7 @@ use Rattle.std.specs.Prelude.{ℕ, ◌-◌, ◌==◌, ◌&&◌, Bool, not, if◌
 use Rattle.std.specs.Prelude.{List, [], ◌∷◌, length, map, bytes_eq, slice_index_or}
 use Rattle.sas_core.specs.declared.parts.Fact.{Fact}
 use Rattle.sas_core.specs.declared.parts.Parts.{Parts}
+use Rattle.sas_core.specs.Changes.{change_of, fact_of}
 use Rattle.sas_core.specs.Grounded.{operator_at, effect_at, rule_at}
 use Rattle.sas_lines.specs.Lines.{text}
 use Rattle.sas_output.specs.Words.{line}
@@ -12,7 +13,7 @@ use Rattle.sas_output.specs.declared.line.Line.TheVariants.{Actual, SinceInitial
 use Rattle.sas_output.specs.declared.line.Line.TheVariants.{RuleRequires, ConflictingEffect, Metric, Steps, CostLines, CouldBe}
 use Rattle.sas_output.specs.declared.line.Line.TheVariants.{EffectSets, Rule, ConditionRequires, OldValue, DefaultValue, OnLayer}
 use Rattle.sas_output.specs.declared.line.Line.TheVariants.{Derived, Holds, MayRemain}
-use Rattle.sas_output.specs.Facts.{named_fact, fact_of_effect, fact_of_rule}
+use Rattle.sas_output.specs.Facts.{named_fact}
 
 -- the words of a fact: `VAR VALUE NAME`
 abbrev pub words_of : Parts → Fact → List (List ℕ)
@@ -21,12 +22,13 @@ words_of p fact = named_fact p.variables fact.var fact.value
 -- the words of an effect: `effect E sets VAR VALUE NAME`
 abbrev pub named_effect : Parts → ℕ → ℕ → List (List ℕ)
 named_effect p operator effect = codes "effect" ∷ decimal effect ∷ codes "sets"
-    ∷ words_of p (fact_of_effect (effect_at (operator_at p operator) effect))
+    ∷ words_of p (fact_of (change_of (effect_at (operator_at p operator) effect)))
 
 -- the words of a rule: `rule R derives VAR VALUE NAME`
 abbrev pub named_rule : Parts → ℕ → List (List ℕ)
 named_rule p rule =
-    codes "rule" ∷ decimal rule ∷ codes "derives" ∷ words_of p (fact_of_rule (rule_at p rule))
+    codes "rule" ∷ decimal rule ∷ codes "derives"
+    ∷ words_of p (fact_of (change_of (rule_at p rule)))
 
 -- The bytes of a line of reasons about a task and a plan, without the line's end. The plan's steps
 -- have these names; a line about the task alone names no step.

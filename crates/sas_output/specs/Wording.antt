@@ -4,6 +4,7 @@ use Rattle.std.specs.Borrow.{Bor}
 use Rattle.sas_core.specs.declared.parts.Fact.{Fact}
 use Rattle.sas_core.specs.declared.parts.Parts.{Parts}
 use Rattle.sas_core.specs.PlanParts.{PlanParts}
+use Rattle.sas_core.specs.Changes.{change_of, fact_of}
 use Rattle.sas_core.specs.Grounded.{operator_at, effect_at, rule_at}
 use Rattle.sas_output.specs.declared.words.Indent.{Indent}
 use Rattle.sas_output.specs.Words.{line, spaces_of}
@@ -12,7 +13,6 @@ use Rattle.sas_output.specs.declared.wording.Part.{Part}
 use Rattle.sas_output.specs.declared.wording.Part.TheVariants as part
 use Rattle.sas_output.specs.declared.wording.Rest.{Rest}
 use Rattle.sas_output.specs.declared.wording.Rest.TheVariants as rest
-use Rattle.sas_output.specs.Facts.{fact_of_effect, fact_of_rule}
 use Rattle.sas_output.specs.Line.{words_of}
 
 -- the names of the plan's steps, if there is a plan
@@ -27,9 +27,9 @@ verb_words p number verb fact = decimal number ∷ verb ∷ words_of p fact
 -- what a part of the task does with a fact
 abbrev pub part_words : Parts → Part → List (List ℕ)
 part_words p (part.Derives rule) =
-    verb_words p rule (codes "derives") (fact_of_rule (rule_at p rule))
+    verb_words p rule (codes "derives") (fact_of (change_of (rule_at p rule)))
 part_words p (part.Sets operator effect) = verb_words p effect (codes "sets")
-    (fact_of_effect (effect_at (operator_at p operator) effect))
+    (fact_of (change_of (effect_at (operator_at p operator) effect)))
 part_words p (part.Requires number fact) = verb_words p number (codes "requires") fact
 
 -- a step, and an operator that it could also be

@@ -1,9 +1,9 @@
 // What the numbers of a line mean in a task: names and facts.
 ghost use Rattle.std.specs.Prelude.{◌≡◌, ◌-◌, [], slice_index_or};
 ghost use Rattle.std.specs.Option.{unwrap_or};
+ghost use Rattle.sas_core.specs.Changes.{change_of, fact_of};
 ghost use Rattle.sas_core.specs.Grounded.{operator_at, effect_at, rule_at};
 ghost use Rattle.sas_core.specs.Variables as spec;
-ghost use Rattle.sas_output.specs.Facts.{fact_of_effect, fact_of_rule};
 ghost use Rattle.sas_output.specs.Wording.{steps_of};
 
 use sas_core::{Fact, Grounded, Stepwise};
@@ -63,7 +63,7 @@ pub fn value_name(task: &FlatTask, fact: Fact) -> &[u8]
 
 /// Returns the fact that the rule sets; past the last rule, that variable 0 has value 0.
 pub fn given_by(task: &FlatTask, rule: u32) -> Fact
-    ensures { result ≡ fact_of_rule (rule_at task.now rule) }
+    ensures { result ≡ fact_of (change_of (rule_at task.now rule)) }
 {
     if rule < task.rules() {
         task.rule_change(rule).fact()
@@ -74,7 +74,7 @@ pub fn given_by(task: &FlatTask, rule: u32) -> Fact
 
 /// Returns the fact that the operator's effect sets; past the last one, that variable 0 has value 0.
 pub fn set_by(task: &FlatTask, operator: u32, effect: u32) -> Fact
-    ensures { result ≡ fact_of_effect (effect_at (operator_at task.now operator) effect) }
+    ensures { result ≡ fact_of (change_of (effect_at (operator_at task.now operator) effect)) }
 {
     if operator < task.operators() && effect < task.effects(operator) {
         task.effect_change(operator, effect).fact()

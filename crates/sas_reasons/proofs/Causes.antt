@@ -1,7 +1,7 @@
 -- The rules that concern a fact that doesn't hold. A fact has exactly one cause.
 use Rattle.std.proofs.Common.{arith}
 use Rattle.std.proofs.lemmas.Grind.{common_steps}
-use Rattle.sas_reasons.proofs.Imports.{◌≡◌, ℕ, ◌<◌, Bool, true, false, List, [], ◌∷◌, ◌++◌, length, get_or, slice_index, Some, refl, sym, ◌∙◌, ap, subst, inl, inr, ◌==◌, ◌&&◌, find, map, false≢true, and_parts, eqb-true, not-true, eqb-false, eqb_tells, Decides-eqb, Decides-not, All-nil, All-cons, Any-from_list_any, Fact, Rule, Parts, rule_at, Holds, AllHold, IsOnLayer, default_of, CanFire, fails, is_derived, is_given, AreDerivationLines, since_line, missing_lines, IsCause, DefaultIfNotGiven, EachRuleFails, can_fire, IsLayered, new_value_of, differs, IsSettled, hold_or_not, layer_cases, new_value_is, differs_decides, differs_not, can_give, Line, Run, last_state}
+use Rattle.sas_reasons.proofs.Imports.{◌≡◌, ℕ, ◌<◌, Bool, true, false, List, [], ◌∷◌, ◌++◌, length, get_or, slice_index, Some, refl, sym, ◌∙◌, ap, subst, inl, inr, ◌==◌, ◌&&◌, find, map, false≢true, and_parts, eqb-true, not-true, eqb-false, eqb_tells, Decides-eqb, Decides-not, All-nil, All-cons, Any-from_list_any, Fact, Effect, Parts, rule_at, Holds, AllHold, IsOnLayer, default_of, CanFire, fails, is_derived, is_given, AreDerivationLines, since_line, missing_lines, IsCause, DefaultIfNotGiven, EachRuleFails, can_fire, IsLayered, new_value_of, differs, IsSettled, hold_or_not, layer_cases, new_value_is, differs_decides, differs_not, can_give, Line, Run, last_state}
 use Rattle.sas_output.specs.declared.line.Line.TheVariants as line
 use Rattle.sas_reasons.proofs.Derivation.{value_is}
 use Rattle.sas_reasons.proofs.Listing.{some_derivation}
@@ -18,15 +18,15 @@ default_if_not_given p s fact layered settled derived given missed = elim (diffe
   | inr w ↦ absurd (missing (on_some_layer p fact.var derived) w.1)
 ]
   where
-    at : (k : ℕ) (rule : Rule) → k < length p.rules → get_or p.rules k rule ≡ rule → rule.var ≡ fact.var → CanFire p rule → rule.new ≡ fact.value
+    at : (k : ℕ) (rule : Effect) → k < length p.rules → get_or p.rules k rule ≡ rule → rule.var ≡ fact.var → CanFire p rule → rule.new ≡ fact.value
         → new_value_of p fact.var ≡ fact.value
     at k rule lt is var can new =
         subst (λ v. new_value_of p v ≡ fact.value) var
-        (subst (λ (r : Rule). new_value_of p r.var ≡ r.new) is (new_value_is p k rule layered lt (subst (CanFire p) (sym is) can)) ∙ new)
+        (subst (λ (r : Effect). new_value_of p r.var ≡ r.new) is (new_value_is p k rule layered lt (subst (CanFire p) (sym is) can)) ∙ new)
 
     new_is : new_value_of p fact.var ≡ fact.value
     new_is =
-        let w = Any-from_list_any (λ (rule : Rule). can_give p fact.var rule && (rule.new == fact.value)) p.rules given in
+        let w = Any-from_list_any (λ (rule : Effect). can_give p fact.var rule && (rule.new == fact.value)) p.rules given in
         let both = and_parts (can_give p fact.var w.1) (w.1.new == fact.value) w.4 in
         let its = and_parts (w.1.var == fact.var) (can_fire p w.1) both.0 in
         at w.0 w.1 w.2 w.3 (eqb-true w.1.var fact.var its.0)

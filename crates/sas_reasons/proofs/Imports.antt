@@ -13,7 +13,7 @@ pub use Rattle.std.proofs.lemmas.Slice.Eq.{bytes_eq-Decides}
 pub use Rattle.std.specs.Bool.{Decides}
 pub use Rattle.std.specs.Char.{to_ascii_lowercase}
 pub use Rattle.std.specs.List.{All, list_all, position_or_len, Contains, AllPairs, list_any, HoldsAt}
-pub use Rattle.sas_core.specs.Grounded.{rule_at, effect_at, operator_at}
+pub use Rattle.sas_core.specs.Grounded.{rule_at, effect_at, operator_at, no_effect}
 pub use Rattle.sas_core.specs.PlanParts.{PlanParts}
 pub use Rattle.sas_core.specs.Stepwise.{step_at}
 pub use Rattle.sas_core.specs.Variables.{IsDerived}
@@ -21,7 +21,6 @@ pub use Rattle.sas_core.specs.declared.parts.Effect.{Effect}
 pub use Rattle.sas_core.specs.declared.parts.Fact.{Fact}
 pub use Rattle.sas_core.specs.declared.parts.Operator.{Operator}
 pub use Rattle.sas_core.specs.declared.parts.Parts.{Parts}
-pub use Rattle.sas_core.specs.declared.parts.Rule.{Rule}
 pub use Rattle.sas_meaning.proofs.Facts.{hold_or_not}
 pub use Rattle.sas_meaning.proofs.Forced.{differs_not, differs_true}
 pub use Rattle.sas_meaning.proofs.Layers.{layer_cases, layer_decides, given_on, given_off, one_layer, on_layer_within}

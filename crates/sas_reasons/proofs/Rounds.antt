@@ -2,7 +2,7 @@
 -- contains exactly those that differ from their defaults.
 use Rattle.std.proofs.Common.{rules}
 use Rattle.std.proofs.lemmas.Grind.{common_steps}
-use Rattle.sas_reasons.proofs.Imports.{◌≡◌, ℕ, zero, suc, ◌+◌, ◌<◌, ◌≤◌, ◌⊎◌, Bool, true, cond, List, length, get_or, refl, sym, ◌∙◌, ap, subst, inl, inr, arith, ◌==◌, Decides, list_all, list_any, HoldsAt, cases_Bool, false≢true, and_from, and_parts, Decides-eqb, Decides-not, Decides-and, Decides-like, Decides-by_and, Decides-by_or, get_or_default, list_any_at, Fact, Rule, Parts, fires_with, reached, rule_at, Holds, AllHold, IsOnLayer, default_of, CanFire, can_fire, IsLayered, is_on_layer, value_with, IsClosed, differs, IsSettledAt, layer_decides, given_on, given_off, on_layer_within, can_give}
+use Rattle.sas_reasons.proofs.Imports.{◌≡◌, ℕ, zero, suc, ◌+◌, ◌<◌, ◌≤◌, ◌⊎◌, Bool, true, cond, List, length, get_or, refl, sym, ◌∙◌, ap, subst, inl, inr, arith, ◌==◌, Decides, list_all, list_any, HoldsAt, cases_Bool, false≢true, and_from, and_parts, Decides-eqb, Decides-not, Decides-and, Decides-like, Decides-by_and, Decides-by_or, get_or_default, list_any_at, Fact, Effect, Parts, fires_with, reached, rule_at, Holds, AllHold, IsOnLayer, default_of, CanFire, can_fire, IsLayered, is_on_layer, value_with, IsClosed, differs, IsSettledAt, layer_decides, given_on, given_off, on_layer_within, can_give}
 
 -- ---- the meaning of the tests
 
@@ -14,12 +14,12 @@ pub hold_decides : (value : ℕ → ℕ) (facts : List Fact) → Decides (all_ho
 hold_decides value facts = Decides-by_and (λ (f : Fact). value f.var == f.value) (Holds value) (all_hold value) (λ f. Decides-eqb (value f.var) f.value) refl (λ _ _. refl) facts
 
 -- a rule of the variable can fire, and its conditions hold with the members
-pub record Fires (p : Parts) (layer : ℕ) (s : List ℕ) (members : ℕ → Bool) (var : ℕ) (rule : Rule) : Type 0 where
+pub record Fires (p : Parts) (layer : ℕ) (s : List ℕ) (members : ℕ → Bool) (var : ℕ) (rule : Effect) : Type 0 where
   pub on : rule.var ≡ var
   pub can : CanFire p rule
   pub hold : AllHold (value_with p layer s members) rule.conditions
 
-pub fires_decides : (p : Parts) (layer : ℕ) (s : List ℕ) (members : ℕ → Bool) (var : ℕ) (rule : Rule)
+pub fires_decides : (p : Parts) (layer : ℕ) (s : List ℕ) (members : ℕ → Bool) (var : ℕ) (rule : Effect)
     → Decides (fires_with p layer s members var rule) (Fires p layer s members var rule)
 fires_decides p layer s members var rule =
     Decides-like (fires_with p layer s members var rule)

@@ -4,7 +4,7 @@ use Rattle.std.specs.Prelude.{List, [], ◌∷◌, ◌++◌, map, flat_map, find
 use Rattle.std.specs.List.{list_any}
 use Rattle.std.specs.Option.{option_map_or}
 use Rattle.sas_core.specs.declared.parts.Fact.{Fact}
-use Rattle.sas_core.specs.declared.parts.Rule.{Rule}
+use Rattle.sas_core.specs.declared.parts.Effect.{Effect}
 use Rattle.sas_core.specs.declared.parts.Parts.{Parts}
 use Rattle.sas_core.specs.Variables.{layer_of}
 use Rattle.sas_core.specs.Grounded.{rule_at}
@@ -66,7 +66,7 @@ failing_lines p s rule = option_map_or (λ condition. line.RuleRequires rule con
 -- whether a rule of the fact's variable that can fire derives the fact's value
 abbrev pub can_be_given : Parts → Fact → Bool
 can_be_given p fact =
-    list_any (λ (rule : Rule). can_give p fact.var rule && (rule.new == fact.value)) p.rules
+    list_any (λ (rule : Effect). can_give p fact.var rule && (rule.new == fact.value)) p.rules
 
 -- for each rule of the variable that can fire its first failing condition; or `no rule derives it`
 abbrev pub keeping_lines : Parts → List ℕ → Fact → List Line

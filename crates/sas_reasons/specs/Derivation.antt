@@ -6,7 +6,7 @@
 use Rattle.std.specs.Prelude.{◌≡◌, ◌≢◌, ◌⊎◌, ℕ, zero, suc, ◌+◌, ◌<◌, ◌==◌, ◌&&◌, Bool, false, IsTrue, List, length, All, AllPairs, Contains}
 use Rattle.std.specs.List.{list_all, list_any}
 use Rattle.sas_core.specs.declared.parts.Fact.{Fact}
-use Rattle.sas_core.specs.declared.parts.Rule.{Rule}
+use Rattle.sas_core.specs.declared.parts.Effect.{Effect}
 use Rattle.sas_core.specs.declared.parts.Parts.{Parts}
 use Rattle.sas_core.specs.Variables.{IsDerived}
 use Rattle.sas_core.specs.Grounded.{rule_at}
@@ -16,7 +16,7 @@ use Rattle.sas_meaning.specs.Places.{can_give}
 use Rattle.sas_reasons.specs.Lowest.{IsLowest}
 
 -- whether a rule of the variable can fire, and its conditions hold with these members of the layer
-abbrev pub fires_with : Parts → ℕ → List ℕ → (ℕ → Bool) → ℕ → Rule → Bool
+abbrev pub fires_with : Parts → ℕ → List ℕ → (ℕ → Bool) → ℕ → Effect → Bool
 fires_with p layer s members var rule = can_give p var rule
     && list_all (λ (f : Fact). value_with p layer s members f.var == f.value) rule.conditions
 

@@ -16,9 +16,9 @@ pub use Rattle.std.specs.Prelude.{unwrap_or}
 pub use Rattle.std.specs.Result.{IsOk}
 pub use Rattle.sas_core.proofs.Fitting.{operator_fits, effect_fits}
 pub use Rattle.sas_core.proofs.Places.{holds_at}
-pub use Rattle.sas_core.proofs.PlainEffects.{no_effect, as_many_effects, effect_is_plain}
-pub use Rattle.sas_core.specs.Changes.{plain_effect, plain_effects, effect_change}
-pub use Rattle.sas_core.specs.Grounded.{operator_at, effect_at}
+pub use Rattle.sas_core.proofs.PlainEffects.{as_many_effects, effect_is_plain}
+pub use Rattle.sas_core.specs.Changes.{plain_effect, plain_effects, change_of}
+pub use Rattle.sas_core.specs.Grounded.{operator_at, no_effect, effect_at}
 pub use Rattle.sas_core.specs.PlanParts.{PlanParts}
 pub use Rattle.sas_core.specs.Variables.{IsState, HasValue, FactExists, MayHaveValue, layer_of}
 pub use Rattle.sas_core.specs.WellRanged.{EffectFits, WellRanged}

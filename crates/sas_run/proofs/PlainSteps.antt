@@ -1,5 +1,5 @@
 -- Making changes on different variables one after another.
-use Rattle.sas_run.proofs.Imports.{◌≡◌, ◌≢◌, ℕ, ◌+◌, ◌<◌, List, [], ◌∷◌, ◌++◌, length, get_or, set, Option, None, Some, sym, ◌∙◌, ap, subst, arith, filter_map, option_map, All, cons_option, cases_eq, get_or-set_same, get_or-set_other, get_or-map, length-map, All-nil, All-cons, All-head, All-tail, All-map, All-append, All-weaker, same_Some, Replaces, AreApart, AreMade, IsPlainStep, OldHolds, IsApplied, Change, Effect, Fact, Operator, Parts, plain_effect, plain_effects, effect_change, operator_at, effect_at, HasValue, IsState, WellRanged, IsBasic, IsLayered, Holds, AllHold, preconditions, old_fact, Fires, fact_within, state_set, no_effect, as_many_effects, effect_is_plain}
+use Rattle.sas_run.proofs.Imports.{◌≡◌, ◌≢◌, ℕ, ◌+◌, ◌<◌, List, [], ◌∷◌, ◌++◌, length, get_or, set, Option, None, Some, sym, ◌∙◌, ap, subst, arith, filter_map, option_map, All, cons_option, cases_eq, get_or-set_same, get_or-set_other, get_or-map, length-map, All-nil, All-cons, All-head, All-tail, All-map, All-append, All-weaker, same_Some, Replaces, AreApart, AreMade, IsPlainStep, OldHolds, IsApplied, Change, Effect, Fact, Operator, Parts, plain_effect, plain_effects, change_of, operator_at, effect_at, HasValue, IsState, WellRanged, IsBasic, IsLayered, Holds, AllHold, preconditions, old_fact, Fires, fact_within, state_set, no_effect, as_many_effects, effect_is_plain}
 use Rattle.sas_run.proofs.NextStates.{effects_fit, effects_basic}
 use Rattle.sas_run.proofs.Deleted.{all_front, all_behind, DeletedSoFar, deleted_more}
 
@@ -65,10 +65,10 @@ module _ (o : Operator) (changes : List Change) (effects : o.effects ≡ plain_e
       (subst (All P) effects each k no_effect (omega (arith, lt, length-map changes plain_effect)))
 
   -- each effect fires, and makes its change
-  pub change_made : (s : List ℕ) (k : ℕ) (d : Change) → k < length o.effects → Fires s (effect_at o k) × (get_or changes k d ≡ effect_change (effect_at o k))
+  pub change_made : (s : List ℕ) (k : ℕ) (d : Change) → k < length o.effects → Fires s (effect_at o k) × (get_or changes k d ≡ change_of (effect_at o k))
   change_made s k d lt =
       let is = effect_is_plain o changes effects k d (omega (arith, as_many_effects o changes effects, lt)) in
-      (subst (Fires s) (sym is) (fires s (get_or changes k d)), ap effect_change (sym is))
+      (subst (Fires s) (sym is) (fires s (get_or changes k d)), ap change_of (sym is))
 
 -- they exist, and are on basic variables
 module _ (p : Parts) (operator : ℕ) (exists : operator < length p.operators) (changes : List Change) (effects : (operator_at p operator).effects ≡ plain_effects changes) where

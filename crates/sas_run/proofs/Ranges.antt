@@ -1,5 +1,5 @@
 -- The operators of a task and their effects are well ranged, and their variables exist.
-use Rattle.sas_run.proofs.Imports.{◌≡◌, ℕ, ◌<◌, List, [], ◌∷◌, length, Option, None, Some, sym, subst, filter_map, option_map, All, AllByRecursion, cons_option, All-append, All-weaker, All-from_recursion, Fact, Variable, FactExists, MayHaveValue, Effect, Parts, Change, effect_change, operator_at, effect_at, WellRanged, EffectFits, old_fact, preconditions, fact_within, operator_fits, effect_fits}
+use Rattle.sas_run.proofs.Imports.{◌≡◌, ℕ, ◌<◌, List, [], ◌∷◌, length, Option, None, Some, sym, subst, filter_map, option_map, All, AllByRecursion, cons_option, All-append, All-weaker, All-from_recursion, Fact, Variable, FactExists, MayHaveValue, Effect, Parts, Change, change_of, operator_at, effect_at, WellRanged, EffectFits, old_fact, preconditions, fact_within, operator_fits, effect_fits}
 
 -- the old values that effects require exist
 old_facts_exist : (variables : List Variable) (effects : List Effect) → AllByRecursion (EffectFits variables) effects
@@ -18,7 +18,7 @@ module _ (p : Parts) (ranged : WellRanged p) (operator : ℕ) (exists : operator
   effect_within effect lt = fact_within p (effect_at (operator_at p operator) effect).var (effect_at (operator_at p operator) effect).new (effect_fits p ranged operator exists effect lt).new
 
   -- the same for the effect as a change
-  pub change_within : (effect : ℕ) → effect < length (operator_at p operator).effects → (change : Change) → change ≡ effect_change (effect_at (operator_at p operator) effect)
+  pub change_within : (effect : ℕ) → effect < length (operator_at p operator).effects → (change : Change) → change ≡ change_of (effect_at (operator_at p operator) effect)
       → change.var < length p.variables
   change_within effect lt change is = subst (λ (change : Change). change.var < length p.variables) (sym is) (effect_within effect lt)
 

@@ -15,12 +15,13 @@ pub use Rattle.sas_core.specs.Names.{is_name, is_plain, IsName}
 pub use Rattle.sas_core.specs.Numbers.{IsNumber, IsSigned}
 pub use Rattle.sas_core.specs.Plain.{IsPlain}
 pub use Rattle.sas_core.specs.Variables.{has_value, fact_exists, range_of, FactExists, HasValue, MayHaveValue, IsState}
-pub use Rattle.sas_core.specs.WellRanged.{WellRanged, Listed, VariableFits, EffectFits, OperatorFits, RuleFits}
+pub use Rattle.sas_core.specs.Grounded.{no_effect}
+pub use Rattle.sas_core.specs.WellRanged.{WellRanged, Listed, VariableFits, EffectFits, OperatorFits}
+pub use Rattle.sas_core.specs.declared.grounded.Change.{Change}
 pub use Rattle.sas_core.specs.declared.parts.Effect.{Effect}
 pub use Rattle.sas_core.specs.declared.parts.Fact.{Fact}
 pub use Rattle.sas_core.specs.declared.parts.Operator.{Operator}
 pub use Rattle.sas_core.specs.declared.parts.Parts.{Parts}
-pub use Rattle.sas_core.specs.declared.parts.Rule.{Rule}
 pub use Rattle.sas_core.specs.declared.parts.Variable.{Variable}
 pub use Rattle.sas_lines.proofs.Splitting.{lines-plain, unfinished-end}
 pub use Rattle.sas_lines.proofs.Words.{NoSpace, same_words, NoSpace-number, NoSpace-signed, same_signed}
@@ -44,7 +45,7 @@ pub use Rattle.sas_task_format.specs.Marks.{slot_of_due, IsDue, any_number, task
 pub use Rattle.sas_task_format.specs.Process.{process_node, done, read, a_line, repeat, each, a_list, Process, Part, Paired}
 pub use Rattle.sas_task_format.specs.TaskFormat.{TaskLine, TaskLineFits, TaskSlot, task_line_bytes, task_layout, task_format, task_slot, fact, effect, head, word_slot, name_slot, number_slot, signed_slot, fact_slot, effect_slot, head_slot, NumbersKind, no_shape, no_value, TaskKind, task_texts, HasShape, number, word, name, signed, fact_words, head_words, FactNumbers, HeadNumbers, EffectNumbers, effect_words, single_line, between, counted, version_lines, metric_lines, variable_lines, group_lines, goal_lines, operator_lines, rule_lines, state_lines}
 pub use Rattle.sas_task_format.specs.TaskLaws.{number_filling, filling, FillingsInBytes, last_slot, AreFillings, Completion, TaskIsFilled, OneCompletion}
-pub use Rattle.sas_task_format.specs.TaskProcess.{TaskProcess, task_start, TaskPart, name_in, number_in, signed_in, fact_in, effect_in, head_in, any, positive, may_change, effect_may_stand, head_may_stand, a_word, a_name, a_number, a_signed, a_fact, an_effect, a_head, a_value, a_version, a_metric, a_variable, a_group, a_state, a_goal, an_operator, a_rule, a_task, Head}
+pub use Rattle.sas_task_format.specs.TaskProcess.{TaskProcess, task_start, TaskPart, name_in, number_in, signed_in, fact_in, effect_in, head_in, any, positive, may_change, effect_may_stand, head_may_stand, a_word, a_name, a_number, a_signed, a_fact, an_effect, a_head, a_value, a_version, a_metric, a_variable, a_group, a_state, a_goal, an_operator, a_rule, a_task}
 pub use Rattle.sas_task_format.specs.TaskReasons.{first_wrong, line_bounds, OneTaskReason, OneWrongWord, Bounded, fact_bounds, change_bounds, IsTaskReason, SomeTaskReason, IsFirstWrong, SpeaksOfFacts, SomeWrongWord, WrongWordIsNamed}
 pub use Rattle.sas_task_format.specs.Tracker.{tracker_start, track, mark_in, by_count, track_line, mark, row_at, IsRow, this_number}
 pub use Rattle.sas_task_format.specs.declared.tracker.Tracker.{Tracker}

@@ -1,5 +1,5 @@
 -- No line of a well ranged task contains LF or CR.
-use Rattle.sas_task_format.proofs.Imports.{ℕ, ◌<◌, Bool, true, false, List, [], ◌∷◌, ◌++◌, length, map, refl, arith, IsTrue, Option, Some, None, codes, flat_map, list_all, AllByRecursion, decimal, Fact, Variable, Effect, Operator, Rule, Parts, is_plain, IsName, IsNumber, IsSigned, FactExists, Listed, VariableFits, EffectFits, OperatorFits, RuleFits, WellRanged, signed_decimal, joined, lines_of, Paired, TaskLine, word, name, number, signed, fact, effect, head, fact_words, head_words, effect_words, task_line_bytes, TaskLineFits, FactNumbers, HeadNumbers, EffectNumbers, single_line, between, counted, version_lines, metric_lines, variable_lines, group_lines, goal_lines, operator_lines, rule_lines, task_layout, task_texts, IsPlain, plain-decimal, plain-name, plain-append}
+use Rattle.sas_task_format.proofs.Imports.{ℕ, ◌<◌, Bool, true, false, List, [], ◌∷◌, ◌++◌, length, map, refl, arith, IsTrue, Option, Some, None, codes, flat_map, list_all, AllByRecursion, decimal, Fact, Variable, Effect, Operator, Parts, is_plain, IsName, IsNumber, IsSigned, FactExists, Listed, VariableFits, EffectFits, OperatorFits, WellRanged, signed_decimal, joined, lines_of, Paired, TaskLine, word, name, number, signed, fact, effect, head, fact_words, head_words, effect_words, task_line_bytes, TaskLineFits, FactNumbers, HeadNumbers, EffectNumbers, single_line, between, counted, version_lines, metric_lines, variable_lines, group_lines, goal_lines, operator_lines, rule_lines, task_layout, task_texts, IsPlain, plain-decimal, plain-name, plain-append}
 use Rattle.sas_task_format.proofs.TaskSections.{Known, known, Ranged, InRange, state_paired, fact_numbers, effect_numbers, change_numbers}
 
 -- ---- one line
@@ -103,7 +103,7 @@ module _ (vs : List Variable) (k : Known vs) where
   of_operator : (o : Operator) → OperatorFits vs o → AllSayable (operator_lines o)
   of_operator o h = enclosed (codes "begin_operator") (codes "end_operator") refl refl (also (also (also (one (name o.name) h.name) (of_facts o.prevail h.prevail)) (of_effects o.effects h.effects)) (one (number o.cost) h.cost))
 
-  of_rule : (r : Rule) → RuleFits vs r → AllSayable (rule_lines r)
+  of_rule : (r : Effect) → EffectFits vs r → AllSayable (rule_lines r)
   of_rule r h = enclosed (codes "begin_rule") (codes "end_rule") refl refl (also (of_facts r.conditions h.conditions) (one (head r.var r.old r.new) (change_numbers vs k r.var r.old r.new (h.old, h.new))))
 
 -- ---- the task

@@ -1,5 +1,5 @@
 -- The sections of task files.
-use Rattle.sas_task_format.proofs.Imports.{◌≡◌, ℕ, zero, suc, ◌<◌, Bool, true, false, List, [], ◌∷◌, ◌++◌, length, refl, sym, ap, subst, ◌∙◌, append_assoc, arith, IsTrue, rules, Some, None, Option, codes, nat_lt, ◌==◌, slice_index, if◌then◌else◌, list_all, AllByRecursion, ltb-true, eqb-true, Fact, Variable, Effect, IsName, IsNumber, IsSigned, range_of, HasValue, has_value, MayHaveValue, done, Paired, a_list, TaskLine, word, name, number, signed, fact, effect, head, word_slot, name_slot, number_slot, signed_slot, fact_slot, effect_slot, head_slot, task_slot, FactNumbers, HeadNumbers, EffectNumbers, single_line, between, counted, version_lines, metric_lines, variable_lines, group_lines, state_lines, goal_lines, operator_lines, rule_lines, task_layout, task_format, TaskLineFits, TaskPart, name_in, number_in, signed_in, fact_in, effect_in, Head, head_in, any, positive, may_change, effect_may_stand, a_word, a_name, a_number, a_signed, a_fact, an_effect, a_head, a_value, a_version, a_metric, a_variable, a_group, a_state, a_goal, an_operator, a_rule, a_task, FactExists, fact_exists, IsState, Listed, VariableFits, EffectFits, OperatorFits, RuleFits, WellRanged, and_from, and_parts}
+use Rattle.sas_task_format.proofs.Imports.{◌≡◌, ℕ, zero, suc, ◌<◌, Bool, true, false, List, [], ◌∷◌, ◌++◌, length, refl, sym, ap, subst, ◌∙◌, append_assoc, arith, IsTrue, rules, Some, None, Option, codes, nat_lt, ◌==◌, slice_index, if◌then◌else◌, list_all, AllByRecursion, ltb-true, eqb-true, Fact, Variable, Effect, IsName, IsNumber, IsSigned, range_of, HasValue, has_value, MayHaveValue, done, Paired, a_list, TaskLine, word, name, number, signed, fact, effect, head, word_slot, name_slot, number_slot, signed_slot, fact_slot, effect_slot, head_slot, task_slot, FactNumbers, HeadNumbers, EffectNumbers, single_line, between, counted, version_lines, metric_lines, variable_lines, group_lines, state_lines, goal_lines, operator_lines, rule_lines, task_layout, task_format, TaskLineFits, TaskPart, name_in, number_in, signed_in, fact_in, effect_in, Change, head_in, any, positive, may_change, effect_may_stand, a_word, a_name, a_number, a_signed, a_fact, an_effect, a_head, a_value, a_version, a_metric, a_variable, a_group, a_state, a_goal, an_operator, a_rule, a_task, FactExists, fact_exists, IsState, Listed, VariableFits, EffectFits, OperatorFits, WellRanged, and_from, and_parts, no_effect}
 use Rattle.sas_task_format.proofs.Sections.{Always, LineFor, Section, leaf, silent, both, ◌then◌, converted, restated, within, list, for_each, Meets, meets}
 
 -- ---- tests
@@ -48,7 +48,7 @@ pub effect_is : (i : TaskLine) → task_slot i ≡ effect_slot → effect (effec
 effect_is (effect e) q = refl
 effect_is _ q = absurd cc
 
-abbrev pub head_line : Head → TaskLine
+abbrev pub head_line : Change → TaskLine
 head_line h = head h.var h.old h.new
 
 pub head_is : (i : TaskLine) → task_slot i ≡ head_slot → head_line (head_in i) ≡ i
@@ -219,7 +219,7 @@ effect_section vs k = leaf effect_says (record {
   fits = λ e g. effect_numbers vs k e g;
   passes = λ e g. effect_test vs e g;
   good = λ e n t. effect_tested vs e n t;
-  first = record { conditions = []; var = 0; old = None; new = 0 };
+  first = no_effect;
   first_good = record { conditions = record { count = omega arith; each = tt }; new = k.first; old = tt };
 })
 
@@ -300,7 +300,7 @@ operator_section vs k = converted (λ p. record { name = p.0; prevail = p.1.0; e
       back = λ o g. ((o.name, (o.prevail, (o.effects, o.cost))), (g.name, (g.prevail, (g.effects, (g.cost, refl)))), refl);
     })
 
-rule_section : (vs : List Variable) → Known vs → Section task_format TaskLineFits rule_lines (RuleFits vs) (a_rule vs)
+rule_section : (vs : List Variable) → Known vs → Section task_format TaskLineFits rule_lines (EffectFits vs) (a_rule vs)
 rule_section vs k = converted (λ p. record { conditions = p.0; var = p.1.var; old = p.1.old; new = p.1.new })
     (enclosed_section (codes "begin_rule") (codes "end_rule") (list_section (fact_section vs k) then head_section vs k))
     (record {

@@ -1,7 +1,7 @@
 -- A tracker over the sections of a task: its marks are those of each section, and its counts after
 -- each section are right.
 use Rattle.std.proofs.lemmas.Grind.{common_steps}
-use Rattle.sas_task_format.proofs.Imports.{◌≡◌, ℕ, suc, ◌+◌, ◌-◌, Bool, List, [], ◌∷◌, ◌++◌, length, map, refl, sym, ap, ◌∙◌, append_assoc, arith, codes, flat_map, map-append, Fact, Variable, Operator, Rule, Place, Due, Location, Mark, TaskLine, word, name, number, signed, fact, effect, head, task_slot, single_line, version_lines, metric_lines, variable_lines, group_lines, goal_lines, operator_lines, rule_lines, between_words, counted_dues, there, slot_of_due, any_number, variable_dues, group_dues, operator_dues, rule_dues, numbered, Tracker, tracker_start, track_line, mark, mark_in, this_number}
+use Rattle.sas_task_format.proofs.Imports.{◌≡◌, ℕ, suc, ◌+◌, ◌-◌, Bool, List, [], ◌∷◌, ◌++◌, length, map, refl, sym, ap, ◌∙◌, append_assoc, arith, codes, flat_map, map-append, Fact, Variable, Operator, Effect, Place, Due, Location, Mark, TaskLine, word, name, number, signed, fact, effect, head, task_slot, single_line, version_lines, metric_lines, variable_lines, group_lines, goal_lines, operator_lines, rule_lines, between_words, counted_dues, there, slot_of_due, any_number, variable_dues, group_dues, operator_dues, rule_dues, numbered, Tracker, tracker_start, track_line, mark, mark_in, this_number}
 use Rattle.std.proofs.Common.{append-nil}
 use Rattle.sas_task_format.specs.declared.places.Place.TheVariants as place
 use Rattle.sas_task_format.specs.declared.marks.Due.TheVariants as due
@@ -210,7 +210,7 @@ module _ (ranges : List ℕ) where
     abbrev pub at_rule : ℕ → Tracker
     at_rule left = record t { place = place.Rules; left = left; more = 0 }
 
-    rule_begins : (left n : ℕ) (r : Rule) → IsNumbered t.total left n
+    rule_begins : (left n : ℕ) (r : Effect) → IsNumbered t.total left n
         → Scan ranges (at_rule (suc left)) (word (codes "begin_rule") ∷ number (length r.conditions) ∷ []) (there (at.Rule n) (due.Word fixed.BeginRule ∷ any_number ∷ []))
         (record (at_rule left) { place = place.RuleConditions; more = length r.conditions })
     rule_begins left n r e =
@@ -221,11 +221,11 @@ module _ (ranges : List ℕ) where
           along = (λ h. k, refl, (λ h. k, refl, λ h. k));
         }
 
-    rule_ends : (left : ℕ) (r : Rule)
+    rule_ends : (left : ℕ) (r : Effect)
         → Scan ranges (record (at_rule left) { place = place.RuleConditions }) (head r.var r.old r.new ∷ word (codes "end_rule") ∷ []) (there (at.Rule (t.total - left - 1)) (due.Head ∷ due.Word fixed.EndRule ∷ [])) (at_rule left)
     rule_ends left r = record { marks = refl; ends = refl; along = (λ h. k, refl, (λ h. k, refl, λ h. k)) }
 
-    pub rule_scan : (left n : ℕ) (r : Rule) → IsNumbered t.total left n → Scan ranges (at_rule (suc left)) (rule_lines r) (there (at.Rule n) (rule_dues r)) (at_rule left)
+    pub rule_scan : (left n : ℕ) (r : Effect) → IsNumbered t.total left n → Scan ranges (at_rule (suc left)) (rule_lines r) (there (at.Rule n) (rule_dues r)) (at_rule left)
     rule_scan left n r e =
         let first = there (at.Rule n) (due.Word fixed.BeginRule ∷ any_number ∷ []) in
         let conditions = each_scan fact place.RuleConditions (at.Rule (t.total - left - 1)) due.Fact (record t { left = left }) (λ n i. refl) (λ n. refl) (λ a. refl) (λ h. k) r.conditions in
@@ -233,5 +233,5 @@ module _ (ranges : List ℕ) where
         (ap (λ (x : ℕ). first ++ (there (at.Rule x) (for_each due.Fact r.conditions) ++ there (at.Rule x) (due.Head ∷ due.Word fixed.EndRule ∷ []))) (this_is t.total left n e)
         ∙ ap (λ (x : List Mark). first ++ x) (rule_marks (mark (at.Rule n)) (for_each due.Fact r.conditions) due.Head (due.Word fixed.EndRule)))
 
-    pub rules_scan : (rules : List Rule) → 0 + length rules ≡ t.total → Scan ranges (at_rule (length rules)) (flat_map rule_lines rules) (numbered at.Rule rule_dues 0 rules) (at_rule 0)
+    pub rules_scan : (rules : List Effect) → 0 + length rules ≡ t.total → Scan ranges (at_rule (length rules)) (flat_map rule_lines rules) (numbered at.Rule rule_dues 0 rules) (at_rule 0)
     rules_scan rules e = all_scan rule_lines at.Rule rule_dues t.total at_rule rule_scan (λ h. k) 0 rules e

@@ -3,7 +3,7 @@ use Rattle.std.specs.Prelude.{◌≡◌, ℕ, ◌+◌, ◌-◌, List, [], ◌∷
 use Rattle.sas_core.specs.declared.parts.Fact.{Fact}
 use Rattle.sas_core.specs.declared.parts.Variable.{Variable}
 use Rattle.sas_core.specs.declared.parts.Operator.{Operator}
-use Rattle.sas_core.specs.declared.parts.Rule.{Rule}
+use Rattle.sas_core.specs.declared.parts.Effect.{Effect}
 use Rattle.sas_core.specs.declared.parts.Parts.{Parts}
 use Rattle.sas_reader.specs.Format.{IsBegun, MayFollow}
 use Rattle.sas_task_format.specs.declared.marks.Due.{Due}
@@ -65,7 +65,7 @@ operator_dues o = between_words fixed.BeginOperator
     ++ (counted_dues due.Effect o.effects ++ any_number ∷ [])))
     fixed.EndOperator
 
-abbrev pub rule_dues : Rule → List Due
+abbrev pub rule_dues : Effect → List Due
 rule_dues r = between_words fixed.BeginRule
     (counted_dues due.Fact r.conditions ++ due.Head ∷ []) fixed.EndRule
 

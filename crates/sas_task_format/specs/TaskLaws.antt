@@ -3,6 +3,7 @@
 use Rattle.std.specs.Prelude.{◌≡◌, ℕ, List, [], ◌∷◌, ◌++◌, map, Option, Some, None, codes, nat_eq, if◌then◌else◌}
 use Rattle.std.specs.Cmp.Lexicographic.{pointwise}
 use Rattle.sas_core.specs.declared.parts.Parts.{Parts}
+use Rattle.sas_core.specs.Grounded.{no_effect}
 use Rattle.sas_core.specs.WellRanged.{WellRanged}
 use Rattle.sas_reader.specs.Format.{IsBegun}
 use Rattle.sas_task_format.specs.TaskFormat.{TaskLine, word, name, number, signed, fact, effect, head, TaskSlot}
@@ -28,7 +29,7 @@ filling before name_slot = name (codes "x")
 filling before number_slot = number (number_filling before)
 filling before signed_slot = signed None
 filling before fact_slot = fact (record { var = 0; value = 0 })
-filling before effect_slot = effect (record { conditions = []; var = 0; old = None; new = 0 })
+filling before effect_slot = effect no_effect
 filling before head_slot = head 0 None 0
 
 -- the bytes of these fillings

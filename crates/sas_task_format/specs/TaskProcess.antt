@@ -1,12 +1,13 @@
 -- What may still follow in a task file, as a tree of reads.
 use Rattle.std.specs.Prelude.{ℕ, ◌+◌, Bool, true, ◌&&◌, List, [], ◌==◌, nat_lt, length, Option, Some, None, codes}
 use Rattle.std.specs.List.{list_all}
+use Rattle.sas_core.specs.declared.grounded.Change.{Change}
 use Rattle.sas_core.specs.declared.parts.Fact.{Fact}
 use Rattle.sas_core.specs.declared.parts.Variable.{Variable}
 use Rattle.sas_core.specs.declared.parts.Effect.{Effect}
 use Rattle.sas_core.specs.declared.parts.Operator.{Operator}
-use Rattle.sas_core.specs.declared.parts.Rule.{Rule}
 use Rattle.sas_core.specs.declared.parts.Parts.{Parts}
+use Rattle.sas_core.specs.Grounded.{no_effect}
 use Rattle.sas_core.specs.Names.{is_name}
 use Rattle.sas_core.specs.Variables.{has_value, fact_exists}
 use Rattle.sas_task_format.specs.Process.{Process, done, Part, ◌>>=◌, ◌>>◌, a_line, a_list, each}
@@ -46,16 +47,10 @@ fact_in _ = record { var = 0; value = 0 }
 -- the effect on a line
 abbrev pub effect_in : TaskLine → Effect
 effect_in (effect e) = e
-effect_in _ = record { conditions = []; var = 0; old = None; new = 0 }
-
--- the value of a head line: its variable, the variable's old value, if any, and its new value
-pub record Head : Type 0 where
-  pub var : ℕ
-  pub old : Option ℕ
-  pub new : ℕ
+effect_in _ = no_effect
 
 -- the head on a line
-abbrev pub head_in : TaskLine → Head
+abbrev pub head_in : TaskLine → Change
 head_in (head var old new) = record { var = var; old = old; new = new }
 head_in _ = record { var = 0; old = None; new = 0 }
 
@@ -84,7 +79,7 @@ effect_may_stand variables e = list_all (fact_exists variables) e.conditions
     && may_change variables e.var e.old e.new
 
 -- the variable and values of a head exist
-abbrev pub head_may_stand : List Variable → Head → Bool
+abbrev pub head_may_stand : List Variable → Change → Bool
 head_may_stand variables h = may_change variables h.var h.old h.new
 
 -- ---- one line
@@ -114,7 +109,7 @@ abbrev pub an_effect : List Variable → TaskPart Effect
 an_effect variables = a_line effect_slot (effect_may_stand variables) effect_in
 
 -- the head of a rule for these variables
-abbrev pub a_head : List Variable → TaskPart Head
+abbrev pub a_head : List Variable → TaskPart Change
 a_head variables = a_line head_slot (head_may_stand variables) head_in
 
 -- a value of a variable
@@ -185,7 +180,7 @@ an_operator variables k = do
   k (record { name = label; prevail = prevail; effects = effects; cost = price })
 
 -- a rule: its conditions and its head
-abbrev pub a_rule : List Variable → TaskPart Rule
+abbrev pub a_rule : List Variable → TaskPart Effect
 a_rule variables k = do
   a_word (codes "begin_rule")
   conditions ← a_list (a_number any) (a_fact variables)

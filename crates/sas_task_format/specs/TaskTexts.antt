@@ -6,7 +6,6 @@ use Rattle.sas_core.specs.declared.parts.Fact.{Fact}
 use Rattle.sas_core.specs.declared.parts.Variable.{Variable}
 use Rattle.sas_core.specs.declared.parts.Effect.{Effect}
 use Rattle.sas_core.specs.declared.parts.Operator.{Operator}
-use Rattle.sas_core.specs.declared.parts.Rule.{Rule}
 use Rattle.sas_core.specs.declared.parts.Parts.{Parts}
 use Rattle.sas_core.specs.WellRanged.{WellRanged}
 use Rattle.sas_lines.specs.Spelling.{signed_decimal, joined}
@@ -117,7 +116,7 @@ operator_lines o =
     (codes "end_operator")
 
 -- the conditions of a rule (an axiom) and its head
-abbrev pub rule_lines : Rule → List TaskLine
+abbrev pub rule_lines : Effect → List TaskLine
 rule_lines r =
     between (codes "begin_rule")
     (counted (single_line fact) r.conditions

@@ -14,7 +14,6 @@ pub use Rattle.sas_core.specs.declared.parts.Effect.{Effect}
 pub use Rattle.sas_core.specs.declared.parts.Fact.{Fact}
 pub use Rattle.sas_core.specs.declared.parts.Operator.{Operator}
 pub use Rattle.sas_core.specs.declared.parts.Parts.{Parts}
-pub use Rattle.sas_core.specs.declared.parts.Rule.{Rule}
 pub use Rattle.sas_core.specs.declared.parts.Variable.{Variable}
 pub use Rattle.sas_lines.proofs.Splitting.{lines-one, unfinished-one, Plain}
 pub use Rattle.sas_reader.proofs.AcceptedLines.{LinesAccepted, none_accepted, one_more, accepted}
@@ -47,7 +46,7 @@ pub use Rattle.sas_task_format.specs.declared.places.Place.{Place}
 pub use Rattle.sas_task_line.proofs.WrongWords.{first_back, range_is, ranges_many}
 pub use Rattle.sas_task_line.specs.Ahead.{LineAhead}
 pub use Rattle.sas_task_line.specs.FirstWrong.{HasWrong, FirstWrong}
-pub use Rattle.sas_task_line.specs.Sections.{HasNames, OperatorInRanges, RuleInRanges, spelled}
+pub use Rattle.sas_task_line.specs.Sections.{HasNames, OperatorInRanges, spelled}
 pub use Rattle.sas_task_line.specs.TaskEvents.{after, nothing_yet}
 pub use Rattle.sas_task_line.specs.TaskLine.{ParsesDue, test_of_due, line_of_due}
 pub use Rattle.sas_task_line.specs.TaskRanges.{ranges_of, fact_in_ranges, effect_in_ranges, change_in_ranges, head_in_ranges, value_in}

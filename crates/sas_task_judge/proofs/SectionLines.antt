@@ -1,5 +1,5 @@
 -- The lines of a variable, a mutex group, an operator or a rule lead through this part of a task.
-use Rattle.sas_task_judge.proofs.Imports.{◌≡◌, ℕ, zero, suc, ◌<◌, ◌-◌, Bool, List, [], ◌∷◌, ◌++◌, length, refl, sym, ap, subst, ◌∙◌, append_assoc, arith, IsTrue, codes, append-nil, AllByRecursion, flat_map, list_all, Fact, Effect, Operator, Rule, Variable, After, TaskLine, word, name, number, signed, fact, effect, head, task_format, TaskLineFits, single_line, variable_lines, group_lines, operator_lines, rule_lines, and_from, and_parts, IsName, is_name, is_from, HasNames, OperatorInRanges, RuleInRanges, fact_in_ranges, effect_in_ranges, Place, Tracker, SoFar, TaskState, table_node, past_section, past_variable, behind_variable, behind_group, behind_operator, behind_rule}
+use Rattle.sas_task_judge.proofs.Imports.{◌≡◌, ℕ, zero, suc, ◌<◌, ◌-◌, Bool, List, [], ◌∷◌, ◌++◌, length, refl, sym, ap, subst, ◌∙◌, append_assoc, arith, IsTrue, codes, append-nil, AllByRecursion, flat_map, list_all, Fact, Effect, Operator, Variable, After, TaskLine, word, name, number, signed, fact, effect, head, task_format, TaskLineFits, single_line, variable_lines, group_lines, operator_lines, rule_lines, and_from, and_parts, IsName, is_name, is_from, HasNames, OperatorInRanges, fact_in_ranges, effect_in_ranges, change_in_ranges, Place, Tracker, SoFar, TaskState, table_node, past_section, past_variable, behind_variable, behind_group, behind_operator, behind_rule}
 use Rattle.sas_task_format.specs.declared.places.Place.TheVariants as at
 use Rattle.sas_task_judge.proofs.Following.{one_less, is_between}
 
@@ -191,20 +191,21 @@ operator_on t s o here left good fits =
     (operator_items_on t s o here left good (subst AllFit (operator_lines_are o) fits))
 
 -- the lines of a rule, one after another
-abbrev pub rule_items : Rule → List TaskLine
+abbrev pub rule_items : Effect → List TaskLine
 rule_items r =
     word (codes "begin_rule") ∷ number (length r.conditions)
     ∷ (flat_map (single_line fact) r.conditions ++ head r.var r.old r.new ∷ word (codes "end_rule") ∷ [])
 
-rule_lines_are : (r : Rule) → rule_lines r ≡ rule_items r
+rule_lines_are : (r : Effect) → rule_lines r ≡ rule_items r
 rule_lines_are r =
     ap (λ (l : List TaskLine). word (codes "begin_rule") ∷ number (length r.conditions) ∷ l)
     (append_assoc (flat_map (single_line fact) r.conditions) (head r.var r.old r.new ∷ []) (word (codes "end_rule") ∷ []))
 
-rule_items_on : (t : Tracker) (s : SoFar) (r : Rule) → t.place ≡ at.Rules → 0 < t.left → RuleInRanges t.ranges r → AllFit (rule_items r)
+rule_items_on : (t : Tracker) (s : SoFar) (r : Effect) → t.place ≡ at.Rules → 0 < t.left → IsTrue (effect_in_ranges t.ranges r) → AllFit (rule_items r)
     → GoesOn (record { tracker = t; so_far = s }) (rule_items r) (record { tracker = past_section t; so_far = behind_rule s r })
 rule_items_on t s r here left good fits =
     let n = t.left - 1 in
+    let good_parts = and_parts (list_all (fact_in_ranges t.ranges) r.conditions) (change_in_ranges t.ranges r.var r.old r.new) good in
     let y : TaskState = record { tracker = record (past_section t) { place = at.Rules }; so_far = behind_rule s r } in
     let begun : SoFar = record s { facts = [] } in
     let rest : List TaskLine = number (length r.conditions) ∷ (flat_map (single_line fact) r.conditions ++ head r.var r.old r.new ∷ word (codes "end_rule") ∷ []) in
@@ -214,15 +215,15 @@ rule_items_on t s r here left good fits =
         record { slot = refl; fits = fits.1.0; good = any_count (length r.conditions) fits.1.0 },
         facts_on at.RuleConditions n t
             (λ m s a rest y fits good on. (record { slot = refl; fits = fits; good = good }, subst (λ (k : ℕ). GoesOn (state_at at.RuleConditions n k t (with_facts s (a ∷ []))) rest y) (sym (one_less m)) on))
-            begun r.conditions _ y fits.1.1 good.conditions (λ f. (
-              record { slot = refl; fits = f.0; good = good.change },
+            begun r.conditions _ y fits.1.1 good_parts.0 (λ f. (
+              record { slot = refl; fits = f.0; good = good_parts.1 },
               (record { slot = refl; fits = tt; good = refl }, refl),
             )),
       ),
     )
     refl
 
-pub rule_on : (t : Tracker) (s : SoFar) (r : Rule) → t.place ≡ at.Rules → 0 < t.left → RuleInRanges t.ranges r → AllFit (rule_lines r)
+pub rule_on : (t : Tracker) (s : SoFar) (r : Effect) → t.place ≡ at.Rules → 0 < t.left → IsTrue (effect_in_ranges t.ranges r) → AllFit (rule_lines r)
     → GoesOn (record { tracker = t; so_far = s }) (rule_lines r) (record { tracker = past_section t; so_far = behind_rule s r })
 rule_on t s r here left good fits =
     subst (λ (items : List TaskLine). GoesOn (record { tracker = t; so_far = s }) items (record { tracker = past_section t; so_far = behind_rule s r })) (sym (rule_lines_are r))

@@ -1,7 +1,7 @@
 -- What may still follow at each place of a task file, as a part of the process of task files. The parts
 -- are listed from the last to the first. Each has the parts read so far and, within a list, the number
 -- of items that are left.
-use Rattle.sas_task_judge.proofs.Imports.{ℕ, ◌-◌, List, [], ◌∷◌, ◌++◌, ◌==◌, nat_lt, drop, length, Option, codes, Fact, Variable, Effect, Operator, Rule, Parts, done, ◌>>=◌, ◌>>◌, repeat, each, TaskProcess, any, positive, a_word, a_name, a_number, a_signed, a_fact, an_effect, a_head, a_value, a_variable, a_group, an_operator, a_rule, Place, Tracker, SoFar}
+use Rattle.sas_task_judge.proofs.Imports.{ℕ, ◌-◌, List, [], ◌∷◌, ◌++◌, ◌==◌, nat_lt, drop, length, Option, codes, Fact, Variable, Effect, Operator, Parts, done, ◌>>=◌, ◌>>◌, repeat, each, TaskProcess, any, positive, a_word, a_name, a_number, a_signed, a_fact, an_effect, a_head, a_value, a_variable, a_group, an_operator, a_rule, Place, Tracker, SoFar}
 use Rattle.sas_task_format.specs.declared.places.Place.TheVariants as at
 
 -- ---- the rules
@@ -17,7 +17,7 @@ rule_begin left p = do
   task_done (record p { rules = rules })
 
 -- `end_rule` is expected after the rule
-abbrev pub rule_end : ℕ → Parts → Rule → TaskProcess
+abbrev pub rule_end : ℕ → Parts → Effect → TaskProcess
 rule_end left p r = do
   a_word (codes "end_rule")
   rule_begin left (record p { rules = p.rules ++ r ∷ [] })

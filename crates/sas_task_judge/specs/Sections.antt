@@ -3,7 +3,7 @@ use Rattle.std.specs.Prelude.{◌≡◌, ℕ, ◌<◌, List, [], ◌++◌, lengt
 use Rattle.sas_core.specs.declared.parts.Fact.{Fact}
 use Rattle.sas_core.specs.declared.parts.Variable.{Variable}
 use Rattle.sas_core.specs.declared.parts.Operator.{Operator}
-use Rattle.sas_core.specs.declared.parts.Rule.{Rule}
+use Rattle.sas_core.specs.declared.parts.Effect.{Effect}
 use Rattle.sas_reader.specs.declared.fault.Kind.{Kind}
 use Rattle.sas_reader.specs.declared.fault.Kind.TheVariants as kinds
 use Rattle.sas_reader.specs.declared.reader.Front.{Front}
@@ -28,7 +28,7 @@ behind_operator s o =
     record s { parts = with_operator s.parts o; name = []; facts = []; effects = [] }
 
 -- the content after all lines of a rule
-abbrev pub behind_rule : SoFar → Rule → SoFar
+abbrev pub behind_rule : SoFar → Effect → SoFar
 behind_rule s r = record s { parts = with_rule s.parts r; facts = [] }
 
 -- `kept` has the extent of the variable's lines and the number of its values

@@ -1,7 +1,6 @@
 -- Reading several lines, each up to its LF.
 use Rattle.sas_task_line.proofs.Imports.{◌≡◌, ℕ, ◌+◌, ◌-◌, ◌<◌, Bool, List, [], ◌∷◌, ◌++◌, length, take, Option, refl, sym, ap, subst, ◌∙◌, append-nil, append_assoc, length-append, arith, IsTrue, codes, flat_map, list_all, AllByRecursion, and_parts, flat_map-append, map-append, take_at, length-map, list_all-append, Fact, is_name, IsName, Change, Effect, text, LinesStandFirst, lines_stand_first, Plain, LineAhead, NumberAhead, LinesBefore, CountedBefore, AppendedBefore, spelled, LinesAhead, VariableAhead, GroupAhead, OperatorAhead, RuleAhead, fact_in_ranges, effect_in_ranges, change_in_ranges, Front, plain, IsPlain, TaskLine, word, name, number, signed, fact, effect, head, single_line, task_line_bytes, TaskLineFits, variable_lines, group_lines, operator_lines, rule_lines, text_of_both, and_from}
 use Rattle.sas_flat.specs.Operators as flat
-use Rattle.sas_flat.specs.Rules as flat_rules
 use Rattle.sas_flat.specs.Variables as flat_variables
 use Rattle.sas_task_line.proofs.AheadReading.{number_is_ahead}
 
@@ -134,11 +133,11 @@ module _ (ranges label : List ℕ) (cost : ℕ) (prevail : List Fact) (effects :
 abbrev last_lines : Change → List TaskLine
 last_lines c = head c.var c.old c.new ∷ word (codes "end_rule") ∷ []
 
-pub rule_is_ahead : (ranges : List ℕ) (c : Change) (facts : List Fact) (front : Front) {bytes facts_on head_on rest : List ℕ} → LineAhead (word (codes "begin_rule")) bytes facts_on → CountedBefore fact (fact_in_ranges ranges) (length facts) facts facts_on head_on → IsTrue (change_in_ranges ranges c.var c.old c.new) × LinesBefore (last_lines c) head_on rest → front.bytes ≡ length bytes - length rest → front.lines ≡ 4 + length facts → RuleAhead ranges bytes (flat_rules.rule c facts) front
+pub rule_is_ahead : (ranges : List ℕ) (c : Change) (facts : List Fact) (front : Front) {bytes facts_on head_on rest : List ℕ} → LineAhead (word (codes "begin_rule")) bytes facts_on → CountedBefore fact (fact_in_ranges ranges) (length facts) facts facts_on head_on → IsTrue (change_in_ranges ranges c.var c.old c.new) × LinesBefore (last_lines c) head_on rest → front.bytes ≡ length bytes - length rest → front.lines ≡ 4 + length facts → RuleAhead ranges bytes (effect_with c facts) front
 rule_is_ahead ranges c facts front {bytes = bytes} {rest = rest} begins before ends taken many =
     let fact_lines : List TaskLine = number (length facts) ∷ flat_map (single_line fact) facts in
-    let items = rule_lines (flat_rules.rule c facts) in
+    let items = rule_lines (effect_with c facts) in
     let all = lines_then (lines_then (one_line begins) before.lines) ends.1 in
     let same : word (codes "begin_rule") ∷ (fact_lines ++ last_lines c) ≡ items = ap (λ l. word (codes "begin_rule") ∷ l) (sym (append_assoc fact_lines (head c.var c.old c.new ∷ []) (word (codes "end_rule") ∷ []))) in
     let long : length items ≡ 4 + length facts = omega (arith, ap length same, length-append fact_lines (last_lines c), one_each fact facts) in
-    (record { conditions = before.stand; change = ends.0 }, lines_are_ahead items bytes rest front (subst (λ l. LinesBefore l bytes rest) same all) taken (many ∙ sym long))
+    (and_from _ _ before.stand ends.0, lines_are_ahead items bytes rest front (subst (λ l. LinesBefore l bytes rest) same all) taken (many ∙ sym long))

@@ -4,13 +4,13 @@ use Rattle.std.specs.List.{AllByRecursion, list_all}
 use Rattle.sas_core.specs.declared.parts.Fact.{Fact}
 use Rattle.sas_core.specs.declared.parts.Variable.{Variable}
 use Rattle.sas_core.specs.declared.parts.Operator.{Operator}
-use Rattle.sas_core.specs.declared.parts.Rule.{Rule}
+use Rattle.sas_core.specs.declared.parts.Effect.{Effect}
 use Rattle.sas_core.specs.Names.{IsName}
 use Rattle.sas_lines.specs.Lines.{text}
 use Rattle.sas_reader.specs.declared.reader.Front.{Front}
 use Rattle.sas_reader.specs.Machine.{IsFront}
 use Rattle.sas_task_format.specs.TaskFormat.{TaskLine, task_line_bytes, TaskLineFits, variable_lines, group_lines, operator_lines, rule_lines}
-use Rattle.sas_task_line.specs.TaskRanges.{fact_in_ranges, effect_in_ranges, change_in_ranges}
+use Rattle.sas_task_line.specs.TaskRanges.{fact_in_ranges, effect_in_ranges}
 
 -- the bytes of each line
 abbrev pub spelled : List TaskLine → List (List ℕ)
@@ -35,11 +35,6 @@ pub record OperatorInRanges (ranges : List ℕ) (o : Operator) : Type 0 where
   pub prevail : IsTrue (list_all (fact_in_ranges ranges) o.prevail)
   pub effects : IsTrue (list_all (effect_in_ranges ranges) o.effects)
 
--- each fact of the rule exists
-pub record RuleInRanges (ranges : List ℕ) (r : Rule) : Type 0 where
-  pub conditions : IsTrue (list_all (fact_in_ranges ranges) r.conditions)
-  pub change : IsTrue (change_in_ranges ranges r.var r.old r.new)
-
 -- the bytes begin with the variable
 abbrev pub VariableAhead : List ℕ → Variable → Front → Type 0
 VariableAhead bytes v front = HasNames v × LinesAhead (variable_lines v) bytes front
@@ -55,5 +50,6 @@ OperatorAhead ranges bytes o front = OperatorInRanges ranges o
     × LinesAhead (operator_lines o) bytes front
 
 -- the bytes begin with the rule, and its facts exist
-abbrev pub RuleAhead : List ℕ → List ℕ → Rule → Front → Type 0
-RuleAhead ranges bytes r front = RuleInRanges ranges r × LinesAhead (rule_lines r) bytes front
+abbrev pub RuleAhead : List ℕ → List ℕ → Effect → Front → Type 0
+RuleAhead ranges bytes r front = IsTrue (effect_in_ranges ranges r)
+    × LinesAhead (rule_lines r) bytes front

@@ -4,7 +4,7 @@ use Rattle.std.specs.Prelude.{ℕ, false, List, [], ◌∷◌, ◌++◌, ◌==�
 use Rattle.sas_core.specs.declared.parts.Fact.{Fact}
 use Rattle.sas_core.specs.declared.parts.Variable.{Variable}
 use Rattle.sas_core.specs.declared.parts.Operator.{Operator}
-use Rattle.sas_core.specs.declared.parts.Rule.{Rule}
+use Rattle.sas_core.specs.declared.parts.Effect.{Effect}
 use Rattle.sas_core.specs.declared.parts.Parts.{Parts}
 use Rattle.sas_task_format.specs.declared.places.Event.{Event}
 use Rattle.sas_task_format.specs.declared.places.Event.TheVariants as event
@@ -43,7 +43,7 @@ abbrev pub finished_operator : SoFar → Said → Operator
 finished_operator s said =
     record { name = s.name; prevail = s.facts; effects = s.effects; cost = said.number }
 
-abbrev pub finished_rule : SoFar → Said → Rule
+abbrev pub finished_rule : SoFar → Said → Effect
 finished_rule s said =
     record { conditions = s.facts; var = said.head.var; old = said.head.old; new = said.head.new }
 
@@ -57,7 +57,7 @@ with_group p g = record p { groups = p.groups ++ g ∷ [] }
 abbrev pub with_operator : Parts → Operator → Parts
 with_operator p o = record p { operators = p.operators ++ o ∷ [] }
 
-abbrev pub with_rule : Parts → Rule → Parts
+abbrev pub with_rule : Parts → Effect → Parts
 with_rule p r = record p { rules = p.rules ++ r ∷ [] }
 
 -- the content after a line that adds this

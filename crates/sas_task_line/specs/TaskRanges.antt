@@ -2,10 +2,10 @@
 use Rattle.std.specs.Prelude.{ℕ, Bool, nat_lt, ◌&&◌, List, length, map, slice_get, Option, Some, None}
 use Rattle.std.specs.Option.{option_map_or}
 use Rattle.std.specs.List.{list_all}
+use Rattle.sas_core.specs.declared.grounded.Change.{Change}
 use Rattle.sas_core.specs.declared.parts.Effect.{Effect}
 use Rattle.sas_core.specs.declared.parts.Fact.{Fact}
 use Rattle.sas_core.specs.declared.parts.Variable.{Variable}
-use Rattle.sas_task_format.specs.TaskProcess.{Head}
 
 -- the number of values of each variable
 abbrev pub ranges_of : List Variable → List ℕ
@@ -29,7 +29,7 @@ change_in_ranges ranges var None new = value_in ranges var new
 change_in_ranges ranges var (Some old) new = value_in ranges var old && value_in ranges var new
 
 -- the variable and values of a head exist
-abbrev pub head_in_ranges : List ℕ → Head → Bool
+abbrev pub head_in_ranges : List ℕ → Change → Bool
 head_in_ranges ranges h = change_in_ranges ranges h.var h.old h.new
 
 -- the conditions of an effect exist, and so do its variable and values

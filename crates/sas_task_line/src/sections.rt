@@ -7,7 +7,6 @@ ghost use Rattle.sas_core.specs.Names.{IsName};
 ghost use Rattle.sas_flat.specs.Effects.{effect_with};
 ghost use Rattle.sas_flat.specs.Growing.{Kept};
 ghost use Rattle.sas_flat.specs.Operators.{operator};
-ghost use Rattle.sas_flat.specs.Rules.{rule};
 ghost use Rattle.sas_task_format.specs.TaskFormat as format;
 ghost use Rattle.sas_task_line.specs.Ahead.{EffectAhead};
 ghost use Rattle.sas_task_line.specs.LinesBefore.{LinesBefore, FactsBefore, EffectsBefore};
@@ -251,7 +250,7 @@ pub fn rule_found(
 ) -> Result<Option<RuleFound>, AllocError>
     ensures found { IfOk result (λ found. IfSome found (λ f. (c : List Fact)
         × (conditions.new.items ≡ conditions.old.items ++ c)
-        × RuleAhead ranges.now bytes.now (rule f.head c) f.front)) }
+        × RuleAhead ranges.now bytes.now (effect_with f.head c) f.front)) }
     ensures kept { Kept conditions.old.items conditions.new.items }
 {
     let Some(rest) = word_before(bytes, b"begin_rule") else {

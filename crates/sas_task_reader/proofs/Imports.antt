@@ -11,10 +11,10 @@ pub use Rattle.sas_core.specs.declared.parts.Variable.{Variable}
 pub use Rattle.sas_flat.proofs.Blocks.{lists_opened, one_list_more}
 pub use Rattle.sas_flat.proofs.Grown.{rules_more, pairs_more, operators_opened, operators_more, variables_opened, variables_more}
 pub use Rattle.sas_flat.proofs.Tables.{table_none}
+pub use Rattle.sas_flat.specs.Effects.{effect_with, effects_of}
 pub use Rattle.sas_flat.specs.Lists.{lists_in}
 pub use Rattle.sas_flat.specs.Operators.{operator}
 pub use Rattle.sas_flat.specs.Outlines.{outline_of}
-pub use Rattle.sas_flat.specs.Rules.{rule, rules_of, rules_from}
 pub use Rattle.sas_flat.specs.Variables.{variable}
 pub use Rattle.sas_lines.specs.Lines.{text}
 pub use Rattle.sas_reader.proofs.Conversion.{Follows, reads_of_format}

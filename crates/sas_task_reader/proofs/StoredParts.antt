@@ -4,7 +4,6 @@ use Rattle.sas_core.specs.declared.grounded.Change.{Change}
 use Rattle.sas_core.specs.declared.parts.Effect.{Effect}
 use Rattle.sas_core.specs.declared.parts.Fact.{Fact}
 use Rattle.sas_core.specs.declared.parts.Operator.{Operator}
-use Rattle.sas_core.specs.declared.parts.Rule.{Rule}
 use Rattle.sas_task_judge.specs.Sections.{behind_variable, behind_group, behind_operator, behind_rule}
 
 abbrev pub with_variables : SoFar → List Variable → SoFar
@@ -28,10 +27,10 @@ pub one_operator_more : (s : SoFar) (o : Operator) (name : List ℕ) (facts : Li
     → record (with_operators s os) { name = name; facts = facts; effects = effects } ≡ behind_operator s o
 one_operator_more s o name facts effects os no_name no_facts no_effects is = cc
 
-abbrev pub with_rules : SoFar → List Rule → SoFar
+abbrev pub with_rules : SoFar → List Effect → SoFar
 with_rules s rs = record s { parts = record s.parts { rules = rs } }
 
-pub another_rule : (s : SoFar) (r : Rule) (begun : List Fact) (rs : List Rule) → begun ≡ [] → rs ≡ s.parts.rules ++ r ∷ []
+pub another_rule : (s : SoFar) (r : Effect) (begun : List Fact) (rs : List Effect) → begun ≡ [] → rs ≡ s.parts.rules ++ r ∷ []
     → record (with_rules s rs) { facts = begun } ≡ behind_rule s r
 another_rule s r begun rs none is = cc
 

@@ -3,7 +3,7 @@ ghost use Rattle.std.specs.Prelude.{◌≡◌, ◌<◌, List, [], OnOk, IfOk};
 ghost use Rattle.sas_core.specs.declared.parts.Fact.{Fact};
 ghost use Rattle.sas_core.specs.declared.parts.Variable.{Variable};
 ghost use Rattle.sas_core.specs.declared.parts.Operator.{Operator};
-ghost use Rattle.sas_core.specs.declared.parts.Rule.{Rule};
+ghost use Rattle.sas_core.specs.declared.parts.Effect.{Effect};
 ghost use Rattle.sas_core.specs.WellRanged.{WellRanged};
 ghost use Rattle.sas_task_format.specs.declared.places.Event.TheVariants as event;
 ghost use Rattle.sas_task_line.specs.declared.task_events.Said.{Said};
@@ -58,7 +58,7 @@ impl Model for FlatSoFar {
     ghost use Rattle.std.specs.Prelude.{◌≡◌, length};
     ghost use Rattle.sas_flat.specs.Lists.{lists_in, AreEnds, ListColumnsAlign};
     ghost use Rattle.sas_flat.specs.Operators.{operators_in, OperatorColumnsAlign};
-    ghost use Rattle.sas_flat.specs.Rules.{rules_from};
+    ghost use Rattle.sas_flat.specs.Effects.{effects_of};
     ghost use Rattle.sas_flat.specs.Variables.{variables_in, VariableColumnsAlign};
     ghost use Rattle.sas_task_line.specs.declared.so_far.SoFar.{SoFar};
 
@@ -73,7 +73,7 @@ impl Model for FlatSoFar {
         init = s.init;
         goal = s.goal;
         operators = operators_in s.operators;
-        rules = rules_from s.heads.items (lists_in s.conditions);
+        rules = effects_of s.heads.items (lists_in s.conditions);
       };
       name = s.begun.name;
       layer = s.begun.layer;
@@ -347,7 +347,7 @@ impl FlatSoFar {
     /// content is unspecified.
     fn rule_ahead(&mut self, ranges: &Items<u32>, bytes: &[u8]) -> Result<Front, AllocError>
         ensures took { IfOk result (λ front. 0 < front.bytes
-            → (r : Rule) × RuleAhead ranges.now bytes.now r front
+            → (r : Effect) × RuleAhead ranges.now bytes.now r front
             × (self.new ≡ behind_rule self.old r)) }
         ensures none { IfOk result (λ front. front.bytes ≡ 0 → self.new ≡ self.old) }
     {

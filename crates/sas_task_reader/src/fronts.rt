@@ -3,7 +3,7 @@ ghost use Rattle.std.specs.Prelude.{◌≡◌, List, IfOk, IfErr, IfSome};
 ghost use Rattle.sas_core.specs.declared.parts.Fact.{Fact};
 ghost use Rattle.sas_core.specs.declared.parts.Variable.{Variable};
 ghost use Rattle.sas_core.specs.declared.parts.Operator.{Operator};
-ghost use Rattle.sas_core.specs.declared.parts.Rule.{Rule};
+ghost use Rattle.sas_core.specs.declared.parts.Effect.{Effect};
 ghost use Rattle.sas_task_judge.specs.Sections.{VariableWithRange};
 ghost use Rattle.sas_task_line.specs.Sections.{GroupAhead, OperatorAhead, RuleAhead};
 
@@ -112,7 +112,7 @@ pub fn rule_front(
     gathered: &mut Gathered,
 ) -> Result<Option<Front>, Kind>
     ensures found { IfOk result (λ found. IfSome found (λ front.
-        (r : Rule) × RuleAhead ranges.now bytes.now r front)) }
+        (r : Effect) × RuleAhead ranges.now bytes.now r front)) }
     ensures err { IfErr result (λ k. k ≡ Kind.Memory) }
 {
     gathered.facts.clear();

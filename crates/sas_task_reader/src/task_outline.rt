@@ -2,7 +2,7 @@
 ghost use Rattle.std.specs.Prelude.{◌≡◌, List};
 ghost use Rattle.sas_core.specs.declared.parts.Fact.{Fact};
 ghost use Rattle.sas_core.specs.declared.parts.Operator.{Operator};
-ghost use Rattle.sas_core.specs.declared.parts.Rule.{Rule};
+ghost use Rattle.sas_core.specs.declared.parts.Effect.{Effect};
 ghost use Rattle.sas_task_line.specs.declared.so_far.SoFar.{SoFar};
 ghost use Rattle.sas_task_line.specs.TaskEvents.{nothing_yet};
 ghost use Rattle.sas_task_judge.specs.Sections.{behind_group, behind_operator, behind_rule};
@@ -63,7 +63,7 @@ impl Seen {
 
     /// Counts one more rule.
     fn rule(&mut self)
-        ensures { (s : SoFar) (r : Rule) → self.old ≡ kept_of s
+        ensures { (s : SoFar) (r : Effect) → self.old ≡ kept_of s
             → self.new ≡ kept_of (behind_rule s r) }
     {
         self.rules = self.rules.saturating_add(1);

@@ -1,14 +1,11 @@
 -- The other giver of a rule's variable, where a rule before it has another new value.
 use Rattle.std.proofs.lemmas.Grind.{common_steps}
-use Rattle.sas_task_reasons.proofs.Imports.{◌≡◌, ◌≢◌, ℕ, ◌<◌, ◌≤◌, ◌==◌, Bool, true, false, cond, [], length, take, sym, ap, ◌∙◌, inl, inr, arith, eqb-true, eq-eqb, Some, None, ◌&&◌, not, position_or_len, lt-ltb, cases_lt, fails_before_first, passes_at_first, Rule, Parts, rule_at, CanFire, can_fire, agrees_with, fires, agrees_with_earlier, IsOtherGiver, IsReportedOther}
-
-abbrev none : Rule
-none = record { conditions = []; var = 0; old = None; new = 0 }
+use Rattle.sas_task_reasons.proofs.Imports.{◌≡◌, ◌≢◌, ℕ, ◌<◌, ◌≤◌, ◌==◌, Bool, true, false, cond, length, take, sym, ap, ◌∙◌, inl, inr, arith, eqb-true, eq-eqb, Some, None, ◌&&◌, not, position_or_len, lt-ltb, cases_lt, fails_before_first, passes_at_first, Effect, Parts, rule_at, CanFire, can_fire, agrees_with, fires, agrees_with_earlier, IsOtherGiver, IsReportedOther, no_effect}
 
 -- ---- the test
 
 -- whether the other rule is of the same variable, can fire, and has another new value
-abbrev pub gives_other : Parts → Rule → Rule → Bool
+abbrev pub gives_other : Parts → Effect → Effect → Bool
 gives_other p rule other = (other.var == rule.var) && (can_fire p other && not (other.new == rule.new))
 
 all_true : (a b c : Bool) → (a && (b && not c)) ≡ true → (a ≡ true) × (b ≡ true) × (c ≡ false)
@@ -26,7 +23,7 @@ differ m n e same = let yes : (m == n) ≡ true = eq-eqb m n same in absurd cc
 differs : (m n : ℕ) → m ≢ n → (m == n) ≡ false
 differs m n other = grind arith
 
-module _ (p : Parts) (rule other : Rule) where
+module _ (p : Parts) (rule other : Effect) where
   pub gives_shows : gives_other p rule other ≡ true → IsOtherGiver p rule other
   gives_shows e = grind (arith, common_steps, all_true, eqb-true, fires, differs, differ)
 
@@ -40,7 +37,7 @@ module _ (p : Parts) (rule other : Rule) where
 -- ---- the lowest
 
 module _ (p : Parts) (place : ℕ) (within : place < length p.rules) where
-  abbrev rule : Rule
+  abbrev rule : Effect
   rule = rule_at p place
 
   abbrev lowest : ℕ
@@ -58,7 +55,7 @@ module _ (p : Parts) (place : ℕ) (within : place < length p.rules) where
       let exists : lowest < length p.rules = omega (arith, before, within) in record {
         reported = ap (λ (b : Bool). cond b (Some lowest) None) (lt-ltb lowest (length p.rules) exists);
         before = before;
-        gives = gives_shows p rule (rule_at p lowest) (passes_at_first (gives_other p rule) p.rules none exists);
+        gives = gives_shows p rule (rule_at p lowest) (passes_at_first (gives_other p rule) p.rules no_effect exists);
         lowest = λ lower less gives.
             let passes = giver_passes p rule (rule_at p lower) gives in
             let fails = below lower less in

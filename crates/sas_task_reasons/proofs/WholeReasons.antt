@@ -2,7 +2,7 @@
 use Rattle.std.proofs.Common.{arith}
 use Rattle.std.proofs.lemmas.Grind.{common_steps}
 use Rattle.sas_task_reasons.proofs.GroupReasons.{is_basic}
-use Rattle.sas_task_reasons.proofs.Imports.{◌≡◌, ℕ, ◌<◌, ◌==◌, Bool, true, false, List, [], length, take, get_or, subst, inl, inr, eq-eqb, Option, Some, None, if◌then◌else◌, not, is_some, IsSome, option_map_or, Fact, Effect, Operator, Rule, Parts, Check, check, operator_at, effect_at, rule_at, layer_of, LayerFault, EffectOnDerived, RuleOnBasic, OldValue, TwoValues, LayerOrder, IsReportedOld, IsWhole, LayerReasonsAreWhole, default_of, can_fire, numbered_checks, effect_layer_checks, operator_layer_checks, agrees_with, looks_down, firing_checks, rule_layer_checks, layer_checks}
+use Rattle.sas_task_reasons.proofs.Imports.{◌≡◌, ℕ, ◌<◌, ◌==◌, Bool, true, false, List, [], length, take, get_or, subst, inl, inr, eq-eqb, Option, Some, None, if◌then◌else◌, not, is_some, IsSome, option_map_or, Fact, Effect, Operator, Parts, Check, check, operator_at, effect_at, rule_at, layer_of, LayerFault, EffectOnDerived, RuleOnBasic, OldValue, TwoValues, LayerOrder, IsReportedOld, IsWhole, LayerReasonsAreWhole, default_of, can_fire, numbered_checks, effect_layer_checks, operator_layer_checks, agrees_with, looks_down, firing_checks, rule_layer_checks, layer_checks, no_effect}
 use Rattle.sas_task_reasons.proofs.FailingChecks.{IsFirst, check_fails, guarded_fails, either_fails, numbered_fails}
 use Rattle.sas_task_reasons.proofs.OtherGivers.{other_reported}
 
@@ -18,7 +18,7 @@ both_layers (Some here) None test e = absurd cc
 both_layers (Some here) (Some its) test e = (search, search)
 
 module _ (p : Parts) where
-  old_reported : (rule : Rule) (old : Option ℕ) → rule.old ≡ old → option_map_or (λ its. its == default_of p rule.var) old true ≡ false → IsReportedOld p rule
+  old_reported : (rule : Effect) (old : Option ℕ) → rule.old ≡ old → option_map_or (λ its. its == default_of p rule.var) old true ≡ false → IsReportedOld p rule
   old_reported rule None is e = absurd cc
   old_reported rule (Some old) is e = grind (arith, common_steps, eq-eqb)
 
@@ -26,9 +26,6 @@ module _ (p : Parts) where
 
   abbrev no_operator : Operator
   no_operator = record { name = []; prevail = []; effects = []; cost = 0 }
-
-  abbrev no_effect : Effect
-  no_effect = record { conditions = []; var = 0; old = None; new = 0 }
 
   operator_whole : (operator : ℕ) (e : LayerFault) → operator < length p.operators → IsFirst (operator_layer_checks p operator (operator_at p operator)) e → IsWhole p e
   operator_whole operator e within is =
@@ -40,14 +37,11 @@ module _ (p : Parts) where
 
   -- ---- rules
 
-  abbrev no_rule : Rule
-  no_rule = record { conditions = []; var = 0; old = None; new = 0 }
-
   abbrev no_fact : Fact
   no_fact = record { var = 0; value = 0 }
 
   module _ (place : ℕ) (within : place < length p.rules) (e : LayerFault) where
-    abbrev rule : Rule
+    abbrev rule : Effect
     rule = rule_at p place
 
     abbrev old_checks : List (Check LayerFault)
@@ -88,7 +82,7 @@ module _ (p : Parts) where
   whole : (e : LayerFault) → IsFirst (layer_checks p) e → IsWhole p e
   whole e is = elim (either_fails (numbered_checks (operator_layer_checks p) p.operators) (numbered_checks (rule_layer_checks p) p.rules) e is) [
     | inl first ↦ (let at = numbered_fails (operator_layer_checks p) no_operator p.operators e first in operator_whole at.place e at.within at.fails)
-    | inr behind ↦ (let at = numbered_fails (rule_layer_checks p) no_rule p.rules e behind.1 in rule_whole at.place at.within e at.fails)
+    | inr behind ↦ (let at = numbered_fails (rule_layer_checks p) no_effect p.rules e behind.1 in rule_whole at.place at.within e at.fails)
   ]
 
 pub reasons_are_whole : LayerReasonsAreWhole

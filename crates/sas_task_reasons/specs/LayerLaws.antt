@@ -1,6 +1,6 @@
 -- What follows from the definition of the reasons: none of their lines is left out.
 use Rattle.std.specs.Prelude.{◌≡◌, ◌≢◌, ℕ, ◌<◌, length, Some}
-use Rattle.sas_core.specs.declared.parts.Rule.{Rule}
+use Rattle.sas_core.specs.declared.parts.Effect.{Effect}
 use Rattle.sas_core.specs.declared.parts.Parts.{Parts}
 use Rattle.sas_core.specs.FirstFault.{first_fault}
 use Rattle.sas_core.specs.Grounded.{operator_at, effect_at, rule_at}
@@ -13,7 +13,7 @@ use Rattle.sas_task_reasons.specs.WhyLayers.{other_giver}
 use Rattle.sas_task_reasons.specs.WhyGroups.{fact_at}
 
 -- a rule is of the same variable as this one, can fire, and has another new value
-pub record IsOtherGiver (p : Parts) (rule other : Rule) : Type 0 where
+pub record IsOtherGiver (p : Parts) (rule other : Effect) : Type 0 where
   pub its_var : other.var ≡ rule.var
   pub can_fire : CanFire p other
   pub differs : other.new ≢ rule.new
@@ -26,7 +26,7 @@ pub record IsReportedOther (p : Parts) (rule other : ℕ) : Type 0 where
   pub lowest : (lower : ℕ) → lower < other → IsOtherGiver p (rule_at p rule) (rule_at p lower) → ⊥
 
 -- the old value in the reasons for a rule isn't the default of its variable
-pub record IsReportedOld (p : Parts) (rule : Rule) : Type 0 where
+pub record IsReportedOld (p : Parts) (rule : Effect) : Type 0 where
   pub old : ℕ
   pub reported : rule.old ≡ Some old
   pub differs : old ≢ default_of p rule.var

@@ -1,7 +1,7 @@
 -- Why a task isn't layered, and the answers about a task with reasons.
 use Rattle.std.specs.Prelude.{◌≡◌, ℕ, ◌==◌, ◌&&◌, not, List, [], ◌∷◌, ◌++◌, position, Option, Some, None, option_map}
 use Rattle.std.specs.Option.{option_map_or}
-use Rattle.sas_core.specs.declared.parts.Rule.{Rule}
+use Rattle.sas_core.specs.declared.parts.Effect.{Effect}
 use Rattle.sas_core.specs.declared.parts.Parts.{Parts}
 use Rattle.sas_core.specs.FirstFault.{first_fault}
 use Rattle.sas_core.specs.Grounded.{operator_at, effect_at, rule_at}
@@ -24,8 +24,8 @@ abbrev pub layer_lines : Parts → ℕ → List Line
 layer_lines p var = option_map_or (λ layer. line.OnLayer layer ∷ []) (layer_of p.variables var) []
 
 -- the lowest rule of the same variable that can fire and has another new value, if there is one
-abbrev pub other_giver : Parts → Rule → Option ℕ
-other_giver p rule = position (λ (other : Rule).
+abbrev pub other_giver : Parts → Effect → Option ℕ
+other_giver p rule = position (λ (other : Effect).
     (other.var == rule.var) && (can_fire p other && not (other.new == rule.new))) p.rules
 
 -- The lines for a fault of a task's layers; refused memory is no fault of the task. Where the fault

@@ -197,16 +197,25 @@ impl Encode for Operator {
     }
 }
 
-/// The section of an axiom rule.
-impl Encode for Rule {
-    ghost lines = { rule_lines };
+/// Appends the section of an axiom rule.
+fn push_rule(out: &mut Vec<u8>, rule: &Rule) -> Result<(), AllocError>
+    ensures { OnOk result (out.new.items ≡ out.old.items ++ text_of (rule_lines rule.now)) }
+{
+    push_word(out, b"begin_rule")?;
+    push_counted(out, &rule.conditions)?;
+    push_head(out, rule.var, rule.old, rule.new)?;
+    push_word(out, b"end_rule")
+}
 
-    fn encode(&self, out: &mut Vec<u8>) -> Result<(), AllocError> {
-        push_word(out, b"begin_rule")?;
-        push_counted(out, &self.conditions)?;
-        push_head(out, self.var, self.old, self.new)?;
-        push_word(out, b"end_rule")
+/// Appends the line with the number of rules, and the section of each rule.
+fn push_rules(out: &mut Vec<u8>, rules: &Items<Rule>) -> Result<(), AllocError>
+    ensures { OnOk result (out.new.items ≡ out.old.items ++ text_of (counted rule_lines rules.now)) }
+{
+    push_number_line(out, rules.len() as u128)?;
+    for rule in rules.as_slice() {
+        push_rule(out, rule)?;
     }
+    Ok(())
 }
 
 /// Appends the section of the version.
@@ -258,6 +267,6 @@ pub fn encode_task(alloc: Global, task: &Task) -> Result<Vec<u8>, AllocError>
     push_state(&mut out, &parts.init)?;
     push_goal(&mut out, &parts.goal)?;
     push_counted(&mut out, &parts.operators)?;
-    push_counted(&mut out, &parts.rules)?;
+    push_rules(&mut out, &parts.rules)?;
     Ok(out)
 }

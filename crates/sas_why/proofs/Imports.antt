@@ -31,8 +31,8 @@ pub use Rattle.sas_axioms.proofs.RulesOf.{of_variable, can_of}
 pub use Rattle.sas_axioms.specs.Conditions.{IsFullIndex, IsOfRule, waiting_at, asking, occurrences, released}
 pub use Rattle.sas_axioms.specs.LayerRules.{IsRuleOn}
 pub use Rattle.sas_axioms.specs.declared.conditions.Waiting.{Waiting}
-pub use Rattle.sas_core.proofs.Places.{holds_at}
-pub use Rattle.sas_core.specs.Changes.{rule_change}
+pub use Rattle.sas_core.proofs.Fitting.{rule_fits}
+pub use Rattle.sas_core.specs.Changes.{change_of}
 pub use Rattle.sas_core.specs.Grounded.{rule_at, operator_at, effect_at}
 pub use Rattle.sas_core.specs.PlanParts.{PlanParts}
 pub use Rattle.sas_core.specs.Variables.{IsState, IsDerived, FactExists, layer_of}
@@ -41,7 +41,7 @@ pub use Rattle.sas_core.specs.declared.grounded.Change.{Change}
 pub use Rattle.sas_core.specs.declared.parts.Fact.{Fact}
 pub use Rattle.sas_core.specs.declared.parts.Operator.{Operator}
 pub use Rattle.sas_core.specs.declared.parts.Parts.{Parts}
-pub use Rattle.sas_core.specs.declared.parts.Rule.{Rule}
+pub use Rattle.sas_core.specs.declared.parts.Effect.{Effect}
 pub use Rattle.sas_meaning.proofs.DerivedVariables.{derived_within}
 pub use Rattle.sas_meaning.proofs.Forced.{condition_within, fact_within}
 pub use Rattle.sas_meaning.proofs.Layers.{layer_decides, given_on, given_off, one_layer, layer_cases, on_layer_within}

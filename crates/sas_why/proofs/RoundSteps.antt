@@ -1,6 +1,6 @@
 -- How a round goes on when a rule is looked at, and how it ends.
 use Rattle.std.proofs.lemmas.Grind.{common_steps}
-use Rattle.sas_why.proofs.Imports.{◌≡◌, ◌≢◌, ℕ, suc, ◌<◌, ◌≤◌, ◌⊎◌, true, false, List, [], ◌∷◌, ◌++◌, length, get_or, set, Option, None, Some, refl, sym, ◌∙◌, ap, subst, inl, inr, arith, All, Contains, cases_eq, cases_lt, same_Some, cases_Bool, get_or-set_same, get_or-set_other, length-set, append-nil, All-nil, All-append, All-weaker, Contains-push_cases, Contains-append_left, Contains-append_right, Origin, Rounds, Waiting, requiring_at, origin_at, OriginsUpToRound, IsFirstOpen, HavePassed, ReachesNow, HasLower, AreAwaited, InRound, unreached, ContinuesRound, origin_now, origin_with_rule, added, Reaches, value_in_round, Contains-get_or, Change, Fact, Parts, rule_change, rule_at, IsOnLayer, default_of, CanFire, one_layer, reached, FiresNext, Fires, fires_decides, reach}
+use Rattle.sas_why.proofs.Imports.{◌≡◌, ◌≢◌, ℕ, suc, ◌<◌, ◌≤◌, ◌⊎◌, true, false, List, [], ◌∷◌, ◌++◌, length, get_or, set, Option, None, Some, refl, sym, ◌∙◌, ap, subst, inl, inr, arith, All, Contains, cases_eq, cases_lt, same_Some, cases_Bool, get_or-set_same, get_or-set_other, length-set, append-nil, All-nil, All-append, All-weaker, Contains-push_cases, Contains-append_left, Contains-append_right, Origin, Rounds, Waiting, requiring_at, origin_at, OriginsUpToRound, IsFirstOpen, HavePassed, ReachesNow, HasLower, AreAwaited, InRound, unreached, ContinuesRound, origin_now, origin_with_rule, added, Reaches, value_in_round, Contains-get_or, Change, Fact, Parts, change_of, rule_at, IsOnLayer, default_of, CanFire, one_layer, reached, FiresNext, Fires, fires_decides, reach}
 use Rattle.sas_why.proofs.Requiring.{requiring_exist}
 use Rattle.sas_why.proofs.Origined.{NotEarlier, with_rule_cases, unreached_fewer, unreached_same}
 
@@ -215,12 +215,12 @@ goes_on_more a b c x y = grind (arith, common_steps, more, cases_lt)
 -- ---- which rules fire
 
 -- what a rule sets and the default of its variable
-pub sets_new : (p : Parts) (rule : ℕ) (change : Change) → change ≡ rule_change (rule_at p rule) → (rule_at p rule).new ≡ default_of p (rule_at p rule).var
+pub sets_new : (p : Parts) (rule : ℕ) (change : Change) → change ≡ change_of (rule_at p rule) → (rule_at p rule).new ≡ default_of p (rule_at p rule).var
     → change.new ≡ get_or p.init change.var 0
 sets_new p rule change is e = ap (λ (x : Change). x.new) is ∙ (e ∙ ap (λ (x : Change). get_or p.init x.var 0) (sym is))
 
 -- a rule that sets the default of its variable can't
-pub sets_default : (p : Parts) (rule : ℕ) (change : Change) → change ≡ rule_change (rule_at p rule) → change.new ≡ get_or p.init change.var 0
+pub sets_default : (p : Parts) (rule : ℕ) (change : Change) → change ≡ change_of (rule_at p rule) → change.new ≡ get_or p.init change.var 0
     → CanFire p (rule_at p rule) → ⊥
 sets_default p rule change is default can = grind (arith, common_steps)
 

@@ -1,5 +1,5 @@
 // Parses the parts of a task, also of one that no file contains.
-use sas_core::{Effect, Fact, Items, Operator, Parts, Rule, Variable};
+use sas_core::{Effect, Fact, Items, Operator, Parts, Variable};
 use std::alloc::Global;
 use test_words::{cut, fact_of, number_in};
 
@@ -76,6 +76,7 @@ impl Described for Variable {
     }
 }
 
+/// An effect or a rule.
 impl Described for Effect {
     fn described(alloc: Global, words: &mut Words<'_>) -> Effect {
         Effect {
@@ -94,17 +95,6 @@ impl Described for Operator {
             prevail: list_of(alloc, words),
             effects: list_of(alloc, words),
             cost: words.number(),
-        }
-    }
-}
-
-impl Described for Rule {
-    fn described(alloc: Global, words: &mut Words<'_>) -> Rule {
-        Rule {
-            conditions: list_of(alloc, words),
-            var: words.number(),
-            old: words.optional(),
-            new: words.number(),
         }
     }
 }

@@ -1,4 +1,4 @@
-use Rattle.sas_axioms.proofs.Imports.{◌≡◌, ◌<◌, [], None, length, get_or, set, sym, ◌∙◌, subst, inl, inr, arith, rules, cases_eq, get_or_default, Rule, rule_at, HasFired, Fired, fired_there}
+use Rattle.sas_axioms.proofs.Imports.{◌≡◌, ◌<◌, length, get_or, set, sym, ◌∙◌, subst, inl, inr, arith, rules, cases_eq, get_or_default, rule_at, HasFired, Fired, fired_there, no_effect}
 use Rattle.sas_axioms.proofs.rounds.go_round.Goals as goal
 use Rattle.sas_axioms.proofs.rounds.go_round.Goals.{then-changes, else-changes}
 
@@ -9,11 +9,10 @@ loop-rule-preserved g c =
     let s = c.loop-rule.state in
     let k = c.loop-rule.rule in
     let inv = c.loop-rule.invariant in
-    let behind : Rule = record { conditions = []; var = 0; old = None; new = 0 } in
     let within : k < length p.rules = search rules in
     elim c.if-changes.branch [
       | then-changes w ↦
-          (let f : Fired p layer s (rule_at p k) = fired_there p layer s k behind c.task.ensures.well_ranged c.task.ensures.layered inv.state inv.forced within (c.changes.ensures.yes w.if-changes.true) in
+          (let f : Fired p layer s (rule_at p k) = fired_there p layer s k no_effect c.task.ensures.well_ranged c.task.ensures.layered inv.state inv.forced within (c.changes.ensures.yes w.if-changes.true) in
           let is : c.if-changes.state ≡ set s (rule_at p k).var (rule_at p k).new = search rules in
           let fewer = f.fewer in
           let was = inv.fewer in
@@ -33,7 +32,7 @@ loop-rule-preserved g c =
         more = inv.more;
         done = λ no j d lt. elim (cases_eq j k) [
           | inl e ↦ subst (λ i. HasFired p layer s (get_or p.rules i d)) (sym e)
-              (subst (λ r. HasFired p layer s r) (get_or_default p.rules k behind d within) (c.changes.ensures.no w.if-changes.false))
+              (subst (λ r. HasFired p layer s r) (get_or_default p.rules k no_effect d within) (c.changes.ensures.no w.if-changes.false))
           | inr ne ↦ inv.done no j d (omega arith)
         ];
       }

@@ -1,5 +1,5 @@
 -- The first effect that fails determines the fault.
-use Rattle.sas_meaning.proofs.Imports.{rules, ◌≡◌, ◌∙◌, ℕ, Bool, true, false, not, Option, Some, None, refl, ap, arith, is_some, result_err, Change, Parts, first_fault, check, operator_at, effect_at, effect_change, layer_of, LayerFault, EffectOnDerived, effect_layer_checks}
+use Rattle.sas_meaning.proofs.Imports.{rules, ◌≡◌, ◌∙◌, ℕ, Bool, true, false, not, Option, Some, None, refl, ap, arith, is_some, result_err, Change, Parts, first_fault, check, operator_at, effect_at, change_of, layer_of, LayerFault, EffectOnDerived, effect_layer_checks}
 use Rattle.sas_meaning.proofs.NumberedChecks.{same_check, pass_before_next, fails_at, pass_all}
 use Rattle.sas_meaning.proofs.layer_checks.check_operator.Goals as goal
 
@@ -10,7 +10,7 @@ other_way false true is = refl
 other_way false false is = absurd (cc)
 
 -- what the tests say of an effect, as its checks
-its_checks : (p : Parts) (operator effect : ℕ) (change : Change) (layer : Option ℕ) (passes : Bool) (found : Option LayerFault) → change ≡ effect_change (effect_at (operator_at p operator) effect) → layer ≡ layer_of p.variables change.var → is_some layer ≡ not passes → found ≡ first_fault (check passes (EffectOnDerived operator effect)) → found ≡ first_fault (effect_layer_checks p operator effect (effect_at (operator_at p operator) effect))
+its_checks : (p : Parts) (operator effect : ℕ) (change : Change) (layer : Option ℕ) (passes : Bool) (found : Option LayerFault) → change ≡ change_of (effect_at (operator_at p operator) effect) → layer ≡ layer_of p.variables change.var → is_some layer ≡ not passes → found ≡ first_fault (check passes (EffectOnDerived operator effect)) → found ≡ first_fault (effect_layer_checks p operator effect (effect_at (operator_at p operator) effect))
 its_checks p operator effect change layer passes found is its test =
     let derived = its ∙ ap (λ (c : Change). layer_of p.variables c.var) is in
     same_check _ _ (EffectOnDerived operator effect) found (other_way _ _ test ∙ ap (λ l. not (is_some l)) derived)

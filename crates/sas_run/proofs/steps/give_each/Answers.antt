@@ -1,5 +1,5 @@
 -- One more effect has given its value, if it fires.
-use Rattle.sas_run.proofs.Imports.{◌≡◌, ◌∙◌, length, sym, subst, arith, slice_index, Change, operator_at, effect_at, effect_change, AllHold, Fires, IsGiven, IsGivenTo, GivesValue, GivesOther, effect_fits}
+use Rattle.sas_run.proofs.Imports.{◌≡◌, ◌∙◌, length, sym, subst, arith, slice_index, Change, operator_at, effect_at, change_of, AllHold, Fires, IsGiven, IsGivenTo, GivesValue, GivesOther, effect_fits}
 use Rattle.sas_run.proofs.Ranges.{effect_within, conditions_within, change_within}
 use Rattle.sas_run.proofs.Giving.{given_on_effects, conflicts_first, gives_one_more}
 use Rattle.sas_run.proofs.PlainSteps.{no_change, change_made}
@@ -22,7 +22,7 @@ give-requires g c =
     let p = c.args.task.now in
     let o = operator_at p c.args.operator in
     let n = c.loop-effect.effect in
-    let is : c.match-plain.change ≡ effect_change (effect_at o n) = elim c.match-plain.branch [
+    let is : c.match-plain.change ≡ change_of (effect_at o n) = elim c.match-plain.branch [
       | in-Some w ↦ w.change-is ∙ (change_made o w.in-Some.changes.now (rw w.in-Some.is at c.requires.plain) c.args.state.now n no_change (omega arith)).1
       | in-None+else-not-holds_all w ↦ w.change-is ∙ w.effect_change-change.ensures
     ] in
@@ -35,7 +35,7 @@ loop-effect-preserved g c =
     let o = operator_at p c.args.operator in
     let n = c.loop-effect.effect in
     let given = c.loop-effect.given in
-    let made : Fires s (effect_at o n) × (c.match-plain.change ≡ effect_change (effect_at o n)) = elim c.match-plain.branch [
+    let made : Fires s (effect_at o n) × (c.match-plain.change ≡ change_of (effect_at o n)) = elim c.match-plain.branch [
       | in-Some w ↦ (let its = change_made o w.in-Some.changes.now (rw w.in-Some.is at c.requires.plain) s n no_change (omega arith) in (its.0, w.change-is ∙ its.1))
       | in-None+else-not-holds_all w ↦
           (subst (AllHold (slice_index s)) w.effect_conditions.ensures (w.holds_all.ensures.0 w.if-not-holds_all.false), w.change-is ∙ w.effect_change-change.ensures)
@@ -49,7 +49,7 @@ returns-then-not-give-clause-some g c =
     let o = operator_at c.args.task.now c.args.operator in
     let n = c.loop-effect.effect in
     let given = c.loop-effect.given in
-    let made : Fires s (effect_at o n) × (c.match-plain.change ≡ effect_change (effect_at o n)) = elim c.match-plain.branch [
+    let made : Fires s (effect_at o n) × (c.match-plain.change ≡ change_of (effect_at o n)) = elim c.match-plain.branch [
       | in-Some w ↦ (let its = change_made o w.in-Some.changes.now (rw w.in-Some.is at c.requires.plain) s n no_change (omega arith) in (its.0, w.change-is ∙ its.1))
       | in-None+else-not-holds_all w ↦
           (subst (AllHold (slice_index s)) w.effect_conditions.ensures (w.holds_all.ensures.0 w.if-not-holds_all.false), w.change-is ∙ w.effect_change-change.ensures)

@@ -18,5 +18,5 @@ returns c =
     let to_state = lines_after _ _ _ groups (state_lines p.init) to_groups c.in_ok-push_state.ensures in
     let to_goal = lines_after _ _ _ state (goal_lines p.goal) to_state c.in_ok-push_goal.ensures in
     let to_operators = lines_after _ _ _ goal_section (counted operator_lines p.operators) to_goal c.in_ok-push_counted-3.ensures in
-    let to_rules = lines_after _ _ _ operators (counted rule_lines p.rules) to_operators c.in_ok-push_counted-4.ensures in
+    let to_rules = lines_after _ _ _ operators (counted rule_lines p.rules) to_operators c.in_ok-push_rules.ensures in
     to_rules ∙ ap (λ (x : List ℕ). x ++ text_of rules) c.new-out.ensures.items ∙ ap (λ (q : Parts). text_of (task_layout q)) c.parts-parts.ensures.parts

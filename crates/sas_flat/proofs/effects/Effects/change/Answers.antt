@@ -1,4 +1,4 @@
-use Rattle.sas_flat.proofs.Imports.{◌<◌, length, sym, ap, ◌∙◌, arith, effect_change, change_in_list}
+use Rattle.sas_flat.proofs.Imports.{◌<◌, length, sym, ap, ◌∙◌, arith, change_of, change_in_list}
 use Rattle.sas_flat.proofs.EffectRows.{effect_count, effect_at_place}
 use Rattle.sas_flat.proofs.effects.Effects.change.Goals as goal
 
@@ -13,4 +13,4 @@ offset_bounds-as_slice-index c =
 pub returns : goal.returns
 returns c =
     ap (λ l. change_in_list l c.args.index) c.as_slice.ensures.value
-    ∙ sym (ap effect_change (effect_at_place c.self.inside.changes.items c.self.inside.conditions c.args.self.now c.self.view_is c.args.index c.requires))
+    ∙ sym (ap change_of (effect_at_place c.self.inside.changes.items c.self.inside.conditions c.args.self.now c.self.view_is c.args.index c.requires))

@@ -1,4 +1,4 @@
-use Rattle.sas_flat.proofs.Imports.{◌+◌, sym, ap, ◌∙◌, arith, effect_change, effect_in_list}
+use Rattle.sas_flat.proofs.Imports.{◌+◌, sym, ap, ◌∙◌, arith, change_of, effect_in_list}
 use Rattle.sas_flat.proofs.FoundOperators.{as_many, effect_within, effect_found}
 use Rattle.sas_flat.proofs.operators.Operators.change.Goals as goal
 
@@ -14,4 +14,4 @@ change-requires c = omega (arith, c.before-2.ensures.effects, effect_within c.se
 pub returns : goal.returns
 returns c =
     c.change.ensures
-    ∙ ap effect_change (ap (λ n. effect_in_list c.self.inside.columns.effects (n + c.args.effect)) c.before-2.ensures.effects ∙ sym (effect_found c.self.inside.columns c.args.self.now c.self.view_is c.args.operator c.requires.operator c.self.invariant c.args.effect c.requires.effect))
+    ∙ ap change_of (ap (λ n. effect_in_list c.self.inside.columns.effects (n + c.args.effect)) c.before-2.ensures.effects ∙ sym (effect_found c.self.inside.columns c.args.self.now c.self.view_is c.args.operator c.requires.operator c.self.invariant c.args.effect c.requires.effect))

@@ -1,6 +1,5 @@
 -- The index contains all groups with the fact that the change sets.
-use Rattle.sas_mutex.proofs.Imports.{iff_other, ap, ◌∙◌, Change}
-use Rattle.sas_mutex.proofs.SetFacts.{fact_of}
+use Rattle.sas_mutex.proofs.Imports.{iff_other, ap, ◌∙◌, Change, fact_of}
 use Rattle.sas_mutex.proofs.effects.Firing.sets_beside.Goals as goal
 
 pub returns-then-self-change : goal.returns-then-self-change

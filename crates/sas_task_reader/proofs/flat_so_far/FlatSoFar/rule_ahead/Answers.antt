@@ -1,4 +1,4 @@
-use Rattle.sas_task_reader.proofs.Imports.{[], ◌∷◌, ◌++◌, length, sym, ap, ◌∙◌, the_view, lists_in, rule, rules_from, lists_opened, one_list_more, rules_more, pairs_more}
+use Rattle.sas_task_reader.proofs.Imports.{[], ◌∷◌, ◌++◌, length, sym, ap, ◌∙◌, the_view, lists_in, effect_with, effects_of, lists_opened, one_list_more, rules_more, pairs_more}
 use Rattle.sas_task_judge.specs.Sections.{behind_rule}
 use Rattle.sas_task_line.specs.declared.so_far.SoFar.{SoFar}
 use Rattle.sas_task_reader.proofs.StoredParts.{with_rules, another_rule}
@@ -37,13 +37,13 @@ returns-in_ok-push-in-Ok-Some-clause-took c = λ some.
     let (facts, is, ahead) = rw c.in-Ok-Some.field-0-is at c.in-Ok-Some.ensures.found in
     let lists = c.in_ok-close-in-Ok-Some.ensures.ok ∙ one_list_more _ _ _ c.self.invariant.3 (record { more = facts; is = is }) in
     let heads = c.in_ok-push-in-Ok-Some.ensures.items ∙ ap (λ l. l ++ head ∷ []) c.in_ok-reserve.ensures.items in (
-      rule head facts,
+      effect_with head facts,
       ahead,
-      another_rule (the_view c.self.inside) (rule head facts) c.clear.new.self _ c.clear.ensures (rules_more _ _ _ _ head facts c.self.invariant.4 heads lists)
-          ∙ ap (λ (s : SoFar). behind_rule s (rule head facts)) c.self.view_is,
+      another_rule (the_view c.self.inside) (effect_with head facts) c.clear.new.self _ c.clear.ensures (rules_more _ _ _ _ head facts c.self.invariant.4 heads lists)
+          ∙ ap (λ (s : SoFar). behind_rule s (effect_with head facts)) c.self.view_is,
     )
 
 pub returns-in_ok-missed-in_default-clause-none : goal.returns-in_ok-missed-in_default-clause-none
 returns-in_ok-missed-in_default-clause-none c = λ none.
     let lists = c.cut.ensures.is ∙ lists_opened _ _ _ c.self.invariant.3 c.rule_found.ensures.kept in
-    ap (with_rules (the_view c.self.inside)) (ap (λ l. rules_from l (lists_in c.cut.new.self)) c.in_ok-reserve.ensures.items ∙ ap (rules_from c.self.inside.heads.items) lists) ∙ c.self.view_is
+    ap (with_rules (the_view c.self.inside)) (ap (λ l. effects_of l (lists_in c.cut.new.self)) c.in_ok-reserve.ensures.items ∙ ap (effects_of c.self.inside.heads.items) lists) ∙ c.self.view_is
