@@ -1,5 +1,6 @@
 -- Reading several lines, each up to its LF.
 use Rattle.sas_task_line.proofs.Imports.{◌≡◌, ℕ, ◌+◌, ◌-◌, ◌<◌, Bool, List, [], ◌∷◌, ◌++◌, length, take, Option, refl, sym, ap, subst, ◌∙◌, append-nil, append_assoc, length-append, arith, IsTrue, codes, flat_map, list_all, AllByRecursion, and_parts, flat_map-append, map-append, take_at, length-map, list_all-append, Fact, is_name, IsName, Change, Effect, text, LinesStandFirst, lines_stand_first, Plain, LineAhead, NumberAhead, LinesBefore, CountedBefore, AppendedBefore, spelled, LinesAhead, VariableAhead, GroupAhead, OperatorAhead, RuleAhead, fact_in_ranges, effect_in_ranges, change_in_ranges, Front, plain, IsPlain, TaskLine, word, name, number, signed, fact, effect, head, single_line, task_line_bytes, TaskLineFits, variable_lines, group_lines, operator_lines, rule_lines, text_of_both, and_from}
+use Rattle.sas_flat.specs.Effects.{effect_with}
 use Rattle.sas_flat.specs.Operators as flat
 use Rattle.sas_flat.specs.Variables as flat_variables
 use Rattle.sas_task_line.proofs.AheadReading.{number_is_ahead}

@@ -1,5 +1,5 @@
 -- What a task read so far contains where only its variables, groups, operators or rules changed.
-use Rattle.sas_task_reader.proofs.Imports.{◌≡◌, ℕ, List, Option, Variable, [], ◌∷◌, ◌++◌, length, ap, rules_of, rules_from, table_none, SoFar}
+use Rattle.sas_task_reader.proofs.Imports.{◌≡◌, ℕ, List, Option, Variable, [], ◌∷◌, ◌++◌, length, ap, table_none, SoFar, effects_of}
 use Rattle.sas_core.specs.declared.grounded.Change.{Change}
 use Rattle.sas_core.specs.declared.parts.Effect.{Effect}
 use Rattle.sas_core.specs.declared.parts.Fact.{Fact}
@@ -34,5 +34,5 @@ pub another_rule : (s : SoFar) (r : Effect) (begun : List Fact) (rs : List Effec
     → record (with_rules s rs) { facts = begun } ≡ behind_rule s r
 another_rule s r begun rs none is = cc
 
-pub no_rules : (changes : List Change) (lists : List (List Fact)) → changes ≡ [] → rules_from changes lists ≡ []
-no_rules changes lists none = ap (λ (l : List Effect). rules_of l) (table_none (length changes) _ (ap length none))
+pub no_rules : (changes : List Change) (lists : List (List Fact)) → changes ≡ [] → effects_of changes lists ≡ []
+no_rules changes lists none = table_none (length changes) _ (ap length none)
