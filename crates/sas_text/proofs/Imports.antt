@@ -1,5 +1,5 @@
 -- What the proofs use of other crates, and of the definitions of this one.
-pub use Rattle.std.proofs.Common.{◌≡◌, ℕ, List, [], ◌∷◌, ◌++◌, length, map, refl, sym, ap, ◌∙◌, append_assoc, Result, Ok, Err, codes, take}
+pub use Rattle.std.proofs.Common.{◌≡◌, ℕ, List, [], ◌∷◌, ◌++◌, length, map, refl, sym, ap, ◌∙◌, append_assoc, Result, Ok, Err, codes, take, zero, suc, ◌+◌, ◌<◌, get_or, append-nil, arith}
 pub use Rattle.std.proofs.lemmas.Grind.{flat_map-append}
 pub use Rattle.std.proofs.lemmas.List.{map-append}
 pub use Rattle.std.specs.Fmt.{decimal}

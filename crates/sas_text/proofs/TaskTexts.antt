@@ -1,5 +1,5 @@
 -- The text of lines of a task file, part by part.
-use Rattle.sas_text.proofs.Imports.{◌≡◌, ℕ, List, [], ◌∷◌, ◌++◌, length, map, refl, sym, ap, ◌∙◌, append_assoc, Result, Ok, Err, flat_map, OnOk, flat_map-append, map-append, decimal, Effect, signed_decimal, joined, TaskLine, word, effect, head, fact_words, task_line_bytes, single_line, between, text_of, spaced}
+use Rattle.sas_text.proofs.Imports.{◌≡◌, ℕ, List, [], ◌∷◌, ◌++◌, length, map, refl, sym, ap, ◌∙◌, append_assoc, Result, Ok, Err, flat_map, OnOk, flat_map-append, map-append, decimal, Effect, signed_decimal, joined, TaskLine, word, effect, head, fact_words, task_line_bytes, single_line, between, text_of, spaced, zero, suc, ◌<◌, get_or, append-nil, arith, take}
 
 -- lines one after another
 pub text_of_append : (a b : List TaskLine) → text_of (a ++ b) ≡ text_of a ++ text_of b
@@ -17,6 +17,12 @@ lines_on_ok (Err u) before middle after first others e f = tt
 -- lines appended between their first and their last word
 pub between_on_ok : {E : Type 0} (result : Result (Unit {0}) E) (before start middle after : List ℕ) (first : List ℕ) (lines : List TaskLine) (last : List ℕ) → start ≡ before ++ text_of (single_line word first) → middle ≡ start ++ text_of lines → OnOk result (after ≡ middle ++ text_of (single_line word last)) → OnOk result (after ≡ before ++ text_of (between first lines last))
 between_on_ok result before start middle after first lines last e f g = lines_on_ok result before middle after (single_line word first ++ lines) (single_line word last) (lines_after before start middle (single_line word first) lines e f) g
+
+-- the lines of one item more
+pub lines_more : {X A : Type 0} (f : X → List A) (items : List X) (k : ℕ) (item : X) → k < length items → item ≡ get_or items k item → flat_map f (take (suc k) items) ≡ flat_map f (take k items) ++ f item
+lines_more f [] k item below is = absurd (omega arith)
+lines_more f (x ∷ items) zero item below is = append-nil (f x) ∙ ap f (sym is)
+lines_more f (x ∷ items) (suc k) item below is = ap (λ rest. f x ++ rest) (lines_more f items k item (omega arith) is) ∙ sym (append_assoc (f x) (flat_map f (take k items)) (f item))
 
 -- a word before other words
 joined_first : (first : List ℕ) (words : List (List ℕ)) (next : List ℕ) (more : List (List ℕ)) → joined (first ∷ words ++ next ∷ more) ≡ first ++ 32 ∷ joined (words ++ next ∷ more)

@@ -207,15 +207,23 @@ fn push_rule(out: &mut Vec<u8>, rule: &Rule) -> Result<(), AllocError>
     push_word(out, b"end_rule")
 }
 
+/// Appends the section of each rule, in order.
+fn push_each_rule(out: &mut Vec<u8>, rules: &Items<Rule>) -> Result<(), AllocError>
+    ensures { OnOk result
+        (out.new.items ≡ out.old.items ++ text_of (flat_map rule_lines rules.now)) }
+{
+    for rule in rules.as_slice() {
+        push_rule(out, rule)?;
+    }
+    Ok(())
+}
+
 /// Appends the line with the number of rules, and the section of each rule.
 fn push_rules(out: &mut Vec<u8>, rules: &Items<Rule>) -> Result<(), AllocError>
     ensures { OnOk result (out.new.items ≡ out.old.items ++ text_of (counted rule_lines rules.now)) }
 {
     push_number_line(out, rules.len() as u128)?;
-    for rule in rules.as_slice() {
-        push_rule(out, rule)?;
-    }
-    Ok(())
+    push_each_rule(out, rules)
 }
 
 /// Appends the section of the version.
