@@ -1,7 +1,7 @@
 -- Effects that fire agree, or two of them conflict. The reported pair is unique.
 use Rattle.std.proofs.Common.{rules}
 use Rattle.std.proofs.lemmas.Grind.{common_steps}
-use Rattle.sas_reasons.proofs.Imports.{◌≡◌, ℕ, ◌<◌, ◌⊎◌, List, length, slice_index, inl, inr, arith, cases_eq, cases_lt, cases_order, get_or_default, Operator, effect_at, Fires, Agree, hold_or_not, ConflictsWith, SomeConflict, OneConflict, no_effect}
+use Rattle.sas_reasons.proofs.Imports.{◌≡◌, ℕ, ◌<◌, ◌⊎◌, List, [], length, None, slice_index, inl, inr, arith, cases_eq, cases_lt, cases_order, get_or_default, Effect, Operator, effect_at, Fires, Agree, hold_or_not, ConflictsWith, SomeConflict, OneConflict}
 use Rattle.sas_reasons.proofs.Lowest.{are_lowest_one, some_are_lowest}
 
 module _ (s : List ℕ) (o : Operator) where
@@ -36,7 +36,11 @@ module _ (s : List ℕ) (o : Operator) where
         → (effect_at o d).var ≡ (effect_at o e).var → (effect_at o d).new ≡ (effect_at o e).new
     agrees_at d e lt lt' fires fires' var = grind (arith, common_steps, cases_order, later_agrees)
 
+    no_effect : Effect
+    no_effect = record { conditions = []; var = 0; old = None; new = 0 }
+
     agrees : Agree s o.effects
+    unfolding no_effect
     agrees i x lt j y lt' = search (rules, arith, get_or_default, no_effect, agrees_at)
 
 pub some_conflict : SomeConflict

@@ -13,7 +13,7 @@ pub use Rattle.std.proofs.lemmas.Slice.Eq.{bytes_eq-Decides}
 pub use Rattle.std.specs.Bool.{Decides}
 pub use Rattle.std.specs.Char.{to_ascii_lowercase}
 pub use Rattle.std.specs.List.{All, list_all, position_or_len, Contains, AllPairs, list_any, HoldsAt}
-pub use Rattle.sas_core.specs.Grounded.{rule_at, effect_at, operator_at, no_effect}
+pub use Rattle.sas_core.specs.Grounded.{rule_at, effect_at, operator_at}
 pub use Rattle.sas_core.specs.PlanParts.{PlanParts}
 pub use Rattle.sas_core.specs.Stepwise.{step_at}
 pub use Rattle.sas_core.specs.Variables.{IsDerived}

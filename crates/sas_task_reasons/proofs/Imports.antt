@@ -14,7 +14,7 @@ pub use Rattle.sas_answers.specs.Answers.{layers_refusal, layers_verdict}
 pub use Rattle.sas_answers.specs.GroupWords.{group_line, groups_status, verdict_lines_from}
 pub use Rattle.sas_core.proofs.Places.{each_more}
 pub use Rattle.sas_core.specs.FirstFault.{Check, first_fault, check}
-pub use Rattle.sas_core.specs.Grounded.{effect_at, group_at, operator_at, rule_at, no_effect}
+pub use Rattle.sas_core.specs.Grounded.{effect_at, group_at, operator_at, rule_at}
 pub use Rattle.sas_core.specs.Variables.{layer_of, FactExists}
 pub use Rattle.sas_core.specs.declared.grounded.Change.{Change}
 pub use Rattle.sas_core.specs.declared.parts.Effect.{Effect}

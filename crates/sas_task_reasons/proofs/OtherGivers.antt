@@ -1,6 +1,9 @@
 -- The other giver of a rule's variable, where a rule before it has another new value.
 use Rattle.std.proofs.lemmas.Grind.{common_steps}
-use Rattle.sas_task_reasons.proofs.Imports.{◌≡◌, ◌≢◌, ℕ, ◌<◌, ◌≤◌, ◌==◌, Bool, true, false, cond, length, take, sym, ap, ◌∙◌, inl, inr, arith, eqb-true, eq-eqb, Some, None, ◌&&◌, not, position_or_len, lt-ltb, cases_lt, fails_before_first, passes_at_first, Effect, Parts, rule_at, CanFire, can_fire, agrees_with, fires, agrees_with_earlier, IsOtherGiver, IsReportedOther, no_effect}
+use Rattle.sas_task_reasons.proofs.Imports.{◌≡◌, ◌≢◌, ℕ, ◌<◌, ◌≤◌, ◌==◌, Bool, true, false, cond, [], length, take, sym, ap, ◌∙◌, inl, inr, arith, eqb-true, eq-eqb, Some, None, ◌&&◌, not, position_or_len, lt-ltb, cases_lt, fails_before_first, passes_at_first, Effect, Parts, rule_at, CanFire, can_fire, agrees_with, fires, agrees_with_earlier, IsOtherGiver, IsReportedOther}
+
+abbrev none : Effect
+none = record { conditions = []; var = 0; old = None; new = 0 }
 
 -- ---- the test
 
@@ -55,7 +58,7 @@ module _ (p : Parts) (place : ℕ) (within : place < length p.rules) where
       let exists : lowest < length p.rules = omega (arith, before, within) in record {
         reported = ap (λ (b : Bool). cond b (Some lowest) None) (lt-ltb lowest (length p.rules) exists);
         before = before;
-        gives = gives_shows p rule (rule_at p lowest) (passes_at_first (gives_other p rule) p.rules no_effect exists);
+        gives = gives_shows p rule (rule_at p lowest) (passes_at_first (gives_other p rule) p.rules none exists);
         lowest = λ lower less gives.
             let passes = giver_passes p rule (rule_at p lower) gives in
             let fails = below lower less in

@@ -2,7 +2,7 @@
 use Rattle.std.proofs.Common.{arith}
 use Rattle.std.proofs.lemmas.Grind.{common_steps}
 use Rattle.sas_task_reasons.proofs.GroupReasons.{is_basic}
-use Rattle.sas_task_reasons.proofs.Imports.{◌≡◌, ℕ, ◌<◌, ◌==◌, Bool, true, false, List, [], length, take, get_or, subst, inl, inr, eq-eqb, Option, Some, None, if◌then◌else◌, not, is_some, IsSome, option_map_or, Fact, Effect, Operator, Parts, Check, check, operator_at, effect_at, rule_at, layer_of, LayerFault, EffectOnDerived, RuleOnBasic, OldValue, TwoValues, LayerOrder, IsReportedOld, IsWhole, LayerReasonsAreWhole, default_of, can_fire, numbered_checks, effect_layer_checks, operator_layer_checks, agrees_with, looks_down, firing_checks, rule_layer_checks, layer_checks, no_effect}
+use Rattle.sas_task_reasons.proofs.Imports.{◌≡◌, ℕ, ◌<◌, ◌==◌, Bool, true, false, List, [], length, take, get_or, subst, inl, inr, eq-eqb, Option, Some, None, if◌then◌else◌, not, is_some, IsSome, option_map_or, Fact, Effect, Operator, Parts, Check, check, operator_at, effect_at, rule_at, layer_of, LayerFault, EffectOnDerived, RuleOnBasic, OldValue, TwoValues, LayerOrder, IsReportedOld, IsWhole, LayerReasonsAreWhole, default_of, can_fire, numbered_checks, effect_layer_checks, operator_layer_checks, agrees_with, looks_down, firing_checks, rule_layer_checks, layer_checks}
 use Rattle.sas_task_reasons.proofs.FailingChecks.{IsFirst, check_fails, guarded_fails, either_fails, numbered_fails}
 use Rattle.sas_task_reasons.proofs.OtherGivers.{other_reported}
 
@@ -27,6 +27,9 @@ module _ (p : Parts) where
   abbrev no_operator : Operator
   no_operator = record { name = []; prevail = []; effects = []; cost = 0 }
 
+  abbrev no_effect : Effect
+  no_effect = record { conditions = []; var = 0; old = None; new = 0 }
+
   operator_whole : (operator : ℕ) (e : LayerFault) → operator < length p.operators → IsFirst (operator_layer_checks p operator (operator_at p operator)) e → IsWhole p e
   operator_whole operator e within is =
       let o = operator_at p operator in
@@ -36,6 +39,9 @@ module _ (p : Parts) where
       subst (IsWhole p) fails.1 (within, at.within, has_layer layer fails.0)
 
   -- ---- rules
+
+  abbrev no_rule : Effect
+  no_rule = record { conditions = []; var = 0; old = None; new = 0 }
 
   abbrev no_fact : Fact
   no_fact = record { var = 0; value = 0 }
@@ -82,7 +88,7 @@ module _ (p : Parts) where
   whole : (e : LayerFault) → IsFirst (layer_checks p) e → IsWhole p e
   whole e is = elim (either_fails (numbered_checks (operator_layer_checks p) p.operators) (numbered_checks (rule_layer_checks p) p.rules) e is) [
     | inl first ↦ (let at = numbered_fails (operator_layer_checks p) no_operator p.operators e first in operator_whole at.place e at.within at.fails)
-    | inr behind ↦ (let at = numbered_fails (rule_layer_checks p) no_effect p.rules e behind.1 in rule_whole at.place at.within e at.fails)
+    | inr behind ↦ (let at = numbered_fails (rule_layer_checks p) no_rule p.rules e behind.1 in rule_whole at.place at.within e at.fails)
   ]
 
 pub reasons_are_whole : LayerReasonsAreWhole

@@ -31,7 +31,7 @@ pub use Rattle.sas_axioms.proofs.RulesOf.{of_variable, can_of}
 pub use Rattle.sas_axioms.specs.Conditions.{IsFullIndex, IsOfRule, waiting_at, asking, occurrences, released}
 pub use Rattle.sas_axioms.specs.LayerRules.{IsRuleOn}
 pub use Rattle.sas_axioms.specs.declared.conditions.Waiting.{Waiting}
-pub use Rattle.sas_core.proofs.Fitting.{rule_fits}
+pub use Rattle.sas_core.proofs.Places.{holds_at}
 pub use Rattle.sas_core.specs.Changes.{change_of}
 pub use Rattle.sas_core.specs.Grounded.{rule_at, operator_at, effect_at}
 pub use Rattle.sas_core.specs.PlanParts.{PlanParts}

@@ -1,7 +1,10 @@
-use Rattle.sas_task_reasons.proofs.Imports.{◌≡◌, ◌==◌, true, ap, sym, ◌∙◌, arith, ◌&&◌, not, Change, rule_at, can_fire, no_effect}
+use Rattle.sas_task_reasons.proofs.Imports.{◌≡◌, ◌==◌, true, ap, sym, ◌∙◌, arith, ◌&&◌, not, [], None, Change, Effect, rule_at, can_fire}
 use Rattle.sas_task_reasons.proofs.OtherGivers.{gives_other}
 use Rattle.sas_task_reasons.proofs.Positions.{position_at, position_none}
 use Rattle.sas_task_reasons.proofs.giver.other_giver.Goals as goal
+
+abbrev none : Effect
+none = record { conditions = []; var = 0; old = None; new = 0 }
 
 pub returns-then-gives_other : goal.returns-then-gives_other
 returns-then-gives_other c =
@@ -16,4 +19,4 @@ returns-then-gives_other c =
 pub returns : goal.returns
 returns c =
     let p = c.args.task.now in
-    position_none (gives_other p (rule_at p c.args.rule)) p.rules no_effect (λ k below. c.loop-other.invariant k (omega (arith, below, c.loop-other-test.false)))
+    position_none (gives_other p (rule_at p c.args.rule)) p.rules none (λ k below. c.loop-other.invariant k (omega (arith, below, c.loop-other-test.false)))
