@@ -9,16 +9,17 @@ ghost use Rattle.sas_meaning.specs.Settled.{SameBasic};
 ghost use Rattle.sas_meaning.specs.Touched.{StillCovers};
 ghost use Rattle.sas_axioms.specs.ByLayers.{SettlesLayer};
 ghost use Rattle.sas_axioms.specs.LayerRules.{IsRuleOn, AreRulesOn};
-ghost use Rattle.sas_axioms.specs.Conditions.{AreCounted, IsFullIndex};
+ghost use Rattle.sas_axioms.specs.Conditions.{AreCounted};
 ghost use Rattle.sas_axioms.specs.Agenda.{IsEmpty};
 ghost use Rattle.sas_axioms.specs.Sources.{AreGiven, SameSourcesOff};
 ghost use Rattle.sas_axioms.specs.Following.{IsFollowed};
 ghost use Rattle.sas_axioms.specs.Worklist.{IsRunning, WorkHasRoom, IsAtWork, WorkGoesOn, FiresRule, IsFiringReady};
 
 use crate::agenda::{Agenda, TooMuch};
-use crate::conditions::{Moved, Waiting, count_after};
+use crate::conditions::{Moved, count_after};
 use crate::counting::Counted;
 use crate::following::{count_gone, settle_noted};
+use crate::indexed_rules::IndexedRules;
 use crate::layer_rules::{LayerRule, rules_of_variables};
 use sas_core::{Fact, Grounded, Items};
 use sas_flat::Lists;
@@ -141,7 +142,12 @@ impl Firing {
     {
         self.work.layer = layer;
         fire_ready(task, rules, &mut self.work, state);
-        empty_stack(task, &self.counted.index, &mut self.work, state);
+        let indexed = IndexedRules {
+            layered: task,
+            waiting: &self.counted.index,
+            setting: &self.rules_of,
+        };
+        empty_stack(&indexed, &mut self.work, state);
     }
 
     /// Updates the state, which must be settled except that the facts `gone` may have become false. The derived variables that it sets are
@@ -188,9 +194,13 @@ impl Firing {
         ensures covered { StillCovers task.now state.old touched.old state.new touched.new }
         ensures followed { OnOk result (IsFollowed task.now state.new self.new.work) }
     {
-        let index = &self.counted.index;
-        count_gone(task, index, gone, &mut self.work, state)?;
-        settle_noted(task, index, &self.rules_of, &mut self.work, state, touched)
+        let indexed = IndexedRules {
+            layered: task,
+            waiting: &self.counted.index,
+            setting: &self.rules_of,
+        };
+        count_gone(&indexed, gone, &mut self.work, state)?;
+        settle_noted(&indexed, &mut self.work, state, touched)
     }
 }
 
@@ -245,53 +255,41 @@ fn fire<T: Grounded>(task: &Layered<T>, rule: u32, work: &mut Work, state: &mut 
 }
 
 /// Updates the counters of the rules with conditions on the variables on the stack, until the stack is empty.
-fn empty_stack<T: Grounded>(
-    task: &Layered<T>,
-    index: &Lists<Waiting>,
-    work: &mut Work,
-    state: &mut State,
-)
-    requires index { IsFullIndex task.now index.now }
-    requires at_work { IsAtWork task.now state.old work.old.stack.items work.old }
-    ensures settles { SettlesLayer task.now work.old.layer state.old state.new }
-    ensures room { WorkHasRoom task.now work.new }
+fn empty_stack<T: Grounded>(indexed: &IndexedRules<'_, '_, T>, work: &mut Work, state: &mut State)
+    requires { IsAtWork indexed.now state.old work.old.stack.items work.old }
+    ensures settles { SettlesLayer indexed.now work.old.layer state.old state.new }
+    ensures room { WorkHasRoom indexed.now work.new }
     ensures empty { work.new.stack.items ≡ [] }
-    ensures counts { AreCounted task.now state.new work.new.counters }
-    ensures given { AreGiven task.now work.old.layer state.new work.new.sources }
-    ensures sources { SameSourcesOff task.now work.old.layer work.old.sources work.new.sources }
+    ensures counts { AreCounted indexed.now state.new work.new.counters }
+    ensures given { AreGiven indexed.now work.old.layer state.new work.new.sources }
+    ensures sources { SameSourcesOff indexed.now work.old.layer work.old.sources work.new.sources }
 {
-    // The contract of `task` ensures that the task is well ranged and layered.
-    let _ = task.task();
     while let Some(var) = work.stack.pop() {
-        release(task, index, var, work, state);
+        release(indexed, var, work, state);
     }
 }
 
 /// Updates the counters of the rules with conditions on the variable, which was the last on the stack. Fires the rules of the layer whose
 /// counter becomes 0.
 fn release<T: Grounded>(
-    task: &Layered<T>,
-    index: &Lists<Waiting>,
+    indexed: &IndexedRules<'_, '_, T>,
     var: u32,
     work: &mut Work,
     state: &mut State,
 )
-    requires index { IsFullIndex task.now index.now }
-    requires popped { IsAtWork task.now state.old (work.old.stack.items ++ var ∷ []) work.old }
-    ensures at_work { IsAtWork task.now state.new work.new.stack.items work.new }
-    ensures goes_on { WorkGoesOn task.now state.old work.old state.new work.new }
+    requires { IsAtWork indexed.now state.old (work.old.stack.items ++ var ∷ []) work.old }
+    ensures at_work { IsAtWork indexed.now state.new work.new.stack.items work.new }
+    ensures goes_on { WorkGoesOn indexed.now state.old work.old state.new work.new }
 {
-    // The contract of `task` ensures that the task is well ranged and layered.
-    let _ = task.task();
     let moved = Moved {
-        former: task.initial_value(var),
+        former: indexed.layered.initial_value(var),
         value: state.value(var),
     };
-    for condition in index.get(var as usize) {
+    for condition in indexed.waiting.get(var as usize) {
         if let Some(count) = count_after(*condition, moved, &work.counters) {
             work.counters.set(condition.rule as usize, count);
             if count == 0 {
-                fire(task, condition.rule, work, state);
+                fire(indexed.layered, condition.rule, work, state);
             }
         }
     }

@@ -89,8 +89,6 @@ impl<T: Grounded> Settle<T> for Worklist {
         state: &mut State,
         touched: &mut Touched,
     ) {
-        // The contract of `task` ensures that the task is well ranged and layered.
-        let _ = layered.task();
         touched.clear();
         if self.derived.is_empty() {
             // No rule can fire, so the state is already settled.
@@ -121,8 +119,6 @@ impl<T: Grounded> ByLayers<T> for Worklist {
     }
 
     fn settle_next(&mut self, layered: &Layered<T>, _from: u64, state: &mut State) -> Option<u32> {
-        // The contract of `task` ensures that the task is well ranged and layered.
-        let _ = layered.task();
         let rules = self.rules.as_slice();
         let span = self.spans.as_slice().get(self.next)?;
         self.firing
