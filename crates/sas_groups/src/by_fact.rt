@@ -2,7 +2,7 @@
 ghost use Rattle.std.specs.Prelude.{◌≡◌, ◌<◌, ◌++◌, length, IfOk, OnOk, All};
 ghost use Rattle.sas_core.specs.declared.parts.Fact.{Fact};
 ghost use Rattle.sas_groups.specs.Distinct.{AreOwnLists};
-ghost use Rattle.sas_groups.specs.Index.{AreLow, AreFirstNumbers, facts_below, AreByFact, entries_of};
+ghost use Rattle.sas_groups.specs.ByFact.{AreLow, AreFirstNumbers, facts_below, AreByFact, entries_of};
 
 use crate::distinct::facts_of;
 use sas_core::{Fact, Grounded};
