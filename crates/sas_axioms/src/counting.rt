@@ -22,15 +22,14 @@ pub struct Counted {
 
 impl Counted {
     /// Returns the counters for the values in the state section. `Err` means out of memory.
-    pub fn new<T: Grounded>(alloc: Global, task: &Layered<T>) -> Result<Counted, AllocError>
-        ensures values { IfOk result (λ counted. counted.values ≡ task.now.init) }
-        ensures counts { IfOk result (λ counted. IsCounted task.now counted) }
+    pub fn new<T: Grounded>(alloc: Global, layered: &Layered<T>) -> Result<Counted, AllocError>
+        ensures values { IfOk result (λ counted. counted.values ≡ layered.now.init) }
+        ensures counts { IfOk result (λ counted. IsCounted layered.now counted) }
     {
-        // The contract of `task` ensures that the task is well ranged and layered.
-        let _ = task.task();
-        let index = index_of_all(alloc, task)?;
+        let task = layered.task();
+        let index = index_of_all(alloc, layered)?;
         let values = State::of_section(alloc, task)?;
-        let counters = open_counters(alloc, task, &values)?;
+        let counters = open_counters(alloc, layered, &values)?;
         Ok(Counted {
             index,
             values,
@@ -142,14 +141,13 @@ fn are_changed(former: &[u32], values: &[u32], start: usize, end: usize) -> bool
 /// Returns for each rule the number of its conditions that are open under these values.
 fn open_counters<T: Grounded>(
     alloc: Global,
-    task: &Layered<T>,
+    layered: &Layered<T>,
     values: &State,
 ) -> Result<Items<u32>, AllocError>
-    requires known { length values.now ≡ length task.now.variables }
-    ensures { IfOk result (λ counters. AreCounted task.now values.now counters) }
+    requires known { length values.now ≡ length layered.now.variables }
+    ensures { IfOk result (λ counters. AreCounted layered.now values.now counters) }
 {
-    // The contract of `task` ensures that the task is well ranged and layered.
-    let _ = task.task();
+    let task = layered.task();
     let mut counters = Items::new(alloc);
     for rule in 0..task.rules() {
         counters.push(open_of(values, task.rule_conditions(rule)))?;

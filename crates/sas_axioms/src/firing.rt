@@ -141,12 +141,12 @@ impl Firing {
             self.new.work.sources }
     {
         self.work.layer = layer;
-        fire_ready(task, rules, &mut self.work, state);
         let indexed = IndexedRules {
             layered: task,
             waiting: &self.counted.index,
             setting: &self.rules_of,
         };
+        fire_ready(&indexed, rules, &mut self.work, state);
         empty_stack(&indexed, &mut self.work, state);
     }
 
@@ -207,42 +207,40 @@ impl Firing {
 /// Fires the rules of the layer that have no open conditions. All variables of the layer must have their defaults, so that none of the
 /// rules that are left out has.
 fn fire_ready<T: Grounded>(
-    task: &Layered<T>,
+    indexed: &IndexedRules<'_, '_, T>,
     rules: &[LayerRule],
     work: &mut Work,
     state: &mut State,
 )
-    requires rules { AreRulesOn task.now work.old.layer rules.now }
-    requires room { WorkHasRoom task.now work.old }
-    requires running { IsRunning task.now work.old.layer state.old work.old.stack.items }
+    requires rules { AreRulesOn indexed.now work.old.layer rules.now }
+    requires room { WorkHasRoom indexed.now work.old }
+    requires running { IsRunning indexed.now work.old.layer state.old work.old.stack.items }
     requires empty { work.old.stack.items ≡ [] }
-    requires counts { AreCounted task.now state.old work.old.counters }
-    requires given { AreGiven task.now work.old.layer state.old work.old.sources }
-    requires default { AtDefault task.now work.old.layer state.old }
-    ensures at_work { IsAtWork task.now state.new work.new.stack.items work.new }
-    ensures goes_on { WorkGoesOn task.now state.old work.old state.new work.new }
+    requires counts { AreCounted indexed.now state.old work.old.counters }
+    requires given { AreGiven indexed.now work.old.layer state.old work.old.sources }
+    requires default { AtDefault indexed.now work.old.layer state.old }
+    ensures at_work { IsAtWork indexed.now state.new work.new.stack.items work.new }
+    ensures goes_on { WorkGoesOn indexed.now state.old work.old state.new work.new }
 {
-    // The contract of `task` ensures that the task is well ranged and layered.
-    let _ = task.task();
+    let layered = indexed.layered;
     for entry in rules {
         if work.counters.as_slice()[entry.rule as usize] == 0 {
-            fire(task, entry.rule, work, state);
+            fire(layered, entry.rule, work, state);
         }
     }
 }
 
 /// Sets the variable of the rule to its new value, unless the variable is on another layer. If this changes the variable, pushes it on the
 /// stack.
-fn fire<T: Grounded>(task: &Layered<T>, rule: u32, work: &mut Work, state: &mut State)
-    requires rule { (layer : ℕ) × IsRuleOn task.now layer rule }
-    requires room { WorkHasRoom task.now work.old }
-    requires running { IsRunning task.now work.old.layer state.old work.old.stack.items }
-    requires hold { IsRuleOn task.now work.old.layer rule
-        → AllHold (slice_index state.old) (rule_at task.now rule).conditions }
-    ensures { FiresRule task.now rule state.old work.old state.new work.new }
+fn fire<T: Grounded>(layered: &Layered<T>, rule: u32, work: &mut Work, state: &mut State)
+    requires rule { (layer : ℕ) × IsRuleOn layered.now layer rule }
+    requires room { WorkHasRoom layered.now work.old }
+    requires running { IsRunning layered.now work.old.layer state.old work.old.stack.items }
+    requires hold { IsRuleOn layered.now work.old.layer rule
+        → AllHold (slice_index state.old) (rule_at layered.now rule).conditions }
+    ensures { FiresRule layered.now rule state.old work.old state.new work.new }
 {
-    // The contract of `task` ensures that the task is well ranged and layered.
-    let _ = task.task();
+    let task = layered.task();
     let change = task.rule_change(rule);
     if state.value(change.var) != change.new && task.layer(change.var) == Some(work.layer) {
         state.set(Fact {

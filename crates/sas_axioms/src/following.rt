@@ -109,19 +109,18 @@ fn fall<T: Grounded>(
 }
 
 /// Returns whether the rule is the source of its variable's value but no longer holds.
-fn has_lost<T: Grounded>(task: &Layered<T>, rule: u32, work: &Work, state: &State) -> bool
-    requires rule { (layer : ℕ) × IsRuleOn task.now layer rule }
-    requires state { IsState task.now.variables state.now }
-    requires counters { length work.now.counters ≡ length task.now.rules }
-    requires places { length work.now.sources ≡ length task.now.variables }
-    ensures yes { IsTrue result → IsTrue (differs task.now state.now (rule_at task.now rule).var) }
+fn has_lost<T: Grounded>(layered: &Layered<T>, rule: u32, work: &Work, state: &State) -> bool
+    requires rule { (layer : ℕ) × IsRuleOn layered.now layer rule }
+    requires state { IsState layered.now.variables state.now }
+    requires counters { length work.now.counters ≡ length layered.now.rules }
+    requires places { length work.now.sources ≡ length layered.now.variables }
+    ensures yes { IsTrue result → IsTrue (differs layered.now state.now (rule_at layered.now rule).var) }
     ensures no { IsFalse result
-        → slice_index work.now.sources (rule_at task.now rule).var ≡ rule
-        → IsTrue (differs task.now state.now (rule_at task.now rule).var)
+        → slice_index work.now.sources (rule_at layered.now rule).var ≡ rule
+        → IsTrue (differs layered.now state.now (rule_at layered.now rule).var)
         → slice_index work.now.counters rule ≡ 0 }
 {
-    // The contract of `task` ensures that the task is well ranged and layered.
-    let _ = task.task();
+    let task = layered.task();
     let var = task.rule_change(rule).var;
     if work.counters.as_slice()[rule as usize] == 0
         || work.sources.as_slice()[var as usize] != rule
@@ -175,18 +174,17 @@ fn rise<T: Grounded>(
 }
 
 /// Returns whether the rule holds but its variable doesn't have its value.
-fn has_to_set<T: Grounded>(task: &Layered<T>, rule: u32, work: &Work, state: &State) -> bool
-    requires rule { (layer : ℕ) × IsRuleOn task.now layer rule }
-    requires state { IsState task.now.variables state.now }
-    requires counters { length work.now.counters ≡ length task.now.rules }
+fn has_to_set<T: Grounded>(layered: &Layered<T>, rule: u32, work: &Work, state: &State) -> bool
+    requires rule { (layer : ℕ) × IsRuleOn layered.now layer rule }
+    requires state { IsState layered.now.variables state.now }
+    requires counters { length work.now.counters ≡ length layered.now.rules }
     ensures holds { IsTrue result → slice_index work.now.counters rule ≡ 0 }
     ensures other { IsTrue result
-        → slice_index state.now (rule_at task.now rule).var ≢ (rule_at task.now rule).new }
+        → slice_index state.now (rule_at layered.now rule).var ≢ (rule_at layered.now rule).new }
     ensures no { IsFalse result → slice_index work.now.counters rule ≡ 0
-        → slice_index state.now (rule_at task.now rule).var ≡ (rule_at task.now rule).new }
+        → slice_index state.now (rule_at layered.now rule).var ≡ (rule_at layered.now rule).new }
 {
-    // The contract of `task` ensures that the task is well ranged and layered.
-    let _ = task.task();
+    let task = layered.task();
     let change = task.rule_change(rule);
     work.counters.as_slice()[rule as usize] == 0 && state.value(change.var) != change.new
 }

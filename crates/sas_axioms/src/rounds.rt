@@ -81,21 +81,20 @@ fn settle_layer<T: Grounded>(task: &Layered<T>, layer: u32, state: &mut State)
 }
 
 /// Evaluates each rule of the layer once. Returns whether a value changed.
-fn go_round<T: Grounded>(task: &Layered<T>, layer: u32, state: &mut State) -> bool
-    requires state { IsState task.now.variables state.old }
-    requires forced { OnlyForced task.now layer state.old }
-    ensures state { IsState task.now.variables state.new }
-    ensures forced { OnlyForced task.now layer state.new }
-    ensures off { SameOff task.now layer state.old state.new }
+fn go_round<T: Grounded>(layered: &Layered<T>, layer: u32, state: &mut State) -> bool
+    requires state { IsState layered.now.variables state.old }
+    requires forced { OnlyForced layered.now layer state.old }
+    ensures state { IsState layered.now.variables state.new }
+    ensures forced { OnlyForced layered.now layer state.new }
+    ensures off { SameOff layered.now layer state.old state.new }
     ensures more { IsTrue result
-        → equal_places state.new task.now.init < equal_places state.old task.now.init }
-    ensures done { IsFalse result → All (HasFired task.now layer state.new) task.now.rules }
+        → equal_places state.new layered.now.init < equal_places state.old layered.now.init }
+    ensures done { IsFalse result → All (HasFired layered.now layer state.new) layered.now.rules }
 {
-    // The contract of `task` ensures that the task is well ranged and layered.
-    let _ = task.task();
+    let task = layered.task();
     let mut changed = false;
     for rule in 0..task.rules() {
-        if changes(task, layer, state, rule) {
+        if changes(layered, layer, state, rule) {
             let change = task.rule_change(rule);
             state.set(Fact {
                 var: change.var,
@@ -108,14 +107,13 @@ fn go_round<T: Grounded>(task: &Layered<T>, layer: u32, state: &mut State) -> bo
 }
 
 /// Returns whether the rule is on the layer, fires, and changes the value of its variable.
-fn changes<T: Grounded>(task: &Layered<T>, layer: u32, state: &State, rule: u32) -> bool
-    requires state { IsState task.now.variables state.now }
-    requires rule { rule < length task.now.rules }
-    ensures yes { IsTrue result → Changes task.now layer state.now (rule_at task.now rule) }
-    ensures no { IsFalse result → HasFired task.now layer state.now (rule_at task.now rule) }
+fn changes<T: Grounded>(layered: &Layered<T>, layer: u32, state: &State, rule: u32) -> bool
+    requires state { IsState layered.now.variables state.now }
+    requires rule { rule < length layered.now.rules }
+    ensures yes { IsTrue result → Changes layered.now layer state.now (rule_at layered.now rule) }
+    ensures no { IsFalse result → HasFired layered.now layer state.now (rule_at layered.now rule) }
 {
-    // The contract of `task` ensures that the task is well ranged and layered.
-    let _ = task.task();
+    let task = layered.task();
     let change = task.rule_change(rule);
     task.layer(change.var) == Some(layer)
         && change.new != task.initial_value(change.var)
