@@ -62,15 +62,15 @@ pub fn index_of_all<T: Grounded>(
 
 /// Appends an entry for each condition of the rule. Its key is the variable of the condition.
 fn push_conditions<T: Grounded>(
-    task: &Layered<T>,
+    layered: &Layered<T>,
     rule: u32,
     waiting: &mut Vec<Entry<Waiting>>,
 ) -> Result<(), AllocError>
-    requires rule { rule < length task.now.rules }
+    requires rule { rule < length layered.now.rules }
     ensures { OnOk result (waiting.new.items
-        ≡ waiting.old.items ++ entries rule (rule_at task.now rule).conditions) }
+        ≡ waiting.old.items ++ entries rule (rule_at layered.now rule).conditions) }
 {
-    for condition in task.rule_conditions(rule) {
+    for condition in layered.rule_conditions(rule) {
         waiting.push(Entry {
             key: condition.var as usize,
             item: Waiting {

@@ -39,13 +39,13 @@ impl Counted {
 
     /// Sets all variables to their values in the state, and updates the counters. Few variables change in a step of a plan, so it first
     /// looks for parts of the states that differ.
-    pub fn follow<T: Grounded>(&mut self, task: &Layered<T>, state: &State)
-        requires state { length state.now ≡ length task.now.variables }
-        requires counts { IsCounted task.now self.old }
+    pub fn follow<T: Grounded>(&mut self, layered: &Layered<T>, state: &State)
+        requires state { length state.now ≡ length layered.now.variables }
+        requires counts { IsCounted layered.now self.old }
         ensures values { self.new.values ≡ state.now }
-        ensures counts { IsCounted task.now self.new }
+        ensures counts { IsCounted layered.now self.new }
     {
-        let variables = task.variables();
+        let variables = layered.variables();
         let mut start = 0;
         while start < variables {
             let end = part_end(start, variables);

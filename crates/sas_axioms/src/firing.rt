@@ -60,15 +60,19 @@ impl Drop for Work {
 impl Work {
     /// Returns the data before the first layer, with this limit on the work of an update. Allocates all memory that will be needed. `Err`
     /// means out of memory.
-    fn new<T: Grounded>(alloc: Global, task: &Layered<T>, share: usize) -> Result<Work, AllocError>
-        ensures room { IfOk result (λ work. WorkHasRoom task.now work) }
+    fn new<T: Grounded>(
+        alloc: Global,
+        layered: &Layered<T>,
+        share: usize,
+    ) -> Result<Work, AllocError>
+        ensures room { IfOk result (λ work. WorkHasRoom layered.now work) }
         ensures empty { IfOk result (λ work. work.stack.items ≡ []) }
     {
         Ok(Work {
             layer: 0,
-            counters: Items::from_vec(vec![in alloc; 0u32; task.rules() as usize]?),
-            stack: Vec::with_capacity(alloc, task.variables() as usize)?,
-            sources: Items::from_vec(vec![in alloc; 0u32; task.variables() as usize]?),
+            counters: Items::from_vec(vec![in alloc; 0u32; layered.rules() as usize]?),
+            stack: Vec::with_capacity(alloc, layered.variables() as usize)?,
+            sources: Items::from_vec(vec![in alloc; 0u32; layered.variables() as usize]?),
             agenda: Agenda::new(alloc, share)?,
         })
     }
@@ -92,28 +96,28 @@ impl Firing {
     /// be needed. `Err` means out of memory.
     pub fn new<T: Grounded>(
         alloc: Global,
-        task: &Layered<T>,
+        layered: &Layered<T>,
         share: usize,
     ) -> Result<Firing, AllocError>
-        ensures { IfOk result (λ firing. IsFiringReady task.now firing) }
+        ensures { IfOk result (λ firing. IsFiringReady layered.now firing) }
     {
-        let work = Work::new(alloc, task, share)?;
+        let work = Work::new(alloc, layered, share)?;
         Ok(Firing {
             alloc,
-            counted: Counted::new(alloc, task)?,
-            rules_of: rules_of_variables(alloc, task)?,
+            counted: Counted::new(alloc, layered)?,
+            rules_of: rules_of_variables(alloc, layered)?,
             work,
         })
     }
 
     /// Sets all counters to those for this state. Must be called before the lowest layer is settled.
-    pub fn begin<T: Grounded>(&mut self, task: &Layered<T>, state: &State)
-        requires prepared { IsFiringReady task.now self.old }
-        requires state { IsState task.now.variables state.now }
-        ensures prepared { IsFiringReady task.now self.new }
-        ensures counts { AreCounted task.now state.now self.new.work.counters }
+    pub fn begin<T: Grounded>(&mut self, layered: &Layered<T>, state: &State)
+        requires prepared { IsFiringReady layered.now self.old }
+        requires state { IsState layered.now.variables state.now }
+        ensures prepared { IsFiringReady layered.now self.new }
+        ensures counts { AreCounted layered.now state.now self.new.work.counters }
     {
-        self.counted.follow(task, state);
+        self.counted.follow(layered, state);
         let mut counters = replace(&mut self.work.counters, Items::new(self.alloc)).into_vec();
         counters.copy_from_slice(self.counted.counters.as_slice());
         self.work.counters = Items::from_vec(counters);
@@ -123,26 +127,26 @@ impl Firing {
     /// be left out.
     pub fn settle_layer<T: Grounded>(
         &mut self,
-        task: &Layered<T>,
+        layered: &Layered<T>,
         layer: u32,
         rules: &[LayerRule],
         state: &mut State,
     )
-        requires prepared { IsFiringReady task.now self.old }
-        requires counts { AreCounted task.now state.old self.old.work.counters }
-        requires rules { AreRulesOn task.now layer rules.now }
-        requires state { IsState task.now.variables state.old }
-        requires default { AtDefault task.now layer state.old }
-        ensures prepared { IsFiringReady task.now self.new }
-        ensures settles { SettlesLayer task.now layer state.old state.new }
-        ensures counts { AreCounted task.now state.new self.new.work.counters }
-        ensures given { AreGiven task.now layer state.new self.new.work.sources }
-        ensures sources { SameSourcesOff task.now layer self.old.work.sources
+        requires prepared { IsFiringReady layered.now self.old }
+        requires counts { AreCounted layered.now state.old self.old.work.counters }
+        requires rules { AreRulesOn layered.now layer rules.now }
+        requires state { IsState layered.now.variables state.old }
+        requires default { AtDefault layered.now layer state.old }
+        ensures prepared { IsFiringReady layered.now self.new }
+        ensures settles { SettlesLayer layered.now layer state.old state.new }
+        ensures counts { AreCounted layered.now state.new self.new.work.counters }
+        ensures given { AreGiven layered.now layer state.new self.new.work.sources }
+        ensures sources { SameSourcesOff layered.now layer self.old.work.sources
             self.new.work.sources }
     {
         self.work.layer = layer;
         let indexed = IndexedRules {
-            layered: task,
+            layered,
             waiting: &self.counted.index,
             setting: &self.rules_of,
         };
@@ -154,23 +158,23 @@ impl Firing {
     /// added to `touched`. Gives up if the update takes too much work.
     pub fn follow<T: Grounded>(
         &mut self,
-        task: &Layered<T>,
+        layered: &Layered<T>,
         gone: &[Fact],
         state: &mut State,
         touched: &mut Touched,
     ) -> Result<(), TooMuch>
-        requires prepared { IsFiringReady task.now self.old }
-        requires state { IsState task.now.variables state.old }
+        requires prepared { IsFiringReady layered.now self.old }
+        requires state { IsState layered.now.variables state.old }
         requires follows { (s : List ℕ)
-            × IsFollowed task.now s self.old.work × HaveGone task.now gone.now s state.old }
-        ensures prepared { IsFiringReady task.now self.new }
-        ensures state { IsState task.now.variables state.new }
-        ensures basic { SameBasic task.now state.old state.new }
-        ensures covered { StillCovers task.now state.old touched.old state.new touched.new }
-        ensures followed { OnOk result (IsFollowed task.now state.new self.new.work) }
+            × IsFollowed layered.now s self.old.work × HaveGone layered.now gone.now s state.old }
+        ensures prepared { IsFiringReady layered.now self.new }
+        ensures state { IsState layered.now.variables state.new }
+        ensures basic { SameBasic layered.now state.old state.new }
+        ensures covered { StillCovers layered.now state.old touched.old state.new touched.new }
+        ensures followed { OnOk result (IsFollowed layered.now state.new self.new.work) }
     {
         self.work.agenda.begin();
-        let followed = self.follow_on(task, gone, state, touched);
+        let followed = self.follow_on(layered, gone, state, touched);
         self.work.agenda.end(followed);
         followed
     }
@@ -178,24 +182,24 @@ impl Firing {
     /// Updates the state. The agenda must be empty.
     fn follow_on<T: Grounded>(
         &mut self,
-        task: &Layered<T>,
+        layered: &Layered<T>,
         gone: &[Fact],
         state: &mut State,
         touched: &mut Touched,
     ) -> Result<(), TooMuch>
-        requires prepared { IsFiringReady task.now self.old }
-        requires state { IsState task.now.variables state.old }
+        requires prepared { IsFiringReady layered.now self.old }
+        requires state { IsState layered.now.variables state.old }
         requires follows { (s : List ℕ)
-            × IsFollowed task.now s self.old.work × HaveGone task.now gone.now s state.old }
+            × IsFollowed layered.now s self.old.work × HaveGone layered.now gone.now s state.old }
         requires empty { IsEmpty self.old.work.agenda }
-        ensures prepared { IsFiringReady task.now self.new }
-        ensures state { IsState task.now.variables state.new }
-        ensures basic { SameBasic task.now state.old state.new }
-        ensures covered { StillCovers task.now state.old touched.old state.new touched.new }
-        ensures followed { OnOk result (IsFollowed task.now state.new self.new.work) }
+        ensures prepared { IsFiringReady layered.now self.new }
+        ensures state { IsState layered.now.variables state.new }
+        ensures basic { SameBasic layered.now state.old state.new }
+        ensures covered { StillCovers layered.now state.old touched.old state.new touched.new }
+        ensures followed { OnOk result (IsFollowed layered.now state.new self.new.work) }
     {
         let indexed = IndexedRules {
-            layered: task,
+            layered,
             waiting: &self.counted.index,
             setting: &self.rules_of,
         };

@@ -39,7 +39,8 @@ pub fn count_gone<T: Grounded>(
     requires empty { IsEmpty work.old.agenda }
     ensures same { SameWork work.old work.new }
     ensures between { OnOk result ((s : List ℕ) → IsFollowed indexed.now s work.old
-        → HaveGone indexed.now gone.now s state.now → IsBetween indexed.now s 0 state.now work.new) }
+        → HaveGone indexed.now gone.now s state.now
+        → IsBetween indexed.now s 0 state.now work.new) }
 {
     for fact in gone {
         let moved = Moved {
@@ -114,7 +115,8 @@ fn has_lost<T: Grounded>(layered: &Layered<T>, rule: u32, work: &Work, state: &S
     requires state { IsState layered.now.variables state.now }
     requires counters { length work.now.counters ≡ length layered.now.rules }
     requires places { length work.now.sources ≡ length layered.now.variables }
-    ensures yes { IsTrue result → IsTrue (differs layered.now state.now (rule_at layered.now rule).var) }
+    ensures yes { IsTrue result
+        → IsTrue (differs layered.now state.now (rule_at layered.now rule).var) }
     ensures no { IsFalse result
         → slice_index work.now.sources (rule_at layered.now rule).var ≡ rule
         → IsTrue (differs layered.now state.now (rule_at layered.now rule).var)
@@ -245,35 +247,35 @@ fn recount<T: Grounded>(
 
 /// Sets the counter of the rule. Notes the rule if it begins or ceases to hold.
 fn count_to<T: Grounded>(
-    task: &Layered<T>,
+    layered: &Layered<T>,
     rule: u32,
     count: u32,
     work: &mut Work,
 ) -> Result<(), TooMuch>
-    requires exists { rule < length task.now.rules }
-    requires counters { length work.old.counters ≡ length task.now.rules }
+    requires exists { rule < length layered.now.rules }
+    requires counters { length work.old.counters ≡ length layered.now.rules }
     requires ordered { IsOrdered work.old.agenda }
     ensures same { SameWork work.old work.new }
-    ensures counts { OnOk result (CountsTo task.now rule count work.old work.new) }
+    ensures counts { OnOk result (CountsTo layered.now rule count work.old work.new) }
 {
     let held = work.counters.as_slice()[rule as usize] == 0;
     work.counters.set(rule as usize, count);
     if held != (count == 0) {
-        note(task, rule, &mut work.agenda)?;
+        note(layered, rule, &mut work.agenda)?;
     }
     Ok(())
 }
 
 /// Notes the rule if it can fire.
-fn note<T: Grounded>(task: &Layered<T>, rule: u32, agenda: &mut Agenda) -> Result<(), TooMuch>
-    requires exists { rule < length task.now.rules }
+fn note<T: Grounded>(layered: &Layered<T>, rule: u32, agenda: &mut Agenda) -> Result<(), TooMuch>
+    requires exists { rule < length layered.now.rules }
     requires ordered { IsOrdered agenda.old }
-    ensures noted { OnOk result ((layer : ℕ) → IsRuleOn task.now layer rule
+    ensures noted { OnOk result ((layer : ℕ) → IsRuleOn layered.now layer rule
         → IsOnAgenda agenda.new layer rule) }
-    ensures notes { OnOk result (NotesMore task.now (λ r. r ≡ rule) agenda.old agenda.new) }
+    ensures notes { OnOk result (NotesMore layered.now (λ r. r ≡ rule) agenda.old agenda.new) }
     ensures left { OnOk result (work_left agenda.new ≤ work_left agenda.old + 2) }
 {
-    match firing_layer(task, rule) {
+    match firing_layer(layered, rule) {
         Some(layer) => agenda.note(LayerRule { layer, rule }),
         None => Ok(()),
     }

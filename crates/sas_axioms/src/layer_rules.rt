@@ -18,14 +18,14 @@ pub struct LayerRule {
 /// out of memory.
 pub fn first_rules<T: Grounded>(
     alloc: Global,
-    task: &Layered<T>,
+    layered: &Layered<T>,
 ) -> Result<Vec<LayerRule>, AllocError>
-    ensures { IfOk result (λ rules. AreFirstRules task.now rules.items) }
+    ensures { IfOk result (λ rules. AreFirstRules layered.now rules.items) }
 {
     let mut rules = Vec::new(alloc);
-    for rule in 0..task.rules() {
-        if let Some(layer) = firing_layer(task, rule) {
-            if !is_late(task, layer, rule) {
+    for rule in 0..layered.rules() {
+        if let Some(layer) = firing_layer(layered, rule) {
+            if !is_late(layered, layer, rule) {
                 rules.push(LayerRule { layer, rule })?;
             }
         }
