@@ -1,5 +1,5 @@
 -- Updating the counters for the basic variables that changed, one at a time.
-use Rattle.sas_axioms.proofs.Imports.{◌≡◌, ◌≢◌, ℕ, zero, suc, ◌<◌, List, [], ◌∷◌, length, get_or, set, refl, sym, ◌∙◌, ap, subst, inl, inr, arith, All, AllPairs, heap_items, cases_eq, get_or-set_same, get_or-set_other, All-nil, All-cons, All-head, All-tail, All-contains, Reverse, Fact, Parts, rule_at, IsState, HaveGone, IsBasic, IsOnLayer, IsLayered, IsSettledAt, Settles, Holds, differs_same, Work, LayerRule, IsEmpty, IsHolding, SourcesHold, AreGiven, CountsChange, IsFollowed, CountedSoFar, IsBetween, IsRuleOn}
+use Rattle.sas_axioms.proofs.Imports.{◌≡◌, ◌≢◌, ℕ, zero, suc, ◌<◌, List, [], ◌∷◌, length, get_or, set, refl, sym, ◌∙◌, ap, subst, inl, inr, arith, All, AllPairs, heap_items, cases_eq, get_or-set_same, get_or-set_other, All-nil, All-cons, All-head, All-tail, All-contains, Reverse, Fact, Parts, rule_at, IsState, HaveGone, IsBasic, IsOnLayer, IsSettledAt, Settles, Holds, differs_same, Work, LayerRule, IsEmpty, IsHolding, SourcesHold, AreGiven, CountsChange, IsFollowed, CountedSoFar, IsBetween, IsRuleOn}
 use Rattle.sas_axioms.proofs.Counters.{open_same}
 use Rattle.sas_axioms.proofs.FallingSteps.{noted_moved}
 use Rattle.sas_axioms.proofs.Sources.{sources_same, settled_when_given}
