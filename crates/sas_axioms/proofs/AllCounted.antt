@@ -13,9 +13,10 @@ given_to_next p layer s s' sources sources' layered off same here {from} given d
   ]
 ]
 
-pub followed_in_the_end : (p : Parts) (from : ℕ) (s : List ℕ) (w : Work) → IsState p.variables s → length w.sources ≡ length p.variables → AreCounted p s w.counters
+pub followed_in_the_end : (p : Parts) (from : ℕ) (s : List ℕ) (w : Work) → IsLayered p → IsState p.variables s → length w.sources ≡ length p.variables → AreCounted p s w.counters
     → ((below : ℕ) → below < from → AreGiven p below s w.sources) → ((m : ℕ) → from ≤ m → AtDefault p m s) → IsSettled p s → IsFollowed p s w
-followed_in_the_end p from s w state places counts given default settled = record {
+followed_in_the_end p from s w layered state places counts given default settled = record {
+  layered = layered;
   state = state;
   settled = settled;
   places = places;

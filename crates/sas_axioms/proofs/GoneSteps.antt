@@ -1,5 +1,5 @@
 -- Updating the counters for the basic variables that changed, one at a time.
-use Rattle.sas_axioms.proofs.Imports.{◌≡◌, ◌≢◌, ℕ, zero, suc, ◌<◌, List, [], ◌∷◌, length, get_or, set, refl, sym, ◌∙◌, ap, subst, inl, inr, arith, All, AllPairs, heap_items, cases_eq, get_or-set_same, get_or-set_other, All-nil, All-cons, All-head, All-tail, All-contains, Reverse, Fact, Parts, rule_at, IsState, HaveGone, IsBasic, IsOnLayer, IsLayered, IsSettledAt, Settles, Holds, differs_same, Work, LayerRule, IsEmpty, IsHolding, SourcesHold, AreGiven, CountsChange, IsFollowed, CountedSoFar, IsBetween, IsRuleOn}
+use Rattle.sas_axioms.proofs.Imports.{◌≡◌, ◌≢◌, ℕ, zero, suc, ◌<◌, List, [], ◌∷◌, length, get_or, set, refl, sym, ◌∙◌, ap, subst, inl, inr, arith, All, AllPairs, heap_items, cases_eq, get_or-set_same, get_or-set_other, All-nil, All-cons, All-head, All-tail, All-contains, Reverse, Fact, Parts, rule_at, IsState, HaveGone, IsBasic, IsOnLayer, IsSettledAt, Settles, Holds, differs_same, Work, LayerRule, IsEmpty, IsHolding, SourcesHold, AreGiven, CountsChange, IsFollowed, CountedSoFar, IsBetween, IsRuleOn}
 use Rattle.sas_axioms.proofs.Counters.{open_same}
 use Rattle.sas_axioms.proofs.FallingSteps.{noted_moved}
 use Rattle.sas_axioms.proofs.Sources.{sources_same, settled_when_given}
@@ -76,6 +76,7 @@ counted_more p s0 m w w' v value basic same_sources so_far moves = rw same_sourc
 -- where no fact is left, the state is counted, and its layers are still to be settled
 pub between_begins : (p : Parts) (s0 m s : List ℕ) (w : Work) → IsState p.variables s → IsFollowed p s0 w → HaveGone p [] m s → (w' : Work) → w'.sources ≡ w.sources → CountedSoFar p s0 m w' → IsBetween p s0 0 s w'
 between_begins p s0 m s w state followed have w' sources so_far = record {
+  layered = followed.layered;
   track = record {
     state = state;
     counts = record {
@@ -114,11 +115,12 @@ between_begins p s0 m s w state followed have w' sources so_far = record {
 -- ---- where no rule can fire
 
 -- a state is settled as it stands, and followed with what was counted before
-pub idle_followed : (p : Parts) (gone : List Fact) (s s' : List ℕ) (w : Work) → IsLayered p → ((layer rule : ℕ) → IsRuleOn p layer rule → ⊥) → IsState p.variables s'
+pub idle_followed : (p : Parts) (gone : List Fact) (s s' : List ℕ) (w : Work) → ((layer rule : ℕ) → IsRuleOn p layer rule → ⊥) → IsState p.variables s'
     → IsFollowed p s w → HaveGone p gone s s' → IsFollowed p s' w
-idle_followed p gone s s' w layered none state followed have = record {
+idle_followed p gone s s' w none state followed have = record {
+  layered = followed.layered;
   state = state;
-  settled = λ layer. settled_when_given p layer s' w.sources layered (given layer) (λ rule is hold. absurd (none layer rule is));
+  settled = λ layer. settled_when_given p layer s' w.sources followed.layered (given layer) (λ rule is hold. absurd (none layer rule is));
   counts = record { one_each = followed.counts.one_each; known = state.one_each; exact = λ layer rule is. absurd (none layer rule is) };
   places = followed.places;
   given = given;
@@ -135,10 +137,10 @@ idle_followed p gone s s' w layered none state followed have = record {
           ((followed.given layer).have.source v on (differs_same p s' s v (kept layer v on) d)).is);
     }
 
-pub idle_settles : (p : Parts) (gone : List Fact) (s s' : List ℕ) (w : Work) → IsLayered p → ((layer rule : ℕ) → IsRuleOn p layer rule → ⊥) → IsState p.variables s'
+pub idle_settles : (p : Parts) (gone : List Fact) (s s' : List ℕ) (w : Work) → ((layer rule : ℕ) → IsRuleOn p layer rule → ⊥) → IsState p.variables s'
     → IsFollowed p s w → HaveGone p gone s s' → Settles p s' s'
-idle_settles p gone s s' w layered none state followed have = record {
+idle_settles p gone s s' w none state followed have = record {
   state = state;
   basic = λ v b. refl;
-  settled = (idle_followed p gone s s' w layered none state followed have).settled;
+  settled = (idle_followed p gone s s' w none state followed have).settled;
 }

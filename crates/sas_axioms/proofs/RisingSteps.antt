@@ -128,7 +128,7 @@ risen_in_the_end p s0 s w layered rising behind empty = record {
 -- ---- from layer to layer
 
 -- the layers of which no rule is noted are given and settled as before
-module _ (p : Parts) (s0 s : List ℕ) (from : ℕ) (w : Work) (m : ℕ) (layered : IsLayered p) (between : IsBetween p s0 from s w) (le : from ≤ m) (none : (rule : ℕ) → IsOnAgenda w.agenda m rule → ⊥) where
+module _ (p : Parts) (s0 s : List ℕ) (from : ℕ) (w : Work) (m : ℕ) (between : IsBetween p s0 from s w) (le : from ≤ m) (none : (rule : ℕ) → IsOnAgenda w.agenda m rule → ⊥) where
   same_holding : (rule : ℕ) → IsRuleOn p m rule → IsHolding p s0 rule ↔ IsHolding p s rule
   same_holding rule is = elim (between.noted m rule le is) [ inl noted ↦ absurd (none rule noted) | inr same ↦ same ]
 
@@ -139,7 +139,7 @@ module _ (p : Parts) (s0 s : List ℕ) (from : ℕ) (w : Work) (m : ℕ) (layere
   }
 
   pub settled_between : IsSettledAt p m s
-  settled_between = settled_when_given p m s w.sources layered given_between (λ rule is hold.
+  settled_between = settled_when_given p m s w.sources between.layered given_between (λ rule is hold.
       (let d = differs_where_holding p m rule s0 (between.settled m) is ((same_holding rule is).1 hold) in
       differs_same p s0 s (rule_at p rule).var (between.same m (rule_at p rule).var le is.on) d))
 
@@ -175,7 +175,7 @@ falling_begins p s0 s from layer w between le lowest = record {
     differs_now other on d = differs_same p s0 s (rule_at p other).var (between.same layer (rule_at p other).var le on.on) d
 
 -- the layer at hand is settled, and the next ones are at hand
-module _ (p : Parts) (s0 s s' : List ℕ) (from layer : ℕ) (w w' : Work) (layered : IsLayered p) (between : IsBetween p s0 from s w) (le : from ≤ layer) (lowest : NoLowerLayer layer w.agenda)
+module _ (p : Parts) (s0 s s' : List ℕ) (from layer : ℕ) (w w' : Work) (between : IsBetween p s0 from s w) (le : from ≤ layer) (lowest : NoLowerLayer layer w.agenda)
     (is : w'.layer ≡ layer) (off : SameOff p layer s s') (same_sources : (v : ℕ) → (IsOnLayer p layer v → ⊥) → get_or w'.sources v 0 ≡ get_or w.sources v 0) (risen : HasRisen p s0 s' w') where
   not_noted : (m : ℕ) → m < layer → (rule : ℕ) → IsOnAgenda w.agenda m rule → ⊥
   not_noted m lt rule noted =
@@ -184,29 +184,30 @@ module _ (p : Parts) (s0 s s' : List ℕ) (from layer : ℕ) (w w' : Work) (laye
   settled_before : (m : ℕ) → m < layer → IsSettledAt p m s
   settled_before m lt = elim (cases_lt m from) [
     | inl early ↦ between.below m early
-    | inr late ↦ settled_between p s0 s from w m layered between late (not_noted m lt)
+    | inr late ↦ settled_between p s0 s from w m between late (not_noted m lt)
   ]
 
   given_before : (m : ℕ) → m < layer → AreGiven p m s w.sources
   given_before m lt = elim (cases_lt m from) [
     | inl early ↦ record { have = between.have m; hold = between.hold m early }
-    | inr late ↦ given_between p s0 s from w m layered between late (not_noted m lt)
+    | inr late ↦ given_between p s0 s from w m between late (not_noted m lt)
   ]
 
   below : (m : ℕ) → m < layer + 1 → IsSettledAt p m s'
   below m lt = elim (cases_eq m layer) [
     | inl e ↦ subst (λ n. IsSettledAt p n s') (is ∙ sym e) risen.here
-    | inr ne ↦ settled_off p layer s s' layered off m (omega arith) (settled_before m (omega arith))
+    | inr ne ↦ settled_off p layer s s' between.layered off m (omega arith) (settled_before m (omega arith))
   ]
 
   hold : (m : ℕ) → m < layer + 1 → SourcesHold p m w'.sources s' s'
   hold m lt = elim (cases_eq m layer) [
     | inl e ↦ subst (λ n. SourcesHold p n w'.sources s' s') (is ∙ sym e) risen.hold
-    | inr ne ↦ (given_off p layer m s s' w.sources w'.sources layered off same_sources (omega arith) (given_before m (omega arith))).hold
+    | inr ne ↦ (given_off p layer m s s' w.sources w'.sources between.layered off same_sources (omega arith) (given_before m (omega arith))).hold
   ]
 
   pub between_again : IsBetween p s0 (layer + 1) s' w'
   between_again = record {
+    layered = between.layered;
     track = record {
       state = risen.track.state;
       counts = risen.track.counts;
@@ -227,18 +228,19 @@ module _ (p : Parts) (s0 s s' : List ℕ) (from layer : ℕ) (w w' : Work) (laye
   }
 
 -- where no rule is noted, all layers are settled
-pub followed_when_none : (p : Parts) (s0 s : List ℕ) (from : ℕ) (w : Work) → IsLayered p → IsBetween p s0 from s w → heap_items w.agenda.noted ≡ [] → IsFollowed p s w
-followed_when_none p s0 s from w layered between empty = record {
+pub followed_when_none : (p : Parts) (s0 s : List ℕ) (from : ℕ) (w : Work) → IsBetween p s0 from s w → heap_items w.agenda.noted ≡ [] → IsFollowed p s w
+followed_when_none p s0 s from w between empty = record {
+  layered = between.layered;
   state = between.track.state;
   settled = λ m. elim (cases_lt m from) [
     | inl early ↦ between.below m early
-    | inr late ↦ settled_between p s0 s from w m layered between late (none m)
+    | inr late ↦ settled_between p s0 s from w m between late (none m)
   ];
   counts = between.track.counts;
   places = between.track.places;
   given = λ m. elim (cases_lt m from) [
     | inl early ↦ record { have = between.have m; hold = between.hold m early }
-    | inr late ↦ given_between p s0 s from w m layered between late (none m)
+    | inr late ↦ given_between p s0 s from w m between late (none m)
   ];
 }
   where

@@ -6,10 +6,11 @@ use Rattle.sas_core.specs.declared.parts.Parts.{Parts}
 use Rattle.sas_core.specs.Grounded.{rule_at}
 use Rattle.sas_core.specs.WellRanged.{WellRanged}
 use Rattle.sas_flat.specs.declared.by_key.Entry.{Entry}
+use Rattle.sas_meaning.specs.Layers.{IsLayered}
 use Rattle.sas_axioms.specs.declared.conditions.Moved.{Moved}
 use Rattle.sas_axioms.specs.declared.conditions.Waiting.{Waiting}
 use Rattle.sas_axioms.specs.declared.counting.Counted.{Counted}
-use Rattle.sas_axioms.specs.LayerRules.{IsRuleOn}
+use Rattle.sas_axioms.specs.LayerRules.{IsRuleOn, AreRulesOf}
 
 -- how often these conditions contain this fact
 abbrev pub asking : ℕ → ℕ → List Fact → ℕ
@@ -58,6 +59,15 @@ pub record IsFullIndex (p : Parts) (index : List (List Waiting)) : Type 0 where
       → occurrences rule (released value (waiting_at index var))
       ≡ asking var value (rule_at p rule).conditions
 
+-- the task is well ranged and layered, and the lists are the conditions and the rules of each
+-- variable
+pub record AreIndexed (p : Parts) (waiting : List (List Waiting)) (setting : List (List ℕ))
+    : Type 0 where
+  pub ranged : WellRanged p
+  pub layered : IsLayered p
+  pub full : IsFullIndex p waiting
+  pub all : AreRulesOf p setting
+
 -- the number of conditions that don't hold
 abbrev pub open_conditions : (ℕ → ℕ) → List Fact → ℕ
 open_conditions value [] = 0
@@ -72,9 +82,10 @@ pub record AreCounted (p : Parts) (values counters : List ℕ) : Type 0 where
   pub exact : (layer rule : ℕ) → IsRuleOn p layer rule
       → slice_index counters rule ≡ open_conditions (slice_index values) (rule_at p rule).conditions
 
--- the counters are those of the values, and the index is that of the task
+-- the counters are those of the values, and the index is that of the layered task
 pub record IsCounted (p : Parts) (c : Counted) : Type 0 where
   pub ranged : WellRanged p
+  pub layered : IsLayered p
   pub index : IsFullIndex p c.index
   pub counts : AreCounted p c.values c.counters
 

@@ -6,7 +6,7 @@ use Rattle.sas_core.specs.declared.parts.Fact.{Fact}
 use Rattle.sas_core.specs.declared.parts.Parts.{Parts}
 use Rattle.sas_core.specs.Grounded.{rule_at}
 use Rattle.sas_core.specs.Variables.{IsState}
-use Rattle.sas_meaning.specs.Layers.{IsOnLayer}
+use Rattle.sas_meaning.specs.Layers.{IsOnLayer, IsLayered}
 use Rattle.sas_meaning.specs.Settled.{differs, IsSettledAt, IsSettled}
 use Rattle.sas_axioms.specs.declared.agenda.Agenda.{Agenda}
 use Rattle.sas_axioms.specs.declared.firing.Work.{Work}
@@ -95,9 +95,10 @@ pub record CountedSoFar (p : Parts) (s0 m : List ℕ) (w : Work) : Type 0 where
   pub held : (layer : ℕ) → SourcesHold p layer w.sources m s0
   pub empty : w.agenda.ready.items ≡ []
 
--- Layers below `layer` are settled in s. On the others, s has the derived values of the settled
+-- The task is layered. Layers below `layer` are settled in s. On the others, s has the derived values of the settled
 -- state s0, and the rules that hold in exactly one of s0 and s are noted.
 pub record IsBetween (p : Parts) (s0 : List ℕ) (layer : ℕ) (s : List ℕ) (w : Work) : Type 0 where
+  pub layered : IsLayered p
   pub track : IsOnTrack p layer s w
   pub settled : IsSettled p s0
   pub below : (m : ℕ) → m < layer → IsSettledAt p m s
@@ -149,9 +150,10 @@ pub record HasRisen (p : Parts) (s0 s : List ℕ) (w : Work) : Type 0 where
   pub behind : AreBehind w.layer w.agenda
   pub empty : w.agenda.ready.items ≡ []
 
--- the state is settled, the counters are those of the state, and each derived variable that differs
--- from its default was set by its source
+-- the task is layered, the state is settled, the counters are those of the state, and each derived
+-- variable that differs from its default was set by its source
 pub record IsFollowed (p : Parts) (s : List ℕ) (w : Work) : Type 0 where
+  pub layered : IsLayered p
   pub state : IsState p.variables s
   pub settled : IsSettled p s
   pub counts : AreCounted p s w.counters

@@ -46,16 +46,15 @@ pub fn count_after(condition: Waiting, moved: Moved, counters: &Items<u32>) -> O
 /// Returns the index of all conditions of rules that can fire. `Err` means out of memory.
 pub fn index_of_all<T: Grounded>(
     alloc: Global,
-    task: &Layered<T>,
+    layered: &Layered<T>,
 ) -> Result<Lists<Waiting>, AllocError>
-    ensures { IfOk result (λ index. IsFullIndex task.now index) }
+    ensures { IfOk result (λ index. IsFullIndex layered.now index) }
 {
-    // The contract of `task` ensures that the task is well ranged and layered.
-    let _ = task.task();
+    let task = layered.task();
     let mut waiting = Vec::new(alloc);
     for rule in 0..task.rules() {
-        if let Some(_layer) = firing_layer(task, rule) {
-            push_conditions(task, rule, &mut waiting)?;
+        if let Some(_layer) = firing_layer(layered, rule) {
+            push_conditions(layered, rule, &mut waiting)?;
         }
     }
     Lists::by_key(alloc, waiting.as_slice(), task.variables() as usize)
@@ -63,15 +62,15 @@ pub fn index_of_all<T: Grounded>(
 
 /// Appends an entry for each condition of the rule. Its key is the variable of the condition.
 fn push_conditions<T: Grounded>(
-    task: &Layered<T>,
+    layered: &Layered<T>,
     rule: u32,
     waiting: &mut Vec<Entry<Waiting>>,
 ) -> Result<(), AllocError>
-    requires rule { rule < length task.now.rules }
+    requires rule { rule < length layered.now.rules }
     ensures { OnOk result (waiting.new.items
-        ≡ waiting.old.items ++ entries rule (rule_at task.now rule).conditions) }
+        ≡ waiting.old.items ++ entries rule (rule_at layered.now rule).conditions) }
 {
-    for condition in task.rule_conditions(rule) {
+    for condition in layered.rule_conditions(rule) {
         waiting.push(Entry {
             key: condition.var as usize,
             item: Waiting {

@@ -22,15 +22,14 @@ pub struct Counted {
 
 impl Counted {
     /// Returns the counters for the values in the state section. `Err` means out of memory.
-    pub fn new<T: Grounded>(alloc: Global, task: &Layered<T>) -> Result<Counted, AllocError>
-        ensures values { IfOk result (λ counted. counted.values ≡ task.now.init) }
-        ensures counts { IfOk result (λ counted. IsCounted task.now counted) }
+    pub fn new<T: Grounded>(alloc: Global, layered: &Layered<T>) -> Result<Counted, AllocError>
+        ensures values { IfOk result (λ counted. counted.values ≡ layered.now.init) }
+        ensures counts { IfOk result (λ counted. IsCounted layered.now counted) }
     {
-        // The contract of `task` ensures that the task is well ranged and layered.
-        let _ = task.task();
-        let index = index_of_all(alloc, task)?;
+        let task = layered.task();
+        let index = index_of_all(alloc, layered)?;
         let values = State::of_section(alloc, task)?;
-        let counters = open_counters(alloc, task, &values)?;
+        let counters = open_counters(alloc, layered, &values)?;
         Ok(Counted {
             index,
             values,
@@ -40,13 +39,13 @@ impl Counted {
 
     /// Sets all variables to their values in the state, and updates the counters. Few variables change in a step of a plan, so it first
     /// looks for parts of the states that differ.
-    pub fn follow<T: Grounded>(&mut self, task: &Layered<T>, state: &State)
-        requires state { length state.now ≡ length task.now.variables }
-        requires counts { IsCounted task.now self.old }
+    pub fn follow<T: Grounded>(&mut self, layered: &Layered<T>, state: &State)
+        requires state { length state.now ≡ length layered.now.variables }
+        requires counts { IsCounted layered.now self.old }
         ensures values { self.new.values ≡ state.now }
-        ensures counts { IsCounted task.now self.new }
+        ensures counts { IsCounted layered.now self.new }
     {
-        let variables = task.variables();
+        let variables = layered.variables();
         let mut start = 0;
         while start < variables {
             let end = part_end(start, variables);
@@ -142,14 +141,13 @@ fn are_changed(former: &[u32], values: &[u32], start: usize, end: usize) -> bool
 /// Returns for each rule the number of its conditions that are open under these values.
 fn open_counters<T: Grounded>(
     alloc: Global,
-    task: &Layered<T>,
+    layered: &Layered<T>,
     values: &State,
 ) -> Result<Items<u32>, AllocError>
-    requires known { length values.now ≡ length task.now.variables }
-    ensures { IfOk result (λ counters. AreCounted task.now values.now counters) }
+    requires known { length values.now ≡ length layered.now.variables }
+    ensures { IfOk result (λ counters. AreCounted layered.now values.now counters) }
 {
-    // The contract of `task` ensures that the task is well ranged and layered.
-    let _ = task.task();
+    let task = layered.task();
     let mut counters = Items::new(alloc);
     for rule in 0..task.rules() {
         counters.push(open_of(values, task.rule_conditions(rule)))?;

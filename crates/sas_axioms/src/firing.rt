@@ -9,16 +9,17 @@ ghost use Rattle.sas_meaning.specs.Settled.{SameBasic};
 ghost use Rattle.sas_meaning.specs.Touched.{StillCovers};
 ghost use Rattle.sas_axioms.specs.ByLayers.{SettlesLayer};
 ghost use Rattle.sas_axioms.specs.LayerRules.{IsRuleOn, AreRulesOn};
-ghost use Rattle.sas_axioms.specs.Conditions.{AreCounted, IsFullIndex};
+ghost use Rattle.sas_axioms.specs.Conditions.{AreCounted};
 ghost use Rattle.sas_axioms.specs.Agenda.{IsEmpty};
 ghost use Rattle.sas_axioms.specs.Sources.{AreGiven, SameSourcesOff};
 ghost use Rattle.sas_axioms.specs.Following.{IsFollowed};
 ghost use Rattle.sas_axioms.specs.Worklist.{IsRunning, WorkHasRoom, IsAtWork, WorkGoesOn, FiresRule, IsFiringReady};
 
 use crate::agenda::{Agenda, TooMuch};
-use crate::conditions::{Moved, Waiting, count_after};
+use crate::conditions::{Moved, count_after};
 use crate::counting::Counted;
 use crate::following::{count_gone, settle_noted};
+use crate::indexed_rules::IndexedRules;
 use crate::layer_rules::{LayerRule, rules_of_variables};
 use sas_core::{Fact, Grounded, Items};
 use sas_flat::Lists;
@@ -59,15 +60,19 @@ impl Drop for Work {
 impl Work {
     /// Returns the data before the first layer, with this limit on the work of an update. Allocates all memory that will be needed. `Err`
     /// means out of memory.
-    fn new<T: Grounded>(alloc: Global, task: &Layered<T>, share: usize) -> Result<Work, AllocError>
-        ensures room { IfOk result (λ work. WorkHasRoom task.now work) }
+    fn new<T: Grounded>(
+        alloc: Global,
+        layered: &Layered<T>,
+        share: usize,
+    ) -> Result<Work, AllocError>
+        ensures room { IfOk result (λ work. WorkHasRoom layered.now work) }
         ensures empty { IfOk result (λ work. work.stack.items ≡ []) }
     {
         Ok(Work {
             layer: 0,
-            counters: Items::from_vec(vec![in alloc; 0u32; task.rules() as usize]?),
-            stack: Vec::with_capacity(alloc, task.variables() as usize)?,
-            sources: Items::from_vec(vec![in alloc; 0u32; task.variables() as usize]?),
+            counters: Items::from_vec(vec![in alloc; 0u32; layered.rules() as usize]?),
+            stack: Vec::with_capacity(alloc, layered.variables() as usize)?,
+            sources: Items::from_vec(vec![in alloc; 0u32; layered.variables() as usize]?),
             agenda: Agenda::new(alloc, share)?,
         })
     }
@@ -91,28 +96,28 @@ impl Firing {
     /// be needed. `Err` means out of memory.
     pub fn new<T: Grounded>(
         alloc: Global,
-        task: &Layered<T>,
+        layered: &Layered<T>,
         share: usize,
     ) -> Result<Firing, AllocError>
-        ensures { IfOk result (λ firing. IsFiringReady task.now firing) }
+        ensures { IfOk result (λ firing. IsFiringReady layered.now firing) }
     {
-        let work = Work::new(alloc, task, share)?;
+        let work = Work::new(alloc, layered, share)?;
         Ok(Firing {
             alloc,
-            counted: Counted::new(alloc, task)?,
-            rules_of: rules_of_variables(alloc, task)?,
+            counted: Counted::new(alloc, layered)?,
+            rules_of: rules_of_variables(alloc, layered)?,
             work,
         })
     }
 
     /// Sets all counters to those for this state. Must be called before the lowest layer is settled.
-    pub fn begin<T: Grounded>(&mut self, task: &Layered<T>, state: &State)
-        requires prepared { IsFiringReady task.now self.old }
-        requires state { IsState task.now.variables state.now }
-        ensures prepared { IsFiringReady task.now self.new }
-        ensures counts { AreCounted task.now state.now self.new.work.counters }
+    pub fn begin<T: Grounded>(&mut self, layered: &Layered<T>, state: &State)
+        requires prepared { IsFiringReady layered.now self.old }
+        requires state { IsState layered.now.variables state.now }
+        ensures prepared { IsFiringReady layered.now self.new }
+        ensures counts { AreCounted layered.now state.now self.new.work.counters }
     {
-        self.counted.follow(task, state);
+        self.counted.follow(layered, state);
         let mut counters = replace(&mut self.work.counters, Items::new(self.alloc)).into_vec();
         counters.copy_from_slice(self.counted.counters.as_slice());
         self.work.counters = Items::from_vec(counters);
@@ -122,49 +127,54 @@ impl Firing {
     /// be left out.
     pub fn settle_layer<T: Grounded>(
         &mut self,
-        task: &Layered<T>,
+        layered: &Layered<T>,
         layer: u32,
         rules: &[LayerRule],
         state: &mut State,
     )
-        requires prepared { IsFiringReady task.now self.old }
-        requires counts { AreCounted task.now state.old self.old.work.counters }
-        requires rules { AreRulesOn task.now layer rules.now }
-        requires state { IsState task.now.variables state.old }
-        requires default { AtDefault task.now layer state.old }
-        ensures prepared { IsFiringReady task.now self.new }
-        ensures settles { SettlesLayer task.now layer state.old state.new }
-        ensures counts { AreCounted task.now state.new self.new.work.counters }
-        ensures given { AreGiven task.now layer state.new self.new.work.sources }
-        ensures sources { SameSourcesOff task.now layer self.old.work.sources
+        requires prepared { IsFiringReady layered.now self.old }
+        requires counts { AreCounted layered.now state.old self.old.work.counters }
+        requires rules { AreRulesOn layered.now layer rules.now }
+        requires state { IsState layered.now.variables state.old }
+        requires default { AtDefault layered.now layer state.old }
+        ensures prepared { IsFiringReady layered.now self.new }
+        ensures settles { SettlesLayer layered.now layer state.old state.new }
+        ensures counts { AreCounted layered.now state.new self.new.work.counters }
+        ensures given { AreGiven layered.now layer state.new self.new.work.sources }
+        ensures sources { SameSourcesOff layered.now layer self.old.work.sources
             self.new.work.sources }
     {
         self.work.layer = layer;
-        fire_ready(task, rules, &mut self.work, state);
-        empty_stack(task, &self.counted.index, &mut self.work, state);
+        let indexed = IndexedRules {
+            layered,
+            waiting: &self.counted.index,
+            setting: &self.rules_of,
+        };
+        fire_ready(&indexed, rules, &mut self.work, state);
+        empty_stack(&indexed, &mut self.work, state);
     }
 
     /// Updates the state, which must be settled except that the facts `gone` may have become false. The derived variables that it sets are
     /// added to `touched`. Gives up if the update takes too much work.
     pub fn follow<T: Grounded>(
         &mut self,
-        task: &Layered<T>,
+        layered: &Layered<T>,
         gone: &[Fact],
         state: &mut State,
         touched: &mut Touched,
     ) -> Result<(), TooMuch>
-        requires prepared { IsFiringReady task.now self.old }
-        requires state { IsState task.now.variables state.old }
+        requires prepared { IsFiringReady layered.now self.old }
+        requires state { IsState layered.now.variables state.old }
         requires follows { (s : List ℕ)
-            × IsFollowed task.now s self.old.work × HaveGone task.now gone.now s state.old }
-        ensures prepared { IsFiringReady task.now self.new }
-        ensures state { IsState task.now.variables state.new }
-        ensures basic { SameBasic task.now state.old state.new }
-        ensures covered { StillCovers task.now state.old touched.old state.new touched.new }
-        ensures followed { OnOk result (IsFollowed task.now state.new self.new.work) }
+            × IsFollowed layered.now s self.old.work × HaveGone layered.now gone.now s state.old }
+        ensures prepared { IsFiringReady layered.now self.new }
+        ensures state { IsState layered.now.variables state.new }
+        ensures basic { SameBasic layered.now state.old state.new }
+        ensures covered { StillCovers layered.now state.old touched.old state.new touched.new }
+        ensures followed { OnOk result (IsFollowed layered.now state.new self.new.work) }
     {
         self.work.agenda.begin();
-        let followed = self.follow_on(task, gone, state, touched);
+        let followed = self.follow_on(layered, gone, state, touched);
         self.work.agenda.end(followed);
         followed
     }
@@ -172,67 +182,69 @@ impl Firing {
     /// Updates the state. The agenda must be empty.
     fn follow_on<T: Grounded>(
         &mut self,
-        task: &Layered<T>,
+        layered: &Layered<T>,
         gone: &[Fact],
         state: &mut State,
         touched: &mut Touched,
     ) -> Result<(), TooMuch>
-        requires prepared { IsFiringReady task.now self.old }
-        requires state { IsState task.now.variables state.old }
+        requires prepared { IsFiringReady layered.now self.old }
+        requires state { IsState layered.now.variables state.old }
         requires follows { (s : List ℕ)
-            × IsFollowed task.now s self.old.work × HaveGone task.now gone.now s state.old }
+            × IsFollowed layered.now s self.old.work × HaveGone layered.now gone.now s state.old }
         requires empty { IsEmpty self.old.work.agenda }
-        ensures prepared { IsFiringReady task.now self.new }
-        ensures state { IsState task.now.variables state.new }
-        ensures basic { SameBasic task.now state.old state.new }
-        ensures covered { StillCovers task.now state.old touched.old state.new touched.new }
-        ensures followed { OnOk result (IsFollowed task.now state.new self.new.work) }
+        ensures prepared { IsFiringReady layered.now self.new }
+        ensures state { IsState layered.now.variables state.new }
+        ensures basic { SameBasic layered.now state.old state.new }
+        ensures covered { StillCovers layered.now state.old touched.old state.new touched.new }
+        ensures followed { OnOk result (IsFollowed layered.now state.new self.new.work) }
     {
-        let index = &self.counted.index;
-        count_gone(task, index, gone, &mut self.work, state)?;
-        settle_noted(task, index, &self.rules_of, &mut self.work, state, touched)
+        let indexed = IndexedRules {
+            layered,
+            waiting: &self.counted.index,
+            setting: &self.rules_of,
+        };
+        count_gone(&indexed, gone, &mut self.work, state)?;
+        settle_noted(&indexed, &mut self.work, state, touched)
     }
 }
 
 /// Fires the rules of the layer that have no open conditions. All variables of the layer must have their defaults, so that none of the
 /// rules that are left out has.
 fn fire_ready<T: Grounded>(
-    task: &Layered<T>,
+    indexed: &IndexedRules<'_, '_, T>,
     rules: &[LayerRule],
     work: &mut Work,
     state: &mut State,
 )
-    requires rules { AreRulesOn task.now work.old.layer rules.now }
-    requires room { WorkHasRoom task.now work.old }
-    requires running { IsRunning task.now work.old.layer state.old work.old.stack.items }
+    requires rules { AreRulesOn indexed.now work.old.layer rules.now }
+    requires room { WorkHasRoom indexed.now work.old }
+    requires running { IsRunning indexed.now work.old.layer state.old work.old.stack.items }
     requires empty { work.old.stack.items ≡ [] }
-    requires counts { AreCounted task.now state.old work.old.counters }
-    requires given { AreGiven task.now work.old.layer state.old work.old.sources }
-    requires default { AtDefault task.now work.old.layer state.old }
-    ensures at_work { IsAtWork task.now state.new work.new.stack.items work.new }
-    ensures goes_on { WorkGoesOn task.now state.old work.old state.new work.new }
+    requires counts { AreCounted indexed.now state.old work.old.counters }
+    requires given { AreGiven indexed.now work.old.layer state.old work.old.sources }
+    requires default { AtDefault indexed.now work.old.layer state.old }
+    ensures at_work { IsAtWork indexed.now state.new work.new.stack.items work.new }
+    ensures goes_on { WorkGoesOn indexed.now state.old work.old state.new work.new }
 {
-    // The contract of `task` ensures that the task is well ranged and layered.
-    let _ = task.task();
+    let layered = indexed.layered;
     for entry in rules {
         if work.counters.as_slice()[entry.rule as usize] == 0 {
-            fire(task, entry.rule, work, state);
+            fire(layered, entry.rule, work, state);
         }
     }
 }
 
 /// Sets the variable of the rule to its new value, unless the variable is on another layer. If this changes the variable, pushes it on the
 /// stack.
-fn fire<T: Grounded>(task: &Layered<T>, rule: u32, work: &mut Work, state: &mut State)
-    requires rule { (layer : ℕ) × IsRuleOn task.now layer rule }
-    requires room { WorkHasRoom task.now work.old }
-    requires running { IsRunning task.now work.old.layer state.old work.old.stack.items }
-    requires hold { IsRuleOn task.now work.old.layer rule
-        → AllHold (slice_index state.old) (rule_at task.now rule).conditions }
-    ensures { FiresRule task.now rule state.old work.old state.new work.new }
+fn fire<T: Grounded>(layered: &Layered<T>, rule: u32, work: &mut Work, state: &mut State)
+    requires rule { (layer : ℕ) × IsRuleOn layered.now layer rule }
+    requires room { WorkHasRoom layered.now work.old }
+    requires running { IsRunning layered.now work.old.layer state.old work.old.stack.items }
+    requires hold { IsRuleOn layered.now work.old.layer rule
+        → AllHold (slice_index state.old) (rule_at layered.now rule).conditions }
+    ensures { FiresRule layered.now rule state.old work.old state.new work.new }
 {
-    // The contract of `task` ensures that the task is well ranged and layered.
-    let _ = task.task();
+    let task = layered.task();
     let change = task.rule_change(rule);
     if state.value(change.var) != change.new && task.layer(change.var) == Some(work.layer) {
         state.set(Fact {
@@ -245,53 +257,41 @@ fn fire<T: Grounded>(task: &Layered<T>, rule: u32, work: &mut Work, state: &mut 
 }
 
 /// Updates the counters of the rules with conditions on the variables on the stack, until the stack is empty.
-fn empty_stack<T: Grounded>(
-    task: &Layered<T>,
-    index: &Lists<Waiting>,
-    work: &mut Work,
-    state: &mut State,
-)
-    requires index { IsFullIndex task.now index.now }
-    requires at_work { IsAtWork task.now state.old work.old.stack.items work.old }
-    ensures settles { SettlesLayer task.now work.old.layer state.old state.new }
-    ensures room { WorkHasRoom task.now work.new }
+fn empty_stack<T: Grounded>(indexed: &IndexedRules<'_, '_, T>, work: &mut Work, state: &mut State)
+    requires { IsAtWork indexed.now state.old work.old.stack.items work.old }
+    ensures settles { SettlesLayer indexed.now work.old.layer state.old state.new }
+    ensures room { WorkHasRoom indexed.now work.new }
     ensures empty { work.new.stack.items ≡ [] }
-    ensures counts { AreCounted task.now state.new work.new.counters }
-    ensures given { AreGiven task.now work.old.layer state.new work.new.sources }
-    ensures sources { SameSourcesOff task.now work.old.layer work.old.sources work.new.sources }
+    ensures counts { AreCounted indexed.now state.new work.new.counters }
+    ensures given { AreGiven indexed.now work.old.layer state.new work.new.sources }
+    ensures sources { SameSourcesOff indexed.now work.old.layer work.old.sources work.new.sources }
 {
-    // The contract of `task` ensures that the task is well ranged and layered.
-    let _ = task.task();
     while let Some(var) = work.stack.pop() {
-        release(task, index, var, work, state);
+        release(indexed, var, work, state);
     }
 }
 
 /// Updates the counters of the rules with conditions on the variable, which was the last on the stack. Fires the rules of the layer whose
 /// counter becomes 0.
 fn release<T: Grounded>(
-    task: &Layered<T>,
-    index: &Lists<Waiting>,
+    indexed: &IndexedRules<'_, '_, T>,
     var: u32,
     work: &mut Work,
     state: &mut State,
 )
-    requires index { IsFullIndex task.now index.now }
-    requires popped { IsAtWork task.now state.old (work.old.stack.items ++ var ∷ []) work.old }
-    ensures at_work { IsAtWork task.now state.new work.new.stack.items work.new }
-    ensures goes_on { WorkGoesOn task.now state.old work.old state.new work.new }
+    requires { IsAtWork indexed.now state.old (work.old.stack.items ++ var ∷ []) work.old }
+    ensures at_work { IsAtWork indexed.now state.new work.new.stack.items work.new }
+    ensures goes_on { WorkGoesOn indexed.now state.old work.old state.new work.new }
 {
-    // The contract of `task` ensures that the task is well ranged and layered.
-    let _ = task.task();
     let moved = Moved {
-        former: task.initial_value(var),
+        former: indexed.layered.initial_value(var),
         value: state.value(var),
     };
-    for condition in index.get(var as usize) {
+    for condition in indexed.waiting.get(var as usize) {
         if let Some(count) = count_after(*condition, moved, &work.counters) {
             work.counters.set(condition.rule as usize, count);
             if count == 0 {
-                fire(task, condition.rule, work, state);
+                fire(indexed.layered, condition.rule, work, state);
             }
         }
     }

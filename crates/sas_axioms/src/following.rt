@@ -12,46 +12,43 @@ ghost use Rattle.sas_meaning.specs.Forced.{SameOff};
 ghost use Rattle.sas_meaning.specs.Settled.{SameBasic, differs};
 ghost use Rattle.sas_meaning.specs.Touched.{AddsTouched, StillCovers};
 ghost use Rattle.sas_axioms.specs.Agenda.{IsEmpty, IsOnAgenda, IsOrdered, AreMadeReady, work_left};
-ghost use Rattle.sas_axioms.specs.Conditions.{AreCounted, IsFullIndex};
-ghost use Rattle.sas_axioms.specs.LayerRules.{IsRuleOn, AreRulesOf};
+ghost use Rattle.sas_axioms.specs.Conditions.{AreCounted};
+ghost use Rattle.sas_axioms.specs.LayerRules.{IsRuleOn};
 ghost use Rattle.sas_axioms.specs.Sources.{SameSourcesOff};
 ghost use Rattle.sas_axioms.specs.Following.{SameWork, KeepsRoom, NotesMore, CountsTo, CountsChange};
 ghost use Rattle.sas_axioms.specs.Following.{IsBetween, IsFalling, IsRising, HasRisen, IsFollowed};
 
 use crate::agenda::{Agenda, TooMuch};
-use crate::conditions::{Moved, Waiting, count_after};
+use crate::conditions::{Moved, count_after};
 use crate::firing::Work;
+use crate::indexed_rules::IndexedRules;
 use crate::layer_rules::{LayerRule, firing_layer};
 use sas_core::{Fact, Grounded};
-use sas_flat::Lists;
 use sas_meaning::{Layered, State, Touched};
 
 /// Updates the counters of the rules with conditions on the variables of `gone`, which are facts that may have become false.
 pub fn count_gone<T: Grounded>(
-    task: &Layered<T>,
-    index: &Lists<Waiting>,
+    indexed: &IndexedRules<'_, '_, T>,
     gone: &[Fact],
     work: &mut Work,
     state: &State,
 ) -> Result<(), TooMuch>
-    requires index { IsFullIndex task.now index.now }
-    requires state { IsState task.now.variables state.now }
+    requires state { IsState indexed.now.variables state.now }
     requires follows { (s : List ℕ)
-        × IsFollowed task.now s work.old × HaveGone task.now gone.now s state.now }
+        × IsFollowed indexed.now s work.old × HaveGone indexed.now gone.now s state.now }
     requires empty { IsEmpty work.old.agenda }
     ensures same { SameWork work.old work.new }
-    ensures between { OnOk result ((s : List ℕ) → IsFollowed task.now s work.old
-        → HaveGone task.now gone.now s state.now → IsBetween task.now s 0 state.now work.new) }
+    ensures between { OnOk result ((s : List ℕ) → IsFollowed indexed.now s work.old
+        → HaveGone indexed.now gone.now s state.now
+        → IsBetween indexed.now s 0 state.now work.new) }
 {
-    // The contract of `task` ensures that the task is well ranged and layered.
-    let _ = task.task();
     for fact in gone {
         let moved = Moved {
             former: fact.value,
             value: state.value(fact.var),
         };
         if moved.former != moved.value {
-            recount(task, index, fact.var, moved, work)?;
+            recount(indexed, fact.var, moved, work)?;
         }
     }
     Ok(())
@@ -59,63 +56,52 @@ pub fn count_gone<T: Grounded>(
 
 /// Settles the layers with noted rules, one by one.
 pub fn settle_noted<T: Grounded>(
-    task: &Layered<T>,
-    index: &Lists<Waiting>,
-    rules_of: &Lists<u32>,
+    indexed: &IndexedRules<'_, '_, T>,
     work: &mut Work,
     state: &mut State,
     touched: &mut Touched,
 ) -> Result<(), TooMuch>
-    requires index { IsFullIndex task.now index.now }
-    requires rules { AreRulesOf task.now rules_of.now }
-    requires between { (s : List ℕ) × IsBetween task.now s 0 state.old work.old }
-    ensures state { IsState task.now.variables state.new }
-    ensures basic { SameBasic task.now state.old state.new }
-    ensures covered { StillCovers task.now state.old touched.old state.new touched.new }
+    requires { (s : List ℕ) × IsBetween indexed.now s 0 state.old work.old }
+    ensures state { IsState indexed.now.variables state.new }
+    ensures basic { SameBasic indexed.now state.old state.new }
+    ensures covered { StillCovers indexed.now state.old touched.old state.new touched.new }
     ensures stack { work.new.stack ≡ work.old.stack }
     ensures one_each { length work.new.counters ≡ length work.old.counters }
     ensures sources { length work.new.sources ≡ length work.old.sources }
-    ensures followed { OnOk result (IsFollowed task.now state.new work.new) }
+    ensures followed { OnOk result (IsFollowed indexed.now state.new work.new) }
 {
-    // The contract of `task` ensures that the task is well ranged and layered.
-    let _ = task.task();
     while let Some(layer) = work.agenda.lowest() {
         work.layer = layer;
-        fall(task, index, rules_of, work, state, touched)?;
-        rise(task, index, work, state, touched)?;
+        fall(indexed, work, state, touched)?;
+        rise(indexed, work, state, touched)?;
     }
     Ok(())
 }
 
 /// Resets the variables of the layer whose source no longer holds. Then the rules that may set them again are ready.
 fn fall<T: Grounded>(
-    task: &Layered<T>,
-    index: &Lists<Waiting>,
-    rules_of: &Lists<u32>,
+    indexed: &IndexedRules<'_, '_, T>,
     work: &mut Work,
     state: &mut State,
     touched: &mut Touched,
 ) -> Result<(), TooMuch>
-    requires index { IsFullIndex task.now index.now }
-    requires rules { AreRulesOf task.now rules_of.now }
-    requires falling { (s : List ℕ) × IsFalling task.now s state.old work.old }
+    requires falling { (s : List ℕ) × IsFalling indexed.now s state.old work.old }
     requires noted { (rule : ℕ) × IsOnAgenda work.old.agenda work.old.layer rule }
     ensures same { SameWork work.old work.new }
-    ensures state { IsState task.now.variables state.new }
-    ensures off { SameOff task.now work.old.layer state.old state.new }
-    ensures covered { StillCovers task.now state.old touched.old state.new touched.new }
-    ensures rising { OnOk result ((s : List ℕ) → IsFalling task.now s state.old work.old
-        → IsRising task.now s state.new work.new) }
+    ensures state { IsState indexed.now.variables state.new }
+    ensures off { SameOff indexed.now work.old.layer state.old state.new }
+    ensures covered { StillCovers indexed.now state.old touched.old state.new touched.new }
+    ensures rising { OnOk result ((s : List ℕ) → IsFalling indexed.now s state.old work.old
+        → IsRising indexed.now s state.new work.new) }
     ensures left { OnOk result (work_left work.new.agenda < work_left work.old.agenda) }
 {
-    // The contract of `task` ensures that the task is well ranged and layered.
-    let _ = task.task();
+    let layered = indexed.layered;
     while let Some(rule) = work.agenda.take(work.layer) {
-        if has_lost(task, rule, work, state) {
-            let var = task.rule_change(rule).var;
-            let value = task.initial_value(var);
-            set_to(task, index, Fact { var, value }, work, state, touched)?;
-            make_ready(rules_of.get(var as usize), &mut work.agenda)?;
+        if has_lost(layered, rule, work, state) {
+            let var = layered.rule_change(rule).var;
+            let value = layered.initial_value(var);
+            set_to(indexed, Fact { var, value }, work, state, touched)?;
+            make_ready(indexed.setting.get(var as usize), &mut work.agenda)?;
         } else {
             work.agenda.make_ready(rule)?;
         }
@@ -124,19 +110,19 @@ fn fall<T: Grounded>(
 }
 
 /// Returns whether the rule is the source of its variable's value but no longer holds.
-fn has_lost<T: Grounded>(task: &Layered<T>, rule: u32, work: &Work, state: &State) -> bool
-    requires rule { (layer : ℕ) × IsRuleOn task.now layer rule }
-    requires state { IsState task.now.variables state.now }
-    requires counters { length work.now.counters ≡ length task.now.rules }
-    requires places { length work.now.sources ≡ length task.now.variables }
-    ensures yes { IsTrue result → IsTrue (differs task.now state.now (rule_at task.now rule).var) }
+fn has_lost<T: Grounded>(layered: &Layered<T>, rule: u32, work: &Work, state: &State) -> bool
+    requires rule { (layer : ℕ) × IsRuleOn layered.now layer rule }
+    requires state { IsState layered.now.variables state.now }
+    requires counters { length work.now.counters ≡ length layered.now.rules }
+    requires places { length work.now.sources ≡ length layered.now.variables }
+    ensures yes { IsTrue result
+        → IsTrue (differs layered.now state.now (rule_at layered.now rule).var) }
     ensures no { IsFalse result
-        → slice_index work.now.sources (rule_at task.now rule).var ≡ rule
-        → IsTrue (differs task.now state.now (rule_at task.now rule).var)
+        → slice_index work.now.sources (rule_at layered.now rule).var ≡ rule
+        → IsTrue (differs layered.now state.now (rule_at layered.now rule).var)
         → slice_index work.now.counters rule ≡ 0 }
 {
-    // The contract of `task` ensures that the task is well ranged and layered.
-    let _ = task.task();
+    let task = layered.task();
     let var = task.rule_change(rule).var;
     if work.counters.as_slice()[rule as usize] == 0
         || work.sources.as_slice()[var as usize] != rule
@@ -159,33 +145,30 @@ fn make_ready(rules: &[u32], agenda: &mut Agenda) -> Result<(), TooMuch>
 
 /// Lets the ready and noted rules of the layer that hold set their variables, including rules that start to hold because of this.
 fn rise<T: Grounded>(
-    task: &Layered<T>,
-    index: &Lists<Waiting>,
+    indexed: &IndexedRules<'_, '_, T>,
     work: &mut Work,
     state: &mut State,
     touched: &mut Touched,
 ) -> Result<(), TooMuch>
-    requires index { IsFullIndex task.now index.now }
-    requires rising { (s : List ℕ) × IsRising task.now s state.old work.old }
+    requires { (s : List ℕ) × IsRising indexed.now s state.old work.old }
     ensures stands { KeepsRoom work.old work.new }
-    ensures state { IsState task.now.variables state.new }
-    ensures off { SameOff task.now work.old.layer state.old state.new }
-    ensures covered { StillCovers task.now state.old touched.old state.new touched.new }
-    ensures risen { OnOk result ((s : List ℕ) → IsRising task.now s state.old work.old
-        → HasRisen task.now s state.new work.new) }
-    ensures sources { SameSourcesOff task.now work.old.layer work.old.sources work.new.sources }
+    ensures state { IsState indexed.now.variables state.new }
+    ensures off { SameOff indexed.now work.old.layer state.old state.new }
+    ensures covered { StillCovers indexed.now state.old touched.old state.new touched.new }
+    ensures risen { OnOk result ((s : List ℕ) → IsRising indexed.now s state.old work.old
+        → HasRisen indexed.now s state.new work.new) }
+    ensures sources { SameSourcesOff indexed.now work.old.layer work.old.sources work.new.sources }
     ensures left { OnOk result (work_left work.new.agenda ≤ work_left work.old.agenda) }
 {
-    // The contract of `task` ensures that the task is well ranged and layered.
-    let _ = task.task();
+    let layered = indexed.layered;
     while let Some(rule) = work.agenda.next(work.layer) {
-        if has_to_set(task, rule, work, state) {
-            let change = task.rule_change(rule);
+        if has_to_set(layered, rule, work, state) {
+            let change = layered.rule_change(rule);
             let fact = Fact {
                 var: change.var,
                 value: change.new,
             };
-            set_to(task, index, fact, work, state, touched)?;
+            set_to(indexed, fact, work, state, touched)?;
             work.sources.set(change.var as usize, rule);
         }
     }
@@ -193,41 +176,38 @@ fn rise<T: Grounded>(
 }
 
 /// Returns whether the rule holds but its variable doesn't have its value.
-fn has_to_set<T: Grounded>(task: &Layered<T>, rule: u32, work: &Work, state: &State) -> bool
-    requires rule { (layer : ℕ) × IsRuleOn task.now layer rule }
-    requires state { IsState task.now.variables state.now }
-    requires counters { length work.now.counters ≡ length task.now.rules }
+fn has_to_set<T: Grounded>(layered: &Layered<T>, rule: u32, work: &Work, state: &State) -> bool
+    requires rule { (layer : ℕ) × IsRuleOn layered.now layer rule }
+    requires state { IsState layered.now.variables state.now }
+    requires counters { length work.now.counters ≡ length layered.now.rules }
     ensures holds { IsTrue result → slice_index work.now.counters rule ≡ 0 }
     ensures other { IsTrue result
-        → slice_index state.now (rule_at task.now rule).var ≢ (rule_at task.now rule).new }
+        → slice_index state.now (rule_at layered.now rule).var ≢ (rule_at layered.now rule).new }
     ensures no { IsFalse result → slice_index work.now.counters rule ≡ 0
-        → slice_index state.now (rule_at task.now rule).var ≡ (rule_at task.now rule).new }
+        → slice_index state.now (rule_at layered.now rule).var ≡ (rule_at layered.now rule).new }
 {
-    // The contract of `task` ensures that the task is well ranged and layered.
-    let _ = task.task();
+    let task = layered.task();
     let change = task.rule_change(rule);
     work.counters.as_slice()[rule as usize] == 0 && state.value(change.var) != change.new
 }
 
 /// Sets the variable to another value, adds it to `touched`, and updates the counters of the rules with conditions on it.
 fn set_to<T: Grounded>(
-    task: &Layered<T>,
-    index: &Lists<Waiting>,
+    indexed: &IndexedRules<'_, '_, T>,
     fact: Fact,
     work: &mut Work,
     state: &mut State,
     touched: &mut Touched,
 ) -> Result<(), TooMuch>
-    requires index { IsFullIndex task.now index.now }
-    requires counts { AreCounted task.now state.old work.old.counters }
+    requires counts { AreCounted indexed.now state.old work.old.counters }
     requires ordered { IsOrdered work.old.agenda }
-    requires derived { IsDerived task.now.variables fact.var }
+    requires derived { IsDerived indexed.now.variables fact.var }
     requires other { slice_index state.old fact.var ≢ fact.value }
     ensures state { state.new ≡ slice_set state.old fact.var fact.value }
     ensures noted { AddsTouched fact.var touched.old touched.new }
     ensures same { SameWork work.old work.new }
     ensures moves { OnOk result
-        (CountsChange task.now fact.var state.old work.old state.new work.new) }
+        (CountsChange indexed.now fact.var state.old work.old state.new work.new) }
 {
     let moved = Moved {
         former: state.value(fact.var),
@@ -235,35 +215,31 @@ fn set_to<T: Grounded>(
     };
     state.set(fact);
     touched.note(fact.var);
-    recount(task, index, fact.var, moved, work)
+    recount(indexed, fact.var, moved, work)
 }
 
 /// Updates the counters of the rules with conditions on the variable. Notes the rules that begin or cease to hold.
 fn recount<T: Grounded>(
-    task: &Layered<T>,
-    index: &Lists<Waiting>,
+    indexed: &IndexedRules<'_, '_, T>,
     var: u32,
     moved: Moved,
     work: &mut Work,
 ) -> Result<(), TooMuch>
-    requires index { IsFullIndex task.now index.now }
-    requires exists { var < length task.now.variables }
+    requires exists { var < length indexed.now.variables }
     requires differ { moved.former ≢ moved.value }
     requires counts { (s : List ℕ)
-        × AreCounted task.now s work.old.counters × (slice_index s var ≡ moved.former) }
+        × AreCounted indexed.now s work.old.counters × (slice_index s var ≡ moved.former) }
     requires ordered { IsOrdered work.old.agenda }
     ensures same { SameWork work.old work.new }
-    ensures moves { OnOk result ((s : List ℕ) → AreCounted task.now s work.old.counters
+    ensures moves { OnOk result ((s : List ℕ) → AreCounted indexed.now s work.old.counters
         → slice_index s var ≡ moved.former
-        → CountsChange task.now var s work.old (slice_set s var moved.value) work.new) }
+        → CountsChange indexed.now var s work.old (slice_set s var moved.value) work.new) }
 {
-    // The contract of `task` ensures that the task is well ranged and layered.
-    let _ = task.task();
-    let waiting = index.get(var as usize);
+    let waiting = indexed.waiting.get(var as usize);
     work.agenda.pay(waiting.len())?;
     for condition in waiting {
         if let Some(count) = count_after(*condition, moved, &work.counters) {
-            count_to(task, condition.rule, count, work)?;
+            count_to(indexed.layered, condition.rule, count, work)?;
         }
     }
     Ok(())
@@ -271,35 +247,35 @@ fn recount<T: Grounded>(
 
 /// Sets the counter of the rule. Notes the rule if it begins or ceases to hold.
 fn count_to<T: Grounded>(
-    task: &Layered<T>,
+    layered: &Layered<T>,
     rule: u32,
     count: u32,
     work: &mut Work,
 ) -> Result<(), TooMuch>
-    requires exists { rule < length task.now.rules }
-    requires counters { length work.old.counters ≡ length task.now.rules }
+    requires exists { rule < length layered.now.rules }
+    requires counters { length work.old.counters ≡ length layered.now.rules }
     requires ordered { IsOrdered work.old.agenda }
     ensures same { SameWork work.old work.new }
-    ensures counts { OnOk result (CountsTo task.now rule count work.old work.new) }
+    ensures counts { OnOk result (CountsTo layered.now rule count work.old work.new) }
 {
     let held = work.counters.as_slice()[rule as usize] == 0;
     work.counters.set(rule as usize, count);
     if held != (count == 0) {
-        note(task, rule, &mut work.agenda)?;
+        note(layered, rule, &mut work.agenda)?;
     }
     Ok(())
 }
 
 /// Notes the rule if it can fire.
-fn note<T: Grounded>(task: &Layered<T>, rule: u32, agenda: &mut Agenda) -> Result<(), TooMuch>
-    requires exists { rule < length task.now.rules }
+fn note<T: Grounded>(layered: &Layered<T>, rule: u32, agenda: &mut Agenda) -> Result<(), TooMuch>
+    requires exists { rule < length layered.now.rules }
     requires ordered { IsOrdered agenda.old }
-    ensures noted { OnOk result ((layer : ℕ) → IsRuleOn task.now layer rule
+    ensures noted { OnOk result ((layer : ℕ) → IsRuleOn layered.now layer rule
         → IsOnAgenda agenda.new layer rule) }
-    ensures notes { OnOk result (NotesMore task.now (λ r. r ≡ rule) agenda.old agenda.new) }
+    ensures notes { OnOk result (NotesMore layered.now (λ r. r ≡ rule) agenda.old agenda.new) }
     ensures left { OnOk result (work_left agenda.new ≤ work_left agenda.old + 2) }
 {
-    match firing_layer(task, rule) {
+    match firing_layer(layered, rule) {
         Some(layer) => agenda.note(LayerRule { layer, rule }),
         None => Ok(()),
     }

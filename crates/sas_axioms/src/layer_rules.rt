@@ -18,14 +18,14 @@ pub struct LayerRule {
 /// out of memory.
 pub fn first_rules<T: Grounded>(
     alloc: Global,
-    task: &Layered<T>,
+    layered: &Layered<T>,
 ) -> Result<Vec<LayerRule>, AllocError>
-    ensures { IfOk result (λ rules. AreFirstRules task.now rules.items) }
+    ensures { IfOk result (λ rules. AreFirstRules layered.now rules.items) }
 {
     let mut rules = Vec::new(alloc);
-    for rule in 0..task.rules() {
-        if let Some(layer) = firing_layer(task, rule) {
-            if !is_late(task, layer, rule) {
+    for rule in 0..layered.rules() {
+        if let Some(layer) = firing_layer(layered, rule) {
+            if !is_late(layered, layer, rule) {
                 rules.push(LayerRule { layer, rule })?;
             }
         }
@@ -36,12 +36,11 @@ pub fn first_rules<T: Grounded>(
 
 /// Returns whether the rule, which is on this layer, has conditions on derived variables, and all of them are on this layer. Such a rule
 /// never fires first on its layer. Before another rule fires there, its counter depends only on basic variables.
-fn is_late<T: Grounded>(task: &Layered<T>, layer: u32, rule: u32) -> bool
-    requires rule { IsRuleOn task.now layer rule }
-    ensures { IsTrue result → IsLate task.now layer rule }
+fn is_late<T: Grounded>(layered: &Layered<T>, layer: u32, rule: u32) -> bool
+    requires rule { IsRuleOn layered.now layer rule }
+    ensures { IsTrue result → IsLate layered.now layer rule }
 {
-    // The contract of `task` ensures that the task is well ranged and layered.
-    let _ = task.task();
+    let task = layered.task();
     let mut waits = false;
     for condition in task.rule_conditions(rule) {
         if let Some(its) = task.layer(condition.var) {
@@ -57,12 +56,11 @@ fn is_late<T: Grounded>(task: &Layered<T>, layer: u32, rule: u32) -> bool
 /// Returns the rules of each variable that can fire, in the order of the task.
 pub fn rules_of_variables<T: Grounded>(
     alloc: Global,
-    task: &Layered<T>,
+    layered: &Layered<T>,
 ) -> Result<Lists<u32>, AllocError>
-    ensures { IfOk result (AreRulesOf task.now) }
+    ensures { IfOk result (AreRulesOf layered.now) }
 {
-    // The contract of `task` ensures that the task is well ranged and layered.
-    let _ = task.task();
+    let task = layered.task();
     let mut entries = Vec::new(alloc);
     for rule in 0..task.rules() {
         let change = task.rule_change(rule);
@@ -77,13 +75,12 @@ pub fn rules_of_variables<T: Grounded>(
 }
 
 /// Returns the layer of the rule's variable, or `None` if the rule can't fire.
-pub fn firing_layer<T: Grounded>(task: &Layered<T>, rule: u32) -> Option<u32>
-    requires rule { rule < length task.now.rules }
-    ensures some { IfSome result (λ layer. IsRuleOn task.now layer rule) }
-    ensures none { IfNone result ((layer : ℕ) → IsRuleOn task.now layer rule → ⊥) }
+pub fn firing_layer<T: Grounded>(layered: &Layered<T>, rule: u32) -> Option<u32>
+    requires rule { rule < length layered.now.rules }
+    ensures some { IfSome result (λ layer. IsRuleOn layered.now layer rule) }
+    ensures none { IfNone result ((layer : ℕ) → IsRuleOn layered.now layer rule → ⊥) }
 {
-    // The contract of `task` ensures that the task is well ranged and layered.
-    let _ = task.task();
+    let task = layered.task();
     let change = task.rule_change(rule);
     if change.new == task.initial_value(change.var) {
         return None;

@@ -8,6 +8,7 @@ mod conditions;
 mod counting;
 mod firing;
 mod following;
+mod indexed_rules;
 mod layer_rules;
 mod rounds;
 mod worklist;

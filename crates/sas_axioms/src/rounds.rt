@@ -40,29 +40,29 @@ impl<T: Grounded> ByLayers<T> for Rounds {
 }
 
 /// Sets all derived variables to their defaults.
-fn set_defaults<T: Grounded>(task: &Layered<T>, state: &mut State)
-    requires { IsState task.now.variables state.old }
-    ensures state { IsState task.now.variables state.new }
-    ensures basic { SameBasic task.now state.old state.new }
-    ensures default { (layer : ℕ) → AtDefault task.now layer state.new }
+fn set_defaults<T: Grounded>(layered: &Layered<T>, state: &mut State)
+    requires { IsState layered.now.variables state.old }
+    ensures state { IsState layered.now.variables state.new }
+    ensures basic { SameBasic layered.now state.old state.new }
+    ensures default { (layer : ℕ) → AtDefault layered.now layer state.new }
 {
-    for var in 0..task.variables() {
-        if task.layer(var).is_some() {
-            let value = task.initial_value(var);
+    for var in 0..layered.variables() {
+        if layered.layer(var).is_some() {
+            let value = layered.initial_value(var);
             state.set(Fact { var, value });
         }
     }
 }
 
 /// Returns the lowest layer of a variable that is at least `from`, or `None` if there is none.
-fn next_layer<T: Grounded>(task: &Layered<T>, from: u64) -> Option<u32>
-    ensures some { IfSome result (λ n. (from ≤ n) × Occurs task.now n
-        × ((m : ℕ) → from ≤ m → Occurs task.now m → n ≤ m)) }
-    ensures none { IfNone result ((m : ℕ) → from ≤ m → Occurs task.now m → ⊥) }
+fn next_layer<T: Grounded>(layered: &Layered<T>, from: u64) -> Option<u32>
+    ensures some { IfSome result (λ n. (from ≤ n) × Occurs layered.now n
+        × ((m : ℕ) → from ≤ m → Occurs layered.now m → n ≤ m)) }
+    ensures none { IfNone result ((m : ℕ) → from ≤ m → Occurs layered.now m → ⊥) }
 {
     let mut lowest: Option<u32> = None;
-    for var in 0..task.variables() {
-        if let Some(layer) = task.layer(var) {
+    for var in 0..layered.variables() {
+        if let Some(layer) = layered.layer(var) {
             if from <= u64::from(layer) && lowest.is_none_or(|low| layer < low) {
                 lowest = Some(layer);
             }
@@ -72,30 +72,29 @@ fn next_layer<T: Grounded>(task: &Layered<T>, from: u64) -> Option<u32>
 }
 
 /// Settles a layer. All its variables must have their defaults.
-fn settle_layer<T: Grounded>(task: &Layered<T>, layer: u32, state: &mut State)
-    requires state { IsState task.now.variables state.old }
-    requires default { AtDefault task.now layer state.old }
-    ensures { SettlesLayer task.now layer state.old state.new }
+fn settle_layer<T: Grounded>(layered: &Layered<T>, layer: u32, state: &mut State)
+    requires state { IsState layered.now.variables state.old }
+    requires default { AtDefault layered.now layer state.old }
+    ensures { SettlesLayer layered.now layer state.old state.new }
 {
-    while go_round(task, layer, state) {}
+    while go_round(layered, layer, state) {}
 }
 
 /// Evaluates each rule of the layer once. Returns whether a value changed.
-fn go_round<T: Grounded>(task: &Layered<T>, layer: u32, state: &mut State) -> bool
-    requires state { IsState task.now.variables state.old }
-    requires forced { OnlyForced task.now layer state.old }
-    ensures state { IsState task.now.variables state.new }
-    ensures forced { OnlyForced task.now layer state.new }
-    ensures off { SameOff task.now layer state.old state.new }
+fn go_round<T: Grounded>(layered: &Layered<T>, layer: u32, state: &mut State) -> bool
+    requires state { IsState layered.now.variables state.old }
+    requires forced { OnlyForced layered.now layer state.old }
+    ensures state { IsState layered.now.variables state.new }
+    ensures forced { OnlyForced layered.now layer state.new }
+    ensures off { SameOff layered.now layer state.old state.new }
     ensures more { IsTrue result
-        → equal_places state.new task.now.init < equal_places state.old task.now.init }
-    ensures done { IsFalse result → All (HasFired task.now layer state.new) task.now.rules }
+        → equal_places state.new layered.now.init < equal_places state.old layered.now.init }
+    ensures done { IsFalse result → All (HasFired layered.now layer state.new) layered.now.rules }
 {
-    // The contract of `task` ensures that the task is well ranged and layered.
-    let _ = task.task();
+    let task = layered.task();
     let mut changed = false;
     for rule in 0..task.rules() {
-        if changes(task, layer, state, rule) {
+        if changes(layered, layer, state, rule) {
             let change = task.rule_change(rule);
             state.set(Fact {
                 var: change.var,
@@ -108,14 +107,13 @@ fn go_round<T: Grounded>(task: &Layered<T>, layer: u32, state: &mut State) -> bo
 }
 
 /// Returns whether the rule is on the layer, fires, and changes the value of its variable.
-fn changes<T: Grounded>(task: &Layered<T>, layer: u32, state: &State, rule: u32) -> bool
-    requires state { IsState task.now.variables state.now }
-    requires rule { rule < length task.now.rules }
-    ensures yes { IsTrue result → Changes task.now layer state.now (rule_at task.now rule) }
-    ensures no { IsFalse result → HasFired task.now layer state.now (rule_at task.now rule) }
+fn changes<T: Grounded>(layered: &Layered<T>, layer: u32, state: &State, rule: u32) -> bool
+    requires state { IsState layered.now.variables state.now }
+    requires rule { rule < length layered.now.rules }
+    ensures yes { IsTrue result → Changes layered.now layer state.now (rule_at layered.now rule) }
+    ensures no { IsFalse result → HasFired layered.now layer state.now (rule_at layered.now rule) }
 {
-    // The contract of `task` ensures that the task is well ranged and layered.
-    let _ = task.task();
+    let task = layered.task();
     let change = task.rule_change(rule);
     task.layer(change.var) == Some(layer)
         && change.new != task.initial_value(change.var)

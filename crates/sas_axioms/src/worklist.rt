@@ -89,8 +89,6 @@ impl<T: Grounded> Settle<T> for Worklist {
         state: &mut State,
         touched: &mut Touched,
     ) {
-        // The contract of `task` ensures that the task is well ranged and layered.
-        let _ = layered.task();
         touched.clear();
         if self.derived.is_empty() {
             // No rule can fire, so the state is already settled.
@@ -121,8 +119,6 @@ impl<T: Grounded> ByLayers<T> for Worklist {
     }
 
     fn settle_next(&mut self, layered: &Layered<T>, _from: u64, state: &mut State) -> Option<u32> {
-        // The contract of `task` ensures that the task is well ranged and layered.
-        let _ = layered.task();
         let rules = self.rules.as_slice();
         let span = self.spans.as_slice().get(self.next)?;
         self.firing
@@ -134,15 +130,14 @@ impl<T: Grounded> ByLayers<T> for Worklist {
 }
 
 /// Sets the derived variables, which are `derived`, to their default.
-fn set_defaults<T: Grounded>(task: &Layered<T>, derived: &[u32], state: &mut State)
-    requires derived { AreDerived task.now derived.now }
-    requires state { IsState task.now.variables state.old }
-    ensures state { IsState task.now.variables state.new }
-    ensures basic { SameBasic task.now state.old state.new }
-    ensures default { (layer : ℕ) → AtDefault task.now layer state.new }
+fn set_defaults<T: Grounded>(layered: &Layered<T>, derived: &[u32], state: &mut State)
+    requires derived { AreDerived layered.now derived.now }
+    requires state { IsState layered.now.variables state.old }
+    ensures state { IsState layered.now.variables state.new }
+    ensures basic { SameBasic layered.now state.old state.new }
+    ensures default { (layer : ℕ) → AtDefault layered.now layer state.new }
 {
-    // The contract of `task` ensures that the task is well ranged and layered.
-    let _ = task.task();
+    let task = layered.task();
     for var in derived {
         state.set(Fact {
             var: *var,

@@ -47,7 +47,8 @@ pub use Rattle.sas_groups.specs.Clashes.{Keeps, IsRemoved, sets, Clash, Contradi
 pub use Rattle.sas_groups.specs.Distinct.{facts_at, AreOwnLists, AreDistinct, IsBelow}
 pub use Rattle.sas_groups.specs.Families.{MayBeExclusive, IsIn, IsGroupOf, IsGroupOfOr, AllKeep, IsKeptJointly, IsGreatest, IsOnBasic}
 pub use Rattle.sas_groups.specs.Groups.{IsExclusiveIn}
-pub use Rattle.sas_groups.specs.Index.{facts_below, fact_number, entries_of, AreFirstNumbers, AreByFact, HasFact, under, IsIndexOf, groups_of}
+pub use Rattle.sas_groups.specs.ByFact.{facts_below, fact_number, entries_of, AreFirstNumbers, AreByFact, HasFact, under}
+pub use Rattle.sas_groups.specs.Index.{IsIndexOf, groups_of}
 pub use Rattle.sas_groups.specs.Joint.{verdict_at, AreJointVerdicts, AreInvariants}
 pub use Rattle.sas_groups.specs.Kept.{family_of}
 pub use Rattle.sas_groups.specs.Laws.{FamiliesUnite, GreatestIsOne, GreatestHasAlone, OutsideIsBroken, JointlyKeptIsInvariant, ExclusiveAloneIsInvariant, ExclusiveJointlyIsInvariant, GreatestExists, JointVerdictIsOne, SomeJointVerdict}

@@ -1,69 +1,24 @@
 -- Which groups contain a fact.
-use Rattle.std.specs.Prelude.{◌≡◌, ℕ, zero, suc, ◌+◌, ◌<◌, ◌≤◌, ◌^◌, ◌↔◌, List, [], length, map, slice_index, slice_index_or, All, Contains}
-use Rattle.std.specs.List.Sorted.{IsNonDecreasing}
+use Rattle.std.specs.Prelude.{ℕ, ◌↔◌, List, Contains}
 use Rattle.sas_core.specs.declared.parts.Fact.{Fact}
 use Rattle.sas_core.specs.declared.parts.Parts.{Parts}
-use Rattle.sas_core.specs.Grounded.{group_at}
-use Rattle.sas_core.specs.Variables.{FactExists, range_of}
-use Rattle.sas_flat.specs.declared.by_key.Entry.{Entry}
+use Rattle.sas_core.specs.Variables.{FactExists}
 use Rattle.sas_groups.specs.declared.index.Index.{Index}
+use Rattle.sas_groups.specs.ByFact.{AreFirstNumbers, fact_number, HasFact, under}
 use Rattle.sas_groups.specs.Distinct.{AreOwnLists}
 use Rattle.sas_groups.specs.Runs.{AreRunsOf}
 use Rattle.sas_groups.specs.ByVariable.{AreByVariable}
-
--- the number of facts on variables below this one; the facts of a task are numbered variable by
--- variable
-abbrev pub facts_below : Parts → ℕ → ℕ
-facts_below p zero = 0
-facts_below p (suc var) = facts_below p var + range_of p.variables var
-
--- the number of each variable's first fact
-pub record AreFirstNumbers (p : Parts) (firsts : List ℕ) : Type 0 where
-  pub one_each : length firsts ≡ length p.variables
-  pub are : (var : ℕ) → var < length p.variables → slice_index firsts var ≡ facts_below p var
-
--- the number of the fact, given the number of each variable's first fact; if the variable doesn't
--- exist, that number is taken as 0
-abbrev pub fact_number : List ℕ → Fact → ℕ
-fact_number firsts fact = slice_index_or firsts fact.var 0 + fact.value
-
--- the group with this index exists and contains the fact
-pub record HasFact (p : Parts) (place : ℕ) (fact : Fact) : Type 0 where
-  pub exists : place < length p.groups
-  pub among : Contains (group_at p place) fact
-
--- the list with this key; past the last list, the empty list
-abbrev pub under : List (List ℕ) → ℕ → List ℕ
-under lists key = slice_index_or lists key []
-
--- the values of facts can be added to these numbers
-abbrev pub AreLow : List ℕ → Type 0
-AreLow firsts = All (λ (first : ℕ). first ≤ 2 ^ 62) firsts
 
 -- the groups of a fact in the index
 abbrev pub groups_of : Index → Fact → List ℕ
 groups_of index fact = under index.groups (fact_number index.firsts.items fact)
 
--- the list of each fact of the task contains the groups that contain the fact; every list is
--- ascending
-pub record AreByFact (p : Parts) (firsts : List ℕ) (groups : List (List ℕ)) : Type 0 where
-  pub are : (fact : Fact) → FactExists p.variables fact
-      → (place : ℕ) → Contains (under groups (fact_number firsts fact)) place ↔ HasFact p place fact
-  pub ascending : (key : ℕ) → IsNonDecreasing (under groups key)
-
 -- the index of a task: the groups of each fact, the facts of each group without duplicates, the
 -- runs of each group, and the effects of large operators by variable
 pub record IsIndexOf (p : Parts) (index : Index) : Type 0 where
   pub firsts : AreFirstNumbers p index.firsts.items
-  pub low : AreLow index.firsts.items
   pub groups : (fact : Fact) → FactExists p.variables fact
       → (place : ℕ) → Contains (groups_of index fact) place ↔ HasFact p place fact
-  pub ascending : (fact : Fact) → IsNonDecreasing (groups_of index fact)
   pub facts : AreOwnLists p index.own_facts
   pub runs : AreRunsOf p index.own_facts index.runs
   pub effects : AreByVariable p index.effects
-
--- one entry of the item for each fact; the key is the number of the fact
-abbrev pub entries_of : List ℕ → ℕ → List Fact → List (Entry ℕ)
-entries_of firsts item facts =
-    map (λ (fact : Fact). record { key = fact_number firsts fact; item = item }) facts

@@ -1,4 +1,5 @@
 -- The modules that public contracts cite.
+pub mod ByFact
 pub mod Index
 pub mod Distinct
 pub mod Runs

@@ -5,7 +5,7 @@ use Rattle.sas_core.specs.declared.parts.Parts.{Parts}
 use Rattle.sas_groups.specs.declared.notes.Notes.{Notes}
 use Rattle.sas_groups.specs.declared.notes.Noted.{Noted}
 use Rattle.sas_groups.specs.declared.notes.Noted.TheVariants.{Nothing, One, Several}
-use Rattle.sas_groups.specs.Index.{HasFact}
+use Rattle.sas_groups.specs.ByFact.{HasFact}
 
 -- the value recorded for a variable, and the record of a group
 abbrev pub value_note : List (Option ℕ) → ℕ → Option ℕ

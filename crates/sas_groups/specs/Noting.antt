@@ -6,19 +6,14 @@ use Rattle.sas_groups.specs.declared.notes.Notes.{Notes}
 use Rattle.sas_groups.specs.declared.notes.Noted.{Noted}
 use Rattle.sas_groups.specs.declared.notes.Noted.TheVariants.{Nothing, One, Several}
 use Rattle.sas_groups.specs.Kept.{family_of}
-use Rattle.std.specs.List.Sorted.{IsNonDecreasing}
 use Rattle.sas_groups.specs.declared.index.Index.{Index}
-use Rattle.sas_groups.specs.Index.{AreLow, HasFact, groups_of}
+use Rattle.sas_groups.specs.ByFact.{HasFact}
+use Rattle.sas_groups.specs.Index.{groups_of}
 use Rattle.sas_groups.specs.Notes.{value_note, group_note}
 
 -- all indexes are below n
 abbrev pub AreBelow : ℕ → List ℕ → Type 0
 AreBelow n places = All (λ (place : ℕ). place < n) places
-
--- the index can be queried for any fact: numbers don't overflow, and groups are in ascending order
-pub record IsReadable (index : Index) : Type 0 where
-  pub low : AreLow index.firsts.items
-  pub ascending : (fact : Fact) → IsNonDecreasing (groups_of index fact)
 
 -- a group of the family contains both facts
 pub record ShareKept (index : Index) (kept : List Bool) (f g : Fact) : Type 0 where

@@ -2,7 +2,7 @@
 ghost use Rattle.std.specs.Prelude.{◌≡◌, ◌<◌, ◌++◌, length, IfOk, OnOk, All};
 ghost use Rattle.sas_core.specs.declared.parts.Fact.{Fact};
 ghost use Rattle.sas_groups.specs.Distinct.{AreOwnLists};
-ghost use Rattle.sas_groups.specs.Index.{AreLow, AreFirstNumbers, facts_below, AreByFact, entries_of};
+ghost use Rattle.sas_groups.specs.ByFact.{AreLow, AreFirstNumbers, facts_below, AreByFact, entries_of};
 
 use crate::distinct::facts_of;
 use sas_core::{Fact, Grounded};
@@ -14,22 +14,21 @@ use std::alloc::{AllocError, Global};
 /// number of each variable's first fact, and `facts` the number of all facts. `Err` means out of memory.
 pub fn groups_by_fact<T: Grounded>(
     alloc: Global,
-    task: &Layered<T>,
+    layered: &Layered<T>,
     own: &Lists<Fact>,
     firsts: &[usize],
     facts: usize,
 ) -> Result<Lists<u32>, AllocError>
-    requires own { AreOwnLists task.now own.now }
-    requires firsts { AreFirstNumbers task.now firsts.now }
+    requires own { AreOwnLists layered.now own.now }
+    requires firsts { AreFirstNumbers layered.now firsts.now }
     requires low { AreLow firsts.now }
-    requires all { facts ≡ facts_below task.now (length task.now.variables) }
-    ensures { IfOk result (λ groups. AreByFact task.now firsts.now groups) }
+    requires all { facts ≡ facts_below layered.now (length layered.now.variables) }
+    ensures { IfOk result (λ groups. AreByFact layered.now firsts.now groups) }
 {
-    // The contract of `task` ensures that the task is well ranged.
-    let _ = task.task();
+    let task = layered.task();
     let mut entries = Vec::new(alloc);
     for group in 0..task.groups() {
-        enter_facts(firsts, group, facts_of(task, own, group), &mut entries)?;
+        enter_facts(firsts, group, facts_of(layered, own, group), &mut entries)?;
     }
     Lists::by_key(alloc, entries.as_slice(), facts)
 }

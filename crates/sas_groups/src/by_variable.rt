@@ -19,17 +19,16 @@ const SPREAD: u64 = 2_654_435_769;
 /// Returns the effects of large operators, grouped by the hash of operator and variable. `Err` means out of memory.
 pub fn effects_by_variable<T: Grounded>(
     alloc: Global,
-    task: &Layered<T>,
+    layered: &Layered<T>,
 ) -> Result<Lists<u32>, AllocError>
-    ensures { IfOk result (λ effects. AreByVariable task.now effects) }
+    ensures { IfOk result (λ effects. AreByVariable layered.now effects) }
 {
-    // The contract of `task` ensures that the task is well ranged.
-    let _ = task.task();
-    let places = number_of_places(task);
+    let task = layered.task();
+    let places = number_of_places(layered);
     let mut entries = Vec::new(alloc);
     for operator in 0..task.operators() {
         if task.effects(operator) > FEW_EFFECTS {
-            enter_effects(task, operator, places, &mut entries)?;
+            enter_effects(layered, operator, places, &mut entries)?;
         }
     }
     Lists::by_key(alloc, entries.as_slice(), places)

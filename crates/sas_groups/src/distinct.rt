@@ -26,11 +26,13 @@ pub fn facts_of<'a, T: Grounded>(
 
 /// Returns an own list for each group of the task. It is empty if the list in the task is ascending and has no duplicates. Empty lists at
 /// the end are left out. `Err` means out of memory.
-pub fn own_lists<T: Grounded>(alloc: Global, task: &Layered<T>) -> Result<Lists<Fact>, AllocError>
-    ensures { IfOk result (λ own. AreOwnLists task.now own) }
+pub fn own_lists<T: Grounded>(
+    alloc: Global,
+    layered: &Layered<T>,
+) -> Result<Lists<Fact>, AllocError>
+    ensures { IfOk result (λ own. AreOwnLists layered.now own) }
 {
-    // The contract of `task` ensures that the task is well ranged.
-    let _ = task.task();
+    let task = layered.task();
     let mut own = Lists::new(alloc);
     for group in 0..task.groups() {
         let facts = own_list(alloc, task.group(group))?;

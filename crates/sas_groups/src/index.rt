@@ -1,10 +1,9 @@
 // The index of the groups of a task.
-ghost use Rattle.std.specs.Prelude.{◌≡◌, ◌<◌, ◌↔◌, [], length, IsTrue, IfOk, OnOk, IfSome, Contains};
+ghost use Rattle.std.specs.Prelude.{◌≡◌, ℕ, ◌<◌, ◌↔◌, [], length, IsTrue, IfOk, OnOk, IfSome, Contains};
 ghost use Rattle.std.specs.List.Sorted.{IsNonDecreasing};
-ghost use Rattle.sas_groups.specs.Index as spec;
 ghost use Rattle.sas_groups.specs.ByVariable.{AreOn};
 ghost use Rattle.sas_groups.specs.Distinct.{facts_at};
-ghost use Rattle.sas_groups.specs.Index.{under, fact_number, IsIndexOf, AreLow, AreFirstNumbers, facts_below};
+ghost use Rattle.sas_groups.specs.ByFact.{under, fact_number, AreLow, AreFirstNumbers, facts_below};
 
 use crate::by_fact::groups_by_fact;
 use crate::by_variable::{FEW_EFFECTS, effects_by_variable, place_of};
@@ -32,6 +31,8 @@ pub struct Index {
     pub runs: Items<Items<u32>>,
     /// The effects of large operators, by the hash of operator and variable.
     pub effects: Lists<u32>,
+    ghost low: { AreLow firsts.items },
+    ghost ascending: { (key : ℕ) → IsNonDecreasing (under groups key) },
 }
 
 impl Drop for Index {
@@ -52,6 +53,9 @@ impl Drop for Index {
 }
 
 impl Index {
+    ghost use Rattle.sas_groups.specs.Index as spec;
+    ghost use Rattle.sas_groups.specs.Index.{IsIndexOf};
+
     /// Returns the index of the task. `Err` means out of memory.
     pub fn new<T: Grounded>(alloc: Global, task: &Layered<T>) -> Result<Index, AllocError>
         ensures { IfOk result (λ index. IsIndexOf task.now index) }
@@ -74,7 +78,6 @@ impl Index {
     /// Returns the groups that contain the fact.
     #[inline(always)]
     pub fn groups_of(&self, fact: Fact) -> &[u32]
-        requires { AreLow self.now.firsts.items }
         ensures { result.now ≡ spec.groups_of self.now fact }
     {
         under(&self.groups, self.number_of(fact))
@@ -110,8 +113,6 @@ impl Index {
     /// Returns whether the group contains the fact.
     #[inline(always)]
     pub fn has(&self, group: u32, fact: Fact) -> bool
-        requires low { AreLow self.now.firsts.items }
-        requires ascending { IsNonDecreasing (spec.groups_of self.now fact) }
         ensures { IsTrue result ↔ Contains (spec.groups_of self.now fact) group }
     {
         let groups = self.groups_of(fact);
@@ -125,7 +126,6 @@ impl Index {
     /// Returns the number of the fact. If the variable doesn't exist, its first number is taken as 0.
     #[inline(always)]
     fn number_of(&self, fact: Fact) -> usize
-        requires { AreLow self.now.firsts.items }
         ensures { result ≡ fact_number self.now.firsts.items fact }
     {
         let first = match self.firsts.as_slice().get(fact.var as usize) {

@@ -5,7 +5,7 @@ ghost use Rattle.sas_groups.specs.Kept.{family_of};
 ghost use Rattle.sas_groups.specs.declared.notes.Noted.TheVariants.{Nothing, One, Several};
 ghost use Rattle.sas_groups.specs.Index.{groups_of};
 ghost use Rattle.sas_groups.specs.Notes.{AreBlank, AreFrom};
-ghost use Rattle.sas_groups.specs.Noting.{AreBelow, IsReadable, ShareKept, SharesApart, IsContradicted};
+ghost use Rattle.sas_groups.specs.Noting.{AreBelow, ShareKept, SharesApart, IsContradicted};
 ghost use Rattle.sas_groups.specs.Noting.{IsNotedToo, IsExcluded, TakenBySome, TakenByAll};
 ghost use Rattle.sas_groups.specs.Noting.{ChangesAt, IsThere, NotesFirstFact, ForgetsGroups, Forgets, IsSetApart, IsCompleted};
 ghost use Rattle.sas_groups.specs.Noting.{HasNotedGroup};
@@ -123,7 +123,6 @@ impl Notes {
     /// Returns which facts of the group are recorded, including the fact set apart.
     #[inline(always)]
     pub fn noted(&self, index: &Index, group: u32) -> Noted
-        requires index { IsReadable index.now }
         requires group { group < length self.now.groups }
         ensures { IsCompleted index.now self.now group result }
     {
@@ -158,7 +157,6 @@ pub fn has_wide(index: &Index) -> bool {
 
 /// Returns `fact` if it has many groups, and more than `other`. Otherwise returns `other`.
 pub fn wider(index: &Index, fact: Fact, other: Option<Fact>) -> Option<Fact>
-    requires { IsReadable index.now }
     ensures { (result ≡ Some fact) ⊎ (result ≡ other) }
 {
     let most = match other {
@@ -193,7 +191,6 @@ pub fn note(
     notes: &mut Notes,
     deciding: &Deciding,
 ) -> bool
-    requires index { IsReadable index.now }
     requires value { fact.var < length notes.old.values }
     requires groups { AreBelow (length notes.old.groups) (groups_of index.now fact) }
     ensures yes { IsTrue result → IsThere fact notes.old notes.new
@@ -227,7 +224,6 @@ pub fn shares_apart(
     apart: Option<Fact>,
     deciding: &Deciding,
 ) -> bool
-    requires { IsReadable index.now }
     ensures { IsTrue result ↔ SharesApart index.now kept.now fact apart }
 {
     match apart {
@@ -238,7 +234,6 @@ pub fn shares_apart(
 
 /// Returns whether a group of the family contains both facts. Searches the groups of the fact that has fewer.
 fn share_kept(index: &Index, kept: &[bool], fact: Fact, other: Fact, deciding: &Deciding) -> bool
-    requires { IsReadable index.now }
     ensures { IsTrue result ↔ ShareKept index.now kept.now fact other }
 {
     if index.groups_of(fact).len() <= index.groups_of(other).len() {
@@ -250,7 +245,6 @@ fn share_kept(index: &Index, kept: &[bool], fact: Fact, other: Fact, deciding: &
 
 /// Returns whether a group of the family contains both facts. Searches the groups of `fact`.
 pub fn some_has(index: &Index, kept: &[bool], fact: Fact, other: Fact, deciding: &Deciding) -> bool
-    requires { IsReadable index.now }
     ensures { IsTrue result ↔ ShareKept index.now kept.now fact other }
 {
     for group in index.groups_of(fact) {
@@ -315,7 +309,6 @@ pub fn has_noted(groups: &[u32], kept: &[bool], noted: &[Noted], deciding: &Deci
 /// Removes what is recorded for the fact: its variable, and its groups unless the fact is set apart.
 #[inline(always)]
 pub fn forget(index: &Index, fact: Fact, notes: &mut Notes)
-    requires index { IsReadable index.now }
     requires value { fact.var < length notes.old.values }
     requires groups { AreBelow (length notes.old.groups) (groups_of index.now fact) }
     ensures { Forgets (groups_of index.now fact) fact notes.old notes.new }
@@ -339,7 +332,6 @@ fn forget_groups(groups: &[u32], noted: &mut Items<Noted>)
 
 /// Returns the fact with the most groups among those with many groups. Returns `None` if there is none, or if `some_wide` is false.
 pub fn widest_of(index: &Index, facts: &[Fact], some_wide: bool) -> Option<Fact>
-    requires { IsReadable index.now }
     ensures { IfSome result (Contains facts.now) }
 {
     if !some_wide {

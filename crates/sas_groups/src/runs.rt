@@ -14,17 +14,16 @@ use std::alloc::{AllocError, Global};
 /// lists. `Err` means out of memory.
 pub fn runs_of_groups<T: Grounded>(
     alloc: Global,
-    task: &Layered<T>,
+    layered: &Layered<T>,
     own: &Lists<Fact>,
 ) -> Result<Items<Items<u32>>, AllocError>
-    requires { AreOwnLists task.now own.now }
-    ensures { IfOk result (λ runs. AreRunsOf task.now own.now runs) }
+    requires { AreOwnLists layered.now own.now }
+    ensures { IfOk result (λ runs. AreRunsOf layered.now own.now runs) }
 {
-    // The contract of `task` ensures that the task is well ranged.
-    let _ = task.task();
+    let task = layered.task();
     let mut runs = Items::from_vec(Vec::with_capacity(alloc, task.groups() as usize)?);
     for group in 0..task.groups() {
-        runs.push(runs_in(alloc, facts_of(task, own, group))?)?;
+        runs.push(runs_in(alloc, facts_of(layered, own, group))?)?;
     }
     Ok(runs)
 }

@@ -37,7 +37,8 @@ pub use Rattle.sas_groups.specs.Checks.{IsGone, IsFirstVerdict, AreGone, EffectK
 pub use Rattle.sas_groups.specs.Clashes.{Keeps, Clash, sets, Contradict, IsRemoved}
 pub use Rattle.sas_groups.specs.Distinct.{AreDistinct}
 pub use Rattle.sas_groups.specs.Families.{IsIn, IsGroupOf, IsGroupOfOr, IsKeptJointly, IsGreatest, MayBeExclusive}
-pub use Rattle.sas_groups.specs.Index.{IsIndexOf, HasFact, groups_of}
+pub use Rattle.sas_groups.specs.ByFact.{HasFact}
+pub use Rattle.sas_groups.specs.Index.{IsIndexOf, groups_of}
 pub use Rattle.sas_groups.specs.Joint.{verdict_at, AreJointVerdicts, AreInvariants}
 pub use Rattle.sas_groups.specs.Kept.{family_of}
 pub use Rattle.sas_groups.specs.Lists.{known, known_left, known_on}

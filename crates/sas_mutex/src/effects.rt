@@ -6,7 +6,8 @@ ghost use Rattle.sas_core.specs.Changes.{fact_of, plain_effects};
 ghost use Rattle.sas_core.specs.Variables.{FactExists};
 ghost use Rattle.sas_groups.specs.Clashes.{sets};
 ghost use Rattle.sas_groups.specs.Families.{IsIn};
-ghost use Rattle.sas_groups.specs.Index.{HasFact, groups_of};
+ghost use Rattle.sas_groups.specs.ByFact.{HasFact};
+ghost use Rattle.sas_groups.specs.Index.{groups_of};
 ghost use Rattle.sas_groups.specs.Runs.{AreOnOne};
 ghost use Rattle.sas_groups.specs.Kept.{family_of};
 ghost use Rattle.sas_mutex.specs.Firing.{operator_of, effect_of};
@@ -115,7 +116,11 @@ impl<'a, 'b, T: Grounded> Firing<'a, 'b, T> {
             first: self.task.effect_conditions(self.operator, self.effect),
             second: &[],
         };
-        note_known(self.task, self.index, kept, &premises, marks)
+        let indexed = IndexedTask {
+            task: self.task,
+            index: self.index,
+        };
+        note_known(&indexed, kept, &premises, marks)
     }
 
     /// Removes what is recorded for the known facts.
@@ -130,7 +135,11 @@ impl<'a, 'b, T: Grounded> Firing<'a, 'b, T> {
             first: self.task.effect_conditions(self.operator, self.effect),
             second: &[],
         };
-        forget_known(self.task, self.index, &premises, marks);
+        let indexed = IndexedTask {
+            task: self.task,
+            index: self.index,
+        };
+        forget_known(&indexed, &premises, marks);
     }
 
     /// Returns whether the effect preserves the group, which must be in the family. The known facts must be recorded and must not clash.

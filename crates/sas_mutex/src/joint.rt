@@ -6,7 +6,7 @@ ghost use Rattle.sas_groups.specs.declared.verdict.Verdict.{Verdict};
 ghost use Rattle.sas_groups.specs.declared.verdict.Verdict.TheVariants.{Exclusive};
 ghost use Rattle.sas_groups.specs.Kept.{family_of};
 ghost use Rattle.sas_mutex.specs.Firing.{effect_of};
-ghost use Rattle.sas_groups.specs.Index.{HasFact};
+ghost use Rattle.sas_groups.specs.ByFact.{HasFact};
 ghost use Rattle.sas_mutex.specs.Marks.{IsClean};
 ghost use Rattle.sas_groups.specs.Noting.{AreBelow};
 ghost use Rattle.sas_mutex.specs.ByNotes.{IsNotedAt};
@@ -63,7 +63,7 @@ fn judge_indexed<T: Grounded>(
     ensures { IfOk result (λ _. AreJointVerdicts indexed.now verdicts.new) }
 {
     let mut family = candidates(alloc, verdicts.as_slice())?;
-    let mut marks = Marks::new(alloc, indexed.task, indexed.index)?;
+    let mut marks = Marks::new(alloc, indexed)?;
     let mut watches = Watches::new(alloc, indexed.task.groups(), indexed.task.operators())?;
     find_greatest(indexed, &mut watches, &mut family, &mut marks);
     find_breaking(indexed, &mut family.kept, verdicts, &mut marks);
@@ -76,15 +76,14 @@ fn judge_indexed<T: Grounded>(
 /// Returns the verdict on each group before operators are checked.
 fn first_verdicts<T: Grounded>(
     alloc: Global,
-    task: &Layered<T>,
+    layered: &Layered<T>,
 ) -> Result<Items<Verdict>, AllocError>
-    ensures { IfOk result (λ verdicts. AreFirstVerdicts task.now verdicts) }
+    ensures { IfOk result (λ verdicts. AreFirstVerdicts layered.now verdicts) }
 {
-    // The contract of `task` ensures that the task is well ranged.
-    let _ = task.task();
+    let task = layered.task();
     let mut verdicts = Items::from_vec(Vec::with_capacity(alloc, task.groups() as usize)?);
     for group in 0..task.groups() {
-        verdicts.push(before_operators(task, task.group(group)))?;
+        verdicts.push(before_operators(layered, task.group(group)))?;
     }
     Ok(verdicts)
 }

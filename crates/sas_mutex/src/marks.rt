@@ -4,18 +4,15 @@ ghost use Rattle.sas_core.specs.Variables.{FactExists};
 ghost use Rattle.sas_groups.specs.Clashes.{Clash};
 ghost use Rattle.sas_groups.specs.Lists.{known_on};
 ghost use Rattle.sas_mutex.specs.Effects.{IsKept};
-ghost use Rattle.sas_groups.specs.Index.{IsIndexOf};
 ghost use Rattle.sas_groups.specs.Notes.{AreBlank, AreFrom};
 ghost use Rattle.sas_mutex.specs.ByNotes.{AreKnown};
 ghost use Rattle.sas_mutex.specs.Marks.{IsClean, IsNotedFrom};
-ghost use Rattle.sas_groups.specs.Noting.{IsReadable};
 
 use sas_core::{Fact, Grounded};
 use sas_groups::{
-    Deciding, Index, IndexedTask, Known, Notes, Premises, forget, forget_facts, has_wide, note,
-    set_apart, wider, widest_of,
+    Deciding, IndexedTask, Known, Notes, Premises, forget, forget_facts, has_wide, note, set_apart,
+    wider, widest_of,
 };
-use sas_meaning::Layered;
 use std::alloc::{AllocError, Global};
 
 /// The facts that are recorded while effects are checked.
@@ -45,15 +42,14 @@ impl Marks {
     /// Returns marks without recorded facts. `Err` means out of memory.
     pub fn new<T: Grounded>(
         alloc: Global,
-        task: &Layered<T>,
-        index: &Index,
+        indexed: &IndexedTask<'_, '_, T>,
     ) -> Result<Marks, AllocError>
-        ensures { IfOk result (λ marks. IsClean task.now marks) }
+        ensures { IfOk result (λ marks. IsClean indexed.now marks) }
     {
-        let some_wide = has_wide(index);
+        let some_wide = has_wide(indexed.index);
         Ok(Marks {
-            known: Notes::new(alloc, task, some_wide)?,
-            others: Notes::new(alloc, task, some_wide)?,
+            known: Notes::new(alloc, indexed.task, some_wide)?,
+            others: Notes::new(alloc, indexed.task, some_wide)?,
             deciding: Deciding::new(),
         })
     }
@@ -62,29 +58,27 @@ impl Marks {
 /// Records the known facts and returns whether they clash. If they do, not all of them are recorded. A fact that many groups contain may be
 /// set apart.
 pub fn note_known<T: Grounded>(
-    task: &Layered<T>,
-    index: &Index,
+    indexed: &IndexedTask<'_, '_, T>,
     kept: &[bool],
     premises: &Premises<'_>,
     marks: &mut Marks,
 ) -> bool
-    requires index { IsIndexOf task.now index.now }
-    requires one_each { length kept.now ≡ length task.now.groups }
-    requires operator { premises.now.operator < length task.now.operators }
-    requires exist { All (FactExists task.now.variables) (known_on task.now premises.now) }
-    requires clean { IsClean task.now marks.old }
+    requires one_each { length kept.now ≡ length indexed.now.groups }
+    requires operator { premises.now.operator < length indexed.now.operators }
+    requires exist { All (FactExists indexed.now.variables) (known_on indexed.now premises.now) }
+    requires clean { IsClean indexed.now marks.old }
     ensures yes { IsTrue result
-        → Clash (IsKept task.now kept.now) (known_on task.now premises.now) }
+        → Clash (IsKept indexed.now kept.now) (known_on indexed.now premises.now) }
     ensures known { IsFalse result
-        → AreKnown task.now kept.now (known_on task.now premises.now) marks.new.known }
-    ensures from { IsNotedFrom task.now (known_on task.now premises.now) marks.new }
+        → AreKnown indexed.now kept.now (known_on indexed.now premises.now) marks.new.known }
+    ensures from { IsNotedFrom indexed.now (known_on indexed.now premises.now) marks.new }
 {
-    let widest = widest_known(task, index, premises, marks.known.some_wide);
+    let widest = widest_known(indexed, premises, marks.known.some_wide);
     // All effects are visited to find the preconditions.
-    marks.known.spread = task.effects(premises.operator) as usize;
+    marks.known.spread = indexed.task.effects(premises.operator) as usize;
     set_apart(widest, &mut marks.known);
-    for fact in Known::new(task, premises) {
-        if !note(index, kept, fact, &mut marks.known, &marks.deciding) {
+    for fact in Known::new(indexed.task, premises) {
+        if !note(indexed.index, kept, fact, &mut marks.known, &marks.deciding) {
             return true;
         }
     }
@@ -93,40 +87,36 @@ pub fn note_known<T: Grounded>(
 
 /// Returns the known fact with the most groups among those with many groups. Returns `None` if there is none, or if `some_wide` is false.
 fn widest_known<T: Grounded>(
-    task: &Layered<T>,
-    index: &Index,
+    indexed: &IndexedTask<'_, '_, T>,
     premises: &Premises<'_>,
     some_wide: bool,
 ) -> Option<Fact>
-    requires index { IsReadable index.now }
-    requires operator { premises.now.operator < length task.now.operators }
-    ensures { IfSome result (Contains (known_on task.now premises.now)) }
+    requires { premises.now.operator < length indexed.now.operators }
+    ensures { IfSome result (Contains (known_on indexed.now premises.now)) }
 {
     if !some_wide {
         return None;
     }
     let mut widest = None;
-    for fact in Known::new(task, premises) {
-        widest = wider(index, fact, widest);
+    for fact in Known::new(indexed.task, premises) {
+        widest = wider(indexed.index, fact, widest);
     }
     widest
 }
 
 /// Removes what is recorded for the known facts.
 pub fn forget_known<T: Grounded>(
-    task: &Layered<T>,
-    index: &Index,
+    indexed: &IndexedTask<'_, '_, T>,
     premises: &Premises<'_>,
     marks: &mut Marks,
 )
-    requires index { IsIndexOf task.now index.now }
-    requires operator { premises.now.operator < length task.now.operators }
-    requires exist { All (FactExists task.now.variables) (known_on task.now premises.now) }
-    requires from { IsNotedFrom task.now (known_on task.now premises.now) marks.old }
-    ensures { IsClean task.now marks.new }
+    requires operator { premises.now.operator < length indexed.now.operators }
+    requires exist { All (FactExists indexed.now.variables) (known_on indexed.now premises.now) }
+    requires from { IsNotedFrom indexed.now (known_on indexed.now premises.now) marks.old }
+    ensures { IsClean indexed.now marks.new }
 {
-    for fact in Known::new(task, premises) {
-        forget(index, fact, &mut marks.known);
+    for fact in Known::new(indexed.task, premises) {
+        forget(indexed.index, fact, &mut marks.known);
     }
     marks.known.apart = None;
     marks.known.spread = 0;

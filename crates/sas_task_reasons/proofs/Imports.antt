@@ -32,7 +32,7 @@ pub use Rattle.sas_groups.specs.Clashes.{Keeps, sets}
 pub use Rattle.sas_groups.specs.Distinct.{AreDistinct}
 pub use Rattle.sas_groups.specs.Families.{IsIn, IsGroupOf, IsGroupOfOr, IsKeptJointly, IsGreatest, IsOnBasic}
 pub use Rattle.sas_groups.specs.Groups.{IsExclusiveIn}
-pub use Rattle.sas_groups.specs.Index.{HasFact}
+pub use Rattle.sas_groups.specs.ByFact.{HasFact}
 pub use Rattle.sas_groups.specs.Joint.{verdict_at, AreJointVerdicts}
 pub use Rattle.sas_groups.specs.Kept.{family_of}
 pub use Rattle.sas_groups.specs.Lists.{known}

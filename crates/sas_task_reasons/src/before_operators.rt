@@ -20,18 +20,17 @@ use std::alloc::{AllocError, Global};
 /// Returns for each group its reason if the verdict is `Derived` or `Initial`, else `None`. `Err` means out of memory.
 pub fn first_reasons<T: Grounded>(
     alloc: Global,
-    task: &Layered<T>,
+    layered: &Layered<T>,
     verdicts: &[Verdict],
 ) -> Result<Items<Option<Reason>>, AllocError>
-    requires { AreJointVerdicts task.now verdicts.now }
+    requires { AreJointVerdicts layered.now verdicts.now }
     ensures { IfOk result (λ reasons. (kept : List Bool)
-        → AreReasonsSoFar task.now kept 0 0 verdicts.now reasons) }
+        → AreReasonsSoFar layered.now kept 0 0 verdicts.now reasons) }
 {
-    // The contract of `task` ensures that the task is well ranged.
-    let _ = task.task();
+    let task = layered.task();
     let mut reasons = Items::from_vec(Vec::with_capacity(alloc, task.groups() as usize)?);
     for group in 0..task.groups() {
-        reasons.push(first_reason(task, group, verdicts[group as usize]))?;
+        reasons.push(first_reason(layered, group, verdicts[group as usize]))?;
     }
     Ok(reasons)
 }
@@ -50,14 +49,13 @@ fn first_reason<T: Grounded>(task: &Layered<T>, group: u32, verdict: Verdict) ->
 }
 
 /// Returns the first fact of the group on a derived variable, as a reason.
-fn on_derived<T: Grounded>(task: &Layered<T>, group: u32) -> Option<Reason>
-    requires { group < length task.now.groups }
-    ensures some { IfSome result (IsReason task.now group Derived) }
-    ensures none { IfNone result (IsOnBasic task.now (group_at task.now group)) }
+fn on_derived<T: Grounded>(layered: &Layered<T>, group: u32) -> Option<Reason>
+    requires { group < length layered.now.groups }
+    ensures some { IfSome result (IsReason layered.now group Derived) }
+    ensures none { IfNone result (IsOnBasic layered.now (group_at layered.now group)) }
 {
-    // The contract of `task` ensures that the task is well ranged.
-    let _ = task.task();
-    match first_derived(task, task.group(group)) {
+    let task = layered.task();
+    match first_derived(layered, task.group(group)) {
         Some(fact) => Some(Reason::OnDerived { fact }),
         None => None,
     }
@@ -76,18 +74,17 @@ fn first_derived<T: Grounded>(task: &Layered<T>, facts: &[Fact]) -> Option<Fact>
 }
 
 /// Returns, as a reason, the first fact of the group that holds in the state section, and the first on another variable.
-fn holds_two<T: Grounded>(task: &Layered<T>, group: u32) -> Option<Reason>
-    requires { group < length task.now.groups }
-    ensures some { IfSome result (IsReason task.now group Initial) }
-    ensures none { IfNone result (IsExclusiveIn task.now.init (group_at task.now group)) }
+fn holds_two<T: Grounded>(layered: &Layered<T>, group: u32) -> Option<Reason>
+    requires { group < length layered.now.groups }
+    ensures some { IfSome result (IsReason layered.now group Initial) }
+    ensures none { IfNone result (IsExclusiveIn layered.now.init (group_at layered.now group)) }
 {
-    // The contract of `task` ensures that the task is well ranged.
-    let _ = task.task();
+    let task = layered.task();
     let facts = task.group(group);
-    let Some(first) = first_holding(task, facts) else {
+    let Some(first) = first_holding(layered, facts) else {
         return None;
     };
-    match first_beside(task, facts, first.var) {
+    match first_beside(layered, facts, first.var) {
         Some(second) => Some(Reason::HoldsTwo { first, second }),
         None => None,
     }

@@ -2,7 +2,7 @@
 ghost use Rattle.std.specs.Prelude.{◌≡◌, ◌≢◌, ◌+◌, ◌<◌, ℕ, length, All, IsTrue, IsFalse};
 ghost use Rattle.sas_groups.specs.Clashes.{sets};
 ghost use Rattle.sas_groups.specs.Families.{IsGreatest};
-ghost use Rattle.sas_groups.specs.Index.{HasFact};
+ghost use Rattle.sas_groups.specs.ByFact.{HasFact};
 ghost use Rattle.sas_groups.specs.Kept.{family_of};
 ghost use Rattle.sas_mutex.specs.Firing.{effect_of};
 ghost use Rattle.sas_groups.specs.Joint.{verdict_at, AreJointVerdicts};

@@ -58,7 +58,7 @@ fn report_breaking<T: Grounded>(
 {
     let marked = breaking_operators(alloc, indexed.task.operators(), verdicts)?;
     let kept = exclusive_of(alloc, verdicts)?;
-    let marks = Marks::new(alloc, indexed.task, indexed.index)?;
+    let marks = Marks::new(alloc, indexed)?;
     let mut greatest = Greatest { kept, marks };
     report_failures(indexed, verdicts, marked.as_slice(), &mut greatest, reasons);
     drop(marked);

@@ -10,7 +10,7 @@ one_more rule cs i d lt es = append_snoc es (waiting_entry (get_or cs i d) rule)
 
 pub loop-condition-preserved : goal.loop-condition-preserved
 loop-condition-preserved g c =
-    let cs = (rule_at c.args.task.now c.args.rule).conditions in
+    let cs = (rule_at c.args.layered.now c.args.rule).conditions in
     let i = c.loop-condition.condition-index in
     let none : Fact = record { var = 0; value = 0 } in
     let lt : i < length cs = omega (arith, ap length c.rule_conditions-condition-items.ensures) in
@@ -21,7 +21,7 @@ loop-condition-preserved g c =
 
 pub returns : goal.returns
 returns g c =
-    let cs = (rule_at c.args.task.now c.args.rule).conditions in
+    let cs = (rule_at c.args.layered.now c.args.rule).conditions in
     let es = c.loop-condition.waiting.items in
     let all : length cs ≤ c.loop-condition.condition-index = omega (arith, ap length c.rule_conditions-condition-items.ensures) in
     sym (append-nil es) ∙ (ap (λ (fs : List Fact). es ++ entries c.args.rule fs) (sym (drop_all c.loop-condition.condition-index cs all)) ∙ c.loop-condition.invariant)

@@ -13,21 +13,21 @@ one_more f xs x n len each is k lt = elim (cases_eq k n) [
 
 pub open_of-requires-clause-exist : goal.open_of-requires-clause-exist
 open_of-requires-clause-exist g c =
-    conditions_within c.args.task.now c.task.ensures.well_ranged c.loop-rule.rule (omega arith) c.args.values.now c.requires.known
-    c.rule_conditions.result.now c.rule_conditions.ensures
+    conditions_within c.args.layered.now c.task-task.ensures.well_ranged c.loop-rule.rule (omega (arith, rw c.task-task.ensures.task at c.rules-rule-end.ensures)) c.args.values.now c.requires.known
+    c.rule_conditions.result.now (rw c.task-task.ensures.task at c.rule_conditions.ensures)
 
 pub open_of-requires-clause-few : goal.open_of-requires-clause-few
 open_of-requires-clause-few g c =
-    conditions_few c.args.task.now c.task.ensures.well_ranged c.loop-rule.rule (omega arith) c.rule_conditions.result.now c.rule_conditions.ensures
+    conditions_few c.args.layered.now c.task-task.ensures.well_ranged c.loop-rule.rule (omega (arith, rw c.task-task.ensures.task at c.rules-rule-end.ensures)) c.rule_conditions.result.now (rw c.task-task.ensures.task at c.rule_conditions.ensures)
 
 pub loop-rule-preserved : goal.loop-rule-preserved
 loop-rule-preserved g c =
-    let p = c.args.task.now in
+    let p = c.args.layered.now in
     let n = c.loop-rule.rule in
     let inv = c.loop-rule.invariant in
     let is = c.in_ok-push.ensures.ok in
     let opens : c.open_of.result ≡ open_conditions (slice_index c.args.values.now) (rule_at p n).conditions =
-    c.open_of.ensures ∙ ap (λ (cs : List Fact). open_conditions (slice_index c.args.values.now) cs) c.rule_conditions.ensures in
+    c.open_of.ensures ∙ ap (λ (cs : List Fact). open_conditions (slice_index c.args.values.now) cs) (rw c.task-task.ensures.task at c.rule_conditions.ensures) in
     record {
       so_far = rw is (omega (arith, length-append c.loop-rule.counters (c.open_of.result ∷ [])));
       exact = rw is (one_more (λ k. open_conditions (slice_index c.args.values.now) (rule_at p k).conditions) c.loop-rule.counters c.open_of.result n inv.so_far inv.exact opens);
@@ -35,7 +35,7 @@ loop-rule-preserved g c =
 
 pub returns : goal.returns
 returns g c = record {
-  one_each = omega arith;
+  one_each = omega (arith, rw c.task-task.ensures.task at c.rules-rule-end.ensures);
   known = c.requires.known;
-  exact = λ layer rule is. c.loop-rule.invariant.exact rule (omega (arith, is.exists));
+  exact = λ layer rule is. c.loop-rule.invariant.exact rule (omega (arith, is.exists, rw c.task-task.ensures.task at c.rules-rule-end.ensures));
 }

@@ -3,8 +3,8 @@ use Rattle.sas_axioms.proofs.Imports.{rules, ◌≡◌, [], sym, subst, ◌∙�
 use Rattle.sas_axioms.proofs.Counters.{settled_when_empty}
 use Rattle.sas_axioms.proofs.firing.empty_stack.Goals as goal
 
-pub release-requires-clause-popped : goal.release-requires-clause-popped
-release-requires-clause-popped g c =
+pub release-requires : goal.release-requires
+release-requires g c =
     let was = c.loop-var.invariant.at_work in
     record {
       room = record { one_each = was.room.one_each; variables = omega (arith, was.room.variables, c.pop.ensures.capacity); sources = was.room.sources };
@@ -21,8 +21,8 @@ loop-var-preserved g c =
     record {
       at_work = c.release.ensures.at_work;
       layer = more.layer ∙ inv.layer;
-      sources = λ v off. more.sources v (subst (λ n. IsOnLayer c.args.task.now n v → ⊥) (sym inv.layer) off) ∙ inv.sources v off;
-      off = λ v off. inv.off v off ∙ more.off v (subst (λ n. IsOnLayer c.args.task.now n v → ⊥) (sym inv.layer) off);
+      sources = λ v off. more.sources v (subst (λ n. IsOnLayer c.args.indexed.now n v → ⊥) (sym inv.layer) off) ∙ inv.sources v off;
+      off = λ v off. inv.off v off ∙ more.off v (subst (λ n. IsOnLayer c.args.indexed.now n v → ⊥) (sym inv.layer) off);
     }
 
 pub returns-clause-counts : goal.returns-clause-counts
@@ -33,7 +33,7 @@ returns-clause-counts g c =
 
 pub returns-clause-settles : goal.returns-clause-settles
 returns-clause-settles g c =
-    let p = c.args.task.now in
+    let p = c.args.indexed.now in
     let inv = c.loop-var.invariant in
     let empty : c.loop-var.work.stack.items ≡ [] = search rules in
     rw (sym inv.layer) record {

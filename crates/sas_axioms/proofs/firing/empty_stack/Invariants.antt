@@ -4,11 +4,11 @@ use Rattle.sas_axioms.proofs.firing.empty_stack.Given as goal
 
 abbrev pub invariant-loop-var : goal.invariant-loop-var
 invariant-loop-var g l = record {
-  at_work : IsAtWork l.task l.state l.work.stack.items l.work;
+  at_work : IsAtWork l.indexed l.state l.work.stack.items l.work;
   layer : l.work.layer ≡ l.fn.work.layer;
-  sources : SameSourcesOff l.task l.fn.work.layer l.fn.work.sources l.work.sources;
-  off : SameOff l.task l.fn.work.layer l.fn.state l.state;
+  sources : SameSourcesOff l.indexed l.fn.work.layer l.fn.work.sources l.work.sources;
+  off : SameOff l.indexed l.fn.work.layer l.fn.state l.state;
 }
 
 abbrev pub decreases-loop-var : goal.decreases-loop-var
-decreases-loop-var g l = left_to_do l.task l.state l.work.stack.items
+decreases-loop-var g l = left_to_do l.indexed l.state l.work.stack.items

@@ -10,7 +10,7 @@ no_entry = record { layer = 0; rule = 0 }
 
 pub loop-entry-init : goal.loop-entry-init
 loop-entry-init g c = record {
-  goes_on = goes_on_still c.args.task.now c.args.state.now c.args.work.now;
+  goes_on = goes_on_still c.args.indexed.now c.args.state.now c.args.work.now;
   same = refl;
   given = c.requires.given;
   room = c.requires.room;
@@ -21,18 +21,18 @@ loop-entry-init g c = record {
 
 pub fire-requires-clause-hold : goal.fire-requires-clause-hold
 fire-requires-clause-hold g c =
-    let p = c.args.task.now in
+    let p = c.args.indexed.now in
     let layer = c.args.work.now.layer in
     let counters = c.args.work.now.counters in
     let inv = c.loop-entry.invariant in
     let rule = (get_or c.args.rules.now c.loop-entry.entry-index no_entry).rule in
     let on : IsRuleOn p layer rule = c.requires.rules.only c.loop-entry.entry-index no_entry c.loop-entry-test.true in
     let none : get_or counters rule 0 ≡ 0 = ap (λ (xs : List ℕ). get_or xs rule 0) (sym inv.same ∙ sym c.as_slice.ensures) ∙ c.if-as_slice-entry-eq0.true in
-    λ _. ready p layer c.loop-entry.state c.loop-entry.work.stack.items rule c.task.ensures.layered inv.running on (sym (inv.counts layer rule on) ∙ none)
+    λ _. rw c.indexed.view_is (ready p layer c.loop-entry.state c.loop-entry.work.stack.items rule (rw c.indexed.view_is at c.indexed.invariant).layered inv.running on (sym (inv.counts layer rule on) ∙ none))
 
 pub returns-clause-at_work : goal.returns-clause-at_work
 returns-clause-at_work g c =
-    let p = c.args.task.now in
+    let p = c.args.indexed.now in
     let layer = c.args.work.now.layer in
     let counters = c.args.work.now.counters in
     let s = c.loop-entry.state in
@@ -49,14 +49,14 @@ returns-clause-at_work g c =
             let its : (get_or c.args.rules.now there.0 entry).rule ≡ rule = ap (λ (r : LayerRule). r.rule) there.2 in
             subst (λ k. get_or s (rule_at p k).var 0 ≡ (rule_at p k).new) its
             (inv.fired there.0 entry (omega (arith, there.1, c.loop-entry-test.false)) (subst (λ k. get_or counters k 0 ≡ 0) (sym its) none)))
-        | inr late ↦ absurd (late_waits p layer rule c.args.state.now c.task.ensures.layered on late c.requires.default
-            (ready p layer c.args.state.now c.args.work.now.stack.items rule c.task.ensures.layered c.requires.running on (sym (first layer rule on) ∙ none)))
+        | inr late ↦ absurd (late_waits p layer rule c.args.state.now (rw c.indexed.view_is at c.indexed.invariant).layered on late c.requires.default
+            (ready p layer c.args.state.now c.args.work.now.stack.items rule (rw c.indexed.view_is at c.indexed.invariant).layered c.requires.running on (sym (first layer rule on) ∙ none)))
       ]);
     }
 
 pub loop-entry-preserved : goal.loop-entry-preserved
 loop-entry-preserved g c =
-    let p = c.args.task.now in
+    let p = c.args.indexed.now in
     let was = c.args.work.now in
     let rules = c.args.rules.now in
     let i = c.loop-entry.entry-index in
@@ -66,7 +66,7 @@ loop-entry-preserved g c =
     let same : (j : ℕ) (d : LayerRule) → j ≡ i → get_or rules i no_entry ≡ get_or rules j d = λ j d e. get_or_default rules i no_entry d c.loop-entry-test.true ∙ ap (λ n. get_or rules n d) (sym e) in
     elim c.if-as_slice-entry-eq0.branch [
       | then-as_slice-entry-eq0 w ↦
-          (let f = w.fire.ensures in
+          (let f = (rw c.indexed.view_is at w.fire.ensures) in
           let here : IsRuleOn p work.layer (get_or rules i no_entry).rule = rw inv.goes_on.layer (c.requires.rules.only i no_entry c.loop-entry-test.true) in
           rw (w.work-is, w.state-is) record {
             goes_on = goes_on_more p c.args.state.now was s work w.fire.new.state w.fire.new.work inv.goes_on f.goes_on;

@@ -4,12 +4,12 @@ use Rattle.sas_axioms.proofs.firing.fire_ready.Given as goal
 
 abbrev pub invariant-loop-entry : goal.invariant-loop-entry
 invariant-loop-entry g l = record {
-  goes_on : WorkGoesOn l.task l.fn.state l.fn.work l.state l.work;
+  goes_on : WorkGoesOn l.indexed l.fn.state l.fn.work l.state l.work;
   same : l.work.counters ≡ l.fn.work.counters;
-  given : AreGiven l.task l.fn.work.layer l.state l.work.sources;
-  room : WorkHasRoom l.task l.work;
-  running : IsRunning l.task l.fn.work.layer l.state l.work.stack.items;
-  counts : AreCountedBy l.task (value_seen l.task l.state l.work.stack.items) l.fn.work.counters;
+  given : AreGiven l.indexed l.fn.work.layer l.state l.work.sources;
+  room : WorkHasRoom l.indexed l.work;
+  running : IsRunning l.indexed l.fn.work.layer l.state l.work.stack.items;
+  counts : AreCountedBy l.indexed (value_seen l.indexed l.state l.work.stack.items) l.fn.work.counters;
   fired : (j : ℕ) (d : LayerRule) → j < l.entry-index → get_or l.fn.work.counters (get_or l.rules j d).rule 0 ≡ 0
-      → get_or l.state (rule_at l.task (get_or l.rules j d).rule).var 0 ≡ (rule_at l.task (get_or l.rules j d).rule).new;
+      → get_or l.state (rule_at l.indexed (get_or l.rules j d).rule).var 0 ≡ (rule_at l.indexed (get_or l.rules j d).rule).new;
 }

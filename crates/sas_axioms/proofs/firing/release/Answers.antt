@@ -7,24 +7,24 @@ use Rattle.sas_axioms.proofs.firing.release.Goals.{in-Some+then-count-eq0, in-So
 
 pub initial_value-requires : goal.initial_value-requires
 initial_value-requires g c =
-    top_within c.args.task.now c.args.work.now.layer c.args.state.now c.args.work.now.stack.items c.args.var c.requires.popped.running
+    rw c.indexed.view_is (top_within c.args.indexed.now c.args.work.now.layer c.args.state.now c.args.work.now.stack.items c.args.var c.requires.running)
 
 pub value-requires : goal.value-requires
 value-requires g c =
-    omega (arith, top_within c.args.task.now c.args.work.now.layer c.args.state.now c.args.work.now.stack.items c.args.var c.requires.popped.running, c.requires.popped.running.state.one_each)
+    omega (arith, top_within c.args.indexed.now c.args.work.now.layer c.args.state.now c.args.work.now.stack.items c.args.var c.requires.running, c.requires.running.state.one_each)
 
 pub get-condition-items-requires : goal.get-condition-items-requires
 get-condition-items-requires g c =
-    omega (arith, top_within c.args.task.now c.args.work.now.layer c.args.state.now c.args.work.now.stack.items c.args.var c.requires.popped.running, c.requires.index.one_each)
+    omega (arith, top_within c.args.indexed.now c.args.work.now.layer c.args.state.now c.args.work.now.stack.items c.args.var c.requires.running, (rw c.indexed.view_is at c.indexed.invariant).full.one_each)
 
 pub loop-condition-init : goal.loop-condition-init
 loop-condition-init g c =
-    let popped = c.requires.popped in
+    let popped = c.requires in
     record {
       counters = counters_before _ _ c.args.work.now.counters;
-      goes_on = goes_on_still c.args.task.now c.args.state.now c.args.work.now;
+      goes_on = goes_on_still c.args.indexed.now c.args.state.now c.args.work.now;
       room = popped.room;
-      running = popped_running c.args.task.now c.args.work.now.layer c.args.state.now c.args.work.now.stack.items c.args.var popped.running;
+      running = popped_running c.args.indexed.now c.args.work.now.layer c.args.state.now c.args.work.now.stack.items c.args.var popped.running;
       given = popped.given;
       fired = popped.fired;
       seen = λ v. refl;
@@ -35,23 +35,23 @@ count_after-requires g c =
     let moved : Moved = record { former = c.initial_value.result; value = c.value.result } in
     let ws = c.get-condition-items.result.now in
     let w0 = c.args.work.now in
-    let can : CanRecount moved ws w0.counters = rw (c.get-condition-items.ensures, c.initial_value.ensures, c.value.ensures)
-    (can_release c.args.task.now c.args.index.now c.args.var c.args.state.now w0 c.task.ensures.layered c.requires.index c.requires.popped c.task.ensures.well_ranged) in
+    let can : CanRecount moved ws w0.counters = rw (c.get-condition-items.ensures, (rw c.indexed.view_is at c.initial_value.ensures), c.value.ensures)
+    (can_release c.args.indexed.now c.indexed.inside.waiting.now c.args.var c.args.state.now w0 (rw c.indexed.view_is at c.indexed.invariant).layered (rw c.indexed.view_is at c.indexed.invariant).full c.requires (rw c.indexed.view_is at c.indexed.invariant).ranged) in
     can_count moved ws c.loop-condition.condition-index w0.counters c.loop-condition.work.counters c.loop-condition-test.true c.loop-condition.invariant.counters can
 
 pub set-requires : goal.set-requires
 set-requires g c =
-    let of_rule : All (IsOfRule c.args.task.now) c.get-condition-items.result.now = rw c.get-condition-items.ensures (c.requires.index.only c.args.var) in
+    let of_rule : All (IsOfRule c.args.indexed.now) c.get-condition-items.result.now = rw c.get-condition-items.ensures ((rw c.indexed.view_is at c.indexed.invariant).full.only c.args.var) in
     omega (arith, (of_rule c.loop-condition.condition-index no_entry c.loop-condition-test.true).1.exists, c.loop-condition.invariant.room.one_each)
 
 pub fire-requires-clause-rule : goal.fire-requires-clause-rule
 fire-requires-clause-rule g c =
-    let of_rule : All (IsOfRule c.args.task.now) c.get-condition-items.result.now = rw c.get-condition-items.ensures (c.requires.index.only c.args.var) in
-    of_rule c.loop-condition.condition-index no_entry c.loop-condition-test.true
+    let of_rule : All (IsOfRule c.args.indexed.now) c.get-condition-items.result.now = rw c.get-condition-items.ensures ((rw c.indexed.view_is at c.indexed.invariant).full.only c.args.var) in
+    rw c.indexed.view_is (of_rule c.loop-condition.condition-index no_entry c.loop-condition-test.true)
 
 pub fire-requires-clause-hold : goal.fire-requires-clause-hold
 fire-requires-clause-hold g c on =
-    let p = c.args.task.now in
+    let p = c.args.indexed.now in
     let w0 = c.args.work.now in
     let moved : Moved = record { former = c.initial_value.result; value = c.value.result } in
     let ws = c.get-condition-items.result.now in
@@ -59,17 +59,17 @@ fire-requires-clause-hold g c on =
     let work = c.loop-condition.work in
     let lt = c.loop-condition-test.true in
     let inv = c.loop-condition.invariant in
-    let of_rule : All (IsOfRule p) ws = rw c.get-condition-items.ensures (c.requires.index.only c.args.var) in
-    let exists : (get_or ws i no_entry).rule < length w0.counters = omega (arith, (of_rule i no_entry lt).1.exists, c.requires.popped.room.one_each) in
+    let of_rule : All (IsOfRule p) ws = rw c.get-condition-items.ensures ((rw c.indexed.view_is at c.indexed.invariant).full.only c.args.var) in
+    let exists : (get_or ws i no_entry).rule < length w0.counters = omega (arith, (of_rule i no_entry lt).1.exists, c.requires.room.one_each) in
     let next : CountersSoFar moved ws (i + 1) w0.counters c.set.new.self =
     counters_set moved ws i w0.counters work.counters lt inv.counters c.in-Some.count c.set.new.self exists c.set.ensures c.in-Some.ensures.some in
-    ready_so_far p c.args.index.now c.args.var c.args.state.now w0 c.task.ensures.layered c.requires.index c.requires.popped i c.loop-condition.state work c.set.new.self (get_or ws i no_entry).rule
-    (rw (c.get-condition-items.ensures, c.initial_value.ensures, c.value.ensures) at inv) (rw (c.get-condition-items.ensures, c.initial_value.ensures, c.value.ensures) at next)
-    (rw inv.goes_on.layer at on) (its_count moved ws i w0.counters work.counters lt inv.counters c.in-Some.count c.set.new.self exists c.set.ensures ∙ c.if-count-eq0.true)
+    rw c.indexed.view_is (ready_so_far p c.indexed.inside.waiting.now c.args.var c.args.state.now w0 (rw c.indexed.view_is at c.indexed.invariant).layered (rw c.indexed.view_is at c.indexed.invariant).full c.requires i c.loop-condition.state work c.set.new.self (get_or ws i no_entry).rule
+    (rw (c.get-condition-items.ensures, (rw c.indexed.view_is at c.initial_value.ensures), c.value.ensures) at inv) (rw (c.get-condition-items.ensures, (rw c.indexed.view_is at c.initial_value.ensures), c.value.ensures) at next)
+    (rw (c.indexed.view_is, inv.goes_on.layer) at on) (its_count moved ws i w0.counters work.counters lt inv.counters c.in-Some.count c.set.new.self exists c.set.ensures ∙ c.if-count-eq0.true))
 
 pub loop-condition-preserved : goal.loop-condition-preserved
 loop-condition-preserved g c =
-    let p = c.args.task.now in
+    let p = c.args.indexed.now in
     let s0 = c.args.state.now in
     let w0 = c.args.work.now in
     let moved : Moved = record { former = c.initial_value.result; value = c.value.result } in
@@ -80,14 +80,14 @@ loop-condition-preserved g c =
     let lt = c.loop-condition-test.true in
     let inv = c.loop-condition.invariant in
     let rule = (get_or ws i no_entry).rule in
-    let of_rule : All (IsOfRule p) ws = rw c.get-condition-items.ensures (c.requires.index.only c.args.var) in
-    let exists : rule < length w0.counters = omega (arith, (of_rule i no_entry lt).1.exists, c.requires.popped.room.one_each) in
+    let of_rule : All (IsOfRule p) ws = rw c.get-condition-items.ensures ((rw c.indexed.view_is at c.indexed.invariant).full.only c.args.var) in
+    let exists : rule < length w0.counters = omega (arith, (of_rule i no_entry lt).1.exists, c.requires.room.one_each) in
     let within : rule < length work.counters = omega (arith, exists, inv.counters.one_each) in
     elim c.match-count_after.branch [
       | in-Some+then-count-eq0 w ↦ rw (w.work-is, w.state-is)
           (released_fired p moved ws i s0 w0 s work w.set.new.self rule w.in-Some.count w.fire.new.state w.fire.new.work inv
           (counters_set moved ws i w0.counters work.counters lt inv.counters w.in-Some.count w.set.new.self exists w.set.ensures w.in-Some.ensures.some)
-          within w.set.ensures w.fire.ensures)
+          within w.set.ensures (rw c.indexed.view_is at w.fire.ensures))
       | in-Some+else-count-eq0 w ↦ rw (w.work-is, w.state-is)
           (released_on p moved ws i s0 w0 s work w.set.new.self rule w.in-Some.count inv
           (counters_set moved ws i w0.counters work.counters lt inv.counters w.in-Some.count w.set.new.self exists w.set.ensures w.in-Some.ensures.some)
@@ -106,6 +106,6 @@ loop-condition-preserved g c =
 pub returns-clause-at_work : goal.returns-clause-at_work
 returns-clause-at_work g c =
     let past = c.loop-condition-test.false in
-    at_work_again c.args.task.now c.args.index.now c.args.var c.args.state.now c.args.work.now c.task.ensures.layered c.requires.index c.requires.popped
-    c.loop-condition.condition-index c.loop-condition.state c.loop-condition.work (rw (c.get-condition-items.ensures, c.initial_value.ensures, c.value.ensures) at c.loop-condition.invariant)
+    at_work_again c.args.indexed.now c.indexed.inside.waiting.now c.args.var c.args.state.now c.args.work.now (rw c.indexed.view_is at c.indexed.invariant).layered (rw c.indexed.view_is at c.indexed.invariant).full c.requires
+    c.loop-condition.condition-index c.loop-condition.state c.loop-condition.work (rw (c.get-condition-items.ensures, (rw c.indexed.view_is at c.initial_value.ensures), c.value.ensures) at c.loop-condition.invariant)
     (omega (arith, ap length c.get-condition-items.ensures))

@@ -3,4 +3,4 @@ use Rattle.sas_axioms.proofs.Counters.{Releasing}
 use Rattle.sas_axioms.proofs.firing.release.Given as goal
 
 abbrev pub invariant-loop-condition : goal.invariant-loop-condition
-invariant-loop-condition g l = Releasing l.task l.moved l.condition-items l.condition-index l.fn.state l.fn.work l.state l.work
+invariant-loop-condition g l = Releasing l.indexed l.moved l.condition-items l.condition-index l.fn.state l.fn.work l.state l.work

@@ -17,7 +17,7 @@ exists_here p gone i lt s s' have =
 pub loop-fact-init : goal.loop-fact-init
 loop-fact-init g c = record {
   same = record { layer = refl; stack = refl; one_each = refl; sources = refl };
-  so_far = λ s followed have. (s, have, counted_nothing c.args.task.now s c.args.work.now followed c.requires.empty);
+  so_far = λ s followed have. (s, have, counted_nothing c.args.indexed.now s c.args.work.now followed c.requires.empty);
 }
 
 pub recount-requires-clause-counts : goal.recount-requires-clause-counts
@@ -25,19 +25,19 @@ recount-requires-clause-counts g c =
     let gone = c.args.gone.now in
     let i = c.loop-fact.fact-index in
     let so_far = c.loop-fact.invariant.so_far c.requires.follows.0 c.requires.follows.1 c.requires.follows.2 in
-    let have : HaveGone c.args.task.now (get_or gone i no_fact ∷ drop (i + 1) gone) so_far.0 c.args.state.now = rw (drop_more gone i no_fact c.loop-fact-test.true) at so_far.1 in
+    let have : HaveGone c.args.indexed.now (get_or gone i no_fact ∷ drop (i + 1) gone) so_far.0 c.args.state.now = rw (drop_more gone i no_fact c.loop-fact-test.true) at so_far.1 in
     (so_far.0, so_far.2.counts, All-head (Holds (λ v. get_or so_far.0 v 0)) (get_or gone i no_fact) (drop (i + 1) gone) have.held)
 
 pub returns-clause-between : goal.returns-clause-between
 returns-clause-between g c s followed have =
     let so_far = c.loop-fact.invariant.so_far s followed have in
-    between_begins c.args.task.now s so_far.0 c.args.state.now c.args.work.now c.requires.state followed
-    (subst (λ (xs : List Fact). HaveGone c.args.task.now xs so_far.0 c.args.state.now) (at_drop_all (λ xs. xs) c.args.gone.now c.loop-fact.fact-index (omega arith)) so_far.1)
+    between_begins c.args.indexed.now s so_far.0 c.args.state.now c.args.work.now c.requires.state followed
+    (subst (λ (xs : List Fact). HaveGone c.args.indexed.now xs so_far.0 c.args.state.now) (at_drop_all (λ xs. xs) c.args.gone.now c.loop-fact.fact-index (omega arith)) so_far.1)
     c.loop-fact.work c.loop-fact.invariant.same.sources so_far.2
 
 pub loop-fact-preserved : goal.loop-fact-preserved
 loop-fact-preserved g c =
-    let p = c.args.task.now in
+    let p = c.args.indexed.now in
     let gone = c.args.gone.now in
     let i = c.loop-fact.fact-index in
     let state = c.args.state.now in
@@ -71,9 +71,9 @@ loop-fact-preserved g c =
 pub value-requires : goal.value-requires
 value-requires g c =
     let so_far = c.loop-fact.invariant.so_far c.requires.follows.0 c.requires.follows.1 c.requires.follows.2 in
-    omega (arith, exists_here c.args.task.now c.args.gone.now c.loop-fact.fact-index c.loop-fact-test.true so_far.0 c.args.state.now so_far.1, c.requires.state.one_each)
+    omega (arith, exists_here c.args.indexed.now c.args.gone.now c.loop-fact.fact-index c.loop-fact-test.true so_far.0 c.args.state.now so_far.1, c.requires.state.one_each)
 
 pub recount-requires-clause-exists : goal.recount-requires-clause-exists
 recount-requires-clause-exists g c =
     let so_far = c.loop-fact.invariant.so_far c.requires.follows.0 c.requires.follows.1 c.requires.follows.2 in
-    exists_here c.args.task.now c.args.gone.now c.loop-fact.fact-index c.loop-fact-test.true so_far.0 c.args.state.now so_far.1
+    exists_here c.args.indexed.now c.args.gone.now c.loop-fact.fact-index c.loop-fact-test.true so_far.0 c.args.state.now so_far.1

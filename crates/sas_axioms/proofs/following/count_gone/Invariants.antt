@@ -5,6 +5,6 @@ use Rattle.sas_axioms.proofs.following.count_gone.Given as goal
 abbrev pub invariant-loop-fact : goal.invariant-loop-fact
 invariant-loop-fact g l = record {
   same : SameWork l.fn.work l.work;
-  so_far : (s : List ℕ) → IsFollowed l.task s l.fn.work → HaveGone l.task l.gone s l.state
-      → (m : List ℕ) × HaveGone l.task (drop l.fact-index l.gone) m l.state × CountedSoFar l.task s m l.work;
+  so_far : (s : List ℕ) → IsFollowed l.indexed s l.fn.work → HaveGone l.indexed l.gone s l.state
+      → (m : List ℕ) × HaveGone l.indexed (drop l.fact-index l.gone) m l.state × CountedSoFar l.indexed s m l.work;
 }

@@ -14,40 +14,40 @@ pub take-requires-clause-lowest : goal.take-requires-clause-lowest
 take-requires-clause-lowest g c = (c.loop-rule.invariant.falling c.requires.falling.0 c.requires.falling.1).track.from
 
 -- what held before
-some : (g : Over) (c : In-Some g) → IsFalling c.args.task.now c.requires.falling.0 c.loop-rule.state c.loop-rule.work
+some : (g : Over) (c : In-Some g) → IsFalling c.args.indexed.now c.requires.falling.0 c.loop-rule.state c.loop-rule.work
 some g c = c.loop-rule.invariant.falling c.requires.falling.0 c.requires.falling.1
 
-on : (g : Over) (c : In-Some g) → IsRuleOn c.args.task.now c.loop-rule.work.layer c.in-Some.rule
-on g c = awaited_on c.args.task.now c.loop-rule.work.layer c.in-Some.rule c.loop-rule.state c.loop-rule.work (some g c).track c.in-Some.ensures.some.was
+on : (g : Over) (c : In-Some g) → IsRuleOn c.args.indexed.now c.loop-rule.work.layer c.in-Some.rule
+on g c = awaited_on c.args.indexed.now c.loop-rule.work.layer c.in-Some.rule c.loop-rule.state c.loop-rule.work (some g c).track c.in-Some.ensures.some.was
 
-within : (g : Over) (c : In-Some g) → (rule_at c.args.task.now c.in-Some.rule).var < length c.args.task.now.variables
-within g c = on_layer_within c.args.task.now c.loop-rule.work.layer (rule_at c.args.task.now c.in-Some.rule).var (on g c).on
+within : (g : Over) (c : In-Some g) → (rule_at c.args.indexed.now c.in-Some.rule).var < length c.args.indexed.now.variables
+within g c = on_layer_within c.args.indexed.now c.loop-rule.work.layer (rule_at c.args.indexed.now c.in-Some.rule).var (on g c).on
 
 pub has_lost-requires-clause-rule : goal.has_lost-requires-clause-rule
-has_lost-requires-clause-rule g c = (c.loop-rule.work.layer, on g c)
+has_lost-requires-clause-rule g c = rw c.indexed.view_is (c.loop-rule.work.layer, on g c)
 
 pub rule_change-var-requires : goal.rule_change-var-requires
-rule_change-var-requires g c = (on g (goal.at.rule_change-var-requires g c).In-Some).exists
+rule_change-var-requires g c = rw c.indexed.view_is (on g (goal.at.rule_change-var-requires g c).In-Some).exists
 
 pub initial_value-value-requires : goal.initial_value-value-requires
-initial_value-value-requires g c = rw (ap (λ (x : Change). x.var) c.rule_change-var.ensures) (within g (goal.at.initial_value-value-requires g c).In-Some)
+initial_value-value-requires g c = rw (c.indexed.view_is, ap (λ (x : Change). x.var) (rw c.indexed.view_is at c.rule_change-var.ensures)) (within g (goal.at.initial_value-value-requires g c).In-Some)
 
 pub set_to-requires-clause-counts : goal.set_to-requires-clause-counts
 set_to-requires-clause-counts g c = (some g (goal.at.set_to-requires-clause-counts g c).In-Some).track.counts
 
 pub set_to-requires-clause-derived : goal.set_to-requires-clause-derived
-set_to-requires-clause-derived g c = rw (ap (λ (x : Change). x.var) c.rule_change-var.ensures) (ap is_some (on g (goal.at.set_to-requires-clause-derived g c).In-Some).on)
+set_to-requires-clause-derived g c = rw (ap (λ (x : Change). x.var) (rw c.indexed.view_is at c.rule_change-var.ensures)) (ap is_some (on g (goal.at.set_to-requires-clause-derived g c).In-Some).on)
 
 pub get-requires : goal.get-requires
-get-requires g c = rw (ap (λ (x : Change). x.var) c.rule_change-var.ensures) (omega (arith, within g (goal.at.get-requires g c).In-Some, c.requires.rules.one_each))
+get-requires g c = rw (ap (λ (x : Change). x.var) (rw c.indexed.view_is at c.rule_change-var.ensures)) (omega (arith, within g (goal.at.get-requires g c).In-Some, (rw c.indexed.view_is at c.indexed.invariant).all.one_each))
 
 pub set_to-requires-clause-other : goal.set_to-requires-clause-other
 set_to-requires-clause-other g c same =
-    let p = c.args.task.now in
-    let e = ap (λ (x : Change). x.var) c.rule_change-var.ensures in
+    let p = c.args.indexed.now in
+    let e = ap (λ (x : Change). x.var) (rw c.indexed.view_is at c.rule_change-var.ensures) in
     let var = (rule_at p c.in-Some.rule).var in
-    differs_not p c.loop-rule.state var (c.has_lost.ensures.yes c.if-has_lost.true)
-    (subst (λ v. get_or c.loop-rule.state v 0 ≡ default_of p v) e (same ∙ c.initial_value-value.ensures))
+    differs_not p c.loop-rule.state var ((rw c.indexed.view_is at c.has_lost.ensures).yes c.if-has_lost.true)
+    (subst (λ v. get_or c.loop-rule.state v 0 ≡ default_of p v) e (same ∙ (rw c.indexed.view_is at c.initial_value-value.ensures)))
 
 -- less is left than there was, where less is left than before
 less : (a a0 a' : Agenda) → (work_left a < work_left a0) ⊎ (a ≡ a0) → work_left a' < work_left a → work_left a' < work_left a0
@@ -56,46 +56,46 @@ less a a0 a' (inr e) more = subst (λ x. work_left a' < work_left x) e more
 
 pub returns-in_err-set_to-clause-off : goal.returns-in_err-set_to-clause-off
 returns-in_err-set_to-clause-off g c =
-    let p = c.args.task.now in
+    let p = c.args.indexed.now in
     let inv = c.loop-rule.invariant in
     let i = (goal.at.returns-in_err-set_to-clause-off g c).In-Some in
-    let e = ap (λ (x : Change). x.var) c.rule_change-var.ensures in
+    let e = ap (λ (x : Change). x.var) (rw c.indexed.view_is at c.rule_change-var.ensures) in
     off_step p c.args.work.now.layer c.loop-rule.work.layer c.args.state.now c.loop-rule.state c.set_to.new.state _ _ inv.same.layer inv.off
     (subst (λ v. IsOnLayer p c.loop-rule.work.layer v) (sym e) (on g i).on) c.set_to.ensures.state
 
 pub returns-in_err-make_ready-clause-off : goal.returns-in_err-make_ready-clause-off
 returns-in_err-make_ready-clause-off g c =
-    let p = c.args.task.now in
+    let p = c.args.indexed.now in
     let inv = c.loop-rule.invariant in
     let i = (goal.at.returns-in_err-make_ready-clause-off g c).In-Some in
-    let e = ap (λ (x : Change). x.var) c.rule_change-var.ensures in
+    let e = ap (λ (x : Change). x.var) (rw c.indexed.view_is at c.rule_change-var.ensures) in
     off_step p c.args.work.now.layer c.loop-rule.work.layer c.args.state.now c.loop-rule.state c.set_to.new.state _ _ inv.same.layer inv.off
     (subst (λ v. IsOnLayer p c.loop-rule.work.layer v) (sym e) (on g i).on) c.set_to.ensures.state
 
 pub returns-in_err-set_to-clause-covered : goal.returns-in_err-set_to-clause-covered
 returns-in_err-set_to-clause-covered g c =
-    let p = c.args.task.now in
+    let p = c.args.indexed.now in
     let i = (goal.at.returns-in_err-set_to-clause-covered g c).In-Some in
-    let e = ap (λ (x : Change). x.var) c.rule_change-var.ensures in
+    let e = ap (λ (x : Change). x.var) (rw c.indexed.view_is at c.rule_change-var.ensures) in
     covered_step p c.loop-rule.work.layer c.args.state.now c.loop-rule.state c.set_to.new.state _ _ c.args.touched.now c.loop-rule.touched c.set_to.new.touched
     c.loop-rule.invariant.covered (subst (λ v. IsOnLayer p c.loop-rule.work.layer v) (sym e) (on g i).on) c.set_to.ensures.state c.set_to.ensures.noted
 
 pub returns-in_err-make_ready-clause-covered : goal.returns-in_err-make_ready-clause-covered
 returns-in_err-make_ready-clause-covered g c =
-    let p = c.args.task.now in
+    let p = c.args.indexed.now in
     let i = (goal.at.returns-in_err-make_ready-clause-covered g c).In-Some in
-    let e = ap (λ (x : Change). x.var) c.rule_change-var.ensures in
+    let e = ap (λ (x : Change). x.var) (rw c.indexed.view_is at c.rule_change-var.ensures) in
     covered_step p c.loop-rule.work.layer c.args.state.now c.loop-rule.state c.set_to.new.state _ _ c.args.touched.now c.loop-rule.touched c.set_to.new.touched
     c.loop-rule.invariant.covered (subst (λ v. IsOnLayer p c.loop-rule.work.layer v) (sym e) (on g i).on) c.set_to.ensures.state c.set_to.ensures.noted
 
 pub returns-clause-rising : goal.returns-clause-rising
 returns-clause-rising g c s falling =
     let same = c.in_default.ensures.same in
-    rw same (risen_from_fallen c.args.task.now s c.loop-rule.state c.loop-rule.work (c.loop-rule.invariant.falling s falling) (rw same at c.in_default.ensures.none))
+    rw same (risen_from_fallen c.args.indexed.now s c.loop-rule.state c.loop-rule.work (c.loop-rule.invariant.falling s falling) (rw same at c.in_default.ensures.none))
 
 pub loop-rule-preserved-in-Continue-branch-2 : goal.loop-rule-preserved-in-Continue-branch-2
 loop-rule-preserved-in-Continue-branch-2 g c =
-    let p = c.args.task.now in
+    let p = c.args.indexed.now in
     let inv = c.loop-rule.invariant in
     let i = (goal.at.loop-rule-preserved-in-Continue-branch-2 g c).In-Some in
     let s = c.loop-rule.state in
@@ -103,15 +103,15 @@ loop-rule-preserved-in-Continue-branch-2 g c =
     let work = c.loop-rule.work in
     let b = some g i in
     let is = on g i in
-    let var_is = ap (λ (x : Change). x.var) c.rule_change-var.ensures in
+    let var_is = ap (λ (x : Change). x.var) (rw c.indexed.view_is at c.rule_change-var.ensures) in
     let state_is : c.set_to.new.state ≡ set s (rule_at p rule).var (default_of p (rule_at p rule).var) =
-    fallen_is p s c.set_to.new.state rule c.initial_value-value.result c.rule_change-var.result c.rule_change-var.ensures c.initial_value-value.ensures c.set_to.ensures.state in
+    fallen_is p s c.set_to.new.state rule c.initial_value-value.result c.rule_change-var.result (rw c.indexed.view_is at c.rule_change-var.ensures) (rw c.indexed.view_is at c.initial_value-value.ensures) c.set_to.ensures.state in
     let state : IsState p.variables (set s (rule_at p rule).var (default_of p (rule_at p rule).var)) =
-    state_set p s (rule_at p rule).var (default_of p (rule_at p rule).var) b.track.state (c.task.ensures.well_ranged.init.in_range (rule_at p rule).var (within g i)) in
+    state_set p s (rule_at p rule).var (default_of p (rule_at p rule).var) b.track.state ((rw c.indexed.view_is at c.indexed.invariant).ranged.init.in_range (rule_at p rule).var (within g i)) in
     let moves = rw (var_is, state_is) at c.in_ok-set_to.ensures.moves in
-    let all : All (λ (r : ℕ). IsRuleOn p work.layer r) c.get.result.now = rw (c.get.ensures, var_is) (rules_on p c.args.rules_of.now c.requires.rules work.layer (rule_at p rule).var is.on) in
+    let all : All (λ (r : ℕ). IsRuleOn p work.layer r) c.get.result.now = rw (c.get.ensures, var_is) (rules_on p c.indexed.inside.setting.now (rw c.indexed.view_is at c.indexed.invariant).all work.layer (rule_at p rule).var is.on) in
     let each : (other : ℕ) → IsRuleOn p work.layer other → (rule_at p other).var ≡ (rule_at p rule).var → Contains c.get.result.now other =
-    λ other on e. rw (c.get.ensures, var_is) (subst (λ v. Contains (get_or c.args.rules_of.now v []) other) e (rule_under p c.args.rules_of.now c.requires.rules work.layer other on)) in
+    λ other on e. rw (c.get.ensures, var_is) (subst (λ v. Contains (get_or c.indexed.inside.setting.now v []) other) e (rule_under p c.indexed.inside.setting.now (rw c.indexed.view_is at c.indexed.invariant).all work.layer other on)) in
     rw state_is record {
       same = record {
         layer = c.set_to.ensures.same.layer ∙ inv.same.layer;
@@ -123,21 +123,21 @@ loop-rule-preserved-in-Continue-branch-2 g c =
       off = off_step p c.args.work.now.layer work.layer c.args.state.now s (set s (rule_at p rule).var (default_of p (rule_at p rule).var)) (rule_at p rule).var (default_of p (rule_at p rule).var) inv.same.layer inv.off is.on refl;
       covered = covered_step p work.layer c.args.state.now s (set s (rule_at p rule).var (default_of p (rule_at p rule).var)) (rule_at p rule).var (default_of p (rule_at p rule).var)
           c.args.touched.now c.loop-rule.touched c.set_to.new.touched inv.covered is.on refl (rw var_is at c.set_to.ensures.noted);
-      falling = λ s0 falling. falling_fell p s0 s rule work _ c.set_to.new.work c.make_ready.new.agenda c.get.result.now c.task.ensures.layered (inv.falling s0 falling) c.in-Some.ensures.some
+      falling = λ s0 falling. falling_fell p s0 s rule work _ c.set_to.new.work c.make_ready.new.agenda c.get.result.now (rw c.indexed.view_is at c.indexed.invariant).layered (inv.falling s0 falling) c.in-Some.ensures.some
           (omega (arith, within g i, b.track.state.one_each)) state c.set_to.ensures.same moves all each c.in_ok-make_ready.ensures;
       left = inl (less work.agenda c.args.work.now.agenda c.make_ready.new.agenda inv.left (let a = c.in-Some.ensures.left in let d = moves.left in let e = c.in_ok-make_ready.ensures.left in omega arith));
     }
 
 pub loop-rule-preserved : goal.loop-rule-preserved
 loop-rule-preserved g c =
-    let p = c.args.task.now in
+    let p = c.args.indexed.now in
     let i = (goal.at.loop-rule-preserved g c).In-Some in
     let inv = c.loop-rule.invariant in
     let s = c.loop-rule.state in
     let rule = c.in-Some.rule in
     let work = c.loop-rule.work in
     let holds : get_or work.sources (rule_at p rule).var 0 ≡ rule → differs p s (rule_at p rule).var ≡ true → IsHolding p s rule = λ source d.
-    holding_when_zero p work.layer rule s work.counters (some g i).track.counts (on g i) (c.has_lost.ensures.no c.if-has_lost.false source d) in
+    holding_when_zero p work.layer rule s work.counters (some g i).track.counts (on g i) ((rw c.indexed.view_is at c.has_lost.ensures).no c.if-has_lost.false source d) in
     record {
       same = record { layer = inv.same.layer; stack = inv.same.stack; one_each = inv.same.one_each; sources = inv.same.sources };
       state = inv.state;
@@ -170,14 +170,14 @@ returns-in_err-make_ready-clause-same g c =
 
 pub returns-in_err-set_to-clause-state : goal.returns-in_err-set_to-clause-state
 returns-in_err-set_to-clause-state g c =
-    fallen_state c.args.task.now c.loop-rule.state c.set_to.new.state c.in-Some.rule c.initial_value-value.result c.rule_change-var.result
-    c.rule_change-var.ensures c.initial_value-value.ensures c.set_to.ensures.state c.task.ensures.well_ranged
+    fallen_state c.args.indexed.now c.loop-rule.state c.set_to.new.state c.in-Some.rule c.initial_value-value.result c.rule_change-var.result
+    (rw c.indexed.view_is at c.rule_change-var.ensures) (rw c.indexed.view_is at c.initial_value-value.ensures) c.set_to.ensures.state (rw c.indexed.view_is at c.indexed.invariant).ranged
     (within g (goal.at.returns-in_err-set_to-clause-state g c).In-Some) c.loop-rule.invariant.state
 
 pub returns-in_err-make_ready-clause-state : goal.returns-in_err-make_ready-clause-state
 returns-in_err-make_ready-clause-state g c =
-    fallen_state c.args.task.now c.loop-rule.state c.set_to.new.state c.in-Some.rule c.initial_value-value.result c.rule_change-var.result
-    c.rule_change-var.ensures c.initial_value-value.ensures c.set_to.ensures.state c.task.ensures.well_ranged
+    fallen_state c.args.indexed.now c.loop-rule.state c.set_to.new.state c.in-Some.rule c.initial_value-value.result c.rule_change-var.result
+    (rw c.indexed.view_is at c.rule_change-var.ensures) (rw c.indexed.view_is at c.initial_value-value.ensures) c.set_to.ensures.state (rw c.indexed.view_is at c.indexed.invariant).ranged
     (within g (goal.at.returns-in_err-make_ready-clause-state g c).In-Some) c.loop-rule.invariant.state
 
 pub returns-clause-left : goal.returns-clause-left

@@ -7,7 +7,7 @@ pub bounds-as_slice-var : goal.bounds-as_slice-var
 bounds-as_slice-var g c =
     omega (
       arith,
-      change_within c.args.task.now c.task.ensures.well_ranged c.args.rule c.requires.rule.1.exists c.rule_change-var.result c.rule_change-var.ensures,
+      change_within c.args.layered.now c.task-task.ensures.well_ranged c.args.rule c.requires.rule.1.exists c.rule_change-var.result (rw c.task-task.ensures.task at c.rule_change-var.ensures),
       c.requires.places,
       ap length c.as_slice-else-as_slice-rule-eq0.ensures,
     )
@@ -16,15 +16,15 @@ pub value-requires : goal.value-requires
 value-requires g c =
     omega (
       arith,
-      change_within c.args.task.now c.task.ensures.well_ranged c.args.rule c.requires.rule.1.exists c.rule_change-var.result c.rule_change-var.ensures,
+      change_within c.args.layered.now c.task-task.ensures.well_ranged c.args.rule c.requires.rule.1.exists c.rule_change-var.result (rw c.task-task.ensures.task at c.rule_change-var.ensures),
       c.requires.state.one_each,
     )
 
 pub initial_value-requires : goal.initial_value-requires
 initial_value-requires g c =
-    change_within c.args.task.now c.task.ensures.well_ranged c.args.rule c.requires.rule.1.exists c.rule_change-var.result c.rule_change-var.ensures
+    rw c.task-task.ensures.task (change_within c.args.layered.now c.task-task.ensures.well_ranged c.args.rule c.requires.rule.1.exists c.rule_change-var.result (rw c.task-task.ensures.task at c.rule_change-var.ensures))
 
 pub returns-clause-yes : goal.returns-clause-yes
 returns-clause-yes g c = λ differs.
-    sym (differs_read c.args.task.now c.args.state.now c.args.rule c.value.result c.initial_value.result c.rule_change-var.result
-    c.rule_change-var.ensures c.value.ensures c.initial_value.ensures) ∙ differs
+    sym (differs_read c.args.layered.now c.args.state.now c.args.rule c.value.result c.initial_value.result c.rule_change-var.result
+    (rw c.task-task.ensures.task at c.rule_change-var.ensures) c.value.ensures (rw c.task-task.ensures.task at c.initial_value.ensures)) ∙ differs

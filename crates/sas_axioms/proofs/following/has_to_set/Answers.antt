@@ -7,6 +7,6 @@ pub value-requires : goal.value-requires
 value-requires g c =
     omega (
       arith,
-      change_within c.args.task.now c.task.ensures.well_ranged c.args.rule c.requires.rule.1.exists c.rule_change-change.result c.rule_change-change.ensures,
+      change_within c.args.layered.now c.task-task.ensures.well_ranged c.args.rule c.requires.rule.1.exists c.rule_change-change.result (rw c.task-task.ensures.task at c.rule_change-change.ensures),
       c.requires.state.one_each,
     )

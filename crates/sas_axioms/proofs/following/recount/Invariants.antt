@@ -3,4 +3,4 @@ use Rattle.sas_axioms.proofs.CountingEntries.{CountedEntries}
 use Rattle.sas_axioms.proofs.following.recount.Given as goal
 
 abbrev pub invariant-loop-condition : goal.invariant-loop-condition
-invariant-loop-condition g l = CountedEntries l.task l.moved l.waiting l.condition-index l.fn.work l.work
+invariant-loop-condition g l = CountedEntries l.indexed l.moved l.waiting l.condition-index l.fn.work l.work

@@ -7,69 +7,69 @@ use Rattle.sas_axioms.proofs.following.rise.Given.{Over}
 use Rattle.sas_axioms.proofs.following.rise.Goals.{In-Some}
 
 pub next-requires-clause-ordered : goal.next-requires-clause-ordered
-next-requires-clause-ordered g c = (c.loop-rule.invariant.rising c.requires.rising.0 c.requires.rising.1).track.ordered
+next-requires-clause-ordered g c = (c.loop-rule.invariant.rising c.requires.0 c.requires.1).track.ordered
 
 pub next-requires-clause-lowest : goal.next-requires-clause-lowest
-next-requires-clause-lowest g c = (c.loop-rule.invariant.rising c.requires.rising.0 c.requires.rising.1).track.from
+next-requires-clause-lowest g c = (c.loop-rule.invariant.rising c.requires.0 c.requires.1).track.from
 
 -- what held before
-some : (g : Over) (c : In-Some g) → IsRising c.args.task.now c.requires.rising.0 c.loop-rule.state c.loop-rule.work
-some g c = c.loop-rule.invariant.rising c.requires.rising.0 c.requires.rising.1
+some : (g : Over) (c : In-Some g) → IsRising c.args.indexed.now c.requires.0 c.loop-rule.state c.loop-rule.work
+some g c = c.loop-rule.invariant.rising c.requires.0 c.requires.1
 
-on : (g : Over) (c : In-Some g) → IsRuleOn c.args.task.now c.loop-rule.work.layer c.in-Some.rule
-on g c = awaited_on c.args.task.now c.loop-rule.work.layer c.in-Some.rule c.loop-rule.state c.loop-rule.work (some g c).track c.in-Some.ensures.some.was
+on : (g : Over) (c : In-Some g) → IsRuleOn c.args.indexed.now c.loop-rule.work.layer c.in-Some.rule
+on g c = awaited_on c.args.indexed.now c.loop-rule.work.layer c.in-Some.rule c.loop-rule.state c.loop-rule.work (some g c).track c.in-Some.ensures.some.was
 
-within : (g : Over) (c : In-Some g) → (rule_at c.args.task.now c.in-Some.rule).var < length c.args.task.now.variables
-within g c = on_layer_within c.args.task.now c.loop-rule.work.layer (rule_at c.args.task.now c.in-Some.rule).var (on g c).on
+within : (g : Over) (c : In-Some g) → (rule_at c.args.indexed.now c.in-Some.rule).var < length c.args.indexed.now.variables
+within g c = on_layer_within c.args.indexed.now c.loop-rule.work.layer (rule_at c.args.indexed.now c.in-Some.rule).var (on g c).on
 
 pub has_to_set-requires-clause-rule : goal.has_to_set-requires-clause-rule
-has_to_set-requires-clause-rule g c = (c.loop-rule.work.layer, on g c)
+has_to_set-requires-clause-rule g c = rw c.indexed.view_is (c.loop-rule.work.layer, on g c)
 
 pub rule_change-change-requires : goal.rule_change-change-requires
-rule_change-change-requires g c = (on g (goal.at.rule_change-change-requires g c).In-Some).exists
+rule_change-change-requires g c = rw c.indexed.view_is (on g (goal.at.rule_change-change-requires g c).In-Some).exists
 
 pub set_to-requires-clause-counts : goal.set_to-requires-clause-counts
 set_to-requires-clause-counts g c = (some g (goal.at.set_to-requires-clause-counts g c).In-Some).track.counts
 
 pub set_to-requires-clause-derived : goal.set_to-requires-clause-derived
-set_to-requires-clause-derived g c = rw (ap (λ (x : Change). x.var) c.rule_change-change.ensures) (ap is_some (on g (goal.at.set_to-requires-clause-derived g c).In-Some).on)
+set_to-requires-clause-derived g c = rw (ap (λ (x : Change). x.var) (rw c.indexed.view_is at c.rule_change-change.ensures)) (ap is_some (on g (goal.at.set_to-requires-clause-derived g c).In-Some).on)
 
 -- the rule holds
-holds : (g : Over) (i : In-Some g) → get_or i.loop-rule.work.counters i.in-Some.rule 0 ≡ 0 → IsHolding i.args.task.now i.loop-rule.state i.in-Some.rule
-holds g i zero = holding_when_zero i.args.task.now i.loop-rule.work.layer i.in-Some.rule i.loop-rule.state i.loop-rule.work.counters (some g i).track.counts (on g i) zero
+holds : (g : Over) (i : In-Some g) → get_or i.loop-rule.work.counters i.in-Some.rule 0 ≡ 0 → IsHolding i.args.indexed.now i.loop-rule.state i.in-Some.rule
+holds g i zero = holding_when_zero i.args.indexed.now i.loop-rule.work.layer i.in-Some.rule i.loop-rule.state i.loop-rule.work.counters (some g i).track.counts (on g i) zero
 
 pub returns-in_err-set_to-clause-state : goal.returns-in_err-set_to-clause-state
 returns-in_err-set_to-clause-state g c =
-    let p = c.args.task.now in
+    let p = c.args.indexed.now in
     let i = (goal.at.returns-in_err-set_to-clause-state g c).In-Some in
     let s = c.loop-rule.state in
-    let state_is : c.set_to.new.state ≡ set s (rule_at p c.in-Some.rule).var (rule_at p c.in-Some.rule).new = c.set_to.ensures.state ∙ ap (λ (x : Change). set s x.var x.new) c.rule_change-change.ensures in
-    rw state_is (fires p c.requires.rising.0 s c.in-Some.rule _ _ c.task.ensures.well_ranged c.task.ensures.layered (some g i) c.in-Some.ensures.some (holds g i (c.has_to_set.ensures.holds c.if-has_to_set.true)) (c.has_to_set.ensures.other c.if-has_to_set.true)).state
+    let state_is : c.set_to.new.state ≡ set s (rule_at p c.in-Some.rule).var (rule_at p c.in-Some.rule).new = c.set_to.ensures.state ∙ ap (λ (x : Change). set s x.var x.new) (rw c.indexed.view_is at c.rule_change-change.ensures) in
+    rw state_is (fires p c.requires.0 s c.in-Some.rule _ _ (rw c.indexed.view_is at c.indexed.invariant).ranged (rw c.indexed.view_is at c.indexed.invariant).layered (some g i) c.in-Some.ensures.some (holds g i ((rw c.indexed.view_is at c.has_to_set.ensures).holds c.if-has_to_set.true)) ((rw c.indexed.view_is at c.has_to_set.ensures).other c.if-has_to_set.true)).state
 
 pub returns-in_err-set_to-clause-off : goal.returns-in_err-set_to-clause-off
 returns-in_err-set_to-clause-off g c =
-    let p = c.args.task.now in
+    let p = c.args.indexed.now in
     let i = (goal.at.returns-in_err-set_to-clause-off g c).In-Some in
     let inv = c.loop-rule.invariant in
-    let state_is : c.set_to.new.state ≡ set c.loop-rule.state (rule_at p c.in-Some.rule).var (rule_at p c.in-Some.rule).new = c.set_to.ensures.state ∙ ap (λ (x : Change). set c.loop-rule.state x.var x.new) c.rule_change-change.ensures in
+    let state_is : c.set_to.new.state ≡ set c.loop-rule.state (rule_at p c.in-Some.rule).var (rule_at p c.in-Some.rule).new = c.set_to.ensures.state ∙ ap (λ (x : Change). set c.loop-rule.state x.var x.new) (rw c.indexed.view_is at c.rule_change-change.ensures) in
     off_step p c.args.work.now.layer c.loop-rule.work.layer c.args.state.now c.loop-rule.state c.set_to.new.state _ _ inv.room.layer inv.off (on g i).on state_is
 
 pub returns-in_err-set_to-clause-covered : goal.returns-in_err-set_to-clause-covered
 returns-in_err-set_to-clause-covered g c =
-    let p = c.args.task.now in
+    let p = c.args.indexed.now in
     let i = (goal.at.returns-in_err-set_to-clause-covered g c).In-Some in
-    let e = ap (λ (x : Change). x.var) c.rule_change-change.ensures in
+    let e = ap (λ (x : Change). x.var) (rw c.indexed.view_is at c.rule_change-change.ensures) in
     covered_step p c.loop-rule.work.layer c.args.state.now c.loop-rule.state c.set_to.new.state _ _ c.args.touched.now c.loop-rule.touched c.set_to.new.touched
     c.loop-rule.invariant.covered (subst (λ v. IsOnLayer p c.loop-rule.work.layer v) (sym e) (on g i).on) c.set_to.ensures.state c.set_to.ensures.noted
 
 pub set-requires : goal.set-requires
 set-requires g c =
     let i = (goal.at.set-requires g c).In-Some in
-    rw (ap (λ (x : Change). x.var) c.rule_change-change.ensures) (omega (arith, within g i, (some g i).track.places, ap length c.set_to.ensures.same.sources))
+    rw (ap (λ (x : Change). x.var) (rw c.indexed.view_is at c.rule_change-change.ensures)) (omega (arith, within g i, (some g i).track.places, ap length c.set_to.ensures.same.sources))
 
 pub loop-rule-preserved-then-has_to_set : goal.loop-rule-preserved-then-has_to_set
 loop-rule-preserved-then-has_to_set g c =
-    let p = c.args.task.now in
+    let p = c.args.indexed.now in
     let i = (goal.at.loop-rule-preserved-then-has_to_set g c).In-Some in
     let inv = c.loop-rule.invariant in
     let s = c.loop-rule.state in
@@ -78,9 +78,9 @@ loop-rule-preserved-then-has_to_set g c =
     let b = some g i in
     let is = on g i in
     let takes = c.in-Some.ensures.some in
-    let hold = holds g i (c.has_to_set.ensures.holds c.if-has_to_set.true) in
-    let ne = c.has_to_set.ensures.other c.if-has_to_set.true in
-    let e = c.rule_change-change.ensures in
+    let hold = holds g i ((rw c.indexed.view_is at c.has_to_set.ensures).holds c.if-has_to_set.true) in
+    let ne = (rw c.indexed.view_is at c.has_to_set.ensures).other c.if-has_to_set.true in
+    let e = (rw c.indexed.view_is at c.rule_change-change.ensures) in
     let state_is : c.set_to.new.state ≡ set s (rule_at p rule).var (rule_at p rule).new = c.set_to.ensures.state ∙ ap (λ (x : Change). set s x.var x.new) e in
     let sources_is : c.set.new.self ≡ set c.set_to.new.work.sources (rule_at p rule).var rule = c.set.ensures ∙ ap (λ (x : Change). set c.set_to.new.work.sources x.var rule) e in
     let same = c.set_to.ensures.same in
@@ -89,18 +89,18 @@ loop-rule-preserved-then-has_to_set g c =
       room = room_more c.args.work.now work _ inv.room (record { layer = same.layer; stack = same.stack; one_each = same.one_each; sources = length-set c.set_to.new.work.sources (rule_at p rule).var rule ∙ ap length same.sources });
       sources = λ v off. get_or-set_other c.set_to.new.work.sources (rule_at p rule).var v rule 0 (λ f. off (subst (λ n. IsOnLayer p n v) inv.room.layer (subst (λ u. IsOnLayer p work.layer u) (sym f) is.on)))
           ∙ (ap (λ (xs : List ℕ). get_or xs v 0) same.sources ∙ inv.sources v off);
-      state = (fires p c.requires.rising.0 s rule work _ c.task.ensures.well_ranged c.task.ensures.layered b takes hold ne).state;
+      state = (fires p c.requires.0 s rule work _ (rw c.indexed.view_is at c.indexed.invariant).ranged (rw c.indexed.view_is at c.indexed.invariant).layered b takes hold ne).state;
       off = off_step p c.args.work.now.layer work.layer c.args.state.now s (set s (rule_at p rule).var (rule_at p rule).new) (rule_at p rule).var (rule_at p rule).new inv.room.layer inv.off is.on refl;
       covered = covered_step p work.layer c.args.state.now s (set s (rule_at p rule).var (rule_at p rule).new) (rule_at p rule).var (rule_at p rule).new
           c.args.touched.now c.loop-rule.touched c.set_to.new.touched inv.covered is.on refl (rw (ap (λ (x : Change). x.var) e) at c.set_to.ensures.noted);
-      rising = λ s0 r. rising_set p s0 s rule work _ c.task.ensures.well_ranged c.task.ensures.layered (inv.rising s0 r) takes hold ne c.set_to.new.work
+      rising = λ s0 r. rising_set p s0 s rule work _ (rw c.indexed.view_is at c.indexed.invariant).ranged (rw c.indexed.view_is at c.indexed.invariant).layered (inv.rising s0 r) takes hold ne c.set_to.new.work
           (omega (arith, within g i, b.track.state.one_each)) (omega (arith, within g i, b.track.places)) same moves;
       left = let a = inv.left in let d = takes.left in let f = moves.left in omega arith;
     }
 
 pub loop-rule-preserved : goal.loop-rule-preserved
 loop-rule-preserved g c =
-    let p = c.args.task.now in
+    let p = c.args.indexed.now in
     let i = (goal.at.loop-rule-preserved g c).In-Some in
     let inv = c.loop-rule.invariant in
     let s = c.loop-rule.state in
@@ -108,7 +108,7 @@ loop-rule-preserved g c =
     let work = c.loop-rule.work in
     let is = on g i in
     let done : IsHolding p s rule → differs p s (rule_at p rule).var ≡ true = λ hold. differs_true p s (rule_at p rule).var (λ e.
-    is.can (sym (c.has_to_set.ensures.no c.if-has_to_set.false (zero_when_holding p work.layer rule s work.counters (some g i).track.counts is hold)) ∙ e)) in
+    is.can (sym ((rw c.indexed.view_is at c.has_to_set.ensures).no c.if-has_to_set.false (zero_when_holding p work.layer rule s work.counters (some g i).track.counts is hold)) ∙ e)) in
     record {
       room = record { layer = inv.room.layer; stack = inv.room.stack; one_each = inv.room.one_each; sources = inv.room.sources };
       sources = inv.sources;
@@ -122,13 +122,13 @@ loop-rule-preserved g c =
 pub returns-clause-risen : goal.returns-clause-risen
 returns-clause-risen g c s rising =
     let same = c.in_default.ensures.same in
-    rw same (risen_in_the_end c.args.task.now s c.loop-rule.state c.loop-rule.work c.task.ensures.layered (c.loop-rule.invariant.rising s rising) (rw same at c.in_default.ensures.none) (rw same at c.in_default.ensures.empty))
+    rw same (risen_in_the_end c.args.indexed.now s c.loop-rule.state c.loop-rule.work (rw c.indexed.view_is at c.indexed.invariant).layered (c.loop-rule.invariant.rising s rising) (rw same at c.in_default.ensures.none) (rw same at c.in_default.ensures.empty))
 
 pub loop-rule-init : goal.loop-rule-init
 loop-rule-init g c = record {
   room = record { layer = refl; stack = refl; one_each = refl; sources = refl };
   sources = λ v off. refl;
-  state = c.requires.rising.1.track.state;
+  state = c.requires.1.track.state;
   off = λ v off. refl;
   covered = λ before covers. covers;
   rising = λ s rising. rising;
@@ -137,7 +137,7 @@ loop-rule-init g c = record {
 
 pub set_to-requires-clause-other : goal.set_to-requires-clause-other
 set_to-requires-clause-other g c = λ same.
-    c.has_to_set.ensures.other c.if-has_to_set.true (subst (λ (x : Change). get_or c.loop-rule.state x.var 0 ≡ x.new) c.rule_change-change.ensures same)
+    (rw c.indexed.view_is at c.has_to_set.ensures).other c.if-has_to_set.true (subst (λ (x : Change). get_or c.loop-rule.state x.var 0 ≡ x.new) (rw c.indexed.view_is at c.rule_change-change.ensures) same)
 
 pub returns-in_err-set_to-clause-stands : goal.returns-in_err-set_to-clause-stands
 returns-in_err-set_to-clause-stands g c =

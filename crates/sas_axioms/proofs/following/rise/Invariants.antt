@@ -5,11 +5,11 @@ use Rattle.sas_axioms.proofs.following.rise.Given as goal
 abbrev pub invariant-loop-rule : goal.invariant-loop-rule
 invariant-loop-rule g l = record {
   room : KeepsRoom l.fn.work l.work;
-  sources : SameSourcesOff l.task l.fn.work.layer l.fn.work.sources l.work.sources;
-  state : IsState l.task.variables l.state;
-  off : SameOff l.task l.fn.work.layer l.fn.state l.state;
-  covered : StillCovers l.task l.fn.state l.fn.touched l.state l.touched;
-  rising : (s : List ℕ) → IsRising l.task s l.fn.state l.fn.work → IsRising l.task s l.state l.work;
+  sources : SameSourcesOff l.indexed l.fn.work.layer l.fn.work.sources l.work.sources;
+  state : IsState l.indexed.variables l.state;
+  off : SameOff l.indexed l.fn.work.layer l.fn.state l.state;
+  covered : StillCovers l.indexed l.fn.state l.fn.touched l.state l.touched;
+  rising : (s : List ℕ) → IsRising l.indexed s l.fn.state l.fn.work → IsRising l.indexed s l.state l.work;
   left : work_left l.work.agenda ≤ work_left l.fn.work.agenda;
 }
 

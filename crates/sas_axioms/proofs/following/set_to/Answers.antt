@@ -4,7 +4,7 @@ use Rattle.sas_axioms.proofs.following.set_to.Goals as goal
 
 pub returns-clause-moves : goal.returns-clause-moves
 returns-clause-moves g c =
-    let p = c.args.task.now in
+    let p = c.args.indexed.now in
     let var = c.args.fact.var in
     let w = c.args.work.now in
     let w' = c.recount.new.work in

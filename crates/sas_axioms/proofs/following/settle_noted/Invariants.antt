@@ -7,10 +7,10 @@ invariant-loop-layer g l = record {
   stack : l.work.stack ≡ l.fn.work.stack;
   one_each : length l.work.counters ≡ length l.fn.work.counters;
   sources : length l.work.sources ≡ length l.fn.work.sources;
-  state : IsState l.task.variables l.state;
-  basic : SameBasic l.task l.fn.state l.state;
-  covered : StillCovers l.task l.fn.state l.fn.touched l.state l.touched;
-  between : (s : List ℕ) → IsBetween l.task s 0 l.fn.state l.fn.work → (from : ℕ) × IsBetween l.task s from l.state l.work;
+  state : IsState l.indexed.variables l.state;
+  basic : SameBasic l.indexed l.fn.state l.state;
+  covered : StillCovers l.indexed l.fn.state l.fn.touched l.state l.touched;
+  between : (s : List ℕ) → IsBetween l.indexed s 0 l.fn.state l.fn.work → (from : ℕ) × IsBetween l.indexed s from l.state l.work;
 }
 
 abbrev pub decreases-loop-layer : goal.decreases-loop-layer

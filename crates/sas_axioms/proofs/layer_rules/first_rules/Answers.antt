@@ -6,7 +6,7 @@ use Rattle.sas_axioms.proofs.layer_rules.first_rules.Goals.{in-Some+then-not-is_
 
 pub loop-rule-preserved : goal.loop-rule-preserved
 loop-rule-preserved g c =
-    let p = c.args.task.now in
+    let p = c.args.layered.now in
     let rules = c.loop-rule.rules.items in
     elim c.match-firing_layer.branch [
       | in-Some+then-not-is_late+in_ok-push w ↦
@@ -19,7 +19,7 @@ loop-rule-preserved g c =
 
 pub returns : goal.returns
 returns g c =
-    let p = c.args.task.now in
+    let p = c.args.layered.now in
     let before = c.loop-rule.rules.items in
     let after = c.sort_by_key.new.self.items in
     let all : c.loop-rule.rule ≡ length p.rules = omega arith in

@@ -3,4 +3,4 @@ use Rattle.sas_axioms.proofs.OneLayer.{FirstUpTo}
 use Rattle.sas_axioms.proofs.layer_rules.first_rules.Given as goal
 
 abbrev pub invariant-loop-rule : goal.invariant-loop-rule
-invariant-loop-rule g l = FirstUpTo l.task l.rule l.rules.items
+invariant-loop-rule g l = FirstUpTo l.layered l.rule l.rules.items

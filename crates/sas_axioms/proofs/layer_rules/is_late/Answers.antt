@@ -5,14 +5,14 @@ use Rattle.sas_axioms.proofs.layer_rules.is_late.Goals.{in-Some+else-its-layer, 
 
 pub loop-condition-preserved : goal.loop-condition-preserved
 loop-condition-preserved g c =
-    let p = c.args.task.now in
+    let p = c.args.layered.now in
     let conditions = (rule_at p c.args.rule).conditions in
     let i = c.loop-condition.condition-index in
     let inv = c.loop-condition.invariant in
     let no_fact : Fact = record { var = 0; value = 0 } in
-    let same : c.rule_conditions-condition-items.result.now ≡ conditions = c.rule_conditions-condition-items.ensures in
+    let same : c.rule_conditions-condition-items.result.now ≡ conditions = (rw c.task-task.ensures.task at c.rule_conditions-condition-items.ensures) in
     let within : i < length conditions = let lt = c.loop-condition-test.true in omega (arith, ap length same) in
-    let covered : c.layer.result ≡ layer_of p.variables (get_or conditions i no_fact).var = c.layer.ensures ∙ ap (λ (cs : List Fact). layer_of p.variables (get_or cs i no_fact).var) same in
+    let covered : c.layer.result ≡ layer_of p.variables (get_or conditions i no_fact).var = (rw c.task-task.ensures.task at c.layer.ensures) ∙ ap (λ (cs : List Fact). layer_of p.variables (get_or cs i no_fact).var) same in
     record {
       stays = λ j d lt its on. elim (cases_eq j i) [
         | inr ne ↦ inv.stays j d (omega arith) its on
@@ -36,6 +36,6 @@ loop-condition-preserved g c =
 
 pub returns : goal.returns
 returns g c is = record {
-  stays = λ j d lt. c.loop-condition.invariant.stays j d (let past = c.loop-condition-test.false in omega (arith, ap length c.rule_conditions-condition-items.ensures));
+  stays = λ j d lt. c.loop-condition.invariant.stays j d (let past = c.loop-condition-test.false in omega (arith, ap length (rw c.task-task.ensures.task at c.rule_conditions-condition-items.ensures)));
   waits = c.loop-condition.invariant.waits is;
 }

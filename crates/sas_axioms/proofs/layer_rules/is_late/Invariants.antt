@@ -4,7 +4,7 @@ use Rattle.sas_axioms.proofs.layer_rules.is_late.Given as goal
 
 abbrev pub invariant-loop-condition : goal.invariant-loop-condition
 invariant-loop-condition g l =
-    let p = l.task in
+    let p = l.layered in
     let conditions = (rule_at p l.rule).conditions in
     record {
       stays : (j : ℕ) (d : Fact) → j < l.condition-index → (its : ℕ) → IsOnLayer p its (get_or conditions j d).var → its ≡ l.layer;

@@ -5,29 +5,29 @@ use Rattle.sas_axioms.proofs.layer_rules.rules_of_variables.Goals as goal
 use Rattle.sas_axioms.proofs.layer_rules.rules_of_variables.Goals.{then-change-initial_value+in_ok-push, else-change-initial_value}
 
 pub loop-rule-init : goal.loop-rule-init
-loop-rule-init g c = subst (RulesTo c.args.task.now 0) (sym c.new-entries.ensures.items) (rules_none c.args.task.now)
+loop-rule-init g c = subst (RulesTo c.args.layered.now 0) (sym c.new-entries.ensures.items) (rules_none c.args.layered.now)
 
 pub initial_value-requires : goal.initial_value-requires
 initial_value-requires g c =
-    let p = c.args.task.now in
+    rw c.task-task.ensures.task (let p = c.args.layered.now in
     let k = c.loop-rule.rule in
-    let lt : k < length p.rules = omega (arith, c.rules-rule-end.ensures, c.loop-rule-test.true) in
-    subst (λ (x : Change). x.var < length p.variables) (sym c.rule_change-change.ensures)
-    (fact_within p (rule_at p k).var (rule_at p k).new (rule_new p c.task.ensures.well_ranged k _ lt))
+    let lt : k < length p.rules = omega (arith, (rw c.task-task.ensures.task at c.rules-rule-end.ensures), c.loop-rule-test.true) in
+    subst (λ (x : Change). x.var < length p.variables) (sym (rw c.task-task.ensures.task at c.rule_change-change.ensures))
+    (fact_within p (rule_at p k).var (rule_at p k).new (rule_new p c.task-task.ensures.well_ranged k _ lt)))
 
 pub loop-rule-preserved : goal.loop-rule-preserved
 loop-rule-preserved g c =
-    let p = c.args.task.now in
+    let p = c.args.layered.now in
     let k = c.loop-rule.rule in
     let entries = c.loop-rule.entries.items in
-    let lt : k < length p.rules = omega (arith, c.rules-rule-end.ensures, c.loop-rule-test.true) in
-    let var = ap (λ (x : Change). x.var) c.rule_change-change.ensures in
-    let new = ap (λ (x : Change). x.new) c.rule_change-change.ensures in
-    let default : c.initial_value.result ≡ default_of p (rule_at p k).var = c.initial_value.ensures ∙ ap (default_of p) var in
+    let lt : k < length p.rules = omega (arith, (rw c.task-task.ensures.task at c.rules-rule-end.ensures), c.loop-rule-test.true) in
+    let var = ap (λ (x : Change). x.var) (rw c.task-task.ensures.task at c.rule_change-change.ensures) in
+    let new = ap (λ (x : Change). x.new) (rw c.task-task.ensures.task at c.rule_change-change.ensures) in
+    let default : c.initial_value.result ≡ default_of p (rule_at p k).var = (rw c.task-task.ensures.task at c.initial_value.ensures) ∙ ap (default_of p) var in
     elim c.if-change-initial_value.branch [
       | then-change-initial_value+in_ok-push w ↦
           (let pushed = w.in_ok-push.ensures.items in
-          rw (w.entries-is, pushed, var) (rules_more p k entries lt (fact_within p (rule_at p k).var (rule_at p k).new (rule_new p c.task.ensures.well_ranged k _ lt))
+          rw (w.entries-is, pushed, var) (rules_more p k entries lt (fact_within p (rule_at p k).var (rule_at p k).new (rule_new p c.task-task.ensures.well_ranged k _ lt))
           (λ same. w.if-change-initial_value.true (new ∙ (same ∙ sym default))) c.loop-rule.invariant))
       | else-change-initial_value w ↦
           rw w.entries-is (rules_skip p k entries lt (sym new ∙ (w.if-change-initial_value.false ∙ default)) c.loop-rule.invariant)
@@ -35,9 +35,9 @@ loop-rule-preserved g c =
 
 pub returns : goal.returns
 returns g c =
-    let p = c.args.task.now in
+    let p = c.args.layered.now in
     let es = c.loop-rule.entries.items in
     IfOk-weaker c.by_key.result (λ lists. lists ≡ by_key c.as_slice.result.now c.variables.result) (AreRulesOf p)
-    (λ lists is. subst (AreRulesOf p) (sym (is ∙ ap (λ l. by_key l c.variables.result) c.as_slice.ensures.value ∙ ap (λ n. by_key es n) c.variables.ensures.count))
-    (rules_index p c.loop-rule.rule es (omega (arith, c.rules-rule-end.ensures, c.loop-rule-test.false)) c.loop-rule.invariant))
+    (λ lists is. subst (AreRulesOf p) (sym (is ∙ ap (λ l. by_key l c.variables.result) c.as_slice.ensures.value ∙ ap (λ n. by_key es n) (rw c.task-task.ensures.task at c.variables.ensures.count)))
+    (rules_index p c.loop-rule.rule es (omega (arith, (rw c.task-task.ensures.task at c.rules-rule-end.ensures), c.loop-rule-test.false)) c.loop-rule.invariant))
     c.by_key.ensures

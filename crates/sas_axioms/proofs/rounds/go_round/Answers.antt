@@ -4,7 +4,7 @@ use Rattle.sas_axioms.proofs.rounds.go_round.Goals.{then-changes, else-changes}
 
 pub loop-rule-preserved : goal.loop-rule-preserved
 loop-rule-preserved g c =
-    let p = c.args.task.now in
+    let p = c.args.layered.now in
     let layer = c.args.layer in
     let s = c.loop-rule.state in
     let k = c.loop-rule.rule in
@@ -12,7 +12,7 @@ loop-rule-preserved g c =
     let within : k < length p.rules = search rules in
     elim c.if-changes.branch [
       | then-changes w ↦
-          (let f : Fired p layer s (rule_at p k) = fired_there p layer s k no_effect c.task.ensures.well_ranged c.task.ensures.layered inv.state inv.forced within (c.changes.ensures.yes w.if-changes.true) in
+          (let f : Fired p layer s (rule_at p k) = fired_there p layer s k no_effect c.task-task.ensures.well_ranged c.task-task.ensures.layered inv.state inv.forced within (c.changes.ensures.yes w.if-changes.true) in
           let is : c.if-changes.state ≡ set s (rule_at p k).var (rule_at p k).new = search rules in
           let fewer = f.fewer in
           let was = inv.fewer in

@@ -3,7 +3,7 @@ use Rattle.sas_axioms.proofs.rounds.next_layer.Given as goal
 
 abbrev pub invariant-loop-var : goal.invariant-loop-var
 invariant-loop-var g l = record {
-  some : IfSome l.lowest (λ n. (l.from ≤ n) × Occurs l.task n
-      × ((v m : ℕ) → v < l.var → l.from ≤ m → IsOnLayer l.task m v → n ≤ m));
-  none : IfNone l.lowest ((v m : ℕ) → v < l.var → l.from ≤ m → IsOnLayer l.task m v → ⊥);
+  some : IfSome l.lowest (λ n. (l.from ≤ n) × Occurs l.layered n
+      × ((v m : ℕ) → v < l.var → l.from ≤ m → IsOnLayer l.layered m v → n ≤ m));
+  none : IfNone l.lowest ((v m : ℕ) → v < l.var → l.from ≤ m → IsOnLayer l.layered m v → ⊥);
 }

@@ -7,5 +7,5 @@ returns g c =
     record {
       state = ran.state;
       off = λ v off. c.loop.invariant.off v off ∙ ran.off v off;
-      settled = settled_when_fired c.args.task.now c.args.layer c.go_round.new.state ran.forced (ran.done c.loop-test.false);
+      settled = settled_when_fired c.args.layered.now c.args.layer c.go_round.new.state ran.forced (ran.done c.loop-test.false);
     }

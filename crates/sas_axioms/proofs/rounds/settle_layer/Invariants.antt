@@ -3,10 +3,10 @@ use Rattle.sas_axioms.proofs.rounds.settle_layer.Given as goal
 
 abbrev pub invariant-loop : goal.invariant-loop
 invariant-loop g l = record {
-  state : IsState l.task.variables l.state;
-  forced : OnlyForced l.task l.layer l.state;
-  off : SameOff l.task l.layer l.fn.state l.state;
+  state : IsState l.layered.variables l.state;
+  forced : OnlyForced l.layered l.layer l.state;
+  off : SameOff l.layered l.layer l.fn.state l.state;
 }
 
 abbrev pub decreases-loop : goal.decreases-loop
-decreases-loop g l = equal_places l.state l.task.init
+decreases-loop g l = equal_places l.state l.layered.init

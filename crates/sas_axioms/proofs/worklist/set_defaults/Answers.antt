@@ -5,7 +5,7 @@ use Rattle.sas_axioms.proofs.worklist.set_defaults.Goals as goal
 
 pub loop-var-preserved : goal.loop-var-preserved
 loop-var-preserved g c =
-    let p = c.args.task.now in
+    let p = c.args.layered.now in
     let i = c.loop-var.var-index in
     let derived = c.args.derived.now in
     let v = get_or derived i 0 in
@@ -14,9 +14,9 @@ loop-var-preserved g c =
     let inv = c.loop-var.invariant in
     let is_derived = c.requires.derived.only i 0 c.loop-var-test.true in
     let within = derived_within p v is_derived in
-    let set-is : c.set.new.self ≡ set s v value = c.set.ensures ∙ ap (λ x. set s v x) c.initial_value.ensures in
+    let set-is : c.set.new.self ≡ set s v value = c.set.ensures ∙ ap (λ x. set s v x) (rw c.task-task.ensures.task at c.initial_value.ensures) in
     rw set-is record {
-      state = state_set p s v value inv.state (c.task.ensures.well_ranged.init.in_range v within);
+      state = state_set p s v value inv.state (c.task-task.ensures.well_ranged.init.in_range v within);
       basic = λ w b. inv.basic w b ∙ sym (get_or-set_other s v w value 0 (not_basic p v w is_derived b));
       default = λ j d lt. elim (cases_eq (get_or derived j d) v) [
         | inl e ↦ subst (λ x. get_or (set s v value) x 0 ≡ default_of p x) (sym e) (get_or-set_same s v value 0 (let one = inv.state.one_each in omega (arith, within)))
@@ -29,12 +29,12 @@ loop-var-preserved g c =
 
 pub set-requires : goal.set-requires
 set-requires g c =
-    let within = derived_within c.args.task.now (get_or c.args.derived.now c.loop-var.var-index 0) (c.requires.derived.only c.loop-var.var-index 0 c.loop-var-test.true) in
+    let within = derived_within c.args.layered.now (get_or c.args.derived.now c.loop-var.var-index 0) (c.requires.derived.only c.loop-var.var-index 0 c.loop-var-test.true) in
     let one = c.loop-var.invariant.state.one_each in
     omega (arith, within, one)
 
 pub returns-clause-default : goal.returns-clause-default
 returns-clause-default g c = λ layer v on.
     let there = c.requires.derived.each v (ap is_some on) in
-    subst (λ x. get_or c.loop-var.state x 0 ≡ default_of c.args.task.now x) there.2
+    subst (λ x. get_or c.loop-var.state x 0 ≡ default_of c.args.layered.now x) there.2
     (c.loop-var.invariant.default there.0 v (let lt = there.1 in omega arith))

@@ -4,7 +4,7 @@ use Rattle.sas_axioms.proofs.worklist.set_defaults.Given as goal
 
 abbrev pub invariant-loop-var : goal.invariant-loop-var
 invariant-loop-var g l = record {
-  state : IsState l.task.variables l.state;
-  basic : SameBasic l.task l.fn.state l.state;
-  default : (j d : ℕ) → j < l.var-index → get_or l.state (get_or l.derived j d) 0 ≡ default_of l.task (get_or l.derived j d);
+  state : IsState l.layered.variables l.state;
+  basic : SameBasic l.layered l.fn.state l.state;
+  default : (j d : ℕ) → j < l.var-index → get_or l.state (get_or l.derived j d) 0 ≡ default_of l.layered (get_or l.derived j d);
 }

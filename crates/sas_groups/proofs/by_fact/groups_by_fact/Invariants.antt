@@ -4,4 +4,4 @@ use Rattle.sas_groups.proofs.Entering.{EnteredUpTo}
 use Rattle.sas_groups.proofs.by_fact.groups_by_fact.Given as goal
 
 abbrev pub invariant-loop-group : goal.invariant-loop-group
-invariant-loop-group g l = EnteredUpTo l.firsts (facts_at l.task l.own) l.group l.entries.items
+invariant-loop-group g l = EnteredUpTo l.firsts (facts_at l.layered l.own) l.group l.entries.items

@@ -6,12 +6,12 @@ use Rattle.sas_groups.proofs.by_variable.effects_by_variable.Goals.{then-effects
 
 pub loop-operator-preserved : goal.loop-operator-preserved
 loop-operator-preserved g c =
-    let p = c.args.task.now in
+    let p = c.args.layered.now in
     let places = c.number_of_places-places.result in
     let operator = c.loop-operator.operator in
     let before = c.loop-operator.entries.items in
     let inv = c.loop-operator.invariant in
-    let count = c.effects.ensures in
+    let count = (rw c.task-task.ensures.task at c.effects.ensures) in
     elim c.if-effects-gt-FEW_EFFECTS.branch [
       | then-effects-gt-FEW_EFFECTS+in_ok-enter_effects w ↦ rw (w.entries-is) record {
         low = w.in_ok-enter_effects.ensures.low;
@@ -25,10 +25,10 @@ loop-operator-preserved g c =
 
 pub returns : goal.returns
 returns g c =
-    let p = c.args.task.now in
+    let p = c.args.layered.now in
     let places = c.number_of_places-places.result in
     let entries = c.loop-operator.entries.items in
-    let done : c.loop-operator.operator ≡ length p.operators = let count = c.operators-operator-end.ensures in omega (arith, count) in
+    let done : c.loop-operator.operator ≡ length p.operators = let count = (rw c.task-task.ensures.task at c.operators-operator-end.ensures) in omega (arith, count) in
     let entered : AreLargeEntered p places (length p.operators) entries = rw done at c.loop-operator.invariant.entered in
     let all : AreByVariable p (by_key entries places) =
     large_by_variable p places entries c.number_of_places-places.ensures (length-table places _) c.loop-operator.invariant.low entered in

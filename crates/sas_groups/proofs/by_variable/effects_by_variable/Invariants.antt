@@ -6,5 +6,5 @@ use Rattle.sas_groups.proofs.by_variable.effects_by_variable.Given as goal
 abbrev pub invariant-loop-operator : goal.invariant-loop-operator
 invariant-loop-operator g l = record {
   low : All (λ (entry : Entry ℕ). entry.key < l.places) l.entries.items;
-  entered : AreLargeEntered l.task l.places l.operator l.entries.items;
+  entered : AreLargeEntered l.layered l.places l.operator l.entries.items;
 }

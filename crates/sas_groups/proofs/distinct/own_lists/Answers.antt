@@ -6,7 +6,7 @@ use Rattle.sas_groups.proofs.distinct.own_lists.Goals.{then-not-is_empty+in_ok-f
 
 pub loop-group-preserved : goal.loop-group-preserved
 loop-group-preserved g c =
-    let p = c.args.task.now in
+    let p = c.args.layered.now in
     let group = c.loop-group.group in
     let own = c.loop-group.own in
     let inv = c.loop-group.invariant in

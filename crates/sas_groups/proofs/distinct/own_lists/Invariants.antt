@@ -5,5 +5,5 @@ use Rattle.sas_groups.proofs.distinct.own_lists.Given as goal
 abbrev pub invariant-loop-group : goal.invariant-loop-group
 invariant-loop-group g l = record {
   short : length l.own ≤ l.group;
-  are : (place : ℕ) → place < l.group → AreDistinct (facts_at l.task l.own place) (group_at l.task place);
+  are : (place : ℕ) → place < l.group → AreDistinct (facts_at l.layered l.own place) (group_at l.layered place);
 }

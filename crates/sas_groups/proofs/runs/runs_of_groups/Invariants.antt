@@ -5,5 +5,5 @@ use Rattle.sas_groups.proofs.runs.runs_of_groups.Given as goal
 abbrev pub invariant-loop-group : goal.invariant-loop-group
 invariant-loop-group g l = record {
   one_each : length l.runs ≡ l.group;
-  are : (place : ℕ) → place < l.group → AreRuns (facts_at l.task l.own place) (runs_at l.runs place);
+  are : (place : ℕ) → place < l.group → AreRuns (facts_at l.layered l.own place) (runs_at l.runs place);
 }

@@ -7,7 +7,7 @@ loop-fact-init g c = grind (arith, common_steps, turns_begin)
 
 pub forget-requires-clause-value : goal.forget-requires-clause-value
 forget-requires-clause-value g c =
-    let p = c.args.task.now in
+    let p = c.args.indexed.now in
     let below = variable_below p c.in-Some.fact (All-contains (FactExists p.variables) (known_on p c.args.premises.now) c.in-Some.fact c.requires.exist
     (turn_has c.loop-fact.invariant.came c.in-Some.ensures.steps)) in
     let wide = c.loop-fact.invariant.from.known.wide.variables in
@@ -15,13 +15,13 @@ forget-requires-clause-value g c =
 
 pub forget-requires-clause-groups : goal.forget-requires-clause-groups
 forget-requires-clause-groups g c =
-    let p = c.args.task.now in
-    groups_below p c.args.index.now c.in-Some.fact (length c.loop-fact.marks.known.groups) c.requires.index (All-contains (FactExists p.variables) (known_on p c.args.premises.now) c.in-Some.fact
+    let p = c.args.indexed.now in
+    groups_below p c.indexed.inside.index.now c.in-Some.fact (length c.loop-fact.marks.known.groups) (rw c.indexed.view_is at c.indexed.invariant.1) (All-contains (FactExists p.variables) (known_on p c.args.premises.now) c.in-Some.fact
     c.requires.exist (turn_has c.loop-fact.invariant.came c.in-Some.ensures.steps)) c.loop-fact.invariant.from.known.wide.groups
 
 pub loop-fact-preserved : goal.loop-fact-preserved
 loop-fact-preserved g c =
-    let p = c.args.task.now in
+    let p = c.args.indexed.now in
     let all = known_on p c.args.premises.now in
     let inv = c.loop-fact.invariant in
     let fact = c.in-Some.fact in
@@ -30,17 +30,17 @@ loop-fact-preserved g c =
     let exists = All-contains (FactExists p.variables) all fact c.requires.exist (turn_has inv.came c.in-Some.ensures.steps) in
     let came : Turns (IsForgotten p new) all c.loop-fact.yielded (known_left c.loop-fact.fact-iterator) = record {
       parts = inv.came.parts;
-      have = All-weaker (IsForgotten p old) (IsForgotten p new) (forgotten_still c.requires.index inv.from.known fact exists c.forget.ensures) c.loop-fact.yielded inv.came.have;
+      have = All-weaker (IsForgotten p old) (IsForgotten p new) (forgotten_still (rw c.indexed.view_is at c.indexed.invariant.1) inv.from.known fact exists c.forget.ensures) c.loop-fact.yielded inv.came.have;
     } in
     record {
-      came = turn_more came c.in-Some.ensures.steps (forgotten_now c.requires.index inv.from.known fact exists c.forget.ensures);
-      from = record { known = noted_less c.requires.index inv.from.known fact exists c.forget.ensures; others = inv.from.others };
+      came = turn_more came c.in-Some.ensures.steps (forgotten_now (rw c.indexed.view_is at c.indexed.invariant.1) inv.from.known fact exists c.forget.ensures);
+      from = record { known = noted_less (rw c.indexed.view_is at c.indexed.invariant.1) inv.from.known fact exists c.forget.ensures; others = inv.from.others };
     }
 
 pub returns : goal.returns
 returns g c =
     let inv = c.loop-fact.invariant in
     record {
-      known = blank_in_the_end c.args.task.now (known_on c.args.task.now c.args.premises.now) c.loop-fact.marks.known _ inv.from.known (turns_end inv.came c.in-None.ensures.steps.0) refl refl refl;
+      known = blank_in_the_end c.args.indexed.now (known_on c.args.indexed.now c.args.premises.now) c.loop-fact.marks.known _ inv.from.known (turns_end inv.came c.in-None.ensures.steps.0) refl refl refl;
       others = inv.from.others;
     }

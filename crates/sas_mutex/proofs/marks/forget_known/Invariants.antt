@@ -4,6 +4,6 @@ use Rattle.sas_mutex.proofs.marks.forget_known.Given as goal
 
 abbrev pub invariant-loop-fact : goal.invariant-loop-fact
 invariant-loop-fact g l = record {
-  came : Turns (IsForgotten l.task l.marks.known) (known_on l.task l.fn.premises) l.yielded (known_left l.fact-iterator);
-  from : IsNotedFrom l.task (known_on l.task l.fn.premises) l.marks;
+  came : Turns (IsForgotten l.indexed l.marks.known) (known_on l.indexed l.fn.premises) l.yielded (known_left l.fact-iterator);
+  from : IsNotedFrom l.indexed (known_on l.indexed l.fn.premises) l.marks;
 }

@@ -5,7 +5,7 @@ use Rattle.sas_mutex.proofs.marks.note_known.Given as goal
 
 abbrev pub invariant-loop-fact : goal.invariant-loop-fact
 invariant-loop-fact g l = record {
-  turns : Turns (FactExists l.task.variables) (known_on l.task l.fn.premises) l.yielded (known_left l.fact-iterator);
-  so_far : AreSoFar l.task l.kept (known_on l.task l.fn.premises) l.yielded l.marks.known;
-  others : AreBlank l.task l.marks.others;
+  turns : Turns (FactExists l.indexed.variables) (known_on l.indexed l.fn.premises) l.yielded (known_left l.fact-iterator);
+  so_far : AreSoFar l.indexed l.kept (known_on l.indexed l.fn.premises) l.yielded l.marks.known;
+  others : AreBlank l.indexed l.marks.others;
 }

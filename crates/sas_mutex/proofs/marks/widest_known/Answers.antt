@@ -4,7 +4,7 @@ use Rattle.sas_mutex.proofs.marks.widest_known.Goals as goal
 
 pub loop-fact-preserved : goal.loop-fact-preserved
 loop-fact-preserved g c =
-    let all = known_on c.args.task.now c.args.premises.now in
+    let all = known_on c.args.indexed.now c.args.premises.now in
     let inv = c.loop-fact.invariant in
     let within = turn_has inv.turns c.in-Some.ensures.steps in
     record {

@@ -10,4 +10,4 @@ loop-group-preserved g c =
     (first_more _ _ _ _ _ c.loop-group.invariant c.first_reason.ensures)
 
 pub returns : goal.returns
-returns g c = first_all c.args.task.now c.args.verdicts.now c.loop-group.group c.loop-group.reasons (omega (arith, c.groups-group-end.ensures)) c.loop-group.invariant
+returns g c = first_all c.args.layered.now c.args.verdicts.now c.loop-group.group c.loop-group.reasons (omega (arith, (rw c.task-task.ensures.task at c.groups-group-end.ensures))) c.loop-group.invariant

@@ -5,17 +5,17 @@ use Rattle.sas_task_reasons.proofs.before_operators.holds_two.Goals as goal
 
 pub first_beside-requires : goal.first_beside-requires
 first_beside-requires g c =
-    let p = c.args.task.now in
-    subst (All (λ (f : Fact). f.var < length p.variables)) (sym c.group-facts.ensures) (λ k d lt. fact_within p _ _ (group_facts p c.task.ensures.well_ranged c.args.group c.requires k d lt))
+    let p = c.args.layered.now in
+    subst (All (λ (f : Fact). f.var < length p.variables)) (sym (rw c.task-task.ensures.task at c.group-facts.ensures)) (λ k d lt. fact_within p _ _ (group_facts p c.task-task.ensures.well_ranged c.args.group c.requires k d lt))
 
 pub returns-in_default-clause-none : goal.returns-in_default-clause-none
 returns-in_default-clause-none g c =
-    let s = c.args.task.now.init in
-    exclusive_without s _ (subst (λ (facts : List Fact). find (holds s) facts ≡ None) c.group-facts.ensures (sym c.first_holding.ensures ∙ c.in_default.is))
+    let s = c.args.layered.now.init in
+    exclusive_without s _ (subst (λ (facts : List Fact). find (holds s) facts ≡ None) (rw c.task-task.ensures.task at c.group-facts.ensures) (sym c.first_holding.ensures ∙ c.in_default.is))
 
 pub returns-in-None-clause-none : goal.returns-in-None-clause-none
 returns-in-None-clause-none g c =
-    let s = c.args.task.now.init in
+    let s = c.args.layered.now.init in
     let var = c.in-Some.first.var in
     exclusive_beside s _ var
-    (subst (λ (facts : List Fact). find (λ (f : Fact). holds s f && not (f.var == var)) facts ≡ None) c.group-facts.ensures (sym c.first_beside.ensures ∙ c.in-None.is))
+    (subst (λ (facts : List Fact). find (λ (f : Fact). holds s f && not (f.var == var)) facts ≡ None) (rw c.task-task.ensures.task at c.group-facts.ensures) (sym c.first_beside.ensures ∙ c.in-None.is))

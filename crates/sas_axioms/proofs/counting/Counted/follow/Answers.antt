@@ -5,7 +5,7 @@ use Rattle.sas_axioms.proofs.counting.Counted.follow.Goals as goal
 
 pub loop-start-preserved : goal.loop-start-preserved
 loop-start-preserved g c =
-    let p = c.args.task.now in
+    let p = c.args.layered.now in
     let inv = c.loop-start.invariant in
     let start = c.loop-start.start in
     let within : c.part_end-end.result ≤ length p.variables = omega (arith, c.part_end-end.ensures.within, c.variables-variables.ensures.count) in
@@ -21,7 +21,7 @@ loop-start-preserved g c =
 pub returns-clause-values : goal.returns-clause-values
 returns-clause-values g c =
     let inv = c.loop-start.invariant in
-    let all : length c.args.task.now.variables ≤ c.loop-start.start = omega (arith, c.variables-variables.ensures.count) in
+    let all : length c.args.layered.now.variables ≤ c.loop-start.start = omega (arith, c.variables-variables.ensures.count) in
     same_number_lists c.loop-start.self.values c.args.state.now (omega (arith, inv.counts.counts.known, c.requires.state))
     (λ k lt. inv.so_far k (omega (arith, inv.counts.counts.known)))
 

@@ -4,10 +4,10 @@ use Rattle.sas_axioms.proofs.counting.Counted.follow.Given as goal
 
 abbrev pub invariant-loop-start : goal.invariant-loop-start
 invariant-loop-start g l = record {
-  within : l.start ≤ length l.task.variables;
-  counts : IsCounted l.task l.self;
+  within : l.start ≤ length l.layered.variables;
+  counts : IsCounted l.layered l.self;
   so_far : (k : ℕ) → k < l.start → get_or l.self.values k 0 ≡ get_or l.state k 0;
 }
 
 abbrev pub decreases-loop-start : goal.decreases-loop-start
-decreases-loop-start g l = length l.task.variables - l.start
+decreases-loop-start g l = length l.layered.variables - l.start

@@ -49,6 +49,7 @@ returns-clause-counts c p was =
     let inv = c.loop-condition.invariant in
     record {
       ranged = was.ranged;
+      layered = was.layered;
       index = was.index;
       counts = rw c.set.ensures
           (recounted p self.index var was.index (omega (arith, c.requires.var, was.counts.known)) self.values self.counters was.counts c.args.fact.value c.loop-condition.counters inv.one_each

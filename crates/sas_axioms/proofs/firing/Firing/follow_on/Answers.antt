@@ -13,8 +13,8 @@ returns-in_err-count_gone-clause-prepared g c =
       empty = rw same.stack was.empty;
     }
 
-pub settle_noted-requires-clause-between : goal.settle_noted-requires-clause-between
-settle_noted-requires-clause-between g c =
+pub settle_noted-requires : goal.settle_noted-requires
+settle_noted-requires g c =
     (c.requires.follows.0, c.in_ok-count_gone.ensures.between c.requires.follows.0 c.requires.follows.1 c.requires.follows.2)
 
 pub returns-clause-prepared : goal.returns-clause-prepared

@@ -5,7 +5,7 @@ use Rattle.sas_axioms.proofs.firing.Firing.settle_layer.Goals as goal
 
 pub fire_ready-requires-clause-running : goal.fire_ready-requires-clause-running
 fire_ready-requires-clause-running g c =
-    rw c.requires.prepared.empty (running_at_default c.args.task.now c.args.layer c.args.state.now c.requires.state c.requires.default)
+    rw c.requires.prepared.empty (running_at_default c.args.layered.now c.args.layer c.args.state.now c.requires.state c.requires.default)
 
 pub fire_ready-requires-clause-given : goal.fire_ready-requires-clause-given
-fire_ready-requires-clause-given g c = given_at_default c.args.task.now c.args.layer c.args.state.now c.args.self.now.work.sources c.requires.default
+fire_ready-requires-clause-given g c = given_at_default c.args.layered.now c.args.layer c.args.state.now c.args.self.now.work.sources c.requires.default

@@ -59,7 +59,7 @@ returns-clause-stands g c =
       stands = stands_behind c.args.layered.now c.args.self.now.rules.items c.args._from c.args.self.now.start ready.rules c.requires.stands.stands layer c.in_ok-span.span.now.end (span g some);
       left = (both g some).1;
       given = given_to_next c.args.layered.now layer c.args.state.now c.settle_layer.new.state c.args.self.now.firing.work.sources c.settle_layer.new.self.work.sources
-          c.task.ensures.layered settles.off c.settle_layer.ensures.sources c.settle_layer.ensures.given c.requires.stands.given c.requires.default;
+          ready.firing.counted.layered settles.off c.settle_layer.ensures.sources c.settle_layer.ensures.given c.requires.stands.given c.requires.default;
       counts = c.settle_layer.ensures.counts;
     }
 
@@ -77,6 +77,6 @@ returns-clause-settles g c =
 pub returns-in_err-span-clause-follows : goal.returns-in_err-span-clause-follows
 returns-in_err-span-clause-follows g c =
     let follows : IsSettled c.args.layered.now c.args.state.now → IsFollowed c.args.layered.now c.args.state.now c.args.self.now.firing.work =
-    followed_in_the_end c.args.layered.now c.args._from c.args.state.now c.args.self.now.firing.work c.requires.state c.requires.stands.ready.firing.room.sources
+    followed_in_the_end c.args.layered.now c.args._from c.args.state.now c.args.self.now.firing.work c.requires.stands.ready.firing.counted.layered c.requires.state c.requires.stands.ready.firing.room.sources
     c.requires.stands.counts c.requires.stands.given c.requires.default in
     search rules

@@ -13,11 +13,11 @@ no_rule g c layer rule is =
 
 pub returns-then-is_empty-clause-follows : goal.returns-then-is_empty-clause-follows
 returns-then-is_empty-clause-follows g c =
-    idle_followed c.args.layered.now c.args.gone.now c.requires.follows.0 c.args.state.now c.args.self.now.firing.work c.task.ensures.layered (no_rule g c) c.requires.state c.requires.follows.1 c.requires.follows.2
+    idle_followed c.args.layered.now c.args.gone.now c.requires.follows.0 c.args.state.now c.args.self.now.firing.work (no_rule g c) c.requires.state c.requires.follows.1 c.requires.follows.2
 
 pub returns-then-is_empty-clause-settles : goal.returns-then-is_empty-clause-settles
 returns-then-is_empty-clause-settles g c =
-    idle_settles c.args.layered.now c.args.gone.now c.requires.follows.0 c.args.state.now c.args.self.now.firing.work c.task.ensures.layered (no_rule g c) c.requires.state c.requires.follows.1 c.requires.follows.2
+    idle_settles c.args.layered.now c.args.gone.now c.requires.follows.0 c.args.state.now c.args.self.now.firing.work (no_rule g c) c.requires.state c.requires.follows.1 c.requires.follows.2
 
 pub returns-else-is_err-clause-settles : goal.returns-else-is_err-clause-settles
 returns-else-is_err-clause-settles g c =

@@ -1,5 +1,5 @@
 -- A group that isn't found is above those before the index and below those after it.
-use Rattle.sas_groups.proofs.Imports.{◌≡◌, ℕ, ◌<◌, ◌≤◌, ◌↔◌, List, length, get_or, Result, Ok, Err, true, false, refl, ◌∙◌, inl, inr, arith, Contains, MatchResult, is_ok, cases_lt, get_or_default, searched, groups_of}
+use Rattle.sas_groups.proofs.Imports.{◌≡◌, ℕ, ◌<◌, ◌≤◌, ◌↔◌, List, length, get_or, Result, Ok, Err, true, false, refl, ◌∙◌, inl, inr, arith, Contains, MatchResult, is_ok, cases_lt, get_or_default, searched, fact_number, groups_of}
 use Rattle.sas_groups.proofs.index.Index.has.Goals as goal
 
 found : (xs : List ℕ) (x : ℕ) (r : Result ℕ ℕ)
@@ -18,4 +18,4 @@ found xs x (Err i) h = (
 pub returns-else-groups-le-FEW_GROUPS : goal.returns-else-groups-le-FEW_GROUPS
 returns-else-groups-le-FEW_GROUPS c =
     let groups = groups_of c.args.self.now c.args.fact in
-    rw (c.is_ok.ensures.value) (found groups c.args.group c.binary_search.result (searched groups c.args.group c.binary_search.result (rw c.groups_of-groups.ensures at c.binary_search.ensures.position) (λ i j le lt. c.requires.ascending i j 0 le lt)))
+    rw (c.is_ok.ensures.value) (found groups c.args.group c.binary_search.result (searched groups c.args.group c.binary_search.result (rw c.groups_of-groups.ensures at c.binary_search.ensures.position) (λ i j le lt. c.args.self.now.ascending (fact_number c.args.self.now.firsts.items c.args.fact) i j 0 le lt)))

@@ -1,17 +1,14 @@
 -- Each field has the contract of the call that returned it.
-use Rattle.sas_groups.proofs.Imports.{ℕ, List, subst, fact_number, AreByFact}
+use Rattle.sas_groups.proofs.Imports.{ℕ, List, subst, AreByFact}
 use Rattle.sas_groups.proofs.index.Index.new.Goals as goal
 
 pub returns : goal.returns
 returns g c =
     let p = c.args.task.now in
-    let firsts = c.number_facts.new.firsts.items in
     let groups = subst (λ (numbers : List ℕ). AreByFact p numbers c.in_ok-groups.groups) c.as_slice.ensures.value c.in_ok-groups.ensures in
     record {
       firsts = c.in_ok-facts.ensures.firsts;
-      low = c.in_ok-facts.ensures.low;
       groups = groups.are;
-      ascending = λ fact. groups.ascending (fact_number firsts fact);
       facts = c.in_ok-own_facts.ensures;
       runs = c.in_ok-runs.ensures;
       effects = c.in_ok-effects.ensures;

@@ -5,6 +5,3 @@ use Rattle.sas_mutex.proofs.effects.Firing.requires_one_of.Goals as goal
 pub returns-in-Some : goal.returns-in-Some
 returns-in-Some g c = rw (← c.self.view_is) (λ t. old_one_is_all c.self.inside.task.now c.self.inside.index.now c.self.inside.operator c.self.inside.effect c.args.group c.in-Some.value
     c.self.inside.change c.self.invariant.0 c.self.invariant.1 c.self.invariant.2 c.self.invariant.3 c.self.invariant.4 c.in-Some.is (c.has.ensures.0 t))
-
-pub has-requires-clause-ascending : goal.has-requires-clause-ascending
-has-requires-clause-ascending g c = c.self.invariant.1.ascending (record { var = c.self.inside.change.var; value = c.in-Some.value })
