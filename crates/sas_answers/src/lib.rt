@@ -5,4 +5,4 @@ mod layers;
 mod plans;
 
 pub use layers::{accept_layers, refuse_layers};
-pub use plans::{accept_plan, answer_by, refuse_plan, verdict_answer};
+pub use plans::{accept_plan, answer_by, answer_fault, verdict_answer};

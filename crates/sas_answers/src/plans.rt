@@ -10,7 +10,7 @@ use sas_flat::{FlatPlan, FlatTask};
 use sas_lines::{push_line, push_number};
 use sas_meaning::Layered;
 use sas_output::{Answer, Status};
-use sas_run::{Held, PlanFault, check_once};
+use sas_run::{LoadedTask, PlanFault, check_once};
 use std::alloc::{AllocError, Global};
 
 /// Returns the answer about whether the plan is valid. The evaluator counts open conditions.
@@ -24,22 +24,22 @@ pub fn verdict_answer(
     let worklist = Worklist::new(alloc, layered)?;
     match check_once(alloc, layered, worklist, plan) {
         Ok(_) => accept_plan(alloc, plan),
-        Err(fault) => refuse_plan(alloc, plan.cost(), fault),
+        Err(fault) => answer_fault(alloc, plan.cost(), fault),
     }
 }
 
-/// Returns the answer about whether the plan is valid, as `verdict_answer` does, for a task that is held for many plans.
+/// Returns the answer about whether the plan is valid, as `verdict_answer` does, for a task that is loaded for many plans.
 pub fn answer_by(
     alloc: Global,
-    held: &mut Held<Worklist, FlatTask>,
+    loaded: &mut LoadedTask<Worklist, FlatTask>,
     plan: &FlatPlan,
 ) -> Result<Answer, AllocError>
-    ensures answer { IfOk result (λ a. VerdictAnswer held.old plan.now (output_of a)) }
-    ensures same { held.new ≡ held.old }
+    ensures answer { IfOk result (λ a. VerdictAnswer loaded.old plan.now (output_of a)) }
+    ensures same { loaded.new ≡ loaded.old }
 {
-    match held.check_plan(alloc, plan) {
+    match loaded.check_plan(alloc, plan) {
         Ok(_) => accept_plan(alloc, plan),
-        Err(fault) => refuse_plan(alloc, plan.cost(), fault),
+        Err(fault) => answer_fault(alloc, plan.cost(), fault),
     }
 }
 
@@ -54,7 +54,7 @@ pub fn accept_plan(alloc: Global, plan: &FlatPlan) -> Result<Answer, AllocError>
 }
 
 /// Returns the answer about a plan with this cost and this fault. For `Memory` it returns an `Err`.
-pub fn refuse_plan(alloc: Global, cost: u64, fault: PlanFault) -> Result<Answer, AllocError>
+pub fn answer_fault(alloc: Global, cost: u64, fault: PlanFault) -> Result<Answer, AllocError>
     ensures { IfOk result (λ a. invalid_answer cost fault ≡ Some (output_of a)) }
 {
     Ok(Answer {

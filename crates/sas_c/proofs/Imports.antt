@@ -49,14 +49,16 @@ pub use Rattle.sas_requests.proofs.TraceLaws.{trace_ends}
 pub use Rattle.sas_requests.specs.FileReasons.{PlanFileReasons}
 pub use Rattle.sas_requests.specs.TraceOut.{TraceOut}
 pub use Rattle.sas_requests.specs.Why.{OutWhy, WithReasons}
-pub use Rattle.sas_requests.specs.declared.detail.Detail.TheVariants.{Reasons}
+pub use Rattle.sas_requests.specs.declared.question.PlanDetail.TheVariants.{Reasons}
+pub use Rattle.sas_requests.specs.declared.question.PlanDetail.{PlanDetail}
 pub use Rattle.sas_task_format.specs.TaskFormat.{task_format}
 pub use Rattle.sas_trace.specs.Traced.{TraceVerdict}
 pub use Rattle.sas_why.specs.Verdict.{WhyVerdict}
-pub use Rattle.sas_c.specs.Holding.{HoldsTask}
+pub use Rattle.sas_c.specs.Holding.{HoldsTask, HeldOut}
 pub use Rattle.sas_c.specs.Reporting.{Returns, ReturnsHeadline, EndsInLine, ReturnsLastLine, ReturnsInvariants, number_of_fault, number_of_status}
 pub use Rattle.sas_c.specs.TaskPointers.{owns_task}
 pub use Rattle.sas_c.specs.Written.{IsWritten}
 pub use Rattle.sas_c.specs.contracts.box_pointer.BoxPointer.into_box.{ended, clauses}
 pub use Rattle.sas_c.specs.declared.answering.Call.{Call}
+pub use Rattle.sas_c.specs.declared.plans.PlanCall.{PlanCall}
 pub use Rattle.sas_c.specs.declared.prepared.Prepared.{Prepared}

@@ -1,8 +1,8 @@
 -- What is returned follows from how a run ended.
-use Rattle.sas_c.proofs.Imports.{◌≡◌, ℕ, ◌<◌, List, [], ◌++◌, length, take, drop, codes, arith, refl, sym, ap, subst, ◌∙◌, inr, Option, Some, None, Result, Ok, Err, IfSome, Appends, Parts, LayerFault, IsLayered, ReadsAs, most_bytes, task_format, Status, Yes, No, ToolFault, Memory, Read, TooLong, Write, Output, EndsCounting, layers_verdict, VerdictAnswer, Call, Prepared, HoldsTask, IsWritten, Returns, ReturnsHeadline, EndsInLine, ReturnsLastLine, ReturnsInvariants, number_of_fault, number_of_status, PlanParts, WhyVerdict, TraceVerdict, Request, Plan, Mutex, Headline, Invariants, CheckOut, FileOut, TaskOut, UnlayeredAnswer, plain_refusal, PlanOut, PlanOutBy, VerdictOut, same_output, ReportsValid, headline_of, Refuses, ReportsGroups, invariants_of, headline_why, invariants_why, judged_by, check_yes, check_no, task_refused, Reasons, PlanFileReasons, OutWhy, WithReasons, TraceOut}
-use Rattle.sas_requests.specs.Answering.{OutBy}
-use Rattle.sas_requests.specs.declared.detail.Detail.{Detail}
-use Rattle.sas_requests.specs.declared.detail.Detail.TheVariants.{Plain}
+use Rattle.sas_c.proofs.Imports.{◌≡◌, ℕ, ◌<◌, List, [], ◌++◌, length, take, drop, codes, arith, refl, sym, ap, subst, ◌∙◌, inr, Option, Some, None, Result, Ok, Err, IfSome, Appends, Parts, LayerFault, IsLayered, ReadsAs, most_bytes, task_format, Status, Yes, No, ToolFault, Memory, Read, TooLong, Write, Output, EndsCounting, layers_verdict, VerdictAnswer, Call, PlanCall, PlanDetail, Prepared, HeldOut, HoldsTask, IsWritten, Returns, ReturnsHeadline, EndsInLine, ReturnsLastLine, ReturnsInvariants, number_of_fault, number_of_status, PlanParts, WhyVerdict, TraceVerdict, Plan, Mutex, Headline, Invariants, CheckOut, FileOut, TaskOut, UnlayeredAnswer, plain_refusal, PlanOut, PlanOutBy, VerdictOut, same_output, ReportsValid, headline_of, Refuses, ReportsGroups, invariants_of, headline_why, invariants_why, judged_by, check_yes, check_no, task_refused, Reasons, PlanFileReasons, OutWhy, WithReasons, TraceOut}
+use Rattle.sas_requests.specs.Answering.{QuestionOut}
+use Rattle.sas_requests.specs.declared.question.Detail.TheVariants.{Plain}
+use Rattle.sas_requests.specs.declared.question.Question.{Question}
 use Rattle.sas_c.proofs.TracedPlans.{traced_headline}
 
 same_number : (s t : Status) → number_of_status s ≡ number_of_status t → s ≡ t
@@ -103,14 +103,13 @@ module _ (Out : Option Output → Type 0) (was items : List ℕ) (empty : was �
   pub reports_ended : (r : Result Status ToolFault) (before room : List ℕ) (size number : ℕ) → EndsCounting Out (Appends (Some was) (Some items)) r → Returns (IsWritten items r) before room size number → Returns Out before room size number
   reports_ended r before room size number ends = reports_by (IsWritten items r) Out (written r ends) before room size number
 
--- what is returned for a call is returned for its request and its bytes
-pub asked_reported : (call : Call) (detail : Detail) (request : Request) (b c before room : List ℕ) (size number : ℕ) → call.request ≡ request → call.detail ≡ detail → call.task.now ≡ b → call.plan.now ≡ c
-    → Returns (OutBy call.detail call.request call.task.now call.plan.now) before room size number → Returns (OutBy detail request b c) before room size number
-asked_reported call detail request b c before room size number is as_much same_task same_plan t =
-    subst (λ (r : Request). Returns (OutBy detail r b c) before room size number) is
-    (subst (λ (d : Detail). Returns (OutBy d call.request b c) before room size number) as_much
-    (subst (λ (xs : List ℕ). Returns (OutBy call.detail call.request xs c) before room size number) same_task
-    (subst (λ (xs : List ℕ). Returns (OutBy call.detail call.request call.task.now xs) before room size number) same_plan t)))
+-- what is returned for a call is returned for its question and its bytes
+pub asked_reported : (call : Call) (question : Question) (b c before room : List ℕ) (size number : ℕ) → call.question ≡ question → call.task.now ≡ b → call.plan.now ≡ c
+    → Returns (QuestionOut call.question call.task.now call.plan.now) before room size number → Returns (QuestionOut question b c) before room size number
+asked_reported call question b c before room size number is same_task same_plan t =
+    subst (λ (q : Question). Returns (QuestionOut q b c) before room size number) is
+    (subst (λ (xs : List ℕ). Returns (QuestionOut call.question xs c) before room size number) same_task
+    (subst (λ (xs : List ℕ). Returns (QuestionOut call.question call.task.now xs) before room size number) same_plan t))
 
 -- ---- whether a plan solves a task
 
@@ -132,6 +131,13 @@ last_line_reported b c before room size number t = λ status is.
     subst (λ (text : List ℕ). Headline b c (EndsInLine text) status) (sym x.4) (subst (λ (s : Status). Headline b c (EndsInLine (x.0).text) s) x.2 (traced_headline b c x.0 x.1))
 
 -- ---- a plan of a task that is held
+
+-- what is returned for a call is returned for its plan
+pub held_asked : (call : PlanCall) (detail : PlanDetail) (c before room : List ℕ) (size number : ℕ) (held : Option Prepared) → call.detail ≡ detail → call.plan.now ≡ c
+    → IfSome held (λ prepared. Returns (HeldOut call.detail prepared.held call.plan.now) before room size number) → IfSome held (λ prepared. Returns (HeldOut detail prepared.held c) before room size number)
+held_asked call detail c before room size number held as_much same t =
+    subst (λ (d : PlanDetail). IfSome held (λ prepared. Returns (HeldOut d prepared.held c) before room size number)) as_much
+    (subst (λ (xs : List ℕ). IfSome held (λ prepared. Returns (HeldOut call.detail prepared.held xs) before room size number)) same t)
 
 -- what is returned for the task that is held is returned for the bytes that it was read from
 module _ (For : Parts → Option Output → Type 0) (Out : Option Output → Type 0) (b before room : List ℕ) (size number : ℕ) (to : (p : Parts) → IsLayered p → ReadsAs task_format most_bytes b (Ok p) → (o : Option Output) → For p o → Out o) where

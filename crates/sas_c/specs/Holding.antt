@@ -1,9 +1,14 @@
--- What is held of a task that was read.
+-- What is held of a task that was read, and what is answered about a plan of it.
 use Rattle.std.specs.Prelude.{List, ℕ, Option, Some, None, Ok}
+use Rattle.sas_core.specs.declared.parts.Parts.{Parts}
 use Rattle.sas_meaning.specs.Layers.{IsLayered}
 use Rattle.sas_reader.specs.Format.{ReadsAs}
 use Rattle.sas_reader.specs.Limit.{most_bytes}
 use Rattle.sas_task_format.specs.TaskFormat.{task_format}
+use Rattle.sas_output.specs.Ending.{Output}
+use Rattle.sas_requests.specs.Answering.{PlanBy, VerdictBy}
+use Rattle.sas_requests.specs.Questions.{detail_of}
+use Rattle.sas_requests.specs.declared.question.PlanDetail.{PlanDetail}
 use Rattle.sas_c.specs.declared.prepared.Prepared.{Prepared}
 
 -- a task is held, the one that the bytes are a text of, and it is layered
@@ -11,3 +16,7 @@ abbrev pub HoldsTask : List ℕ → Option Prepared → Type 0
 HoldsTask b None = ⊥
 HoldsTask b (Some prepared) =
     ReadsAs task_format most_bytes b (Ok prepared.held) × IsLayered prepared.held
+
+-- the output about a plan with these bytes
+abbrev pub HeldOut : PlanDetail → Parts → List ℕ → Option Output → Type 0
+HeldOut detail p = PlanBy (detail_of detail) (VerdictBy detail p)

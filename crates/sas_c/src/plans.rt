@@ -8,7 +8,7 @@ ghost use Rattle.sas_requests.specs.FileReasons.{PlanFileReasons};
 ghost use Rattle.sas_requests.specs.Why.{OutWhy, WithReasons};
 ghost use Rattle.sas_requests.specs.TraceOut.{TraceOut};
 ghost use Rattle.sas_c.specs.Reporting.{Returns, ReturnsHeadline, ReturnsLastLine};
-ghost use Rattle.sas_c.specs.Holding.{HoldsTask};
+ghost use Rattle.sas_c.specs.Holding.{HeldOut, HoldsTask};
 
 use crate::numbers::{NO_TASK, number_without};
 use crate::prepared::Prepared;
@@ -16,7 +16,7 @@ use crate::reporting::{report_ended, return_answer};
 use crate::sas_task::SasTask;
 use sas_lines::Watched;
 use sas_plans::judge_bytes;
-use sas_requests::{Detail, Request, answer_bytes};
+use sas_requests::{PlanDetail, Request, answer_bytes};
 use std::alloc::Global;
 
 /// Answers whether the plan solves the task that is held, as `sas_plan` does. It stays held.
@@ -38,14 +38,8 @@ pub extern "C" fn sas_task_plan(
     ensures same { task.new.pointer.task ≡ task.old.pointer.task }
     ensures none { IsNone task.old.pointer.task → (result ≡ 5) × (room.new ≡ room.old) }
 {
-    match task.take(alloc) {
-        Some(mut prepared) => {
-            let number = judge(alloc, &mut prepared, plan, room, size);
-            task.put(prepared);
-            number
-        }
-        None => NO_TASK,
-    }
+    let call = PlanCall::new(PlanDetail::Plain, plan);
+    answer_held(alloc, task, call, room, size)
 }
 
 /// Answers whether the plan solves the task that is held, with the reasons for a no, as `sas_plan_why` does. It stays held.
@@ -67,16 +61,8 @@ pub extern "C" fn sas_task_plan_why(
     ensures same { task.new.pointer.task ≡ task.old.pointer.task }
     ensures none { IsNone task.old.pointer.task → (result ≡ 5) × (room.new ≡ room.old) }
 {
-    match task.take(alloc) {
-        Some(prepared) => {
-            let mut text = Watched::new(Vec::new(alloc));
-            let layered = prepared.held.layered();
-            let ended = answer_bytes(alloc, Detail::Reasons, layered, plan, &mut text);
-            task.put(prepared);
-            report_ended(ended, text, room, size)
-        }
-        None => NO_TASK,
-    }
+    let call = PlanCall::new(PlanDetail::Reasons, plan);
+    answer_held(alloc, task, call, room, size)
 }
 
 /// Answers whether the plan solves the task that is held, after a trace of its steps, as `sas_trace` does. It stays held.
@@ -98,32 +84,75 @@ pub extern "C" fn sas_task_trace(
     ensures same { task.new.pointer.task ≡ task.old.pointer.task }
     ensures none { IsNone task.old.pointer.task → (result ≡ 5) × (room.new ≡ room.old) }
 {
+    let call = PlanCall::new(PlanDetail::Trace, plan);
+    answer_held(alloc, task, call, room, size)
+}
+
+/// The bytes of a plan, and how much is reported.
+#[derive(Clone, Copy)]
+pub struct PlanCall<'b> {
+    pub detail: PlanDetail,
+    pub plan: &'b [u8],
+}
+
+impl<'b> PlanCall<'b> {
+    /// Returns a call about this plan.
+    fn new(detail: PlanDetail, plan: &'b [u8]) -> PlanCall<'b>
+        ensures detail { result.detail ≡ detail }
+        ensures plan { result.plan.now ≡ plan.now }
+    {
+        PlanCall { detail, plan }
+    }
+}
+
+/// Writes the answer about the plan for the task that is held. It stays held.
+fn answer_held(
+    alloc: Global,
+    task: &mut SasTask,
+    call: PlanCall<'_>,
+    room: &mut [u8],
+    size: &mut usize,
+) -> u32
+    ensures answers { IfSome task.old.pointer.task (λ prepared.
+        Returns (HeldOut call.entry.detail prepared.held call.entry.plan.now)
+        room.old room.new size.new result) }
+    ensures same { task.new.pointer.task ≡ task.old.pointer.task }
+    ensures none { IsNone task.old.pointer.task → (result ≡ 5) × (room.new ≡ room.old) }
+{
     match task.take(alloc) {
-        Some(prepared) => {
-            let mut text = Watched::new(Vec::new(alloc));
-            let layered = prepared.held.layered();
-            let ended = answer_bytes(alloc, Detail::Trace, layered, plan, &mut text);
+        Some(mut prepared) => {
+            let number = answer_plan(alloc, &mut prepared, call, room, size);
             task.put(prepared);
-            report_ended(ended, text, room, size)
+            number
         }
         None => NO_TASK,
     }
 }
 
-/// Writes whether the plan solves the task.
-fn judge(
+/// Writes the answer about the plan for this task.
+fn answer_plan(
     alloc: Global,
     prepared: &mut Prepared,
-    plan: &[u8],
+    call: PlanCall<'_>,
     room: &mut [u8],
     size: &mut usize,
 ) -> u32
-    ensures answers { Returns (VerdictOut VerdictAnswer prepared.old.held plan.now)
+    ensures answers { Returns
+        (HeldOut call.entry.detail prepared.old.held call.entry.plan.now)
         room.old room.new size.new result }
     ensures same { prepared.new ≡ prepared.old }
 {
-    match judge_bytes(alloc, &mut prepared.held, plan) {
-        Ok(answer) => return_answer(answer, room, size),
-        Err(fault) => number_without(fault),
+    match call.detail {
+        // The names and the evaluator of the loaded task serve all its plans.
+        PlanDetail::Plain => match judge_bytes(alloc, &mut prepared.held, call.plan) {
+            Ok(answer) => return_answer(answer, room, size),
+            Err(fault) => number_without(fault),
+        },
+        PlanDetail::Reasons | PlanDetail::Trace => {
+            let mut text = Watched::new(Vec::new(alloc));
+            let layered = prepared.held.layered();
+            let ended = answer_bytes(alloc, call.detail, layered, call.plan, &mut text);
+            report_ended(ended, text, room, size)
+        }
     }
 }

@@ -4,14 +4,14 @@ ghost use Rattle.std.specs.Prelude.{◌≡◌, IfSome};
 use sas_axioms::Worklist;
 use sas_flat::FlatTask;
 use sas_meaning::Layered;
-use sas_plans::hold;
-use sas_run::Held;
+use sas_plans::load;
+use sas_run::LoadedTask;
 use std::alloc::Global;
 
 /// A layered task with all that its plans need.
 #[derive(Drop)]
 pub struct Prepared {
-    pub held: Held<Worklist, FlatTask>,
+    pub held: LoadedTask<Worklist, FlatTask>,
 }
 
 impl Prepared {
@@ -19,7 +19,7 @@ impl Prepared {
     pub fn boxed(alloc: Global, layered: Layered<FlatTask>) -> Option<Box<Prepared>>
         ensures { IfSome result (λ b. b.value ≡ record { held = layered }) }
     {
-        let Ok(held) = hold(alloc, layered) else {
+        let Ok(held) = load(alloc, layered) else {
             return None;
         };
         in_box(alloc, Prepared { held })

@@ -7,7 +7,7 @@ ghost use Rattle.sas_requests.specs.TraceOut.{TraceOut};
 ghost use Rattle.sas_c.specs.Reporting.{Returns, ReturnsHeadline, ReturnsInvariants, ReturnsLastLine};
 
 use crate::answering::{Call, answer_call};
-use sas_requests::{Detail, Request};
+use sas_requests::{Question, Request};
 use std::alloc::Global;
 
 /// Answers whether the plan solves the task.
@@ -22,7 +22,7 @@ pub extern "C" fn sas_plan(
     ensures answers { Returns (PlanOut task.now plan.now) room.old room.new size.new result }
     ensures headline { ReturnsHeadline task.now plan.now room.new size.new result }
 {
-    let call = Call::new(Request::Plan, Detail::Plain, task, plan);
+    let call = Call::new(Question::Answer(Request::Plan), task, plan);
     answer_call(alloc, call, room, size)
 }
 
@@ -31,7 +31,7 @@ pub extern "C" fn sas_plan(
 pub extern "C" fn sas_check(alloc: Global, task: &[u8], room: &mut [u8], size: &mut usize) -> u32
     ensures answers { Returns (CheckOut task.now) room.old room.new size.new result }
 {
-    let call = Call::new(Request::Check, Detail::Plain, task, b"");
+    let call = Call::new(Question::Answer(Request::Check), task, b"");
     answer_call(alloc, call, room, size)
 }
 
@@ -41,7 +41,7 @@ pub extern "C" fn sas_mutex(alloc: Global, task: &[u8], room: &mut [u8], size: &
     ensures answers { Returns (MutexOut task.now) room.old room.new size.new result }
     ensures invariants { ReturnsInvariants task.now room.new size.new result }
 {
-    let call = Call::new(Request::Mutex, Detail::Plain, task, b"");
+    let call = Call::new(Question::Answer(Request::Mutex), task, b"");
     answer_call(alloc, call, room, size)
 }
 
@@ -50,7 +50,7 @@ pub extern "C" fn sas_mutex(alloc: Global, task: &[u8], room: &mut [u8], size: &
 pub extern "C" fn sas_show(alloc: Global, task: &[u8], room: &mut [u8], size: &mut usize) -> u32
     ensures answers { Returns (ShowOut task.now) room.old room.new size.new result }
 {
-    let call = Call::new(Request::Show, Detail::Plain, task, b"");
+    let call = Call::new(Question::Answer(Request::Show), task, b"");
     answer_call(alloc, call, room, size)
 }
 
@@ -59,7 +59,7 @@ pub extern "C" fn sas_show(alloc: Global, task: &[u8], room: &mut [u8], size: &m
 pub extern "C" fn sas_print(alloc: Global, task: &[u8], room: &mut [u8], size: &mut usize) -> u32
     ensures answers { Returns (PrintOut task.now) room.old room.new size.new result }
 {
-    let call = Call::new(Request::Print, Detail::Plain, task, b"");
+    let call = Call::new(Question::Answer(Request::Print), task, b"");
     answer_call(alloc, call, room, size)
 }
 
@@ -68,7 +68,7 @@ pub extern "C" fn sas_print(alloc: Global, task: &[u8], room: &mut [u8], size: &
 pub extern "C" fn sas_steps(alloc: Global, plan: &[u8], room: &mut [u8], size: &mut usize) -> u32
     ensures answers { Returns (StepsOut plan.now) room.old room.new size.new result }
 {
-    let call = Call::new(Request::Steps, Detail::Plain, b"", plan);
+    let call = Call::new(Question::Answer(Request::Steps), b"", plan);
     answer_call(alloc, call, room, size)
 }
 
@@ -85,7 +85,7 @@ pub extern "C" fn sas_plan_why(
         room.old room.new size.new result }
     ensures headline { ReturnsHeadline task.now plan.now room.new size.new result }
 {
-    let call = Call::new(Request::Plan, Detail::Reasons, task, plan);
+    let call = Call::new(Question::Explanation(Request::Plan), task, plan);
     answer_call(alloc, call, room, size)
 }
 
@@ -99,7 +99,7 @@ pub extern "C" fn sas_check_why(
 ) -> u32
     ensures answers { Returns (OutWhy Request.Check task.now []) room.old room.new size.new result }
 {
-    let call = Call::new(Request::Check, Detail::Reasons, task, b"");
+    let call = Call::new(Question::Explanation(Request::Check), task, b"");
     answer_call(alloc, call, room, size)
 }
 
@@ -114,7 +114,7 @@ pub extern "C" fn sas_mutex_why(
     ensures answers { Returns (OutWhy Request.Mutex task.now []) room.old room.new size.new result }
     ensures invariants { ReturnsInvariants task.now room.new size.new result }
 {
-    let call = Call::new(Request::Mutex, Detail::Reasons, task, b"");
+    let call = Call::new(Question::Explanation(Request::Mutex), task, b"");
     answer_call(alloc, call, room, size)
 }
 
@@ -130,6 +130,6 @@ pub extern "C" fn sas_trace(
     ensures answers { Returns (TraceOut task.now plan.now) room.old room.new size.new result }
     ensures headline { ReturnsLastLine task.now plan.now room.new size.new result }
 {
-    let call = Call::new(Request::Plan, Detail::Trace, task, plan);
+    let call = Call::new(Question::Trace, task, plan);
     answer_call(alloc, call, room, size)
 }

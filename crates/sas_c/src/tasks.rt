@@ -13,7 +13,7 @@ use sas_flat::FlatTask;
 use sas_lines::Watched;
 use sas_meaning::Layered;
 use sas_output::Status;
-use sas_requests::{Detail, read_layered};
+use sas_requests::{Detail, ReadTask, read_layered};
 use std::alloc::Global;
 
 /// Reads a task, and holds it if it is layered, in place of what was held before. Answers as `sas_check` does. Where the number
@@ -34,9 +34,13 @@ pub extern "C" fn sas_task_read(
     drop(before);
     let mut device = Watched::new(bytes);
     let mut text = Watched::new(Vec::new(alloc));
-    match read_layered(alloc, Detail::Plain, &mut device, &mut text) {
-        Ok(layered) => hold(alloc, task, layered, room, size),
-        Err(ended) => report_ended(ended, text, room, size),
+    let read = match read_layered(alloc, Detail::Plain, &mut device, &mut text) {
+        Ok(read) => read,
+        Err(fault) => return report_ended(Err(fault), text, room, size),
+    };
+    match read {
+        ReadTask::Layered(layered) => hold(alloc, task, layered, room, size),
+        ReadTask::Refused(status) => report_ended(Ok(status), text, room, size),
     }
 }
 

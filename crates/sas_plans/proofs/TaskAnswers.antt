@@ -1,7 +1,7 @@
 -- How a run over many plans ends, by what came of reading its task.
 use Rattle.sas_plans.proofs.Imports.{◌≡◌, ℕ, List, [], ◌++◌, length, refl, sym, ap, inl, inr, Option, Some, None, Result, Ok, Err, zip, Parts, Device, Consumes, ReadsAll, ReadsAs, ValueOf, most_bytes, task_format, known_answer, IsLayered, Status, ToolFault, Output, Ends, EndsCounting, IsDecided, exact_ends, EndsFile, TaskBy, UnlayeredBy, TaskOut, UnlayeredAnswer, plain_refusal, Plan, short_output, JudgeFault, tool_result, HaveBytes, WereRead, JudgeOut, PlansOut, JudgesPlans}
 use Rattle.sas_output.specs.declared.ending.ToolFault.TheVariants as tool_fault
-use Rattle.sas_requests.specs.declared.detail.Detail.TheVariants.{Plain}
+use Rattle.sas_requests.specs.declared.question.Detail.TheVariants.{Plain}
 use Rattle.sas_plans.proofs.SideBySide.{choose}
 
 -- what ends with an output ends with another that follows from it

@@ -8,11 +8,11 @@ ghost use Rattle.sas_plans.specs.InTurn.{IsRightlyLong, OpensInTurn};
 ghost use Rattle.sas_plans.specs.Judged.{JudgeOut};
 ghost use Rattle.sas_plans.specs.PlansHeadline.{PlansHeadline};
 
-use crate::inputs::{JudgeFault, PlanInputs, judge_ended};
+use crate::inputs::{JudgeFault, PlanInputs};
 use crate::reporting::report_plans;
 use sas_lines::Watched;
 use sas_output::{Status, ToolFault};
-use sas_requests::{Detail, read_layered};
+use sas_requests::{Detail, ReadTask, read_layered};
 use std::alloc::Global;
 use std::io::{Read, Write};
 
@@ -67,8 +67,12 @@ pub fn judge<T: Read, S: PlanInputs, W: Write>(
     ensures reads { IsErrOf result (JudgeFault.Tool ToolFault.Read) ↔ IsTrue task.new.failed }
     ensures writes { IsErrAnd result (λ e. IsWrite (tool_fault e)) ↔ IsTrue out.new.failed }
 {
-    match read_layered(alloc, Detail::Plain, task, out) {
-        Ok(layered) => report_plans(alloc, layered, plans, out),
-        Err(ended) => judge_ended(ended),
+    let read = match read_layered(alloc, Detail::Plain, task, out) {
+        Ok(read) => read,
+        Err(fault) => return Err(JudgeFault::Tool(fault)),
+    };
+    match read {
+        ReadTask::Layered(layered) => report_plans(alloc, layered, plans, out),
+        ReadTask::Refused(status) => Ok(status),
     }
 }

@@ -8,8 +8,8 @@ ghost use Rattle.sas_plans.specs.InTurn.{OpensFirst, OpensInTurn};
 ghost use Rattle.sas_plans.specs.Judging.{AreReported, IsOneUnsaid, IsPlace, IsSaid, IsUnsaid, EndsAt, IsOpened, OpensUntil};
 ghost use Rattle.sas_plans.specs.Judging.{JudgesPlans, summary_of};
 
-use crate::held::hold;
 use crate::inputs::{JudgeFault, PlanInputs, judge_ended};
+use crate::loaded::load;
 use crate::tally::Tally;
 use crate::verdicts::judge_plan;
 use sas_axioms::Worklist;
@@ -17,7 +17,7 @@ use sas_flat::FlatTask;
 use sas_lines::{Watched, push_number};
 use sas_meaning::Layered;
 use sas_output::{Answer, Status};
-use sas_run::Held;
+use sas_run::LoadedTask;
 use std::alloc::{AllocError, Global};
 use std::io::Write;
 
@@ -37,10 +37,10 @@ pub fn report_plans<S: PlanInputs, W: Write>(
     ensures labels { S.labels plans.new ≡ S.labels plans.old }
     ensures writes { IsErrAnd result (λ e. IsWrite (tool_fault e)) ↔ IsTrue out.new.failed }
 {
-    let mut held = hold(alloc, layered)?;
+    let mut loaded = load(alloc, layered)?;
     let mut text = Vec::new(alloc);
-    let reported = report_each(alloc, &mut held, plans, &mut text);
-    drop(held);
+    let reported = report_each(alloc, &mut loaded, plans, &mut text);
+    drop(loaded);
     let tally = match reported {
         Ok(tally) => tally,
         Err(fault) => return Err(fault),
@@ -57,15 +57,15 @@ pub fn report_plans<S: PlanInputs, W: Write>(
 /// Adds a line for each plan, and returns how many are valid, and the best of these.
 fn report_each<S: PlanInputs>(
     alloc: Global,
-    held: &mut Held<Worklist, FlatTask>,
+    loaded: &mut LoadedTask<Worklist, FlatTask>,
     plans: &mut S,
     text: &mut Vec<u8>,
 ) -> Result<Tally, JudgeFault>
     requires { text.old.items ≡ [] }
-    ensures ok { IfOk result (AreReported held.old (S.bytes plans.old) (S.labels plans.old)
+    ensures ok { IfOk result (AreReported loaded.old (S.bytes plans.old) (S.labels plans.old)
         (length (S.labels plans.old)) text.new.items) }
     ensures err { IfErr result
-        (IsOneUnsaid held.old (S.bytes plans.old) (length (S.labels plans.old))) }
+        (IsOneUnsaid loaded.old (S.bytes plans.old) (length (S.labels plans.old))) }
     ensures opened { IfOk result
         (λ _. OpensFirst S.open_gives (length (S.labels plans.old)) plans.old plans.new) }
     ensures fault { IfErr result
@@ -74,7 +74,7 @@ fn report_each<S: PlanInputs>(
 {
     let mut tally = Tally::new();
     for number in 0..plans.count() {
-        match report_plan(alloc, held, plans, number, text) {
+        match report_plan(alloc, loaded, plans, number, text) {
             Ok(cost) => tally.add(number, cost),
             Err(fault) => return Err(fault),
         }
@@ -85,25 +85,25 @@ fn report_each<S: PlanInputs>(
 /// Adds the line of the plan with this number, and returns its cost if it is valid.
 fn report_plan<S: PlanInputs>(
     alloc: Global,
-    held: &mut Held<Worklist, FlatTask>,
+    loaded: &mut LoadedTask<Worklist, FlatTask>,
     plans: &mut S,
     number: usize,
     text: &mut Vec<u8>,
 ) -> Result<Option<u64>, JudgeFault>
     requires { number < length (S.labels plans.old) }
     ensures ok { IfOk result (λ cost. (judged : Judged)
-        × IsSaid held.old (S.bytes plans.old number)
+        × IsSaid loaded.old (S.bytes plans.old number)
         (slice_index_or (S.labels plans.old) number []) judged
         × (text.new.items ≡ text.old.items ++ labelled judged)
         × (judged.cost ≡ cost)) }
-    ensures err { IfErr result (IsUnsaid held.old number (S.bytes plans.old number)) }
+    ensures err { IfErr result (IsUnsaid loaded.old number (S.bytes plans.old number)) }
     ensures opened { IfOk result (λ _. IsOpened S.open_gives number plans.old plans.new) }
     ensures fault { IfErr result (EndsAt S.open_gives number plans.old plans.new) }
-    ensures same { held.new ≡ held.old }
+    ensures same { loaded.new ≡ loaded.old }
     ensures labels { S.labels plans.new ≡ S.labels plans.old }
     ensures later { (k : ℕ) → number < k → S.bytes plans.new k ≡ S.bytes plans.old k }
 {
-    let verdict = match judge_plan(alloc, held, plans, number) {
+    let verdict = match judge_plan(alloc, loaded, plans, number) {
         Ok(verdict) => verdict,
         Err(fault) => return Err(fault),
     };

@@ -14,7 +14,7 @@ use sas_output::{Status, ToolFault};
 use sas_outputs::refuse_file;
 use sas_plan_file::read_flat_plan;
 use sas_reader::{Fault, Kind};
-use sas_run::Held;
+use sas_run::LoadedTask;
 use std::alloc::{AllocError, Global};
 use std::io::Read;
 
@@ -28,15 +28,15 @@ pub struct Verdict {
 /// Opens the plan with this number, reads it, and returns the verdict on it. The input is let go.
 pub fn judge_plan<S: PlanInputs>(
     alloc: Global,
-    held: &mut Held<Worklist, FlatTask>,
+    loaded: &mut LoadedTask<Worklist, FlatTask>,
     plans: &mut S,
     number: usize,
 ) -> Result<Verdict, JudgeFault>
     requires { number < length (S.labels plans.old) }
-    ensures judges { Judges held.old (S.bytes plans.old number) (tool_result result) }
+    ensures judges { Judges loaded.old (S.bytes plans.old number) (tool_result result) }
     ensures opened { IfOk result (λ _. IsOpened S.open_gives number plans.old plans.new) }
     ensures fault { IfErr result (EndsAt S.open_gives number plans.old plans.new) }
-    ensures same { held.new ≡ held.old }
+    ensures same { loaded.new ≡ loaded.old }
     ensures labels { S.labels plans.new ≡ S.labels plans.old }
     ensures later { (k : ℕ) → number < k → S.bytes plans.new k ≡ S.bytes plans.old k }
 {
@@ -47,7 +47,7 @@ pub fn judge_plan<S: PlanInputs>(
         });
     };
     let mut plan = Watched::new(input);
-    let judged = judge_input(alloc, held, &mut plan);
+    let judged = judge_input(alloc, loaded, &mut plan);
     drop(plan);
     match judged {
         Ok(verdict) => Ok(verdict),
@@ -77,22 +77,22 @@ fn fault_of_plan(number: usize, fault: ToolFault) -> JudgeFault
 /// Reads a plan, and returns the verdict on it. A plan file that is refused has a verdict, too.
 fn judge_input<P: Read>(
     alloc: Global,
-    held: &mut Held<Worklist, FlatTask>,
+    loaded: &mut LoadedTask<Worklist, FlatTask>,
     plan: &mut Watched<P>,
 ) -> Result<Verdict, ToolFault>
     requires { plan.old.failed ≡ false }
-    ensures judges { Judges held.old (P.remaining plan.old.device) result }
+    ensures judges { Judges loaded.old (P.remaining plan.old.device) result }
     ensures reads { IsErrOf result ToolFault.Read ↔ IsTrue plan.new.failed }
-    ensures same { held.new ≡ held.old }
+    ensures same { loaded.new ≡ loaded.old }
 {
     match read_flat_plan(alloc, plan) {
-        Ok(read) => Ok(verdict_by(alloc, held, &read)?),
-        Err(refusal) => refuse_plan(alloc, refusal.fault),
+        Ok(read) => Ok(verdict_by(alloc, loaded, &read)?),
+        Err(refusal) => verdict_on_refusal(alloc, refusal.fault),
     }
 }
 
 /// Returns the verdict that refuses a plan file for its fault, or why the run ends at it.
-fn refuse_plan(alloc: Global, fault: Fault) -> Result<Verdict, ToolFault>
+fn verdict_on_refusal(alloc: Global, fault: Fault) -> Result<Verdict, ToolFault>
     ensures ok { IfOk result (IsVerdictOnRefusal fault) }
     ensures long { IsErrOf result ToolFault.TooLong ↔ (fault.kind ≡ Kind.TooLong) }
     ensures read { IsErrOf result ToolFault.Read ↔ (fault.kind ≡ Kind.Read) }
@@ -108,13 +108,13 @@ fn refuse_plan(alloc: Global, fault: Fault) -> Result<Verdict, ToolFault>
 /// Returns the verdict on a plan that was read.
 fn verdict_by(
     alloc: Global,
-    held: &mut Held<Worklist, FlatTask>,
+    loaded: &mut LoadedTask<Worklist, FlatTask>,
     plan: &FlatPlan,
 ) -> Result<Verdict, AllocError>
-    ensures verdict { IfOk result (λ v. IsVerdictOnPlan held.old plan.now v) }
-    ensures same { held.new ≡ held.old }
+    ensures verdict { IfOk result (λ v. IsVerdictOnPlan loaded.old plan.now v) }
+    ensures same { loaded.new ≡ loaded.old }
 {
-    let reported = answer_by(alloc, held, plan)?;
+    let reported = answer_by(alloc, loaded, plan)?;
     let cost = match reported.status {
         Status::Yes => Some(plan.cost()),
         Status::No => None,

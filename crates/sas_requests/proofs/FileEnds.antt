@@ -1,10 +1,10 @@
 -- How the output about one file goes out.
 use Rattle.std.proofs.Common.{arith}
 use Rattle.std.proofs.lemmas.Grind.{common_steps}
-use Rattle.sas_requests.proofs.Imports.{◌≡◌, ◌≢◌, ℕ, ◌<◌, Bool, true, false, IsTrue, List, [], refl, sym, subst, ◌∙◌, inr, codes, Option, Some, None, Result, Ok, Err, nat_lt, IsErrOf, IsSomeAnd, ◌↔◌, Consumes, IsAtEnd, Parts, PlanParts, first_fault, LayerFault, layer_checks, Device, Fault, Kind, TooLong, Read, Memory, Found, ReadsAll, ValueOf, Format, ReadsAs, Detail, Reasons, Trace, FileBy, TaskBy, PlanBy, UnlayeredBy, layers_by, refusal_by, task_refusal_lines, plan_refusal_lines, FaultReasons, reported, past_limit, FileReasons, AreTaskReasons, ArePlanReasons, IsFoundOf, most_bytes, ConcernsText, AboutLaws, ExplainsRefusal, ReadsOrExplains, known_answer, known_fault, known_explained, PlanRefusal, plan_format, fault_of, found_of, nothing_else, ReadsPlan, less, is_less, task_format, IsTaskReason, TaskRefusal, fault_in, found_in, HasReason, ReadsTask, FileLine, file_text, Status, ToolFault, Output, Ends, EndsCounting, IsDecided, Writes, Answers, ends_by, writes_as, writes_counting, writes_answers, answers_by, not_memory, refusal, IsAnswerOrRefusal, FileOut, refused_kind, too_long_else, reading_of_refusal, reported_fault, EndsFile}
+use Rattle.sas_requests.proofs.Imports.{◌≡◌, ◌≢◌, ℕ, ◌<◌, Bool, true, false, IsTrue, List, [], refl, sym, subst, ◌∙◌, inr, codes, Option, Some, None, Result, Ok, Err, nat_lt, IsErrOf, IsSomeAnd, ◌↔◌, Consumes, IsAtEnd, Parts, PlanParts, first_fault, LayerFault, layer_checks, Device, Fault, Kind, TooLong, Read, Memory, Found, ReadsAll, ValueOf, Format, ReadsAs, Detail, Reasons, FileBy, TaskBy, PlanBy, UnlayeredBy, layers_by, refusal_by, task_refusal_lines, plan_refusal_lines, FaultReasons, reported, past_limit, FileReasons, AreTaskReasons, ArePlanReasons, IsFoundOf, most_bytes, ConcernsText, AboutLaws, ExplainsRefusal, ReadsOrExplains, known_answer, known_fault, known_explained, PlanRefusal, plan_format, fault_of, found_of, nothing_else, ReadsPlan, less, is_less, task_format, IsTaskReason, TaskRefusal, fault_in, found_in, HasReason, ReadsTask, FileLine, file_text, Status, ToolFault, Output, Ends, EndsCounting, IsDecided, Writes, Answers, ends_by, writes_as, writes_counting, writes_answers, answers_by, not_memory, refusal, IsAnswerOrRefusal, FileOut, refused_kind, too_long_else, reading_of_refusal, reported_fault, EndsFile}
 use Rattle.sas_meaning.specs.declared.layered.LayerFault.TheVariants as layer_fault
 use Rattle.sas_output.specs.declared.ending.ToolFault.TheVariants as tool_fault
-use Rattle.sas_requests.specs.declared.detail.Detail.TheVariants.{Plain}
+use Rattle.sas_requests.specs.declared.question.Detail.TheVariants.{Plain}
 use Rattle.sas_requests.proofs.RefusalLaws.{task_reporting, plan_reporting}
 use Rattle.sas_requests.proofs.RefusalReasons.{some_of, reasoned_by, more_reasoned, reported_alone}
 
@@ -52,7 +52,6 @@ module _ {V I S : Type 0} (F : Format V I S) (Reports : Kind → List (List ℕ)
     -- the kind of a fault that is refused
     reported_kind : (detail : Detail) (o : Output) → Some o ≡ refusal_by detail name f reasons → ConcernsText f.kind
     reported_kind Plain o is = plain_kind o (sym is)
-    reported_kind Trace o is = plain_kind o (sym is)
     reported_kind Reasons o is = let (plain, refused, same) = some_of (file_text reasons) (refusal name f) o is in plain_kind plain refused
 
     module _ (detail : Detail) (IsAnswer : V → Output → Type 0) (b : List ℕ) (reads : ReadsAs F most_bytes b (Err f)) where
@@ -208,7 +207,6 @@ module _ {D A W : Type 0} (left : D → Option (List ℕ)) (Gives : List ℕ →
 -- a task that isn't layered is refused for its first fault
 not_memory_by : (detail : Detail) (p : Parts) (fault : LayerFault) (o : Output) → layers_by detail p fault ≡ Some o → fault ≢ layer_fault.Memory
 not_memory_by Plain p fault o is = reported_fault fault o is
-not_memory_by Trace p fault o is = reported_fault fault o is
 not_memory_by Reasons p fault o is = not_memory p o fault is
 
 module _ {D W : Type 0} (left : D → Option (List ℕ)) (detail : Detail) (old new : Device D) (contents : W → Option (List ℕ)) (out_old out_new : Device W) (p : Parts) where

@@ -124,10 +124,13 @@ pub use Rattle.sas_trace.proofs.Answering.{some_trace, one_trace}
 pub use Rattle.sas_trace.specs.Trace.{run_lines}
 pub use Rattle.sas_trace.specs.Traced.{IsTraced, TraceVerdict, EndsWith}
 pub use Rattle.sas_why.specs.Verdict.{WhyVerdict, Explains}
-pub use Rattle.sas_requests.specs.Answering.{FileBy, TaskBy, PlanBy, UnlayeredBy, layers_by, refusal_by, task_refusal_lines, plan_refusal_lines, reported_by, ReasonedBy, CheckBy, MutexBy, VerdictBy, OutBy}
+pub use Rattle.sas_requests.specs.Answering.{FileBy, TaskBy, PlanBy, UnlayeredBy, layers_by, refusal_by, task_refusal_lines, plan_refusal_lines, reported_by, ReasonedBy, CheckBy, MutexBy, VerdictBy, OutBy, IfLayered, IfRefused, refused_by}
 pub use Rattle.sas_requests.specs.EndsRequest.{EndsRequest}
 pub use Rattle.sas_requests.specs.FileReasons.{FaultReasons, reported, past_limit, FileReasons, AreTaskReasons, ArePlanReasons, RefusalReasons, ReadReasons, TaskFileReasons, PlanFileReasons}
 pub use Rattle.sas_requests.specs.TraceOut.{EndsAsPlan, TraceOut}
 pub use Rattle.sas_requests.specs.Why.{is_reason, without_reasons, OutOfRead, OutWhy, WithReasons, IsSameAnswer, SameAnswer}
-pub use Rattle.sas_requests.specs.declared.detail.Detail.{Detail}
-pub use Rattle.sas_requests.specs.declared.detail.Detail.TheVariants.{Reasons, Trace}
+pub use Rattle.sas_requests.specs.Questions.{request_of, plan_detail_of, detail_of}
+pub use Rattle.sas_requests.specs.declared.question.Detail.{Detail}
+pub use Rattle.sas_requests.specs.declared.question.Detail.TheVariants.{Reasons}
+pub use Rattle.sas_requests.specs.declared.question.PlanDetail.{PlanDetail}
+pub use Rattle.sas_requests.specs.declared.tasks.ReadTask.{ReadTask}

@@ -1,6 +1,6 @@
 -- Why a file is refused: one set of lines, and always some; and behind which refusal they stand.
-use Rattle.sas_requests.proofs.Imports.{◌≡◌, ◌⊎◌, ℕ, List, [], codes, append-nil, refl, sym, ap, subst, inl, inr, Option, Some, None, Result, Ok, Err, option_map, none-some, Parts, PlanParts, Fault, Kind, Format, Laws, most_bytes, plan_format, plan_laws_hold, task_format, task_laws_hold, FileLine, Output, with_reasons, why_refusal, WhyCheckAnswer, WhyMutexAnswer, WhyVerdict, Request, Show, Print, ReadReasons, FileReasons, AreTaskReasons, ArePlanReasons, TaskFileReasons, PlanFileReasons, RefusalReasons, Detail, Reasons, Trace, reported_by, ReasonedBy, OutOfRead, Steps, Check, Plan, Mutex, refusal, IsAnswerOrRefusal, FileOut, TaskOut, UnlayeredAnswer, ShowAnswer, PrintAnswer, not_refused}
-use Rattle.sas_requests.specs.declared.detail.Detail.TheVariants.{Plain}
+use Rattle.sas_requests.proofs.Imports.{◌≡◌, ◌⊎◌, ℕ, List, [], codes, append-nil, refl, sym, ap, subst, inl, inr, Option, Some, None, Result, Ok, Err, option_map, none-some, Parts, PlanParts, Fault, Kind, Format, Laws, most_bytes, plan_format, plan_laws_hold, task_format, task_laws_hold, FileLine, Output, with_reasons, why_refusal, WhyCheckAnswer, WhyMutexAnswer, WhyVerdict, Request, Show, Print, ReadReasons, FileReasons, AreTaskReasons, ArePlanReasons, TaskFileReasons, PlanFileReasons, RefusalReasons, Detail, Reasons, reported_by, ReasonedBy, OutOfRead, Steps, Check, Plan, Mutex, refusal, IsAnswerOrRefusal, FileOut, TaskOut, UnlayeredAnswer, ShowAnswer, PrintAnswer, not_refused}
+use Rattle.sas_requests.specs.declared.question.Detail.TheVariants.{Plain}
 
 -- ---- an output with reasons behind
 
@@ -19,13 +19,11 @@ some_of reasons (Some plain) o e = (plain, refl, let same : o ≡ with_reasons r
 -- an output with such reasons behind it, at each detail
 pub reasoned_by : (detail : Detail) (IsOut : Option Output → Type 0) (AreReasons : List FileLine → Type 0) (q o : Option Output) (reasons : List FileLine) → IsOut q → AreReasons reasons → o ≡ reported_by detail reasons q → ReasonedBy detail IsOut AreReasons o
 reasoned_by Plain IsOut AreReasons q o reasons out why is = subst IsOut (sym is) out
-reasoned_by Trace IsOut AreReasons q o reasons out why is = subst IsOut (sym is) out
 reasoned_by Reasons IsOut AreReasons q o reasons out why is = record { of_read = q; reasons = reasons; is_out = out; are_reasons = why; whole = is }
 
 -- others that follow
 pub more_reasoned : (detail : Detail) (A B : Option Output → Type 0) (R S : List FileLine → Type 0) → ((o : Option Output) → A o → B o) → ((o : Option Output) (reasons : List FileLine) → A o → R reasons → S reasons) → (o : Option Output) → ReasonedBy detail A R o → ReasonedBy detail B S o
 more_reasoned Plain A B R S to behind o out = to o out
-more_reasoned Trace A B R S to behind o out = to o out
 more_reasoned Reasons A B R S to behind o out = record {
   of_read = out.of_read;
   reasons = out.reasons;
@@ -37,7 +35,6 @@ more_reasoned Reasons A B R S to behind o out = record {
 -- no reasons change nothing
 pub reported_alone : (detail : Detail) (o : Option Output) → o ≡ reported_by detail [] o
 reported_alone Plain o = refl
-reported_alone Trace o = refl
 reported_alone Reasons None = refl
 reported_alone Reasons (Some o) = ap Some (sym (no_reasons o))
 

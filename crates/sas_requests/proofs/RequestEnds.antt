@@ -1,19 +1,17 @@
 -- How the output of a request goes out.
-use Rattle.sas_requests.proofs.Imports.{◌≡◌, ℕ, false, true, List, [], codes, inl, inr, refl, sym, ap, subst, ◌∙◌, Option, Some, None, Result, Ok, Err, IsTrue, IfOk, IsSomeAnd, Appends, Parts, PlanParts, LayerFault, IsLayered, Device, ValueOf, ReadsAll, ReadsAs, most_bytes, known_answer, plan_format, task_format, Status, Yes, ToolFault, Output, EndsCounting, Answers, ends_by, answers_by, layers_verdict, LayeredGroupsAnswer, Consumes-nil, Detail, Reasons, Trace, CheckBy, MutexBy, VerdictBy, UnlayeredBy, layers_by, TaskBy, PlanBy, OutBy, EndsRequest, TaskFileReasons, PlanFileReasons, RefusalReasons, layered_answer, check_layered, check_refused, groups_refused, IsTraced, TraceVerdict, Request, Headline, Invariants, TaskOut, VerdictOut, PlanOutBy, PrintAnswer, AreInputs, reads_task, first_alone, second_alone, not_refused, EndsFile}
+use Rattle.sas_requests.proofs.Imports.{◌≡◌, ℕ, false, true, List, [], codes, inl, inr, refl, sym, ap, subst, ◌∙◌, Option, Some, None, Result, Ok, Err, IsTrue, IfOk, IsSomeAnd, Appends, Parts, PlanParts, LayerFault, IsLayered, Device, ValueOf, ReadsAll, ReadsAs, most_bytes, known_answer, plan_format, task_format, Status, Yes, ToolFault, Output, EndsCounting, Answers, ends_by, answers_by, layers_verdict, LayeredGroupsAnswer, Consumes-nil, Detail, Reasons, PlanDetail, detail_of, CheckBy, MutexBy, VerdictBy, UnlayeredBy, layers_by, TaskBy, PlanBy, OutBy, IfLayered, IfRefused, refused_by, EndsRequest, TaskFileReasons, PlanFileReasons, RefusalReasons, layered_answer, check_layered, check_refused, groups_refused, IsTraced, TraceVerdict, Request, Headline, Invariants, TaskOut, VerdictOut, PlanOutBy, PrintAnswer, AreInputs, reads_task, first_alone, second_alone, not_refused, EndsFile}
 use Rattle.sas_outputs.specs.declared.Request.TheVariants as request
-use Rattle.sas_requests.specs.declared.detail.Detail.TheVariants.{Plain}
+use Rattle.sas_requests.specs.declared.question.Detail.TheVariants.{Plain}
 use Rattle.sas_requests.proofs.RefusalReasons.{more_reasoned}
 
 -- ---- answers about a task
 
 pub check_yes : (detail : Detail) (p : Parts) → IsLayered p → CheckBy detail p (record { text = codes "task layered\n"; status = Yes })
 check_yes Plain p layered = layered_answer p layered
-check_yes Trace p layered = layered_answer p layered
 check_yes Reasons p layered = check_layered p _ layered refl
 
 pub check_no : (detail : Detail) (p : Parts) (o : Output) → UnlayeredBy detail p o → CheckBy detail p o
 check_no Plain p o (fault, first, is) = ap layers_verdict first ∙ is
-check_no Trace p o (fault, first, is) = ap layers_verdict first ∙ is
 check_no Reasons p o (fault, first, is) = check_refused p o fault is first
 
 -- of the groups of a task: of what holds of an output follows another
@@ -23,7 +21,6 @@ some_as A B to None holds = holds
 
 pub mutex_no : (detail : Detail) (p : Parts) (o : Output) → UnlayeredBy detail p o → MutexBy detail p o
 mutex_no Plain p o (fault, first, is) = subst (λ (f : Option LayerFault). LayeredGroupsAnswer p f o) (sym first) is
-mutex_no Trace p o (fault, first, is) = subst (λ (f : Option LayerFault). LayeredGroupsAnswer p f o) (sym first) is
 mutex_no Reasons p o (fault, first, is) = groups_refused p o fault is first
 
 -- about a plan, by its trace
@@ -31,22 +28,34 @@ pub trace_answers : (p : Parts) (plan : PlanParts) (o : Option Output) → IsTra
 trace_answers p plan (Some o) traced = traced
 trace_answers p plan None traced = traced
 
+-- ---- tasks that are refused
+
+-- what holds of the end of a refusal holds of reading the task
+pub refused_ends : (ended : Result Status ToolFault) (Holds : Result Status ToolFault → Type 0) → Holds ended → IfRefused (refused_by ended) Holds
+refused_ends (Ok status) Holds holds = holds
+refused_ends (Err fault) Holds holds = holds
+
+-- and no task was read
+pub refused_none : (ended : Result Status ToolFault) (Holds : Parts → Type 0) → IfLayered (refused_by ended) Holds
+refused_none (Ok status) Holds = tt
+refused_none (Err fault) Holds = tt
+
 -- ---- the output of `plan`
 
-module _ (detail : Detail) (b c : List ℕ) (o : Option Output) where
+module _ (detail : PlanDetail) (b c : List ℕ) (o : Option Output) where
   abbrev PlanOutput : Option Output → Type 0
-  PlanOutput = PlanOutBy (VerdictBy detail) (layers_by detail) b c
+  PlanOutput = PlanOutBy (VerdictBy detail) (layers_by (detail_of detail)) b c
 
   -- of a task that is refused
-  pub unlayered_by : TaskBy detail (UnlayeredBy detail) b o → OutBy detail request.Plan b c o
+  pub unlayered_by : TaskBy (detail_of detail) (UnlayeredBy (detail_of detail)) b o → OutBy detail request.Plan b c o
   unlayered_by =
-      more_reasoned detail (TaskOut (UnlayeredBy detail) b) PlanOutput (TaskFileReasons b) (RefusalReasons request.Plan b c)
-      (λ q out. inl out) (λ q reasons out why. inr (not_refused (layers_by detail) b q out, why)) o
+      more_reasoned (detail_of detail) (TaskOut (UnlayeredBy (detail_of detail)) b) PlanOutput (TaskFileReasons b) (RefusalReasons request.Plan b c)
+      (λ q out. inl out) (λ q reasons out why. inr (not_refused (layers_by (detail_of detail)) b q out, why)) o
 
   -- and of the plan of a layered one
-  pub judged_by : (p : Parts) → IsLayered p → ReadsAs task_format most_bytes b (Ok p) → PlanBy detail (VerdictBy detail p) c o → OutBy detail request.Plan b c o
+  pub judged_by : (p : Parts) → IsLayered p → ReadsAs task_format most_bytes b (Ok p) → PlanBy (detail_of detail) (VerdictBy detail p) c o → OutBy detail request.Plan b c o
   judged_by p layered reads =
-      more_reasoned detail (VerdictOut (VerdictBy detail) p c) PlanOutput (PlanFileReasons c) (RefusalReasons request.Plan b c)
+      more_reasoned (detail_of detail) (VerdictOut (VerdictBy detail) p c) PlanOutput (PlanFileReasons c) (RefusalReasons request.Plan b c)
       (λ q out. inr (p, reads, layered, out)) (λ q reasons out why. inl ((p, reads, layered), why)) o
 
 -- ---- how they go out
@@ -68,7 +77,7 @@ module _ {T P W : Type 0} (left_task : T → Option (List ℕ)) (left_plan : P �
         reads = one.reads;
       })
 
-module _ {T P W : Type 0} (left_task : T → Option (List ℕ)) (left_plan : P → Option (List ℕ)) (contents : W → Option (List ℕ)) (out_old out_new : Device W) (detail : Detail) where
+module _ {T P W : Type 0} (left_task : T → Option (List ℕ)) (left_plan : P → Option (List ℕ)) (contents : W → Option (List ℕ)) (out_old out_new : Device W) (detail : PlanDetail) where
   abbrev EndsAsked : Request → Device T → Device T → Device P → Device P → (List ℕ → Type 0) → Result Status ToolFault → Type 0
   EndsAsked asked = EndsRequest left_task left_plan (λ b c. EndsCounting (OutBy detail asked b c)) asked
 
@@ -87,9 +96,9 @@ module _ {T P W : Type 0} (left_task : T → Option (List ℕ)) (left_plan : P �
   })
 
   -- `steps`, which reads the plan alone
-  pub of_steps : (task : Device T) (old new : Device P) (r : Result Status ToolFault) → task.failed ≡ false → Answers contents (EndsFile left_plan (PlanBy detail (PrintAnswer plan_format)) old new) out_old out_new r → Answers contents (EndsAsked request.Steps task task old new) out_old out_new r
+  pub of_steps : (task : Device T) (old new : Device P) (r : Result Status ToolFault) → task.failed ≡ false → Answers contents (EndsFile left_plan (PlanBy (detail_of detail) (PrintAnswer plan_format)) old new) out_old out_new r → Answers contents (EndsAsked request.Steps task task old new) out_old out_new r
   of_steps task old new r working =
-      let Answer = PlanBy detail (PrintAnswer plan_format) in
+      let Answer = PlanBy (detail_of detail) (PrintAnswer plan_format) in
       let alone = second_alone task.failed new.failed (λ t. let apart : true ≡ false = sym t ∙ working in cc) in
       answers_by contents out_old out_new r (EndsFile left_plan Answer old new) (EndsAsked request.Steps task task old new) (λ Sent one. record {
         output = λ b c inputs. ends_by Sent (Answer c) (OutBy detail request.Steps b c) r (λ o out. out) (one.output c (inputs.1 refl));
@@ -104,9 +113,9 @@ module _ {T P W : Type 0} (left_task : T → Option (List ℕ)) (left_plan : P �
 
   -- `plan` of a layered task, which reads both
   pub of_both : (p : Parts) (old new : Device T) → ReadsAll left_task task_format (ValueOf task_format) old new (Ok p) → IsLayered p
-      → (plan_old plan_new : Device P) (r : Result Status ToolFault) → Answers contents (EndsFile left_plan (PlanBy detail (VerdictBy detail p)) plan_old plan_new) out_old out_new r → Answers contents (EndsAsked request.Plan old new plan_old plan_new) out_old out_new r
+      → (plan_old plan_new : Device P) (r : Result Status ToolFault) → Answers contents (EndsFile left_plan (PlanBy (detail_of detail) (VerdictBy detail p)) plan_old plan_new) out_old out_new r → Answers contents (EndsAsked request.Plan old new plan_old plan_new) out_old out_new r
   of_both p old new read layered plan_old plan_new r =
-      let Answer = PlanBy detail (VerdictBy detail p) in
+      let Answer = PlanBy (detail_of detail) (VerdictBy detail p) in
       let alone = second_alone new.failed plan_new.failed (λ t. read.note.1 t) in
       answers_by contents out_old out_new r (EndsFile left_plan Answer plan_old plan_new) (EndsAsked request.Plan old new plan_old plan_new) (λ Sent one. record {
         output = λ b c inputs.

@@ -1,5 +1,5 @@
 -- What the private steps of a run promise.
-use Rattle.std.specs.Prelude.{ℕ, List, codes, Option, option_map}
+use Rattle.std.specs.Prelude.{ℕ, List, codes, ⊤, Option, option_map, Result, Ok, Err}
 use Rattle.sas_core.specs.declared.parts.Parts.{Parts}
 use Rattle.sas_core.specs.PlanParts.{PlanParts}
 use Rattle.sas_meaning.specs.declared.layered.LayerFault.{LayerFault}
@@ -13,6 +13,8 @@ use Rattle.sas_task_format.specs.TaskFormat.{task_format}
 use Rattle.sas_task_reader.specs.declared.task_refusal.TaskRefusal.{TaskRefusal}
 use Rattle.sas_outputs.specs.FileLine.{FileLine}
 use Rattle.sas_outputs.specs.FileReasons.{task_reasons, plan_reasons, file_text}
+use Rattle.sas_output.specs.declared.ending.Status.{Status}
+use Rattle.sas_output.specs.declared.ending.ToolFault.{ToolFault}
 use Rattle.sas_output.specs.Ending.{Output}
 use Rattle.sas_answers.specs.Answers.{CheckAnswer, MutexAnswer, VerdictAnswer}
 use Rattle.sas_task_reasons.specs.WhyLayers.{with_reasons, why_refusal, WhyCheckAnswer, WhyMutexAnswer}
@@ -20,8 +22,14 @@ use Rattle.sas_trace.specs.Traced.{TraceVerdict}
 use Rattle.sas_why.specs.Verdict.{WhyVerdict}
 use Rattle.sas_outputs.specs.declared.Request.{Request}
 use Rattle.sas_outputs.specs.Output.{FileOut, OutOf, UnlayeredAnswer, refusal, plain_refusal}
-use Rattle.sas_requests.specs.declared.detail.Detail.{Detail}
-use Rattle.sas_requests.specs.declared.detail.Detail.TheVariants.{Plain, Reasons, Trace}
+use Rattle.sas_requests.specs.declared.question.Detail.{Detail}
+use Rattle.sas_requests.specs.declared.question.Detail.TheVariants.{Reasons}
+use Rattle.sas_requests.specs.declared.question.PlanDetail.{PlanDetail}
+use Rattle.sas_requests.specs.declared.question.PlanDetail.TheVariants as plan_detail
+use Rattle.sas_requests.specs.declared.question.Question.{Question}
+use Rattle.sas_requests.specs.declared.tasks.ReadTask.{ReadTask}
+use Rattle.sas_requests.specs.declared.tasks.ReadTask.TheVariants.{Layered, Refused}
+use Rattle.sas_requests.specs.Questions.{detail_of, plan_detail_of, request_of}
 use Rattle.sas_requests.specs.FileReasons.{FileReasons, AreTaskReasons, ArePlanReasons, RefusalReasons}
 use Rattle.sas_requests.specs.Why.{WithReasons}
 
@@ -38,10 +46,10 @@ MutexBy Reasons = WhyMutexAnswer
 MutexBy detail = MutexAnswer
 
 -- about a plan
-abbrev pub VerdictBy : Detail → Parts → PlanParts → Output → Type 0
-VerdictBy Plain = VerdictAnswer
-VerdictBy Reasons = WhyVerdict
-VerdictBy Trace = TraceVerdict
+abbrev pub VerdictBy : PlanDetail → Parts → PlanParts → Output → Type 0
+VerdictBy plan_detail.Plain = VerdictAnswer
+VerdictBy plan_detail.Reasons = WhyVerdict
+VerdictBy plan_detail.Trace = TraceVerdict
 
 -- the refusal of a task for a fault of its layers
 abbrev pub layers_by : Detail → Parts → LayerFault → Option Output
@@ -91,7 +99,30 @@ abbrev pub PlanBy : Detail → (PlanParts → Output → Type 0) → List ℕ �
 PlanBy = FileBy plan_format ArePlanReasons (codes "plan")
 
 -- of a request
-abbrev pub OutBy : Detail → Request → List ℕ → List ℕ → Option Output → Type 0
-OutBy detail request b c = ReasonedBy detail
-    (OutOf (CheckBy detail) (MutexBy detail) (VerdictBy detail) (layers_by detail) request b c)
+abbrev pub OutBy : PlanDetail → Request → List ℕ → List ℕ → Option Output → Type 0
+OutBy detail request b c = let tasks = detail_of detail in ReasonedBy tasks
+    (OutOf (CheckBy tasks) (MutexBy tasks) (VerdictBy detail) (layers_by tasks) request b c)
     (RefusalReasons request b c)
+
+-- of a question
+abbrev pub QuestionOut : Question → List ℕ → List ℕ → Option Output → Type 0
+QuestionOut question = OutBy (plan_detail_of question) (request_of question)
+
+-- ---- tasks that are read
+
+-- what holds of the task if it is layered
+abbrev pub IfLayered : Result ReadTask ToolFault → (Parts → Type 0) → Type 0
+IfLayered (Ok (Layered p)) Holds = Holds p
+IfLayered (Ok (Refused status)) Holds = ⊤
+IfLayered (Err fault) Holds = ⊤
+
+-- what holds of how the run ends if there is none
+abbrev pub IfRefused : Result ReadTask ToolFault → (Result Status ToolFault → Type 0) → Type 0
+IfRefused (Ok (Layered p)) Holds = ⊤
+IfRefused (Ok (Refused status)) Holds = Holds (Ok status)
+IfRefused (Err fault) Holds = Holds (Err fault)
+
+-- a run that ended so has refused the task
+abbrev pub refused_by : Result Status ToolFault → Result ReadTask ToolFault
+refused_by (Ok status) = Ok (Refused status)
+refused_by (Err fault) = Err fault

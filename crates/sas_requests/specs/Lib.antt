@@ -10,6 +10,7 @@ pub use Rattle.sas_outputs.specs.Headline
 pub use Rattle.sas_trace.specs.Trace
 pub use Rattle.sas_trace.specs.Traced
 pub mod FileReasons
+pub mod Questions
 pub mod Why
 pub mod TraceOut
 pub mod EndsRequest

@@ -6,13 +6,14 @@ ghost use Rattle.sas_outputs.specs.Output.{PrintAnswer, ShowAnswer};
 ghost use Rattle.sas_plan_file.specs.PlanFormat.{plan_format};
 ghost use Rattle.sas_task_format.specs.TaskFormat.{task_format};
 ghost use Rattle.sas_outputs.specs.EndsFile.{EndsFile};
-ghost use Rattle.sas_requests.specs.Answering.{CheckBy, MutexBy, OutBy, PlanBy, TaskBy};
+ghost use Rattle.sas_requests.specs.Answering.{CheckBy, MutexBy, PlanBy, QuestionOut, TaskBy};
 ghost use Rattle.sas_requests.specs.EndsRequest.{EndsRequest};
+ghost use Rattle.sas_requests.specs.Questions.{request_of};
 
-use crate::detail::{Asked, Detail};
 use crate::plans::judge_files;
-use crate::refusals::{refuse_plan, refuse_task};
-use crate::tasks::read_layered;
+use crate::question::{Detail, Question};
+use crate::refusals::{write_plan_refusal, write_task_refusal};
+use crate::tasks::{ReadTask, read_layered};
 use crate::{Request, Status, ToolFault};
 use sas_answers::accept_layers;
 use sas_flat::FlatTask;
@@ -26,10 +27,10 @@ use sas_task_reasons::write_groups;
 use std::alloc::Global;
 use std::io::{Read, Write};
 
-/// Answers the request about the inputs, as `run`, `explain` or `trace` does.
+/// Answers the question about the inputs, as `run`, `explain` or `trace` does.
 pub fn answer<T: Read, P: Read, W: Write>(
     alloc: Global,
-    asked: Asked,
+    question: Question,
     task: &mut Watched<T>,
     plan: &mut Watched<P>,
     out: &mut Watched<W>,
@@ -39,17 +40,18 @@ pub fn answer<T: Read, P: Read, W: Write>(
     requires out { out.old.failed ≡ false }
     ensures { Answers W.contents
         (EndsRequest T.remaining P.remaining
-        (λ b c. EndsCounting (OutBy asked.detail asked.request b c))
-        asked.request task.old task.new plan.old plan.new)
+        (λ b c. EndsCounting (QuestionOut question b c))
+        (request_of question) task.old task.new plan.old plan.new)
         out.old out.new result }
 {
-    let detail = asked.detail;
-    match asked.request {
+    let plan_detail = question.plan_detail();
+    let detail = plan_detail.detail();
+    match question.request() {
         Request::Show => show(alloc, detail, task, out),
         Request::Print => print(alloc, detail, task, out),
         Request::Steps => steps(alloc, detail, plan, out),
         Request::Check => check(alloc, detail, task, out),
-        Request::Plan => judge_files(alloc, detail, task, plan, out),
+        Request::Plan => judge_files(alloc, plan_detail, task, plan, out),
         Request::Mutex => mutex(alloc, detail, task, out),
     }
 }
@@ -73,7 +75,7 @@ fn show<R: Read, W: Write>(
             drop(outline);
             ended
         }
-        Err(refusal) => refuse_task(alloc, detail, refusal, out),
+        Err(refusal) => write_task_refusal(alloc, detail, refusal, out),
     }
 }
 
@@ -95,7 +97,7 @@ fn print<R: Read, W: Write>(
             let status = Status::Yes;
             Answer { text, status }.write(out)
         }
-        Err(refusal) => refuse_task(alloc, detail, refusal, out),
+        Err(refusal) => write_task_refusal(alloc, detail, refusal, out),
     }
 }
 
@@ -117,7 +119,7 @@ fn steps<R: Read, W: Write>(
             let status = Status::Yes;
             Answer { text, status }.write(out)
         }
-        Err(refusal) => refuse_plan(alloc, detail, refusal, out),
+        Err(refusal) => write_plan_refusal(alloc, detail, refusal, out),
     }
 }
 
@@ -134,12 +136,12 @@ fn check<R: Read, W: Write>(
         (EndsFile R.remaining (TaskBy detail (CheckBy detail)) task.old task.new)
         out.old out.new result }
 {
-    match read_layered(alloc, detail, task, out) {
-        Ok(layered) => {
+    match read_layered(alloc, detail, task, out)? {
+        ReadTask::Layered(layered) => {
             drop(layered);
             accept_layers(alloc)?.write(out)
         }
-        Err(ended) => ended,
+        ReadTask::Refused(status) => Ok(status),
     }
 }
 
@@ -156,13 +158,13 @@ fn mutex<R: Read, W: Write>(
         (EndsFile R.remaining (TaskBy detail (MutexBy detail)) task.old task.new)
         out.old out.new result }
 {
-    match read_layered(alloc, detail, task, out) {
-        Ok(layered) => {
+    match read_layered(alloc, detail, task, out)? {
+        ReadTask::Layered(layered) => {
             let ended = answer_groups(alloc, detail, &layered, out);
             drop(layered);
             ended
         }
-        Err(ended) => ended,
+        ReadTask::Refused(status) => Ok(status),
     }
 }
 
@@ -180,7 +182,7 @@ fn answer_groups<W: Write>(
         out.old out.new result }
 {
     match detail {
-        Detail::Plain | Detail::Trace => write_groups(alloc, false, layered, out),
+        Detail::Plain => write_groups(alloc, false, layered, out),
         Detail::Reasons => write_groups(alloc, true, layered, out),
     }
 }

@@ -2,9 +2,9 @@
 #![tactic(auto)]
 
 mod answers;
-mod detail;
 mod laws;
 mod plans;
+mod question;
 mod refusals;
 mod tasks;
 
@@ -18,15 +18,15 @@ ghost use Rattle.sas_requests.specs.TraceOut.{TraceOut};
 ghost use Rattle.sas_output.specs.Ending.{Answers, Ends, EndsCounting};
 
 pub use answers::answer;
-pub use detail::{Asked, Detail};
 pub use laws::{explain_laws, run_laws, trace_output_laws};
 pub use plans::answer_bytes;
+pub use question::{Detail, PlanDetail, Question};
 use sas_lines::Watched;
 pub use sas_output::{Status, ToolFault};
 pub use sas_outputs::{Request, refuse_file};
 use std::alloc::Global;
 use std::io::{Read, Write};
-pub use tasks::read_layered;
+pub use tasks::{ReadTask, read_layered};
 
 /// Answers the request about the inputs. `Show`, `Print`, `Check` and `Mutex` read the task alone, and `Steps` the
 /// plan; `Plan` reads the task, and then the plan if the task is layered. Nothing is written before the answer is
@@ -63,8 +63,7 @@ pub fn run<T: Read, P: Read, W: Write>(
         → T.remaining task.old.device ≡ Some b → W.contents out.old.device ≡ Some before
         → Invariants b (Appends (W.contents out.old.device) (W.contents out.new.device))) }
 {
-    let detail = Detail::Plain;
-    answer(alloc, Asked { request, detail }, task, plan, out)
+    answer(alloc, Question::Answer(request), task, plan, out)
 }
 
 /// Answers the request about the inputs as `run` does, with the reasons for a no. Lines that begin with two spaces follow the line
@@ -105,8 +104,7 @@ pub fn explain<T: Read, P: Read, W: Write>(
         → T.remaining task.old.device ≡ Some b → W.contents out.old.device ≡ Some before
         → Invariants b (Appends (W.contents out.old.device) (W.contents out.new.device))) }
 {
-    let detail = Detail::Reasons;
-    answer(alloc, Asked { request, detail }, task, plan, out)
+    answer(alloc, Question::Explanation(request), task, plan, out)
 }
 
 /// Traces the plan: answers as `plan` does, and if the plan is judged, first writes what its steps do, up to the first that doesn't
@@ -132,6 +130,5 @@ pub fn trace<T: Read, P: Read, W: Write>(
         Request.Plan task.old task.new plan.old plan.new)
         out.old out.new result }
 {
-    let (request, detail) = (Request::Plan, Detail::Trace);
-    answer(alloc, Asked { request, detail }, task, plan, out)
+    answer(alloc, Question::Trace, task, plan, out)
 }

@@ -4,10 +4,11 @@ ghost use Rattle.sas_output.specs.Ending.{Answers, EndsCounting, Writes};
 ghost use Rattle.sas_outputs.specs.EndsFile.{EndsFile};
 ghost use Rattle.sas_requests.specs.Answering.{OutBy, PlanBy, VerdictBy};
 ghost use Rattle.sas_requests.specs.EndsRequest.{EndsRequest};
+ghost use Rattle.sas_requests.specs.Questions.{detail_of};
 
-use crate::detail::Detail;
-use crate::refusals::refuse_plan;
-use crate::tasks::read_layered;
+use crate::question::PlanDetail;
+use crate::refusals::write_plan_refusal;
+use crate::tasks::{ReadTask, read_layered};
 use crate::{Request, Status, ToolFault};
 use sas_answers::verdict_answer;
 use sas_flat::{FlatPlan, FlatTask};
@@ -22,7 +23,7 @@ use std::io::{Read, Write};
 /// Answers whether the plan solves the task. The plan is read only where the task is layered.
 pub fn judge_files<T: Read, P: Read, W: Write>(
     alloc: Global,
-    detail: Detail,
+    detail: PlanDetail,
     task: &mut Watched<T>,
     plan: &mut Watched<P>,
     out: &mut Watched<W>,
@@ -35,13 +36,13 @@ pub fn judge_files<T: Read, P: Read, W: Write>(
         Request.Plan task.old task.new plan.old plan.new)
         out.old out.new result }
 {
-    match read_layered(alloc, detail, task, out) {
-        Ok(layered) => {
+    match read_layered(alloc, detail.detail(), task, out)? {
+        ReadTask::Layered(layered) => {
             let ended = judge_plan_file(alloc, detail, &layered, plan, out);
             drop(layered);
             ended
         }
-        Err(ended) => ended,
+        ReadTask::Refused(status) => Ok(status),
     }
 }
 
@@ -49,14 +50,14 @@ pub fn judge_files<T: Read, P: Read, W: Write>(
 /// written; at any other fault nothing was. Not to be called after a failure.
 pub fn answer_bytes<W: Write>(
     alloc: Global,
-    detail: Detail,
+    detail: PlanDetail,
     layered: &Layered<FlatTask>,
     plan: &[u8],
     out: &mut Watched<W>,
 ) -> Result<Status, ToolFault>
     requires { out.old.failed ≡ false }
     ensures { Answers W.contents
-        (EndsCounting (PlanBy detail (VerdictBy detail layered.now) plan.now))
+        (EndsCounting (PlanBy (detail_of detail) (VerdictBy detail layered.now) plan.now))
         out.old out.new result }
 {
     let mut device = Watched::new(plan);
@@ -68,7 +69,7 @@ pub fn answer_bytes<W: Write>(
 #[inline(never)]
 fn judge_plan_file<P: Read, W: Write>(
     alloc: Global,
-    detail: Detail,
+    detail: PlanDetail,
     layered: &Layered<FlatTask>,
     plan: &mut Watched<P>,
     out: &mut Watched<W>,
@@ -76,7 +77,7 @@ fn judge_plan_file<P: Read, W: Write>(
     requires plan { plan.old.failed ≡ false }
     requires out { out.old.failed ≡ false }
     ensures { Answers W.contents
-        (EndsFile P.remaining (PlanBy detail (VerdictBy detail layered.now)) plan.old plan.new)
+        (EndsFile P.remaining (PlanBy (detail_of detail) (VerdictBy detail layered.now)) plan.old plan.new)
         out.old out.new result }
 {
     match read_flat_plan(alloc, plan) {
@@ -85,14 +86,14 @@ fn judge_plan_file<P: Read, W: Write>(
             drop(read);
             ended
         }
-        Err(refusal) => refuse_plan(alloc, detail, refusal, out),
+        Err(refusal) => write_plan_refusal(alloc, detail.detail(), refusal, out),
     }
 }
 
 /// Answers whether the plan, which was read, solves a layered task.
 fn answer_plan<W: Write>(
     alloc: Global,
-    detail: Detail,
+    detail: PlanDetail,
     layered: &Layered<FlatTask>,
     plan: &FlatPlan,
     out: &mut Watched<W>,
@@ -103,8 +104,8 @@ fn answer_plan<W: Write>(
         out.old out.new result }
 {
     match detail {
-        Detail::Plain => verdict_answer(alloc, layered, plan)?.write(out),
-        Detail::Reasons => write_explained(alloc, layered, plan, out),
-        Detail::Trace => write_trace(alloc, layered, plan, out),
+        PlanDetail::Plain => verdict_answer(alloc, layered, plan)?.write(out),
+        PlanDetail::Reasons => write_explained(alloc, layered, plan, out),
+        PlanDetail::Trace => write_trace(alloc, layered, plan, out),
     }
 }

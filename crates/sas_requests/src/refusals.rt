@@ -3,7 +3,7 @@ ghost use Rattle.std.specs.Prelude.{◌≡◌, ◌↔◌, codes, false, IsErrOf}
 ghost use Rattle.sas_output.specs.Ending.{Answers, Ends};
 ghost use Rattle.sas_requests.specs.Answering.{plan_refusal_lines, refusal_by, task_refusal_lines};
 
-use crate::detail::Detail;
+use crate::question::Detail;
 use crate::{Status, ToolFault};
 use sas_lines::Watched;
 use sas_outputs::{push_plan_reasons, push_task_reasons, refuse_file};
@@ -14,7 +14,7 @@ use std::alloc::Global;
 use std::io::Write;
 
 /// Writes the refusal of a task for its fault, or returns why the run ends at it.
-pub fn refuse_task<W: Write>(
+pub fn write_task_refusal<W: Write>(
     alloc: Global,
     detail: Detail,
     refused: TaskRefusal,
@@ -35,7 +35,7 @@ pub fn refuse_task<W: Write>(
     } = refused;
     let mut answer = refuse_file(alloc, "task", fault)?;
     match detail {
-        Detail::Plain | Detail::Trace => answer.write(out),
+        Detail::Plain => answer.write(out),
         Detail::Reasons => {
             push_task_reasons(&mut answer.text, fault.kind, mark, word, &found)?;
             answer.write(out)
@@ -44,7 +44,7 @@ pub fn refuse_task<W: Write>(
 }
 
 /// Writes the refusal of a plan for its fault, or returns why the run ends at it.
-pub fn refuse_plan<W: Write>(
+pub fn write_plan_refusal<W: Write>(
     alloc: Global,
     detail: Detail,
     refused: PlanRefusal,
@@ -60,7 +60,7 @@ pub fn refuse_plan<W: Write>(
     let PlanRefusal { fault, found } = refused;
     let mut answer = refuse_file(alloc, "plan", fault)?;
     match detail {
-        Detail::Plain | Detail::Trace => answer.write(out),
+        Detail::Plain => answer.write(out),
         Detail::Reasons => {
             push_plan_reasons(&mut answer.text, fault.kind, &found)?;
             answer.write(out)

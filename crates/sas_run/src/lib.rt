@@ -3,8 +3,8 @@
 
 mod deletions;
 mod execution;
-mod held;
 mod laws;
+mod loaded_task;
 mod plain_steps;
 mod plan_check;
 mod progress;
@@ -13,8 +13,8 @@ mod stepper;
 mod steps;
 
 pub use execution::Execution;
-pub use held::Held;
 pub use laws::verdict_laws;
+pub use loaded_task::LoadedTask;
 pub use plan_check::{PlanFault, Valid, check_once};
 pub use runner::{Choice, Runner};
 pub use steps::StepFault;

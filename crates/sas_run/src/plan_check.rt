@@ -9,6 +9,7 @@ ghost use Rattle.sas_run.specs.Running.{IsSolution, IsFaultOrMemory, MakesStep, 
 ghost use Rattle.sas_run.specs.Runs.{IsEnding};
 ghost use Rattle.sas_run.specs.Stepping.{Follows, IsPrepared};
 
+use crate::loaded_task::LoadedTask;
 use crate::progress::{Progress, judge_last};
 use crate::runner::{Runner, first_applicable};
 use crate::stepper::{Stepper, go_on_from, stepper_for};
@@ -63,28 +64,33 @@ impl<'a, E: Settle<T> + Drop, T: Grounded> Runner<'a, E, T> {
             task: self.layered,
             names: &self.names,
         };
-        check_named(alloc, &named, &mut self.stepper, plan)
+        let firsts = first_operators(alloc, &named, plan)?;
+        let found = Found {
+            firsts: firsts.as_slice(),
+            nexts: self.names.next(),
+        };
+        check_found(alloc, self.layered, &mut self.stepper, plan, found)
     }
 }
 
-/// Checks whether the plan is valid, like `Runner::check_plan`, with the given names of the task's operators.
-pub fn check_named<E: Settle<T> + Drop, T: Grounded, P: Stepwise>(
-    alloc: Global,
-    named: &NamedTask<'_, Layered<T>>,
-    stepper: &mut Stepper<E>,
-    plan: &P,
-) -> Result<Valid, PlanFault>
-    requires { IsPrepared E.ready named.now stepper.old }
-    ensures prepared { IsPrepared E.ready named.now stepper.new }
-    ensures valid { IfOk result (IsSolution named.now (P.says plan.now)) }
-    ensures fault { IfErr result (IsFaultOrMemory named.now (P.says plan.now)) }
-{
-    let firsts = first_operators(alloc, named, plan)?;
-    let found = Found {
-        firsts: firsts.as_slice(),
-        nexts: named.names.next(),
-    };
-    check_found(alloc, named.task, stepper, plan, found)
+impl<E: Settle<T> + Drop, T: Grounded + Drop> LoadedTask<E, T> {
+    /// Checks whether the plan is valid, like `Runner::check_plan`.
+    pub fn check_plan<P: Stepwise>(&mut self, alloc: Global, plan: &P) -> Result<Valid, PlanFault>
+        ensures valid { IfOk result (IsSolution self.old (P.says plan.now)) }
+        ensures fault { IfErr result (IsFaultOrMemory self.old (P.says plan.now)) }
+        ensures same { self.new ≡ self.old }
+    {
+        let named = NamedTask {
+            task: &self.layered,
+            names: &self.names,
+        };
+        let firsts = first_operators(alloc, &named, plan)?;
+        let found = Found {
+            firsts: firsts.as_slice(),
+            nexts: self.names.next(),
+        };
+        check_found(alloc, &self.layered, &mut self.stepper, plan, found)
+    }
 }
 
 /// Checks whether the plan is valid, like `Runner::check_plan`. The evaluator must be ready for the task. Use it to check a single plan: it
@@ -108,7 +114,7 @@ pub fn check_once<E: Settle<T> + Drop, T: Grounded, P: Stepwise>(
 
 /// Checks whether the plan is valid, like `Runner::check_plan`. `found` has the operators of the steps' names.
 #[tactic(auto, using(crate::proofs::Endings::ends_valid, crate::proofs::Endings::ends_faulty))]
-pub fn check_found<E: Settle<T> + Drop, T: Grounded, P: Stepwise>(
+fn check_found<E: Settle<T> + Drop, T: Grounded, P: Stepwise>(
     alloc: Global,
     layered: &Layered<T>,
     stepper: &mut Stepper<E>,
@@ -156,7 +162,7 @@ pub fn find_fault<E: Settle<T> + Drop, T: Grounded, P: Stepwise>(
     ensures room { vec_capacity progress.old.operators ≤ vec_capacity progress.new.operators }
 {
     for before in 0..found.firsts.len() {
-        match go_on(layered, stepper, found, before, &mut progress.state) {
+        match make_plan_step(layered, stepper, found, before, &mut progress.state) {
             Ok(operator) => progress.operators.push(operator).unwrap(),
             Err(fault) => return Some(fault),
         }
@@ -173,7 +179,7 @@ pub fn find_fault<E: Settle<T> + Drop, T: Grounded, P: Stepwise>(
 /// evaluator settled last. Returns the operator.
 #[tactic(auto, using(crate::proofs::NextStates::fault_is_conflict))]
 #[inline(always)]
-fn go_on<E: Settle<T> + Drop, T: Grounded>(
+fn make_plan_step<E: Settle<T> + Drop, T: Grounded>(
     layered: &Layered<T>,
     stepper: &mut Stepper<E>,
     found: Found<'_>,

@@ -3,8 +3,8 @@ use Rattle.std.specs.Prelude.{◌≡◌, ◌≢◌, ◌⊎◌, ℕ, List, codes,
 use Rattle.std.specs.String.{string_bytes}
 use Rattle.sas_outputs.specs.declared.Request.{Request}
 use Rattle.sas_outputs.specs.declared.Request.TheVariants as request
-use Rattle.sas_tool.specs.declared.arguments.Asked.{Asked}
-use Rattle.sas_tool.specs.declared.arguments.Asked.TheVariants.{Answer, Explanation, Trace}
+use Rattle.sas_requests.specs.declared.question.Question.{Question}
+use Rattle.sas_requests.specs.declared.question.Question.TheVariants.{Answer, Explanation, Trace}
 use Rattle.sas_tool.specs.declared.arguments.Job.{Job}
 use Rattle.sas_tool.specs.declared.arguments.Job.TheVariants.{Files, Plans}
 use Rattle.sas_tool.specs.declared.arguments.Source.{Source}
@@ -20,14 +20,14 @@ request_name request.Check = codes "check"
 request_name request.Print = codes "print"
 request_name request.Steps = codes "steps"
 
-abbrev pub asked_name : Asked → List ℕ
-asked_name (Answer r) = request_name r
-asked_name (Explanation r) = request_name r
-asked_name Trace = codes "trace"
+abbrev pub question_name : Question → List ℕ
+question_name (Answer r) = request_name r
+question_name (Explanation r) = request_name r
+question_name Trace = codes "trace"
 
 -- the name of what a job requests
 abbrev pub name_of : Job → List ℕ
-name_of (Files asked task plan) = asked_name asked
+name_of (Files question task plan) = question_name question
 name_of (Plans task labels) = codes "plans"
 
 -- the job requests what has this name; all other names are those of `steps`
@@ -36,7 +36,7 @@ IsNamed name job = (name_of job ≡ name) ⊎ (name_of job ≡ codes "steps")
 
 -- the job is over plans with these labels, in order
 abbrev pub HasLabels : List (List ℕ) → Job → Type 0
-HasLabels words (Files asked task plan) = ⊥
+HasLabels words (Files question task plan) = ⊥
 HasLabels words (Plans task labels) = bytes_of_labels labels.items ≡ words
 
 -- the word `-` names standard input, any other word a file, and no word nothing
@@ -47,5 +47,5 @@ IsSource word (Some (File name)) = (word ≡ Some (string_bytes name)) × (strin
 
 -- a task and a plan aren't both standard input
 abbrev pub NamesInputOnce : Job → Type 0
-NamesInputOnce (Files asked task plan) = task ≡ Some Input → plan ≡ Some Input → ⊥
+NamesInputOnce (Files question task plan) = task ≡ Some Input → plan ≡ Some Input → ⊥
 NamesInputOnce (Plans task labels) = ⊤

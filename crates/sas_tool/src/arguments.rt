@@ -2,11 +2,11 @@
 ghost use Rattle.std.specs.Prelude.{◌≡◌, [], codes, IfOk};
 ghost use Rattle.std.specs.Option.{option_map_or};
 ghost use Rattle.clap.specs.Words.{first_value, found_of, matched_of, raw_values};
-ghost use Rattle.sas_tool.specs.Jobs.{IsNamed, NamesInputOnce, asked_name, name_of, request_name};
+ghost use Rattle.sas_tool.specs.Jobs.{IsNamed, NamesInputOnce, name_of, question_name, request_name};
 ghost use Rattle.sas_tool.specs.Jobs.{HasLabels, IsSource};
 ghost use Rattle.sas_tool.specs.Labels.{bytes_of_labels};
 
-use crate::Request;
+use crate::{Question, Request};
 use clap::error::ErrorKind;
 use clap::{Arg, ArgAction, ArgMatches, Command, Error};
 use std::alloc::{AllocError, Global};
@@ -33,23 +33,12 @@ pub enum Source {
     File(String),
 }
 
-/// What is requested of a task, a plan or both.
-#[derive(Clone, Copy, Debug, PartialEq, Eq)]
-pub enum Asked {
-    /// The answer to a request.
-    Answer(Request),
-    /// The answer to a request, with the reasons for a no.
-    Explanation(Request),
-    /// The trace of a plan.
-    Trace,
-}
-
 /// What the arguments request.
 #[derive(PartialEq, Eq, Drop)]
 pub enum Job {
-    /// Something about a task, a plan or both. An input that isn't read has no source.
+    /// A question about a task, a plan or both. An input that isn't read has no source.
     Files {
-        asked: Asked,
+        question: Question,
         task: Option<Source>,
         plan: Option<Source>,
     },
@@ -264,7 +253,7 @@ fn job_of(alloc: Global, matches: &ArgMatches<'_>) -> Result<Job, AllocError> {
     match matches.subcommand() {
         Some((name, inner)) => job_named(alloc, name, inner),
         None => Ok(Job::Files {
-            asked: Asked::Answer(Request::Steps),
+            question: Question::Answer(Request::Steps),
             task: None,
             plan: Some(Source::Input),
         }),
@@ -278,7 +267,7 @@ fn job_named(alloc: Global, name: &str, matches: &ArgMatches<'_>) -> Result<Job,
     match name {
         "plan" => job_over_files(alloc, by_flag(Request::Plan, matches), matches),
         "plans" => job_over_many(alloc, matches),
-        "trace" => job_over_files(alloc, Asked::Trace, matches),
+        "trace" => job_over_files(alloc, Question::Trace, matches),
         "mutex" => job_over_files(alloc, by_flag(Request::Mutex, matches), matches),
         "show" => job_over_files(alloc, by_flag(Request::Show, matches), matches),
         "check" => job_over_files(alloc, by_flag(Request::Check, matches), matches),
@@ -287,24 +276,32 @@ fn job_named(alloc: Global, name: &str, matches: &ArgMatches<'_>) -> Result<Job,
     }
 }
 
-/// Returns the request with or without reasons, by its flag.
-fn by_flag(request: Request, matches: &ArgMatches<'_>) -> Asked
-    ensures { asked_name result ≡ request_name request }
+/// Returns the question for the answer to the request, with or without reasons, by its flag.
+fn by_flag(request: Request, matches: &ArgMatches<'_>) -> Question
+    ensures { question_name result ≡ request_name request }
 {
     if matches.get_flag(WHY) {
-        Asked::Explanation(request)
+        Question::Explanation(request)
     } else {
-        Asked::Answer(request)
+        Question::Answer(request)
     }
 }
 
 /// Returns the job over a task, a plan or both: over those that the arguments name.
-fn job_over_files(alloc: Global, asked: Asked, matches: &ArgMatches<'_>) -> Result<Job, AllocError>
-    ensures { IfOk result (λ job. name_of job ≡ asked_name asked) }
+fn job_over_files(
+    alloc: Global,
+    question: Question,
+    matches: &ArgMatches<'_>,
+) -> Result<Job, AllocError>
+    ensures { IfOk result (λ job. name_of job ≡ question_name question) }
 {
     let task = named(alloc, matches, "TASK")?;
     let plan = named(alloc, matches, "PLAN")?;
-    Ok(Job::Files { asked, task, plan })
+    Ok(Job::Files {
+        question,
+        task,
+        plan,
+    })
 }
 
 /// Returns the job over a task and many plans.

@@ -10,10 +10,11 @@ mod until_end;
 pub use program::start;
 // For tests: what words request, and how the program ends.
 #[doc(hidden)]
-pub use arguments::{Asked, Job, Source, WordsFault, command};
+pub use arguments::{Job, Source, WordsFault, command};
 #[doc(hidden)]
 pub use program::ending;
 pub use sas_plans::{InputFault, JudgeFault, PlanInputs, judge, judge_laws};
 pub use sas_requests::{
-    Request, Status, ToolFault, explain, explain_laws, run, run_laws, trace, trace_output_laws,
+    Question, Request, Status, ToolFault, explain, explain_laws, run, run_laws, trace,
+    trace_output_laws,
 };

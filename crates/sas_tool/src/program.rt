@@ -5,11 +5,11 @@ ghost use Rattle.std.specs.String.{string_bytes};
 ghost use Rattle.sas_plans.specs.Inputs.{IsLabel};
 ghost use Rattle.sas_tool.specs.Statuses.{error_line, exit_status};
 
-use crate::arguments::{Asked, Job, Source, WordsFault, command};
+use crate::arguments::{Job, Source, WordsFault, command};
 use crate::plan_files::{PlanFiles, are_labels, name_input_twice};
 use crate::streams::replace_closed;
 use crate::until_end::UntilEnd;
-use crate::{Status, ToolFault, explain, judge, run, trace};
+use crate::{Question, Status, ToolFault, explain, judge, run, trace};
 use sas_lines::{Opened, Watched};
 use sas_plans::{InputFault, JudgeFault};
 use std::io::{ErrorKind, Write};
@@ -56,19 +56,23 @@ pub fn start<R: AllocGlobal + Env + Files + Input + Print + Eprint>(
         return stop(rt, FAULT, "sas: cannot open /dev/null");
     };
     let ended = match job {
-        Job::Files { asked, task, plan } => run_files(rt, asked, task, plan),
+        Job::Files {
+            question,
+            task,
+            plan,
+        } => run_files(rt, question, task, plan),
         Job::Plans { task, labels } => run_plans(rt, task, labels.as_slice()),
     };
     drop(replaced);
     ended
 }
 
-/// Opens a task, a plan or both, and answers the request about them. It isn't inlined, nor is `run_plans`: what is inlined together
+/// Opens a task, a plan or both, and answers the question about them. It isn't inlined, nor is `run_plans`: what is inlined together
 /// would keep the buffers of both on the stack.
 #[inline(never)]
 fn run_files<R: AllocGlobal + Files + Input + Print + Eprint>(
     rt: &R,
-    asked: Asked,
+    question: Question,
     task_source: Option<Source>,
     plan_source: Option<Source>,
 ) -> ExitCode {
@@ -79,17 +83,17 @@ fn run_files<R: AllocGlobal + Files + Input + Print + Eprint>(
     } else if open_source(rt, plan_source, &mut plan).is_err() {
         stop(rt, FAULT, "sas: cannot open the plan")
     } else {
-        answer(rt, asked, &mut task, &mut plan)
+        answer_files(rt, question, &mut task, &mut plan)
     };
     drop(plan);
     drop(task);
     ended
 }
 
-/// Answers the request about a task, a plan or both, and flushes standard output.
-fn answer<R: AllocGlobal + Files + Input + Print + Eprint>(
+/// Answers the question about a task, a plan or both, and flushes standard output.
+fn answer_files<R: AllocGlobal + Files + Input + Print + Eprint>(
     rt: &R,
-    asked: Asked,
+    question: Question,
     task: &mut Watched<UntilEnd<Opened<R::File, R::Reader>>>,
     plan: &mut Watched<UntilEnd<Opened<R::File, R::Reader>>>,
 ) -> ExitCode
@@ -97,10 +101,10 @@ fn answer<R: AllocGlobal + Files + Input + Print + Eprint>(
     requires plan { plan.old.failed ≡ false }
 {
     let mut out = Watched::new(io::writer(rt));
-    let result = match asked {
-        Asked::Answer(request) => run(rt.alloc(), request, task, plan, &mut out),
-        Asked::Explanation(request) => explain(rt.alloc(), request, task, plan, &mut out),
-        Asked::Trace => trace(rt.alloc(), task, plan, &mut out),
+    let result = match question {
+        Question::Answer(request) => run(rt.alloc(), request, task, plan, &mut out),
+        Question::Explanation(request) => explain(rt.alloc(), request, task, plan, &mut out),
+        Question::Trace => trace(rt.alloc(), task, plan, &mut out),
     };
     if result.is_ok() && out.into_device().flush().is_err() {
         return stop(rt, FAULT, WRITE_FAILED);

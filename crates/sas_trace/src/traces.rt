@@ -7,7 +7,7 @@ ghost use Rattle.sas_trace.specs.Traced.{IsTraced};
 ghost use Rattle.sas_trace.specs.Tracing.{HasVerdict};
 
 use crate::tracing::Tracer;
-use sas_answers::{accept_plan, refuse_plan};
+use sas_answers::{accept_plan, answer_fault};
 use sas_axioms::Worklist;
 use sas_core::{Grounded, Stepwise};
 use sas_flat::{FlatPlan, FlatTask};
@@ -75,6 +75,6 @@ fn plan_verdict<E: Settle<T> + Drop, T: Grounded>(
 {
     match execution.find_fault() {
         None => accept_plan(alloc, plan),
-        Some(fault) => refuse_plan(alloc, plan.cost(), fault),
+        Some(fault) => answer_fault(alloc, plan.cost(), fault),
     }
 }

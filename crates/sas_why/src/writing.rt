@@ -9,7 +9,7 @@ ghost use Rattle.sas_why.specs.Retracing.{IsRetraced};
 use crate::faults::reasons;
 use crate::retraced::Retraced;
 use crate::second_pass::retrace;
-use sas_answers::{accept_plan, refuse_plan};
+use sas_answers::{accept_plan, answer_fault};
 use sas_axioms::Worklist;
 use sas_core::Stepwise;
 use sas_flat::{FlatPlan, FlatTask};
@@ -85,6 +85,6 @@ fn explain_fault(
     ensures { IfOk result (λ found. MakeAnswer task.now plan.now found.0 found.1.items) }
 {
     let lines = reasons(alloc, task, plan, noted)?;
-    let verdict = refuse_plan(alloc, plan.cost(), noted.fault)?;
+    let verdict = answer_fault(alloc, plan.cost(), noted.fault)?;
     Ok((verdict, lines))
 }

@@ -36,8 +36,12 @@ fn why(fault: &WordsFault) -> &'static str {
 /// Prints the parts of a job, a line each.
 fn say_parts(rt: &HostRuntime, job: &Job) {
     match job {
-        Job::Files { asked, task, plan } => {
-            let _ = println!(rt; "{asked:?}");
+        Job::Files {
+            question,
+            task,
+            plan,
+        } => {
+            let _ = println!(rt; "{question:?}");
             say_source(rt, "task", task);
             say_source(rt, "plan", plan);
         }

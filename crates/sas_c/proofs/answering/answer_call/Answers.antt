@@ -1,5 +1,5 @@
 use Rattle.sas_c.proofs.Imports.{List, ℕ, Bor, ap, Some, ◌∙◌, Vec}
-use Rattle.sas_requests.specs.Answering.{OutBy}
+use Rattle.sas_requests.specs.Answering.{QuestionOut}
 use Rattle.sas_c.proofs.Returned.{reports_ended}
 use Rattle.sas_c.proofs.answering.answer_call.Goals as goal
 
@@ -8,4 +8,4 @@ returns c =
     let known = λ (s : Bor (List ℕ)). Some s.now in
     let call = c.args.call in
     let ends = c.answer-ended.ensures.ends.output call.task.now call.plan.now (λ _. ap known c.new-task.ensures.device, λ _. ap known c.new-plan.ensures.device) in
-    reports_ended (OutBy call.detail call.request call.task.now call.plan.now) _ _ (ap (λ (v : Vec ℕ). v.items) c.new-text.ensures.device ∙ c.new.ensures.items) c.answer-ended.result _ _ _ _ ends c.report_ended.ensures
+    reports_ended (QuestionOut call.question call.task.now call.plan.now) _ _ (ap (λ (v : Vec ℕ). v.items) c.new-text.ensures.device ∙ c.new.ensures.items) c.answer-ended.result _ _ _ _ ends c.report_ended.ensures

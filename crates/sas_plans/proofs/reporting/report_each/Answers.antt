@@ -5,14 +5,14 @@ use Rattle.sas_plans.proofs.reporting.report_each.Goals as goal
 
 pub add-requires : goal.add-requires
 add-requires g c =
-    let few = valid_few c.args.held.now (g.S.PlanInputs.bytes c.args.plans.now) (g.S.PlanInputs.labels c.args.plans.now) c.loop-number.number c.loop-number.text.items c.loop-number.tally c.loop-number.invariant.reported in
+    let few = valid_few c.args.loaded.now (g.S.PlanInputs.bytes c.args.plans.now) (g.S.PlanInputs.labels c.args.plans.now) c.loop-number.number c.loop-number.text.items c.loop-number.tally c.loop-number.invariant.reported in
     omega (arith, few)
 
 pub returns-in-Err-clause-err : goal.returns-in-Err-clause-err
 returns-in-Err-clause-err g c = (
   c.loop-number.number,
   omega (arith, c.loop-number.invariant.end),
-  unsaid_same c.loop-number.held c.args.held.now c.loop-number.number _ _ c.in-Err.fault c.loop-number.invariant.task (c.loop-number.invariant.later c.loop-number.number (omega arith)) c.in-Err.ensures.err,
+  unsaid_same c.loop-number.loaded c.args.loaded.now c.loop-number.number _ _ c.in-Err.fault c.loop-number.invariant.task (c.loop-number.invariant.later c.loop-number.number (omega arith)) c.in-Err.ensures.err,
 )
 
 pub returns-in-Err-clause-fault : goal.returns-in-Err-clause-fault
@@ -30,7 +30,7 @@ loop-number-preserved g c =
       opened = opens_next g.S.PlanInputs.open_gives c.loop-number.number _ _ _ before.opened c.in-Ok.ensures.opened;
       later = λ k less. c.in-Ok.ensures.later k (omega arith) ∙ before.later k (omega arith);
       reported =
-          reported_more c.args.held.now (g.S.PlanInputs.bytes c.args.plans.now) (g.S.PlanInputs.labels c.args.plans.now) c.loop-number.number _ _ c.loop-number.tally _ said.0 before.reported
-          (said_same c.loop-number.held c.args.held.now _ _ _ _ said.0 before.task (before.later c.loop-number.number (omega arith)) (ap (λ (l : List (List ℕ)). get_or l c.loop-number.number []) before.labels) said.1)
+          reported_more c.args.loaded.now (g.S.PlanInputs.bytes c.args.plans.now) (g.S.PlanInputs.labels c.args.plans.now) c.loop-number.number _ _ c.loop-number.tally _ said.0 before.reported
+          (said_same c.loop-number.loaded c.args.loaded.now _ _ _ _ said.0 before.task (before.later c.loop-number.number (omega arith)) (ap (λ (l : List (List ℕ)). get_or l c.loop-number.number []) before.labels) said.1)
           said.2 (λ all h place. c.add.ensures all said.0 h place said.3);
     }

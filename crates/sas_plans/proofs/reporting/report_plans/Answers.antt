@@ -11,13 +11,13 @@ push_summary-requires g c =
 
 pub returns-in-Err-clause-judges : goal.returns-in-Err-clause-judges
 returns-in-Err-clause-judges g c =
-    rw (← c.in_ok-held.ensures) (unreported c.in_ok-held.held (g.S.PlanInputs.bytes c.args.plans.now) (g.S.PlanInputs.labels c.args.plans.now) c.in-Err.fault c.in-Err.ensures.err _)
+    rw (← c.in_ok-loaded.ensures) (unreported c.in_ok-loaded.loaded (g.S.PlanInputs.bytes c.args.plans.now) (g.S.PlanInputs.labels c.args.plans.now) c.in-Err.fault c.in-Err.ensures.err _)
 
 pub returns-clause-judges : goal.returns-clause-judges
 returns-clause-judges g c =
     let labels = c.in-Ok.ensures.labels in
     let count = c.count.ensures ∙ ap (λ (l : List (List ℕ)). length l) labels in
-    rw (← c.in_ok-held.ensures, c.judge_ended.ensures) (reported c.in_ok-held.held (g.S.PlanInputs.bytes c.args.plans.now) (g.S.PlanInputs.labels c.args.plans.now) c.report_each-reported.new.text.items c.in-Ok.tally c.if-tally-count.status c.push_summary.new.text.items
+    rw (← c.in_ok-loaded.ensures, c.judge_ended.ensures) (reported c.in_ok-loaded.loaded (g.S.PlanInputs.bytes c.args.plans.now) (g.S.PlanInputs.labels c.args.plans.now) c.report_each-reported.new.text.items c.in-Ok.tally c.if-tally-count.status c.push_summary.new.text.items
     (c.in_ok-push_summary.ensures ∙ ap (λ (l : List (List ℕ)). c.report_each-reported.new.text.items ++ summary_of l c.in-Ok.tally) labels)
     _ c.write.result c.write.ensures.write c.write.ensures.writes.ends c.in-Ok.ensures.ok
     (elim c.if-tally-count.branch [
@@ -25,8 +25,8 @@ returns-clause-judges g c =
       | else-tally-count w ↦ inr (λ e. w.if-tally-count.false (e ∙ sym count), w.status-is)
     ]))
 
-pub returns-in_err-held-clause-judges : goal.returns-in_err-held-clause-judges
-returns-in_err-held-clause-judges g c =
+pub returns-in_err-loaded-clause-judges : goal.returns-in_err-loaded-clause-judges
+returns-in_err-loaded-clause-judges g c =
     let starved = err_from_is_err_and c.from_residual.result c.from_residual.ensures.1 in
     rw (starved.1, starved.2) record { output = λ cs have. tt; taken = λ decided. absurd decided; long = tt; reads = λ e. absurd cc }
 
@@ -40,8 +40,8 @@ returns-in_err-push_summary-clause-opens g c = λ task.
     let starved = err_from_is_err_and c.from_residual-in_err-push_summary.result c.from_residual-in_err-push_summary.ensures.1 in
     rw (starved.1, starved.2) (length (g.S.PlanInputs.labels c.args.plans.now), omega arith, c.in-Ok.ensures.opened)
 
-pub returns-in_err-held-clause-opens : goal.returns-in_err-held-clause-opens
-returns-in_err-held-clause-opens g c = λ task.
+pub returns-in_err-loaded-clause-opens : goal.returns-in_err-loaded-clause-opens
+returns-in_err-loaded-clause-opens g c = λ task.
     let starved = err_from_is_err_and c.from_residual.result c.from_residual.ensures.1 in
     rw (starved.1, starved.2) (0, omega arith, refl)
 

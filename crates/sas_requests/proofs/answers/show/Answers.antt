@@ -10,4 +10,4 @@ returns-in-Ok g c =
 
 pub returns-in-Err : goal.returns-in-Err
 returns-in-Err g c =
-    task_refused g.R.Read.remaining OutlineOf c.args.detail _ _ g.W.Write.contents _ _ ShowAnswer c.in-Err.refusal c.refuse_task.result c.in-Err.ensures c.refuse_task.ensures.answers c.refuse_task.ensures.long c.refuse_task.ensures.reads
+    task_refused g.R.Read.remaining OutlineOf c.args.detail _ _ g.W.Write.contents _ _ ShowAnswer c.in-Err.refusal c.write_task_refusal.result c.in-Err.ensures c.write_task_refusal.ensures.answers c.write_task_refusal.ensures.long c.write_task_refusal.ensures.reads

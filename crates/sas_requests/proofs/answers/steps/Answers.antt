@@ -10,4 +10,4 @@ returns-in-Ok g c =
 
 pub returns-in-Err : goal.returns-in-Err
 returns-in-Err g c =
-    plan_refused g.R.Read.remaining (λ b t. TextOf plan_format b t.items) c.args.detail _ _ g.W.Write.contents _ _ (PrintAnswer plan_format) c.in-Err.refusal c.refuse_plan.result c.in-Err.ensures c.refuse_plan.ensures.answers c.refuse_plan.ensures.long c.refuse_plan.ensures.reads
+    plan_refused g.R.Read.remaining (λ b t. TextOf plan_format b t.items) c.args.detail _ _ g.W.Write.contents _ _ (PrintAnswer plan_format) c.in-Err.refusal c.write_plan_refusal.result c.in-Err.ensures c.write_plan_refusal.ensures.answers c.write_plan_refusal.ensures.long c.write_plan_refusal.ensures.reads

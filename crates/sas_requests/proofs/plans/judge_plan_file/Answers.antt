@@ -1,4 +1,4 @@
-use Rattle.sas_requests.proofs.Imports.{codes, ValueOf, plan_format, VerdictBy, ArePlanReasons}
+use Rattle.sas_requests.proofs.Imports.{codes, ValueOf, plan_format, VerdictBy, ArePlanReasons, detail_of}
 use Rattle.sas_requests.proofs.FileEnds.{answers_value, plan_refused}
 use Rattle.sas_requests.proofs.plans.judge_plan_file.Goals as goal
 
@@ -7,8 +7,8 @@ returns-in-Ok g c =
     let detail = c.args.detail in
     let p = c.args.layered.now in
     let plan = c.in-Ok.read in
-    answers_value g.P.Read.remaining plan_format ArePlanReasons (ValueOf plan_format) (codes "plan") detail (VerdictBy detail p) _ _ g.W.Write.contents _ _ plan (VerdictBy detail p plan) (λ b value o is. (plan, value, is)) c.answer_plan-ended.result c.in-Ok.ensures.plain c.answer_plan-ended.ensures
+    answers_value g.P.Read.remaining plan_format ArePlanReasons (ValueOf plan_format) (codes "plan") (detail_of detail) (VerdictBy detail p) _ _ g.W.Write.contents _ _ plan (VerdictBy detail p plan) (λ b value o is. (plan, value, is)) c.answer_plan-ended.result c.in-Ok.ensures.plain c.answer_plan-ended.ensures
 
 pub returns-in-Err : goal.returns-in-Err
 returns-in-Err g c =
-    plan_refused g.P.Read.remaining (ValueOf plan_format) c.args.detail _ _ g.W.Write.contents _ _ (VerdictBy c.args.detail c.args.layered.now) c.in-Err.refusal c.refuse_plan.result c.in-Err.ensures c.refuse_plan.ensures.answers c.refuse_plan.ensures.long c.refuse_plan.ensures.reads
+    plan_refused g.P.Read.remaining (ValueOf plan_format) (detail_of c.args.detail) _ _ g.W.Write.contents _ _ (VerdictBy c.args.detail c.args.layered.now) c.in-Err.refusal c.write_plan_refusal.result c.in-Err.ensures (rw c.detail.ensures at c.write_plan_refusal.ensures.answers) c.write_plan_refusal.ensures.long c.write_plan_refusal.ensures.reads

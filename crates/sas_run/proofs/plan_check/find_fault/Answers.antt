@@ -27,15 +27,15 @@ loop-before-preserved g c =
     let inv = c.loop-before.invariant in
     let progress = c.loop-before.progress in
     let operator = c.in-Ok.operator in
-    let next = c.go_on.new.state in
+    let next = c.make_plan_step.new.state in
     let below : n < length steps = omega (arith, c.loop-before-test.true, c.requires.found.firsts.within) in
     let named : (operator_at p (get_or c.args.found.firsts.now n 0)).name ≡ get_or steps n [] = (c.requires.found.firsts.each n c.loop-before-test.true).of_name.named in
     let items = rw c.unwrap.ensures at c.push.ensures.items in
     record {
-      prepared = c.go_on.ensures.prepared;
-      noted = c.go_on.ensures.noted ∙ inv.noted;
+      prepared = c.make_plan_step.ensures.prepared;
+      noted = c.make_plan_step.ensures.noted ∙ inv.noted;
       follows = c.in-Ok.ensures.follows;
-      state = c.go_on.ensures.state;
+      state = c.make_plan_step.ensures.state;
       leads = rw (items, take_more steps n [] below) (leads_one_more p (take n steps) progress.operators.items progress.state (get_or steps n []) operator next inv.leads (rw named at c.in-Ok.ensures.ok));
       one_each = rw items (let len = length-append progress.operators.items (operator ∷ []) in let one = inv.one_each in omega arith);
       room = omega (arith, inv.room, c.push.ensures.capacity);

@@ -1,11 +1,9 @@
-use Rattle.sas_requests.proofs.Imports.{inl, inr}
 use Rattle.sas_requests.proofs.FileEnds.{writes_plainly}
-use Rattle.sas_requests.proofs.refusals.refuse_plan.Goals as goal
+use Rattle.sas_requests.proofs.refusals.write_plan_refusal.Goals as goal
 
 pub returns-in-Plain-clause-answers : goal.returns-in-Plain-clause-answers
 returns-in-Plain-clause-answers g c =
-    let answers = writes_plainly g.W.Write.contents _ _ c.write.result _ c.write.ensures.writes in
-    elim c.in-Plain.is [ inl is ↦ rw (is, c.in_ok-answer.ensures.ok) answers | inr is ↦ rw (is, c.in_ok-answer.ensures.ok) answers ]
+    rw (c.in-Plain.is, c.in_ok-answer.ensures.ok) (writes_plainly g.W.Write.contents _ _ c.write.result _ c.write.ensures.writes)
 
 pub returns-clause-answers : goal.returns-clause-answers
 returns-clause-answers g c =

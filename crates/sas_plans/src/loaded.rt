@@ -1,4 +1,4 @@
-// A task that is held for plans to come; and plans in memory, judged for it.
+// A task that is loaded for plans to come; and plans in memory, judged for it.
 ghost use Rattle.std.specs.Prelude.{◌≡◌, ◌⊎◌, Some, None, IfErr, IfOk, IsErrOf};
 ghost use Rattle.sas_answers.specs.Answers.{VerdictAnswer};
 ghost use Rattle.sas_output.specs.Ending.{output_of};
@@ -11,37 +11,37 @@ use sas_meaning::Layered;
 use sas_output::{Answer, ToolFault};
 use sas_outputs::refuse_file;
 use sas_plan_file::flat_plan_of;
-use sas_run::Held;
+use sas_run::LoadedTask;
 use std::alloc::{AllocError, Global};
 
-/// Holds the task for many plans, with an evaluator that counts open conditions. If memory is refused, the task is dropped.
-pub fn hold(
+/// Loads the task for many plans, with an evaluator that counts open conditions. If memory is refused, the task is dropped.
+pub fn load(
     alloc: Global,
     layered: Layered<FlatTask>,
-) -> Result<Held<Worklist, FlatTask>, AllocError>
+) -> Result<LoadedTask<Worklist, FlatTask>, AllocError>
     ensures { IfOk result (λ h. h ≡ layered) }
 {
     let worklist = Worklist::new(alloc, &layered)?;
-    Held::new(alloc, layered, worklist)
+    LoadedTask::new(alloc, layered, worklist)
 }
 
 /// Reads a plan from these bytes, and returns the answer to whether it solves the task. A plan file that is refused has an
 /// answer, too. Nothing of a plan is left for the next.
 pub fn judge_bytes(
     alloc: Global,
-    held: &mut Held<Worklist, FlatTask>,
+    loaded: &mut LoadedTask<Worklist, FlatTask>,
     plan: &[u8],
 ) -> Result<Answer, ToolFault>
     ensures verdict { IfOk result (λ reported.
-        VerdictOut VerdictAnswer held.old plan.now (Some (output_of reported))) }
+        VerdictOut VerdictAnswer loaded.old plan.now (Some (output_of reported))) }
     ensures long { IsErrOf result ToolFault.TooLong
-        → VerdictOut VerdictAnswer held.old plan.now None }
+        → VerdictOut VerdictAnswer loaded.old plan.now None }
     // Bytes in memory can be read, and nothing is written.
     ensures err { IfErr result (λ e. (e ≡ ToolFault.Memory) ⊎ (e ≡ ToolFault.TooLong)) }
-    ensures same { held.new ≡ held.old }
+    ensures same { loaded.new ≡ loaded.old }
 {
     match flat_plan_of(alloc, plan) {
-        Ok(read) => Ok(answer_by(alloc, held, &read)?),
+        Ok(read) => Ok(answer_by(alloc, loaded, &read)?),
         Err(refusal) => refuse_file(alloc, "plan", refusal.fault),
     }
 }
