@@ -1,7 +1,7 @@
 -- What the proofs use of other crates, and of the definitions of this one.
 pub use Rattle.std.proofs.Common.{◌≡◌, ℕ, List, Option, Some, None, Result, refl, sym, ap, subst, ◌∙◌, IfOk, ◌≢◌, [], ◌∷◌, ◌++◌, Bool, length, append_assoc, IsTrue, codes, suc, ◌<◌, ◌-◌, arith, Ok, ◌≤◌, ◌+◌, true, false, nat_lt, zero, drop, Err, take, ◌&&◌, rules, inr, inl, length-append, ◌==◌, ◌↔◌, slice_index_or}
 pub use Rattle.std.proofs.lemmas.Bool.{eqb-true}
-pub use Rattle.std.proofs.lemmas.List.{append-nil, take_at}
+pub use Rattle.std.proofs.lemmas.List.{append-nil}
 pub use Rattle.std.proofs.lemmas.Option.{none-some}
 pub use Rattle.std.proofs.lemmas.Result.{on_ok_weaker}
 pub use Rattle.std.specs.List.{AllByRecursion, flat_map, list_all}
@@ -15,7 +15,8 @@ pub use Rattle.sas_core.specs.declared.parts.Fact.{Fact}
 pub use Rattle.sas_core.specs.declared.parts.Operator.{Operator}
 pub use Rattle.sas_core.specs.declared.parts.Parts.{Parts}
 pub use Rattle.sas_core.specs.declared.parts.Variable.{Variable}
-pub use Rattle.sas_lines.proofs.Splitting.{lines-one, unfinished-one, Plain}
+pub use Rattle.sas_lines.proofs.Beginnings.{FrontOf, front_of_lines, line_before_end}
+pub use Rattle.sas_lines.specs.Lines.{without_return}
 pub use Rattle.sas_reader.proofs.AcceptedLines.{LinesAccepted, none_accepted, one_more, accepted}
 pub use Rattle.sas_reader.proofs.Paths.{cut_at, after_ends, map-append, after_append}
 pub use Rattle.sas_reader.proofs.Plain.{plain}

@@ -1,10 +1,10 @@
 -- What the proofs use of other crates, and of the definitions of this one.
-pub use Rattle.std.proofs.Common.{◌≡◌, ℕ, zero, suc, ◌+◌, ◌*◌, ◌-◌, ◌<◌, ◌≤◌, ◌^◌, List, [], ◌∷◌, ◌++◌, length, take, drop, refl, sym, ap, subst, ◌∙◌, append-nil, append_assoc, length-append, arith, Option, None, get_or, true, false, Bool, not, ◌&&◌, ◌==◌, IsTrue, ◌/◌, ◌%◌, codes, ◌≢◌, Some, if◌then◌else◌, slice_get, rules, ap₂}
+pub use Rattle.std.proofs.Common.{◌≡◌, ℕ, zero, suc, ◌+◌, ◌*◌, ◌-◌, ◌<◌, ◌≤◌, ◌^◌, List, [], ◌∷◌, ◌++◌, length, take, drop, refl, sym, ap, subst, ◌∙◌, append-nil, append_assoc, length-append, arith, Option, None, get_or, true, false, Bool, not, ◌&&◌, ◌==◌, IsTrue, ◌/◌, ◌%◌, codes, ◌≢◌, Some, if◌then◌else◌, slice_get, ap₂, inl, inr}
 pub use Rattle.std.proofs.lemmas.Bool.{and_parts, and_from}
 pub use Rattle.std.proofs.lemmas.Bool.Decides.{nat_tests, Decides-eqb}
 pub use Rattle.std.proofs.lemmas.Fmt.{decimal_digit, decimal_step, decimal_injective}
 pub use Rattle.std.proofs.lemmas.Grind.{flat_map-append, common_steps}
-pub use Rattle.std.proofs.lemmas.List.{length-take-le, take_rest, take_at, get_or-take, take-append-drop, drop-drop, drop_more, map-append, length-map}
+pub use Rattle.std.proofs.lemmas.List.{length-take-le, take_rest, get_or-take, take-append-drop, drop-drop, take_more, map-append, length-map}
 pub use Rattle.std.proofs.lemmas.List.Folds.{list_all-append}
 pub use Rattle.std.proofs.lemmas.Option.{none-some, IfSome_then}
 pub use Rattle.std.proofs.lemmas.Slice.Eq.{slice_eq-Decides}
@@ -19,15 +19,15 @@ pub use Rattle.sas_core.specs.declared.grounded.Change.{Change}
 pub use Rattle.sas_core.specs.declared.parts.Effect.{Effect}
 pub use Rattle.sas_core.specs.declared.parts.Fact.{Fact}
 pub use Rattle.sas_core.specs.declared.parts.Variable.{Variable}
-pub use Rattle.sas_lines.proofs.Beginnings.{lines_stand_first}
-pub use Rattle.sas_lines.proofs.EndedLines.{text_of_both}
-pub use Rattle.sas_lines.proofs.Splitting.{Plain}
+pub use Rattle.sas_lines.proofs.Beginnings.{lines_stand_first, ended_lines_then}
 pub use Rattle.sas_lines.proofs.Words.{ten_pos, NoSpace, NoSpace-number, NoSpace-signed, words-joined, joined-words}
 pub use Rattle.sas_lines.specs.FirstLines.{LinesStandFirst}
-pub use Rattle.sas_lines.specs.Lines.{text}
+pub use Rattle.sas_lines.specs.Lines.{EndedLines}
 unfoldable pub use Rattle.sas_lines.specs.Parts.{parts}
 pub use Rattle.sas_lines.specs.Spelling.{signed_decimal, joined}
-pub use Rattle.sas_reader.proofs.Plain.{plain}
+pub use Rattle.sas_reader.proofs.Ends.{ended_line}
+pub use Rattle.sas_reader.proofs.Plain.{plain_lines}
+pub use Rattle.sas_reader.specs.Ends.{StandsBefore}
 pub use Rattle.sas_reader.specs.Faults.{IsOfBytes}
 pub use Rattle.sas_reader.specs.System.{IsRejected}
 pub use Rattle.sas_reader.specs.declared.fault.Kind.{Kind}

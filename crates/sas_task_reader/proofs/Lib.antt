@@ -1,5 +1,6 @@
 mod TaskStanding
 mod Outlines
 mod StoredParts
+mod StoredText
 mod Reasons
 mod Imports
