@@ -1,16 +1,16 @@
 -- The index of all conditions, and how the counters change with the value of a variable.
-use Rattle.sas_axioms.proofs.Imports.{◌≡◌, ◌≢◌, ℕ, ◌+◌, ◌<◌, ◌≤◌, ◌==◌, ◌&&◌, ◌^◌, Bool, true, false, cond, List, [], ◌∷◌, ◌++◌, length, get_or, set, refl, sym, ◌∙◌, ap, subst, inl, inr, arith, All, get_or-set_same, get_or-set_other, length-set, cases_eq, eq-eqb, eqb_tells, All-nil, All-cons, All-tail, All-append, All-weaker, Fact, Parts, rule_at, WellRanged, Entry, Moved, Waiting, IsRuleOn, asking, waiting_entry, waiting_at, released, occurrences, open_conditions, IsOfRule, entries, IsFullIndex, AreCounted, AreCountedBy, items_of, by_key, length-table, items_none, items_cons, under_key, all_items, condition_within, rule_fits}
+use Rattle.sas_axioms.proofs.Imports.{◌≡◌, ◌≢◌, ℕ, ◌+◌, ◌<◌, ◌≤◌, ◌==◌, ◌&&◌, ◌^◌, Bool, true, false, cond, List, [], ◌∷◌, ◌++◌, length, get_or, set, refl, sym, ◌∙◌, ap, subst, inl, inr, arith, All, get_or-set_same, get_or-set_other, length-set, cases_eq, eq-eqb, eqb_tells, All-nil, All-cons, All-tail, All-append, All-weaker, Fact, Parts, rule_at, WellRanged, Entry, ValueChange, RuleCondition, IsRuleOn, asking, waiting_entry, waiting_at, released, occurrences, open_conditions, IsOfRule, entries, IsFullIndex, AreCounted, AreCountedBy, items_of, by_key, length-table, items_none, items_cons, under_key, all_items, condition_within, rule_fits}
 use Rattle.sas_axioms.proofs.CountingEntries.{CanRecount}
 
 -- ---- building the index
 
 -- the entry belongs to a rule that can fire, and its variable exists
-pub record IsCondition (p : Parts) (e : Entry Waiting) : Type 0 where
+pub record IsCondition (p : Parts) (e : Entry RuleCondition) : Type 0 where
   pub of_rule : IsOfRule p e.item
   pub exists : e.key < length p.variables
 
 -- whether an entry is the rule's, and for the fact
-abbrev counted : ℕ → ℕ → ℕ → Entry Waiting → ℕ
+abbrev counted : ℕ → ℕ → ℕ → Entry RuleCondition → ℕ
 counted rule var value e = cond ((e.item.rule == rule) && ((e.key == var) && (e.item.value == value))) 1 0
 
 -- whether a condition is the fact
@@ -18,11 +18,11 @@ abbrev asked : ℕ → ℕ → Fact → ℕ
 asked var value c = cond ((c.var == var) && (c.value == value)) 1 0
 
 -- how many entries the rule has for the fact
-abbrev pub waits : ℕ → ℕ → ℕ → List (Entry Waiting) → ℕ
+abbrev pub waits : ℕ → ℕ → ℕ → List (Entry RuleCondition) → ℕ
 waits rule var value [] = 0
 waits rule var value (e ∷ es) = cond ((e.item.rule == rule) && ((e.key == var) && (e.item.value == value))) 1 0 + waits rule var value es
 
-waits_append : (rule var value : ℕ) (ws ws' : List (Entry Waiting)) → waits rule var value (ws ++ ws') ≡ waits rule var value ws + waits rule var value ws'
+waits_append : (rule var value : ℕ) (ws ws' : List (Entry RuleCondition)) → waits rule var value (ws ++ ws') ≡ waits rule var value ws + waits rule var value ws'
 waits_append rule var value [] ws' = omega arith
 waits_append rule var value (w ∷ ws) ws' = let ih = waits_append rule var value ws ws' in omega arith
 
@@ -35,7 +35,7 @@ counted_other : (other rule var value : ℕ) (c : Fact) → other ≢ rule → c
 counted_other other rule var value c ne = elim (eqb_tells rule other) [ inl e ↦ absurd (ne (sym e.1)) | inr e ↦ rw e.0 refl ]
 
 -- what waits for a value of it is counted as released
-released_counts : (rule var value : ℕ) (es : List (Entry Waiting)) → occurrences rule (released value (items_of var es)) ≡ waits rule var value es
+released_counts : (rule var value : ℕ) (es : List (Entry RuleCondition)) → occurrences rule (released value (items_of var es)) ≡ waits rule var value es
 released_counts rule var value [] = ap (λ ws. occurrences rule (released value ws)) (items_none var)
 released_counts rule var value (e ∷ es) =
     let ih = released_counts rule var value es in
@@ -63,12 +63,12 @@ all_entries p rule (c ∷ cs) of_rule exist =
     (all_entries p rule cs of_rule (All-tail (λ (c : Fact). c.var < length p.variables) c cs exist))
 
 -- the conditions of the first `k` rules
-pub record ConditionsUpTo (p : Parts) (k : ℕ) (ws : List (Entry Waiting)) : Type 0 where
+pub record ConditionsUpTo (p : Parts) (k : ℕ) (ws : List (Entry RuleCondition)) : Type 0 where
   pub only : All (IsCondition p) ws
   pub each : (layer var value rule : ℕ) → rule < k → IsRuleOn p layer rule → waits rule var value ws ≡ asking var value (rule_at p rule).conditions
   pub later : (var value rule : ℕ) → k ≤ rule → waits rule var value ws ≡ 0
 
-pub conditions_skip : (p : Parts) (k : ℕ) (ws : List (Entry Waiting)) → ((layer : ℕ) → IsRuleOn p layer k → ⊥) → ConditionsUpTo p k ws → ConditionsUpTo p (k + 1) ws
+pub conditions_skip : (p : Parts) (k : ℕ) (ws : List (Entry RuleCondition)) → ((layer : ℕ) → IsRuleOn p layer k → ⊥) → ConditionsUpTo p k ws → ConditionsUpTo p (k + 1) ws
 conditions_skip p k ws not up = record {
   only = up.only;
   each = λ layer var value rule lt is. elim (cases_eq rule k) [
@@ -78,7 +78,7 @@ conditions_skip p k ws not up = record {
   later = λ var value rule le. up.later var value rule (omega arith);
 }
 
-pub conditions_more : (p : Parts) (k layer : ℕ) (ws : List (Entry Waiting)) → WellRanged p → IsRuleOn p layer k → ConditionsUpTo p k ws → ConditionsUpTo p (k + 1) (ws ++ entries k (rule_at p k).conditions)
+pub conditions_more : (p : Parts) (k layer : ℕ) (ws : List (Entry RuleCondition)) → WellRanged p → IsRuleOn p layer k → ConditionsUpTo p k ws → ConditionsUpTo p (k + 1) (ws ++ entries k (rule_at p k).conditions)
 conditions_more p k layer ws ranged here up = record {
   only = All-append (IsCondition p) ws (entries k (rule_at p k).conditions) up.only
       (all_entries p k (rule_at p k).conditions (layer, here) (λ j d lt. condition_within p k j d ranged here.exists lt));
@@ -98,15 +98,15 @@ conditions_more p k layer ws ranged here up = record {
       let before = up.later var value rule (omega arith) in omega arith);
 }
 
-pub conditions_exist : (p : Parts) (k : ℕ) (ws : List (Entry Waiting)) → ConditionsUpTo p k ws → All (λ (e : Entry Waiting). e.key < length p.variables) ws
-conditions_exist p k ws is = All-weaker (IsCondition p) (λ (e : Entry Waiting). e.key < length p.variables) (λ w h. h.exists) ws is.only
+pub conditions_exist : (p : Parts) (k : ℕ) (ws : List (Entry RuleCondition)) → ConditionsUpTo p k ws → All (λ (e : Entry RuleCondition). e.key < length p.variables) ws
+conditions_exist p k ws is = All-weaker (IsCondition p) (λ (e : Entry RuleCondition). e.key < length p.variables) (λ w h. h.exists) ws is.only
 
 -- by key, the conditions are an index of all
-pub conditions_index : (p : Parts) (k : ℕ) (es : List (Entry Waiting)) → k ≡ length p.rules → ConditionsUpTo p k es → IsFullIndex p (by_key es (length p.variables))
+pub conditions_index : (p : Parts) (k : ℕ) (es : List (Entry RuleCondition)) → k ≡ length p.rules → ConditionsUpTo p k es → IsFullIndex p (by_key es (length p.variables))
 conditions_index p k es all is = record {
   one_each = length-table (length p.variables) (λ var. items_of var es);
   only = λ var. subst (All (IsOfRule p)) (sym (under var))
-      (all_items (λ (var : ℕ) (w : Waiting). IsOfRule p w) es var (All-weaker (IsCondition p) (λ (e : Entry Waiting). IsOfRule p e.item) (λ e h. h.of_rule) es is.only));
+      (all_items (λ (var : ℕ) (w : RuleCondition). IsOfRule p w) es var (All-weaker (IsCondition p) (λ (e : Entry RuleCondition). IsOfRule p e.item) (λ e h. h.of_rule) es is.only));
   each = λ layer var value rule here. ap (λ ws. occurrences rule (released value ws)) (under var)
       ∙ released_counts rule var value es ∙ is.each layer var value rule (let lt = here.exists in omega arith) here;
 }
@@ -168,8 +168,8 @@ asking_open value v x (c ∷ cs) ne =
 
 -- ---- counting anew what waits for a variable that gets another value
 
-pub can_recount : (p : Parts) (index : List (List Waiting)) (var : ℕ) → IsFullIndex p index → (seen : ℕ → ℕ) (counters : List ℕ) → length counters ≡ length p.rules → AreCountedBy p seen counters
-    → WellRanged p → (moved : Moved) → seen var ≡ moved.former → moved.former ≢ moved.value → CanRecount moved (waiting_at index var) counters
+pub can_recount : (p : Parts) (index : List (List RuleCondition)) (var : ℕ) → IsFullIndex p index → (seen : ℕ → ℕ) (counters : List ℕ) → length counters ≡ length p.rules → AreCountedBy p seen counters
+    → WellRanged p → (moved : ValueChange) → seen var ≡ moved.former → moved.former ≢ moved.value → CanRecount moved (waiting_at index var) counters
 can_recount p index var is_index seen counters one_each counts ranged moved was differ = record {
   differ = differ;
   exist = λ k d lt. omega (arith, (is_index.only var k d lt).1.exists, one_each);
@@ -193,7 +193,7 @@ can_recount p index var is_index seen counters one_each counts ranged moved was 
         let h = is_index.each is.0 var moved.value rule is.1 in
         omega arith
 
-module _ (p : Parts) (index : List (List Waiting)) (var : ℕ) (is_index : IsFullIndex p index) (exists : var < length p.variables)
+module _ (p : Parts) (index : List (List RuleCondition)) (var : ℕ) (is_index : IsFullIndex p index) (exists : var < length p.variables)
     (counted counters : List ℕ) (counts : AreCounted p counted counters) where
   module _ (value : ℕ) where
     changed : (rule : ℕ) → open_conditions (λ v. get_or (set counted var value) v 0) (rule_at p rule).conditions + asking var value (rule_at p rule).conditions

@@ -1,5 +1,5 @@
 -- The counters of a worklist.
-use Rattle.sas_axioms.proofs.Imports.{◌≡◌, ◌≢◌, ℕ, ◌+◌, ◌<◌, ◌≤◌, ◌==◌, ◌⊎◌, true, cond, List, [], ◌∷◌, ◌++◌, length, get_or, set, refl, sym, ◌∙◌, ap, subst, inl, inr, arith, cases_eq, eqb_tells, get_or-set_same, get_or-set_other, length-set, length-append, vec_capacity, Fact, Effect, Parts, rule_at, IsState, WellRanged, Holds, AllHold, IsOnLayer, on_layer_within, default_of, IsRuleOn, AreGiven, open_conditions, occurrences, asking, Moved, Waiting, waiting_at, IsFullIndex, Work, value_seen, IsRunning, AreCountedBy, HaveFired, WorkHasRoom, IsAtWork, WorkGoesOn, FiresRule, IsLayered, differs, IsSettledAt, AtDefault, equal_places, All, All-nil, All-cons, All-head, All-tail, Fired, fired_there, rule_new, differs_true, differs_same, differs_not, fact_within, forced_at_default, no_effect}
+use Rattle.sas_axioms.proofs.Imports.{◌≡◌, ◌≢◌, ℕ, ◌+◌, ◌<◌, ◌≤◌, ◌==◌, ◌⊎◌, true, cond, List, [], ◌∷◌, ◌++◌, length, get_or, set, refl, sym, ◌∙◌, ap, subst, inl, inr, arith, cases_eq, eqb_tells, get_or-set_same, get_or-set_other, length-set, length-append, vec_capacity, Fact, Effect, Parts, rule_at, IsState, WellRanged, Holds, AllHold, IsOnLayer, on_layer_within, default_of, IsRuleOn, AreGiven, open_conditions, occurrences, asking, ValueChange, RuleCondition, waiting_at, IsFullIndex, Work, value_seen, IsRunning, AreCountedBy, HaveFired, WorkHasRoom, IsAtWork, WorkGoesOn, FiresRule, IsLayered, differs, IsSettledAt, AtDefault, equal_places, All, All-nil, All-cons, All-head, All-tail, Fired, fired_there, rule_new, differs_true, differs_same, differs_not, fact_within, forced_at_default, no_effect}
 use Rattle.sas_axioms.proofs.AllConditions.{can_recount, open_changed}
 use Rattle.sas_axioms.proofs.CountingEntries.{CanRecount, CountersSoFar, counters_after, left_over}
 use Rattle.sas_axioms.proofs.Sources.{settled_when_set}
@@ -282,7 +282,7 @@ fires_nothing t s w k running fired = record {
 -- ---- the entries of a popped variable
 
 -- the first i entries are counted, and the rules of the layer without open conditions have fired
-pub record Releasing (t : Parts) (moved : Moved) (waiting : List Waiting) (i : ℕ) (s0 : List ℕ) (w0 : Work) (s : List ℕ) (w : Work) : Type 0 where
+pub record Releasing (t : Parts) (moved : ValueChange) (waiting : List RuleCondition) (i : ℕ) (s0 : List ℕ) (w0 : Work) (s : List ℕ) (w : Work) : Type 0 where
   pub counters : CountersSoFar moved waiting i w0.counters w.counters
   pub goes_on : WorkGoesOn t s0 w0 s w
   pub room : WorkHasRoom t w
@@ -292,7 +292,7 @@ pub record Releasing (t : Parts) (moved : Moved) (waiting : List Waiting) (i : �
   pub seen : (v : ℕ) → value_seen t s w.stack.items v ≡ value_seen t s0 w0.stack.items v
 
 -- the counter of a rule is set, and isn't zero
-pub released_on : (t : Parts) (moved : Moved) (waiting : List Waiting) (i : ℕ) (s0 : List ℕ) (w0 : Work) (s : List ℕ) (w : Work) (counters : List ℕ) (k n : ℕ)
+pub released_on : (t : Parts) (moved : ValueChange) (waiting : List RuleCondition) (i : ℕ) (s0 : List ℕ) (w0 : Work) (s : List ℕ) (w : Work) (counters : List ℕ) (k n : ℕ)
     → Releasing t moved waiting i s0 w0 s w → CountersSoFar moved waiting (i + 1) w0.counters counters → k < length w.counters → counters ≡ set w.counters k n → n ≢ 0
     → Releasing t moved waiting (i + 1) s0 w0 s (record { layer = w.layer; counters = counters; stack = w.stack; sources = w.sources; agenda = w.agenda })
 released_on t moved waiting i s0 w0 s w counters k n so_far next within is some = record {
@@ -306,7 +306,7 @@ released_on t moved waiting i s0 w0 s w counters k n so_far next within is some 
 }
 
 -- the counter of a rule is zero, and the rule has fired
-pub released_fired : (t : Parts) (moved : Moved) (waiting : List Waiting) (i : ℕ) (s0 : List ℕ) (w0 : Work) (s : List ℕ) (w : Work) (counters : List ℕ) (k n : ℕ) (s' : List ℕ) (w' : Work)
+pub released_fired : (t : Parts) (moved : ValueChange) (waiting : List RuleCondition) (i : ℕ) (s0 : List ℕ) (w0 : Work) (s : List ℕ) (w : Work) (counters : List ℕ) (k n : ℕ) (s' : List ℕ) (w' : Work)
     → Releasing t moved waiting i s0 w0 s w → CountersSoFar moved waiting (i + 1) w0.counters counters → k < length w.counters → counters ≡ set w.counters k n
     → FiresRule t k s (record { layer = w.layer; counters = counters; stack = w.stack; sources = w.sources; agenda = w.agenda }) s' w'
     → Releasing t moved waiting (i + 1) s0 w0 s' w'
@@ -340,10 +340,10 @@ released_fired t moved waiting i s0 w0 s w counters k n s' w' so_far next within
         ]
 
 -- the popped variable moved from its default
-abbrev pub moved_to : Parts → List ℕ → ℕ → Moved
+abbrev pub moved_to : Parts → List ℕ → ℕ → ValueChange
 moved_to t s v = record { former = default_of t v; value = get_or s v 0 }
 
-module _ (t : Parts) (index : List (List Waiting)) (v : ℕ) (s0 : List ℕ) (w0 : Work) (layered : IsLayered t) (is_index : IsFullIndex t index) (popped : IsAtWork t s0 (w0.stack.items ++ v ∷ []) w0) where
+module _ (t : Parts) (index : List (List RuleCondition)) (v : ℕ) (s0 : List ℕ) (w0 : Work) (layered : IsLayered t) (is_index : IsFullIndex t index) (popped : IsAtWork t s0 (w0.stack.items ++ v ∷ []) w0) where
   pub can_release : WellRanged t → CanRecount (moved_to t s0 v) (waiting_at index v) w0.counters
   can_release ranged =
       can_recount t index v is_index (value_seen t s0 (w0.stack.items ++ v ∷ [])) w0.counters popped.room.one_each popped.counts ranged

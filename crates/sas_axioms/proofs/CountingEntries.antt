@@ -1,33 +1,33 @@
 -- Updating the counters for the conditions on a variable, one entry at a time.
-use Rattle.sas_axioms.proofs.Imports.{◌≡◌, ◌≢◌, ◌⊎◌, ◌↔◌, ℕ, ◌+◌, ◌*◌, ◌<◌, ◌≤◌, ◌^◌, Vec, Global, zero, suc, List, [], ◌∷◌, length, get_or, set, drop, refl, sym, ◌∙◌, ap, subst, inl, inr, arith, All, Contains, heap_items, cases_eq, eq-eqb, eqb_tells, drop_all, drop_more, get_or-set_same, get_or-set_other, length-set, Contains-get_or, All-contains, Reverse, Parts, Agenda, Work, LayerRule, Moved, Waiting, waits_for, CanCount, IsOnAgenda, IsOrdered, work_left, SameWork, NotesMore, CountsTo, IsRuleOn, occurrences, released}
+use Rattle.sas_axioms.proofs.Imports.{◌≡◌, ◌≢◌, ◌⊎◌, ◌↔◌, ℕ, ◌+◌, ◌*◌, ◌<◌, ◌≤◌, ◌^◌, Vec, Global, zero, suc, List, [], ◌∷◌, length, get_or, set, drop, refl, sym, ◌∙◌, ap, subst, inl, inr, arith, All, Contains, heap_items, cases_eq, eq-eqb, eqb_tells, drop_all, drop_more, get_or-set_same, get_or-set_other, length-set, Contains-get_or, All-contains, Reverse, Parts, Agenda, Work, LayerRule, ValueChange, RuleCondition, waits_for, CanCount, IsOnAgenda, IsOrdered, work_left, SameWork, NotesMore, CountsTo, IsRuleOn, occurrences, released}
 
-abbrev pub no_entry : Waiting
+abbrev pub no_entry : RuleCondition
 no_entry = record { value = 0; rule = 0 }
 
 -- the rule waits for a value of the variable
-abbrev pub Waits : List Waiting → ℕ → Type 0
-Waits waiting rule = (w : Waiting) × Contains waiting w × (w.rule ≡ rule)
+abbrev pub Waits : List RuleCondition → ℕ → Type 0
+Waits waiting rule = (w : RuleCondition) × Contains waiting w × (w.rule ≡ rule)
 
 -- a variable moved, and the counters of the rules with these conditions on it can be updated
-pub record CanRecount (moved : Moved) (waiting : List Waiting) (counters : List ℕ) : Type 0 where
+pub record CanRecount (moved : ValueChange) (waiting : List RuleCondition) (counters : List ℕ) : Type 0 where
   pub differ : moved.former ≢ moved.value
-  pub exist : All (λ (w : Waiting). w.rule < length counters) waiting
-  pub small : All (λ (w : Waiting). get_or counters w.rule 0 + occurrences w.rule (released moved.former waiting) < 2 ^ 32) waiting
-  pub enough : All (λ (w : Waiting). occurrences w.rule (released moved.value waiting) ≤ get_or counters w.rule 0) waiting
+  pub exist : All (λ (w : RuleCondition). w.rule < length counters) waiting
+  pub small : All (λ (w : RuleCondition). get_or counters w.rule 0 + occurrences w.rule (released moved.former waiting) < 2 ^ 32) waiting
+  pub enough : All (λ (w : RuleCondition). occurrences w.rule (released moved.value waiting) ≤ get_or counters w.rule 0) waiting
 
 -- the first i entries are counted
-pub record CountersSoFar (moved : Moved) (waiting : List Waiting) (i : ℕ) (cs0 cs : List ℕ) : Type 0 where
+pub record CountersSoFar (moved : ValueChange) (waiting : List RuleCondition) (i : ℕ) (cs0 cs : List ℕ) : Type 0 where
   pub one_each : length cs ≡ length cs0
   pub so_far : (rule : ℕ) → rule < length cs0
       → get_or cs rule 0 + occurrences rule (released moved.value waiting) + occurrences rule (released moved.former (drop i waiting))
       ≡ get_or cs0 rule 0 + occurrences rule (released moved.former waiting) + occurrences rule (released moved.value (drop i waiting))
 
 -- none is counted
-pub counters_before : (moved : Moved) (waiting : List Waiting) (cs : List ℕ) → CountersSoFar moved waiting 0 cs cs
+pub counters_before : (moved : ValueChange) (waiting : List RuleCondition) (cs : List ℕ) → CountersSoFar moved waiting 0 cs cs
 counters_before moved waiting cs = record { one_each = refl; so_far = λ rule lt. omega arith }
 
 -- all are counted
-pub counters_after : (moved : Moved) (waiting : List Waiting) (i : ℕ) (cs0 cs : List ℕ) → i ≡ length waiting → CountersSoFar moved waiting i cs0 cs
+pub counters_after : (moved : ValueChange) (waiting : List RuleCondition) (i : ℕ) (cs0 cs : List ℕ) → i ≡ length waiting → CountersSoFar moved waiting i cs0 cs
     → (rule : ℕ) → rule < length cs0 → get_or cs rule 0 + occurrences rule (released moved.value waiting) ≡ get_or cs0 rule 0 + occurrences rule (released moved.former waiting)
 counters_after moved waiting i cs0 cs all counted rule lt =
     let none = drop_all i waiting (omega arith) in
@@ -37,26 +37,26 @@ counters_after moved waiting i cs0 cs all counted rule lt =
     omega arith
 
 -- an entry is one of those of its own rule and value
-own_entry : (value : ℕ) (e : Waiting) (es : List Waiting) → occurrences e.rule (released value (e ∷ es)) ≡ waits_for value e + occurrences e.rule (released value es)
+own_entry : (value : ℕ) (e : RuleCondition) (es : List RuleCondition) → occurrences e.rule (released value (e ∷ es)) ≡ waits_for value e + occurrences e.rule (released value es)
 own_entry value e es = elim (eqb_tells e.value value) [ inl v ↦ rw (v.0, eq-eqb e.rule e.rule refl) (omega arith) | inr v ↦ rw v.0 (omega arith) ]
 
 -- and none of those of another rule
-other_entry : (value rule : ℕ) (e : Waiting) (es : List Waiting) → e.rule ≢ rule → occurrences rule (released value (e ∷ es)) ≡ occurrences rule (released value es)
+other_entry : (value rule : ℕ) (e : RuleCondition) (es : List RuleCondition) → e.rule ≢ rule → occurrences rule (released value (e ∷ es)) ≡ occurrences rule (released value es)
 other_entry value rule e es ne = elim (eqb_tells e.value value) [
   | inl v ↦ elim (eqb_tells e.rule rule) [ inl r ↦ absurd (ne r.1) | inr r ↦ rw (v.0, r.0) (omega arith) ]
   | inr v ↦ rw v.0 (omega arith)
 ]
 
 -- what is left is no more than all
-pub left_over : (rule value i : ℕ) (ws : List Waiting) → occurrences rule (released value (drop i ws)) ≤ occurrences rule (released value ws)
+pub left_over : (rule value i : ℕ) (ws : List RuleCondition) → occurrences rule (released value (drop i ws)) ≤ occurrences rule (released value ws)
 left_over rule value zero ws = omega arith
 left_over rule value (suc i) [] = omega arith
 left_over rule value (suc i) (w ∷ ws) =
     let ih = left_over rule value i ws in
     elim (eqb_tells w.value value) [ inl v ↦ rw v.0 (omega arith) | inr v ↦ rw v.0 ih ]
 
-module _ (moved : Moved) (waiting : List Waiting) (i : ℕ) (cs0 cs : List ℕ) (lt : i < length waiting) (counted : CountersSoFar moved waiting i cs0 cs) where
-  abbrev pub this : Waiting
+module _ (moved : ValueChange) (waiting : List RuleCondition) (i : ℕ) (cs0 cs : List ℕ) (lt : i < length waiting) (counted : CountersSoFar moved waiting i cs0 cs) where
+  abbrev pub this : RuleCondition
   this = get_or waiting i no_entry
 
   own_left : (value : ℕ) → occurrences this.rule (released value (drop i waiting)) ≡ waits_for value this + occurrences this.rule (released value (drop (i + 1) waiting))
@@ -118,7 +118,7 @@ module _ (moved : Moved) (waiting : List Waiting) (i : ℕ) (cs0 cs : List ℕ) 
     counters_set moves = counters_next cs' (ap length set_to ∙ length-set cs this.rule n) (ap (λ x. x + waits_for moved.value this) its_count ∙ moves) other_count
 
 -- and the rules that begin or cease to hold by that are noted
-pub record CountedEntries (p : Parts) (moved : Moved) (waiting : List Waiting) (i : ℕ) (w0 w : Work) : Type 0 where
+pub record CountedEntries (p : Parts) (moved : ValueChange) (waiting : List RuleCondition) (i : ℕ) (w0 w : Work) : Type 0 where
   pub same : SameWork w0 w
   pub counters : CountersSoFar moved waiting i w0.counters w.counters
   pub crossed : (layer rule : ℕ) → IsRuleOn p layer rule → IsOnAgenda w.agenda layer rule ⊎ ((get_or w0.counters rule 0 ≡ 0) ↔ (get_or w.counters rule 0 ≡ 0))
@@ -126,7 +126,7 @@ pub record CountedEntries (p : Parts) (moved : Moved) (waiting : List Waiting) (
   pub left : work_left w.agenda + 3 * length waiting ≤ work_left w0.agenda + 2 * i
 
 -- none is counted, and only the price of the entries was paid
-pub counted_none : (p : Parts) (moved : Moved) (waiting : List Waiting) (w : Work) (a' : Agenda) → IsOrdered w.agenda → a'.noted ≡ w.agenda.noted → a'.ready ≡ w.agenda.ready
+pub counted_none : (p : Parts) (moved : ValueChange) (waiting : List RuleCondition) (w : Work) (a' : Agenda) → IsOrdered w.agenda → a'.noted ≡ w.agenda.noted → a'.ready ≡ w.agenda.ready
     → a'.left + length waiting ≡ w.agenda.left
     → CountedEntries p moved waiting 0 w (record { layer = w.layer; counters = w.counters; stack = w.stack; sources = w.sources; agenda = a' })
 counted_none p moved waiting w a' ordered noted ready left = record {
@@ -142,7 +142,7 @@ counted_none p moved waiting w a' ordered noted ready left = record {
   left = (let n = ap (λ h. length (heap_items h)) noted in let r = ap (λ (v : Vec ℕ Global). length v.items) ready in omega arith);
 }
 
-module _ (p : Parts) (moved : Moved) (waiting : List Waiting) (i : ℕ) (w0 w : Work) (lt : i < length waiting) (counted : CountedEntries p moved waiting i w0 w) where
+module _ (p : Parts) (moved : ValueChange) (waiting : List RuleCondition) (i : ℕ) (w0 w : Work) (lt : i < length waiting) (counted : CountedEntries p moved waiting i w0 w) where
   -- an entry whose rule keeps its count
   pub entry_passed : waits_for moved.value (get_or waiting i no_entry) ≡ waits_for moved.former (get_or waiting i no_entry) → CountedEntries p moved waiting (i + 1) w0 w
   entry_passed same = record {

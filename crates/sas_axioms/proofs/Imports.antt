@@ -42,8 +42,8 @@ pub use Rattle.sas_meaning.specs.Layers.{IsLayered, IsBasic, IsOnLayer, default_
 pub use Rattle.sas_meaning.specs.Places.{places, can_give}
 pub use Rattle.sas_meaning.specs.Settled.{IsSettled, differs, IsSettledAt, Settles, new_value_of, value_with, IsClosed, SameBasic}
 pub use Rattle.sas_meaning.specs.States.{Holds, AllHold}
-pub use Rattle.sas_meaning.specs.Touched.{AddsTouched, StillCovers}
-pub use Rattle.sas_meaning.specs.declared.touched.Touched.{Touched}
+pub use Rattle.sas_meaning.specs.ChangedVariables.{AddsTouched, StillCovers}
+pub use Rattle.sas_meaning.specs.declared.changed_variables.ChangedVariables.{ChangedVariables}
 pub use Rattle.sas_axioms.specs.Agenda.{layer_cmp, entry_for, IsOnAgenda, AddsToAgenda, work_left, IsOrdered, IsAwaited, AreBehind, RemovesFromAgenda, IsMadeReady, AreMadeReady, IsEmpty, NoLowerLayer, Lowest}
 pub use Rattle.sas_axioms.specs.ByLayers.{IsIdle, SettlesNext, SettlesLayer}
 pub use Rattle.sas_axioms.specs.Conditions.{asking, waiting_entry, waiting_at, released, occurrences, open_conditions, IsOfRule, entries, IsFullIndex, AreCounted, IsCounted, waits_for, CanCount}
@@ -52,8 +52,8 @@ pub use Rattle.sas_axioms.specs.LayerRules.{IsRuleOn, AreRulesOn, IsLate, AreFir
 pub use Rattle.sas_axioms.specs.Sources.{AreGiven, SameSourcesOff, IsHolding, HaveSources, SourcesHold, IsSourceOf}
 pub use Rattle.sas_axioms.specs.Worklist.{AreCountedBy, value_seen, IsRunning, HaveFired, WorkHasRoom, IsAtWork, WorkGoesOn, FiresRule, LayerBeginsAt, left_to_do}
 pub use Rattle.sas_axioms.specs.declared.agenda.Agenda.{Agenda}
-pub use Rattle.sas_axioms.specs.declared.conditions.Moved.{Moved}
-pub use Rattle.sas_axioms.specs.declared.conditions.Waiting.{Waiting}
+pub use Rattle.sas_axioms.specs.declared.conditions.ValueChange.{ValueChange}
+pub use Rattle.sas_axioms.specs.declared.conditions.RuleCondition.{RuleCondition}
 pub use Rattle.sas_axioms.specs.declared.firing.Work.{Work}
 pub use Rattle.sas_axioms.specs.declared.layer_rules.LayerRule.{LayerRule}
 pub use Rattle.sas_axioms.specs.declared.layer_rules.LayerSpan.{LayerSpan}

@@ -1,15 +1,15 @@
 -- When the value of a variable changes: which counters change, and which rules are noted.
-use Rattle.sas_axioms.proofs.Imports.{◌≡◌, ℕ, zero, suc, ◌+◌, ◌<◌, ◌≤◌, List, [], ◌∷◌, length, get_or, set, refl, sym, subst, inl, inr, arith, Contains, heap_items, eq-eqb, eqb_tells, Fact, Parts, rule_at, Work, Moved, Waiting, IsFullIndex, AreCounted, asking, occurrences, released, waiting_at, AsksAbout, CountsChange, IsRuleOn}
+use Rattle.sas_axioms.proofs.Imports.{◌≡◌, ℕ, zero, suc, ◌+◌, ◌<◌, ◌≤◌, List, [], ◌∷◌, length, get_or, set, refl, sym, subst, inl, inr, arith, Contains, heap_items, eq-eqb, eqb_tells, Fact, Parts, rule_at, Work, ValueChange, RuleCondition, IsFullIndex, AreCounted, asking, occurrences, released, waiting_at, AsksAbout, CountsChange, IsRuleOn}
 use Rattle.sas_axioms.proofs.AllConditions.{recounted}
 use Rattle.sas_axioms.proofs.CountingEntries.{CountedEntries, counters_after}
 use Rattle.sas_axioms.proofs.Tracking.{holding_when_zero, zero_when_holding}
 
 -- a rule that waits for a value is among those that are released by it
-released_there : (ws : List Waiting) (w : Waiting) → Contains ws w → 1 ≤ occurrences w.rule (released w.value ws)
+released_there : (ws : List RuleCondition) (w : RuleCondition) → Contains ws w → 1 ≤ occurrences w.rule (released w.value ws)
 released_there [] w there = absurd (omega (arith, there.1))
-released_there (v ∷ vs) w (zero, lt, e) = subst (λ (u : Waiting). 1 ≤ occurrences u.rule (released u.value (v ∷ vs))) e (first v vs)
+released_there (v ∷ vs) w (zero, lt, e) = subst (λ (u : RuleCondition). 1 ≤ occurrences u.rule (released u.value (v ∷ vs))) e (first v vs)
   where
-    first : (v : Waiting) (vs : List Waiting) → 1 ≤ occurrences v.rule (released v.value (v ∷ vs))
+    first : (v : RuleCondition) (vs : List RuleCondition) → 1 ≤ occurrences v.rule (released v.value (v ∷ vs))
     first v vs = rw (eq-eqb v.value v.value refl, eq-eqb v.rule v.rule refl) (omega arith)
 released_there (v ∷ vs) w (suc k, lt, e) = behind (released_there vs w (k, omega arith, e))
   where
@@ -25,13 +25,13 @@ asked_there var value (c ∷ cs) le = elim (eqb_tells c.var var) [
 ]
 
 -- a rule that waits for a value of a variable asks about it
-pub waiting_asks : (p : Parts) (index : List (List Waiting)) (var : ℕ) (w : Waiting) (layer : ℕ) → IsFullIndex p index → Contains (waiting_at index var) w → IsRuleOn p layer w.rule → AsksAbout p var w.rule
+pub waiting_asks : (p : Parts) (index : List (List RuleCondition)) (var : ℕ) (w : RuleCondition) (layer : ℕ) → IsFullIndex p index → Contains (waiting_at index var) w → IsRuleOn p layer w.rule → AsksAbout p var w.rule
 waiting_asks p index var w layer is_index there is =
     let e = is_index.each layer var w.value w.rule is in
     let le = released_there (waiting_at index var) w there in
     asked_there var w.value (rule_at p w.rule).conditions (omega arith)
 
-pub moved_when_recounted : (p : Parts) (index : List (List Waiting)) (var : ℕ) (moved : Moved) → IsFullIndex p index → var < length p.variables
+pub moved_when_recounted : (p : Parts) (index : List (List RuleCondition)) (var : ℕ) (moved : ValueChange) → IsFullIndex p index → var < length p.variables
     → (s : List ℕ) (w w' : Work) (i : ℕ) → AreCounted p s w.counters → get_or s var 0 ≡ moved.former → i ≡ length (waiting_at index var)
     → CountedEntries p moved (waiting_at index var) i w w' → CountsChange p var s w (set s var moved.value) w'
 moved_when_recounted p index var moved is_index exists s w w' i counts is all counted = record {

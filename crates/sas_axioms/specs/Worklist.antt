@@ -7,7 +7,7 @@ use Rattle.sas_meaning.specs.Layers.{IsOnLayer, default_of}
 use Rattle.sas_meaning.specs.DerivedVariables.{AreDerived}
 use Rattle.sas_meaning.specs.Settled.{differs}
 use Rattle.sas_meaning.specs.Forced.{OnlyForced, equal_places, SameOff}
-use Rattle.sas_axioms.specs.declared.firing.Firing.{Firing}
+use Rattle.sas_axioms.specs.declared.firing.LayerSettler.{LayerSettler}
 use Rattle.sas_axioms.specs.declared.firing.Work.{Work}
 use Rattle.sas_axioms.specs.declared.layer_rules.LayerRule.{LayerRule}
 use Rattle.sas_axioms.specs.declared.worklist.Worklist.{Worklist}
@@ -81,7 +81,7 @@ pub record FiresRule (p : Parts) (rule : ℕ) (s : List ℕ) (w : Work) (s' : Li
   pub kept : (var : ℕ) → IsTrue (differs p s var) → slice_index s' var ≡ slice_index s var
 
 -- the data for settling layers fit the task, and the stack is empty
-pub record IsFiringReady (p : Parts) (f : Firing) : Type 0 where
+pub record IsFiringReady (p : Parts) (f : LayerSettler) : Type 0 where
   pub counted : IsCounted p f.counted
   pub rules_of : AreRulesOf p f.rules_of
   pub room : WorkHasRoom p f.work

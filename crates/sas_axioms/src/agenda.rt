@@ -10,7 +10,7 @@ use std::collections::BinaryHeap;
 
 /// The update would take longer than settling the state from scratch.
 #[derive(Clone, Copy, Debug, PartialEq, Eq)]
-pub struct TooMuch;
+pub struct OverBudget;
 
 /// The rules that an update still has to evaluate, layer by layer, and how much work it may still do.
 #[derive(Drop)]
@@ -64,7 +64,7 @@ impl Agenda {
 
     /// Records whether an update succeeded. After a failure, updates are suspended for some states: twice as many after each failure in a
     /// row. So failures take little of the time. An update that had nothing to do doesn't count.
-    pub fn end(&mut self, tried: Result<(), TooMuch>) {
+    pub fn end(&mut self, tried: Result<(), OverBudget>) {
         if self.passes > 0 {
             if tried.is_err() {
                 self.passes -= 1;
@@ -78,13 +78,13 @@ impl Agenda {
     }
 
     /// Takes `entries` from the work that is left. If less is left, returns an error and changes nothing.
-    pub fn pay(&mut self, entries: usize) -> Result<(), TooMuch>
+    pub fn pay(&mut self, entries: usize) -> Result<(), OverBudget>
         ensures noted { self.new.noted ≡ self.old.noted }
         ensures ready { self.new.ready ≡ self.old.ready }
         ensures left { OnOk result (self.new.left + entries ≡ self.old.left) }
     {
         if entries > self.left {
-            return Err(TooMuch);
+            return Err(OverBudget);
         }
         self.left -= entries;
         Ok(())
@@ -92,17 +92,17 @@ impl Agenda {
 
     /// Notes the rule, and takes the work for it from what is left. Returns an error if too little work or room is left. Allocates no
     /// memory.
-    pub fn note(&mut self, entry: LayerRule) -> Result<(), TooMuch>
+    pub fn note(&mut self, entry: LayerRule) -> Result<(), OverBudget>
         requires { IsOrdered self.old }
         ensures { OnOk result (AddsToAgenda entry.layer entry.rule self.old self.new) }
     {
         if self.noted.len() == self.noted.capacity() {
-            return Err(TooMuch);
+            return Err(OverBudget);
         }
         self.pay(NOTING)?;
         match self.noted.push(Reverse(entry)) {
             Ok(()) => Ok(()),
-            Err(_) => Err(TooMuch),
+            Err(_) => Err(OverBudget),
         }
     }
 
@@ -150,15 +150,15 @@ impl Agenda {
     }
 
     /// Makes the rule ready. Returns an error if there is no room. Allocates no memory.
-    pub fn make_ready(&mut self, rule: u32) -> Result<(), TooMuch>
+    pub fn make_ready(&mut self, rule: u32) -> Result<(), OverBudget>
         ensures { OnOk result (IsMadeReady rule self.old self.new) }
     {
         if self.ready.len() == self.ready.capacity() {
-            return Err(TooMuch);
+            return Err(OverBudget);
         }
         match self.ready.push(rule) {
             Ok(()) => Ok(()),
-            Err(_) => Err(TooMuch),
+            Err(_) => Err(OverBudget),
         }
     }
 }

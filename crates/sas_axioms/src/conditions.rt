@@ -11,14 +11,14 @@ use std::alloc::{AllocError, Global};
 
 /// A condition of a rule that can fire: the rule waits for a variable to have this value. The index groups conditions by variable.
 #[derive(Clone, Copy, Debug, PartialEq, Eq)]
-pub struct Waiting {
+pub struct RuleCondition {
     pub value: u32,
     pub rule: u32,
 }
 
 /// The former and the new value of a variable.
 #[derive(Clone, Copy, Debug)]
-pub struct Moved {
+pub struct ValueChange {
     pub former: u32,
     pub value: u32,
 }
@@ -26,7 +26,11 @@ pub struct Moved {
 /// Evaluates one condition of a rule again after its variable moved. Returns how many conditions of the rule are open now, or `None` if the
 /// number doesn't change. `counters` has the former number for each rule.
 #[inline(always)]
-pub fn count_after(condition: Waiting, moved: Moved, counters: &Items<u32>) -> Option<u32>
+pub fn count_after(
+    condition: RuleCondition,
+    moved: ValueChange,
+    counters: &Items<u32>,
+) -> Option<u32>
     requires { CanCount moved condition counters.now }
     ensures some { IfSome result (λ count. count + waits_for moved.value condition
         ≡ slice_index counters.now condition.rule + waits_for moved.former condition) }
@@ -47,7 +51,7 @@ pub fn count_after(condition: Waiting, moved: Moved, counters: &Items<u32>) -> O
 pub fn index_of_all<T: Grounded>(
     alloc: Global,
     layered: &Layered<T>,
-) -> Result<Lists<Waiting>, AllocError>
+) -> Result<Lists<RuleCondition>, AllocError>
     ensures { IfOk result (λ index. IsFullIndex layered.now index) }
 {
     let task = layered.task();
@@ -64,7 +68,7 @@ pub fn index_of_all<T: Grounded>(
 fn push_conditions<T: Grounded>(
     layered: &Layered<T>,
     rule: u32,
-    waiting: &mut Vec<Entry<Waiting>>,
+    waiting: &mut Vec<Entry<RuleCondition>>,
 ) -> Result<(), AllocError>
     requires rule { rule < length layered.now.rules }
     ensures { OnOk result (waiting.new.items
@@ -73,7 +77,7 @@ fn push_conditions<T: Grounded>(
     for condition in layered.rule_conditions(rule) {
         waiting.push(Entry {
             key: condition.var as usize,
-            item: Waiting {
+            item: RuleCondition {
                 value: condition.value,
                 rule,
             },

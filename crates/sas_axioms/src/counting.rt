@@ -3,7 +3,7 @@ ghost use Rattle.std.specs.Prelude.{◌≡◌, ◌<◌, ◌≤◌, ◌^◌, ℕ,
 ghost use Rattle.sas_core.specs.declared.parts.Parts.{Parts};
 ghost use Rattle.sas_axioms.specs.Conditions.{AreCounted, IsCounted, open_conditions};
 
-use crate::conditions::{Moved, Waiting, count_after, index_of_all};
+use crate::conditions::{RuleCondition, ValueChange, count_after, index_of_all};
 use sas_core::{Fact, Grounded, Items};
 use sas_flat::Lists;
 use sas_meaning::{Layered, State};
@@ -11,18 +11,21 @@ use std::alloc::{AllocError, Global};
 
 /// Values of the variables, and for each rule the number of its conditions that are open (false) under these values.
 #[derive(Drop)]
-pub struct Counted {
+pub struct ConditionCounts {
     /// For each variable, the conditions on it. Includes conditions on basic variables and on lower layers.
-    pub index: Lists<Waiting>,
+    pub index: Lists<RuleCondition>,
     /// The values.
     pub values: State,
     /// For each rule, the number of its open conditions.
     pub counters: Items<u32>,
 }
 
-impl Counted {
+impl ConditionCounts {
     /// Returns the counters for the values in the state section. `Err` means out of memory.
-    pub fn new<T: Grounded>(alloc: Global, layered: &Layered<T>) -> Result<Counted, AllocError>
+    pub fn new<T: Grounded>(
+        alloc: Global,
+        layered: &Layered<T>,
+    ) -> Result<ConditionCounts, AllocError>
         ensures values { IfOk result (λ counted. counted.values ≡ layered.now.init) }
         ensures counts { IfOk result (λ counted. IsCounted layered.now counted) }
     {
@@ -30,7 +33,7 @@ impl Counted {
         let index = index_of_all(alloc, layered)?;
         let values = State::of_section(alloc, task)?;
         let counters = open_counters(alloc, layered, &values)?;
-        Ok(Counted {
+        Ok(ConditionCounts {
             index,
             values,
             counters,
@@ -89,7 +92,7 @@ impl Counted {
         ensures values { self.new.values ≡ slice_set self.old.values fact.var fact.value }
         ensures counts { (p : Parts) → IsCounted p self.old → IsCounted p self.new }
     {
-        let moved = Moved {
+        let moved = ValueChange {
             former: self.values.value(fact.var),
             value: fact.value,
         };

@@ -6,7 +6,7 @@ ghost use Rattle.sas_meaning.specs.States.{AllHold};
 ghost use Rattle.sas_meaning.specs.Forced.{AtDefault};
 ghost use Rattle.sas_meaning.specs.Following.{HaveGone};
 ghost use Rattle.sas_meaning.specs.Settled.{SameBasic};
-ghost use Rattle.sas_meaning.specs.Touched.{StillCovers};
+ghost use Rattle.sas_meaning.specs.ChangedVariables.{StillCovers};
 ghost use Rattle.sas_axioms.specs.ByLayers.{SettlesLayer};
 ghost use Rattle.sas_axioms.specs.LayerRules.{IsRuleOn, AreRulesOn};
 ghost use Rattle.sas_axioms.specs.Conditions.{AreCounted};
@@ -15,15 +15,15 @@ ghost use Rattle.sas_axioms.specs.Sources.{AreGiven, SameSourcesOff};
 ghost use Rattle.sas_axioms.specs.Following.{IsFollowed};
 ghost use Rattle.sas_axioms.specs.Worklist.{IsRunning, WorkHasRoom, IsAtWork, WorkGoesOn, FiresRule, IsFiringReady};
 
-use crate::agenda::{Agenda, TooMuch};
-use crate::conditions::{Moved, count_after};
-use crate::counting::Counted;
+use crate::agenda::{Agenda, OverBudget};
+use crate::conditions::{ValueChange, count_after};
+use crate::counting::ConditionCounts;
 use crate::following::{count_gone, settle_noted};
 use crate::indexed_rules::IndexedRules;
 use crate::layer_rules::{LayerRule, rules_of_variables};
 use sas_core::{Fact, Grounded, Items};
 use sas_flat::Lists;
-use sas_meaning::{Layered, State, Touched};
+use sas_meaning::{ChangedVariables, Layered, State};
 use std::alloc::{AllocError, Global};
 use std::mem::replace;
 
@@ -80,31 +80,31 @@ impl Work {
 
 /// Settles the layers of a task, one at a time.
 #[derive(Drop)]
-pub struct Firing {
+pub struct LayerSettler {
     /// Makes the empty list that takes the place of the counters while they are set.
     alloc: Global,
     /// The counters with which the settling of a state begins: those for its basic variables and the defaults of the derived ones.
-    pub counted: Counted,
+    pub counted: ConditionCounts,
     /// The rules of each derived variable.
     rules_of: Lists<u32>,
     /// The data for settling a layer.
     work: Work,
 }
 
-impl Firing {
+impl LayerSettler {
     /// Returns an evaluator for the task. `share` is the number of list entries that an update may process. Allocates all memory that will
     /// be needed. `Err` means out of memory.
     pub fn new<T: Grounded>(
         alloc: Global,
         layered: &Layered<T>,
         share: usize,
-    ) -> Result<Firing, AllocError>
+    ) -> Result<LayerSettler, AllocError>
         ensures { IfOk result (λ firing. IsFiringReady layered.now firing) }
     {
         let work = Work::new(alloc, layered, share)?;
-        Ok(Firing {
+        Ok(LayerSettler {
             alloc,
-            counted: Counted::new(alloc, layered)?,
+            counted: ConditionCounts::new(alloc, layered)?,
             rules_of: rules_of_variables(alloc, layered)?,
             work,
         })
@@ -161,8 +161,8 @@ impl Firing {
         layered: &Layered<T>,
         gone: &[Fact],
         state: &mut State,
-        touched: &mut Touched,
-    ) -> Result<(), TooMuch>
+        touched: &mut ChangedVariables,
+    ) -> Result<(), OverBudget>
         requires prepared { IsFiringReady layered.now self.old }
         requires state { IsState layered.now.variables state.old }
         requires follows { (s : List ℕ)
@@ -185,8 +185,8 @@ impl Firing {
         layered: &Layered<T>,
         gone: &[Fact],
         state: &mut State,
-        touched: &mut Touched,
-    ) -> Result<(), TooMuch>
+        touched: &mut ChangedVariables,
+    ) -> Result<(), OverBudget>
         requires prepared { IsFiringReady layered.now self.old }
         requires state { IsState layered.now.variables state.old }
         requires follows { (s : List ℕ)
@@ -283,7 +283,7 @@ fn release<T: Grounded>(
     ensures at_work { IsAtWork indexed.now state.new work.new.stack.items work.new }
     ensures goes_on { WorkGoesOn indexed.now state.old work.old state.new work.new }
 {
-    let moved = Moved {
+    let moved = ValueChange {
         former: indexed.layered.initial_value(var),
         value: state.value(var),
     };

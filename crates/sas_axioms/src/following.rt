@@ -10,7 +10,7 @@ ghost use Rattle.sas_core.specs.Variables.{IsDerived, IsState};
 ghost use Rattle.sas_meaning.specs.Following.{HaveGone};
 ghost use Rattle.sas_meaning.specs.Forced.{SameOff};
 ghost use Rattle.sas_meaning.specs.Settled.{SameBasic, differs};
-ghost use Rattle.sas_meaning.specs.Touched.{AddsTouched, StillCovers};
+ghost use Rattle.sas_meaning.specs.ChangedVariables.{AddsTouched, StillCovers};
 ghost use Rattle.sas_axioms.specs.Agenda.{IsEmpty, IsOnAgenda, IsOrdered, AreMadeReady, work_left};
 ghost use Rattle.sas_axioms.specs.Conditions.{AreCounted};
 ghost use Rattle.sas_axioms.specs.LayerRules.{IsRuleOn};
@@ -18,13 +18,13 @@ ghost use Rattle.sas_axioms.specs.Sources.{SameSourcesOff};
 ghost use Rattle.sas_axioms.specs.Following.{SameWork, KeepsRoom, NotesMore, CountsTo, CountsChange};
 ghost use Rattle.sas_axioms.specs.Following.{IsBetween, IsFalling, IsRising, HasRisen, IsFollowed};
 
-use crate::agenda::{Agenda, TooMuch};
-use crate::conditions::{Moved, count_after};
+use crate::agenda::{Agenda, OverBudget};
+use crate::conditions::{ValueChange, count_after};
 use crate::firing::Work;
 use crate::indexed_rules::IndexedRules;
 use crate::layer_rules::{LayerRule, firing_layer};
 use sas_core::{Fact, Grounded};
-use sas_meaning::{Layered, State, Touched};
+use sas_meaning::{ChangedVariables, Layered, State};
 
 /// Updates the counters of the rules with conditions on the variables of `gone`, which are facts that may have become false.
 pub fn count_gone<T: Grounded>(
@@ -32,7 +32,7 @@ pub fn count_gone<T: Grounded>(
     gone: &[Fact],
     work: &mut Work,
     state: &State,
-) -> Result<(), TooMuch>
+) -> Result<(), OverBudget>
     requires state { IsState indexed.now.variables state.now }
     requires follows { (s : List ℕ)
         × IsFollowed indexed.now s work.old × HaveGone indexed.now gone.now s state.now }
@@ -43,7 +43,7 @@ pub fn count_gone<T: Grounded>(
         → IsBetween indexed.now s 0 state.now work.new) }
 {
     for fact in gone {
-        let moved = Moved {
+        let moved = ValueChange {
             former: fact.value,
             value: state.value(fact.var),
         };
@@ -59,8 +59,8 @@ pub fn settle_noted<T: Grounded>(
     indexed: &IndexedRules<'_, '_, T>,
     work: &mut Work,
     state: &mut State,
-    touched: &mut Touched,
-) -> Result<(), TooMuch>
+    touched: &mut ChangedVariables,
+) -> Result<(), OverBudget>
     requires { (s : List ℕ) × IsBetween indexed.now s 0 state.old work.old }
     ensures state { IsState indexed.now.variables state.new }
     ensures basic { SameBasic indexed.now state.old state.new }
@@ -83,8 +83,8 @@ fn fall<T: Grounded>(
     indexed: &IndexedRules<'_, '_, T>,
     work: &mut Work,
     state: &mut State,
-    touched: &mut Touched,
-) -> Result<(), TooMuch>
+    touched: &mut ChangedVariables,
+) -> Result<(), OverBudget>
     requires falling { (s : List ℕ) × IsFalling indexed.now s state.old work.old }
     requires noted { (rule : ℕ) × IsOnAgenda work.old.agenda work.old.layer rule }
     ensures same { SameWork work.old work.new }
@@ -133,7 +133,7 @@ fn has_lost<T: Grounded>(layered: &Layered<T>, rule: u32, work: &Work, state: &S
 }
 
 /// Makes all these rules ready.
-fn make_ready(rules: &[u32], agenda: &mut Agenda) -> Result<(), TooMuch>
+fn make_ready(rules: &[u32], agenda: &mut Agenda) -> Result<(), OverBudget>
     ensures { OnOk result (AreMadeReady rules.now agenda.old agenda.new) }
 {
     agenda.pay(rules.len())?;
@@ -148,8 +148,8 @@ fn rise<T: Grounded>(
     indexed: &IndexedRules<'_, '_, T>,
     work: &mut Work,
     state: &mut State,
-    touched: &mut Touched,
-) -> Result<(), TooMuch>
+    touched: &mut ChangedVariables,
+) -> Result<(), OverBudget>
     requires { (s : List ℕ) × IsRising indexed.now s state.old work.old }
     ensures stands { KeepsRoom work.old work.new }
     ensures state { IsState indexed.now.variables state.new }
@@ -197,8 +197,8 @@ fn set_to<T: Grounded>(
     fact: Fact,
     work: &mut Work,
     state: &mut State,
-    touched: &mut Touched,
-) -> Result<(), TooMuch>
+    touched: &mut ChangedVariables,
+) -> Result<(), OverBudget>
     requires counts { AreCounted indexed.now state.old work.old.counters }
     requires ordered { IsOrdered work.old.agenda }
     requires derived { IsDerived indexed.now.variables fact.var }
@@ -209,7 +209,7 @@ fn set_to<T: Grounded>(
     ensures moves { OnOk result
         (CountsChange indexed.now fact.var state.old work.old state.new work.new) }
 {
-    let moved = Moved {
+    let moved = ValueChange {
         former: state.value(fact.var),
         value: fact.value,
     };
@@ -222,9 +222,9 @@ fn set_to<T: Grounded>(
 fn recount<T: Grounded>(
     indexed: &IndexedRules<'_, '_, T>,
     var: u32,
-    moved: Moved,
+    moved: ValueChange,
     work: &mut Work,
-) -> Result<(), TooMuch>
+) -> Result<(), OverBudget>
     requires exists { var < length indexed.now.variables }
     requires differ { moved.former ≢ moved.value }
     requires counts { (s : List ℕ)
@@ -251,7 +251,7 @@ fn count_to<T: Grounded>(
     rule: u32,
     count: u32,
     work: &mut Work,
-) -> Result<(), TooMuch>
+) -> Result<(), OverBudget>
     requires exists { rule < length layered.now.rules }
     requires counters { length work.old.counters ≡ length layered.now.rules }
     requires ordered { IsOrdered work.old.agenda }
@@ -261,13 +261,17 @@ fn count_to<T: Grounded>(
     let held = work.counters.as_slice()[rule as usize] == 0;
     work.counters.set(rule as usize, count);
     if held != (count == 0) {
-        note(layered, rule, &mut work.agenda)?;
+        note_rule(layered, rule, &mut work.agenda)?;
     }
     Ok(())
 }
 
 /// Notes the rule if it can fire.
-fn note<T: Grounded>(layered: &Layered<T>, rule: u32, agenda: &mut Agenda) -> Result<(), TooMuch>
+fn note_rule<T: Grounded>(
+    layered: &Layered<T>,
+    rule: u32,
+    agenda: &mut Agenda,
+) -> Result<(), OverBudget>
     requires exists { rule < length layered.now.rules }
     requires ordered { IsOrdered agenda.old }
     ensures noted { OnOk result ((layer : ℕ) → IsRuleOn layered.now layer rule

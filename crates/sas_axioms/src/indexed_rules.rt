@@ -1,5 +1,5 @@
 // A layered task together with the indexes of its rules.
-use crate::conditions::Waiting;
+use crate::conditions::RuleCondition;
 use sas_core::Grounded;
 use sas_flat::Lists;
 use sas_meaning::Layered;
@@ -11,7 +11,7 @@ use std::marker::Model;
 pub struct IndexedRules<'a, 'b, T: Grounded> {
     pub layered: &'a Layered<T>,
     /// For each variable, the conditions on it.
-    pub waiting: &'b Lists<Waiting>,
+    pub waiting: &'b Lists<RuleCondition>,
     /// For each derived variable, its rules.
     pub setting: &'b Lists<u32>,
 }

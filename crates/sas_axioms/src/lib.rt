@@ -13,8 +13,10 @@ mod layer_rules;
 mod rounds;
 mod worklist;
 
-pub use conditions::{Waiting, index_of_all};
+pub use conditions::{RuleCondition, index_of_all};
 pub use layer_rules::rules_of_variables;
 pub use rounds::Rounds;
-pub use sas_meaning::{LayerFault, Layered, Settle, State, StateFault, Touched, meaning_laws};
+pub use sas_meaning::{
+    ChangedVariables, LayerFault, Layered, Settle, State, StateFault, meaning_laws,
+};
 pub use worklist::Worklist;

@@ -7,10 +7,10 @@ ghost use Rattle.sas_meaning.specs.Forced.{AtDefault};
 ghost use Rattle.sas_axioms.specs.Worklist.{IsReadyFor};
 
 use crate::by_layers::{ByLayers, settle_by_layers};
-use crate::firing::Firing;
+use crate::firing::LayerSettler;
 use crate::layer_rules::{LayerRule, LayerSpan, first_rules, spans_of};
 use sas_core::{Fact, Grounded};
-use sas_meaning::{Layered, Settle, State, Touched, derived_variables};
+use sas_meaning::{ChangedVariables, Layered, Settle, State, derived_variables};
 use std::alloc::{AllocError, Global};
 
 /// An evaluator for the states of one layered task. It keeps counts of the previous state to settle the next one faster, but it can settle
@@ -28,7 +28,7 @@ pub struct Worklist {
     /// The index of the first rule of the next layer in `rules`.
     start: usize,
     /// The evaluator of single layers.
-    firing: Firing,
+    firing: LayerSettler,
 }
 
 impl Drop for Worklist {
@@ -65,7 +65,7 @@ impl Worklist {
             spans,
             next: 0,
             start: 0,
-            firing: Firing::new(alloc, layered, share)?,
+            firing: LayerSettler::new(alloc, layered, share)?,
         })
     }
 }
@@ -87,7 +87,7 @@ impl<T: Grounded> Settle<T> for Worklist {
         layered: &Layered<T>,
         gone: &[Fact],
         state: &mut State,
-        touched: &mut Touched,
+        touched: &mut ChangedVariables,
     ) {
         touched.clear();
         if self.derived.is_empty() {
@@ -112,7 +112,7 @@ impl<T: Grounded> ByLayers<T> for Worklist {
     ghost follows = { λ w p s. IsFollowed p s w.firing.work };
 
     fn begin(&mut self, layered: &Layered<T>, state: &mut State) {
-        set_defaults(layered, self.derived.as_slice(), state);
+        reset_derived(layered, self.derived.as_slice(), state);
         self.firing.begin(layered, state);
         self.next = 0;
         self.start = 0;
@@ -130,7 +130,7 @@ impl<T: Grounded> ByLayers<T> for Worklist {
 }
 
 /// Sets the derived variables, which are `derived`, to their default.
-fn set_defaults<T: Grounded>(layered: &Layered<T>, derived: &[u32], state: &mut State)
+fn reset_derived<T: Grounded>(layered: &Layered<T>, derived: &[u32], state: &mut State)
     requires derived { AreDerived layered.now derived.now }
     requires state { IsState layered.now.variables state.old }
     ensures state { IsState layered.now.variables state.new }

@@ -18,7 +18,7 @@ pub const INPUT_TOO_LONG: u32 = 4;
 pub const NO_TASK: u32 = 5;
 
 /// Returns the number of a status.
-pub fn number_of(status: Status) -> u32
+pub fn status_number(status: Status) -> u32
     ensures { result ≡ number_of_status status }
 {
     match status {
@@ -29,7 +29,7 @@ pub fn number_of(status: Status) -> u32
 
 /// Returns the number of a run that ended without an answer. Bytes in memory are read and written without a failure, so
 /// without memory is the only other end.
-pub fn number_without(fault: ToolFault) -> u32
+pub fn fault_number(fault: ToolFault) -> u32
     ensures { result ≡ number_of_fault fault }
 {
     match fault {

@@ -10,7 +10,7 @@ ghost use Rattle.sas_requests.specs.TraceOut.{TraceOut};
 ghost use Rattle.sas_c.specs.Reporting.{Returns, ReturnsHeadline, ReturnsLastLine};
 ghost use Rattle.sas_c.specs.Holding.{HeldOut, HoldsTask};
 
-use crate::numbers::{NO_TASK, number_without};
+use crate::numbers::{NO_TASK, fault_number};
 use crate::prepared::Prepared;
 use crate::reporting::{report_ended, return_answer};
 use crate::sas_task::SasTask;
@@ -121,7 +121,7 @@ fn answer_held(
 {
     match task.take(alloc) {
         Some(mut prepared) => {
-            let number = answer_plan(alloc, &mut prepared, call, room, size);
+            let number = answer_loaded(alloc, &mut prepared, call, room, size);
             task.put(prepared);
             number
         }
@@ -130,7 +130,7 @@ fn answer_held(
 }
 
 /// Writes the answer about the plan for this task.
-fn answer_plan(
+fn answer_loaded(
     alloc: Global,
     prepared: &mut Prepared,
     call: PlanCall<'_>,
@@ -146,7 +146,7 @@ fn answer_plan(
         // The names and the evaluator of the loaded task serve all its plans.
         PlanDetail::Plain => match judge_bytes(alloc, &mut prepared.held, call.plan) {
             Ok(answer) => return_answer(answer, room, size),
-            Err(fault) => number_without(fault),
+            Err(fault) => fault_number(fault),
         },
         PlanDetail::Reasons | PlanDetail::Trace => {
             let mut text = Watched::new(Vec::new(alloc));

@@ -4,7 +4,7 @@ ghost use Rattle.sas_output.specs.Ending.{output_of};
 ghost use Rattle.sas_c.specs.Reporting.{Returns};
 ghost use Rattle.sas_c.specs.Written.{IsWritten};
 
-use crate::numbers::{ROOM_TOO_SHORT, number_of, number_without};
+use crate::numbers::{ROOM_TOO_SHORT, fault_number, status_number};
 use sas_lines::Watched;
 use sas_output::{Answer, Status, ToolFault};
 
@@ -14,7 +14,7 @@ pub fn report(text: &[u8], status: Status, room: &mut [u8], size: &mut usize) ->
         room.old room.new size.new result }
 {
     if copy(text, room, size) {
-        number_of(status)
+        status_number(status)
     } else {
         ROOM_TOO_SHORT
     }
@@ -42,7 +42,7 @@ pub fn report_ended(
 {
     match ended {
         Ok(status) => report(text.into_device().as_slice(), status, room, size),
-        Err(fault) => number_without(fault),
+        Err(fault) => fault_number(fault),
     }
 }
 

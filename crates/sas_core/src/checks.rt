@@ -34,7 +34,7 @@ pub enum PartsFault {
 }
 
 /// A part of a task file that can be checked.
-trait Checked {
+trait Checkable {
     ghost use Rattle.std.specs.Prelude.{◌≡◌, List};
     ghost use Rattle.std.specs.Result.{result_err};
     ghost use Rattle.sas_core.specs.declared.checks.PartsFault.{PartsFault};
@@ -50,7 +50,7 @@ trait Checked {
 }
 
 /// Checks the length of the list, then each item in order.
-fn check_list<T: Checked>(variables: &Items<Variable>, items: &Items<T>) -> Result<(), PartsFault>
+fn check_list<T: Checkable>(variables: &Items<Variable>, items: &Items<T>) -> Result<(), PartsFault>
     ensures { result_err result ≡ first_fault
         (listed TooMany (T.checks_of variables.now) items.now) }
 {
@@ -75,7 +75,7 @@ pub fn check_parts(parts: &Parts) -> Result<(), PartsFault>
     check_list(variables, &parts.rules)
 }
 
-impl Checked for Variable {
+impl Checkable for Variable {
     ghost checks_of = { λ _. variable_checks };
 
     fn check_among(&self, variables: &Items<Variable>) -> Result<(), PartsFault> {
@@ -96,7 +96,7 @@ fn check_layer(layer: Option<u32>) -> Result<(), PartsFault>
 }
 
 /// A name.
-impl Checked for Items<u8> {
+impl Checkable for Items<u8> {
     ghost checks_of = { λ _. name_checks };
 
     fn check_among(&self, _variables: &Items<Variable>) -> Result<(), PartsFault> {
@@ -105,7 +105,7 @@ impl Checked for Items<u8> {
 }
 
 /// A mutex group, or the conditions of an operator, an effect or a rule.
-impl Checked for Items<Fact> {
+impl Checkable for Items<Fact> {
     ghost checks_of = { λ variables. listed TooMany (fact_checks variables) };
 
     fn check_among(&self, variables: &Items<Variable>) -> Result<(), PartsFault> {
@@ -113,7 +113,7 @@ impl Checked for Items<Fact> {
     }
 }
 
-impl Checked for Fact {
+impl Checkable for Fact {
     ghost checks_of = { fact_checks };
 
     fn check_among(&self, variables: &Items<Variable>) -> Result<(), PartsFault> {
@@ -139,7 +139,7 @@ fn values_in_range(variables: &Items<Variable>, values: &Items<u32>) -> bool
     pairs.all(|(variable, value)| (*value as usize) < variable.values.len())
 }
 
-impl Checked for Operator {
+impl Checkable for Operator {
     ghost checks_of = { operator_checks };
 
     fn check_among(&self, variables: &Items<Variable>) -> Result<(), PartsFault> {
@@ -151,7 +151,7 @@ impl Checked for Operator {
 }
 
 /// An effect or a rule.
-impl Checked for Effect {
+impl Checkable for Effect {
     ghost checks_of = { effect_checks };
 
     fn check_among(&self, variables: &Items<Variable>) -> Result<(), PartsFault> {

@@ -18,4 +18,4 @@ pub use names::{is_name, is_one_line};
 pub use parts::{Effect, Fact, Operator, Parts, Rule, Variable};
 pub use plan::{BadName, CostKind, Plan};
 pub use stepwise::Stepwise;
-pub use task::{Task, task_laws};
+pub use task::{Task, range_laws};

@@ -122,6 +122,6 @@ impl Task {
 }
 
 /// Law: parts are well ranged if and only if all their checks pass.
-pub fn task_laws()
+pub fn range_laws()
     ensures { ChecksAreTheRules }
 {}

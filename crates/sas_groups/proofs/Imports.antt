@@ -58,8 +58,8 @@ pub use Rattle.sas_groups.specs.Noting.{AreBelow, IsNotedToo, NotesForGroup, Tak
 pub use Rattle.sas_groups.specs.Runs.{AreOnOne, AreRuns, runs_at}
 pub use Rattle.sas_groups.specs.Verdicts.{IsJointVerdict, IsFirstBreaking, IsVerdictAlone}
 pub use Rattle.sas_groups.specs.declared.index.Index.{Index}
-pub use Rattle.sas_groups.specs.declared.notes.Noted.{Noted}
-pub use Rattle.sas_groups.specs.declared.notes.Noted.TheVariants.{Nothing, One, Several}
+pub use Rattle.sas_groups.specs.declared.notes.GroupNote.{GroupNote}
+pub use Rattle.sas_groups.specs.declared.notes.GroupNote.TheVariants.{Nothing, One, Several}
 pub use Rattle.sas_groups.specs.declared.notes.Notes.{Notes}
 pub use Rattle.sas_groups.specs.declared.verdict.Verdict.{Verdict}
 pub use Rattle.sas_groups.specs.declared.verdict.Verdict.TheVariants.{Exclusive, Derived, Broken}

@@ -1,5 +1,5 @@
 -- The notes after one more fact is recorded or removed.
-use Rattle.sas_groups.proofs.Imports.{◌≡◌, ◌≢◌, ◌⊎◌, ℕ, ◌<◌, Bool, IsTrue, length, set, List, Option, None, Some, subst, refl, sym, ap, ◌∙◌, inl, inr, arith, All, Contains, cases_eq, get_or-set_same, get_or-set_other, length-set, All-contains, Fact, Parts, FactExists, common_steps, same_Some, Index, Notes, Noted, Nothing, One, Several, family_of, IsIndexOf, groups_of, value_note, group_note, AreBlank, AreFrom, IsValueNote, IsOfGroup, IsOfGroupBeside, IsNoteOf, IsGroupNote, AreNotesOf, IsNotedToo, NotesForGroup, TakenBySome, ShareKept, ChangesAt, IsSetApart, IsSet, IsCompleted, Forgets, IsForgotten}
+use Rattle.sas_groups.proofs.Imports.{◌≡◌, ◌≢◌, ◌⊎◌, ℕ, ◌<◌, Bool, IsTrue, length, set, List, Option, None, Some, subst, refl, sym, ap, ◌∙◌, inl, inr, arith, All, Contains, cases_eq, get_or-set_same, get_or-set_other, length-set, All-contains, Fact, Parts, FactExists, common_steps, same_Some, Index, Notes, GroupNote, Nothing, One, Several, family_of, IsIndexOf, groups_of, value_note, group_note, AreBlank, AreFrom, IsValueNote, IsOfGroup, IsOfGroupBeside, IsNoteOf, IsGroupNote, AreNotesOf, IsNotedToo, NotesForGroup, TakenBySome, ShareKept, ChangesAt, IsSetApart, IsSet, IsCompleted, Forgets, IsForgotten}
 use Rattle.sas_groups.proofs.InLists.{is_among}
 use Rattle.sas_groups.proofs.Existing.{variable_below}
 
@@ -23,23 +23,23 @@ pub a_note : {A : Type 0} (noted : Option A) → (noted ≡ None) ⊎ ((x : A) �
 a_note None = inl refl
 a_note (Some x) = inr (x, refl)
 
-nothing_or_not : (noted : Noted) → (noted ≡ Nothing) ⊎ (noted ≢ Nothing)
+nothing_or_not : (noted : GroupNote) → (noted ≡ Nothing) ⊎ (noted ≢ Nothing)
 nothing_or_not Nothing = inl refl
 nothing_or_not (One f) = inr (λ e. absurd cc)
 nothing_or_not Several = inr (λ e. absurd cc)
 
 -- a fact that is noted twice is noted once
-one_again : (fact : Fact) (after : Noted) → IsNotedToo (One fact) fact after → after ≡ One fact
+one_again : (fact : Fact) (after : GroupNote) → IsNotedToo (One fact) fact after → after ≡ One fact
 one_again fact after too = grind (arith, common_steps)
 
-pub noted_again : (before now : Noted) (fact : Fact) (after : Noted) → IsNotedToo before fact now → IsNotedToo now fact after → IsNotedToo before fact after
+pub noted_again : (before now : GroupNote) (fact : Fact) (after : GroupNote) → IsNotedToo before fact now → IsNotedToo now fact after → IsNotedToo before fact after
 noted_again Nothing now fact after first second = one_again fact after (subst (λ noted. IsNotedToo noted fact after) first second)
 noted_again (One other) now fact after first second = grind (arith, common_steps, one_again)
 noted_again Several now fact after first second = subst (λ noted. IsNotedToo noted fact after) first second
 
 -- the groups that take a fact, one more of them
-module _ (groups : List ℕ) (kept : List Bool) (fact : Fact) (before now : List Noted) (some : TakenBySome groups kept fact before now)
-    (place : ℕ) (after : Noted) (too : IsNotedToo (group_note now place) fact after) where
+module _ (groups : List ℕ) (kept : List Bool) (fact : Fact) (before now : List GroupNote) (some : TakenBySome groups kept fact before now)
+    (place : ℕ) (after : GroupNote) (too : IsNotedToo (group_note now place) fact after) where
   pub since_before : IsNotedToo (group_note before place) fact after
   since_before = elim (some.each place) [
     | inl same ↦ subst (λ noted. IsNotedToo noted fact after) same too
@@ -80,20 +80,20 @@ pub no_value_note_shows : (facts : List Fact) (var : ℕ) (noted : Option ℕ) �
     → (f : Fact) → Contains facts f → f.var ≢ var
 no_value_note_shows facts var noted is at = (let none = subst (λ n. IsValueNote facts var n) at is in none.none)
 
-pub one_note_shows : (p : Parts) (facts : List Fact) (place : ℕ) (f : Fact) (noted : Noted) → IsGroupNote p facts place noted → noted ≡ One f
+pub one_note_shows : (p : Parts) (facts : List Fact) (place : ℕ) (f : Fact) (noted : GroupNote) → IsGroupNote p facts place noted → noted ≡ One f
     → IsOfGroup p facts place f × ((other : Fact) → IsOfGroup p facts place other → other ≡ f)
 one_note_shows p facts place f noted is at = subst (IsGroupNote p facts place) at is
 
-pub no_note_shows : (Are : Fact → Type 0) (noted : Noted) → IsNoteOf Are noted → noted ≡ Nothing → (f : Fact) → Are f → ⊥
+pub no_note_shows : (Are : Fact → Type 0) (noted : GroupNote) → IsNoteOf Are noted → noted ≡ Nothing → (f : Fact) → Are f → ⊥
 no_note_shows Are noted is at = subst (IsNoteOf Are) at is
 
-pub some_note_shows : (Are : Fact → Type 0) (noted : Noted) → IsNoteOf Are noted → noted ≢ Nothing → (f : Fact) × Are f
+pub some_note_shows : (Are : Fact → Type 0) (noted : GroupNote) → IsNoteOf Are noted → noted ≢ Nothing → (f : Fact) × Are f
 some_note_shows Are Nothing is some = absurd (some refl)
 some_note_shows Are (One f) is some = (f, is.0)
 some_note_shows Are Several is some = (is.0, is.2)
 
 -- where not several facts are noted, two that are known are one
-pub at_most_one : (p : Parts) (facts : List Fact) (place : ℕ) (noted : Noted) → IsGroupNote p facts place noted → noted ≢ Several
+pub at_most_one : (p : Parts) (facts : List Fact) (place : ℕ) (noted : GroupNote) → IsGroupNote p facts place noted → noted ≢ Several
     → (f g : Fact) → IsOfGroup p facts place f → IsOfGroup p facts place g → f ≡ g
 at_most_one p facts place Nothing is few f g of_f of_g = absurd (is f of_f)
 at_most_one p facts place (One one) is few f g of_f of_g = is.1 f of_f ∙ sym (is.1 g of_g)
@@ -107,19 +107,19 @@ value_note_of facts var (Some value) some none = record { some = some value refl
 -- what is noted of some facts, as one more is among them
 module _ (Before After : Fact → Type 0) (fact : Fact) (too_then : (f : Fact) → Before f → After f) (either : (f : Fact) → After f → Before f ⊎ (fact ≡ f)) where
   -- it stays where no such fact is new
-  pub note_stays : (noted : Noted) → ((f : Fact) → After f → Before f) → IsNoteOf Before noted → IsNoteOf After noted
+  pub note_stays : (noted : GroupNote) → ((f : Fact) → After f → Before f) → IsNoteOf Before noted → IsNoteOf After noted
   note_stays Nothing back is = λ f of. is f (back f of)
   note_stays (One one) back is = (too_then one is.0, λ other of. is.1 other (back other of))
   note_stays Several back is = (is.0, is.1, too_then is.0 is.2, too_then is.1 is.3, is.4)
 
-  pub note_changes : (noted after : Noted) → After fact → IsNotedToo noted fact after → IsNoteOf Before noted → IsNoteOf After after
+  pub note_changes : (noted after : GroupNote) → After fact → IsNotedToo noted fact after → IsNoteOf Before noted → IsNoteOf After after
   note_changes Nothing after its too is = grind (arith, common_steps)
   note_changes (One one) after its too is = grind (arith, common_steps)
   note_changes Several after its too is = subst (IsNoteOf After) (sym too) (is.0, is.1, too_then is.0 is.2, too_then is.1 is.3, is.4)
 
 -- where a fact is refused another is noted, and where it isn't none is
 module _ (Before : Fact → Type 0) (fact : Fact) where
-  pub other_known : (noted : Noted) → IsNotedToo noted fact Several → IsNoteOf Before noted → (g : Fact) × Before g × (fact ≢ g)
+  pub other_known : (noted : GroupNote) → IsNotedToo noted fact Several → IsNoteOf Before noted → (g : Fact) × Before g × (fact ≢ g)
   other_known Nothing too is = absurd cc
   other_known (One one) too is = grind (arith, common_steps)
   other_known Several too is = elim (one_or_two fact is.0) [
@@ -127,7 +127,7 @@ module _ (Before : Fact → Type 0) (fact : Fact) where
     | inr ne ↦ (is.0, is.2, ne)
   ]
 
-  pub no_other : (noted after : Noted) → IsNoteOf Before noted → IsNotedToo noted fact after → after ≢ Several → (f : Fact) → Before f → f ≡ fact
+  pub no_other : (noted after : GroupNote) → IsNoteOf Before noted → IsNotedToo noted fact after → after ≢ Several → (f : Fact) → Before f → f ≡ fact
   no_other Nothing after is too few f of = absurd (is f of)
   no_other (One one) after is too few f of = grind (arith, common_steps)
   no_other Several after is too few f of = absurd (few too)
@@ -136,7 +136,7 @@ pub shared_turned : (index : Index) (kept : List Bool) (f g : Fact) → ShareKep
 shared_turned index kept f g share = record { place = share.place; first = share.second; second = share.first; kept_there = share.kept_there }
 
 -- what is noted for a group, completed by the fact apart, is what is noted of all facts
-pub completed : (p : Parts) (index : Index) (facts : List Fact) (notes : Notes) (place : ℕ) (noted : Noted) → IsIndexOf p index
+pub completed : (p : Parts) (index : Index) (facts : List Fact) (notes : Notes) (place : ℕ) (noted : GroupNote) → IsIndexOf p index
     → ((f : Fact) → Contains facts f → FactExists p.variables f) → place < length p.groups
     → AreNotesOf p facts notes → IsCompleted index notes place noted → IsGroupNote p facts place noted
 completed p index facts notes place noted indexed there exists are is = elim (a_note notes.apart) [

@@ -3,15 +3,15 @@ use Rattle.std.specs.Prelude.{◌≡◌, ◌≢◌, ℕ, ◌<◌, List, length, 
 use Rattle.sas_core.specs.declared.parts.Fact.{Fact}
 use Rattle.sas_core.specs.declared.parts.Parts.{Parts}
 use Rattle.sas_groups.specs.declared.notes.Notes.{Notes}
-use Rattle.sas_groups.specs.declared.notes.Noted.{Noted}
-use Rattle.sas_groups.specs.declared.notes.Noted.TheVariants.{Nothing, One, Several}
+use Rattle.sas_groups.specs.declared.notes.GroupNote.{GroupNote}
+use Rattle.sas_groups.specs.declared.notes.GroupNote.TheVariants.{Nothing, One, Several}
 use Rattle.sas_groups.specs.ByFact.{HasFact}
 
 -- the value recorded for a variable, and the record of a group
 abbrev pub value_note : List (Option ℕ) → ℕ → Option ℕ
 value_note values var = slice_index_or values var None
 
-abbrev pub group_note : List Noted → ℕ → Noted
+abbrev pub group_note : List GroupNote → ℕ → GroupNote
 group_note groups place = slice_index_or groups place Nothing
 
 -- there is an entry for each variable and each group
@@ -41,7 +41,7 @@ pub record IsValueNote (facts : List Fact) (var : ℕ) (note : Option ℕ) : Typ
   pub none : IfNone note ((fact : Fact) → Contains facts fact → fact.var ≢ var)
 
 -- the record of some facts: there is none, only this one, or at least two different ones
-abbrev pub IsNoteOf : (Fact → Type 0) → Noted → Type 0
+abbrev pub IsNoteOf : (Fact → Type 0) → GroupNote → Type 0
 IsNoteOf Are Nothing = (fact : Fact) → Are fact → ⊥
 IsNoteOf Are (One fact) = Are fact × ((other : Fact) → Are other → other ≡ fact)
 IsNoteOf Are Several = (f g : Fact) × Are f × Are g × (f ≢ g)
@@ -58,7 +58,7 @@ pub record IsOfGroupBeside (p : Parts) (facts : List Fact) (apart : Option Fact)
   pub beside : apart ≢ Some fact
 
 -- the record of those facts that the group with this index contains
-abbrev pub IsGroupNote : Parts → List Fact → ℕ → Noted → Type 0
+abbrev pub IsGroupNote : Parts → List Fact → ℕ → GroupNote → Type 0
 IsGroupNote p facts place = IsNoteOf (IsOfGroup p facts place)
 
 -- these facts are recorded by variable, and all of them except the one set apart by group

@@ -3,8 +3,8 @@ use Rattle.std.specs.Prelude.{◌≡◌, ◌≢◌, ◌⊎◌, ℕ, ◌<◌, Boo
 use Rattle.sas_core.specs.declared.parts.Fact.{Fact}
 use Rattle.sas_core.specs.declared.parts.Parts.{Parts}
 use Rattle.sas_groups.specs.declared.notes.Notes.{Notes}
-use Rattle.sas_groups.specs.declared.notes.Noted.{Noted}
-use Rattle.sas_groups.specs.declared.notes.Noted.TheVariants.{Nothing, One, Several}
+use Rattle.sas_groups.specs.declared.notes.GroupNote.{GroupNote}
+use Rattle.sas_groups.specs.declared.notes.GroupNote.TheVariants.{Nothing, One, Several}
 use Rattle.sas_groups.specs.Kept.{family_of}
 use Rattle.sas_groups.specs.declared.index.Index.{Index}
 use Rattle.sas_groups.specs.ByFact.{HasFact}
@@ -32,14 +32,14 @@ abbrev pub HasApart : Index → ℕ → Option Fact → Fact → Type 0
 HasApart index place apart fact = (apart ≡ Some fact) × Contains (groups_of index fact) place
 
 -- the record of a group after this fact of the group is recorded, too
-abbrev pub IsNotedToo : Noted → Fact → Noted → Type 0
+abbrev pub IsNotedToo : GroupNote → Fact → GroupNote → Type 0
 IsNotedToo Nothing fact after = after ≡ One fact
 IsNotedToo (One other) fact after =
     ((other ≡ fact) × (after ≡ One fact)) ⊎ ((other ≢ fact) × (after ≡ Several))
 IsNotedToo Several fact after = after ≡ Several
 
 -- another fact is recorded for one of these groups that is in the family
-pub record IsExcluded (groups : List ℕ) (kept : List Bool) (fact : Fact) (noted : List Noted)
+pub record IsExcluded (groups : List ℕ) (kept : List Bool) (fact : Fact) (noted : List GroupNote)
     : Type 0 where
   pub place : ℕ
   pub among : Contains groups place
@@ -49,7 +49,7 @@ pub record IsExcluded (groups : List ℕ) (kept : List Bool) (fact : Fact) (note
 -- the fact is now recorded for this group, which is one of these groups; if it is in the family, no
 -- other fact is recorded for it
 pub record NotesForGroup (groups : List ℕ) (kept : List Bool)
-    (fact : Fact) (before after : List Noted)
+    (fact : Fact) (before after : List GroupNote)
     (place : ℕ) : Type 0 where
   pub among : Contains groups place
   pub now : IsNotedToo (group_note before place) fact (group_note after place)
@@ -57,13 +57,13 @@ pub record NotesForGroup (groups : List ℕ) (kept : List Bool)
 
 -- the fact was recorded for some of these groups; all other records are unchanged
 pub record TakenBySome (groups : List ℕ) (kept : List Bool) (fact : Fact)
-    (before after : List Noted) : Type 0 where
+    (before after : List GroupNote) : Type 0 where
   pub as_many : length after ≡ length before
   pub each : (place : ℕ) → (group_note after place ≡ group_note before place)
       ⊎ NotesForGroup groups kept fact before after place
 
 -- the fact was recorded for all of these groups
-abbrev pub TakenByAll : List ℕ → List Bool → Fact → List Noted → List Noted → Type 0
+abbrev pub TakenByAll : List ℕ → List Bool → Fact → List GroupNote → List GroupNote → Type 0
 TakenByAll groups kept fact before after =
     (place : ℕ) → Contains groups place → NotesForGroup groups kept fact before after place
 
@@ -119,14 +119,14 @@ pub record IsSetApart (apart : Option Fact) (before after : Notes) : Type 0 wher
   pub same_groups : after.groups ≡ before.groups
 
 -- the record of the group with this index, including the fact set apart
-pub record IsCompleted (index : Index) (notes : Notes) (place : ℕ) (noted : Noted) : Type 0 where
+pub record IsCompleted (index : Index) (notes : Notes) (place : ℕ) (noted : GroupNote) : Type 0 where
   pub with_apart : (fact : Fact) → HasApart index place notes.apart fact
       → IsNotedToo (group_note notes.groups place) fact noted
   pub without : ((fact : Fact) → HasApart index place notes.apart fact → ⊥)
       → noted ≡ group_note notes.groups place
 
 -- the records of these groups are removed; those of other groups are unchanged or removed
-pub record ForgetsGroups (groups : List ℕ) (before after : List Noted) : Type 0 where
+pub record ForgetsGroups (groups : List ℕ) (before after : List GroupNote) : Type 0 where
   pub as_many : length after ≡ length before
   pub none : All (λ (place : ℕ). group_note after place ≡ Nothing) groups
   pub each : (place : ℕ)
@@ -146,7 +146,7 @@ pub record IsForgotten (p : Parts) (notes : Notes) (fact : Fact) : Type 0 where
       → (notes.apart ≡ Some fact) ⊎ (group_note notes.groups place ≡ Nothing)
 
 -- a fact is recorded for one of these groups that is in the family
-pub record HasNotedGroup (groups : List ℕ) (kept : List Bool) (noted : List Noted) : Type 0 where
+pub record HasNotedGroup (groups : List ℕ) (kept : List Bool) (noted : List GroupNote) : Type 0 where
   pub place : ℕ
   pub among : Contains groups place
   pub kept_there : IsTrue (family_of kept place)

@@ -14,7 +14,7 @@ pub struct Groups {
 
 /// The groups that were used in tests since the last call of `clear`, unless they are too many.
 #[derive(Drop)]
-pub struct Deciding {
+pub struct DecidingGroups {
     noted: Cell<Groups>,
 }
 
@@ -52,10 +52,10 @@ impl Groups {
     }
 }
 
-impl Deciding {
+impl DecidingGroups {
     /// Returns an empty record.
-    pub fn new() -> Deciding {
-        Deciding {
+    pub fn new() -> DecidingGroups {
+        DecidingGroups {
             noted: Cell::new(Groups::NONE),
         }
     }

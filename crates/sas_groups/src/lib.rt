@@ -21,7 +21,7 @@ mod removal;
 mod runs;
 mod verdict;
 
-pub use deciding::{Deciding, MOST_GROUPS};
+pub use deciding::{DecidingGroups, MOST_GROUPS};
 pub use facts::Facts;
 pub use group::{before_operators, check_group};
 pub use index::Index;
@@ -29,7 +29,7 @@ pub use indexed::IndexedTask;
 pub use known::{Known, Premises};
 pub use laws::group_laws;
 pub use notes::{
-    Noted, Notes, forget, forget_facts, has_noted, has_wide, note, set_apart, shares_apart,
+    GroupNote, Notes, forget, forget_facts, has_noted, has_wide, note, set_apart, shares_apart,
     some_has, wider, widest_of,
 };
 pub use verdict::Verdict;

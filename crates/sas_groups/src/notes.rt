@@ -2,7 +2,7 @@
 ghost use Rattle.std.specs.Prelude.{◌≡◌, ◌≢◌, ◌<◌, ◌⊎◌, ◌↔◌, length, Some, None, IsTrue, IsFalse, IfOk, IfSome, All, Contains};
 ghost use Rattle.sas_core.specs.Variables.{FactExists};
 ghost use Rattle.sas_groups.specs.Kept.{family_of};
-ghost use Rattle.sas_groups.specs.declared.notes.Noted.TheVariants.{Nothing, One, Several};
+ghost use Rattle.sas_groups.specs.declared.notes.GroupNote.TheVariants.{Nothing, One, Several};
 ghost use Rattle.sas_groups.specs.Index.{groups_of};
 ghost use Rattle.sas_groups.specs.Notes.{AreBlank, AreFrom};
 ghost use Rattle.sas_groups.specs.Noting.{AreBelow, ShareKept, SharesApart, IsContradicted};
@@ -10,7 +10,7 @@ ghost use Rattle.sas_groups.specs.Noting.{IsNotedToo, IsExcluded, TakenBySome, T
 ghost use Rattle.sas_groups.specs.Noting.{ChangesAt, IsThere, NotesFirstFact, ForgetsGroups, Forgets, IsSetApart, IsCompleted};
 ghost use Rattle.sas_groups.specs.Noting.{HasNotedGroup};
 
-use crate::deciding::Deciding;
+use crate::deciding::DecidingGroups;
 use crate::index::Index;
 use crate::indexed::IndexedTask;
 use sas_core::{Fact, Grounded, Items};
@@ -22,7 +22,7 @@ const FEW_GROUPS: usize = 8;
 
 /// Which facts of a group are recorded.
 #[derive(Clone, Copy)]
-pub enum Noted {
+pub enum GroupNote {
     /// No fact.
     Nothing,
     /// Only this fact.
@@ -31,16 +31,16 @@ pub enum Noted {
     Several,
 }
 
-impl Noted {
+impl GroupNote {
     /// Returns the record after this fact of the group is recorded, too.
     #[inline(always)]
-    fn with(self, fact: Fact) -> Noted
+    fn with(self, fact: Fact) -> GroupNote
         ensures { IsNotedToo self fact result }
     {
         match self {
-            Noted::Nothing => Noted::One(fact),
-            Noted::One(other) if other == fact => self,
-            _ => Noted::Several,
+            GroupNote::Nothing => GroupNote::One(fact),
+            GroupNote::One(other) if other == fact => self,
+            _ => GroupNote::Several,
         }
     }
 
@@ -51,7 +51,7 @@ impl Noted {
         ensures none { result ≡ None → (fact : Fact) → self ≢ One fact }
     {
         match self {
-            Noted::One(fact) => Some(fact),
+            GroupNote::One(fact) => Some(fact),
             _ => None,
         }
     }
@@ -61,7 +61,7 @@ impl Noted {
     pub fn is_nothing(self) -> bool
         ensures { IsTrue result ↔ (self ≡ Nothing) }
     {
-        matches!(self, Noted::Nothing)
+        matches!(self, GroupNote::Nothing)
     }
 
     /// Returns whether at least two different facts are recorded.
@@ -69,7 +69,7 @@ impl Noted {
     pub fn is_several(self) -> bool
         ensures { IsTrue result ↔ (self ≡ Several) }
     {
-        matches!(self, Noted::Several)
+        matches!(self, GroupNote::Several)
     }
 }
 
@@ -78,7 +78,7 @@ pub struct Notes {
     /// For each variable, the value of a recorded fact on it.
     pub values: Items<Option<u32>>,
     /// For each group, which of its facts are recorded, except the one set apart.
-    pub groups: Items<Noted>,
+    pub groups: Items<GroupNote>,
     /// A fact that is only recorded for its variable, since many groups contain it. Whether a group contains it is looked up in the index.
     pub apart: Option<Fact>,
     /// The cost of processing all recorded facts and their groups (except those of the fact set apart). It is a hint that no contract
@@ -113,7 +113,7 @@ impl Notes {
     {
         Ok(Notes {
             values: Items::from_vec(vec![in alloc; None; task.variables() as usize]?),
-            groups: Items::from_vec(vec![in alloc; Noted::Nothing; task.groups() as usize]?),
+            groups: Items::from_vec(vec![in alloc; GroupNote::Nothing; task.groups() as usize]?),
             apart: None,
             spread: 0,
             some_wide,
@@ -122,7 +122,7 @@ impl Notes {
 
     /// Returns which facts of the group are recorded, including the fact set apart.
     #[inline(always)]
-    pub fn noted(&self, index: &Index, group: u32) -> Noted
+    pub fn noted(&self, index: &Index, group: u32) -> GroupNote
         requires group { group < length self.now.groups }
         ensures { IsCompleted index.now self.now group result }
     {
@@ -189,7 +189,7 @@ pub fn note(
     kept: &[bool],
     fact: Fact,
     notes: &mut Notes,
-    deciding: &Deciding,
+    deciding: &DecidingGroups,
 ) -> bool
     requires value { fact.var < length notes.old.values }
     requires groups { AreBelow (length notes.old.groups) (groups_of index.now fact) }
@@ -222,7 +222,7 @@ pub fn shares_apart(
     kept: &[bool],
     fact: Fact,
     apart: Option<Fact>,
-    deciding: &Deciding,
+    deciding: &DecidingGroups,
 ) -> bool
     ensures { IsTrue result ↔ SharesApart index.now kept.now fact apart }
 {
@@ -233,7 +233,13 @@ pub fn shares_apart(
 }
 
 /// Returns whether a group of the family contains both facts. Searches the groups of the fact that has fewer.
-fn share_kept(index: &Index, kept: &[bool], fact: Fact, other: Fact, deciding: &Deciding) -> bool
+fn share_kept(
+    index: &Index,
+    kept: &[bool],
+    fact: Fact,
+    other: Fact,
+    deciding: &DecidingGroups,
+) -> bool
     ensures { IsTrue result ↔ ShareKept index.now kept.now fact other }
 {
     if index.groups_of(fact).len() <= index.groups_of(other).len() {
@@ -244,7 +250,13 @@ fn share_kept(index: &Index, kept: &[bool], fact: Fact, other: Fact, deciding: &
 }
 
 /// Returns whether a group of the family contains both facts. Searches the groups of `fact`.
-pub fn some_has(index: &Index, kept: &[bool], fact: Fact, other: Fact, deciding: &Deciding) -> bool
+pub fn some_has(
+    index: &Index,
+    kept: &[bool],
+    fact: Fact,
+    other: Fact,
+    deciding: &DecidingGroups,
+) -> bool
     ensures { IsTrue result ↔ ShareKept index.now kept.now fact other }
 {
     for group in index.groups_of(fact) {
@@ -273,8 +285,8 @@ fn note_in_groups(
     groups: &[u32],
     kept: &[bool],
     fact: Fact,
-    noted: &mut Items<Noted>,
-    deciding: &Deciding,
+    noted: &mut Items<GroupNote>,
+    deciding: &DecidingGroups,
 ) -> bool
     requires { AreBelow (length noted.old) groups.now }
     ensures yes { IsTrue result → TakenByAll groups.now kept.now fact noted.old noted.new }
@@ -293,7 +305,12 @@ fn note_in_groups(
 }
 
 /// Returns whether a fact is recorded for one of these groups that is in the family.
-pub fn has_noted(groups: &[u32], kept: &[bool], noted: &[Noted], deciding: &Deciding) -> bool
+pub fn has_noted(
+    groups: &[u32],
+    kept: &[bool],
+    noted: &[GroupNote],
+    deciding: &DecidingGroups,
+) -> bool
     requires { AreBelow (length noted.now) groups.now }
     ensures { IsTrue result ↔ HasNotedGroup groups.now kept.now noted.now }
 {
@@ -321,12 +338,12 @@ pub fn forget(index: &Index, fact: Fact, notes: &mut Notes)
 
 /// Removes what is recorded for these groups.
 #[inline(always)]
-fn forget_groups(groups: &[u32], noted: &mut Items<Noted>)
+fn forget_groups(groups: &[u32], noted: &mut Items<GroupNote>)
     requires { AreBelow (length noted.old) groups.now }
     ensures { ForgetsGroups groups.now noted.old noted.new }
 {
     for group in groups {
-        noted.set(*group as usize, Noted::Nothing);
+        noted.set(*group as usize, GroupNote::Nothing);
     }
 }
 

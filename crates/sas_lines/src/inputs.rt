@@ -4,7 +4,7 @@ use std::io::{Read, Result};
 /// An input that was opened: a file, standard input, or an empty input. A read is one read of the file or of standard input. The empty
 /// input returns 0 bytes.
 #[derive(Drop)]
-pub enum Opened<F, I> {
+pub enum OpenInput<F, I> {
     /// A file.
     File(F),
     /// Standard input.
@@ -13,16 +13,16 @@ pub enum Opened<F, I> {
     Nothing,
 }
 
-impl<F: Read, I: Read> Read for Opened<F, I> {
+impl<F: Read, I: Read> Read for OpenInput<F, I> {
     ghost use Rattle.sas_lines.specs.Inputs.{left_of};
 
     ghost remaining = { left_of F.remaining I.remaining };
 
     fn read(&mut self, buf: &mut [u8]) -> Result<usize> {
         match self {
-            Opened::File(file) => file.read(buf),
-            Opened::Standard(input) => input.read(buf),
-            Opened::Nothing => Ok(0),
+            OpenInput::File(file) => file.read(buf),
+            OpenInput::Standard(input) => input.read(buf),
+            OpenInput::Nothing => Ok(0),
         }
     }
 }

@@ -11,7 +11,7 @@ pub mod trial;
 mod writing;
 
 pub use devices::{Failed, Short, Watched, write_out};
-pub use inputs::Opened;
+pub use inputs::OpenInput;
 pub use lines::{Fed, FirstLine, Lines, first_line, lines_law, without_return};
 pub use numbers::Numbers;
 pub use spelling::{cost, number, signed, spelling_is_decimal};

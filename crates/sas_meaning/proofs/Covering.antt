@@ -1,5 +1,5 @@
 -- The list of variables that may have changed continues to cover all changes.
-use Rattle.sas_meaning.proofs.Imports.{◌≡◌, ◌⊎◌, ℕ, Bool, true, false, List, [], ◌∷◌, ◌++◌, set, if◌then◌else◌, refl, sym, ◌∙◌, ap, subst, inl, inr, All, cases_eq, get_or-set_other, All-nil, All-push, Contains-append_left, Contains-push, Fact, Parts, layer_of, IsDerived, Touched, HaveGone, IsBasic, MayHaveChanged, IsCleared, AddsTouched, CoversChanges, StillCovers}
+use Rattle.sas_meaning.proofs.Imports.{◌≡◌, ◌⊎◌, ℕ, Bool, true, false, List, [], ◌∷◌, ◌++◌, set, if◌then◌else◌, refl, sym, ◌∙◌, ap, subst, inl, inr, All, cases_eq, get_or-set_other, All-nil, All-push, Contains-append_left, Contains-push, Fact, Parts, layer_of, IsDerived, ChangedVariables, HaveGone, IsBasic, MayHaveChanged, IsCleared, AddsTouched, CoversChanges, StillCovers}
 use Rattle.std.proofs.Common.{is_some}
 
 by_test : (b : Bool) (xs ys zs : List ℕ) → zs ≡ (if b then xs else ys) → ((b ≡ true) × (zs ≡ xs)) ⊎ (zs ≡ ys)
@@ -7,31 +7,31 @@ by_test true xs ys zs e = inl (refl, e)
 by_test false xs ys zs e = inr e
 
 -- any variable may have changed, or what is noted is on the list
-listed : (var : ℕ) (t t' : Touched) → AddsTouched var t t' → ((t'.any ≡ true) × (t'.vars.items ≡ t.vars.items)) ⊎ (t'.vars.items ≡ t.vars.items ++ var ∷ [])
+listed : (var : ℕ) (t t' : ChangedVariables) → AddsTouched var t t' → ((t'.any ≡ true) × (t'.vars.items ≡ t.vars.items)) ⊎ (t'.vars.items ≡ t.vars.items ++ var ∷ [])
 listed var t t' notes = by_test t'.any t.vars.items (t.vars.items ++ var ∷ []) t'.vars.items notes.vars
 
 -- what may have changed still may
-pub may_still : (var : ℕ) (t t' : Touched) → AddsTouched var t t' → (v : ℕ) → MayHaveChanged t v → MayHaveChanged t' v
+pub may_still : (var : ℕ) (t t' : ChangedVariables) → AddsTouched var t t' → (v : ℕ) → MayHaveChanged t v → MayHaveChanged t' v
 may_still var t t' notes v (inl any) = inl (notes.any.1 (inl any))
 may_still var t t' notes v (inr on) = elim (listed var t t' notes) [
   | inl any ↦ inl any.0
   | inr more ↦ inr (rw more (Contains-append_left t.vars.items (var ∷ []) v on))
 ]
 
-pub noted_may : (var : ℕ) (t t' : Touched) → AddsTouched var t t' → MayHaveChanged t' var
+pub noted_may : (var : ℕ) (t t' : ChangedVariables) → AddsTouched var t t' → MayHaveChanged t' var
 noted_may var t t' notes = elim (listed var t t' notes) [
   | inl any ↦ inl any.0
   | inr more ↦ inr (rw more (Contains-push t.vars.items var))
 ]
 
-pub only_noted : (P : ℕ → Type 0) (var : ℕ) (t t' : Touched) → AddsTouched var t t' → P var → All P t.vars.items → All P t'.vars.items
+pub only_noted : (P : ℕ → Type 0) (var : ℕ) (t t' : ChangedVariables) → AddsTouched var t t' → P var → All P t.vars.items → All P t'.vars.items
 only_noted P var t t' notes its all = elim (listed var t t' notes) [
   | inl any ↦ rw any.1 all
   | inr more ↦ rw more (All-push P t.vars.items var all its)
 ]
 
 -- a derived variable is noted, and set
-pub covers_set : (p : Parts) (s s' : List ℕ) (var value : ℕ) (t t' : Touched) → IsDerived p.variables var → s' ≡ set s var value → AddsTouched var t t' → StillCovers p s t s' t'
+pub covers_set : (p : Parts) (s s' : List ℕ) (var value : ℕ) (t t' : ChangedVariables) → IsDerived p.variables var → s' ≡ set s var value → AddsTouched var t t' → StillCovers p s t s' t'
 covers_set p s s' var value t t' derived is notes before covers = rw is record {
   only = only_noted (IsDerived p.variables) var t t' notes derived covers.only;
   each = λ v on. elim (cases_eq v var) [
@@ -44,12 +44,12 @@ covers_set p s s' var value t t' derived is notes before covers = rw is record {
 }
 
 -- where nothing is noted, facts on basic variables have gone alone
-pub covers_gone : (p : Parts) (gone : List Fact) (s s' : List ℕ) (t : Touched) → HaveGone p gone s s' → IsCleared t → CoversChanges p s s' t
+pub covers_gone : (p : Parts) (gone : List Fact) (s s' : List ℕ) (t : ChangedVariables) → HaveGone p gone s s' → IsCleared t → CoversChanges p s s' t
 covers_gone p gone s s' t have cleared = record {
   only = rw cleared.vars (All-nil (IsDerived p.variables));
   each = λ v on. inl (have.others v (λ k d lt e. (let basic : IsBasic p v = subst (IsBasic p) e (have.basic k d lt) in let some : is_some (layer_of p.variables v) ≡ true = on in let none = ap is_some basic in absurd cc)));
 }
 
 -- where any variable may have changed, all is covered
-pub covers_any : (p : Parts) (s s' : List ℕ) (t : Touched) → All (IsDerived p.variables) t.vars.items → t.any ≡ true → CoversChanges p s s' t
+pub covers_any : (p : Parts) (s s' : List ℕ) (t : ChangedVariables) → All (IsDerived p.variables) t.vars.items → t.any ≡ true → CoversChanges p s s' t
 covers_any p s s' t only any = record { only = only; each = λ v on. inr (inl any) }

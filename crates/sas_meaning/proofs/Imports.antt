@@ -40,7 +40,7 @@ pub use Rattle.sas_meaning.specs.Preconditions.{preconditions_left, IsAtOperator
 pub use Rattle.sas_meaning.specs.Settled.{IsSettledAt, SameBasic, new_value_of, value_with, IsClosed, differs, is_on_layer, IsSettled}
 pub use Rattle.sas_meaning.specs.States.{Holds, AllHold}
 pub use Rattle.sas_meaning.specs.Steps.{Fires, Step}
-pub use Rattle.sas_meaning.specs.Touched.{MayHaveChanged, IsCleared, AddsTouched, CoversChanges, StillCovers}
+pub use Rattle.sas_meaning.specs.ChangedVariables.{MayHaveChanged, IsCleared, AddsTouched, CoversChanges, StillCovers}
 pub use Rattle.sas_meaning.specs.declared.layered.LayerFault.{LayerFault}
 pub use Rattle.sas_meaning.specs.declared.layered.LayerFault.TheVariants.{OldValue, TwoValues, LayerOrder, EffectOnDerived, RuleOnBasic}
-pub use Rattle.sas_meaning.specs.declared.touched.Touched.{Touched}
+pub use Rattle.sas_meaning.specs.declared.changed_variables.ChangedVariables.{ChangedVariables}

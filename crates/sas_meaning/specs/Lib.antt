@@ -2,7 +2,7 @@ pub mod States
 pub mod Layers
 pub mod Settled
 pub mod Following
-pub mod Touched
+pub mod ChangedVariables
 pub mod Steps
 pub mod Preconditions
 pub mod Reachable

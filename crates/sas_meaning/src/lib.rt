@@ -1,6 +1,7 @@
 //! The semantics of tasks: layered tasks, states, settled states, preconditions, steps and reachable states.
 #![tactic(auto)]
 
+mod changed_variables;
 mod derived;
 mod laws;
 mod layer_checks;
@@ -8,12 +9,11 @@ mod layered;
 mod preconditions;
 mod settle;
 mod state;
-mod touched;
 
+pub use changed_variables::ChangedVariables;
 pub use derived::derived_variables;
 pub use laws::meaning_laws;
 pub use layered::{LayerFault, Layered};
 pub use preconditions::Preconditions;
 pub use settle::Settle;
 pub use state::{State, StateFault};
-pub use touched::Touched;

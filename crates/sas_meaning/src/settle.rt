@@ -1,7 +1,7 @@
 // Axiom evaluators, which settle states.
+use crate::changed_variables::ChangedVariables;
 use crate::layered::Layered;
 use crate::state::State;
-use crate::touched::Touched;
 use sas_core::{Fact, Grounded};
 
 /// An axiom evaluator. It settles states of a task: it sets the derived variables to the values that follow from the rules.
@@ -11,7 +11,7 @@ pub trait Settle<T: Grounded> {
     ghost use Rattle.sas_core.specs.Variables.{IsState};
     ghost use Rattle.sas_meaning.specs.Settled.{Settles};
     ghost use Rattle.sas_meaning.specs.Following.{HaveGone};
-    ghost use Rattle.sas_meaning.specs.Touched.{CoversChanges};
+    ghost use Rattle.sas_meaning.specs.ChangedVariables.{CoversChanges};
 
     /// The evaluator can settle states of this task.
     ghost ready: { Self → Parts → Type 0 };
@@ -36,7 +36,7 @@ pub trait Settle<T: Grounded> {
         layered: &Layered<T>,
         gone: &[Fact],
         state: &mut State,
-        touched: &mut Touched,
+        touched: &mut ChangedVariables,
     )
         requires ready { ready self.old layered.now }
         requires state { IsState layered.now.variables state.old }

@@ -1,5 +1,5 @@
 -- Which facts are known according to the notes, and that they don't clash.
-use Rattle.sas_mutex.proofs.Imports.{common_steps, ◌≡◌, ◌≢◌, ◌⊎◌, ℕ, ◌<◌, Bool, [], length, get_or, List, ◌∷◌, ◌++◌, Option, None, Some, subst, refl, sym, ap, ◌∙◌, inl, inr, arith, All, Contains, option_to_list, IfSome, cases_eq, get_or_default, get_or-set_same, get_or-set_other, All-contains, Contains-append_left, Contains-push, Contains-push_cases, Fact, Parts, group_at, FactExists, Contradict, Clash, Index, same_Some, contains_none, IsKept, ShareOne, AreKnown, Notes, Noted, Nothing, One, Several, IsIndexOf, HasFact, groups_of, value_note, group_note, IsWide, AreBlank, AreFrom, IsValueNote, IsOfGroup, IsOfGroupBeside, IsNoteOf, IsGroupNote, NotesForGroup, ShareKept, IsContradicted, ChangesAt, IsThere, NotesFirstFact, IsSetApart, is_among, variable_below, none_or_some, apart_or_not, value_note_shows, no_value_note_shows, value_note_of, note_stays, note_changes, other_known, no_other, from_apart, noted_still}
+use Rattle.sas_mutex.proofs.Imports.{common_steps, ◌≡◌, ◌≢◌, ◌⊎◌, ℕ, ◌<◌, Bool, [], length, get_or, List, ◌∷◌, ◌++◌, Option, None, Some, subst, refl, sym, ap, ◌∙◌, inl, inr, arith, All, Contains, option_to_list, IfSome, cases_eq, get_or_default, get_or-set_same, get_or-set_other, All-contains, Contains-append_left, Contains-push, Contains-push_cases, Fact, Parts, group_at, FactExists, Contradict, Clash, Index, same_Some, contains_none, IsKept, ShareOne, AreKnown, Notes, GroupNote, Nothing, One, Several, IsIndexOf, HasFact, groups_of, value_note, group_note, IsWide, AreBlank, AreFrom, IsValueNote, IsOfGroup, IsOfGroupBeside, IsNoteOf, IsGroupNote, NotesForGroup, ShareKept, IsContradicted, ChangesAt, IsThere, NotesFirstFact, IsSetApart, is_among, variable_below, none_or_some, apart_or_not, value_note_shows, no_value_note_shows, value_note_of, note_stays, note_changes, other_known, no_other, from_apart, noted_still}
 
 -- where several are, they clash if the group counts
 pub several_clash : (p : Parts) (Counts : List Fact → Type 0) (facts : List Fact) (place : ℕ) → Counts (group_at p place)
@@ -8,7 +8,7 @@ several_clash p Counts facts place counts (f, g, of_f, of_g, differ) = grind (ar
 
 -- where not one fact of a group that counts is noted, none is, unless the facts clash
 pub none_if_not_one : (p : Parts) (facts : List Fact) (place : ℕ) (Counts : List Fact → Type 0) → Counts (group_at p place)
-    → (Clash Counts facts → ⊥) → (noted : Noted) → IsGroupNote p facts place noted → ((f : Fact) → noted ≢ One f)
+    → (Clash Counts facts → ⊥) → (noted : GroupNote) → IsGroupNote p facts place noted → ((f : Fact) → noted ≢ One f)
     → (f : Fact) → IsOfGroup p facts place f → ⊥
 none_if_not_one p facts place Counts counts apart Nothing is not_one f of = is f of
 none_if_not_one p facts place Counts counts apart (One one) is not_one f of = not_one one refl

@@ -1,5 +1,5 @@
 -- The verdicts after each effect and each operator.
-use Rattle.sas_mutex.proofs.Imports.{common_steps, below_more, ◌≡◌, ◌≢◌, ℕ, ◌+◌, ◌<◌, Bool, true, false, List, [], ◌∷◌, ◌++◌, length, set, refl, sym, ◌∙◌, ap, subst, inl, inr, arith, cases_eq, cases_Bool, both_ways, length_push, get_or_push, get_or_append_left, length-set, get_or-set_same, get_or-set_other, set-set, set-get_or, All-from_get_or, Contains, ◌↔◌, IsTrue, Fact, Operator, Parts, operator_at, effect_at, group_at, EffectKeeps, keeps_from_effects, effect_of_keeps, Marks, IsKept, KeepsWithItself, AreCandidates, AreFirstVerdicts, IsUndecided, KeptSoFar, IsVerdictSoFar, AreVerdictsSoFar, IsNotedFor, known_at, Verdict, Exclusive, Derived, Initial, Broken, Clash, Keeps, sets, MayBeExclusive, IsIn, IsGroupOfOr, IsGreatest, IsJointVerdict, IsFirstVerdict, outside_is_broken, clash_more, Noted, Several, family_of, HasFact, verdict_at, AreJointVerdicts, IsGroupNote, at_most_one}
+use Rattle.sas_mutex.proofs.Imports.{common_steps, below_more, ◌≡◌, ◌≢◌, ℕ, ◌+◌, ◌<◌, Bool, true, false, List, [], ◌∷◌, ◌++◌, length, set, refl, sym, ◌∙◌, ap, subst, inl, inr, arith, cases_eq, cases_Bool, both_ways, length_push, get_or_push, get_or_append_left, length-set, get_or-set_same, get_or-set_other, set-set, set-get_or, All-from_get_or, Contains, ◌↔◌, IsTrue, Fact, Operator, Parts, operator_at, effect_at, group_at, EffectKeeps, keeps_from_effects, effect_of_keeps, Marks, IsKept, KeepsWithItself, AreCandidates, AreFirstVerdicts, IsUndecided, KeptSoFar, IsVerdictSoFar, AreVerdictsSoFar, IsNotedFor, known_at, Verdict, Exclusive, Derived, Initial, Broken, Clash, Keeps, sets, MayBeExclusive, IsIn, IsGroupOfOr, IsGreatest, IsJointVerdict, IsFirstVerdict, outside_is_broken, clash_more, GroupNote, Several, family_of, HasFact, verdict_at, AreJointVerdicts, IsGroupNote, at_most_one}
 use Rattle.sas_mutex.proofs.Keeping.{effect_keeps_more}
 use Rattle.sas_mutex.proofs.KnownFacts.{several_clash}
 use Rattle.sas_mutex.proofs.FromNotes.{clash_keeps}
@@ -90,7 +90,7 @@ module _ (p : Parts) (kept : List Bool) (place : ℕ) (exists : place < length p
     several_never_fire note = never_fires operator effect (several_clash p (IsGroupOfOr p (family_of kept) (group_at p place)) (known_at p operator effect) place (inr refl) note)
 
     -- where not several facts of it are known, nothing clashes for it
-    pub noted_with : (note : Noted) → IsGroupNote p (known_at p operator effect) place note → note ≢ Several → IsNotedFor p (set kept place true) operator effect marks
+    pub noted_with : (note : GroupNote) → IsGroupNote p (known_at p operator effect) place note → note ≢ Several → IsNotedFor p (set kept place true) operator effect marks
     noted_with note reports few = record {
       are = record {
         noted = noted.are.noted;

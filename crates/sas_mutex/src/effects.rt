@@ -23,7 +23,7 @@ ghost use Rattle.sas_mutex.specs.Marks.{IsClean, IsNotedFrom};
 use crate::marks::{Marks, facts_clash, forget_known, note_known};
 use sas_core::{Change, Fact, Grounded, Items};
 use sas_groups::{
-    Index, IndexedTask, Known, Noted, Notes, Premises, has_noted, shares_apart, some_has,
+    GroupNote, Index, IndexedTask, Known, Notes, Premises, has_noted, shares_apart, some_has,
 };
 use sas_meaning::Layered;
 use std::marker::Model;
@@ -32,7 +32,7 @@ use std::marker::Model;
 /// known facts of the effect are the preconditions of its operator and its own conditions. In a contract its value is the task and the
 /// indexes of the operator and the effect, which exist. The index is that of the task.
 #[derive(Drop)]
-pub struct Firing<'a, 'b, T: Grounded> {
+pub struct FiringEffect<'a, 'b, T: Grounded> {
     pub task: &'a Layered<T>,
     pub index: &'b Index,
     pub operator: u32,
@@ -41,7 +41,7 @@ pub struct Firing<'a, 'b, T: Grounded> {
     change: Change,
 }
 
-impl<'a, 'b, T: Grounded> Model for Firing<'a, 'b, T> {
+impl<'a, 'b, T: Grounded> Model for FiringEffect<'a, 'b, T> {
     ghost use Rattle.std.specs.Prelude.{◌≡◌, ◌<◌, length};
     ghost use Rattle.sas_core.specs.Changes.{change_of};
     ghost use Rattle.sas_core.specs.Grounded.{operator_at, effect_at};
@@ -60,15 +60,19 @@ impl<'a, 'b, T: Grounded> Model for Firing<'a, 'b, T> {
         × (f.change ≡ change_of (effect_at (operator_at f.task.now f.operator) f.effect)) };
 }
 
-impl<'a, 'b, T: Grounded> Firing<'a, 'b, T> {
+impl<'a, 'b, T: Grounded> FiringEffect<'a, 'b, T> {
     /// Returns the effect of the operator.
     #[inline(always)]
-    pub fn new(indexed: &IndexedTask<'a, 'b, T>, operator: u32, effect: u32) -> Firing<'a, 'b, T>
+    pub fn new(
+        indexed: &IndexedTask<'a, 'b, T>,
+        operator: u32,
+        effect: u32,
+    ) -> FiringEffect<'a, 'b, T>
         requires operator { operator < length indexed.now.operators }
         requires effect { effect < length (operator_at indexed.now operator).effects }
         ensures { result ≡ record { task = indexed.now; operator = operator; effect = effect } }
     {
-        Firing {
+        FiringEffect {
             task: indexed.task,
             index: indexed.index,
             operator,
@@ -176,7 +180,7 @@ impl<'a, 'b, T: Grounded> Firing<'a, 'b, T> {
 
     /// Returns which of the known facts the group contains.
     #[inline(always)]
-    pub fn noted(&self, group: u32, marks: &Marks) -> Noted
+    pub fn noted(&self, group: u32, marks: &Marks) -> GroupNote
         requires wide { IsWide self.now.task marks.now.known }
         requires group { group < length self.now.task.groups }
         ensures { let f = self.now in (kept : List Bool) → IsNotedAt f kept marks.now

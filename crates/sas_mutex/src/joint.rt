@@ -14,7 +14,7 @@ ghost use Rattle.sas_groups.specs.Joint.{verdict_at, AreJointVerdicts, AreInvari
 ghost use Rattle.sas_mutex.specs.Judging.{AreFirstVerdicts, IsUndecided, IsVerdictSoFar, AreVerdictsSoFar};
 ghost use Rattle.sas_mutex.specs.Basis.{IsOfNone};
 
-use crate::effects::Firing;
+use crate::effects::FiringEffect;
 use crate::family::Family;
 use crate::greatest::find_greatest;
 use crate::marks::Marks;
@@ -186,7 +186,7 @@ fn find_broken_by<T: Grounded>(
     ensures clean { IsClean indexed.now marks.new }
 {
     for effect in 0..indexed.task.effects(operator) {
-        let firing = Firing::new(indexed, operator, effect);
+        let firing = FiringEffect::new(indexed, operator, effect);
         find_broken_by_effect(&firing, kept, verdicts, marks);
     }
 }
@@ -194,7 +194,7 @@ fn find_broken_by<T: Grounded>(
 /// Checks whether the effect breaks any removed groups for which no operator that breaks them was found yet. The known facts of the effect
 /// are recorded once for all groups. If they clash, the effect never fires.
 fn find_broken_by_effect<T: Grounded>(
-    firing: &Firing<'_, '_, T>,
+    firing: &FiringEffect<'_, '_, T>,
     kept: &mut Items<bool>,
     verdicts: &mut Items<Verdict>,
     marks: &mut Marks,
@@ -245,7 +245,7 @@ fn is_undecided(group: u32, kept: &[bool], verdicts: &[Verdict]) -> bool
 /// Checks for each of these groups whether the effect breaks it, if it was removed and no operator that breaks it was found yet. The groups
 /// must contain the fact that the effect sets, and the known facts must be recorded.
 fn judge_groups<T: Grounded>(
-    firing: &Firing<'_, '_, T>,
+    firing: &FiringEffect<'_, '_, T>,
     groups: &[u32],
     kept: &mut Items<bool>,
     verdicts: &mut Items<Verdict>,
@@ -273,7 +273,7 @@ fn judge_groups<T: Grounded>(
 /// Checks whether the effect breaks the group, if it was removed and no operator that breaks it was found yet. The group must contain the
 /// fact that the effect sets, and the known facts must be recorded.
 fn judge_group<T: Grounded>(
-    firing: &Firing<'_, '_, T>,
+    firing: &FiringEffect<'_, '_, T>,
     group: u32,
     kept: &mut Items<bool>,
     verdicts: &mut Items<Verdict>,

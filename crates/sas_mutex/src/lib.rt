@@ -11,7 +11,7 @@ mod looking;
 mod marks;
 mod watches;
 
-pub use effects::{Firing, begins_run};
+pub use effects::{FiringEffect, begins_run};
 pub use joint::{check_groups, exclusive_of};
 pub use marks::Marks;
 pub use sas_groups::{Facts, Verdict, check_group, group_laws};

@@ -12,7 +12,7 @@ ghost use Rattle.sas_mutex.specs.Falling.{FamilyHasRoom};
 ghost use Rattle.sas_mutex.specs.Basis.{HasGrown};
 ghost use Rattle.sas_mutex.specs.Looking.{Looked, IsPair, IsOfEffect, IsOfOperator, IsOfUnconditional, IsOfAlike};
 
-use crate::effects::Firing;
+use crate::effects::FiringEffect;
 use crate::family::Family;
 use crate::marks::Marks;
 use sas_core::Grounded;
@@ -36,7 +36,7 @@ pub fn look_at<T: Grounded>(
     let mut alone = look_at_plain(indexed, operator, family, marks);
     for effect in 0..indexed.task.effects(operator) {
         if !is_plain(indexed, operator, effect) {
-            let firing = Firing::new(indexed, operator, effect);
+            let firing = FiringEffect::new(indexed, operator, effect);
             // If no group of the family contains the fact that the effect sets, nothing is recorded.
             if firing.sets_one_of(family.kept.as_slice()) {
                 alone &= look_at_alike(&firing, family, marks);
@@ -63,7 +63,7 @@ fn look_at_plain<T: Grounded>(
 {
     for effect in 0..indexed.task.effects(operator) {
         if is_plain(indexed, operator, effect) {
-            let firing = Firing::new(indexed, operator, effect);
+            let firing = FiringEffect::new(indexed, operator, effect);
             if firing.sets_one_of(family.kept.as_slice()) {
                 return look_at_alike(&firing, family, marks);
             }
@@ -85,7 +85,7 @@ fn is_plain<T: Grounded>(indexed: &IndexedTask<'_, '_, T>, operator: u32, effect
 /// Removes the groups from the family that the effect doesn't preserve, or, if the effect has no conditions, those that any such effect of
 /// its operator doesn't preserve. Returns true only if these effects preserve each remaining group, assuming only the basis and that group.
 fn look_at_alike<T: Grounded>(
-    firing: &Firing<'_, '_, T>,
+    firing: &FiringEffect<'_, '_, T>,
     family: &mut Family,
     marks: &mut Marks,
 ) -> bool
@@ -106,7 +106,7 @@ fn look_at_alike<T: Grounded>(
 /// `look_at_alike` without the case that an effect never fires, assuming the basis. The known facts are the same for all these effects, and
 /// are recorded once for all groups. If they clash, none of the effects ever fires.
 fn look_where_they_fire<T: Grounded>(
-    firing: &Firing<'_, '_, T>,
+    firing: &FiringEffect<'_, '_, T>,
     family: &mut Family,
     marks: &mut Marks,
 ) -> bool
@@ -130,7 +130,7 @@ fn look_where_they_fire<T: Grounded>(
 
 /// `look_where_they_fire` after the known facts were recorded. They must not clash.
 fn look_at_noted<T: Grounded>(
-    firing: &Firing<'_, '_, T>,
+    firing: &FiringEffect<'_, '_, T>,
     family: &mut Family,
     marks: &mut Marks,
 ) -> bool
@@ -150,7 +150,7 @@ fn look_at_noted<T: Grounded>(
     let mut alone = true;
     for effect in 0..firing.task.effects(firing.operator) {
         if is_plain(&indexed, firing.operator, effect) {
-            let alike = Firing::new(&indexed, firing.operator, effect);
+            let alike = FiringEffect::new(&indexed, firing.operator, effect);
             alone &= look_at_groups(&alike, family, marks);
         }
     }
@@ -159,7 +159,7 @@ fn look_at_noted<T: Grounded>(
 
 /// `look_where_they_fire` for this effect alone, after the known facts were recorded. They must not clash.
 fn look_at_groups<T: Grounded>(
-    firing: &Firing<'_, '_, T>,
+    firing: &FiringEffect<'_, '_, T>,
     family: &mut Family,
     marks: &mut Marks,
 ) -> bool
@@ -182,7 +182,7 @@ fn look_at_groups<T: Grounded>(
 /// preserved under these assumptions is preserved in every family that contains these groups.
 #[inline(always)]
 fn look_at_group<T: Grounded>(
-    firing: &Firing<'_, '_, T>,
+    firing: &FiringEffect<'_, '_, T>,
     group: u32,
     family: &mut Family,
     marks: &mut Marks,
@@ -215,7 +215,7 @@ fn look_at_group<T: Grounded>(
 /// the basis and the group itself.
 #[inline(never)]
 fn keeps_by_more<T: Grounded>(
-    firing: &Firing<'_, '_, T>,
+    firing: &FiringEffect<'_, '_, T>,
     group: u32,
     family: &mut Family,
     marks: &mut Marks,
@@ -236,7 +236,7 @@ fn keeps_by_more<T: Grounded>(
 /// group itself. The family is unchanged on return.
 #[inline(always)]
 fn keeps_by_basis<T: Grounded>(
-    firing: &Firing<'_, '_, T>,
+    firing: &FiringEffect<'_, '_, T>,
     group: u32,
     family: &mut Family,
     marks: &mut Marks,

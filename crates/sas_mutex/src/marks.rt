@@ -10,8 +10,8 @@ ghost use Rattle.sas_mutex.specs.Marks.{IsClean, IsNotedFrom};
 
 use sas_core::{Fact, Grounded};
 use sas_groups::{
-    Deciding, IndexedTask, Known, Notes, Premises, forget, forget_facts, has_wide, note, set_apart,
-    wider, widest_of,
+    DecidingGroups, IndexedTask, Known, Notes, Premises, forget, forget_facts, has_wide, note,
+    set_apart, wider, widest_of,
 };
 use std::alloc::{AllocError, Global};
 
@@ -22,7 +22,7 @@ pub struct Marks {
     /// Other facts, recorded only to check whether they clash.
     pub others: Notes,
     /// The groups that were used in tests.
-    pub deciding: Deciding,
+    pub deciding: DecidingGroups,
 }
 
 impl Drop for Marks {
@@ -50,7 +50,7 @@ impl Marks {
         Ok(Marks {
             known: Notes::new(alloc, indexed.task, some_wide)?,
             others: Notes::new(alloc, indexed.task, some_wide)?,
-            deciding: Deciding::new(),
+            deciding: DecidingGroups::new(),
         })
     }
 }
@@ -128,7 +128,7 @@ pub fn facts_clash<T: Grounded>(
     kept: &[bool],
     facts: &[Fact],
     notes: &mut Notes,
-    deciding: &Deciding,
+    deciding: &DecidingGroups,
 ) -> bool
     requires exist { All (FactExists indexed.now.variables) facts.now }
     requires blank { AreBlank indexed.now notes.old }
@@ -150,7 +150,7 @@ fn note_facts<T: Grounded>(
     kept: &[bool],
     facts: &[Fact],
     notes: &mut Notes,
-    deciding: &Deciding,
+    deciding: &DecidingGroups,
 ) -> bool
     requires exist { All (FactExists indexed.now.variables) facts.now }
     requires blank { AreBlank indexed.now notes.old }

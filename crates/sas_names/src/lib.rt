@@ -14,4 +14,4 @@ mod step_operators;
 pub use chains::next_in;
 pub use looking_up::first_operators;
 pub use names::{NamedTask, Names};
-pub use step_operators::{Found, StepOperators};
+pub use step_operators::{PlanOperators, StepOperators};

@@ -3,7 +3,7 @@ ghost use Rattle.std.specs.Prelude.{◌≡◌, IfOk, OnOk};
 ghost use Rattle.sas_names.specs.NameTable.{IsEmptyTable, Exist, PutsName, PutsDigest, PutsEither, PutsOther, value_of, likely_of, other_of};
 
 use crate::digest::digest;
-use crate::named::Named;
+use crate::named::NameId;
 use indexmap::IndexMap;
 use std::alloc::{AllocError, Global};
 use std::collections::BTreeMap;
@@ -62,7 +62,7 @@ impl<V: Copy> NameTable<V> {
     /// Returns the value of this name, or `None` if it has none. It takes no memory.
     pub fn get<L>(&self, place: &L, name: &[u8]) -> Option<V>
     where
-        V: Named<L>,
+        V: NameId<L>,
         requires { Exist (V.exists place.now) self.now }
         ensures { result ≡ value_of (V.names place.now) self.now name.now }
     {
@@ -87,7 +87,7 @@ impl<V: Copy> NameTable<V> {
     /// Maps the name of the value to the value. Returns the value that the name had before, if any.
     pub fn put<L>(&mut self, alloc: Global, place: &L, value: V) -> Result<Option<V>, AllocError>
     where
-        V: Named<L>,
+        V: NameId<L>,
         requires exists { V.exists place.now value }
         requires exist { Exist (V.exists place.now) self.old }
         ensures had { IfOk result (λ had. had

@@ -6,7 +6,7 @@ ghost use Rattle.sas_core.specs.Stepwise.{step_at};
 use sas_core::{Grounded, Stepwise};
 
 /// A value that identifies a name, which is stored in an `L`.
-pub trait Named<L> {
+pub trait NameId<L> {
     /// The value identifies a name of this `L`.
     ghost exists: { L → Self → Type 0 };
 
@@ -20,7 +20,7 @@ pub trait Named<L> {
 }
 
 /// An operator of a task, by its number.
-impl<T: Grounded> Named<T> for u32 {
+impl<T: Grounded> NameId<T> for u32 {
     ghost exists = { λ task operator. operator < length (T.says task).operators };
 
     ghost names = { λ task operator. (operator_at (T.says task) operator).name };
@@ -31,7 +31,7 @@ impl<T: Grounded> Named<T> for u32 {
 }
 
 /// A step of a plan, by its number.
-impl<P: Stepwise> Named<P> for usize {
+impl<P: Stepwise> NameId<P> for usize {
     ghost exists = { λ plan step. step < length (P.says plan).steps };
 
     ghost names = { λ plan step. step_at (P.says plan) step };

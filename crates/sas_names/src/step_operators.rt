@@ -27,7 +27,7 @@ impl Drop for StepOperators {
 
 /// The operators whose names occur in one plan, borrowed.
 #[derive(Clone, Copy)]
-pub struct Found<'f> {
+pub struct PlanOperators<'f> {
     /// The lowest operator of each step's name, up to the first name that no operator has.
     pub firsts: &'f [u32],
     /// The next operator of the same name, for each operator of one of these names.
@@ -92,11 +92,11 @@ impl StepOperators {
     }
 
     /// Returns both lists, borrowed. It takes no memory.
-    pub fn found(&self) -> Found<'_>
+    pub fn found(&self) -> PlanOperators<'_>
         ensures firsts { result.firsts.now ≡ self.now.firsts.items }
         ensures nexts { result.nexts.now ≡ self.now.next.items }
     {
-        Found {
+        PlanOperators {
             firsts: self.firsts.as_slice(),
             nexts: self.next.as_slice(),
         }

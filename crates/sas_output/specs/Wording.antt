@@ -8,11 +8,11 @@ use Rattle.sas_core.specs.Changes.{change_of, fact_of}
 use Rattle.sas_core.specs.Grounded.{operator_at, effect_at, rule_at}
 use Rattle.sas_output.specs.declared.words.Indent.{Indent}
 use Rattle.sas_output.specs.Words.{line, spaces_of}
-use Rattle.sas_output.specs.declared.wording.Start.{Start}
+use Rattle.sas_output.specs.declared.wording.LineStart.{LineStart}
 use Rattle.sas_output.specs.declared.wording.Part.{Part}
 use Rattle.sas_output.specs.declared.wording.Part.TheVariants as part
-use Rattle.sas_output.specs.declared.wording.Rest.{Rest}
-use Rattle.sas_output.specs.declared.wording.Rest.TheVariants as rest
+use Rattle.sas_output.specs.declared.wording.LineRest.{LineRest}
+use Rattle.sas_output.specs.declared.wording.LineRest.TheVariants as rest
 use Rattle.sas_output.specs.Line.{words_of}
 
 -- the names of the plan's steps, if there is a plan
@@ -42,7 +42,7 @@ abbrev pub named_words : ℕ → List ℕ → List (List ℕ)
 named_words number name = decimal number ∷ name ∷ []
 
 -- the words that follow the first ones
-abbrev pub rest_words : Parts → List (List ℕ) → Rest → List (List ℕ)
+abbrev pub rest_words : Parts → List (List ℕ) → LineRest → List (List ℕ)
 rest_words p steps rest.Nothing = []
 rest_words p steps (rest.Number number) = decimal number ∷ []
 rest_words p steps (rest.Sum sum) = decimal sum ∷ []
@@ -54,9 +54,9 @@ rest_words p steps (rest.OfFact fact) = words_of p fact
 rest_words p steps (rest.OfPart its) = part_words p its
 
 -- the line that begins so, and continues with these words
-abbrev pub line_with : Start → List (List ℕ) → List ℕ
+abbrev pub line_with : LineStart → List (List ℕ) → List ℕ
 line_with start words = line (spaces_of start.indent) (start.words.now ∷ words)
 
 -- the line with these first words and this rest
-abbrev pub worded : Parts → List (List ℕ) → Indent → Bor (List ℕ) → Rest → List ℕ
+abbrev pub worded : Parts → List (List ℕ) → Indent → Bor (List ℕ) → LineRest → List ℕ
 worded p steps indent first its = line (spaces_of indent) (first.now ∷ rest_words p steps its)

@@ -6,7 +6,7 @@ use Rattle.sas_output.specs.declared.words.Word.TheVariants.{Text, Number}
 use Rattle.sas_output.specs.declared.words.Indent.{Indent}
 use Rattle.sas_output.specs.declared.words.Indent.TheVariants as indent
 use Rattle.sas_output.specs.declared.words.Words.{Words}
-use Rattle.sas_output.specs.declared.words.Numbered.{Numbered}
+use Rattle.sas_output.specs.declared.words.NumberedLine.{NumberedLine}
 
 -- A line: this many spaces, then words with one space between each two. A number is a word; a name
 -- comes last, since it may contain spaces.
@@ -33,6 +33,6 @@ abbrev pub words_line : Words → List ℕ
 words_line l = line (spaces_of l.indent) (l.first.now ∷ map word_bytes l.rest.now)
 
 -- the bytes of a line of a word, three numbers and a name
-abbrev pub numbered_line : Numbered → List ℕ
+abbrev pub numbered_line : NumberedLine → List ℕ
 numbered_line l =
     line 0 (l.word.now ∷ decimal l.first ∷ decimal l.second ∷ decimal l.third ∷ l.name.now ∷ [])

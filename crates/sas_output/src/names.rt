@@ -11,26 +11,26 @@ use sas_flat::{FlatPlan, FlatTask};
 
 /// Where the names in lines come from: a task, and a plan where the lines are about one.
 #[derive(Clone, Copy)]
-pub struct Named<'n> {
+pub struct NameSource<'n> {
     pub task: &'n FlatTask,
     pub plan: Option<&'n FlatPlan>,
 }
 
-impl<'n> Named<'n> {
+impl<'n> NameSource<'n> {
     /// Returns the name of the plan's step, counted from 1; if there is no such step, no bytes.
     pub(crate) fn step_name(&self, step: usize) -> &'n [u8]
         ensures { result.now ≡ slice_index_or (steps_of self.now.plan) (step - 1) [] }
     {
         let before = step.saturating_sub(1);
         match self.plan {
-            Some(plan) => name_of(plan, before),
+            Some(plan) => name_of_step(plan, before),
             None => b"",
         }
     }
 }
 
 /// Returns the name of the plan's step, counted from 0; past the last step, no bytes.
-fn name_of(plan: &FlatPlan, before: usize) -> &[u8]
+fn name_of_step(plan: &FlatPlan, before: usize) -> &[u8]
     ensures { result.now ≡ slice_index_or plan.now.steps before [] }
 {
     if before < plan.steps() {

@@ -5,7 +5,7 @@ ghost use Rattle.sas_output.specs.Pieces.{Adds, Breaks, CountsOn};
 ghost use Rattle.sas_output.specs.Words.{numbered_line, words_line};
 
 use crate::placing::{place, place_line, place_numbered};
-use crate::words::{Numbered, Words};
+use crate::words::{NumberedLine, Words};
 use sas_lines::{Short, Watched, write_out};
 use std::alloc::{AllocError, Global};
 use std::io::Write;
@@ -104,7 +104,7 @@ impl Pieces {
 
     /// `hold_line` for a line of a word, three numbers and a name.
     #[inline(always)]
-    pub(crate) fn hold_numbered(&mut self, line: Numbered<'_>) -> bool
+    pub(crate) fn hold_numbered(&mut self, line: NumberedLine<'_>) -> bool
         ensures yes { IsTrue result
             → self.new.held ≡ self.old.held ++ (numbered_line line.entry ++ 10 ∷ []) }
         ensures no { IsFalse result → self.new ≡ self.old }

@@ -4,7 +4,7 @@ ghost use Rattle.std.specs.Prelude.{◌≡◌, ◌<◌, ◌≤◌, ◌+◌, ◌/
 ghost use Rattle.sas_output.specs.Placing.{PlacesOrLeaves};
 ghost use Rattle.sas_output.specs.Words.{behind_space, numbered_line, spaces_of, words_line};
 
-use crate::words::{Indent, Numbered, Word, Words};
+use crate::words::{Indent, NumberedLine, Word, Words};
 use itoa::Buffer;
 
 /// Writes the bytes at `at` of the piece. Returns their end, or `None` if there is no room.
@@ -218,7 +218,7 @@ pub(crate) fn place_line(piece: &mut [u8], at: usize, line: Words<'_>) -> Option
 
 /// Places a line of a word, three numbers and a name in the same way.
 #[inline(always)]
-pub(crate) fn place_numbered(piece: &mut [u8], at: usize, line: Numbered<'_>) -> Option<usize>
+pub(crate) fn place_numbered(piece: &mut [u8], at: usize, line: NumberedLine<'_>) -> Option<usize>
     requires { at ≤ length piece.old }
     ensures length { length piece.new ≡ length piece.old }
     ensures places { PlacesOrLeaves piece.old piece.new at

@@ -9,10 +9,10 @@ ghost use Rattle.sas_output.specs.Wording.{steps_of, verb_words, part_words, cou
 use crate::answer::Answer;
 use crate::ending::{Status, ToolFault};
 use crate::line::Line;
-use crate::names::{Named, given_by, operator_name, set_by, value_name};
+use crate::names::{NameSource, given_by, operator_name, set_by, value_name};
 use crate::pieces::Pieces;
 use crate::sink::Sink;
-use crate::wording::{Part, Rest, Start, wording};
+use crate::wording::{LineRest, LineStart, Part, wording};
 use crate::words::{Word, Words};
 use itoa::Buffer;
 use sas_core::{Fact, Grounded};
@@ -27,7 +27,7 @@ pub fn write_reasons<W: Write>(
     alloc: Global,
     out: &mut Watched<W>,
     verdict: &Answer,
-    named: &Named<'_>,
+    named: &NameSource<'_>,
     lines: &[Line],
 ) -> Result<Status, ToolFault>
     requires { out.old.failed ≡ false }
@@ -46,51 +46,56 @@ pub fn write_reasons<W: Write>(
 }
 
 /// Adds the lines, each with its end, to the text.
-pub fn push_lines<W: Write>(sink: &mut Sink<'_, W>, named: &Named<'_>, lines: &[Line])
+pub fn push_lines<W: Write>(sink: &mut Sink<'_, W>, named: &NameSource<'_>, lines: &[Line])
     ensures { Pushes W.contents sink.old sink.new
         (reasons_text named.now.task.now (steps_of named.now.plan) lines.now) }
 {
     for line in lines {
-        push_line(sink, named, *line);
+        push_reason(sink, named, *line);
     }
 }
 
 /// Adds the line and its end to the text.
-fn push_line<W: Write>(sink: &mut Sink<'_, W>, named: &Named<'_>, line: Line)
+fn push_reason<W: Write>(sink: &mut Sink<'_, W>, named: &NameSource<'_>, line: Line)
     ensures { Pushes W.contents sink.old sink.new
         (line_bytes named.now.task.now (steps_of named.now.plan) line ++ 10 ∷ []) }
 {
     let (indent, words, rest) = wording(line);
-    push_rest(sink, named, Start { indent, words }, rest)
+    push_rest(sink, named, LineStart { indent, words }, rest)
 }
 
 /// Adds the line that begins so, with this rest, and its end.
-fn push_rest<W: Write>(sink: &mut Sink<'_, W>, named: &Named<'_>, start: Start, rest: Rest)
+fn push_rest<W: Write>(
+    sink: &mut Sink<'_, W>,
+    named: &NameSource<'_>,
+    start: LineStart,
+    rest: LineRest,
+)
     ensures { Pushes W.contents sink.old sink.new
         (line_with start (rest_words named.now.task.now (steps_of named.now.plan) rest)
         ++ 10 ∷ []) }
 {
     let task = named.task;
     match rest {
-        Rest::Nothing => push_words(sink, start, &[]),
-        Rest::Number(number) => push_number(sink, start, number),
-        Rest::Sum(sum) => push_sum(sink, start, sum),
-        Rest::Metric => push_number(sink, start, u64::from(task.metric())),
-        Rest::Step(step) => push_named(sink, start, step as u64, named.step_name(step)),
-        Rest::Operator(operator) => {
+        LineRest::Nothing => push_words(sink, start, &[]),
+        LineRest::Number(number) => push_with_number(sink, start, number),
+        LineRest::Sum(sum) => push_sum(sink, start, sum),
+        LineRest::Metric => push_with_number(sink, start, u64::from(task.metric())),
+        LineRest::Step(step) => push_named(sink, start, step as u64, named.step_name(step)),
+        LineRest::Operator(operator) => {
             let name = operator_name(task, operator);
             push_named(sink, start, u64::from(operator), name)
         }
-        Rest::CouldBe(step, operator) => {
+        LineRest::CouldBe(step, operator) => {
             push_could_be(sink, start, step as u64, operator as u64)
         }
-        Rest::OfFact(fact) => push_fact(sink, task, start, fact),
-        Rest::OfPart(part) => push_part(sink, task, start, part),
+        LineRest::OfFact(fact) => push_fact(sink, task, start, fact),
+        LineRest::OfPart(part) => push_part(sink, task, start, part),
     }
 }
 
 /// Adds the line, with these words after its first ones, and its end.
-fn push_words<W: Write>(sink: &mut Sink<'_, W>, start: Start, words: &[Word<'_>])
+fn push_words<W: Write>(sink: &mut Sink<'_, W>, start: LineStart, words: &[Word<'_>])
     ensures { Pushes W.contents sink.old sink.new
         (line_with start (map word_bytes words.now) ++ 10 ∷ []) }
 {
@@ -103,7 +108,7 @@ fn push_words<W: Write>(sink: &mut Sink<'_, W>, start: Start, words: &[Word<'_>]
 }
 
 /// Adds the line of a number, and its end.
-fn push_number<W: Write>(sink: &mut Sink<'_, W>, start: Start, number: u64)
+fn push_with_number<W: Write>(sink: &mut Sink<'_, W>, start: LineStart, number: u64)
     ensures { Pushes W.contents sink.old sink.new
         (line_with start (decimal number ∷ []) ++ 10 ∷ []) }
 {
@@ -111,7 +116,7 @@ fn push_number<W: Write>(sink: &mut Sink<'_, W>, start: Start, number: u64)
 }
 
 /// Adds the line of a number that may be larger than a `u64`, and its end.
-fn push_sum<W: Write>(sink: &mut Sink<'_, W>, start: Start, sum: u128)
+fn push_sum<W: Write>(sink: &mut Sink<'_, W>, start: LineStart, sum: u128)
     ensures { Pushes W.contents sink.old sink.new
         (line_with start (decimal sum ∷ []) ++ 10 ∷ []) }
 {
@@ -120,7 +125,7 @@ fn push_sum<W: Write>(sink: &mut Sink<'_, W>, start: Start, sum: u128)
 }
 
 /// Adds the line of a step and an operator that it could also be, and its end.
-fn push_could_be<W: Write>(sink: &mut Sink<'_, W>, start: Start, step: u64, operator: u64)
+fn push_could_be<W: Write>(sink: &mut Sink<'_, W>, start: LineStart, step: u64, operator: u64)
     ensures { Pushes W.contents sink.old sink.new
         (line_with start (could_be_words step operator) ++ 10 ∷ []) }
 {
@@ -130,7 +135,7 @@ fn push_could_be<W: Write>(sink: &mut Sink<'_, W>, start: Start, step: u64, oper
 }
 
 /// Adds the line of a number and a name, and its end.
-fn push_named<W: Write>(sink: &mut Sink<'_, W>, start: Start, number: u64, name: &[u8])
+fn push_named<W: Write>(sink: &mut Sink<'_, W>, start: LineStart, number: u64, name: &[u8])
     ensures { Pushes W.contents sink.old sink.new
         (line_with start (decimal number ∷ name.now ∷ []) ++ 10 ∷ []) }
 {
@@ -139,7 +144,7 @@ fn push_named<W: Write>(sink: &mut Sink<'_, W>, start: Start, number: u64, name:
 }
 
 /// Adds the line of a fact, and its end.
-fn push_fact<W: Write>(sink: &mut Sink<'_, W>, task: &FlatTask, start: Start, fact: Fact)
+fn push_fact<W: Write>(sink: &mut Sink<'_, W>, task: &FlatTask, start: LineStart, fact: Fact)
     ensures { Pushes W.contents sink.old sink.new
         (line_with start (words_of task.now fact) ++ 10 ∷ []) }
 {
@@ -150,7 +155,7 @@ fn push_fact<W: Write>(sink: &mut Sink<'_, W>, task: &FlatTask, start: Start, fa
 }
 
 /// Adds the line of what a part of the task does with a fact, and its end.
-fn push_part<W: Write>(sink: &mut Sink<'_, W>, task: &FlatTask, start: Start, part: Part)
+fn push_part<W: Write>(sink: &mut Sink<'_, W>, task: &FlatTask, start: LineStart, part: Part)
     ensures { Pushes W.contents sink.old sink.new
         (line_with start (part_words task.now part) ++ 10 ∷ []) }
 {

@@ -7,7 +7,7 @@ ghost use Rattle.sas_output.specs.Words.{behind_space, numbered_line, word_bytes
 
 use crate::ending::{Status, ToolFault};
 use crate::pieces::Pieces;
-use crate::words::{Indent, Numbered, Word, Words};
+use crate::words::{Indent, NumberedLine, Word, Words};
 use itoa::Buffer;
 use sas_lines::Watched;
 use std::io::Write;
@@ -67,7 +67,7 @@ impl<'w, W: Write> Sink<'w, W> {
     /// Adds the line and its end, LF, to the text. Where many lines are of this form it is faster than `push_line`: there is no list
     /// of words to be gone through.
     #[inline(always)]
-    pub fn push_numbered(&mut self, line: Numbered<'_>)
+    pub fn push_numbered(&mut self, line: NumberedLine<'_>)
         ensures { Pushes W.contents self.old self.new (numbered_line line.entry ++ 10 ∷ []) }
     {
         if self.pieces.hold_numbered(line) {
@@ -77,7 +77,7 @@ impl<'w, W: Write> Sink<'w, W> {
     }
 
     /// Adds the line and its end, one word after another, for a line at the end of a piece.
-    fn push_each(&mut self, line: Numbered<'_>)
+    fn push_each(&mut self, line: NumberedLine<'_>)
         ensures { Pushes W.contents self.old self.new (numbered_line line.entry ++ 10 ∷ []) }
     {
         let rest = [

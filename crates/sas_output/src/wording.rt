@@ -10,14 +10,14 @@ use sas_core::Fact;
 
 /// How a line begins: the leading spaces, and the first words.
 #[derive(Clone, Copy, Debug)]
-pub struct Start {
+pub struct LineStart {
     pub indent: Indent,
     pub words: &'static [u8],
 }
 
 /// What follows the first words of a line.
 #[derive(Clone, Copy)]
-pub enum Rest {
+pub enum LineRest {
     /// Nothing.
     Nothing,
     /// A number.
@@ -50,56 +50,72 @@ pub enum Part {
 }
 
 /// Returns the parts of the line: how many spaces it begins with, its first words, and what follows.
-pub fn wording(line: Line) -> (Indent, &'static [u8], Rest)
+pub fn wording(line: Line) -> (Indent, &'static [u8], LineRest)
     ensures { (p : Parts) (steps : List (List ℕ))
         → worded p steps result.0 result.1 result.2 ≡ line_bytes p steps line }
 {
     match line {
-        Line::Step { step } => (Indent::Two, b"step", Rest::Step(step)),
+        Line::Step { step } => (Indent::Two, b"step", LineRest::Step(step)),
         Line::SimilarOperator { operator } => (
             Indent::Two,
             b"similar operator",
-            Rest::Operator(operator),
+            LineRest::Operator(operator),
         ),
-        Line::Operator { operator } => (Indent::Two, b"operator", Rest::Number(operator as u64)),
-        Line::NamedOperator { operator } => (Indent::Two, b"operator", Rest::Operator(operator)),
-        Line::GoalFact { index } => (Indent::Two, b"goal fact", Rest::Number(index as u64)),
-        Line::Requires { fact } => (Indent::Four, b"requires", Rest::OfFact(fact)),
-        Line::Actual { fact } => (Indent::Four, b"actual", Rest::OfFact(fact)),
-        Line::SinceInitialState => (Indent::Four, b"since the initial state", Rest::Nothing),
-        Line::SinceStep { step } => (Indent::Four, b"since step", Rest::Step(step)),
-        Line::RuleDerives { rule } => (Indent::Four, b"rule", Rest::OfPart(Part::Derives(rule))),
-        Line::NoRuleDerives => (Indent::Four, b"no rule derives it", Rest::Nothing),
+        Line::Operator { operator } => (
+            Indent::Two,
+            b"operator",
+            LineRest::Number(operator as u64),
+        ),
+        Line::NamedOperator { operator } => (
+            Indent::Two,
+            b"operator",
+            LineRest::Operator(operator),
+        ),
+        Line::GoalFact { index } => (Indent::Two, b"goal fact", LineRest::Number(index as u64)),
+        Line::Requires { fact } => (Indent::Four, b"requires", LineRest::OfFact(fact)),
+        Line::Actual { fact } => (Indent::Four, b"actual", LineRest::OfFact(fact)),
+        Line::SinceInitialState => (Indent::Four, b"since the initial state", LineRest::Nothing),
+        Line::SinceStep { step } => (Indent::Four, b"since step", LineRest::Step(step)),
+        Line::RuleDerives { rule } => (
+            Indent::Four,
+            b"rule",
+            LineRest::OfPart(Part::Derives(rule)),
+        ),
+        Line::NoRuleDerives => (Indent::Four, b"no rule derives it", LineRest::Nothing),
         Line::RuleRequires { rule, fact } => (
             Indent::Four,
             b"rule",
-            Rest::OfPart(Part::Requires(rule, fact)),
+            LineRest::OfPart(Part::Requires(rule, fact)),
         ),
         Line::ConflictingEffect { operator, effect } => (
             Indent::Four,
             b"effect",
-            Rest::OfPart(Part::Sets(operator, effect)),
+            LineRest::OfPart(Part::Sets(operator, effect)),
         ),
-        Line::Metric => (Indent::Two, b"metric", Rest::Metric),
-        Line::Steps { count } => (Indent::Two, b"steps", Rest::Number(count as u64)),
-        Line::CostLines { sum } => (Indent::Two, b"sum of cost lines", Rest::Sum(sum)),
-        Line::CouldBe { step, operator } => (Indent::Two, b"step", Rest::CouldBe(step, operator)),
+        Line::Metric => (Indent::Two, b"metric", LineRest::Metric),
+        Line::Steps { count } => (Indent::Two, b"steps", LineRest::Number(count as u64)),
+        Line::CostLines { sum } => (Indent::Two, b"sum of cost lines", LineRest::Sum(sum)),
+        Line::CouldBe { step, operator } => (
+            Indent::Two,
+            b"step",
+            LineRest::CouldBe(step, operator),
+        ),
         Line::EffectSets { operator, effect } => (
             Indent::Two,
             b"effect",
-            Rest::OfPart(Part::Sets(operator, effect)),
+            LineRest::OfPart(Part::Sets(operator, effect)),
         ),
-        Line::Rule { rule } => (Indent::Two, b"rule", Rest::OfPart(Part::Derives(rule))),
+        Line::Rule { rule } => (Indent::Two, b"rule", LineRest::OfPart(Part::Derives(rule))),
         Line::ConditionRequires { condition, fact } => (
             Indent::Two,
             b"condition",
-            Rest::OfPart(Part::Requires(condition, fact)),
+            LineRest::OfPart(Part::Requires(condition, fact)),
         ),
-        Line::OldValue { fact } => (Indent::Two, b"old value", Rest::OfFact(fact)),
-        Line::DefaultValue { fact } => (Indent::Two, b"default value", Rest::OfFact(fact)),
-        Line::OnLayer { layer } => (Indent::Two, b"on layer", Rest::Number(layer as u64)),
-        Line::Derived { fact } => (Indent::Two, b"derived", Rest::OfFact(fact)),
-        Line::Holds { fact } => (Indent::Two, b"holds", Rest::OfFact(fact)),
-        Line::MayRemain { fact } => (Indent::Two, b"may remain", Rest::OfFact(fact)),
+        Line::OldValue { fact } => (Indent::Two, b"old value", LineRest::OfFact(fact)),
+        Line::DefaultValue { fact } => (Indent::Two, b"default value", LineRest::OfFact(fact)),
+        Line::OnLayer { layer } => (Indent::Two, b"on layer", LineRest::Number(layer as u64)),
+        Line::Derived { fact } => (Indent::Two, b"derived", LineRest::OfFact(fact)),
+        Line::Holds { fact } => (Indent::Two, b"holds", LineRest::OfFact(fact)),
+        Line::MayRemain { fact } => (Indent::Two, b"may remain", LineRest::OfFact(fact)),
     }
 }

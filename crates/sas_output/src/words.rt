@@ -42,7 +42,7 @@ pub struct Words<'w> {
 
 /// A line of a word, three numbers and a name, with one space between each two.
 #[derive(Clone, Copy, Debug)]
-pub struct Numbered<'w> {
+pub struct NumberedLine<'w> {
     pub word: &'w [u8],
     pub first: u64,
     pub second: u64,

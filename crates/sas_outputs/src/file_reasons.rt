@@ -5,7 +5,7 @@ ghost use Rattle.sas_outputs.specs.FileReasons.{file_text, plan_reasons, task_re
 
 use crate::dues::{push_due, push_location, push_plan_due, push_wrong_word};
 use crate::found::push_found;
-use sas_reader::{Found, Kind};
+use sas_reader::{Excerpt, Kind};
 use sas_task_format::{Mark, WrongWord};
 use std::alloc::AllocError;
 
@@ -16,7 +16,7 @@ pub fn push_task_reasons(
     kind: Kind,
     mark: Mark,
     word: Option<WrongWord>,
-    found: &Found,
+    found: &Excerpt,
 ) -> Result<(), AllocError>
     ensures { OnOk result (out.new.items ≡ out.old.items
         ++ file_text (task_reasons kind mark word (kept_bytes found.now) found.now.more)) }
@@ -31,7 +31,7 @@ pub fn push_task_reasons(
 
 /// Appends the reasons why a plan is refused for a fault of this kind: what is expected, and what was found. Returns `Err` if out of
 /// memory.
-pub fn push_plan_reasons(out: &mut Vec<u8>, kind: Kind, found: &Found) -> Result<(), AllocError>
+pub fn push_plan_reasons(out: &mut Vec<u8>, kind: Kind, found: &Excerpt) -> Result<(), AllocError>
     ensures { OnOk result (out.new.items ≡ out.old.items
         ++ file_text (plan_reasons kind (kept_bytes found.now) found.now.more)) }
 {

@@ -5,11 +5,11 @@ ghost use Rattle.sas_outputs.specs.FileLine as line;
 ghost use Rattle.sas_outputs.specs.FileLine.{empty_words, ended_line, found_word, hex_digit_of, is_shown, shown, shown_byte, shown_whole};
 
 use sas_lines::push_line;
-use sas_reader::{Found, Kind};
+use sas_reader::{Excerpt, Kind};
 use std::alloc::AllocError;
 
 /// Appends the line with the text at a fault of this kind.
-pub(crate) fn push_found(out: &mut Vec<u8>, kind: Kind, found: &Found) -> Result<(), AllocError>
+pub(crate) fn push_found(out: &mut Vec<u8>, kind: Kind, found: &Excerpt) -> Result<(), AllocError>
     ensures { OnOk result (out.new.items ≡ out.old.items
         ++ ended_line (line.Found kind (kept_bytes found.now) found.now.more)) }
 {
@@ -43,7 +43,7 @@ fn empty_line(kind: Kind) -> &'static [u8]
 }
 
 /// Appends the text as it is shown.
-fn push_shown(out: &mut Vec<u8>, found: &Found) -> Result<(), AllocError>
+fn push_shown(out: &mut Vec<u8>, found: &Excerpt) -> Result<(), AllocError>
     ensures { OnOk result (out.new.items
         ≡ out.old.items ++ shown (kept_bytes found.now) found.now.more) }
 {

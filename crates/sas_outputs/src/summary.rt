@@ -82,7 +82,7 @@ fn derived_count(variables: &Variables) -> usize
 
 /// The number of a variable, and one of its values.
 #[derive(Clone, Copy)]
-struct Valued {
+struct VariableValue {
     var: usize,
     value: u32,
 }
@@ -93,8 +93,8 @@ fn push_state<W: Write>(sink: &mut Sink<'_, W>, outline: &Outline)
         (text (initial_lines outline.now.variables outline.now.init)) }
 {
     for (var, value) in outline.init.as_slice().iter().enumerate() {
-        let valued = Valued { var, value: *value };
-        push_fact(sink, b"initial", outline, valued);
+        let valued = VariableValue { var, value: *value };
+        push_summary_fact(sink, b"initial", outline, valued);
     }
 }
 
@@ -104,23 +104,28 @@ fn push_goal<W: Write>(sink: &mut Sink<'_, W>, outline: &Outline)
         (text (spec.goal_fact_lines outline.now.variables outline.now.goal)) }
 {
     for fact in outline.goal.as_slice() {
-        let valued = Valued {
+        let valued = VariableValue {
             var: fact.var as usize,
             value: fact.value,
         };
-        push_fact(sink, b"goal", outline, valued);
+        push_summary_fact(sink, b"goal", outline, valued);
     }
 }
 
 /// Adds the line of a word and a fact, with the name of the fact's value.
-fn push_fact<W: Write>(sink: &mut Sink<'_, W>, word: &[u8], outline: &Outline, valued: Valued)
+fn push_summary_fact<W: Write>(
+    sink: &mut Sink<'_, W>,
+    word: &[u8],
+    outline: &Outline,
+    valued: VariableValue,
+)
     ensures { Pushes W.contents sink.old sink.new
         (fact_line word.now outline.now.variables valued.var valued.value ++ 10 ∷ []) }
 {
     let rest = [
         Word::Number(valued.var as u64),
         Word::Number(u64::from(valued.value)),
-        Word::Text(name_of(&outline.variables, valued)),
+        Word::Text(shown_value_name(&outline.variables, valued)),
     ];
     sink.push_line(Words {
         indent: Indent::None,
@@ -130,7 +135,7 @@ fn push_fact<W: Write>(sink: &mut Sink<'_, W>, word: &[u8], outline: &Outline, v
 }
 
 /// Returns the name of a variable's value; if there is no such value, no bytes.
-fn name_of(variables: &Variables, valued: Valued) -> &[u8]
+fn shown_value_name(variables: &Variables, valued: VariableValue) -> &[u8]
     ensures { result.now
         ≡ unwrap_or (value_name variables.now valued.var valued.value) [] }
 {

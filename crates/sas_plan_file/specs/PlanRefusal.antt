@@ -2,7 +2,7 @@
 use Rattle.std.specs.Prelude.{ℕ, List, Option, Result}
 use Rattle.sas_lines.specs.Device.{Device}
 use Rattle.sas_reader.specs.declared.fault.Fault.{Fault}
-use Rattle.sas_reader.specs.declared.found.Found.{Found}
+use Rattle.sas_reader.specs.declared.found.Excerpt.{Excerpt}
 use Rattle.sas_reader.specs.Refusals.{ExplainsRefusal, ReadsOrExplains}
 use Rattle.sas_plan_file.specs.declared.plan_refusal.PlanRefusal.{PlanRefusal}
 use Rattle.sas_plan_file.specs.PlanFormat.{plan_format}
@@ -10,7 +10,7 @@ use Rattle.sas_plan_file.specs.PlanFormat.{plan_format}
 abbrev pub fault_of : PlanRefusal → Fault
 fault_of r = r.fault
 
-abbrev pub found_of : PlanRefusal → Found
+abbrev pub found_of : PlanRefusal → Excerpt
 found_of r = r.found
 
 -- a refusal of a plan has nothing else

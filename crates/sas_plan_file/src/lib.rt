@@ -17,4 +17,4 @@ pub use plan_machine::PlanMachine;
 pub use plan_reader::PlanReader;
 pub use plan_refusal::PlanRefusal;
 pub use plan_writer::encode_plan;
-pub use step_names::StepNames;
+pub use step_names::NameList;

@@ -47,7 +47,7 @@ fn step_name(rest: &[u8]) -> Option<&[u8]>
 }
 
 /// Returns the cost before the words, or `None` if there is no such cost.
-fn cost_before(rest: &[u8], words: &[u8]) -> Option<u64>
+fn read_cost(rest: &[u8], words: &[u8]) -> Option<u64>
     ensures found { IfSome result (λ n. IsPlanCost n × (rest.now ≡ decimal n ++ words.now)) }
     ensures none { IfNone result ((n : ℕ) → IsPlanCost n → rest.now ≡ decimal n ++ words.now → ⊥) }
 {
@@ -58,14 +58,14 @@ fn cost_before(rest: &[u8], words: &[u8]) -> Option<u64>
 }
 
 /// Returns the cost and its kind, or `None` if the line has another form.
-fn cost_of(rest: &[u8]) -> Option<(u64, CostKind)>
+fn cost_on_line(rest: &[u8]) -> Option<(u64, CostKind)>
     ensures found { IfSome result (λ c. Costs rest.now c.0 c.1) }
     ensures none { IfNone result ((n : ℕ) (kind : CostKind) → Costs rest.now n kind → ⊥) }
 {
-    if let Some(n) = cost_before(rest, b" (unit cost)") {
+    if let Some(n) = read_cost(rest, b" (unit cost)") {
         return Some((n, CostKind::Unit));
     }
-    match cost_before(rest, b" (general cost)") {
+    match read_cost(rest, b" (general cost)") {
         Some(n) => Some((n, CostKind::General)),
         None => None,
     }
@@ -83,7 +83,7 @@ pub fn plan_line(line: &[u8]) -> Result<PlanLine<'_>, Kind>
     }
     match behind(line, b"; cost = ") {
         None => Err(Kind::Keyword),
-        Some(rest) => match cost_of(rest) {
+        Some(rest) => match cost_on_line(rest) {
             Some((n, kind)) => Ok(PlanLine::Cost(n, kind)),
             None => Err(Kind::Shape),
         },

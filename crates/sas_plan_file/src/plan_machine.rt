@@ -3,7 +3,7 @@ ghost use Rattle.std.specs.Prelude.{◌≡◌, [], OnOk, IfErr};
 ghost use Rattle.std.specs.List.{AllByRecursion};
 
 use crate::plan_line::{PlanLine, plan_line, step_ahead};
-use crate::step_names::StepNames;
+use crate::step_names::NameList;
 use sas_core::{CostKind, Items, Plan};
 use sas_flat::{FlatPlan, Lists};
 use sas_reader::{Front, Kind, Machine};
@@ -12,13 +12,13 @@ use std::marker::Model;
 
 /// The steps so far, and the cost if its line has been read.
 #[derive(Drop)]
-pub struct PlanMachine<S: StepNames = Items<Items<u8>>> {
+pub struct PlanMachine<S: NameList = Items<Items<u8>>> {
     alloc: Global,
     steps: S,
     cost: Option<(u64, CostKind)>,
 }
 
-impl<S: StepNames> Model for PlanMachine<S> {
+impl<S: NameList> Model for PlanMachine<S> {
     ghost use Rattle.std.specs.List.{AllByRecursion};
     ghost use Rattle.sas_core.specs.Names.{IsName};
     ghost use Rattle.sas_plan_file.specs.PlanMachine.{PlanState, plan_state};
@@ -30,7 +30,7 @@ impl<S: StepNames> Model for PlanMachine<S> {
     ghost invariant = { λ m. AllByRecursion IsName (S.names m.steps) };
 }
 
-impl<S: StepNames> PlanMachine<S> {
+impl<S: NameList> PlanMachine<S> {
     ghost use Rattle.sas_core.specs.Names.{IsName};
     ghost use Rattle.sas_plan_file.specs.PlanMachine.{closed, plan_start, HasCostLine, StepsOn};
 
@@ -113,7 +113,7 @@ impl PlanMachine<Lists<u8>> {
     }
 }
 
-impl<S: StepNames> Machine for PlanMachine<S> {
+impl<S: NameList> Machine for PlanMachine<S> {
     ghost use Rattle.sas_plan_file.specs.PlanFormat.{plan_format, PlanLineFits};
     ghost use Rattle.sas_plan_file.specs.PlanMachine.{plan_node, plan_start, HasCostLine, plan_stays};
     ghost use Rattle.sas_reader.specs.System.{Leads, Rejects};

@@ -6,7 +6,7 @@ use sas_flat::Lists;
 use std::alloc::{AllocError, Global};
 
 /// A list of the names of the steps so far.
-pub trait StepNames: Drop {
+pub trait NameList: Drop {
     ghost use Rattle.std.specs.Prelude.{List, ℕ};
 
     /// The names, in order.
@@ -19,7 +19,7 @@ pub trait StepNames: Drop {
 }
 
 /// Each name is a list of its own.
-impl StepNames for Items<Items<u8>> {
+impl NameList for Items<Items<u8>> {
     ghost names = { λ names. names };
 
     fn add(&mut self, alloc: Global, name: &[u8]) -> Result<(), AllocError> {
@@ -29,7 +29,7 @@ impl StepNames for Items<Items<u8>> {
 }
 
 /// All names are stored in one block of memory.
-impl StepNames for Lists<u8> {
+impl NameList for Lists<u8> {
     ghost names = { λ names. names };
 
     #[inline(always)]

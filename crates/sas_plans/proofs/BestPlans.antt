@@ -1,5 +1,5 @@
 -- The first of the valid plans that cost least: one at most, and one where a plan is valid.
-use Rattle.sas_plans.proofs.Imports.{◌≡◌, ℕ, ◌<◌, ◌≤◌, ◌⊎◌, List, [], ◌∷◌, ◌++◌, length, append_assoc, refl, sym, ap, ◌∙◌, arith, inl, inr, Option, Some, None, All, codes, decimal, cases_lt, none-some, All-nil, All-cons, All-head, All-tail, All-same, All-append, All-push, All-weaker, Best, Judged, IsBest, IsSummary, count_words, HasBest, IsLower}
+use Rattle.sas_plans.proofs.Imports.{◌≡◌, ℕ, ◌<◌, ◌≤◌, ◌⊎◌, List, [], ◌∷◌, ◌++◌, length, append_assoc, refl, sym, ap, ◌∙◌, arith, inl, inr, Option, Some, None, All, codes, decimal, cases_lt, none-some, All-nil, All-cons, All-head, All-tail, All-same, All-append, All-push, All-weaker, BestPlan, Judged, IsBest, IsSummary, count_words, HasBest, IsLower}
 
 -- the plan isn't valid
 abbrev pub HasNoCost : Judged → Type 0
@@ -147,7 +147,7 @@ some_summary all = elim (find_best all) [
 -- ---- one plan more
 
 -- one that isn't better leaves the best as it is
-pub best_stays : (all : List Judged) (j : Judged) (best : Best) → CostsEnough best.cost j → HasBest all (Some best) → HasBest (all ++ j ∷ []) (Some best)
+pub best_stays : (all : List Judged) (j : Judged) (best : BestPlan) → CostsEnough best.cost j → HasBest all (Some best) → HasBest (all ++ j ∷ []) (Some best)
 best_stays all j best enough (judged, is, place) = (
   judged,
   record {
@@ -161,7 +161,7 @@ best_stays all j best enough (judged, is, place) = (
   place,
 )
 
-pub best_if_any : (all : List Judged) (j : Judged) (best : Option Best) → HasNoCost j → HasBest all best → HasBest (all ++ j ∷ []) best
+pub best_if_any : (all : List Judged) (j : Judged) (best : Option BestPlan) → HasNoCost j → HasBest all best → HasBest (all ++ j ∷ []) best
 best_if_any all j None none h = All-push HasNoCost all j h none
 best_if_any all j (Some best) none h = best_stays all j best (λ other e. absurd (none-some other (sym none ∙ e))) h
 
@@ -173,16 +173,16 @@ last_best all j cost its more = (
   refl,
 )
 
-all_dearer : (all : List Judged) (cost : ℕ) (best : Option Best) → IsLower cost best → HasBest all best → All (CostsMore cost) all
+all_dearer : (all : List Judged) (cost : ℕ) (best : Option BestPlan) → IsLower cost best → HasBest all best → All (CostsMore cost) all
 all_dearer all cost None lower h = All-weaker HasNoCost (CostsMore cost) (more_than_none cost) all h
 all_dearer all cost (Some best) lower (judged, is, place) =
     All-weaker (CostsEnough best.cost) (CostsMore cost) (λ j enough. λ other e. omega (arith, enough other e, lower)) all (all_enough all judged best.cost is)
 
-pub better : (all : List Judged) (j : Judged) (cost : ℕ) (best : Option Best) → j.cost ≡ Some cost → IsLower cost best → HasBest all best
+pub better : (all : List Judged) (j : Judged) (cost : ℕ) (best : Option BestPlan) → j.cost ≡ Some cost → IsLower cost best → HasBest all best
     → HasBest (all ++ j ∷ []) (Some (record { cost = cost; number = length all }))
 better all j cost best its lower h = last_best all j cost its (all_dearer all cost best lower h)
 
-pub no_better : (all : List Judged) (j : Judged) (cost : ℕ) (best : Option Best) → j.cost ≡ Some cost → (IsLower cost best → ⊥) → HasBest all best → HasBest (all ++ j ∷ []) best
+pub no_better : (all : List Judged) (j : Judged) (cost : ℕ) (best : Option BestPlan) → j.cost ≡ Some cost → (IsLower cost best → ⊥) → HasBest all best → HasBest (all ++ j ∷ []) best
 no_better all j cost None its lower h = absurd (lower tt)
 no_better all j cost (Some best) its lower h =
     best_stays all j best (λ other e. let same = some_cost cost other j.cost its e in elim (cases_lt cost best.cost) [ inl less ↦ absurd (lower less) | inr enough ↦ omega arith ]) h

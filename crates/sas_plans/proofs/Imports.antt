@@ -69,6 +69,6 @@ pub use Rattle.sas_plans.specs.declared.inputs.InputFault.TheVariants.{NotOpened
 pub use Rattle.sas_plans.specs.declared.inputs.JudgeFault.{JudgeFault}
 pub use Rattle.sas_plans.specs.declared.inputs.JudgeFault.TheVariants.{Tool}
 pub use Rattle.sas_plans.specs.declared.slices.PlanBytes.{PlanBytes}
-pub use Rattle.sas_plans.specs.declared.tally.Best.{Best}
+pub use Rattle.sas_plans.specs.declared.tally.BestPlan.{BestPlan}
 pub use Rattle.sas_plans.specs.declared.tally.Tally.{Tally}
-pub use Rattle.sas_plans.specs.declared.verdicts.Verdict.{Verdict}
+pub use Rattle.sas_plans.specs.declared.verdicts.PlanReport.{PlanReport}

@@ -1,5 +1,5 @@
 -- The verdict on one plan, by what was read of it.
-use Rattle.sas_plans.proofs.Imports.{◌≡◌, ◌≢◌, ◌⊎◌, inl, inr, ℕ, List, codes, refl, sym, ◌∙◌, Option, Some, None, Result, Ok, Err, IfOk, IfErr, IsErrOf, Consumes, IsAtEnd, Parts, PlanParts, Device, Fault, Kind, ValueOf, ReadsAll, ReadsAs, KindAt, too_long, trailing, wrong, most_bytes, known_answer, known_fault, plan_format, PlanKind, like_step, like_cost, like_none, Status, Yes, No, ToolFault, Answer, Output, output_of, IsWrite, VerdictAnswer, refusal, refusal_line, word_of, refused_kind, too_long_else, Verdict, HasCost, KnownBeginsWith, VerdictOut, IsVerdictOnRefusal, IsVerdict, IsVerdictOnPlan, cost_if, Judges, reading_of_refusal, file_refused, file_too_long, worded}
+use Rattle.sas_plans.proofs.Imports.{◌≡◌, ◌≢◌, ◌⊎◌, inl, inr, ℕ, List, codes, refl, sym, ◌∙◌, Option, Some, None, Result, Ok, Err, IfOk, IfErr, IsErrOf, Consumes, IsAtEnd, Parts, PlanParts, Device, Fault, Kind, ValueOf, ReadsAll, ReadsAs, KindAt, too_long, trailing, wrong, most_bytes, known_answer, known_fault, plan_format, PlanKind, like_step, like_cost, like_none, Status, Yes, No, ToolFault, Answer, Output, output_of, IsWrite, VerdictAnswer, refusal, refusal_line, word_of, refused_kind, too_long_else, PlanReport, HasCost, KnownBeginsWith, VerdictOut, IsVerdictOnRefusal, IsVerdict, IsVerdictOnPlan, cost_if, Judges, reading_of_refusal, file_refused, file_too_long, worded}
 use Rattle.sas_reader.specs.declared.fault.Kind.TheVariants as kinds
 use Rattle.sas_output.specs.declared.ending.ToolFault.TheVariants as tool_fault
 
@@ -16,7 +16,7 @@ cost_of : (c : List ℕ) (plan : PlanParts) (s : Status) (cost : Option ℕ) →
 cost_of c plan Yes cost reads e = (plan, reads.0, e)
 cost_of c plan No cost reads e = e
 
-read_verdict : (p : Parts) (c : List ℕ) (plan : PlanParts) (v : Verdict) → ReadsAs plan_format most_bytes c (Ok plan) → IsVerdictOnPlan p plan v → IsVerdict p c v
+read_verdict : (p : Parts) (c : List ℕ) (plan : PlanParts) (v : PlanReport) → ReadsAs plan_format most_bytes c (Ok plan) → IsVerdictOnPlan p plan v → IsVerdict p c v
 read_verdict p c plan v reads (output, answer, line, cost) =
     (output, (Ok plan, reads, (output, answer, refl)), line, cost_of c plan output.status v.cost reads cost)
 
@@ -29,7 +29,7 @@ no_cost : (c : List ℕ) (s : Status) (cost : Option ℕ) → s ≡ No → cost 
 no_cost c Yes cost e none = absurd cc
 no_cost c No cost e none = none
 
-refused_verdict : (p : Parts) (c : List ℕ) (f : Fault) (v : Verdict) → IsVerdictOnRefusal f v → (f.kind ≢ kinds.Memory → f.kind ≢ kinds.Read → ReadsAs plan_format most_bytes c (Err f)) → IsVerdict p c v
+refused_verdict : (p : Parts) (c : List ℕ) (f : Fault) (v : PlanReport) → IsVerdictOnRefusal f v → (f.kind ≢ kinds.Memory → f.kind ≢ kinds.Read → ReadsAs plan_format most_bytes c (Err f)) → IsVerdict p c v
 refused_verdict p c f v (o, is, line, cost) fault =
     (o, file_refused plan_format (codes "plan") (VerdictAnswer p) c f o is fault, line, no_cost c o.status v.cost (refused_status (codes "plan") f o is) cost)
 
@@ -74,7 +74,7 @@ module _ (b : List ℕ) (p : Parts) (f : Fault) (fault : f.kind ≢ kinds.Memory
 -- ---- as it is read from a device
 
 module _ {D : Type 0} (left : D → Option (List ℕ)) (p : Parts) (old new : Device D) where
-  pub judges_read : (plan : PlanParts) (v : Verdict) → ReadsAll left plan_format (ValueOf plan_format) old new (Ok plan) → IsVerdictOnPlan p plan v → Judges p (left old.device) (Ok v)
+  pub judges_read : (plan : PlanParts) (v : PlanReport) → ReadsAll left plan_format (ValueOf plan_format) old new (Ok plan) → IsVerdictOnPlan p plan v → Judges p (left old.device) (Ok v)
   judges_read plan v h reports = record {
     output = λ c known. read_verdict p c plan v (known_answer left plan_format (ValueOf plan_format) old new plan c h known) reports;
     taken = λ decided.
@@ -84,7 +84,7 @@ module _ {D : Type 0} (left : D → Option (List ℕ)) (p : Parts) (old new : De
   }
 
   module _ (f : Fault) (h : ReadsAll left plan_format (ValueOf plan_format) old new (Err f)) where
-    judges_refused : (v : Verdict) → IsVerdictOnRefusal f v → Judges p (left old.device) (Ok v)
+    judges_refused : (v : PlanReport) → IsVerdictOnRefusal f v → Judges p (left old.device) (Ok v)
     judges_refused v is = record {
       output = λ c known. refused_verdict p c f v is (known_fault left plan_format (ValueOf plan_format) old new f c h known);
       taken = λ decided.
@@ -109,12 +109,12 @@ module _ {D : Type 0} (left : D → Option (List ℕ)) (p : Parts) (old new : De
       writes = λ w. w;
     }
 
-    judges_none : (why : ToolFault) → (IsErrOf {T = Verdict} (Err why) tool_fault.TooLong → f.kind ≡ kinds.TooLong) → (IsWrite why → ⊥) → Judges p (left old.device) (Err why)
+    judges_none : (why : ToolFault) → (IsErrOf {T = PlanReport} (Err why) tool_fault.TooLong → f.kind ≡ kinds.TooLong) → (IsWrite why → ⊥) → Judges p (left old.device) (Err why)
     judges_none tool_fault.TooLong long writes = judges_long (long refl)
     judges_none tool_fault.Memory long writes = record { output = λ c known e. absurd cc; taken = λ decided. absurd decided; writes = writes }
     judges_none tool_fault.Read long writes = record { output = λ c known e. absurd cc; taken = λ decided. absurd decided; writes = writes }
     judges_none (tool_fault.Write n) long writes = absurd (writes tt)
 
-    pub judges_fault : (r : Result Verdict ToolFault) → IfOk r (IsVerdictOnRefusal f) → (IsErrOf r tool_fault.TooLong → f.kind ≡ kinds.TooLong) → IfErr r (λ e. IsWrite e → ⊥) → Judges p (left old.device) r
+    pub judges_fault : (r : Result PlanReport ToolFault) → IfOk r (IsVerdictOnRefusal f) → (IsErrOf r tool_fault.TooLong → f.kind ≡ kinds.TooLong) → IfErr r (λ e. IsWrite e → ⊥) → Judges p (left old.device) r
     judges_fault (Ok v) ok long writes = judges_refused v ok
     judges_fault (Err why) ok long writes = judges_none why long writes

@@ -1,5 +1,5 @@
 -- What is said of one plan after another.
-use Rattle.sas_plans.proofs.Imports.{◌≡◌, ◌≢◌, ℕ, ◌+◌, ◌<◌, ◌≤◌, ◌⊎◌, List, [], ◌∷◌, ◌++◌, length, get_or, codes, decimal, append_assoc, append-nil, refl, sym, ap, subst, ◌∙◌, arith, inl, inr, Option, Some, None, Result, Ok, Err, IfErr, zip, flat_map, count_by, if◌then◌else◌, list_all, get_or-append, get_or-append_seam, cases_lt, length_push, count_by-le-length, flat_map-append, Parts, Status, Yes, No, NotOpened, TooLong, JudgeFault, Tool, IsRightlyLong, Best, Tally, Verdict, Judged, IsJudged, IsBest, IsSummary, PlansAnswer, PlansOut, count_words, is_valid, labelled, AreSaid, AreReported, HasBest, KnownBeginsWith, IsOneUnsaid, IsPlace, IsOfPlan, IsSaid, IsUnsaid, Judges, JudgesPlans, Tallies, summary_of, unjudged, ToolFault, Ends, Output, IsDecided, IsWrite, ends_as, tool_result, judge_result, VerdictAnswer, plan_format, VerdictOut, long_file, plan_worded}
+use Rattle.sas_plans.proofs.Imports.{◌≡◌, ◌≢◌, ℕ, ◌+◌, ◌<◌, ◌≤◌, ◌⊎◌, List, [], ◌∷◌, ◌++◌, length, get_or, codes, decimal, append_assoc, append-nil, refl, sym, ap, subst, ◌∙◌, arith, inl, inr, Option, Some, None, Result, Ok, Err, IfErr, zip, flat_map, count_by, if◌then◌else◌, list_all, get_or-append, get_or-append_seam, cases_lt, length_push, count_by-le-length, flat_map-append, Parts, Status, Yes, No, NotOpened, TooLong, JudgeFault, Tool, IsRightlyLong, BestPlan, Tally, PlanReport, Judged, IsJudged, IsBest, IsSummary, PlansAnswer, PlansOut, count_words, is_valid, labelled, AreSaid, AreReported, HasBest, KnownBeginsWith, IsOneUnsaid, IsPlace, IsOfPlan, IsSaid, IsUnsaid, Judges, JudgesPlans, Tallies, summary_of, unjudged, ToolFault, Ends, Output, IsDecided, IsWrite, ends_as, tool_result, judge_result, VerdictAnswer, plan_format, VerdictOut, long_file, plan_worded}
 use Rattle.std.proofs.Common.{length-append}
 use Rattle.std.proofs.lemmas.Bool.Decides.{eqb_tells}
 use Rattle.sas_output.specs.declared.ending.ToolFault.TheVariants as tool_fault
@@ -13,7 +13,7 @@ use Rattle.sas_plans.proofs.Turns.{tool_same, tool_long, tool_unread}
 -- ---- one plan
 
 -- what is said of a plan with this label, by the verdict on it
-pub said_of : (p : Parts) (known : Option (List ℕ)) (label : List ℕ) (v : Verdict) → Judges p known (Ok v) → IsSaid p known label (record { label = label; line = v.line.items; cost = v.cost })
+pub said_of : (p : Parts) (known : Option (List ℕ)) (label : List ℕ) (v : PlanReport) → Judges p known (Ok v) → IsSaid p known label (record { label = label; line = v.line.items; cost = v.cost })
 said_of p known label v h = record {
   output = λ c e. let is = h.output c e in (is.0, is.1, refl, is.2, is.3);
   taken = let t = h.taken tt in (t.0, t.1, (t.2.0, t.2.1, refl, t.2.2, t.2.3));
@@ -63,7 +63,7 @@ same_or_not : (m n : ℕ) → (m ≡ n) ⊎ (m ≢ n)
 same_or_not m n = elim (eqb_tells m n) [ inl same ↦ inl same.1 | inr other ↦ inr other.1 ]
 
 -- the place of the best is that of a plan
-pub placed : (labels : List (List ℕ)) (all : List Judged) (best : Option Best) → length all ≡ length labels → HasBest all best → IsPlace labels best
+pub placed : (labels : List (List ℕ)) (all : List Judged) (best : Option BestPlan) → length all ≡ length labels → HasBest all best → IsPlace labels best
 placed labels all None many h = tt
 placed labels all (Some best) many (judged, is, place) = omega (arith, many, place, ap (λ (x : List Judged). length x) is.whole, length-append is.front (judged ∷ is.behind))
 
@@ -94,14 +94,14 @@ module _ (p : Parts) (known : ℕ → Option (List ℕ)) (labels : List (List �
   label_at all n k said less = (said.each k less).taken.2.2
 
   module _ (all : List Judged) (said : AreSaid p known labels (length labels) all) where
-    best_of : (best : Best) (judged : Judged) (is : IsBest all judged best.cost) → length is.front ≡ best.number → judged.label ≡ get_or labels best.number []
+    best_of : (best : BestPlan) (judged : Judged) (is : IsBest all judged best.cost) → length is.front ≡ best.number → judged.label ≡ get_or labels best.number []
     best_of best judged is place =
         let at : get_or all best.number unjudged ≡ judged =
         ap (λ (x : List Judged). get_or x best.number unjudged) is.whole ∙ ap (λ (k : ℕ). get_or (is.front ++ judged ∷ is.behind) k unjudged) (sym place) ∙ get_or-append_seam is.front judged is.behind unjudged in
         let below : best.number < length labels = placed labels all (Some best) said.many (judged, is, place) in
         ap (λ (j : Judged). j.label) (sym at) ∙ label_at all (length labels) best.number said below
 
-    summary_by : (valid : ℕ) (best : Option Best) → valid ≡ count_by is_valid all → HasBest all best → IsSummary all (summary_of labels (record { valid = valid; best = best }))
+    summary_by : (valid : ℕ) (best : Option BestPlan) → valid ≡ count_by is_valid all → HasBest all best → IsSummary all (summary_of labels (record { valid = valid; best = best }))
     summary_by valid None e h = inl (h, words)
       where
         words : summary_of labels (record { valid = valid; best = None }) ≡ count_words all ++ codes "\n"

@@ -14,9 +14,9 @@ use Rattle.sas_outputs.specs.Output.{VerdictOut, refusal}
 use Rattle.sas_plans.specs.declared.inputs.InputFault.TheVariants.{NotOpened, Read, TooLong}
 use Rattle.sas_plans.specs.declared.inputs.JudgeFault.{JudgeFault}
 use Rattle.sas_plans.specs.declared.inputs.JudgeFault.TheVariants as judge_fault
-use Rattle.sas_plans.specs.declared.tally.Best.{Best}
+use Rattle.sas_plans.specs.declared.tally.BestPlan.{BestPlan}
 use Rattle.sas_plans.specs.declared.tally.Tally.{Tally}
-use Rattle.sas_plans.specs.declared.verdicts.Verdict.{Verdict}
+use Rattle.sas_plans.specs.declared.verdicts.PlanReport.{PlanReport}
 use Rattle.sas_plans.specs.Inputs.{HaveBytes, WereRead, tool_fault, tool_result}
 use Rattle.sas_plans.specs.InTurn.{IsRightlyLong, OpensFirst, OpensTo}
 use Rattle.sas_plans.specs.Judged.{Judged, HasCost, IsJudged, IsBest, is_valid, labelled, PlansOut}
@@ -29,7 +29,7 @@ KnownBeginsWith known c = (whole : List ℕ) → known ≡ Some whole
     → (rest : List ℕ) × (whole ≡ c ++ rest)
 
 -- the verdict on a plan with these bytes
-abbrev pub IsVerdict : Parts → List ℕ → Verdict → Type 0
+abbrev pub IsVerdict : Parts → List ℕ → PlanReport → Type 0
 IsVerdict p c verdict = (output : Output)
     × VerdictOut VerdictAnswer p c (Some output)
     × (verdict.line.items ≡ output.text)
@@ -41,27 +41,27 @@ cost_if Yes cost = Some cost
 cost_if No cost = None
 
 -- this is the verdict on a plan that was read
-abbrev pub IsVerdictOnPlan : Parts → PlanParts → Verdict → Type 0
+abbrev pub IsVerdictOnPlan : Parts → PlanParts → PlanReport → Type 0
 IsVerdictOnPlan p plan verdict = (output : Output)
     × VerdictAnswer p plan output
     × (verdict.line.items ≡ output.text)
     × (verdict.cost ≡ cost_if output.status plan.cost)
 
 -- this is the verdict on a plan file that is refused for this fault
-abbrev pub IsVerdictOnRefusal : Fault → Verdict → Type 0
+abbrev pub IsVerdictOnRefusal : Fault → PlanReport → Type 0
 IsVerdictOnRefusal fault verdict = (output : Output)
     × (refusal (codes "plan") fault ≡ Some output)
     × (verdict.line.items ≡ output.text)
     × (verdict.cost ≡ None)
 
 -- the result is the verdict on it, and past the limit there is none
-abbrev pub GivesVerdict : Parts → List ℕ → Result Verdict ToolFault → Type 0
+abbrev pub GivesVerdict : Parts → List ℕ → Result PlanReport ToolFault → Type 0
 GivesVerdict p c (Ok verdict) = IsVerdict p c verdict
 GivesVerdict p c (Err why) = why ≡ fault.TooLong → VerdictOut VerdictAnswer p c None
 
 -- what the verdict on a plan promises that is read to its end or to its first fault; `known` are
 -- its bytes, where they are known
-pub record Judges (p : Parts) (known : Option (List ℕ)) (result : Result Verdict ToolFault)
+pub record Judges (p : Parts) (known : Option (List ℕ)) (result : Result PlanReport ToolFault)
     : Type 0 where
   -- of a plan whose bytes are known, it is the verdict on them
   pub output : (c : List ℕ) → known ≡ Some c → GivesVerdict p c result
@@ -139,7 +139,7 @@ pub record AreSaid (p : Parts) (known : ℕ → Option (List ℕ)) (labels : Lis
       (slice_index_or all number unjudged)
 
 -- the first of the valid plans that cost least, by its place; there is none where no plan is valid
-abbrev pub HasBest : List Judged → Option Best → Type 0
+abbrev pub HasBest : List Judged → Option BestPlan → Type 0
 HasBest all None = All (λ (j : Judged). j.cost ≡ None) all
 HasBest all (Some best) = (judged : Judged)
     × (is : IsBest all judged best.cost)
@@ -151,7 +151,7 @@ pub record Tallies (tally : Tally) (all : List Judged) : Type 0 where
   pub best : HasBest all tally.best
 
 -- the cost is lower than that of the best so far, if there is one
-abbrev pub IsLower : ℕ → Option Best → Type 0
+abbrev pub IsLower : ℕ → Option BestPlan → Type 0
 IsLower cost None = Unit {0}
 IsLower cost (Some best) = cost < best.cost
 
@@ -171,13 +171,13 @@ IsOneUnsaid p known count why = (number : ℕ)
 -- ---- the last line
 
 -- `, best cost C: LABEL`, where a plan is valid
-abbrev pub best_words : List (List ℕ) → Option Best → List ℕ
+abbrev pub best_words : List (List ℕ) → Option BestPlan → List ℕ
 best_words labels None = []
 best_words labels (Some best) =
     codes ", best cost " ++ decimal best.cost ++ codes ": " ++ slice_index_or labels best.number []
 
 -- the place of the best is that of a plan
-abbrev pub IsPlace : List (List ℕ) → Option Best → Type 0
+abbrev pub IsPlace : List (List ℕ) → Option BestPlan → Type 0
 IsPlace labels None = Unit {0}
 IsPlace labels (Some best) = best.number < length labels
 

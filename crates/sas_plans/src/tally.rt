@@ -5,7 +5,7 @@ ghost use Rattle.sas_plans.specs.Judging.{IsLower, Tallies};
 
 /// A valid plan that costs least: its cost, and its number.
 #[derive(Clone, Copy, Debug)]
-pub struct Best {
+pub struct BestPlan {
     pub cost: u64,
     pub number: usize,
 }
@@ -14,7 +14,7 @@ pub struct Best {
 #[derive(Clone, Copy, Debug)]
 pub struct Tally {
     pub valid: usize,
-    pub best: Option<Best>,
+    pub best: Option<BestPlan>,
 }
 
 impl Tally {
@@ -39,13 +39,13 @@ impl Tally {
         };
         self.valid += 1;
         if is_lower(cost, self.best) {
-            self.best = Some(Best { cost, number });
+            self.best = Some(BestPlan { cost, number });
         }
     }
 }
 
 /// Returns whether the cost is lower than that of the best plan so far, or there is none.
-fn is_lower(cost: u64, best: Option<Best>) -> bool
+fn is_lower(cost: u64, best: Option<BestPlan>) -> bool
     ensures yes { IsTrue result → IsLower cost best }
     ensures no { IsFalse result → IsLower cost best → ⊥ }
 {

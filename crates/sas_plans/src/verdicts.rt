@@ -20,7 +20,7 @@ use std::io::Read;
 
 /// The report on a plan: the line that `plan` prints of it, with its end, and the plan's cost if it is valid.
 #[derive(Drop)]
-pub struct Verdict {
+pub struct PlanReport {
     pub line: Vec<u8>,
     pub cost: Option<u64>,
 }
@@ -31,7 +31,7 @@ pub fn judge_plan<S: PlanInputs>(
     loaded: &mut LoadedTask<Worklist, FlatTask>,
     plans: &mut S,
     number: usize,
-) -> Result<Verdict, JudgeFault>
+) -> Result<PlanReport, JudgeFault>
     requires { number < length (S.labels plans.old) }
     ensures judges { Judges loaded.old (S.bytes plans.old number) (tool_result result) }
     ensures opened { IfOk result (λ _. IsOpened S.open_gives number plans.old plans.new) }
@@ -79,7 +79,7 @@ fn judge_input<P: Read>(
     alloc: Global,
     loaded: &mut LoadedTask<Worklist, FlatTask>,
     plan: &mut Watched<P>,
-) -> Result<Verdict, ToolFault>
+) -> Result<PlanReport, ToolFault>
     requires { plan.old.failed ≡ false }
     ensures judges { Judges loaded.old (P.remaining plan.old.device) result }
     ensures reads { IsErrOf result ToolFault.Read ↔ IsTrue plan.new.failed }
@@ -92,14 +92,14 @@ fn judge_input<P: Read>(
 }
 
 /// Returns the verdict that refuses a plan file for its fault, or why the run ends at it.
-fn verdict_on_refusal(alloc: Global, fault: Fault) -> Result<Verdict, ToolFault>
+fn verdict_on_refusal(alloc: Global, fault: Fault) -> Result<PlanReport, ToolFault>
     ensures ok { IfOk result (IsVerdictOnRefusal fault) }
     ensures long { IsErrOf result ToolFault.TooLong ↔ (fault.kind ≡ Kind.TooLong) }
     ensures read { IsErrOf result ToolFault.Read ↔ (fault.kind ≡ Kind.Read) }
     ensures writes { IfErr result (λ e. IsWrite e → ⊥) }
 {
     let answer = refuse_file(alloc, "plan", fault)?;
-    Ok(Verdict {
+    Ok(PlanReport {
         line: answer.text,
         cost: None,
     })
@@ -110,7 +110,7 @@ fn verdict_by(
     alloc: Global,
     loaded: &mut LoadedTask<Worklist, FlatTask>,
     plan: &FlatPlan,
-) -> Result<Verdict, AllocError>
+) -> Result<PlanReport, AllocError>
     ensures verdict { IfOk result (λ v. IsVerdictOnPlan loaded.old plan.now v) }
     ensures same { loaded.new ≡ loaded.old }
 {
@@ -119,7 +119,7 @@ fn verdict_by(
         Status::Yes => Some(plan.cost()),
         Status::No => None,
     };
-    Ok(Verdict {
+    Ok(PlanReport {
         line: reported.text,
         cost,
     })

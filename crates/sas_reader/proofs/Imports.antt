@@ -46,8 +46,8 @@ pub use Rattle.sas_reader.specs.Texts.{Reads, lines_of}
 pub use Rattle.sas_reader.specs.declared.fault.Fault.{Fault}
 pub use Rattle.sas_reader.specs.declared.fault.Kind.{Kind}
 pub use Rattle.sas_reader.specs.declared.fault.Kind.TheVariants.{End, Trailing, TooLong}
-pub use Rattle.sas_reader.specs.declared.found.Found.{Found}
+pub use Rattle.sas_reader.specs.declared.found.Excerpt.{Excerpt}
 pub use Rattle.sas_reader.specs.declared.reader.Front.{Front}
 pub use Rattle.sas_reader.specs.declared.reader.Reader.{Reader}
-pub use Rattle.sas_reader.specs.declared.reader.Refused.{Refused}
+pub use Rattle.sas_reader.specs.declared.reader.Refusal.{Refusal}
 unfoldable pub use Rattle.sas_reader.specs.Reader.{Stands}

@@ -1,5 +1,5 @@
 -- Inputs whose bytes are known: a refusal explains the fault of all their bytes.
-use Rattle.sas_reader.proofs.Imports.{◌≡◌, ◌≢◌, ℕ, List, subst, Err, Option, Some, Consumes, IsAtEnd, Device, Fault, Found, Refuses, unread_at, ended_at, faulty_at, Format, most_bytes, ConcernsText, IsAbout, AboutLaws, ExplainsRefusal, ReadsOrExplains}
+use Rattle.sas_reader.proofs.Imports.{◌≡◌, ◌≢◌, ℕ, List, subst, Err, Option, Some, Consumes, IsAtEnd, Device, Fault, Excerpt, Refuses, unread_at, ended_at, faulty_at, Format, most_bytes, ConcernsText, IsAbout, AboutLaws, ExplainsRefusal, ReadsOrExplains}
 use Rattle.sas_reader.specs.declared.fault.Kind.TheVariants as kinds
 use Rattle.sas_reader.proofs.Known.{front_read, all_read}
 
@@ -10,7 +10,7 @@ known_about F laws known new input bytes f a t e c (faulty_at h k) ne about =
     let r = front_read known new input bytes e c in
     subst (λ (b : List ℕ). IsAbout F most_bytes b f a t) r.1 (laws.about_stays most_bytes bytes r.0 f a t h about)
 
-module _ {D V I S A R : Type 0} (left : D → Option (List ℕ)) (F : Format V I S) (fault : R → Fault) (found : R → Found) (Why : List (List ℕ) → List ℕ → R → Type 0) (Gives : List ℕ → A → Type 0) where
+module _ {D V I S A R : Type 0} (left : D → Option (List ℕ)) (F : Format V I S) (fault : R → Fault) (found : R → Excerpt) (Why : List (List ℕ) → List ℕ → R → Type 0) (Gives : List ℕ → A → Type 0) where
   pub known_explained : (old new : Device D) (r : R) (input : List ℕ) → AboutLaws F → ReadsOrExplains F fault found Why left Gives old new (Err r) → left old.device ≡ Some input → ConcernsText (fault r).kind → ExplainsRefusal F fault found Why input r
   known_explained old new r input laws h known reported =
       let t = h.explained reported in

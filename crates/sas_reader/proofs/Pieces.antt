@@ -1,6 +1,6 @@
 -- One line of a piece, or a part of one.
 use Rattle.std.proofs.lemmas.Grind.{common_steps}
-use Rattle.sas_reader.proofs.Imports.{◌≡◌, ℕ, ◌+◌, ◌<◌, ◌≤◌, Bool, true, false, List, [], ◌∷◌, ◌++◌, length, take, drop, refl, sym, ap, subst, ◌∙◌, append_assoc, arith, length-append, length-drop, append-nil, length-take, take-append-drop, take-append-le, take-add, take-append-add, without_return, lines, unfinished, NoEnd, TakesLine, completed, lines-none, unfinished-none, lines-append, Fault, Kind, Found, IsFoundOf, Reached, LineIsDue, Stops, full, over, rejected, FaultBehind, unfinished-append, lines-part, lines-end, unfinished-plain_all, lines-without}
+use Rattle.sas_reader.proofs.Imports.{◌≡◌, ℕ, ◌+◌, ◌<◌, ◌≤◌, Bool, true, false, List, [], ◌∷◌, ◌++◌, length, take, drop, refl, sym, ap, subst, ◌∙◌, append_assoc, arith, length-append, length-drop, append-nil, length-take, take-append-drop, take-append-le, take-add, take-append-add, without_return, lines, unfinished, NoEnd, TakesLine, completed, lines-none, unfinished-none, lines-append, Fault, Kind, Excerpt, IsFoundOf, Reached, LineIsDue, Stops, full, over, rejected, FaultBehind, unfinished-append, lines-part, lines-end, unfinished-plain_all, lines-without}
 use Rattle.sas_reader.specs.declared.fault.Kind.TheVariants as kinds
 
 -- ---- a prefix of a piece
@@ -77,7 +77,7 @@ module _ {M : Type 0} (led_by : List (List ℕ) → M → Type 0) (ended : M →
 
 module _ {M : Type 0} (led_by : List (List ℕ) → M → Type 0) (ended : M → Type 0) (rejects : M → List ℕ → Kind → Type 0) (halted : M → List ℕ → Kind → M → Type 0) where
   -- the first byte of a piece exceeds the limit
-  fault_first : (limit : ℕ) (m : M) (bytes piece : List ℕ) (f : Fault) (now : M) (found : Found) → 0 < length piece → Reached led_by ended m bytes → f.line ≡ length (lines bytes) + 1 → ((byte : ℕ) → take 1 piece ≡ byte ∷ [] → Stops led_by ended rejects halted limit m bytes byte f.kind now found) → FaultBehind led_by ended rejects halted limit bytes piece f now found
+  fault_first : (limit : ℕ) (m : M) (bytes piece : List ℕ) (f : Fault) (now : M) (found : Excerpt) → 0 < length piece → Reached led_by ended m bytes → f.line ≡ length (lines bytes) + 1 → ((byte : ℕ) → take 1 piece ≡ byte ∷ [] → Stops led_by ended rejects halted limit m bytes byte f.kind now found) → FaultBehind led_by ended rejects halted limit bytes piece f now found
   fault_first limit m bytes [] f now found some h line stops = absurd (omega arith)
   fault_first limit m bytes (byte ∷ after) f now found some h line stops =
       let same : bytes ≡ bytes ++ [] = sym (append-nil bytes) in
@@ -92,14 +92,14 @@ module _ {M : Type 0} (led_by : List (List ℕ) → M → Type 0) (ended : M →
         stops = subst (λ (x : List ℕ). Stops led_by ended rejects halted limit m x byte f.kind now found) same (stops byte refl);
       }
 
-  pub fault_full : (limit : ℕ) (m : M) (bytes piece : List ℕ) (f : Fault) (now : M) (found : Found) → 0 < length piece → Reached led_by ended m bytes → f.line ≡ length (lines bytes) + 1 → length bytes ≡ limit → f.kind ≡ kinds.TooLong → FaultBehind led_by ended rejects halted limit bytes piece f now found
+  pub fault_full : (limit : ℕ) (m : M) (bytes piece : List ℕ) (f : Fault) (now : M) (found : Excerpt) → 0 < length piece → Reached led_by ended m bytes → f.line ≡ length (lines bytes) + 1 → length bytes ≡ limit → f.kind ≡ kinds.TooLong → FaultBehind led_by ended rejects halted limit bytes piece f now found
   fault_full limit m bytes piece f now found some h line l k = fault_first limit m bytes piece f now found some h line (λ byte e. full l k)
 
-  pub fault_over : (limit : ℕ) (m : M) (bytes piece : List ℕ) (f : Fault) (now : M) (found : Found) → 0 < length piece → Reached led_by ended m bytes → f.line ≡ length (lines bytes) + 1 → length bytes + 1 ≤ limit → ended m → f.kind ≡ kinds.Trailing → now ≡ m → IsFoundOf (take 1 piece) found → FaultBehind led_by ended rejects halted limit bytes piece f now found
+  pub fault_over : (limit : ℕ) (m : M) (bytes piece : List ℕ) (f : Fault) (now : M) (found : Excerpt) → 0 < length piece → Reached led_by ended m bytes → f.line ≡ length (lines bytes) + 1 → length bytes + 1 ≤ limit → ended m → f.kind ≡ kinds.Trailing → now ≡ m → IsFoundOf (take 1 piece) found → FaultBehind led_by ended rejects halted limit bytes piece f now found
   fault_over limit m bytes piece f now found some h line l d k stays is = fault_first limit m bytes piece f now found some h line (λ byte e. over l d k stays (subst (λ (x : List ℕ). IsFoundOf x found) e is))
 
   -- its first line is rejected
-  pub fault_line : (limit : ℕ) (m : M) (bytes piece pending line : List ℕ) (n : ℕ) (f : Fault) (now : M) (found : Found) → Reached led_by ended m bytes → (ended m → ⊥) → TakesLine piece n true → pending ≡ unfinished bytes → lines (pending ++ take n piece) ≡ line ∷ [] → length bytes + n ≤ limit → f.line ≡ length (lines bytes) + 1
+  pub fault_line : (limit : ℕ) (m : M) (bytes piece pending line : List ℕ) (n : ℕ) (f : Fault) (now : M) (found : Excerpt) → Reached led_by ended m bytes → (ended m → ⊥) → TakesLine piece n true → pending ≡ unfinished bytes → lines (pending ++ take n piece) ≡ line ∷ [] → length bytes + n ≤ limit → f.line ≡ length (lines bytes) + 1
       → rejects m line f.kind → halted m line f.kind now → IsFoundOf line found → FaultBehind led_by ended rejects halted limit bytes piece f now found
   fault_line limit m bytes piece pending line n f now found h going t p e room at_line r behind known =
       let front = t.0 in
@@ -118,7 +118,7 @@ module _ {M : Type 0} (led_by : List (List ℕ) → M → Type 0) (ended : M →
       }
 
   -- a fault in a prefix of a piece
-  pub fault_wider : (limit : ℕ) (bytes piece : List ℕ) (m : ℕ) (f : Fault) (now : M) (found : Found) → FaultBehind led_by ended rejects halted limit bytes (take m piece) f now found → FaultBehind led_by ended rejects halted limit bytes piece f now found
+  pub fault_wider : (limit : ℕ) (bytes piece : List ℕ) (m : ℕ) (f : Fault) (now : M) (found : Excerpt) → FaultBehind led_by ended rejects halted limit bytes (take m piece) f now found → FaultBehind led_by ended rejects halted limit bytes piece f now found
   fault_wider limit bytes piece m f now found h = record {
     machine = h.machine;
     front = h.front;
@@ -131,7 +131,7 @@ module _ {M : Type 0} (led_by : List (List ℕ) → M → Type 0) (ended : M →
   }
 
   -- a fault after a prefix of a piece
-  pub fault_behind : (limit : ℕ) (bytes piece front rest : List ℕ) (f : Fault) (now : M) (found : Found) → front ++ rest ≡ piece → FaultBehind led_by ended rejects halted limit (bytes ++ front) rest f now found → FaultBehind led_by ended rejects halted limit bytes piece f now found
+  pub fault_behind : (limit : ℕ) (bytes piece front rest : List ℕ) (f : Fault) (now : M) (found : Excerpt) → front ++ rest ≡ piece → FaultBehind led_by ended rejects halted limit (bytes ++ front) rest f now found → FaultBehind led_by ended rejects halted limit bytes piece f now found
   fault_behind limit bytes piece front rest f now found is h =
       let same : (bytes ++ front) ++ h.front ≡ bytes ++ (front ++ h.front) = append_assoc bytes front h.front in
       record {

@@ -1,5 +1,5 @@
 -- The promises of a reader whose machine follows a grammar, in terms of the format.
-use Rattle.sas_reader.proofs.Imports.{◌≡◌, ◌≢◌, ℕ, ◌≤◌, List, ◌++◌, length, refl, sym, ap, subst, Option, Some, None, Result, Ok, Err, arith, OnOk, IfErr, Device, Fault, Kind, Reader, ReadsAll, answer, Format, Live, FaultOf, ReadsAs, most_bytes, Refused, Reached, Stands, TakesPiece, RefusedAtEnd, FeedsMachine, View, Feeds, Node, Grammar}
+use Rattle.sas_reader.proofs.Imports.{◌≡◌, ◌≢◌, ℕ, ◌≤◌, List, ◌++◌, length, refl, sym, ap, subst, Option, Some, None, Result, Ok, Err, arith, OnOk, IfErr, Device, Fault, Kind, Reader, ReadsAll, answer, Format, Live, FaultOf, ReadsAs, most_bytes, Refusal, Reached, Stands, TakesPiece, RefusedAtEnd, FeedsMachine, View, Feeds, Node, Grammar}
 use Rattle.sas_reader.specs.declared.fault.Kind.TheVariants as kinds
 use Rattle.sas_reader.proofs.Conversion.{Follows, fault_of_format, live_of_format, refusal, device_refusal, more_is_due}
 use Rattle.sas_reader.proofs.Standing.{accepted_of, fault_of}
@@ -47,7 +47,7 @@ module _ {T V I S M : Type 0} (F : Format V I S) (Fits : I → Type 0) (node : T
     limit = h.limit;
   }
 
-  pub end_fault : (r : Reader M) (e : Refused M) → RefusedAtEnd led_by Ended rejects halted r e → e.fault.kind ≢ kinds.Memory → (bytes : List ℕ) → Stands led_by Ended rejects halted r bytes → ReadsAs F r.limit bytes (Err e.fault)
+  pub end_fault : (r : Reader M) (e : Refusal M) → RefusedAtEnd led_by Ended rejects halted r e → e.fault.kind ≢ kinds.Memory → (bytes : List ℕ) → Stands led_by Ended rejects halted r bytes → ReadsAs F r.limit bytes (Err e.fault)
   end_fault r e h ne bytes s = refusal F Fits node start g led_by Ended rejects halted follows r.limit bytes e (h.fault ne bytes s)
 
   -- ---- devices
@@ -58,7 +58,7 @@ module _ {T V I S M : Type 0} (F : Format V I S) (Fits : I → Type 0) (node : T
         → ((b : List ℕ) → Reached led_by Ended m b → length b ≤ most_bytes → Gives b a) → ReadsAll left F Gives old new (Ok a)
     reads_all old new m a h gives = let r = h.reached in record { read = (r.0, (r.1, r.2), gives r.0 r.3 r.4); fault = tt; memory = tt; note = h.note }
 
-    pub refuses_all : (old new : Device D) (r : Refused M) → FeedsMachine led_by Ended rejects halted left most_bytes old new (Err r) → ReadsAll left F Gives old new (Err r.fault)
+    pub refuses_all : (old new : Device D) (r : Refusal M) → FeedsMachine led_by Ended rejects halted left most_bytes old new (Err r) → ReadsAll left F Gives old new (Err r.fault)
     refuses_all old new r h = record {
       read = tt;
       fault = λ ne. let t = h.refused ne in (t.0, t.1, device_refusal F Fits node start g led_by Ended rejects halted follows t.0 _ r t.2);

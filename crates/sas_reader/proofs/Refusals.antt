@@ -1,25 +1,25 @@
 -- What a refusal explains, for a machine that follows a grammar.
-use Rattle.sas_reader.proofs.Imports.{◌≡◌, ℕ, ◌≤◌, List, [], ◌∷◌, ◌++◌, length, refl, sym, ap, subst, ◌∙◌, arith, inl, inr, Option, Ok, Err, IsAtEnd, Device, without_return, lines, unfinished, lines-end, Fault, Kind, Found, Refused, ConcernsText, IsAbout, of_line, of_byte, of_end, Refuses, ReadsAll, Format, Live, trailing, wrong, FaultOf, IsFoundOf, most_bytes, Reached, Stops, full, over, rejected, FaultIn, EndsEarly, IsRefused, ReadFails, unread, early, faulty, FeedsMachine, ExplainsRefusal, ReadsOrExplains, StandsBehind, behind_line, behind_text, at_end, Node, Grammar}
+use Rattle.sas_reader.proofs.Imports.{◌≡◌, ℕ, ◌≤◌, List, [], ◌∷◌, ◌++◌, length, refl, sym, ap, subst, ◌∙◌, arith, inl, inr, Option, Ok, Err, IsAtEnd, Device, without_return, lines, unfinished, lines-end, Fault, Kind, Excerpt, Refusal, ConcernsText, IsAbout, of_line, of_byte, of_end, Refuses, ReadsAll, Format, Live, trailing, wrong, FaultOf, IsFoundOf, most_bytes, Reached, Stops, full, over, rejected, FaultIn, EndsEarly, IsRefused, ReadFails, unread, early, faulty, FeedsMachine, ExplainsRefusal, ReadsOrExplains, StandsBehind, behind_line, behind_text, at_end, Node, Grammar}
 use Rattle.sas_reader.proofs.Conversion.{Follows, At, at, path_of, end_of_format, device_refusal}
 use Rattle.sas_reader.proofs.Live.{live, done_dead, line_dead, rejected_as, next_slot, reads_done}
 use Rattle.sas_reader.proofs.Reading.{reads_all, refuses_all}
 
 module _ {T V I S M : Type 0} (F : Format V I S) (Fits : I → Type 0) (node : T → Node T V I S) (start : T) (g : Grammar F Fits node start) (led_by : List (List ℕ) → M → Type 0) (Ended : M → Type 0) (rejects : M → List ℕ → Kind → Type 0) (halted : M → List ℕ → Kind → M → Type 0) (follows : Follows F Fits node start led_by Ended rejects) where
   -- what the fault is about, the kept text, and the state of the machine after the fault
-  pub record Answer (limit : ℕ) (bytes : List ℕ) (f : Fault) (now : M) (found : Found) : Type 0 where
+  pub record Answer (limit : ℕ) (bytes : List ℕ) (f : Fault) (now : M) (found : Excerpt) : Type 0 where
     pub accepted : List (List ℕ)
     pub text : List ℕ
     pub about : IsAbout F limit bytes f accepted text
     pub kept : IsFoundOf text found
     pub stands : StandsBehind led_by Ended rejects halted accepted text f.kind now
 
-  abbrev go_on : (m : M) (bytes : List ℕ) → Reached led_by Ended m bytes → At F Fits node start Ended rejects (lines bytes) m
-  go_on m bytes h = at F Fits node start g led_by Ended rejects follows m bytes h
+  abbrev take_cut_line : (m : M) (bytes : List ℕ) → Reached led_by Ended m bytes → At F Fits node start Ended rejects (lines bytes) m
+  take_cut_line m bytes h = at F Fits node start g led_by Ended rejects follows m bytes h
 
-  fault_reported : (limit : ℕ) (bytes : List ℕ) (f : Fault) (now : M) (found : Found) → ConcernsText f.kind → (h : FaultIn led_by Ended rejects halted limit bytes f now found) → Stops led_by Ended rejects halted limit h.machine h.before h.byte f.kind now found → Answer limit bytes f now found
+  fault_reported : (limit : ℕ) (bytes : List ℕ) (f : Fault) (now : M) (found : Excerpt) → ConcernsText f.kind → (h : FaultIn led_by Ended rejects halted limit bytes f now found) → Stops led_by Ended rejects halted limit h.machine h.before h.byte f.kind now found → Answer limit bytes f now found
   fault_reported limit bytes f now found reported h (full l k) = absurd (reported.1 k)
   fault_reported limit bytes f now found reported h (over l d k stays is) =
-      let a = go_on h.machine h.before h.reached in
+      let a = take_cut_line h.machine h.before h.reached in
       let path = path_of F Fits node start g led_by Ended rejects follows h.machine h.before h.reached in
       let v = a.value d in
       let reads = reads_done F Fits node start g a.state v.0 h.before v.1 path in
@@ -33,7 +33,7 @@ module _ {T V I S M : Type 0} (F : Format V I S) (Fits : I → Type 0) (node : T
       }
   fault_reported limit bytes f now found reported h (rejected l going b r behind is) =
       let line = without_return (unfinished h.before) in
-      let a = go_on h.machine h.before h.reached in
+      let a = take_cut_line h.machine h.before h.reached in
       let path = path_of F Fits node start g led_by Ended rejects follows h.machine h.before h.reached in
       let refused = a.refuses line f.kind going r in
       let j = rejected_as F Fits node start g (node a.state) line f.kind refused in
@@ -49,7 +49,7 @@ module _ {T V I S M : Type 0} (F : Format V I S) (Fits : I → Type 0) (node : T
         stands = behind_line h.machine h.reached.led going r behind;
       }
 
-  end_reported : (limit : ℕ) (bytes : List ℕ) (f : Fault) (now : M) (found : Found) → EndsEarly led_by Ended limit bytes f now found → Answer limit bytes f now found
+  end_reported : (limit : ℕ) (bytes : List ℕ) (f : Fault) (now : M) (found : Excerpt) → EndsEarly led_by Ended limit bytes f now found → Answer limit bytes f now found
   end_reported limit bytes f now found h = record {
     accepted = lines bytes;
     text = unfinished bytes;
@@ -58,18 +58,18 @@ module _ {T V I S M : Type 0} (F : Format V I S) (Fits : I → Type 0) (node : T
     stands = at_end h.reached.led h.open_still h.kind;
   }
 
-  pub reported_by : (limit : ℕ) (bytes : List ℕ) (r : Refused M) → ConcernsText r.fault.kind → IsRefused led_by Ended rejects halted limit bytes r → Answer limit bytes r.fault r.machine r.found
+  pub reported_by : (limit : ℕ) (bytes : List ℕ) (r : Refusal M) → ConcernsText r.fault.kind → IsRefused led_by Ended rejects halted limit bytes r → Answer limit bytes r.fault r.machine r.found
   reported_by limit bytes r reported (inl h) = fault_reported limit bytes r.fault r.machine r.found reported h h.stops
   reported_by limit bytes r reported (inr h) = end_reported limit bytes r.fault r.machine r.found h
 
-  device_reported : (bytes : List ℕ) (End : Type 0) (r : Refused M) → ConcernsText r.fault.kind → ReadFails led_by Ended rejects halted most_bytes bytes End r → Answer most_bytes bytes r.fault r.machine r.found
+  device_reported : (bytes : List ℕ) (End : Type 0) (r : Refusal M) → ConcernsText r.fault.kind → ReadFails led_by Ended rejects halted most_bytes bytes End r → Answer most_bytes bytes r.fault r.machine r.found
   device_reported bytes End r reported (unread m h l n k) = absurd (reported.0 k)
   device_reported bytes End r reported (early e h) = reported_by most_bytes bytes r reported (inr h)
   device_reported bytes End r reported (faulty h ne) = reported_by most_bytes bytes r reported (inl h)
 
   -- ---- a refusal X that is made from that of the machine
 
-  module _ {X : Type 0} (fault : X → Fault) (found : X → Found) (Why : List (List ℕ) → List ℕ → X → Type 0) (r : Refused M) (x : X) (same : fault x ≡ r.fault) (same_found : found x ≡ r.found)
+  module _ {X : Type 0} (fault : X → Fault) (found : X → Excerpt) (Why : List (List ℕ) → List ℕ → X → Type 0) (r : Refusal M) (x : X) (same : fault x ≡ r.fault) (same_found : found x ≡ r.found)
       (why : (a : List (List ℕ)) (t : List ℕ) → StandsBehind led_by Ended rejects halted a t r.fault.kind r.machine → Why a t x) where
     pub explains : (bytes : List ℕ) → Answer most_bytes bytes r.fault r.machine r.found → ExplainsRefusal F fault found Why bytes x
     explains bytes w = record {
@@ -95,6 +95,6 @@ module _ {T V I S M : Type 0} (F : Format V I S) (Fits : I → Type 0) (node : T
     }
 
   -- and what was read
-  pub reads_explained : {D A X : Type 0} (fault : X → Fault) (found : X → Found) (Why : List (List ℕ) → List ℕ → X → Type 0) (left : D → Option (List ℕ)) (Gives : List ℕ → A → Type 0) (old new : Device D) (m : M) (a : A) → FeedsMachine led_by Ended rejects halted left most_bytes old new (Ok m)
+  pub reads_explained : {D A X : Type 0} (fault : X → Fault) (found : X → Excerpt) (Why : List (List ℕ) → List ℕ → X → Type 0) (left : D → Option (List ℕ)) (Gives : List ℕ → A → Type 0) (old new : Device D) (m : M) (a : A) → FeedsMachine led_by Ended rejects halted left most_bytes old new (Ok m)
       → ((b : List ℕ) → Reached led_by Ended m b → length b ≤ most_bytes → Gives b a) → ReadsOrExplains F fault found Why left Gives old new (Ok a)
   reads_explained fault found Why left Gives old new m a h gives = record { plain = reads_all F Fits node start g led_by Ended rejects halted follows left Gives old new m a h gives; explained = tt }

@@ -7,9 +7,9 @@ use Rattle.sas_lines.specs.Lines.{lines, unfinished, without_return}
 use Rattle.sas_reader.specs.declared.fault.Fault.{Fault}
 use Rattle.sas_reader.specs.declared.fault.Kind.{Kind}
 use Rattle.sas_reader.specs.declared.fault.Kind.TheVariants as kinds
-use Rattle.sas_reader.specs.declared.found.Found.{Found}
+use Rattle.sas_reader.specs.declared.found.Excerpt.{Excerpt}
 use Rattle.sas_reader.specs.declared.reader.Reader.{Reader}
-use Rattle.sas_reader.specs.declared.reader.Refused.{Refused}
+use Rattle.sas_reader.specs.declared.reader.Refusal.{Refusal}
 use Rattle.sas_reader.specs.Faults.{IsOfBytes, answer}
 use Rattle.sas_reader.specs.Found.{IsFoundOf}
 
@@ -31,7 +31,7 @@ module _ {M : Type 0} (led_by : List (List ℕ) → M → Type 0) (ended : M →
 
   -- the bytes end early: the machine is in this state, and `found` is their rest
   pub record EndsEarly (limit : ℕ) (bytes : List ℕ) (f : Fault) (machine : M)
-      (found : Found) : Type 0 where
+      (found : Excerpt) : Type 0 where
     pub reached : Reached machine bytes
     pub open_still : ended machine → ⊥
     pub short : length bytes ≤ limit
@@ -57,7 +57,7 @@ module _ {M : Type 0} (led_by : List (List ℕ) → M → Type 0) (ended : M →
   -- nothing more is known. Otherwise `found` is the byte after a whole text or the refused line,
   -- and `now` is the machine after the fault.
   pub data Stops (limit : ℕ) (machine : M) (bytes : List ℕ) (byte : ℕ) (k : Kind)
-      (now : M) (found : Found) : Type 0 where
+      (now : M) (found : Excerpt) : Type 0 where
     full : length bytes ≡ limit → k ≡ kinds.TooLong
         → Stops limit machine bytes byte k now found
     over : length bytes + 1 ≤ limit → ended machine → k ≡ kinds.Trailing → now ≡ machine
@@ -70,7 +70,7 @@ module _ {M : Type 0} (led_by : List (List ℕ) → M → Type 0) (ended : M →
 
   -- the bytes have this fault with this text, and the machine is in this state after it
   pub record FaultIn (limit : ℕ) (bytes : List ℕ) (f : Fault) (now : M)
-      (found : Found) : Type 0 where
+      (found : Excerpt) : Type 0 where
     pub machine : M
     pub before : List ℕ
     pub byte : ℕ
@@ -119,7 +119,7 @@ module _ {M : Type 0} (led_by : List (List ℕ) → M → Type 0) (ended : M →
 
   -- like `FaultIn`, for a piece after these bytes that has the faulty byte
   pub record FaultBehind (limit : ℕ) (bytes piece : List ℕ) (f : Fault) (now : M)
-      (found : Found) : Type 0 where
+      (found : Excerpt) : Type 0 where
     pub machine : M
     pub front : List ℕ
     pub byte : ℕ
@@ -150,20 +150,20 @@ module _ {M : Type 0} (led_by : List (List ℕ) → M → Type 0) (ended : M →
   -- ---- the end, and a device
 
   -- the bytes have the fault of the refusal, or end early
-  abbrev pub IsRefused : ℕ → List ℕ → Refused M → Type 0
+  abbrev pub IsRefused : ℕ → List ℕ → Refusal M → Type 0
   IsRefused limit bytes r = FaultIn limit bytes r.fault r.machine r.found
       ⊎ EndsEarly led_by ended limit bytes r.fault r.machine r.found
 
   -- why the input is refused at its end; `Memory` and `Read` are reported only if they occurred
   -- before
-  pub record RefusedAtEnd (r : Reader M) (e : Refused M) : Type 0 where
+  pub record RefusedAtEnd (r : Reader M) (e : Refusal M) : Type 0 where
     pub fault : e.fault.kind ≢ kinds.Memory → (bytes : List ℕ) → Stands r bytes
         → IsRefused r.limit bytes e
     pub memory : e.fault.kind ≡ kinds.Memory → r.fault ≡ Some e.fault
     pub read : e.fault.kind ≡ kinds.Read → r.fault ≡ Some e.fault
 
   -- the promise of a reader at the end: the machine after all lines, or why the input is refused
-  pub record ReachesEnd (r : Reader M) (result : Result M (Refused M)) : Type 0 where
+  pub record ReachesEnd (r : Reader M) (result : Result M (Refusal M)) : Type 0 where
     pub at_end : IfOk result (λ m. ended m)
     pub reached : IfOk result (λ m. (bytes : List ℕ) → Stands r bytes
         → Reached led_by ended m bytes × (length bytes ≤ r.limit))
@@ -172,7 +172,7 @@ module _ {M : Type 0} (led_by : List (List ℕ) → M → Type 0) (ended : M →
 
   -- Why a device was not read as a whole. Either a read failed after these bytes; or they are all
   -- and end early; or they have a fault.
-  pub data ReadFails (limit : ℕ) (bytes : List ℕ) (at_end : Type 0) (r : Refused M) : Type 0 where
+  pub data ReadFails (limit : ℕ) (bytes : List ℕ) (at_end : Type 0) (r : Refusal M) : Type 0 where
     unread : (machine : M) → Reached led_by ended machine bytes → length bytes ≤ limit
         → r.fault.line ≡ length (lines bytes) + 1 → r.fault.kind ≡ kinds.Read
         → ReadFails limit bytes at_end r
@@ -185,7 +185,7 @@ module _ {M : Type 0} (led_by : List (List ℕ) → M → Type 0) (ended : M →
     -- The promise of a call that feeds the bytes of a device to a machine, to the end or to the
     -- first fault. `left` maps a device to the bytes that are still to be read, if they are known.
     pub record FeedsMachine (limit : ℕ) (old new : Device D)
-        (result : Result M (Refused M)) : Type 0 where
+        (result : Result M (Refusal M)) : Type 0 where
       pub at_end : IfOk result (λ m. ended m)
       pub reached : IfOk result (λ m. (b : List ℕ)
           × Consumes (left old.device) (left new.device) b

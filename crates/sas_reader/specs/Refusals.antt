@@ -6,7 +6,7 @@ use Rattle.sas_lines.specs.Device.{Device}
 use Rattle.sas_reader.specs.declared.fault.Fault.{Fault}
 use Rattle.sas_reader.specs.declared.fault.Kind.{Kind}
 use Rattle.sas_reader.specs.declared.fault.Kind.TheVariants as kinds
-use Rattle.sas_reader.specs.declared.found.Found.{Found}
+use Rattle.sas_reader.specs.declared.found.Excerpt.{Excerpt}
 use Rattle.sas_reader.specs.About.{ConcernsText, IsAbout}
 use Rattle.sas_reader.specs.Devices.{Refuses, WasRead, ReadsAll}
 use Rattle.sas_reader.specs.Format.{Format}
@@ -20,7 +20,7 @@ by_fault fault (Err r) = Err (fault r)
 
 -- A refusal R has a fault and the text found there. `Why` relates the lines accepted before the
 -- fault, and the text at the fault, to everything else that the refusal has.
-module _ {V I S R : Type 0} (F : Format V I S) (fault : R → Fault) (found : R → Found)
+module _ {V I S R : Type 0} (F : Format V I S) (fault : R → Fault) (found : R → Excerpt)
     (Why : List (List ℕ) → List ℕ → R → Type 0) where
   -- the refusal has the text at its fault of these bytes, and what follows from it
   pub record ExplainsRefusal (bytes : List ℕ) (r : R) : Type 0 where

@@ -4,7 +4,7 @@ ghost use Rattle.sas_reader.specs.Limit.{most_bytes};
 ghost use Rattle.sas_reader.specs.Reader.{FeedsMachine, Stands};
 
 use crate::fault::{Fault, Kind};
-use crate::reader::{Machine, Reader, Refused};
+use crate::reader::{Machine, Reader, Refusal};
 use sas_lines::Watched;
 use std::alloc::Global;
 use std::io::Read;
@@ -23,7 +23,7 @@ pub fn read_all<M: Machine, R: Read>(
     machine: M,
     limit: u64,
     device: &mut Watched<R>,
-) -> Result<M, Refused<M>>
+) -> Result<M, Refusal<M>>
     requires note { device.old.failed ≡ false }
     requires small { limit ≤ most_bytes }
     requires start { M.led_by [] machine }
@@ -41,7 +41,7 @@ pub fn read_all_large<M: Machine, R: Read>(
     machine: M,
     limit: u64,
     device: &mut Watched<R>,
-) -> Result<M, Refused<M>>
+) -> Result<M, Refusal<M>>
     requires note { device.old.failed ≡ false }
     requires small { limit ≤ most_bytes }
     requires start { M.led_by [] machine }
@@ -63,7 +63,7 @@ fn feed_all<M: Machine, R: Read>(
     mut reader: Reader<M>,
     device: &mut Watched<R>,
     buffer: &mut [u8],
-) -> Result<M, Refused<M>>
+) -> Result<M, Refusal<M>>
     requires note { device.old.failed ≡ false }
     requires room { 0 < length buffer.old }
     requires stands { Stands M.led_by M.ended M.rejects M.stopped reader [] }

@@ -7,15 +7,15 @@ pub const FOUND: usize = 64;
 
 /// The first bytes of the text at a fault, at most 64, and whether it has more.
 #[derive(Clone, Copy, Debug, PartialEq, Eq)]
-pub struct Found {
+pub struct Excerpt {
     bytes: [u8; FOUND],
     count: usize,
     more: bool,
 }
 
-impl Found {
+impl Excerpt {
     /// No bytes.
-    pub const NONE: Found = Found {
+    pub const NONE: Excerpt = Excerpt {
         bytes: [0; FOUND],
         count: 0,
         more: false,
@@ -24,13 +24,13 @@ impl Found {
     /// Copies the first bytes of the text. It isn't inlined, since most reads find no fault.
     #[cold]
     #[inline(never)]
-    pub fn of(text: &[u8]) -> Found
+    pub fn of(text: &[u8]) -> Excerpt
         ensures { IsFoundOf text.now result }
     {
         let kept = &text[..text.len().min(FOUND)];
         let mut bytes = [0u8; FOUND];
         bytes[..kept.len()].copy_from_slice(kept);
-        Found {
+        Excerpt {
             bytes,
             count: kept.len(),
             more: kept.len() < text.len(),

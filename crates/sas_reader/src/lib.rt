@@ -9,6 +9,6 @@ mod scanning;
 
 pub use devices::{read_all, read_all_large};
 pub use fault::{Fault, Kind};
-pub use found::{FOUND, Found};
-pub use reader::{Front, LIMIT, Machine, Reader, Refused, limit_law};
+pub use found::{Excerpt, FOUND};
+pub use reader::{Front, LIMIT, Machine, Reader, Refusal, limit_law};
 pub use scanning::{behind_end, plain_end};

@@ -6,7 +6,7 @@ ghost use Rattle.sas_reader.specs.Limit.{most_bytes};
 ghost use Rattle.sas_reader.specs.Machine.{AcceptsAhead};
 
 use crate::fault::{Fault, Kind};
-use crate::found::Found;
+use crate::found::Excerpt;
 use sas_lines::{Lines, first_line};
 use std::alloc::Global;
 
@@ -69,18 +69,18 @@ pub trait Machine: Drop {
 /// Why a text was refused: its first fault, the machine in its state after the fault, and the text at the fault. That is the wrong line,
 /// the byte after a whole text, or the unfinished last line of a text that ends early.
 #[derive(Drop)]
-pub struct Refused<M> {
+pub struct Refusal<M> {
     pub fault: Fault,
     pub machine: M,
-    pub found: Found,
+    pub found: Excerpt,
 }
 
-impl<M: Drop> Refused<M> {
+impl<M: Drop> Refusal<M> {
     /// Returns the fault, and drops the rest.
     pub fn into_fault(self) -> Fault
         ensures { result ≡ self.fault }
     {
-        let Refused { fault, .. } = self;
+        let Refusal { fault, .. } = self;
         fault
     }
 }
@@ -97,7 +97,7 @@ pub struct Reader<M> {
     pub taken: u64,
     pub fault: Option<Fault>,
     /// The text at the fault, if there is one.
-    pub found: Found,
+    pub found: Excerpt,
     ghost within: { taken ≤ limit },
     ghost small: { limit ≤ most_bytes },
     ghost few: { lines ≤ taken },
@@ -122,13 +122,13 @@ impl<M: Machine> Reader<M> {
             taken: 0,
             limit,
             fault: None,
-            found: Found::NONE,
+            found: Excerpt::NONE,
         }
     }
 
     /// Appends the bytes to the pending line, up to and including the first LF, and judges the line if it is complete. Returns how many
     /// bytes it took.
-    fn go_on(&mut self, piece: &[u8]) -> Result<usize, Kind>
+    fn take_cut_line(&mut self, piece: &[u8]) -> Result<usize, Kind>
         requires some { 0 < length piece.now }
         requires room { self.old.taken + length piece.now ≤ self.old.limit }
         requires going { M.ended self.old.machine → ⊥ }
@@ -148,7 +148,7 @@ impl<M: Machine> Reader<M> {
                 Ok(fed.taken)
             }
             Err(kind) => {
-                self.found = Found::of(self.pending.line());
+                self.found = Excerpt::of(self.pending.line());
                 Err(kind)
             }
         }
@@ -174,15 +174,15 @@ impl<M: Machine> Reader<M> {
             return Err(Kind::TooLong);
         }
         if self.machine.has_ended() {
-            self.found = Found::of(&within[..1]);
+            self.found = Excerpt::of(&within[..1]);
             return Err(Kind::Trailing);
         }
         // A line that is whole in the piece is judged in place. Only a line that is cut is copied.
         if !self.pending.pending().is_empty() {
-            return self.go_on(within);
+            return self.take_cut_line(within);
         }
         let Some(first) = first_line(within) else {
-            return self.go_on(within);
+            return self.take_cut_line(within);
         };
         match self.machine.accept(first.line) {
             Ok(()) => {
@@ -191,7 +191,7 @@ impl<M: Machine> Reader<M> {
                 Ok(first.taken)
             }
             Err(kind) => {
-                self.found = Found::of(first.line);
+                self.found = Excerpt::of(first.line);
                 Err(kind)
             }
         }
@@ -199,7 +199,7 @@ impl<M: Machine> Reader<M> {
 
     /// Takes the first lines of the piece that the machine accepts ahead, if any. Returns how many bytes it took.
     #[inline(always)]
-    fn take_ahead(&mut self, piece: &[u8]) -> Result<usize, Kind>
+    fn take_front(&mut self, piece: &[u8]) -> Result<usize, Kind>
         requires some { 0 < length piece.now }
         requires room { self.old.taken + length piece.now ≤ self.old.limit }
         requires whole { self.old.pending.pending ≡ [] }
@@ -221,7 +221,7 @@ impl<M: Machine> Reader<M> {
 
     /// Takes lines ahead, as many as the machine and the limit allow. Returns how many bytes it took.
     #[inline(never)]
-    fn go_ahead(&mut self, piece: &[u8]) -> Result<usize, Kind>
+    fn take_fronts(&mut self, piece: &[u8]) -> Result<usize, Kind>
         ensures { TakesFrontOrStops M.led_by M.ended M.rejects M.stopped
             self.old piece.now self.new result }
     {
@@ -231,7 +231,7 @@ impl<M: Machine> Reader<M> {
         let within = self.within_limit(piece);
         let mut at = 0;
         while at < within.len() {
-            let taken = self.take_ahead(&within[at..])?;
+            let taken = self.take_front(&within[at..])?;
             if taken == 0 {
                 return Ok(at);
             }
@@ -241,13 +241,13 @@ impl<M: Machine> Reader<M> {
     }
 
     /// Takes the lines that can be taken ahead, and then the bytes up to and including the next LF. Returns how many bytes it took.
-    fn advance(&mut self, piece: &[u8]) -> Result<usize, Kind>
+    fn take_next(&mut self, piece: &[u8]) -> Result<usize, Kind>
         requires some { 0 < length piece.now }
         ensures advances { TakesFrontOrStops M.led_by M.ended M.rejects M.stopped
             self.old piece.now self.new result }
         ensures some { IfOk result (λ n. 0 < n) }
     {
-        let ahead = self.go_ahead(piece)?;
+        let ahead = self.take_fronts(piece)?;
         if ahead == piece.len() {
             return Ok(ahead);
         }
@@ -255,14 +255,14 @@ impl<M: Machine> Reader<M> {
     }
 
     /// Takes all of the piece.
-    fn run(&mut self, piece: &[u8]) -> Result<usize, Kind>
+    fn take_all(&mut self, piece: &[u8]) -> Result<usize, Kind>
         ensures advances { TakesFrontOrStops M.led_by M.ended M.rejects M.stopped
             self.old piece.now self.new result }
         ensures all { IfOk result (λ n. n ≡ length piece.now) }
     {
         let mut at = 0;
         while at < piece.len() {
-            at += self.advance(&piece[at..])?;
+            at += self.take_next(&piece[at..])?;
         }
         Ok(at)
     }
@@ -275,7 +275,7 @@ impl<M: Machine> Reader<M> {
         if let Some(fault) = self.fault {
             return Err(fault);
         }
-        match self.run(piece) {
+        match self.take_all(piece) {
             Ok(_) => Ok(()),
             Err(kind) => {
                 let fault = Fault {
@@ -309,12 +309,12 @@ impl<M: Machine> Reader<M> {
     }
 
     /// Returns this fault with the machine and the text at the fault.
-    pub fn refused(self, fault: Fault) -> Refused<M>
+    pub fn refused(self, fault: Fault) -> Refusal<M>
         ensures { result
             ≡ record { fault = fault; machine = self.machine; found = self.found } }
     {
         let Reader { machine, found, .. } = self;
-        Refused {
+        Refusal {
             fault,
             machine,
             found,
@@ -322,26 +322,26 @@ impl<M: Machine> Reader<M> {
     }
 
     /// Returns the text at the fault if the input ends here: that of the first fault, or the pending line.
-    fn found_at_end(&self) -> Found
+    fn found_at_end(&self) -> Excerpt
         ensures early { self.now.fault ≡ None → IsFoundOf self.now.pending.pending result }
         ensures kept { (f : Fault) → self.now.fault ≡ Some f → result ≡ self.now.found }
     {
         match self.fault {
             Some(_) => self.found,
-            None => Found::of(self.pending.pending()),
+            None => Excerpt::of(self.pending.pending()),
         }
     }
 
     /// Returns the machine if the text is whole. Otherwise returns the first fault, or `End` if the text ends early, with the machine and
     /// the text at the fault.
-    pub fn finish(self) -> Result<M, Refused<M>>
+    pub fn finish(self) -> Result<M, Refusal<M>>
         ensures { ReachesEnd M.led_by M.ended M.rejects M.stopped self result }
     {
         match self.end_fault() {
             Some(fault) => {
                 let found = self.found_at_end();
                 let Reader { machine, .. } = self;
-                Err(Refused {
+                Err(Refusal {
                     fault,
                     machine,
                     found,

@@ -1,7 +1,7 @@
 -- How the output about one file goes out.
 use Rattle.std.proofs.Common.{arith}
 use Rattle.std.proofs.lemmas.Grind.{common_steps}
-use Rattle.sas_requests.proofs.Imports.{◌≡◌, ◌≢◌, ℕ, ◌<◌, Bool, true, false, IsTrue, List, [], refl, sym, subst, ◌∙◌, inr, codes, Option, Some, None, Result, Ok, Err, nat_lt, IsErrOf, IsSomeAnd, ◌↔◌, Consumes, IsAtEnd, Parts, PlanParts, first_fault, LayerFault, layer_checks, Device, Fault, Kind, TooLong, Read, Memory, Found, ReadsAll, ValueOf, Format, ReadsAs, Detail, Reasons, FileBy, TaskBy, PlanBy, UnlayeredBy, layers_by, refusal_by, task_refusal_lines, plan_refusal_lines, FaultReasons, reported, past_limit, FileReasons, AreTaskReasons, ArePlanReasons, IsFoundOf, most_bytes, ConcernsText, AboutLaws, ExplainsRefusal, ReadsOrExplains, known_answer, known_fault, known_explained, PlanRefusal, plan_format, fault_of, found_of, nothing_else, ReadsPlan, less, is_less, task_format, IsTaskReason, TaskRefusal, fault_in, found_in, HasReason, ReadsTask, FileLine, file_text, Status, ToolFault, Output, Ends, EndsCounting, IsDecided, Writes, Answers, ends_by, writes_as, writes_counting, writes_answers, answers_by, not_memory, refusal, IsAnswerOrRefusal, FileOut, refused_kind, too_long_else, reading_of_refusal, reported_fault, EndsFile}
+use Rattle.sas_requests.proofs.Imports.{◌≡◌, ◌≢◌, ℕ, ◌<◌, Bool, true, false, IsTrue, List, [], refl, sym, subst, ◌∙◌, inr, codes, Option, Some, None, Result, Ok, Err, nat_lt, IsErrOf, IsSomeAnd, ◌↔◌, Consumes, IsAtEnd, Parts, PlanParts, first_fault, LayerFault, layer_checks, Device, Fault, Kind, TooLong, Read, Memory, Excerpt, ReadsAll, ValueOf, Format, ReadsAs, Detail, Reasons, FileBy, TaskBy, PlanBy, UnlayeredBy, layers_by, refusal_by, task_refusal_lines, plan_refusal_lines, FaultReasons, reported, past_limit, FileReasons, AreTaskReasons, ArePlanReasons, IsFoundOf, most_bytes, ConcernsText, AboutLaws, ExplainsRefusal, ReadsOrExplains, known_answer, known_fault, known_explained, PlanRefusal, plan_format, fault_of, found_of, nothing_else, ReadsPlan, less, is_less, task_format, IsTaskReason, TaskRefusal, fault_in, found_in, HasReason, ReadsTask, FileLine, file_text, Status, ToolFault, Output, Ends, EndsCounting, IsDecided, Writes, Answers, ends_by, writes_as, writes_counting, writes_answers, answers_by, not_memory, refusal, IsAnswerOrRefusal, FileOut, refused_kind, too_long_else, reading_of_refusal, reported_fault, EndsFile}
 use Rattle.sas_meaning.specs.declared.layered.LayerFault.TheVariants as layer_fault
 use Rattle.sas_output.specs.declared.ending.ToolFault.TheVariants as tool_fault
 use Rattle.sas_requests.specs.declared.question.Detail.TheVariants.{Plain}
@@ -108,7 +108,7 @@ module _ {D V I S A W : Type 0} (left : D → Option (List ℕ)) (F : Format V I
     reads = one.reads;
   })
 
-  module _ {R : Type 0} (reporting : AboutLaws F) (fault : R → Fault) (found : R → Found) (Answer : List (List ℕ) → List ℕ → R → Type 0)
+  module _ {R : Type 0} (reporting : AboutLaws F) (fault : R → Fault) (found : R → Excerpt) (Answer : List (List ℕ) → List ℕ → R → Type 0)
       (r : R) (reasons : List FileLine) (reports : (accepted : List (List ℕ)) (text : List ℕ) → IsFoundOf text (found r) → Answer accepted text r → Reports (fault r).kind accepted text reasons)
       (h : ReadsOrExplains F fault found Answer left Gives old new (Err r)) where
     plain : ReadsAll left F Gives old new (Err (fault r))

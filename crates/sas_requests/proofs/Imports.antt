@@ -97,7 +97,7 @@ pub use Rattle.sas_reader.specs.Texts.{Reads}
 pub use Rattle.sas_reader.specs.declared.fault.Fault.{Fault}
 pub use Rattle.sas_reader.specs.declared.fault.Kind.{Kind}
 pub use Rattle.sas_reader.specs.declared.fault.Kind.TheVariants.{TooLong, Read, Memory}
-pub use Rattle.sas_reader.specs.declared.found.Found.{Found}
+pub use Rattle.sas_reader.specs.declared.found.Excerpt.{Excerpt}
 pub use Rattle.sas_reasons.proofs.WhyPlan.{one_why, some_why}
 pub use Rattle.sas_run.proofs.PlanVerdicts.{some_verdict, valid_has_no_fault, fault_is_one}
 pub use Rattle.sas_run.specs.Verdicts.{IsFaultOf}

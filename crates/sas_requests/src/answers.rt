@@ -47,17 +47,17 @@ pub fn answer<T: Read, P: Read, W: Write>(
     let plan_detail = question.plan_detail();
     let detail = plan_detail.detail();
     match question.request() {
-        Request::Show => show(alloc, detail, task, out),
-        Request::Print => print(alloc, detail, task, out),
-        Request::Steps => steps(alloc, detail, plan, out),
-        Request::Check => check(alloc, detail, task, out),
+        Request::Show => answer_show(alloc, detail, task, out),
+        Request::Print => answer_print(alloc, detail, task, out),
+        Request::Steps => answer_steps(alloc, detail, plan, out),
+        Request::Check => answer_check(alloc, detail, task, out),
         Request::Plan => judge_files(alloc, plan_detail, task, plan, out),
-        Request::Mutex => mutex(alloc, detail, task, out),
+        Request::Mutex => answer_mutex(alloc, detail, task, out),
     }
 }
 
 /// Answers with the summary of a task.
-fn show<R: Read, W: Write>(
+fn answer_show<R: Read, W: Write>(
     alloc: Global,
     detail: Detail,
     task: &mut Watched<R>,
@@ -80,7 +80,7 @@ fn show<R: Read, W: Write>(
 }
 
 /// Answers with the lines of a task.
-fn print<R: Read, W: Write>(
+fn answer_print<R: Read, W: Write>(
     alloc: Global,
     detail: Detail,
     task: &mut Watched<R>,
@@ -102,7 +102,7 @@ fn print<R: Read, W: Write>(
 }
 
 /// Answers with the steps of a plan and its cost.
-fn steps<R: Read, W: Write>(
+fn answer_steps<R: Read, W: Write>(
     alloc: Global,
     detail: Detail,
     plan: &mut Watched<R>,
@@ -124,7 +124,7 @@ fn steps<R: Read, W: Write>(
 }
 
 /// Answers whether a task is layered.
-fn check<R: Read, W: Write>(
+fn answer_check<R: Read, W: Write>(
     alloc: Global,
     detail: Detail,
     task: &mut Watched<R>,
@@ -146,7 +146,7 @@ fn check<R: Read, W: Write>(
 }
 
 /// Answers which mutex groups of a task are exclusive.
-fn mutex<R: Read, W: Write>(
+fn answer_mutex<R: Read, W: Write>(
     alloc: Global,
     detail: Detail,
     task: &mut Watched<R>,

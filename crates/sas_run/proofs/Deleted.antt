@@ -1,17 +1,17 @@
 -- The facts that are deleted while given values are written into a state.
 use Rattle.std.proofs.lemmas.Grind.{common_steps}
-use Rattle.sas_run.proofs.Imports.{get_or_append_left, get_or-append-add, ◌≡◌, ◌≢◌, ℕ, ◌+◌, ◌<◌, ◌≤◌, List, [], ◌∷◌, ◌++◌, length, get_or, set, refl, sym, ◌∙◌, subst, inl, inr, arith, All, cases_eq, get_or-set_same, get_or-set_other, length-append, All-nil, All-head, All-push, all_pairs_push, Fact, Parts, Holds, IsBasic, HaveGone, Deleted, DeletedHasRoom, NotesOn, Replaces}
+use Rattle.sas_run.proofs.Imports.{get_or_append_left, get_or-append-add, ◌≡◌, ◌≢◌, ℕ, ◌+◌, ◌<◌, ◌≤◌, List, [], ◌∷◌, ◌++◌, length, get_or, set, refl, sym, ◌∙◌, subst, inl, inr, arith, All, cases_eq, get_or-set_same, get_or-set_other, length-append, All-nil, All-head, All-push, all_pairs_push, Fact, Parts, Holds, IsBasic, HaveGone, DeletedFacts, DeletedHasRoom, NotesOn, Replaces}
 
 -- facts are still noted or not, as before
-pub notes_on : (a b c : Deleted) → NotesOn a b → NotesOn b c → NotesOn a c
+pub notes_on : (a b c : DeletedFacts) → NotesOn a b → NotesOn b c → NotesOn a c
 notes_on a b c before after = record { noted = after.noted ∙ before.noted; room = omega (arith, before.room, after.room) }
 
 -- a step that notes nothing
-pub notes_still : (d : Deleted) → NotesOn d d
+pub notes_still : (d : DeletedFacts) → NotesOn d d
 notes_still d = record { noted = refl; room = omega arith }
 
 -- there is still room for as many
-pub room_on : (d d' : Deleted) (many : ℕ) → NotesOn d d' → DeletedHasRoom d many → DeletedHasRoom d' many
+pub room_on : (d d' : DeletedFacts) (many : ℕ) → NotesOn d d' → DeletedHasRoom d many → DeletedHasRoom d' many
 room_on d d' many notes room noted = omega (arith, notes.room, room (sym notes.noted ∙ noted))
 
 -- at most one more fact is deleted

@@ -40,8 +40,8 @@ pub use Rattle.sas_meaning.specs.Reachable.{IsInitial, Reachable, Initial, Next}
 pub use Rattle.sas_meaning.specs.Settled.{Settles, IsSettled, SameBasic}
 pub use Rattle.sas_meaning.specs.States.{Holds, AllHold}
 pub use Rattle.sas_meaning.specs.Steps.{preconditions, Step, Fires, Agree, old_fact}
-pub use Rattle.sas_meaning.specs.Touched.{CoversChanges}
-pub use Rattle.sas_meaning.specs.declared.touched.Touched.{Touched}
+pub use Rattle.sas_meaning.specs.ChangedVariables.{CoversChanges}
+pub use Rattle.sas_meaning.specs.declared.changed_variables.ChangedVariables.{ChangedVariables}
 pub use Rattle.sas_names.proofs.Searching.{left}
 pub use Rattle.sas_names.specs.Chains.{IsChain, HaveChains}
 pub use Rattle.sas_names.specs.Named.{IsNamed}
@@ -56,7 +56,7 @@ pub use Rattle.sas_run.specs.Running.{StepFails, IsFinalVerdict, MakesStep, Step
 pub use Rattle.sas_run.specs.Runs.{Run, steps_before, RunEndsWith, IsEnding, state_at, last_state, StepsSucceed}
 pub use Rattle.sas_run.specs.Stepping.{IsPrepared, ListsChanges, Follows, HasFactOn}
 pub use Rattle.sas_run.specs.Verdicts.{IsFirstMissed, ComesTo, IsFaultOf}
-pub use Rattle.sas_run.specs.declared.deletions.Deleted.{Deleted}
+pub use Rattle.sas_run.specs.declared.deletions.DeletedFacts.{DeletedFacts}
 pub use Rattle.sas_run.specs.declared.plan_check.PlanFault.{PlanFault}
 pub use Rattle.sas_run.specs.declared.plan_check.PlanFault.TheVariants.{Memory, NoOperator, NotApplicable, Conflict, GoalMissed, CostDiffers}
 pub use Rattle.sas_run.specs.declared.progress.Progress.{Progress}

@@ -4,7 +4,7 @@ use Rattle.sas_core.specs.declared.parts.Fact.{Fact}
 use Rattle.sas_core.specs.declared.parts.Parts.{Parts}
 use Rattle.sas_core.specs.Grounded.{operator_at}
 use Rattle.sas_core.specs.PlanParts.{PlanParts}
-use Rattle.sas_meaning.specs.declared.touched.Touched.{Touched}
+use Rattle.sas_meaning.specs.declared.changed_variables.ChangedVariables.{ChangedVariables}
 use Rattle.sas_meaning.specs.Steps.{Step}
 use Rattle.sas_names.specs.Chains.{AreStepOperators}
 use Rattle.sas_run.specs.declared.plan_check.PlanFault.{PlanFault}
@@ -24,7 +24,7 @@ pub record Executed : Type 0 where
   pub made : ℕ
   pub state : List ℕ
   pub deleted : List Fact
-  pub touched : Touched
+  pub touched : ChangedVariables
 
 -- the name of the next step; after the last step, the empty name
 abbrev pub next_name : Executed → List ℕ

@@ -6,10 +6,10 @@ use Rattle.sas_core.specs.declared.parts.Parts.{Parts}
 use Rattle.sas_core.specs.declared.parts.Variable.{Variable}
 use Rattle.sas_core.specs.Grounded.{operator_at}
 use Rattle.sas_core.specs.Variables.{IsDerived}
-use Rattle.sas_meaning.specs.declared.touched.Touched.{Touched}
+use Rattle.sas_meaning.specs.declared.changed_variables.ChangedVariables.{ChangedVariables}
 use Rattle.sas_meaning.specs.Layers.{IsBasic}
 use Rattle.sas_meaning.specs.States.{AllHold}
-use Rattle.sas_meaning.specs.Touched.{MayHaveChanged}
+use Rattle.sas_meaning.specs.ChangedVariables.{MayHaveChanged}
 use Rattle.sas_run.specs.declared.stepper.Stepper.{Stepper}
 use Rattle.sas_run.specs.Deletions.{DeletedHasRoom}
 use Rattle.sas_run.specs.Given.{NothingGiven}
@@ -40,7 +40,7 @@ HasFactOn facts var = (fact : Fact) × Contains facts fact × (fact.var ≡ var)
 -- What is listed after a step from s to s'. The deleted facts held in s, and are on different basic
 -- variables. The variables in `touched` are derived. Each variable whose value differs has a
 -- deleted fact, or is derived and may have changed.
-pub record ListsChanges (p : Parts) (s s' : List ℕ) (deleted : List Fact) (touched : Touched)
+pub record ListsChanges (p : Parts) (s s' : List ℕ) (deleted : List Fact) (touched : ChangedVariables)
     : Type 0 where
   pub basic : All (λ (f : Fact). IsBasic p f.var) deleted
   pub exist : All (λ (f : Fact). f.var < length p.variables) deleted

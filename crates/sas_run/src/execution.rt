@@ -10,7 +10,7 @@ use crate::progress::Progress;
 use crate::runner::later_applicable;
 use crate::stepper::{Stepper, go_back, go_on_from, stepper_listing};
 use sas_core::{Fact, Grounded, Stepwise};
-use sas_meaning::{Layered, Settle, State, Touched};
+use sas_meaning::{ChangedVariables, Layered, Settle, State};
 use sas_names::StepOperators;
 use std::alloc::{AllocError, Global};
 use std::marker::Model;
@@ -111,7 +111,7 @@ impl<'t, 'p, E: Settle<T> + Drop, T: Grounded, P: Stepwise> Execution<'t, 'p, E,
     }
 
     /// Returns which derived variables may have changed in the last step. It takes no memory.
-    pub fn touched(&self) -> &Touched
+    pub fn touched(&self) -> &ChangedVariables
         ensures { result.now ≡ self.now.touched }
     {
         &self.stepper.touched

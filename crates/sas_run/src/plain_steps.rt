@@ -8,7 +8,7 @@ ghost use Rattle.sas_run.specs.Deletions.{DeletedHasRoom, NotesOn, NotesGone};
 ghost use Rattle.sas_run.specs.Given.{Replaces};
 ghost use Rattle.sas_run.specs.PlainSteps.{AreApart, AreMade, IsPlainStep, OldHolds};
 
-use crate::deletions::Deleted;
+use crate::deletions::DeletedFacts;
 use sas_core::{Change, Fact, Grounded};
 use sas_meaning::{Layered, State};
 
@@ -75,7 +75,7 @@ pub fn make_changes<T: Grounded>(
     task: &Layered<T>,
     operator: u32,
     changes: &[Change],
-    deleted: &mut Deleted,
+    deleted: &mut DeletedFacts,
     state: &mut State,
 )
     requires operator { operator < length task.now.operators }
@@ -97,7 +97,7 @@ pub fn make_changes<T: Grounded>(
 /// Makes the fact true in the state. If deleted facts are noted and its variable had another value, adds that fact to `deleted`, which must
 /// have room for it.
 #[inline(always)]
-pub fn replace(fact: Fact, deleted: &mut Deleted, state: &mut State)
+pub fn replace(fact: Fact, deleted: &mut DeletedFacts, state: &mut State)
     requires exists { fact.var < length state.old }
     requires room { DeletedHasRoom deleted.old (length deleted.old.facts.items + 1) }
     ensures state { state.new ≡ slice_set state.old fact.var fact.value }

@@ -15,7 +15,7 @@ use crate::runner::{Runner, first_applicable};
 use crate::stepper::{Stepper, go_on_from, stepper_for};
 use sas_core::{Grounded, Stepwise};
 use sas_meaning::{Layered, Settle, State};
-use sas_names::{Found, NamedTask, StepOperators, first_operators};
+use sas_names::{NamedTask, PlanOperators, StepOperators, first_operators};
 use std::alloc::{AllocError, Global};
 
 /// The result for a valid plan: the operators of its steps, and its cost.
@@ -65,7 +65,7 @@ impl<'a, E: Settle<T> + Drop, T: Grounded> Runner<'a, E, T> {
             names: &self.names,
         };
         let firsts = first_operators(alloc, &named, plan)?;
-        let found = Found {
+        let found = PlanOperators {
             firsts: firsts.as_slice(),
             nexts: self.names.next(),
         };
@@ -85,7 +85,7 @@ impl<E: Settle<T> + Drop, T: Grounded + Drop> LoadedTask<E, T> {
             names: &self.names,
         };
         let firsts = first_operators(alloc, &named, plan)?;
-        let found = Found {
+        let found = PlanOperators {
             firsts: firsts.as_slice(),
             nexts: self.names.next(),
         };
@@ -119,7 +119,7 @@ fn check_found<E: Settle<T> + Drop, T: Grounded, P: Stepwise>(
     layered: &Layered<T>,
     stepper: &mut Stepper<E>,
     plan: &P,
-    found: Found<'_>,
+    found: PlanOperators<'_>,
 ) -> Result<Valid, PlanFault>
     requires prepared { IsPrepared E.ready layered.now stepper.old }
     requires found { AreStepOperators layered.now (P.says plan.now).steps
@@ -145,7 +145,7 @@ pub fn find_fault<E: Settle<T> + Drop, T: Grounded, P: Stepwise>(
     layered: &Layered<T>,
     stepper: &mut Stepper<E>,
     plan: &P,
-    found: Found<'_>,
+    found: PlanOperators<'_>,
     progress: &mut Progress,
 ) -> Option<PlanFault>
     requires prepared { IsPrepared E.ready layered.now stepper.old }
@@ -182,7 +182,7 @@ pub fn find_fault<E: Settle<T> + Drop, T: Grounded, P: Stepwise>(
 fn make_plan_step<E: Settle<T> + Drop, T: Grounded>(
     layered: &Layered<T>,
     stepper: &mut Stepper<E>,
-    found: Found<'_>,
+    found: PlanOperators<'_>,
     before: usize,
     state: &mut State,
 ) -> Result<u32, PlanFault>

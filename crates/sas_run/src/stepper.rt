@@ -10,10 +10,10 @@ ghost use Rattle.sas_run.specs.Plans.{IsApplicable};
 ghost use Rattle.sas_run.specs.Running.{Steps};
 ghost use Rattle.sas_run.specs.Stepping.{Follows, IsPrepared, ListsChanges, derived_variable_count};
 
-use crate::deletions::Deleted;
+use crate::deletions::DeletedFacts;
 use crate::steps::{StepFault, apply};
 use sas_core::{Fact, Grounded, Items};
-use sas_meaning::{Layered, Settle, State, Touched};
+use sas_meaning::{ChangedVariables, Layered, Settle, State};
 use std::alloc::{AllocError, Global};
 
 /// An evaluator, and the memory for a step.
@@ -23,9 +23,9 @@ pub struct Stepper<E> {
     pub given: Items<Option<u32>>,
     /// Facts that the last step made false. They are noted if a variable is derived, since the evaluator uses them, or if `Execution`
     /// returns them.
-    pub deleted: Deleted,
+    pub deleted: DeletedFacts,
     /// The derived variables that the last step may have changed, if `go_on_from` made it.
-    pub touched: Touched,
+    pub touched: ChangedVariables,
 }
 
 impl<E: Drop> Drop for Stepper<E> {
@@ -55,7 +55,13 @@ pub fn stepper_for<E: Settle<T> + Drop, T: Grounded>(
     ensures handed_back { IfErr result (λ e. e.0 ≡ evaluator) }
 {
     let noted = count_derived(layered) > 0;
-    stepper_with(alloc, layered, evaluator, noted, Touched::none(alloc))
+    stepper_with(
+        alloc,
+        layered,
+        evaluator,
+        noted,
+        ChangedVariables::none(alloc),
+    )
 }
 
 /// Returns a stepper that lists the deleted facts and which derived variables may have changed. It has room for all derived variables of
@@ -72,7 +78,7 @@ pub fn stepper_listing<E: Settle<T> + Drop, T: Grounded>(
         ≡ derived_variable_count layered.now) }
     ensures handed_back { IfErr result (λ e. e.0 ≡ evaluator) }
 {
-    match Touched::with_room(alloc, count_derived(layered)) {
+    match ChangedVariables::with_room(alloc, count_derived(layered)) {
         Ok(touched) => stepper_with(alloc, layered, evaluator, true, touched),
         Err(error) => Err((evaluator, error)),
     }
@@ -84,7 +90,7 @@ fn stepper_with<E: Settle<T> + Drop, T: Grounded>(
     layered: &Layered<T>,
     evaluator: E,
     noted: bool,
-    touched: Touched,
+    touched: ChangedVariables,
 ) -> Result<Stepper<E>, (E, AllocError)>
     requires ready { E.ready evaluator layered.now }
     requires basic { IsFalse noted → (var : ℕ) → IsBasic layered.now var }
@@ -231,14 +237,14 @@ fn nothing_deleted<T: Grounded>(
     alloc: Global,
     task: &Layered<T>,
     noted: bool,
-) -> Result<Deleted, AllocError>
+) -> Result<DeletedFacts, AllocError>
     ensures noted { IfOk result (λ deleted. deleted.noted ≡ noted) }
     ensures room { IfOk result (λ deleted. (operator : ℕ) → operator < length task.now.operators
         → DeletedHasRoom deleted (length (operator_at task.now operator).effects)) }
 {
     let room = if noted { most_effects(task) } else { 0 };
     let facts = Vec::with_capacity(alloc, room)?;
-    Ok(Deleted { noted, facts })
+    Ok(DeletedFacts { noted, facts })
 }
 
 /// Returns an upper bound on the number of effects of an operator.

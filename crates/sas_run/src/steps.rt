@@ -9,7 +9,7 @@ ghost use Rattle.sas_run.specs.Running.{IsFirstConflict, IsStepFault, Applies};
 ghost use Rattle.sas_run.specs.Stepping.{IsPrepared};
 ghost use Rattle.sas_run.specs.Given.{NothingGiven, IsGiven, IsGivenTo, value_after, GivesValue, GivesOther};
 
-use crate::deletions::Deleted;
+use crate::deletions::DeletedFacts;
 use crate::plain_steps::{make_changes, plain_step, replace};
 use crate::stepper::Stepper;
 use sas_core::{Change, Fact, Grounded, Items};
@@ -48,7 +48,7 @@ pub fn missed_precondition<T: Grounded>(
 
 /// Applies the effects that fire to the state. The operator must be applicable. On success `deleted` contains the facts that the effects
 /// made false, if they are noted. If two of the effects conflict, leaves the state and `deleted` unchanged and returns the fault.
-#[tactic(auto, using(crate::proofs::Deleted::room_on))]
+#[tactic(auto, using(crate::proofs::DeletedFacts::room_on))]
 #[inline(always)]
 pub fn apply<E: Settle<T> + Drop, T: Grounded>(
     task: &Layered<T>,
@@ -83,7 +83,7 @@ fn apply_given<T: Grounded>(
     task: &Layered<T>,
     operator: u32,
     given: &mut Items<Option<u32>>,
-    deleted: &mut Deleted,
+    deleted: &mut DeletedFacts,
     state: &mut State,
 ) -> Result<(), StepFault>
     requires operator { operator < length task.now.operators }
@@ -206,7 +206,7 @@ fn write_given<T: Grounded>(
     task: &Layered<T>,
     operator: u32,
     given: &mut Items<Option<u32>>,
-    deleted: &mut Deleted,
+    deleted: &mut DeletedFacts,
     state: &mut State,
 )
     requires operator { operator < length task.now.operators }

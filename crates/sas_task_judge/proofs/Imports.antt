@@ -53,7 +53,7 @@ pub use Rattle.sas_task_line.specs.TaskLine.{ParsesDue, test_of_due, line_of_due
 pub use Rattle.sas_task_line.specs.TaskRanges.{ranges_of, fact_in_ranges, effect_in_ranges, change_in_ranges, head_in_ranges, value_in}
 pub use Rattle.sas_task_line.specs.declared.so_far.SoFar.{SoFar}
 pub use Rattle.sas_task_format.specs.declared.places.Event.{Event}
-pub use Rattle.sas_task_line.specs.declared.task_events.Said.{Said}
+pub use Rattle.sas_task_line.specs.declared.task_events.LineValues.{LineValues}
 pub use Rattle.sas_task_judge.specs.Marks.{due_slot, mark_of, WrongWordIn}
 pub use Rattle.sas_task_judge.specs.Sections.{KeepsGroup, KeepsOperator, KeepsRule, behind_variable, behind_group, behind_operator, behind_rule}
 pub use Rattle.sas_task_judge.specs.TaskJudge.{state_of, row_of, HasEnded, SectionDue, past_section, past_variable, RejectsLine, JudgesLine, MovesAhead, HasRow}

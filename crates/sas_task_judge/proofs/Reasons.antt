@@ -1,5 +1,5 @@
 -- Why a line is refused: what the machine expects, and which number of the line is wrong.
-use Rattle.sas_task_judge.proofs.Imports.{◌≡◌, ◌≢◌, ℕ, List, [], ◌∷◌, ◌++◌, Option, None, refl, sym, ap, subst, ◌∙◌, Parts, WellRanged, Kind, IsBegun, LeadsToEnd, cut_at, after_ends, Mark, WrongWord, Place, IsDue, TaskLine, task_line_bytes, task_layout, task_format, TaskLineFits, HasShape, first_wrong, IsFirstWrong, IsTaskReason, Tracker, tracker_start, track, mark_in, TaskJudge, TaskMachine, mark_of, due_slot, WrongWordIn, table_node, table_start, state_of, HasEnded, LedBy, MachineStopped, end_mark, ranges_behind, is_due, HasFacts, speaks_behind_variables, same_items, IsBehindVariables, same_bounds, SoFar, Said, FirstWrong, ranges_of, first_back}
+use Rattle.sas_task_judge.proofs.Imports.{◌≡◌, ◌≢◌, ℕ, List, [], ◌∷◌, ◌++◌, Option, None, refl, sym, ap, subst, ◌∙◌, Parts, WellRanged, Kind, IsBegun, LeadsToEnd, cut_at, after_ends, Mark, WrongWord, Place, IsDue, TaskLine, task_line_bytes, task_layout, task_format, TaskLineFits, HasShape, first_wrong, IsFirstWrong, IsTaskReason, Tracker, tracker_start, track, mark_in, TaskJudge, TaskMachine, mark_of, due_slot, WrongWordIn, table_node, table_start, state_of, HasEnded, LedBy, MachineStopped, end_mark, ranges_behind, is_due, HasFacts, speaks_behind_variables, same_items, IsBehindVariables, same_bounds, SoFar, LineValues, FirstWrong, ranges_of, first_back}
 use Rattle.sas_reader.specs.declared.fault.Kind.TheVariants as kinds
 use Rattle.sas_task_format.specs.declared.places.Place.TheVariants as at
 use Rattle.sas_task_judge.proofs.TaskEnds.{over_if_ended}
@@ -85,7 +85,7 @@ module _ {K : Type 0} (keeps : List (List ℕ) → SoFar → K → Type 0) (line
 -- ---- a machine that refused a line
 
 module _ {K : Type 0} (keeps : List (List ℕ) → SoFar → K → Type 0) (lines : List (List ℕ)) (m n : TaskMachine K) (line : List ℕ) (kind : Kind) where
-  as_before : (said : Said) (word : Option WrongWord) → LedBy keeps lines m → LedBy keeps lines (record { judge = record m.judge { said = said }; kept = m.kept; wrong = word })
+  as_before : (said : LineValues) (word : Option WrongWord) → LedBy keeps lines m → LedBy keeps lines (record { judge = record m.judge { said = said }; kept = m.kept; wrong = word })
   as_before said word h = record { so_far = h.so_far; leads = h.leads; kept = h.kept }
 
   -- it is led by the same lines

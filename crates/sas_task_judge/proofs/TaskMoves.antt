@@ -1,5 +1,5 @@
 -- One line of a task moves the judge, as the table of places says.
-use Rattle.sas_task_judge.proofs.Imports.{IsTrue, ◌≡◌, ℕ, zero, suc, ◌-◌, length, List, [], ◌∷◌, refl, sym, ap, subst, ◌∙◌, Result, Ok, Err, Option, Some, None, result_err, none-some, take, without_return, FrontOf, front_of_lines, line_before_end, plain, inl, inr, Kind, IsAllowed, IsRejected, Rejects, TaskLine, task_slot, slot_of_due, task_line_bytes, task_format, TaskLineFits, name_in, number_in, Due, Row, Move, row_at, row_in, after_move, Tracker, TaskJudge, TaskState, numbers_of, state_after, state_of, row_of, RejectsLine, JudgesLine, MovesAhead, HasEnded, IsRow, HasRow, ParsesDue, test_of_due, line_of_due, Event, Said, SoFar, Place, after, LineAhead}
+use Rattle.sas_task_judge.proofs.Imports.{IsTrue, ◌≡◌, ℕ, zero, suc, ◌-◌, length, List, [], ◌∷◌, refl, sym, ap, subst, ◌∙◌, Result, Ok, Err, Option, Some, None, result_err, none-some, take, without_return, FrontOf, front_of_lines, line_before_end, plain, inl, inr, Kind, IsAllowed, IsRejected, Rejects, TaskLine, task_slot, slot_of_due, task_line_bytes, task_format, TaskLineFits, name_in, number_in, Due, Row, Move, row_at, row_in, after_move, Tracker, TaskJudge, TaskState, numbers_of, state_after, state_of, row_of, RejectsLine, JudgesLine, MovesAhead, HasEnded, IsRow, HasRow, ParsesDue, test_of_due, line_of_due, Event, LineValues, SoFar, Place, after, LineAhead}
 use Rattle.sas_reader.specs.declared.fault.Kind.TheVariants as kinds
 use Rattle.sas_task_format.specs.declared.places.Place.TheVariants as at
 use Rattle.sas_task_format.specs.declared.marks.Due.TheVariants as due
@@ -11,8 +11,8 @@ use Rattle.sas_task_judge.proofs.TableGrammar.{due_node, table_line}
 
 -- what the parser stored of the expected line moves the tracker and the content as the line does
 pub record SaysLine (r : Row) : Type 0 where
-  pub moves : (said : Said) (line : List ℕ) (t : Tracker) → after_move r.moves (number_in (line_of_due r.due said line)) t ≡ after_move r.moves said.number t
-  pub adds : (said : Said) (line : List ℕ) (s : SoFar) → (let i = line_of_due r.due said line in after s r.adds (numbers_of i) (name_in i) ≡ after s r.adds said line)
+  pub moves : (said : LineValues) (line : List ℕ) (t : Tracker) → after_move r.moves (number_in (line_of_due r.due said line)) t ≡ after_move r.moves said.number t
+  pub adds : (said : LineValues) (line : List ℕ) (s : SoFar) → (let i = line_of_due r.due said line in after s r.adds (numbers_of i) (name_in i) ≡ after s r.adds said line)
 
 says_line : (p : Place) (left more : ℕ) (t : Tracker) → SaysLine (row_at p (record t { place = p; left = left; more = more }))
 says_line at.Rules zero more t = record { moves = λ said line t. refl; adds = λ said line s. refl }
@@ -50,13 +50,13 @@ module _ (j : TaskJudge) (going_on : HasEnded j → ⊥) (line : List ℕ) where
   -- ---- the judge
 
   module _ (r : Row) (is : IsRow j.tracker r) where
-    pub took : (said : Said) (t : Tracker) → ParsesDue j.tracker.ranges r.due line said (Ok tt) → t ≡ after_move r.moves said.number j.tracker
+    pub took : (said : LineValues) (t : Tracker) → ParsesDue j.tracker.ranges r.due line said (Ok tt) → t ≡ after_move r.moves said.number j.tracker
         → JudgesLine j line (record { tracker = t; said = said }) (Ok r.adds)
     took said t =
         subst (λ (x : Row). ParsesDue j.tracker.ranges x.due line said (Ok tt) → t ≡ after_move x.moves said.number j.tracker → JudgesLine j line (record { tracker = t; said = said }) (Ok x.adds)) (sym is.is)
         (λ parsed moved. judged (record { tracker = t; said = said }) parsed.0 parsed.1 moved)
 
-    pub refused : (said : Said) (kind : Kind) → ParsesDue j.tracker.ranges r.due line said (Err kind) → JudgesLine j line (record j { said = said }) (Err kind)
+    pub refused : (said : LineValues) (kind : Kind) → ParsesDue j.tracker.ranges r.due line said (Err kind) → JudgesLine j line (record j { said = said }) (Err kind)
     refused said kind =
         subst (λ (x : Row). ParsesDue j.tracker.ranges x.due line said (Err kind) → JudgesLine j line (record j { said = said }) (Err kind)) (sym is.is)
         (λ p. (p.0, λ e. inr (p.1 e), λ n. rejected kind (p.2 n), λ n. refl))

@@ -10,7 +10,7 @@ use Rattle.sas_reader.specs.declared.reader.Front.{Front}
 use Rattle.sas_task_format.specs.TaskFormat.{TaskLine, variable_lines, group_lines, operator_lines, rule_lines}
 use Rattle.sas_task_line.specs.Sections.{spelled, VariableAhead, GroupAhead, OperatorAhead, RuleAhead}
 use Rattle.sas_task_line.specs.declared.so_far.SoFar.{SoFar}
-use Rattle.sas_task_judge.specs.declared.keeper.VariableKept.{VariableKept}
+use Rattle.sas_task_judge.specs.declared.keeper.KeptVariable.{KeptVariable}
 use Rattle.sas_task_line.specs.TaskEvents.{with_variable, with_group, with_operator, with_rule}
 
 -- the content after all lines of a variable
@@ -32,7 +32,7 @@ abbrev pub behind_rule : SoFar → Effect → SoFar
 behind_rule s r = record s { parts = with_rule s.parts r; facts = [] }
 
 -- `kept` has the extent of the variable's lines and the number of its values
-abbrev pub VariableWithRange : List ℕ → Variable → VariableKept → Type 0
+abbrev pub VariableWithRange : List ℕ → Variable → KeptVariable → Type 0
 VariableWithRange bytes v kept = VariableAhead bytes v kept.front × (kept.range ≡ length v.values)
 
 module _ {K : Type 0} (keeps : List (List ℕ) → SoFar → K → Type 0) where
@@ -49,9 +49,9 @@ module _ {K : Type 0} (keeps : List (List ℕ) → SoFar → K → Type 0) where
     pub memory : IfErr result (λ k. k ≡ kinds.Memory)
 
   -- the section is a variable
-  abbrev pub KeepsVariable : List ℕ → K → K → Result VariableKept Kind → Type 0
+  abbrev pub KeepsVariable : List ℕ → K → K → Result KeptVariable Kind → Type 0
   KeepsVariable bytes =
-      KeepsAhead (λ (kept : VariableKept). kept.front) (VariableWithRange bytes)
+      KeepsAhead (λ (kept : KeptVariable). kept.front) (VariableWithRange bytes)
       variable_lines behind_variable
 
   -- the section is a mutex group of variables with these ranges

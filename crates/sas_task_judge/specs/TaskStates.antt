@@ -11,7 +11,7 @@ use Rattle.sas_task_format.specs.TaskFormat.{TaskLine, TaskSlot}
 use Rattle.sas_task_format.specs.TaskProcess.{name_in, number_in, signed_in, fact_in, effect_in, head_in}
 use Rattle.sas_task_format.specs.Tracker.{tracker_start, track_line, row_in}
 use Rattle.sas_task_line.specs.declared.so_far.SoFar.{SoFar}
-use Rattle.sas_task_line.specs.declared.task_events.Said.{Said}
+use Rattle.sas_task_line.specs.declared.task_events.LineValues.{LineValues}
 use Rattle.sas_task_line.specs.TaskEvents.{after, nothing_yet}
 use Rattle.sas_task_line.specs.TaskLine.{test_of_due}
 
@@ -28,7 +28,7 @@ abbrev pub table_start : TaskState
 table_start = record { tracker = tracker_start; so_far = nothing_yet one_allocator }
 
 -- the numbers of a line
-abbrev pub numbers_of : TaskLine → Said
+abbrev pub numbers_of : TaskLine → LineValues
 numbers_of i = record {
   number = number_in i;
   layer = signed_in i;

@@ -3,11 +3,11 @@ ghost use Rattle.std.specs.Prelude.{◌≡◌, ◌++◌, ◌∷◌, [], List, �
 
 use sas_core::Items;
 use sas_reader::{Front, Kind};
-use sas_task_line::{Event, Said, SoFar};
+use sas_task_line::{Event, LineValues, SoFar};
 
 /// A variable that a keeper has stored: the number of its lines and bytes, and the number of its values.
 #[derive(Clone, Copy, Debug, PartialEq, Eq)]
-pub struct VariableKept {
+pub struct KeptVariable {
     pub front: Front,
     pub range: u32,
 }
@@ -22,7 +22,7 @@ pub trait Keeper: Drop {
     ghost keeps: { List (List ℕ) → SoFar → Self → Type 0 };
 
     /// Stores what the next line adds. It may move the content out of `said`. Returns `Memory` if out of memory.
-    fn keep(&mut self, line: &[u8], event: Event, said: &mut Said) -> Result<(), Kind>
+    fn keep(&mut self, line: &[u8], event: Event, said: &mut LineValues) -> Result<(), Kind>
         ensures kept { OnOk result ((lines : List (List ℕ)) (s : SoFar)
             → keeps lines s self.old
             → keeps (lines ++ line.now ∷ []) (after s event said.old line.now) self.new) }
@@ -30,10 +30,10 @@ pub trait Keeper: Drop {
 
     /// Stores a whole variable at the beginning of the bytes. Returns the extent of its lines and the number of its values. It may also
     /// store nothing and return `Front::EMPTY`, as the default does; then the variable is read line by line.
-    fn keep_variable(&mut self, bytes: &[u8]) -> Result<VariableKept, Kind>
+    fn keep_variable(&mut self, bytes: &[u8]) -> Result<KeptVariable, Kind>
         ensures { KeepsVariable keeps bytes.now self.old self.new result }
     {
-        Ok(VariableKept {
+        Ok(KeptVariable {
             front: Front::EMPTY,
             range: 0,
         })
@@ -69,7 +69,7 @@ impl Keeper for SoFar {
 
     ghost keeps = { λ lines s kept. kept ≡ s };
 
-    fn keep(&mut self, line: &[u8], event: Event, said: &mut Said) -> Result<(), Kind> {
+    fn keep(&mut self, line: &[u8], event: Event, said: &mut LineValues) -> Result<(), Kind> {
         self.add(line, event, said)?;
         Ok(())
     }

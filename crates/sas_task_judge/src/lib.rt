@@ -6,7 +6,7 @@ mod laws;
 mod task_judge;
 mod task_machine;
 
-pub use keeper::{Keeper, VariableKept};
+pub use keeper::{Keeper, KeptVariable};
 pub use laws::table_law;
 pub use sas_task_format::Place;
 pub use task_judge::{Section, TaskJudge};

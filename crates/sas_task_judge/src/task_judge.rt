@@ -9,7 +9,7 @@ mod sections;
 
 use sas_reader::Kind;
 use sas_task_format::{Place, Tracker};
-use sas_task_line::{Event, Said};
+use sas_task_line::{Event, LineValues};
 pub use sections::Section;
 use std::alloc::Global;
 
@@ -18,7 +18,7 @@ use std::alloc::Global;
 pub struct TaskJudge {
     tracker: Tracker,
     /// The values of the last line of each kind.
-    pub said: Said,
+    pub said: LineValues,
 }
 
 impl TaskJudge {
@@ -28,7 +28,7 @@ impl TaskJudge {
     {
         TaskJudge {
             tracker: Tracker::new(alloc),
-            said: Said::new(alloc),
+            said: LineValues::new(alloc),
         }
     }
 

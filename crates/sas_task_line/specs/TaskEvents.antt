@@ -8,7 +8,7 @@ use Rattle.sas_core.specs.declared.parts.Effect.{Effect}
 use Rattle.sas_core.specs.declared.parts.Parts.{Parts}
 use Rattle.sas_task_format.specs.declared.places.Event.{Event}
 use Rattle.sas_task_format.specs.declared.places.Event.TheVariants as event
-use Rattle.sas_task_line.specs.declared.task_events.Said.{Said}
+use Rattle.sas_task_line.specs.declared.task_events.LineValues.{LineValues}
 use Rattle.sas_task_line.specs.declared.so_far.SoFar.{SoFar}
 
 -- no parts were read yet
@@ -39,11 +39,11 @@ nothing_yet alloc = record {
 abbrev pub finished_variable : SoFar → Variable
 finished_variable s = record { name = s.name; layer = s.layer; values = s.values }
 
-abbrev pub finished_operator : SoFar → Said → Operator
+abbrev pub finished_operator : SoFar → LineValues → Operator
 finished_operator s said =
     record { name = s.name; prevail = s.facts; effects = s.effects; cost = said.number }
 
-abbrev pub finished_rule : SoFar → Said → Effect
+abbrev pub finished_rule : SoFar → LineValues → Effect
 finished_rule s said =
     record { conditions = s.facts; var = said.head.var; old = said.head.old; new = said.head.new }
 
@@ -61,7 +61,7 @@ abbrev pub with_rule : Parts → Effect → Parts
 with_rule p r = record p { rules = p.rules ++ r ∷ [] }
 
 -- the content after a line that adds this
-abbrev pub after : SoFar → Event → Said → List ℕ → SoFar
+abbrev pub after : SoFar → Event → LineValues → List ℕ → SoFar
 after s event.Nothing said line = s
 after s event.Metric said line = record s { parts = record s.parts { metric = said.number == 1 } }
 after s event.Name said line = record s { name = line }

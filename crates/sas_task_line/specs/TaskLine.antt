@@ -11,7 +11,7 @@ use Rattle.sas_task_format.specs.Marks.{fixed_word_bytes, slot_of_due}
 use Rattle.sas_task_format.specs.TaskFormat.{TaskLine, word, name, number, signed, fact, effect, head, TaskSlot, task_line_bytes, task_format, TaskLineFits}
 use Rattle.sas_task_format.specs.TaskProcess.{is_from, name_in, number_in, fact_in, effect_in, head_in}
 use Rattle.sas_task_line.specs.TaskRanges.{fact_in_ranges, effect_in_ranges, head_in_ranges}
-use Rattle.sas_task_line.specs.declared.task_events.Said.{Said}
+use Rattle.sas_task_line.specs.declared.task_events.LineValues.{LineValues}
 
 -- a fault of a line itself: not an early end, a failed read or out of memory
 abbrev pub IsOfLine : Kind → Type 0
@@ -49,7 +49,7 @@ test_of_due ranges due.Effect i = effect_in_ranges ranges (effect_in i)
 test_of_due ranges due.Nothing i = is_name (name_in i)
 
 -- the content of an expected line, which is in `said` or is the line itself
-abbrev pub line_of_due : Due → Said → List ℕ → TaskLine
+abbrev pub line_of_due : Due → LineValues → List ℕ → TaskLine
 line_of_due (due.Word w) said line = word (fixed_word_bytes w)
 line_of_due due.Name said line = name line
 line_of_due (due.Number least most) said line = number said.number
@@ -61,7 +61,7 @@ line_of_due due.Nothing said line = name line
 
 -- The content of the line is in `said`, and is allowed as what is expected. Or it isn't, and this
 -- is the kind of its fault. Or it is an effect, and memory ran out.
-abbrev pub ParsesDue : List ℕ → Due → List ℕ → Said → Result (Unit {0}) Kind → Type 0
+abbrev pub ParsesDue : List ℕ → Due → List ℕ → LineValues → Result (Unit {0}) Kind → Type 0
 ParsesDue ranges d line said (Ok u) = IsAllowed task_format TaskLineFits
     (slot_of_due d) (test_of_due ranges d) (line_of_due d said line)
     × (task_line_bytes (line_of_due d said line) ≡ line)

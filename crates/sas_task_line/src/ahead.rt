@@ -73,7 +73,7 @@ fn change_in_line(bytes: &[u8]) -> Option<(Change, &[u8])>
 
 /// Returns the number before the byte `end`, and the bytes after it.
 #[inline(always)]
-pub(crate) fn number_before(bytes: &[u8], end: u8) -> Option<(u32, &[u8])>
+pub(crate) fn read_number(bytes: &[u8], end: u8) -> Option<(u32, &[u8])>
     ensures { IfSome result (λ found. NumberAhead bytes.now found.0 end found.1.now) }
 {
     if bytes.len() < NUMBER {
@@ -84,15 +84,15 @@ pub(crate) fn number_before(bytes: &[u8], end: u8) -> Option<(u32, &[u8])>
 
 /// Returns the number before the line end, and the bytes after it.
 #[inline(always)]
-pub fn number_line_before(bytes: &[u8]) -> Option<(u32, &[u8])>
+pub fn read_number_line(bytes: &[u8]) -> Option<(u32, &[u8])>
     ensures { IfSome result (λ found. LineAhead (format.number found.0) bytes.now found.1.now) }
 {
-    number_before(bytes, b'\n')
+    read_number(bytes, b'\n')
 }
 
 /// Returns the number before the byte `end` (`None` for `-1`), and the bytes after it.
 #[inline(always)]
-pub(crate) fn signed_before(bytes: &[u8], end: u8) -> Option<(Option<u32>, &[u8])>
+pub(crate) fn read_signed(bytes: &[u8], end: u8) -> Option<(Option<u32>, &[u8])>
     ensures { IfSome result (λ found. SignedAhead bytes.now found.0 end found.1.now) }
 {
     if bytes.len() < NUMBER {
@@ -103,7 +103,7 @@ pub(crate) fn signed_before(bytes: &[u8], end: u8) -> Option<(Option<u32>, &[u8]
 
 /// Returns the change before the line end, and the bytes after it.
 #[inline(always)]
-pub(crate) fn change_before(bytes: &[u8]) -> Option<(Change, &[u8])>
+pub(crate) fn read_change(bytes: &[u8]) -> Option<(Change, &[u8])>
     ensures { IfSome result (λ found. ChangeAhead bytes.now found.0 found.1.now) }
 {
     if bytes.len() < 3 * NUMBER {
@@ -114,7 +114,7 @@ pub(crate) fn change_before(bytes: &[u8]) -> Option<(Change, &[u8])>
 
 /// Returns the fact before the byte `end`, and the bytes after it. The fact need not exist.
 #[inline(always)]
-pub(crate) fn fact_with_end(bytes: &[u8], end: u8) -> Option<(Fact, &[u8])>
+pub(crate) fn read_fact_to(bytes: &[u8], end: u8) -> Option<(Fact, &[u8])>
     ensures { IfSome result (λ found. FactAhead bytes.now found.0 end found.1.now) }
 {
     if bytes.len() < 2 * NUMBER {
@@ -127,15 +127,15 @@ pub(crate) fn fact_with_end(bytes: &[u8], end: u8) -> Option<(Fact, &[u8])>
 
 /// Returns the fact before the line end, and the bytes after it. The fact need not exist.
 #[inline(always)]
-pub fn fact_before(bytes: &[u8]) -> Option<(Fact, &[u8])>
+pub fn read_fact(bytes: &[u8]) -> Option<(Fact, &[u8])>
     ensures { IfSome result (λ found. LineAhead (format.fact found.0) bytes.now found.1.now) }
 {
-    fact_with_end(bytes, b'\n')
+    read_fact_to(bytes, b'\n')
 }
 
 /// Returns the change of an effect without conditions before the line end, and the bytes after it. Its facts need not exist.
 #[inline(always)]
-pub fn effect_before(bytes: &[u8]) -> Option<(Change, &[u8])>
+pub fn read_effect(bytes: &[u8]) -> Option<(Change, &[u8])>
     ensures { IfSome result
         (λ found. LineAhead (format.effect (plain_effect found.0)) bytes.now found.1.now) }
 {
@@ -184,7 +184,7 @@ fn are_equal<const N: usize>(a: &[u8; N], b: &[u8; N]) -> bool
 /// If the bytes begin with the fixed word and a line end, returns the bytes after them. The word is an array, since a word of constant length is
 /// compared without a call.
 #[inline(always)]
-pub(crate) fn word_before<'a, const N: usize>(bytes: &'a [u8], word: &[u8; N]) -> Option<&'a [u8]>
+pub(crate) fn read_word<'a, const N: usize>(bytes: &'a [u8], word: &[u8; N]) -> Option<&'a [u8]>
     requires { IsName word.now }
     ensures { IfSome result (λ rest. LineAhead (format.word word.now) bytes.now rest.now) }
 {
@@ -198,7 +198,7 @@ pub(crate) fn word_before<'a, const N: usize>(bytes: &'a [u8], word: &[u8; N]) -
 /// Returns the name before the line end, and the bytes after it. A name may have a byte up to CR, such as a tab; then its section is read line by
 /// line.
 #[inline(always)]
-pub fn name_before(bytes: &[u8]) -> Option<(&[u8], &[u8])>
+pub fn read_name(bytes: &[u8]) -> Option<(&[u8], &[u8])>
     ensures { IfSome result (λ found.
         IsName found.0.now × LineAhead (format.name found.0.now) bytes.now found.1.now) }
 {

@@ -1,10 +1,10 @@
 // Stores the content of a task file while it is read.
 ghost use Rattle.std.specs.Prelude.{◌≡◌, [], OnOk};
 ghost use Rattle.sas_task_format.specs.declared.places.Event.TheVariants as event;
-ghost use Rattle.sas_task_line.specs.declared.task_events.Said.{Said};
+ghost use Rattle.sas_task_line.specs.declared.task_events.LineValues.{LineValues};
 ghost use Rattle.sas_task_line.specs.TaskEvents.{nothing_yet, after};
 
-use crate::task_events::{Event, Said};
+use crate::task_events::{Event, LineValues};
 use sas_core::{Effect, Fact, Items, Operator, Parts, Rule, Variable};
 use std::alloc::{AllocError, Global};
 use std::mem;
@@ -55,7 +55,7 @@ impl SoFar {
     }
 
     fn name(&mut self, line: &[u8]) -> Result<(), AllocError>
-        ensures { (said : Said)
+        ensures { (said : LineValues)
             → OnOk result (self.new ≡ after self.old event.Name said line.now) }
     {
         // If the name before was not moved out, its memory is reused.
@@ -64,7 +64,7 @@ impl SoFar {
     }
 
     fn value(&mut self, line: &[u8]) -> Result<(), AllocError>
-        ensures { (said : Said)
+        ensures { (said : LineValues)
             → OnOk result (self.new ≡ after self.old event.Value said line.now) }
     {
         let name = Vec::from_slice(self.alloc, line)?;
@@ -72,7 +72,7 @@ impl SoFar {
     }
 
     fn variable(&mut self) -> Result<(), AllocError>
-        ensures { (said : Said)
+        ensures { (said : LineValues)
             → OnOk result (self.new ≡ after self.old event.Variable said []) }
     {
         let variable = Variable {
@@ -84,13 +84,13 @@ impl SoFar {
     }
 
     fn group(&mut self) -> Result<(), AllocError>
-        ensures { (said : Said) → OnOk result (self.new ≡ after self.old event.Group said []) }
+        ensures { (said : LineValues) → OnOk result (self.new ≡ after self.old event.Group said []) }
     {
         let facts = mem::replace(&mut self.facts, Items::new(self.alloc));
         self.parts.groups.push(facts)
     }
 
-    fn effect(&mut self, said: &mut Said) -> Result<(), AllocError>
+    fn effect(&mut self, said: &mut LineValues) -> Result<(), AllocError>
         ensures { OnOk result (self.new ≡ after self.old event.Effect said.old []) }
     {
         let Effect { var, old, new, .. } = said.effect;
@@ -103,7 +103,7 @@ impl SoFar {
         self.effects.push(effect)
     }
 
-    fn operator(&mut self, said: &Said) -> Result<(), AllocError>
+    fn operator(&mut self, said: &LineValues) -> Result<(), AllocError>
         ensures { OnOk result (self.new ≡ after self.old event.Operator said.now []) }
     {
         let operator = Operator {
@@ -115,7 +115,7 @@ impl SoFar {
         self.parts.operators.push(operator)
     }
 
-    fn rule(&mut self, said: &Said) -> Result<(), AllocError>
+    fn rule(&mut self, said: &LineValues) -> Result<(), AllocError>
         ensures { OnOk result (self.new ≡ after self.old event.Rule said.now []) }
     {
         let rule = Rule {
@@ -129,7 +129,12 @@ impl SoFar {
 
     /// Adds the content of the line. A list that begins is empty already, but setting it here again means that no contract has to require
     /// it. Returns `Err` if out of memory.
-    pub fn add(&mut self, line: &[u8], event: Event, said: &mut Said) -> Result<(), AllocError>
+    pub fn add(
+        &mut self,
+        line: &[u8],
+        event: Event,
+        said: &mut LineValues,
+    ) -> Result<(), AllocError>
         ensures { OnOk result (self.new ≡ after self.old event said.old line.now) }
     {
         match event {

@@ -8,7 +8,7 @@ use std::alloc::Global;
 
 /// The values of the last line of each kind. A field keeps its value until the next line of its kind.
 #[derive(Drop)]
-pub struct Said {
+pub struct LineValues {
     /// The metric, a value in the initial state, or a cost.
     pub number: u32,
     pub layer: Option<u32>,
@@ -18,10 +18,10 @@ pub struct Said {
     pub head: Change,
 }
 
-impl Said {
+impl LineValues {
     /// Returns default values, before any line was read.
     pub fn new(alloc: Global) -> Self {
-        Said {
+        LineValues {
             number: 0,
             layer: None,
             fact: Fact { var: 0, value: 0 },

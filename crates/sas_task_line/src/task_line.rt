@@ -8,7 +8,7 @@ ghost use Rattle.sas_task_line.specs.TaskRanges.{value_in, change_in_ranges, fac
 ghost use Rattle.sas_task_line.specs.TaskLine.{ParsesLine, ParsesLineOrMemory, ParsesDue};
 ghost use Rattle.sas_task_line.specs.TaskWords.{Spells, TakesNumber, TakesSigned, TakesFact, TakesFacts, TakesHead};
 
-use crate::task_events::Said;
+use crate::task_events::LineValues;
 use sas_core::{Change, Effect, Fact, Items, is_name};
 use sas_lines::{Numbers, number, signed};
 use sas_reader::Kind;
@@ -149,7 +149,7 @@ fn is_over(parts: &mut Numbers<'_>) -> bool
 }
 
 /// Returns the fact on the line, which need not exist. Returns `None` if the line has another form.
-pub(crate) fn fact_of(line: &[u8]) -> Option<Fact>
+pub(crate) fn parse_fact(line: &[u8]) -> Option<Fact>
     ensures found { IfSome result (λ f. Spells (format.fact f) line.now) }
     ensures none { IfNone result ((f : Fact) → Spells (format.fact f) line.now → ⊥) }
 {
@@ -165,7 +165,7 @@ pub(crate) fn fact_of(line: &[u8]) -> Option<Fact>
 }
 
 /// Reads the effect on the line, whose facts need not exist. Returns whether the line has the form of an effect.
-pub(crate) fn effect_of(effect: &mut Effect, line: &[u8]) -> Result<bool, AllocError>
+pub(crate) fn parse_effect(effect: &mut Effect, line: &[u8]) -> Result<bool, AllocError>
     ensures found { IfOk result
         (λ found. IsTrue found → Spells (format.effect effect.exit.now) line.now) }
     ensures none { IfOk result
@@ -188,7 +188,7 @@ pub(crate) fn effect_of(effect: &mut Effect, line: &[u8]) -> Result<bool, AllocE
 }
 
 /// Returns the change on the line, whose values need not exist. Returns `None` if the line has another form.
-pub(crate) fn change_of(line: &[u8]) -> Option<Change>
+pub(crate) fn parse_change(line: &[u8]) -> Option<Change>
     ensures found { IfSome result
         (λ (c : Change). Spells (format.head c.var c.old c.new) line.now) }
     ensures none { IfNone result
@@ -248,7 +248,7 @@ fn fact_at(ranges: &Items<u32>, line: &[u8]) -> Result<Fact, Kind>
     ensures { ParsesLine format.fact_slot (λ i. fact_in_ranges ranges.now (fact_in i)) format.fact
         line.now result }
 {
-    match fact_of(line) {
+    match parse_fact(line) {
         None => Err(Kind::Shape),
         Some(fact) if value_in(ranges, fact.var, fact.value) => Ok(fact),
         Some(_) => Err(Kind::Value),
@@ -262,7 +262,7 @@ fn effect_at(effect: &mut Effect, ranges: &Items<u32>, line: &[u8]) -> Result<()
         (λ _. format.effect effect.exit.now) line.now result }
 {
     // The whole line is read before any fact is checked, since a wrong shape takes precedence over a fact that doesn't exist.
-    let found = effect_of(effect, line)?;
+    let found = parse_effect(effect, line)?;
     if !found {
         return Err(Kind::Shape);
     }
@@ -277,14 +277,14 @@ fn head_at(ranges: &Items<u32>, line: &[u8]) -> Result<Change, Kind>
     ensures { ParsesLine format.head_slot (λ i. head_in_ranges ranges.now (head_in i))
         (λ (c : Change). format.head c.var c.old c.new) line.now result }
 {
-    match change_of(line) {
+    match parse_change(line) {
         None => Err(Kind::Shape),
         Some(change) if change_in(ranges, change.var, change.old, change.new) => Ok(change),
         Some(_) => Err(Kind::Value),
     }
 }
 
-impl Said {
+impl LineValues {
     /// Parses a line on which this is expected. Returns the kind of its fault if it isn't that, or `Memory` if out of memory. `ranges` has
     /// the number of values of each variable.
     pub fn parse(&mut self, ranges: &Items<u32>, due: Due, line: &[u8]) -> Result<(), Kind>

@@ -8,8 +8,8 @@ ghost use Rattle.sas_task_format.specs.TaskFormat as format;
 ghost use Rattle.sas_task_line.specs.LinesBefore.{LinesBefore, NamesBefore};
 ghost use Rattle.sas_task_line.specs.Sections.{VariableAhead, GroupAhead};
 
-use crate::ahead::{name_before, number_before, signed_before, word_before};
-use crate::sections::facts_before;
+use crate::ahead::{read_name, read_number, read_signed, read_word};
+use crate::sections::read_facts;
 use sas_core::{Fact, Items};
 use sas_flat::Lists;
 use sas_reader::Front;
@@ -17,7 +17,7 @@ use std::alloc::AllocError;
 
 /// A variable at the beginning of some bytes: its name, its layer, the number of its values, and its extent.
 #[derive(Drop)]
-pub struct VariableFound<'a> {
+pub struct ParsedVariable<'a> {
     pub name: &'a [u8],
     pub layer: Option<u32>,
     pub range: u32,
@@ -26,14 +26,14 @@ pub struct VariableFound<'a> {
 
 /// Reads the first word, the name and the axiom layer of a variable. Returns the name, the layer and the bytes after them.
 #[inline(always)]
-fn begin_before(bytes: &[u8]) -> Option<(&[u8], Option<u32>, &[u8])>
+fn read_variable_begin(bytes: &[u8]) -> Option<(&[u8], Option<u32>, &[u8])>
     ensures { IfSome result (λ found. IsName found.0.now
         × LinesBefore (format.word (codes "begin_variable")
         ∷ format.name found.0.now ∷ format.signed found.1 ∷ []) bytes.now found.2.now) }
 {
-    let rest = word_before(bytes, b"begin_variable")?;
-    let (name, rest) = name_before(rest)?;
-    let (layer, rest) = signed_before(rest, b'\n')?;
+    let rest = read_word(bytes, b"begin_variable")?;
+    let (name, rest) = read_name(rest)?;
+    let (layer, rest) = read_signed(rest, b'\n')?;
     Some((name, layer, rest))
 }
 
@@ -48,14 +48,14 @@ fn names_before<'a>(
         × NamesBefore f.0 f.0 names.old names.new bytes.now f.1.now)) }
     ensures kept { Kept names.old names.new }
 {
-    let Some((count, mut rest)) = number_before(bytes, b'\n') else {
+    let Some((count, mut rest)) = read_number(bytes, b'\n') else {
         return Ok(None);
     };
     if count == 0 {
         return Ok(None);
     }
     for _i in 0..count {
-        let Some((name, more)) = name_before(rest) else {
+        let Some((name, more)) = read_name(rest) else {
             return Ok(None);
         };
         names.push(name)?;
@@ -68,29 +68,29 @@ fn names_before<'a>(
 /// another form; then the variable has to be read line by line. Returns `Err` if out of memory. After `None` or `Err` some names may have
 /// been appended.
 #[inline(always)]
-pub fn variable_found<'a>(
+pub fn read_variable<'a>(
     bytes: &'a [u8],
     names: &mut Lists<u8>,
-) -> Result<Option<VariableFound<'a>>, AllocError>
+) -> Result<Option<ParsedVariable<'a>>, AllocError>
     ensures found { IfOk result (λ found. IfSome found (λ f. (values : List (List ℕ))
         × (names.new ≡ names.old ++ values) × (length values ≡ f.range)
         × VariableAhead bytes.now (variable f.name.now f.layer values) f.front)) }
     ensures kept { Kept names.old names.new }
 {
-    let Some((name, layer, rest)) = begin_before(bytes) else {
+    let Some((name, layer, rest)) = read_variable_begin(bytes) else {
         return Ok(None);
     };
     let Some((range, rest)) = names_before(rest, names)? else {
         return Ok(None);
     };
-    let Some(rest) = word_before(rest, b"end_variable") else {
+    let Some(rest) = read_word(rest, b"end_variable") else {
         return Ok(None);
     };
     let front = Front {
         lines: 5 + range as u64,
         bytes: bytes.len() - rest.len(),
     };
-    Ok(Some(VariableFound {
+    Ok(Some(ParsedVariable {
         name,
         layer,
         range,
@@ -102,7 +102,7 @@ pub fn variable_found<'a>(
 /// Returns `None` if a fact doesn't exist or the lines have another form; then the group has to be read line by line. Returns `Err` if out
 /// of memory. After `None` or `Err` some facts may have been appended.
 #[inline(always)]
-pub fn group_found(
+pub fn read_group(
     ranges: &Items<u32>,
     bytes: &[u8],
     facts: &mut Vec<Fact>,
@@ -112,13 +112,13 @@ pub fn group_found(
         × GroupAhead ranges.now bytes.now g front)) }
     ensures kept { Kept facts.old.items facts.new.items }
 {
-    let Some(rest) = word_before(bytes, b"begin_mutex_group") else {
+    let Some(rest) = read_word(bytes, b"begin_mutex_group") else {
         return Ok(None);
     };
-    let Some((count, rest)) = facts_before(ranges, rest, facts)? else {
+    let Some((count, rest)) = read_facts(ranges, rest, facts)? else {
         return Ok(None);
     };
-    let Some(rest) = word_before(rest, b"end_mutex_group") else {
+    let Some(rest) = read_word(rest, b"end_mutex_group") else {
         return Ok(None);
     };
     let front = Front {

@@ -5,7 +5,7 @@ ghost use Rattle.sas_task_format.specs.TaskFormat.{fact_slot, effect_slot, head_
 ghost use Rattle.sas_task_format.specs.TaskReasons.{below, below_or_none, change_bounds, fact_bounds, first_wrong, line_bounds};
 ghost use Rattle.sas_task_line.specs.FirstWrong.{FirstWrong};
 
-use crate::task_line::{change_of, effect_of, fact_of};
+use crate::task_line::{parse_change, parse_effect, parse_fact};
 use sas_core::{Change, Effect, Fact, Items};
 use sas_task_format::WrongWord;
 use std::alloc::AllocError;
@@ -143,7 +143,7 @@ pub fn effect_wrong(ranges: &Items<u32>, effect: &Effect) -> Option<WrongWord>
 pub fn wrong_in_fact(ranges: &Items<u32>, line: &[u8]) -> Option<WrongWord>
     ensures { FirstWrong ranges.now fact_slot line.now result }
 {
-    match fact_of(line) {
+    match parse_fact(line) {
         Some(fact) => fact_wrong(ranges, fact),
         None => None,
     }
@@ -154,7 +154,7 @@ pub fn wrong_in_fact(ranges: &Items<u32>, line: &[u8]) -> Option<WrongWord>
 pub fn wrong_in_head(ranges: &Items<u32>, line: &[u8]) -> Option<WrongWord>
     ensures { FirstWrong ranges.now head_slot line.now result }
 {
-    match change_of(line) {
+    match parse_change(line) {
         Some(change) => change_wrong(ranges, change),
         None => None,
     }
@@ -169,7 +169,7 @@ pub fn wrong_in_effect(
 ) -> Result<Option<WrongWord>, AllocError>
     ensures { IfOk result (FirstWrong ranges.now effect_slot line.now) }
 {
-    let found = effect_of(effect, line)?;
+    let found = parse_effect(effect, line)?;
     if !found {
         return Ok(None);
     }

@@ -61,9 +61,9 @@ pub use Rattle.sas_task_line.specs.Sections.{spelled, LinesAhead}
 pub use Rattle.sas_task_line.specs.TaskEvents.{after}
 pub use Rattle.sas_task_line.specs.declared.so_far.SoFar.{SoFar}
 pub use Rattle.sas_task_format.specs.declared.places.Event.{Event}
-pub use Rattle.sas_task_line.specs.declared.task_events.Said.{Said}
+pub use Rattle.sas_task_line.specs.declared.task_events.LineValues.{LineValues}
 pub use Rattle.sas_task_reader.specs.TaskOutline.{outline_in, kept_of}
 pub use Rattle.sas_task_reader.specs.TaskReader.{task_view}
 pub use Rattle.sas_task_reader.specs.TaskRefusal.{StandsRefused, fault_in, found_in, HasReason}
 pub use Rattle.sas_task_reader.specs.contracts.flat_so_far.FlatSoFar.{the_view}
-pub use Rattle.sas_task_reader.specs.declared.task_outline.Seen.{Seen}
+pub use Rattle.sas_task_reader.specs.declared.task_outline.OutlineSoFar.{OutlineSoFar}

@@ -1,5 +1,5 @@
 -- What is stored for an outline, after a line and after a variable.
-use Rattle.sas_task_reader.proofs.Imports.{◌≡◌, ◌-◌, ◌^◌, ℕ, List, length, refl, ap, ◌∙◌, arith, min, IsNumber, WellRanged, outline_of, Variable, Event, Said, SoFar, after, behind_variable, Seen, outline_in, kept_of}
+use Rattle.sas_task_reader.proofs.Imports.{◌≡◌, ◌-◌, ◌^◌, ℕ, List, length, refl, ap, ◌∙◌, arith, min, IsNumber, WellRanged, outline_of, Variable, Event, LineValues, SoFar, after, behind_variable, OutlineSoFar, outline_in, kept_of}
 use Rattle.sas_task_format.specs.declared.places.Event.TheVariants as event
 
 -- a line that is not of a group, an operator or a rule changes only the rest
@@ -12,7 +12,7 @@ pub record IsOfRest (e : Event) : Type 0 where
   pub operator : e ≡ event.Operator → ⊥
   pub rule : e ≡ event.Rule → ⊥
 
-rest_after : (s : SoFar) (e : Event) (said : Said) (line : List ℕ) → IsOfRest e → record (kept_of s) { rest = after (kept_of s).rest e said line } ≡ kept_of (after s e said line)
+rest_after : (s : SoFar) (e : Event) (said : LineValues) (line : List ℕ) → IsOfRest e → record (kept_of s) { rest = after (kept_of s).rest e said line } ≡ kept_of (after s e said line)
 rest_after s event.Nothing said line of = refl
 rest_after s event.Metric said line of = refl
 rest_after s event.Name said line of = refl
@@ -31,11 +31,11 @@ rest_after s event.Operator said line of = absurd (of.operator refl)
 rest_after s event.Rule said line of = absurd (of.rule refl)
 
 -- what is stored if only the rest changes
-module _ (kept : Seen) (new s : SoFar) (is : kept ≡ kept_of s) where
+module _ (kept : OutlineSoFar) (new s : SoFar) (is : kept ≡ kept_of s) where
   abbrev rest_changed : (t : SoFar) → new ≡ t → record kept { rest = new } ≡ record (kept_of s) { rest = t }
-  rest_changed t then = ap (λ (r : SoFar). record kept { rest = r }) then ∙ ap (λ (k : Seen). record k { rest = t }) is
+  rest_changed t then = ap (λ (r : SoFar). record kept { rest = r }) then ∙ ap (λ (k : OutlineSoFar). record k { rest = t }) is
 
-  pub seen_after : (e : Event) (said : Said) (line : List ℕ) → IsOfRest e → new ≡ after (kept_of s).rest e said line → record kept { rest = new } ≡ kept_of (after s e said line)
+  pub seen_after : (e : Event) (said : LineValues) (line : List ℕ) → IsOfRest e → new ≡ after (kept_of s).rest e said line → record kept { rest = new } ≡ kept_of (after s e said line)
   seen_after e said line of then = rest_changed (after (kept_of s).rest e said line) then ∙ rest_after s e said line of
 
   pub seen_variable : (v : Variable) → new ≡ behind_variable (kept_of s).rest v → record kept { rest = new } ≡ kept_of (behind_variable s v)

@@ -4,14 +4,14 @@ use Rattle.sas_core.specs.declared.parts.Parts.{Parts}
 use Rattle.sas_flat.specs.declared.outline.Outline.{Outline}
 use Rattle.sas_flat.specs.Outlines.{outline_of}
 use Rattle.sas_task_line.specs.declared.so_far.SoFar.{SoFar}
-use Rattle.sas_task_reader.specs.declared.task_outline.Seen.{Seen}
+use Rattle.sas_task_reader.specs.declared.task_outline.OutlineSoFar.{OutlineSoFar}
 
 -- the number of items, up to the greatest 32-bit number; no task has more
 abbrev pub as_far_as_counted : {A : Type 0} → List A → ℕ
 as_far_as_counted items = min (length items) (2 ^ 32 - 1)
 
 -- what is stored of the content read so far
-abbrev pub kept_of : SoFar → Seen
+abbrev pub kept_of : SoFar → OutlineSoFar
 kept_of s = record {
   rest = record s {
     parts = record s.parts { groups = []; operators = []; rules = [] };
@@ -29,5 +29,5 @@ outline_with p groups operators rules =
     record (outline_of p) { groups = groups; operators = operators; rules = rules }
 
 -- the stored outline
-abbrev pub outline_in : Seen → Outline
+abbrev pub outline_in : OutlineSoFar → Outline
 outline_in kept = outline_with kept.rest.parts kept.groups kept.operators kept.rules

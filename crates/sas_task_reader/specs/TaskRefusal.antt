@@ -3,7 +3,7 @@ use Rattle.std.specs.Prelude.{ℕ, List, Option, Result}
 use Rattle.sas_lines.specs.Device.{Device}
 use Rattle.sas_reader.specs.declared.fault.Fault.{Fault}
 use Rattle.sas_reader.specs.declared.fault.Kind.{Kind}
-use Rattle.sas_reader.specs.declared.found.Found.{Found}
+use Rattle.sas_reader.specs.declared.found.Excerpt.{Excerpt}
 use Rattle.sas_reader.specs.Refusals.{StandsBehind, ReadsOrExplains}
 use Rattle.sas_task_format.specs.TaskFormat.{task_format}
 use Rattle.sas_task_format.specs.TaskReasons.{IsTaskReason}
@@ -17,7 +17,7 @@ use Rattle.sas_task_reader.specs.declared.task_refusal.TaskRefusal.{TaskRefusal}
 abbrev pub fault_in : TaskRefusal → Fault
 fault_in r = r.fault
 
-abbrev pub found_in : TaskRefusal → Found
+abbrev pub found_in : TaskRefusal → Excerpt
 found_in r = r.found
 
 -- after the accepted lines, this text is refused for the reason in the refusal

@@ -6,7 +6,7 @@ ghost use Rattle.sas_core.specs.declared.parts.Operator.{Operator};
 ghost use Rattle.sas_core.specs.declared.parts.Effect.{Effect};
 ghost use Rattle.sas_core.specs.WellRanged.{WellRanged};
 ghost use Rattle.sas_task_format.specs.declared.places.Event.TheVariants as event;
-ghost use Rattle.sas_task_line.specs.declared.task_events.Said.{Said};
+ghost use Rattle.sas_task_line.specs.declared.task_events.LineValues.{LineValues};
 ghost use Rattle.sas_task_line.specs.Sections.{GroupAhead, OperatorAhead, RuleAhead};
 ghost use Rattle.sas_task_line.specs.TaskEvents.{nothing_yet, after};
 ghost use Rattle.sas_task_judge.specs.Sections.{VariableWithRange, behind_variable, behind_group, behind_operator, behind_rule};
@@ -19,8 +19,8 @@ use sas_flat::{
     VariableColumns, Variables,
 };
 use sas_reader::{Front, Kind};
-use sas_task_judge::{Keeper, VariableKept};
-use sas_task_line::{Event, Said, group_found, operator_found, rule_found, variable_found};
+use sas_task_judge::{Keeper, KeptVariable};
+use sas_task_line::{Event, LineValues, read_group, read_operator, read_rule, read_variable};
 use std::alloc::{AllocError, Global};
 use std::marker::Model;
 
@@ -37,13 +37,13 @@ pub struct FlatSoFar {
     /// The conditions and the head of each rule.
     conditions: ListColumns<Fact>,
     heads: Vec<Change>,
-    begun: Begun,
+    begun: SectionContent,
 }
 
 /// The content of the variable, group, operator or rule that has begun. Its memory is reused for the next one, so that no line needs an
 /// allocation of its own.
 #[derive(Drop)]
-struct Begun {
+struct SectionContent {
     name: Items<u8>,
     layer: Option<u32>,
     values: Lists<u8>,
@@ -104,7 +104,7 @@ impl FlatSoFar {
             operators: OperatorColumns::new(alloc),
             conditions: ListColumns::new(alloc),
             heads: Vec::new(alloc),
-            begun: Begun {
+            begun: SectionContent {
                 name: Items::new(alloc),
                 layer: None,
                 values: Lists::new(alloc),
@@ -184,14 +184,14 @@ impl FlatSoFar {
     }
 
     fn name(&mut self, line: &[u8]) -> Result<(), AllocError>
-        ensures { (said : Said) → OnOk result (self.new ≡ after self.old event.Name said line.now) }
+        ensures { (said : LineValues) → OnOk result (self.new ≡ after self.old event.Name said line.now) }
     {
         self.begun.name.clear();
         self.begun.name.extend_from_slice(line)
     }
 
     fn variable(&mut self) -> Result<(), AllocError>
-        ensures { (said : Said) → OnOk result (self.new ≡ after self.old event.Variable said []) }
+        ensures { (said : LineValues) → OnOk result (self.new ≡ after self.old event.Variable said []) }
     {
         let added = self.variables.append(
             self.begun.name.as_slice(),
@@ -208,14 +208,14 @@ impl FlatSoFar {
     }
 
     fn group(&mut self) -> Result<(), AllocError>
-        ensures { (said : Said) → OnOk result (self.new ≡ after self.old event.Group said []) }
+        ensures { (said : LineValues) → OnOk result (self.new ≡ after self.old event.Group said []) }
     {
         self.groups.append(self.begun.facts.as_slice())?;
         self.begun.facts.clear();
         Ok(())
     }
 
-    fn effect(&mut self, said: &Said) -> Result<(), AllocError>
+    fn effect(&mut self, said: &LineValues) -> Result<(), AllocError>
         ensures { OnOk result (self.new ≡ after self.old event.Effect said.now []) }
     {
         let change = Change {
@@ -228,7 +228,7 @@ impl FlatSoFar {
             .push(said.effect.conditions.as_slice(), change)
     }
 
-    fn operator(&mut self, said: &Said) -> Result<(), AllocError>
+    fn operator(&mut self, said: &LineValues) -> Result<(), AllocError>
         ensures { OnOk result (self.new ≡ after self.old event.Operator said.now []) }
     {
         let added = self.operators.append(
@@ -247,7 +247,7 @@ impl FlatSoFar {
         Ok(())
     }
 
-    fn rule(&mut self, said: &Said) -> Result<(), AllocError>
+    fn rule(&mut self, said: &LineValues) -> Result<(), AllocError>
         ensures { OnOk result (self.new ≡ after self.old event.Rule said.now []) }
     {
         self.heads.reserve(1)?;
@@ -257,16 +257,16 @@ impl FlatSoFar {
         Ok(())
     }
 
-    /// Stores a whole variable at the beginning of the bytes, if `variable_found` finds one. Returns the extent of its lines and the number
+    /// Stores a whole variable at the beginning of the bytes, if `read_variable` finds one. Returns the extent of its lines and the number
     /// of its values. After an `Err` the content is unspecified.
     #[inline(always)]
-    fn variable_ahead(&mut self, bytes: &[u8]) -> Result<VariableKept, AllocError>
+    fn variable_ahead(&mut self, bytes: &[u8]) -> Result<KeptVariable, AllocError>
         ensures took { IfOk result (λ kept. 0 < kept.front.bytes
             → (v : Variable) × VariableWithRange bytes.now v kept
             × (self.new ≡ behind_variable self.old v)) }
         ensures none { IfOk result (λ kept. kept.front.bytes ≡ 0 → self.new ≡ self.old) }
     {
-        match variable_found(bytes, &mut self.variables.values) {
+        match read_variable(bytes, &mut self.variables.values) {
             Ok(Some(found)) => {
                 if let Err(error) = self.variables.push(found.name, found.layer) {
                     self.variables.cut();
@@ -275,7 +275,7 @@ impl FlatSoFar {
                 self.begun.name.clear();
                 self.begun.layer = found.layer;
                 self.begun.values.clear();
-                Ok(VariableKept {
+                Ok(KeptVariable {
                     front: found.front,
                     range: found.range,
                 })
@@ -288,7 +288,7 @@ impl FlatSoFar {
         }
     }
 
-    /// Stores a whole mutex group at the beginning of the bytes, if `group_found` finds one. Returns the extent of its lines. After an
+    /// Stores a whole mutex group at the beginning of the bytes, if `read_group` finds one. Returns the extent of its lines. After an
     /// `Err` the content is unspecified.
     fn group_ahead(&mut self, ranges: &Items<u32>, bytes: &[u8]) -> Result<Front, AllocError>
         ensures took { IfOk result (λ front. 0 < front.bytes
@@ -296,7 +296,7 @@ impl FlatSoFar {
             × (self.new ≡ behind_group self.old facts)) }
         ensures none { IfOk result (λ front. front.bytes ≡ 0 → self.new ≡ self.old) }
     {
-        match group_found(ranges, bytes, &mut self.groups.items) {
+        match read_group(ranges, bytes, &mut self.groups.items) {
             Ok(Some(front)) => {
                 self.groups.close()?;
                 self.begun.facts.clear();
@@ -310,7 +310,7 @@ impl FlatSoFar {
         }
     }
 
-    /// Stores a whole operator at the beginning of the bytes, if `operator_found` finds one. Returns the extent of its lines. After an
+    /// Stores a whole operator at the beginning of the bytes, if `read_operator` finds one. Returns the extent of its lines. After an
     /// `Err` the content is unspecified.
     fn operator_ahead(&mut self, ranges: &Items<u32>, bytes: &[u8]) -> Result<Front, AllocError>
         ensures took { IfOk result (λ front. 0 < front.bytes
@@ -318,7 +318,7 @@ impl FlatSoFar {
             × (self.new ≡ behind_operator self.old o)) }
         ensures none { IfOk result (λ front. front.bytes ≡ 0 → self.new ≡ self.old) }
     {
-        match operator_found(
+        match read_operator(
             ranges,
             bytes,
             &mut self.operators.prevail,
@@ -343,7 +343,7 @@ impl FlatSoFar {
         }
     }
 
-    /// Stores a whole rule at the beginning of the bytes, if `rule_found` finds one. Returns the extent of its lines. After an `Err` the
+    /// Stores a whole rule at the beginning of the bytes, if `read_rule` finds one. Returns the extent of its lines. After an `Err` the
     /// content is unspecified.
     fn rule_ahead(&mut self, ranges: &Items<u32>, bytes: &[u8]) -> Result<Front, AllocError>
         ensures took { IfOk result (λ front. 0 < front.bytes
@@ -352,7 +352,7 @@ impl FlatSoFar {
         ensures none { IfOk result (λ front. front.bytes ≡ 0 → self.new ≡ self.old) }
     {
         self.heads.reserve(1)?;
-        match rule_found(ranges, bytes, &mut self.conditions.items) {
+        match read_rule(ranges, bytes, &mut self.conditions.items) {
             Ok(Some(found)) => {
                 self.conditions.close()?;
                 self.heads.push(found.head)?;
@@ -368,7 +368,7 @@ impl FlatSoFar {
     }
 
     /// Adds the content of the line.
-    fn add(&mut self, line: &[u8], event: Event, said: &Said) -> Result<(), AllocError>
+    fn add(&mut self, line: &[u8], event: Event, said: &LineValues) -> Result<(), AllocError>
         ensures { OnOk result (self.new ≡ after self.old event said.now line.now) }
     {
         match event {
@@ -398,13 +398,13 @@ impl Keeper for FlatSoFar {
 
     ghost keeps = { λ lines s kept. kept ≡ s };
 
-    fn keep(&mut self, line: &[u8], event: Event, said: &mut Said) -> Result<(), Kind> {
+    fn keep(&mut self, line: &[u8], event: Event, said: &mut LineValues) -> Result<(), Kind> {
         self.add(line, event, said)?;
         Ok(())
     }
 
     #[inline(always)]
-    fn keep_variable(&mut self, bytes: &[u8]) -> Result<VariableKept, Kind> {
+    fn keep_variable(&mut self, bytes: &[u8]) -> Result<KeptVariable, Kind> {
         Ok(self.variable_ahead(bytes)?)
     }
 

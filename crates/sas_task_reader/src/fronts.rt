@@ -10,13 +10,13 @@ ghost use Rattle.sas_task_line.specs.Sections.{GroupAhead, OperatorAhead, RuleAh
 use sas_core::{Fact, Items};
 use sas_flat::{Effects, Lists};
 use sas_reader::{Front, Kind};
-use sas_task_judge::VariableKept;
-use sas_task_line::{group_found, operator_found, rule_found, variable_found};
+use sas_task_judge::KeptVariable;
+use sas_task_line::{read_group, read_operator, read_rule, read_variable};
 use std::alloc::Global;
 
 /// The lists of the section that was read last. Their memory is reused for the next section.
 #[derive(Drop)]
-pub struct Gathered {
+pub struct SectionLists {
     /// The names of a variable's values.
     values: Lists<u8>,
     /// The facts of a mutex group, the prevail conditions of an operator, or the conditions of a rule.
@@ -27,10 +27,10 @@ pub struct Gathered {
     conditions: Vec<Fact>,
 }
 
-impl Gathered {
+impl SectionLists {
     /// Returns empty lists. It takes no memory.
     pub fn new(alloc: Global) -> Self {
-        Gathered {
+        SectionLists {
             values: Lists::new(alloc),
             facts: Vec::new(alloc),
             effects: Effects::new(alloc),
@@ -40,50 +40,53 @@ impl Gathered {
 }
 
 /// No variable was stored.
-pub const NO_VARIABLE: VariableKept = VariableKept {
+pub const NO_VARIABLE: KeptVariable = KeptVariable {
     front: Front::EMPTY,
     range: 0,
 };
 
-/// Returns the extent of a whole variable at the beginning of the bytes and the number of its values, if `variable_found` finds one. The
+/// Returns the extent of a whole variable at the beginning of the bytes and the number of its values, if `read_variable` finds one. The
 /// content of `gathered` is unspecified afterwards. Returns `Memory` if out of memory.
 #[inline(always)]
-pub fn variable_front(bytes: &[u8], gathered: &mut Gathered) -> Result<Option<VariableKept>, Kind>
+pub fn variable_front(
+    bytes: &[u8],
+    gathered: &mut SectionLists,
+) -> Result<Option<KeptVariable>, Kind>
     ensures found { IfOk result (λ found. IfSome found (λ kept.
         (v : Variable) × VariableWithRange bytes.now v kept)) }
     ensures err { IfErr result (λ k. k ≡ Kind.Memory) }
 {
     gathered.values.clear();
-    let Some(found) = variable_found(bytes, &mut gathered.values)? else {
+    let Some(found) = read_variable(bytes, &mut gathered.values)? else {
         return Ok(None);
     };
-    Ok(Some(VariableKept {
+    Ok(Some(KeptVariable {
         front: found.front,
         range: found.range,
     }))
 }
 
-/// Returns the extent of a whole mutex group at the beginning of the bytes, if `group_found` finds one. The content of `gathered` is
+/// Returns the extent of a whole mutex group at the beginning of the bytes, if `read_group` finds one. The content of `gathered` is
 /// unspecified afterwards. Returns `Memory` if out of memory.
 pub fn group_front(
     ranges: &Items<u32>,
     bytes: &[u8],
-    gathered: &mut Gathered,
+    gathered: &mut SectionLists,
 ) -> Result<Option<Front>, Kind>
     ensures found { IfOk result (λ found. IfSome found (λ front.
         (facts : List Fact) × GroupAhead ranges.now bytes.now facts front)) }
     ensures err { IfErr result (λ k. k ≡ Kind.Memory) }
 {
     gathered.facts.clear();
-    Ok(group_found(ranges, bytes, &mut gathered.facts)?)
+    Ok(read_group(ranges, bytes, &mut gathered.facts)?)
 }
 
-/// Returns the extent of a whole operator at the beginning of the bytes, if `operator_found` finds one. The content of `gathered` is
+/// Returns the extent of a whole operator at the beginning of the bytes, if `read_operator` finds one. The content of `gathered` is
 /// unspecified afterwards. Returns `Memory` if out of memory.
 pub fn operator_front(
     ranges: &Items<u32>,
     bytes: &[u8],
-    gathered: &mut Gathered,
+    gathered: &mut SectionLists,
 ) -> Result<Option<Front>, Kind>
     ensures found { IfOk result (λ found. IfSome found (λ front.
         (o : Operator) × OperatorAhead ranges.now bytes.now o front)) }
@@ -91,7 +94,7 @@ pub fn operator_front(
 {
     gathered.facts.clear();
     gathered.effects.clear();
-    let found = operator_found(
+    let found = read_operator(
         ranges,
         bytes,
         &mut gathered.facts,
@@ -104,19 +107,19 @@ pub fn operator_front(
     Ok(Some(found.front))
 }
 
-/// Returns the extent of a whole rule at the beginning of the bytes, if `rule_found` finds one. The content of `gathered` is unspecified
+/// Returns the extent of a whole rule at the beginning of the bytes, if `read_rule` finds one. The content of `gathered` is unspecified
 /// afterwards. Returns `Memory` if out of memory.
 pub fn rule_front(
     ranges: &Items<u32>,
     bytes: &[u8],
-    gathered: &mut Gathered,
+    gathered: &mut SectionLists,
 ) -> Result<Option<Front>, Kind>
     ensures found { IfOk result (λ found. IfSome found (λ front.
         (r : Effect) × RuleAhead ranges.now bytes.now r front)) }
     ensures err { IfErr result (λ k. k ≡ Kind.Memory) }
 {
     gathered.facts.clear();
-    let Some(found) = rule_found(ranges, bytes, &mut gathered.facts)? else {
+    let Some(found) = read_rule(ranges, bytes, &mut gathered.facts)? else {
         return Ok(None);
     };
     Ok(Some(found.front))

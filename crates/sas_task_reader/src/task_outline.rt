@@ -9,41 +9,41 @@ ghost use Rattle.sas_task_judge.specs.Sections.{behind_group, behind_operator, b
 ghost use Rattle.sas_task_reader.specs.TaskOutline.{outline_in, kept_of};
 
 use crate::flat_so_far::FlatSoFar;
-use crate::fronts::{Gathered, group_front, operator_front, rule_front};
+use crate::fronts::{SectionLists, group_front, operator_front, rule_front};
 use sas_core::Items;
 use sas_flat::Outline;
 use sas_reader::{Front, Kind};
-use sas_task_judge::{Keeper, VariableKept};
-use sas_task_line::{Event, Said};
+use sas_task_judge::{Keeper, KeptVariable};
+use sas_task_line::{Event, LineValues};
 use std::alloc::Global;
 use std::marker::Model;
 
 /// The content read so far without groups, operators and rules, and the numbers of these.
 #[derive(Drop)]
-pub struct Seen {
+pub struct OutlineSoFar {
     rest: FlatSoFar,
     groups: u32,
     operators: u32,
     rules: u32,
 }
 
-/// The keeper of a `Seen`. In a contract its value is this `Seen`.
+/// The keeper of a `OutlineSoFar`. In a contract its value is this `OutlineSoFar`.
 #[derive(Drop)]
 pub struct TaskOutline {
-    seen: Seen,
+    seen: OutlineSoFar,
     /// The lists of a section that is read at once.
-    gathered: Gathered,
+    gathered: SectionLists,
 }
 
 impl Model for TaskOutline {
-    ghost use Rattle.sas_task_reader.specs.declared.task_outline.Seen.{Seen};
+    ghost use Rattle.sas_task_reader.specs.declared.task_outline.OutlineSoFar.{OutlineSoFar};
 
-    ghost Value = { Seen };
+    ghost Value = { OutlineSoFar };
 
     ghost view = { λ o. o.seen };
 }
 
-impl Seen {
+impl OutlineSoFar {
     /// Counts one more mutex group.
     fn group(&mut self)
         ensures { (s : SoFar) (facts : List Fact) → self.old ≡ kept_of s
@@ -76,13 +76,13 @@ impl TaskOutline {
         ensures { result ≡ kept_of (nothing_yet alloc) }
     {
         TaskOutline {
-            seen: Seen {
+            seen: OutlineSoFar {
                 rest: FlatSoFar::new(alloc),
                 groups: 0,
                 operators: 0,
                 rules: 0,
             },
-            gathered: Gathered::new(alloc),
+            gathered: SectionLists::new(alloc),
         }
     }
 
@@ -91,7 +91,7 @@ impl TaskOutline {
         ensures { result ≡ outline_in self }
     {
         let TaskOutline { seen, .. } = self;
-        let Seen {
+        let OutlineSoFar {
             rest,
             groups,
             operators,
@@ -107,7 +107,7 @@ impl Keeper for TaskOutline {
 
     ghost keeps = { λ _ s kept. kept ≡ kept_of s };
 
-    fn keep(&mut self, line: &[u8], event: Event, said: &mut Said) -> Result<(), Kind> {
+    fn keep(&mut self, line: &[u8], event: Event, said: &mut LineValues) -> Result<(), Kind> {
         match event {
             Event::Group => self.seen.group(),
             Event::Operator => self.seen.operator(),
@@ -118,7 +118,7 @@ impl Keeper for TaskOutline {
         Ok(())
     }
 
-    fn keep_variable(&mut self, bytes: &[u8]) -> Result<VariableKept, Kind> {
+    fn keep_variable(&mut self, bytes: &[u8]) -> Result<KeptVariable, Kind> {
         self.seen.rest.keep_variable(bytes)
     }
 

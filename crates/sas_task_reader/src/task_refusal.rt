@@ -2,7 +2,7 @@
 ghost use Rattle.std.specs.Prelude.{◌≡◌, ◌≢◌, List, ℕ, None};
 ghost use Rattle.sas_task_reader.specs.TaskRefusal.{HasReason, StandsRefused};
 
-use sas_reader::{Fault, Found, Kind, Refused};
+use sas_reader::{Excerpt, Fault, Kind, Refusal};
 use sas_task_format::{Mark, WrongWord};
 use sas_task_judge::{Keeper, TaskMachine};
 
@@ -13,7 +13,7 @@ pub struct TaskRefusal {
     pub fault: Fault,
     pub mark: Mark,
     pub word: Option<WrongWord>,
-    pub found: Found,
+    pub found: Excerpt,
 }
 
 /// Returns the wrong word if the line is refused for a number.
@@ -29,14 +29,14 @@ fn word_of(kind: Kind, wrong: Option<WrongWord>) -> Option<WrongWord>
 
 impl TaskRefusal {
     /// Converts a refusal of the machine to that of a task file.
-    pub(crate) fn of<K: Keeper>(refused: Refused<TaskMachine<K>>) -> TaskRefusal
+    pub(crate) fn of<K: Keeper>(refused: Refusal<TaskMachine<K>>) -> TaskRefusal
         ensures fault { result.fault ≡ refused.fault }
         ensures found { result.found ≡ refused.found }
         ensures reason { (accepted : List (List ℕ)) (text : List ℕ)
             → StandsRefused K.keeps accepted text refused.fault.kind refused.machine
             → HasReason accepted text result }
     {
-        let Refused {
+        let Refusal {
             fault,
             machine,
             found,

@@ -3,13 +3,13 @@ ghost use Rattle.std.specs.Prelude.{◌≡◌, ◌++◌, ◌≤◌, [], length, 
 ghost use Rattle.sas_lines.specs.Lines.{without_returns};
 
 use crate::fronts::{
-    Gathered, NO_VARIABLE, group_front, operator_front, rule_front, variable_front,
+    NO_VARIABLE, SectionLists, group_front, operator_front, rule_front, variable_front,
 };
 use sas_core::Items;
 use sas_lines::{push_line, push_without_returns};
 use sas_reader::{Front, Kind};
-use sas_task_judge::{Keeper, VariableKept};
-use sas_task_line::{Event, Said};
+use sas_task_judge::{Keeper, KeptVariable};
+use sas_task_line::{Event, LineValues};
 use std::alloc::Global;
 use std::marker::Model;
 
@@ -18,7 +18,7 @@ use std::marker::Model;
 pub struct TaskText {
     text: Vec<u8>,
     /// The lists of a section that is read at once.
-    gathered: Gathered,
+    gathered: SectionLists,
 }
 
 impl Model for TaskText {
@@ -36,7 +36,7 @@ impl TaskText {
     {
         TaskText {
             text: Vec::new(alloc),
-            gathered: Gathered::new(alloc),
+            gathered: SectionLists::new(alloc),
         }
     }
 
@@ -65,13 +65,13 @@ impl Keeper for TaskText {
 
     ghost keeps = { λ lines _ kept. kept ≡ text lines };
 
-    fn keep(&mut self, line: &[u8], _event: Event, _said: &mut Said) -> Result<(), Kind> {
+    fn keep(&mut self, line: &[u8], _event: Event, _said: &mut LineValues) -> Result<(), Kind> {
         push_line(&mut self.text, line)?;
         Ok(())
     }
 
     #[inline(always)]
-    fn keep_variable(&mut self, bytes: &[u8]) -> Result<VariableKept, Kind> {
+    fn keep_variable(&mut self, bytes: &[u8]) -> Result<KeptVariable, Kind> {
         let Some(kept) = variable_front(bytes, &mut self.gathered)? else {
             return Ok(NO_VARIABLE);
         };

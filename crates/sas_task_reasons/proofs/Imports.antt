@@ -38,7 +38,7 @@ pub use Rattle.sas_groups.specs.Kept.{family_of}
 pub use Rattle.sas_groups.specs.Lists.{known}
 pub use Rattle.sas_groups.specs.Notes.{IsGroupNote}
 pub use Rattle.sas_groups.specs.Verdicts.{IsJointVerdict}
-pub use Rattle.sas_groups.specs.declared.notes.Noted.TheVariants.{Several}
+pub use Rattle.sas_groups.specs.declared.notes.GroupNote.TheVariants.{Several}
 pub use Rattle.sas_groups.specs.declared.verdict.Verdict.{Verdict}
 pub use Rattle.sas_groups.specs.declared.verdict.Verdict.TheVariants.{Exclusive, Derived, Initial, Broken}
 pub use Rattle.sas_lines.specs.Lines.{text}
@@ -73,7 +73,7 @@ pub use Rattle.sas_task_reasons.specs.Lowest.{effect_of_failure, IsFirstOfEffect
 pub use Rattle.sas_task_reasons.specs.Reporting.{GroupsAnswerWith, KeptBelow, IsPending, IsReasonSoFar, AreReasonsSoFar, LacksReason, IsBroken}
 pub use Rattle.sas_task_reasons.specs.WhyGroups.{why_lines, WhyGroupsAnswer, explained_group_lines, why_lines_from}
 pub use Rattle.sas_task_reasons.specs.WhyLayers.{layer_reasons, with_reasons, why_refusal, WhyAnswer, WhyCheckAnswer, WhyMutexAnswer}
-pub use Rattle.sas_task_reasons.specs.declared.broken.Greatest.{Greatest}
+pub use Rattle.sas_task_reasons.specs.declared.broken.GreatestFamily.{GreatestFamily}
 pub use Rattle.sas_task_reasons.specs.declared.reason.Failure.{Failure}
 pub use Rattle.sas_task_reasons.specs.declared.reason.Failure.TheVariants.{SetsTwo, MayStay}
 pub use Rattle.sas_task_reasons.specs.declared.reason.Reason.{Reason}

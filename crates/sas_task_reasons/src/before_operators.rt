@@ -81,7 +81,7 @@ fn holds_two<T: Grounded>(layered: &Layered<T>, group: u32) -> Option<Reason>
 {
     let task = layered.task();
     let facts = task.group(group);
-    let Some(first) = first_holding(layered, facts) else {
+    let Some(first) = first_initial(layered, facts) else {
         return None;
     };
     match first_beside(layered, facts, first.var) {
@@ -91,11 +91,14 @@ fn holds_two<T: Grounded>(layered: &Layered<T>, group: u32) -> Option<Reason>
 }
 
 /// Returns the first of the facts that holds in the state section.
-fn first_holding<T: Grounded>(task: &Layered<T>, facts: &[Fact]) -> Option<Fact>
+fn first_initial<T: Grounded>(task: &Layered<T>, facts: &[Fact]) -> Option<Fact>
     requires { All (λ f. f.var < length task.now.variables) facts.now }
     ensures { result ≡ find (spec.holds task.now.init) facts.now }
 {
-    facts.iter().copied().find(|fact| holds(task, *fact))
+    facts
+        .iter()
+        .copied()
+        .find(|fact| holds_initially(task, *fact))
 }
 
 /// Returns the first of the facts that holds in the state section and is on another variable.
@@ -107,11 +110,11 @@ fn first_beside<T: Grounded>(task: &Layered<T>, facts: &[Fact], var: u32) -> Opt
     facts
         .iter()
         .copied()
-        .find(|fact| holds(task, *fact) && fact.var != var)
+        .find(|fact| holds_initially(task, *fact) && fact.var != var)
 }
 
 /// Returns whether the fact holds in the state section.
-fn holds<T: Grounded>(task: &Layered<T>, fact: Fact) -> bool
+fn holds_initially<T: Grounded>(task: &Layered<T>, fact: Fact) -> bool
     requires { fact.var < length task.now.variables }
     ensures { result ≡ spec.holds task.now.init fact }
 {

@@ -16,11 +16,11 @@ use crate::failures::first_failure;
 use crate::reason::Reason;
 use sas_core::{Grounded, Items};
 use sas_groups::{IndexedTask, Verdict};
-use sas_mutex::{Firing, Marks};
+use sas_mutex::{FiringEffect, Marks};
 
 /// The greatest family, and the facts recorded while effects are checked.
 #[derive(Drop)]
-pub struct Greatest {
+pub struct GreatestFamily {
     /// For each group, whether it is in the family.
     pub kept: Items<bool>,
     pub marks: Marks,
@@ -32,7 +32,7 @@ pub fn report_failures<T: Grounded>(
     indexed: &IndexedTask<'_, '_, T>,
     verdicts: &[Verdict],
     marked: &[bool],
-    greatest: &mut Greatest,
+    greatest: &mut GreatestFamily,
     reasons: &mut Items<Option<Reason>>,
 )
     requires marked { AreMarked verdicts.now marked.now }
@@ -57,7 +57,7 @@ fn report_failures_of<T: Grounded>(
     indexed: &IndexedTask<'_, '_, T>,
     operator: u32,
     verdicts: &[Verdict],
-    greatest: &mut Greatest,
+    greatest: &mut GreatestFamily,
     reasons: &mut Items<Option<Reason>>,
 )
     requires operator { operator < length indexed.now.operators }
@@ -73,7 +73,7 @@ fn report_failures_of<T: Grounded>(
     ensures clean { IsClean indexed.now greatest.new.marks }
 {
     for effect in 0..indexed.task.effects(operator) {
-        let firing = Firing::new(indexed, operator, effect);
+        let firing = FiringEffect::new(indexed, operator, effect);
         report_failures_at(&firing, verdicts, greatest, reasons);
     }
 }
@@ -81,9 +81,9 @@ fn report_failures_of<T: Grounded>(
 /// Finds the first failure of the effect to preserve each group whose reason is still missing. The known facts of the effect are recorded
 /// once for all groups. If they clash, the effect never fires.
 fn report_failures_at<T: Grounded>(
-    firing: &Firing<'_, '_, T>,
+    firing: &FiringEffect<'_, '_, T>,
     verdicts: &[Verdict],
-    greatest: &mut Greatest,
+    greatest: &mut GreatestFamily,
     reasons: &mut Items<Option<Reason>>,
 )
     requires verdicts { length verdicts.now ≡ length firing.now.task.groups }
@@ -139,10 +139,10 @@ fn lacks_reason(group: u32, operator: u32, verdicts: &[Verdict], reasons: &[Opti
 /// Finds the first failure of the effect to preserve each of these groups whose reason is still missing. The groups must contain the fact
 /// that the effect sets, and the known facts must be recorded.
 fn report_groups<T: Grounded>(
-    firing: &Firing<'_, '_, T>,
+    firing: &FiringEffect<'_, '_, T>,
     groups: &[u32],
     verdicts: &[Verdict],
-    greatest: &mut Greatest,
+    greatest: &mut GreatestFamily,
     reasons: &mut Items<Option<Reason>>,
 )
     requires have { All (λ (place : ℕ). HasFact firing.now.task place
@@ -168,10 +168,10 @@ fn report_groups<T: Grounded>(
 /// Finds the first failure of the effect to preserve the group, if its reason is still missing. The group must contain the fact that the
 /// effect sets, and the known facts must be recorded.
 fn report_group<T: Grounded>(
-    firing: &Firing<'_, '_, T>,
+    firing: &FiringEffect<'_, '_, T>,
     group: u32,
     verdicts: &[Verdict],
-    greatest: &mut Greatest,
+    greatest: &mut GreatestFamily,
     reasons: &mut Items<Option<Reason>>,
 )
     requires has { HasFact firing.now.task group (sets (effect_of firing.now)) }

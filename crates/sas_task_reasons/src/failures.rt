@@ -12,12 +12,12 @@ ghost use Rattle.sas_task_reasons.specs.Lowest.{IsFirstStaying, IsFirstOfEffect}
 use crate::lowest::lowest_together;
 use crate::reason::Failure;
 use sas_core::{Grounded, Items};
-use sas_mutex::{Firing, Marks};
+use sas_mutex::{FiringEffect, Marks};
 
 /// Returns the first failure of the effect to preserve the group, assuming the family and the group itself. The group must contain the fact
 /// that the effect sets. The known facts must be recorded and must not clash. The family is unchanged on return.
 pub fn first_failure<T: Grounded>(
-    firing: &Firing<'_, '_, T>,
+    firing: &FiringEffect<'_, '_, T>,
     group: u32,
     kept: &mut Items<bool>,
     marks: &mut Marks,
@@ -46,7 +46,7 @@ pub fn first_failure<T: Grounded>(
 /// Returns the first failure of the effect to preserve the group, which must be in the family. The known facts must be recorded and must
 /// not clash.
 fn failure_by_notes<T: Grounded>(
-    firing: &Firing<'_, '_, T>,
+    firing: &FiringEffect<'_, '_, T>,
     group: u32,
     kept: &[bool],
     marks: &mut Marks,
@@ -74,7 +74,7 @@ fn failure_by_notes<T: Grounded>(
 
 /// Returns the index of the first fact of the group that may remain when the effect fires, or the number of its facts if none may.
 fn first_staying<T: Grounded>(
-    firing: &Firing<'_, '_, T>,
+    firing: &FiringEffect<'_, '_, T>,
     kept: &[bool],
     group: u32,
     marks: &Marks,

@@ -20,7 +20,9 @@ use sas_flat::FlatTask;
 use sas_lines::Watched;
 use sas_meaning::Layered;
 use sas_mutex::{Verdict, check_groups};
-use sas_output::{Indent, Line, Named, Pieces, Sink, Status, ToolFault, Word, Words, push_lines};
+use sas_output::{
+    Indent, Line, NameSource, Pieces, Sink, Status, ToolFault, Word, Words, push_lines,
+};
 use std::alloc::{AllocError, Global};
 use std::io::Write;
 
@@ -132,19 +134,22 @@ fn push_verdict<W: Write>(sink: &mut Sink<'_, W>, place: usize, verdict: Verdict
 {
     let group = Word::Number(place as u64);
     match verdict {
-        Verdict::Exclusive => push_words(sink, &[group, Word::Text(b"exclusive")]),
-        Verdict::Derived => push_words(sink, &[group, Word::Text(b"derived")]),
-        Verdict::Initial => push_words(sink, &[group, Word::Text(b"not shown: initial state")]),
+        Verdict::Exclusive => push_group_words(sink, &[group, Word::Text(b"exclusive")]),
+        Verdict::Derived => push_group_words(sink, &[group, Word::Text(b"derived")]),
+        Verdict::Initial => push_group_words(
+            sink,
+            &[group, Word::Text(b"not shown: initial state")],
+        ),
         Verdict::Broken { operator } => {
             let words = Word::Text(b"not shown: operator");
             let number = Word::Number(u64::from(operator));
-            push_words(sink, &[group, words, number])
+            push_group_words(sink, &[group, words, number])
         }
     }
 }
 
 /// Adds the line of the word for a group and these words, and its end.
-fn push_words<W: Write>(sink: &mut Sink<'_, W>, words: &[Word<'_>])
+fn push_group_words<W: Write>(sink: &mut Sink<'_, W>, words: &[Word<'_>])
     ensures { Pushes W.contents sink.old sink.new
         (line 0 (codes "group" ∷ map word_bytes words.now) ++ 10 ∷ []) }
 {
@@ -161,7 +166,7 @@ fn push_why<W: Write>(sink: &mut Sink<'_, W>, task: &FlatTask, group: usize, rea
     ensures { Pushes W.contents sink.old sink.new
         (reasons_text task.now [] (spec.reason_lines task.now group reason)) }
 {
-    let named = Named { task, plan: None };
+    let named = NameSource { task, plan: None };
     match reason {
         Reason::OnDerived { fact } => push_lines(sink, &named, &[Line::Derived { fact }]),
         Reason::HoldsTwo { first, second } => {

@@ -6,13 +6,13 @@ ghost use Rattle.sas_mutex.specs.ByNotes.{IsNotedAt};
 ghost use Rattle.sas_task_reasons.specs.Lowest.{IsLowestPartner, IsAny, SetsVariable};
 
 use sas_core::Grounded;
-use sas_mutex::{Firing, Marks, begins_run};
+use sas_mutex::{FiringEffect, Marks, begins_run};
 
 /// Returns the lowest effect that may set a fact of the group on another variable in the same step as this effect, or the number of all
 /// effects if there is none. For a large operator, only effects on variables of the group are checked if the group has fewer facts than the
 /// operator has effects.
 pub fn lowest_together<T: Grounded>(
-    firing: &Firing<'_, '_, T>,
+    firing: &FiringEffect<'_, '_, T>,
     kept: &[bool],
     group: u32,
     marks: &mut Marks,
@@ -37,7 +37,7 @@ pub fn lowest_together<T: Grounded>(
 
 /// `lowest_together` by checking all effects.
 fn lowest_of_all<T: Grounded>(
-    firing: &Firing<'_, '_, T>,
+    firing: &FiringEffect<'_, '_, T>,
     kept: &[bool],
     group: u32,
     marks: &mut Marks,
@@ -59,7 +59,7 @@ fn lowest_of_all<T: Grounded>(
 /// `lowest_together` by checking the effects on each variable of the group. The facts of the group are sorted, so facts on the same
 /// variable are adjacent.
 fn lowest_by_facts<T: Grounded>(
-    firing: &Firing<'_, '_, T>,
+    firing: &FiringEffect<'_, '_, T>,
     kept: &[bool],
     group: u32,
     marks: &mut Marks,
@@ -81,7 +81,7 @@ fn lowest_by_facts<T: Grounded>(
 
 /// `lowest_together` for the effects on variable `var`. May return a lower effect on another variable.
 fn lowest_on<T: Grounded>(
-    firing: &Firing<'_, '_, T>,
+    firing: &FiringEffect<'_, '_, T>,
     kept: &[bool],
     group: u32,
     var: u32,
@@ -102,7 +102,7 @@ fn lowest_on<T: Grounded>(
 
 /// `lowest_together` for these effects.
 fn lowest_among<T: Grounded>(
-    firing: &Firing<'_, '_, T>,
+    firing: &FiringEffect<'_, '_, T>,
     kept: &[bool],
     group: u32,
     effects: &[u32],

@@ -8,7 +8,7 @@ ghost use Rattle.sas_task_reasons.specs.GroupReasons.{AreReasons};
 ghost use Rattle.sas_task_reasons.specs.Reporting.{AreReasonsSoFar, IsBroken, AreMarked};
 
 use crate::before_operators::first_reasons;
-use crate::broken::{Greatest, report_failures};
+use crate::broken::{GreatestFamily, report_failures};
 use crate::reason::Reason;
 use sas_core::{Grounded, Items};
 use sas_groups::{Index, IndexedTask, Verdict};
@@ -59,7 +59,7 @@ fn report_breaking<T: Grounded>(
     let marked = breaking_operators(alloc, indexed.task.operators(), verdicts)?;
     let kept = exclusive_of(alloc, verdicts)?;
     let marks = Marks::new(alloc, indexed)?;
-    let mut greatest = Greatest { kept, marks };
+    let mut greatest = GreatestFamily { kept, marks };
     report_failures(indexed, verdicts, marked.as_slice(), &mut greatest, reasons);
     drop(marked);
     drop(greatest);

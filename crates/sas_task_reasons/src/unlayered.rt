@@ -8,7 +8,7 @@ use sas_answers::refuse_layers;
 use sas_flat::FlatTask;
 use sas_lines::Watched;
 use sas_meaning::LayerFault;
-use sas_output::{Named, Status, ToolFault, write_reasons};
+use sas_output::{NameSource, Status, ToolFault, write_reasons};
 use std::alloc::Global;
 use std::io::Write;
 
@@ -28,6 +28,6 @@ pub fn write_unlayered<W: Write>(
 {
     let refusal = refuse_layers(alloc, fault)?;
     let reasons = layer_reasons(alloc, task, fault)?;
-    let named = Named { task, plan: None };
+    let named = NameSource { task, plan: None };
     write_reasons(alloc, out, &refusal, &named, reasons.as_slice())
 }

@@ -37,7 +37,7 @@ fn push_word(out: &mut Vec<u8>, word: &[u8]) -> Result<(), AllocError>
 }
 
 /// Appends the line of a number.
-fn push_number_line(out: &mut Vec<u8>, n: u128) -> Result<(), AllocError>
+fn encode_number(out: &mut Vec<u8>, n: u128) -> Result<(), AllocError>
     ensures { OnOk result (out.new.items ≡ out.old.items ++ text_of (single_line format.number n)) }
 {
     push_number(out, n)?;
@@ -56,10 +56,10 @@ fn push_each<T: Encode>(out: &mut Vec<u8>, items: &Items<T>) -> Result<(), Alloc
 }
 
 /// Appends the line with the number of items, and the lines of each item.
-fn push_counted<T: Encode>(out: &mut Vec<u8>, items: &Items<T>) -> Result<(), AllocError>
+fn encode_counted<T: Encode>(out: &mut Vec<u8>, items: &Items<T>) -> Result<(), AllocError>
     ensures { OnOk result (out.new.items ≡ out.old.items ++ text_of (counted T.lines items.now)) }
 {
-    push_number_line(out, items.len() as u128)?;
+    encode_number(out, items.len() as u128)?;
     push_each(out, items)
 }
 
@@ -74,7 +74,7 @@ fn push_signed(out: &mut Vec<u8>, n: Option<u32>) -> Result<(), AllocError>
 }
 
 /// Appends the line of an axiom layer.
-fn push_layer(out: &mut Vec<u8>, layer: Option<u32>) -> Result<(), AllocError>
+fn encode_layer(out: &mut Vec<u8>, layer: Option<u32>) -> Result<(), AllocError>
     ensures { OnOk result (out.new.items
         ≡ out.old.items ++ text_of (single_line format.signed layer)) }
 {
@@ -84,7 +84,7 @@ fn push_layer(out: &mut Vec<u8>, layer: Option<u32>) -> Result<(), AllocError>
 }
 
 /// Appends the words of a fact, without a line end.
-fn push_fact(out: &mut Vec<u8>, fact: &Fact) -> Result<(), AllocError>
+fn encode_fact(out: &mut Vec<u8>, fact: &Fact) -> Result<(), AllocError>
     ensures { OnOk result (out.new.items ≡ out.old.items ++ joined (fact_words fact.now)) }
 {
     push_number(out, u128::from(fact.var))?;
@@ -93,12 +93,12 @@ fn push_fact(out: &mut Vec<u8>, fact: &Fact) -> Result<(), AllocError>
 }
 
 /// Appends the words of some facts, with a space after each fact, since more words follow.
-fn push_conditions(out: &mut Vec<u8>, facts: &Items<Fact>) -> Result<(), AllocError>
+fn encode_conditions(out: &mut Vec<u8>, facts: &Items<Fact>) -> Result<(), AllocError>
     ensures { OnOk result
         (out.new.items ≡ out.old.items ++ spaced (flat_map fact_words facts.now)) }
 {
     for fact in facts.as_slice() {
-        push_fact(out, fact)?;
+        encode_fact(out, fact)?;
         out.push(b' ')?;
     }
     Ok(())
@@ -132,7 +132,7 @@ impl Encode for u32 {
     ghost lines = { single_line format.number };
 
     fn encode(&self, out: &mut Vec<u8>) -> Result<(), AllocError> {
-        push_number_line(out, u128::from(*self))
+        encode_number(out, u128::from(*self))
     }
 }
 
@@ -141,7 +141,7 @@ impl Encode for Fact {
     ghost lines = { single_line format.fact };
 
     fn encode(&self, out: &mut Vec<u8>) -> Result<(), AllocError> {
-        push_fact(out, self)?;
+        encode_fact(out, self)?;
         out.push(b'\n')?;
         Ok(())
     }
@@ -154,7 +154,7 @@ impl Encode for Effect {
     fn encode(&self, out: &mut Vec<u8>) -> Result<(), AllocError> {
         push_number(out, self.conditions.len() as u128)?;
         out.push(b' ')?;
-        push_conditions(out, &self.conditions)?;
+        encode_conditions(out, &self.conditions)?;
         push_head(out, self.var, self.old, self.new)
     }
 }
@@ -166,8 +166,8 @@ impl Encode for Variable {
     fn encode(&self, out: &mut Vec<u8>) -> Result<(), AllocError> {
         push_word(out, b"begin_variable")?;
         self.name.encode(out)?;
-        push_layer(out, self.layer)?;
-        push_counted(out, &self.values)?;
+        encode_layer(out, self.layer)?;
+        encode_counted(out, &self.values)?;
         push_word(out, b"end_variable")
     }
 }
@@ -178,7 +178,7 @@ impl Encode for Items<Fact> {
 
     fn encode(&self, out: &mut Vec<u8>) -> Result<(), AllocError> {
         push_word(out, b"begin_mutex_group")?;
-        push_counted(out, self)?;
+        encode_counted(out, self)?;
         push_word(out, b"end_mutex_group")
     }
 }
@@ -190,8 +190,8 @@ impl Encode for Operator {
     fn encode(&self, out: &mut Vec<u8>) -> Result<(), AllocError> {
         push_word(out, b"begin_operator")?;
         self.name.encode(out)?;
-        push_counted(out, &self.prevail)?;
-        push_counted(out, &self.effects)?;
+        encode_counted(out, &self.prevail)?;
+        encode_counted(out, &self.effects)?;
         self.cost.encode(out)?;
         push_word(out, b"end_operator")
     }
@@ -202,7 +202,7 @@ fn push_rule(out: &mut Vec<u8>, rule: &Rule) -> Result<(), AllocError>
     ensures { OnOk result (out.new.items ≡ out.old.items ++ text_of (rule_lines rule.now)) }
 {
     push_word(out, b"begin_rule")?;
-    push_counted(out, &rule.conditions)?;
+    encode_counted(out, &rule.conditions)?;
     push_head(out, rule.var, rule.old, rule.new)?;
     push_word(out, b"end_rule")
 }
@@ -219,10 +219,10 @@ fn push_each_rule(out: &mut Vec<u8>, rules: &Items<Rule>) -> Result<(), AllocErr
 }
 
 /// Appends the line with the number of rules, and the section of each rule.
-fn push_rules(out: &mut Vec<u8>, rules: &Items<Rule>) -> Result<(), AllocError>
+fn encode_rules(out: &mut Vec<u8>, rules: &Items<Rule>) -> Result<(), AllocError>
     ensures { OnOk result (out.new.items ≡ out.old.items ++ text_of (counted rule_lines rules.now)) }
 {
-    push_number_line(out, rules.len() as u128)?;
+    encode_number(out, rules.len() as u128)?;
     push_each_rule(out, rules)
 }
 
@@ -231,7 +231,7 @@ fn push_version(out: &mut Vec<u8>) -> Result<(), AllocError>
     ensures { OnOk result (out.new.items ≡ out.old.items ++ text_of version_lines) }
 {
     push_word(out, b"begin_version")?;
-    push_number_line(out, VERSION)?;
+    encode_number(out, VERSION)?;
     push_word(out, b"end_version")
 }
 
@@ -240,12 +240,12 @@ fn push_metric(out: &mut Vec<u8>, metric: bool) -> Result<(), AllocError>
     ensures { OnOk result (out.new.items ≡ out.old.items ++ text_of (metric_lines metric)) }
 {
     push_word(out, b"begin_metric")?;
-    push_number_line(out, u128::from(metric))?;
+    encode_number(out, u128::from(metric))?;
     push_word(out, b"end_metric")
 }
 
 /// Appends the section of the initial state.
-fn push_state(out: &mut Vec<u8>, values: &Items<u32>) -> Result<(), AllocError>
+fn encode_state(out: &mut Vec<u8>, values: &Items<u32>) -> Result<(), AllocError>
     ensures { OnOk result (out.new.items ≡ out.old.items ++ text_of (state_lines values.now)) }
 {
     push_word(out, b"begin_state")?;
@@ -254,11 +254,11 @@ fn push_state(out: &mut Vec<u8>, values: &Items<u32>) -> Result<(), AllocError>
 }
 
 /// Appends the section of the goal.
-fn push_goal(out: &mut Vec<u8>, facts: &Items<Fact>) -> Result<(), AllocError>
+fn encode_goal(out: &mut Vec<u8>, facts: &Items<Fact>) -> Result<(), AllocError>
     ensures { OnOk result (out.new.items ≡ out.old.items ++ text_of (goal_lines facts.now)) }
 {
     push_word(out, b"begin_goal")?;
-    push_counted(out, facts)?;
+    encode_counted(out, facts)?;
     push_word(out, b"end_goal")
 }
 
@@ -270,11 +270,11 @@ pub fn encode_task(alloc: Global, task: &Task) -> Result<Vec<u8>, AllocError>
     let mut out = Vec::new(alloc);
     push_version(&mut out)?;
     push_metric(&mut out, parts.metric)?;
-    push_counted(&mut out, &parts.variables)?;
-    push_counted(&mut out, &parts.groups)?;
-    push_state(&mut out, &parts.init)?;
-    push_goal(&mut out, &parts.goal)?;
-    push_counted(&mut out, &parts.operators)?;
-    push_rules(&mut out, &parts.rules)?;
+    encode_counted(&mut out, &parts.variables)?;
+    encode_counted(&mut out, &parts.groups)?;
+    encode_state(&mut out, &parts.init)?;
+    encode_goal(&mut out, &parts.goal)?;
+    encode_counted(&mut out, &parts.operators)?;
+    encode_rules(&mut out, &parts.rules)?;
     Ok(out)
 }

@@ -72,7 +72,7 @@ pub fn command(alloc: Global, words: Vec<String>) -> Result<Job, WordsFault>
 {
     match grammar(alloc)?.try_get_matches_from(words.as_slice()) {
         Ok(matches) => job_of(alloc, &matches)?.with_one_input(),
-        Err(error) => Err(refused(error)),
+        Err(error) => Err(words_fault(error)),
     }
 }
 
@@ -94,7 +94,7 @@ impl Job {
 
 /// The files that a request is over.
 #[derive(Clone, Copy, Debug, PartialEq, Eq)]
-enum Over {
+enum RequestFiles {
     Task,
     Plan,
     Both,
@@ -106,7 +106,7 @@ enum Over {
 struct RequestArguments {
     name: &'static str,
     about: &'static str,
-    over: Over,
+    over: RequestFiles,
     /// Whether it can be called with the flag for reasons.
     why: bool,
 }
@@ -116,49 +116,49 @@ const REQUESTS: [RequestArguments; 8] = [
     RequestArguments {
         name: "plan",
         about: "Checks whether a plan solves a task; for many plans, see plans",
-        over: Over::Both,
+        over: RequestFiles::Both,
         why: true,
     },
     RequestArguments {
         name: "plans",
         about: "Checks many plans of one task, and names the cheapest valid one",
-        over: Over::Many,
+        over: RequestFiles::Many,
         why: false,
     },
     RequestArguments {
         name: "trace",
         about: "Prints what each step of a plan changes, and whether the plan solves a task",
-        over: Over::Both,
+        over: RequestFiles::Both,
         why: false,
     },
     RequestArguments {
         name: "mutex",
         about: "Prints for each mutex group of a task whether it is shown to be exclusive",
-        over: Over::Task,
+        over: RequestFiles::Task,
         why: true,
     },
     RequestArguments {
         name: "show",
         about: "Prints a summary of a task: its numbers, initial state and goal",
-        over: Over::Task,
+        over: RequestFiles::Task,
         why: true,
     },
     RequestArguments {
         name: "check",
         about: "Checks whether a task file is well formed and its axioms are stratified",
-        over: Over::Task,
+        over: RequestFiles::Task,
         why: true,
     },
     RequestArguments {
         name: "print",
         about: "Prints a task file in its canonical form",
-        over: Over::Task,
+        over: RequestFiles::Task,
         why: true,
     },
     RequestArguments {
         name: "steps",
         about: "Prints a plan file in its canonical form; without arguments, that on standard input",
-        over: Over::Plan,
+        over: RequestFiles::Plan,
         why: true,
     },
 ];
@@ -208,21 +208,21 @@ impl RequestArguments {
         if self.why {
             push(arguments, the_flag(alloc))?;
         }
-        if self.over != Over::Plan {
+        if self.over != RequestFiles::Plan {
             push(
                 arguments,
                 operand(alloc, "TASK", "The task file, or - for standard input"),
             )?;
         }
         match self.over {
-            Over::Task => Ok(()),
-            Over::Plan | Over::Both => {
+            RequestFiles::Task => Ok(()),
+            RequestFiles::Plan | RequestFiles::Both => {
                 push(
                     arguments,
                     operand(alloc, "PLAN", "The plan file, or - for standard input"),
                 )
             }
-            Over::Many => {
+            RequestFiles::Many => {
                 let help = "The plan files; one of them may be - for standard input";
                 push(arguments, operand(alloc, "PLAN", help).num_args(1..))
             }
@@ -340,7 +340,7 @@ fn named(alloc: Global, matches: &ArgMatches<'_>, id: &str) -> Result<Option<Sou
     }
 }
 
-fn refused(error: Error) -> WordsFault {
+fn words_fault(error: Error) -> WordsFault {
     match error.kind() {
         ErrorKind::OutOfMemory => WordsFault::Memory,
         _ => WordsFault::Refused(error),

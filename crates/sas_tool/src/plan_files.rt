@@ -4,7 +4,7 @@ ghost use Rattle.sas_plans.specs.Inputs.{IsLabel};
 ghost use Rattle.sas_tool.specs.Labels.{times_named};
 ghost use Rattle.std.specs.String.{string_bytes};
 
-use sas_lines::Opened;
+use sas_lines::OpenInput;
 use sas_plans::{PlanInputs, is_label};
 use std::fs;
 use std::rt::Files;
@@ -23,7 +23,7 @@ impl<'p, R: Files + Input> PlanInputs for PlanFiles<'p, R> {
     ghost use Rattle.std.specs.Prelude.{◌≡◌, [], None, slice_index_or};
     ghost use Rattle.sas_tool.specs.Labels.{OpensAs, bytes_of_labels};
 
-    type Input = Opened<R::File, R::Reader>;
+    type Input = OpenInput<R::File, R::Reader>;
 
     ghost labels = { λ plans. bytes_of_labels plans.labels.now };
 
@@ -42,20 +42,20 @@ impl<'p, R: Files + Input> PlanInputs for PlanFiles<'p, R> {
         self.labels[number].as_bytes()
     }
 
-    fn open(&mut self, number: usize) -> Option<Opened<R::File, R::Reader>> {
+    fn open(&mut self, number: usize) -> Option<OpenInput<R::File, R::Reader>> {
         let label = self.labels[number].as_str();
         if label == STANDARD_INPUT {
-            return Some(Opened::Standard(self.rt.reader()));
+            return Some(OpenInput::Standard(self.rt.reader()));
         }
         match fs::open(self.rt, label) {
-            Ok(file) => Some(Opened::File(file)),
+            Ok(file) => Some(OpenInput::File(file)),
             Err(_) => None,
         }
     }
 }
 
 /// Returns whether none of the labels has a line end.
-pub fn are_labels(labels: &[String]) -> bool
+pub fn are_label_texts(labels: &[String]) -> bool
     ensures { IsTrue result ↔ All (λ label. IsLabel (string_bytes label)) labels.now }
 {
     for label in labels {

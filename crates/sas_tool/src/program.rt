@@ -6,11 +6,11 @@ ghost use Rattle.sas_plans.specs.Inputs.{IsLabel};
 ghost use Rattle.sas_tool.specs.Statuses.{error_line, exit_status};
 
 use crate::arguments::{Job, Source, WordsFault, command};
-use crate::plan_files::{PlanFiles, are_labels, name_input_twice};
+use crate::plan_files::{PlanFiles, are_label_texts, name_input_twice};
 use crate::streams::replace_closed;
 use crate::until_end::UntilEnd;
 use crate::{Question, Status, ToolFault, explain, judge, run, trace};
-use sas_lines::{Opened, Watched};
+use sas_lines::{OpenInput, Watched};
 use sas_plans::{InputFault, JudgeFault};
 use std::io::{ErrorKind, Write};
 use std::os::fd::AsFd;
@@ -94,8 +94,8 @@ fn run_files<R: AllocGlobal + Files + Input + Print + Eprint>(
 fn answer_files<R: AllocGlobal + Files + Input + Print + Eprint>(
     rt: &R,
     question: Question,
-    task: &mut Watched<UntilEnd<Opened<R::File, R::Reader>>>,
-    plan: &mut Watched<UntilEnd<Opened<R::File, R::Reader>>>,
+    task: &mut Watched<UntilEnd<OpenInput<R::File, R::Reader>>>,
+    plan: &mut Watched<UntilEnd<OpenInput<R::File, R::Reader>>>,
 ) -> ExitCode
     requires task { task.old.failed ≡ false }
     requires plan { plan.old.failed ≡ false }
@@ -119,7 +119,7 @@ fn run_plans<R: AllocGlobal + Files + Input + Print + Eprint>(
     task_source: Option<Source>,
     labels: &[String],
 ) -> ExitCode {
-    if !are_labels(labels) {
+    if !are_label_texts(labels) {
         return stop(rt, INVALID_ARGUMENTS, "sas: a plan's name has a line end");
     }
     if name_input_twice(labels, task_source == Some(Source::Input)) {
@@ -138,7 +138,7 @@ fn run_plans<R: AllocGlobal + Files + Input + Print + Eprint>(
 /// Judges the plans of these labels, and flushes standard output.
 fn judge_plans<R: AllocGlobal + Files + Input + Print + Eprint>(
     rt: &R,
-    task: &mut Watched<UntilEnd<Opened<R::File, R::Reader>>>,
+    task: &mut Watched<UntilEnd<OpenInput<R::File, R::Reader>>>,
     labels: &[String],
 ) -> ExitCode
     requires task { task.old.failed ≡ false }
@@ -235,17 +235,19 @@ fn stop<R: Eprint>(rt: &R, status: u8, line: &str) -> ExitCode {
 fn open_source<R: Files + Input>(
     rt: &R,
     source: Option<Source>,
-    input: &mut Watched<UntilEnd<Opened<R::File, R::Reader>>>,
+    input: &mut Watched<UntilEnd<OpenInput<R::File, R::Reader>>>,
 ) -> io::Result<()>
     requires { input.old.failed ≡ false }
     ensures { input.new.failed ≡ false }
 {
     match source {
         None => {}
-        Some(Source::Input) => *input = Watched::new(UntilEnd::new(Opened::Standard(rt.reader()))),
+        Some(Source::Input) => *input = Watched::new(UntilEnd::new(OpenInput::Standard(
+            rt.reader(),
+        ))),
         Some(Source::File(name)) => {
             let file = fs::open(rt, name.as_str())?;
-            *input = Watched::new(UntilEnd::new(Opened::File(file)));
+            *input = Watched::new(UntilEnd::new(OpenInput::File(file)));
         }
     }
     Ok(())

@@ -13,7 +13,7 @@ const NOT_OPEN: i32 = 9;
 /// What replaces the standard streams that were closed, while the program runs. Opening a file takes the lowest free number, so
 /// otherwise an input would become standard input.
 #[derive(Drop)]
-pub struct Replaced<F> {
+pub struct Replacements<F> {
     input: Option<F>,
     output: Option<F>,
     error: Option<F>,
@@ -26,13 +26,13 @@ pub fn replace_closed<R: Files>(
     input: &impl AsFd,
     output: &impl AsFd,
     error: &impl AsFd,
-) -> Result<Replaced<R::File>> {
+) -> Result<Replacements<R::File>> {
     let mut to_write = OpenOptions::new();
     to_write.write(true);
     let mut to_read = OpenOptions::new();
     to_read.read(true);
     // In the order of their numbers, so that each takes its own.
-    Ok(Replaced {
+    Ok(Replacements {
         input: replace_if_closed(rt, input.as_fd(), &to_write)?,
         output: replace_if_closed(rt, output.as_fd(), &to_read)?,
         error: replace_if_closed(rt, error.as_fd(), &to_read)?,

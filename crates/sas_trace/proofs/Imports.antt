@@ -23,7 +23,7 @@ pub use Rattle.sas_lines.proofs.EndedLines.{text_of_both}
 pub use Rattle.sas_lines.specs.Lines.{text}
 pub use Rattle.sas_meaning.proofs.DerivedVariables.{derived_within}
 pub use Rattle.sas_meaning.specs.Layers.{IsLayered}
-pub use Rattle.sas_meaning.specs.declared.touched.Touched.{Touched}
+pub use Rattle.sas_meaning.specs.declared.changed_variables.ChangedVariables.{ChangedVariables}
 pub use Rattle.sas_output.proofs.InitialLines.{initial_texts, initial_all, initial_next}
 pub use Rattle.sas_output.proofs.Pushed.{pushes_then, pushes_lost}
 pub use Rattle.sas_output.proofs.Sent.{ends_counting_as}

@@ -1,5 +1,5 @@
 -- A list of variables that grows.
-use Rattle.sas_trace.proofs.Imports.{◌≡◌, ℕ, ◌+◌, ◌<◌, List, [], length, get_or, sym, ◌∙◌, ap, subst, inl, inr, arith, IsFalse, All, IsPermutation, cases_eq, false≢true, All-nil, All-contains, All-permutation, Contains-permutation, get_or_default, Fact, Parts, Touched, derived_within, ListsChanges, IsListedIfChanged, Grows, ListCoversChanges}
+use Rattle.sas_trace.proofs.Imports.{◌≡◌, ℕ, ◌+◌, ◌<◌, List, [], length, get_or, sym, ◌∙◌, ap, subst, inl, inr, arith, IsFalse, All, IsPermutation, cases_eq, false≢true, All-nil, All-contains, All-permutation, Contains-permutation, get_or_default, Fact, Parts, ChangedVariables, derived_within, ListsChanges, IsListedIfChanged, Grows, ListCoversChanges}
 
 module _ (n : ℕ) (xs ys zs : List ℕ) (first : Grows n xs ys) (second : Grows n ys zs) where
   pub grows_then : Grows n xs zs
@@ -31,7 +31,7 @@ covers_permuted s s' xs ys same covers = record {
 
 -- ---- what a step may have changed
 
-module _ (p : Parts) (s s' : List ℕ) (deleted : List Fact) (touched : Touched) (reports : ListsChanges p s s' deleted touched) where
+module _ (p : Parts) (s s' : List ℕ) (deleted : List Fact) (touched : ChangedVariables) (reports : ListsChanges p s s' deleted touched) where
   -- its derived variables have values in a state
   pub touched_exist : length s' ≡ length p.variables → (k d : ℕ) → k < length touched.vars.items → get_or touched.vars.items k d < length s'
   touched_exist fits k d lt = let within = derived_within p (get_or touched.vars.items k d) (reports.derived k d lt) in omega (arith, fits, within)

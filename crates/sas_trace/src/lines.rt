@@ -10,7 +10,7 @@ ghost use Rattle.sas_trace.specs.Trace.{step_line};
 use sas_core::{Fact, Grounded};
 use sas_flat::FlatTask;
 use sas_meaning::{Layered, State};
-use sas_output::{Indent, Numbered, Sink, Word, Words, value_name};
+use sas_output::{Indent, NumberedLine, Sink, Word, Words, value_name};
 use std::io::Write;
 
 /// Adds the line of a variable of the initial state.
@@ -49,7 +49,7 @@ pub fn push_step_line<W: Write>(
     ensures { Pushes W.contents sink.old sink.new
         (step_line task.now step operator ++ 10 ∷ []) }
 {
-    sink.push_numbered(Numbered {
+    sink.push_numbered(NumberedLine {
         word: b"step",
         first: step as u64,
         second: u64::from(operator),
@@ -70,7 +70,7 @@ pub fn push_change_line<W: Write>(
         ∷ unwrap_or (spec.value_name task.now.variables fact.var fact.value) [] ∷ [])
         ++ 10 ∷ []) }
 {
-    sink.push_numbered(Numbered {
+    sink.push_numbered(NumberedLine {
         word: b"change",
         first: u64::from(fact.var),
         second: u64::from(before),

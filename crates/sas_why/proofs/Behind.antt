@@ -1,8 +1,8 @@
 -- What is known of a run that was retraced up to a fault.
-use Rattle.sas_why.proofs.Imports.{◌≡◌, ℕ, ◌-◌, List, [], ◌∷◌, ◌++◌, length, take, Option, None, Some, refl, sym, ◌∙◌, ap, subst, inl, inr, arith, append-nil, take-append_seam, Parts, PlanParts, operator_at, IsState, IsLayered, IsSettled, Agree, Conflict, LeadsTo, ComesTo, IsFaultOf, leads_one_way, Line, Run, last_state, StepsSucceed, leads_to_last, Other, Retraced, IsOtherIfAny, Retraces, IsBehind, ReportsOnce, last_rests, AreCouldBeLines, AreFaultLines, IsWhy}
+use Rattle.sas_why.proofs.Imports.{◌≡◌, ℕ, ◌-◌, List, [], ◌∷◌, ◌++◌, length, take, Option, None, Some, refl, sym, ◌∙◌, ap, subst, inl, inr, arith, append-nil, take-append_seam, Parts, PlanParts, operator_at, IsState, IsLayered, IsSettled, Agree, Conflict, LeadsTo, ComesTo, IsFaultOf, leads_one_way, Line, Run, last_state, StepsSucceed, leads_to_last, OtherOperator, PlanHistory, IsOtherIfAny, Retraces, IsBehind, ReportsOnce, last_rests, AreCouldBeLines, AreFaultLines, IsWhy}
 use Rattle.sas_output.specs.declared.line.Line.TheVariants as line
 
-module _ (p : Parts) (plan : PlanParts) (noted : Retraced) (run : Run) (r : Retraces p plan noted run) where
+module _ (p : Parts) (plan : PlanParts) (noted : PlanHistory) (run : Run) (r : Retraces p plan noted run) where
   pub behind : IsBehind p noted run
   behind =
       let rests = last_rests p run r.through in
@@ -26,7 +26,7 @@ module _ (p : Parts) (plan : PlanParts) (noted : Retraced) (run : Run) (r : Retr
   -- ---- why
 
   pub is_why : (lines : List Line) → ReportsOnce lines (AreFaultLines p plan run noted.fault) → (new : List Line)
-      → ((other : Other) → noted.other ≡ Some other → new ≡ lines ++ line.CouldBe other.step other.operator ∷ [])
+      → ((other : OtherOperator) → noted.other ≡ Some other → new ≡ lines ++ line.CouldBe other.step other.operator ∷ [])
       → (noted.other ≡ None → new ≡ lines)
       → IsWhy p plan noted.fault new
   is_why lines reported new some none = at noted.other refl
@@ -43,7 +43,7 @@ module _ (p : Parts) (plan : PlanParts) (noted : Retraced) (run : Run) (r : Retr
         whole = is ∙ ap (λ (l : List Line). l ++ others) reported.2;
       }
 
-      at : (other : Option Other) → noted.other ≡ other → IsWhy p plan noted.fault new
+      at : (other : Option OtherOperator) → noted.other ≡ other → IsWhy p plan noted.fault new
       at None e = why [] (inr (subst (IsOtherIfAny p run) e r.other, refl)) (none e ∙ sym (append-nil lines))
       at (Some other) e = why (line.CouldBe other.step other.operator ∷ [])
           (inl (other.step, other.operator, subst (IsOtherIfAny p run) e r.other, refl)) (some other e)
@@ -66,5 +66,5 @@ pub conflict_clashes : (p : Parts) (plan : PlanParts) (run : Run) (step operator
 conflict_clashes p plan run step operator layered through is f agree =
     f.4 (subst (λ s. Agree s (operator_at p operator).effects) (sym (comes_to_last p plan run step f.0 f.1 layered through is f.2)) agree)
 
-pub some_not_none : (a : Other) → Some a ≡ None → ⊥
+pub some_not_none : (a : OtherOperator) → Some a ≡ None → ⊥
 some_not_none a e = cc

@@ -1,7 +1,7 @@
 -- What functions report, one behind the other.
 use Rattle.std.proofs.Common.{arith}
 use Rattle.std.proofs.lemmas.Grind.{common_steps}
-use Rattle.sas_why.proofs.Imports.{◌≡◌, ℕ, zero, suc, ◌+◌, ◌<◌, true, false, List, [], ◌∷◌, ◌++◌, length, get_or, set, map, take, refl, sym, ◌∙◌, ap, subst, append_assoc, Vec, Global, if◌then◌else◌, flat_map, slice_index, AllByRecursion, append-nil, map-append, take_more, flat_map-cons, flat_map-append, Fact, Parts, needs_rules, Line, with_lines, LineThen, Origins, Retraced, Report, AreOrigins, ReportsDerivation, IsBehind, lines_of_keepers, is_kept, IsReportOf, AddsLines, LinesOfEach, Run, last_state, IsDerivation, is_given, since_line, AreDerivationLines, can_be_given, keeping_lines, missing_lines, IsCause}
+use Rattle.sas_why.proofs.Imports.{◌≡◌, ℕ, zero, suc, ◌+◌, ◌<◌, true, false, List, [], ◌∷◌, ◌++◌, length, get_or, set, map, take, refl, sym, ◌∙◌, ap, subst, append_assoc, Vec, Global, if◌then◌else◌, flat_map, slice_index, AllByRecursion, append-nil, map-append, take_more, flat_map-cons, flat_map-append, Fact, Parts, needs_rules, Line, with_lines, LineThen, Origins, PlanHistory, Report, AreOrigins, ReportsDerivation, IsBehind, lines_of_keepers, is_kept, IsReportOf, AddsLines, LinesOfEach, Run, last_state, IsDerivation, is_given, since_line, AreDerivationLines, can_be_given, keeping_lines, missing_lines, IsCause}
 use Rattle.sas_output.specs.declared.line.Line.TheVariants as line
 use Rattle.sas_why.proofs.Once.{IsPlain, lines_append, plain_lines}
 use Rattle.sas_why.proofs.Adding.{plain_added, derivation_once, derivation_added, keepers_again, keepers_once, keepers_added}
@@ -10,7 +10,7 @@ use Rattle.sas_why.proofs.Adding.{plain_added, derivation_once, derivation_added
 abbrev pub actual_fact : List ℕ → ℕ → Fact
 actual_fact s var = record { var = var; value = slice_index s var }
 
-module _ (p : Parts) (noted : Retraced) where
+module _ (p : Parts) (noted : PlanHistory) where
   -- ---- lines of no rule
 
   plain_then : (report : Report) (new more rest : List Line) → AllByRecursion IsPlain more → new ≡ report.lines ++ more
@@ -129,7 +129,7 @@ each_more : {A : Type 0} (Are : A → List Line → Type 0) (items : List A) (it
 each_more Are [] item lines its none decides = (its, [], decides, refl, ap (λ (l : List Line). l ++ its) none ∙ sym (append-nil its))
 each_more Are (first ∷ items) item lines its each decides = grind (arith, common_steps, each_more Are items item each.1 its each.3 decides, append_assoc)
 
-module _ (p : Parts) (noted : Retraced) {A : Type 0} (Are : Run → A → List Line → Type 0) where
+module _ (p : Parts) (noted : PlanHistory) {A : Type 0} (Are : Run → A → List Line → Type 0) where
   pub none_yet : (report : Report) → AddsLines p noted report report (λ run. LinesOfEach (Are run) [])
   none_yet report run behind is = ([], refl, refl, is)
 

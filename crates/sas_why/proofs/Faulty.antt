@@ -1,7 +1,7 @@
 -- What is reported of each fault.
 use Rattle.std.proofs.Common.{arith}
 use Rattle.std.proofs.lemmas.Grind.{common_steps}
-use Rattle.sas_why.proofs.Imports.{◌≡◌, ℕ, ◌+◌, ◌<◌, Bool, true, false, not, List, [], ◌∷◌, ◌++◌, length, get_or, Option, ◌∙◌, ap, if◌then◌else◌, filter, slice_index, option_map_or, ne_eqb, eq-eqb, append-nil, filter-append, Fact, Parts, places_to, places_one_more, Line, LinesOfEach, Run, last_state, fails, similar_operator, similar_name_lines, Retraced, Report, IsBehind, IsReport, AddsLines, ReportsOnce}
+use Rattle.sas_why.proofs.Imports.{◌≡◌, ℕ, ◌+◌, ◌<◌, Bool, true, false, not, List, [], ◌∷◌, ◌++◌, length, get_or, Option, ◌∙◌, ap, if◌then◌else◌, filter, slice_index, option_map_or, ne_eqb, eq-eqb, append-nil, filter-append, Fact, Parts, places_to, places_one_more, Line, LinesOfEach, Run, last_state, fails, similar_operator, similar_name_lines, PlanHistory, Report, IsBehind, IsReport, AddsLines, ReportsOnce}
 use Rattle.sas_output.specs.declared.line.Line.TheVariants as line
 
 -- ---- no operator of the name
@@ -35,7 +35,7 @@ module _ {A : Type 0} (test : A → Bool) (k : ℕ) (items : List A) (d : A) (lt
 
 -- ---- what is reported of the last state
 
-module _ (p : Parts) (noted : Retraced) where
+module _ (p : Parts) (noted : PlanHistory) where
   pub at_last : {A : Type 0} (Are : Run → A → List Line → Type 0) (items_of : List ℕ → List A) (old new : Report)
       → AddsLines p noted old new (λ run. LinesOfEach (Are run) (items_of noted.last)) → AddsLines p noted old new (λ run. LinesOfEach (Are run) (items_of (last_state run)))
   at_last Are items_of old new adds run behind is = grind (arith, common_steps)

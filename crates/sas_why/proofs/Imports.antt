@@ -30,7 +30,7 @@ pub use Rattle.sas_axioms.proofs.RuleChanges.{same_option}
 pub use Rattle.sas_axioms.proofs.RulesOf.{of_variable, can_of}
 pub use Rattle.sas_axioms.specs.Conditions.{IsFullIndex, IsOfRule, waiting_at, asking, occurrences, released}
 pub use Rattle.sas_axioms.specs.LayerRules.{IsRuleOn}
-pub use Rattle.sas_axioms.specs.declared.conditions.Waiting.{Waiting}
+pub use Rattle.sas_axioms.specs.declared.conditions.RuleCondition.{RuleCondition}
 pub use Rattle.sas_core.proofs.Places.{holds_at}
 pub use Rattle.sas_core.specs.Changes.{change_of}
 pub use Rattle.sas_core.specs.Grounded.{rule_at, operator_at, effect_at}
@@ -53,8 +53,8 @@ pub use Rattle.sas_meaning.specs.Places.{places, can_give}
 pub use Rattle.sas_meaning.specs.Settled.{IsSettled, new_value_of, differs, IsClosed}
 pub use Rattle.sas_meaning.specs.States.{AllHold}
 pub use Rattle.sas_meaning.specs.Steps.{Agree, preconditions}
-pub use Rattle.sas_meaning.specs.Touched.{MayHaveChanged}
-pub use Rattle.sas_meaning.specs.declared.touched.Touched.{Touched}
+pub use Rattle.sas_meaning.specs.ChangedVariables.{MayHaveChanged}
+pub use Rattle.sas_meaning.specs.declared.changed_variables.ChangedVariables.{ChangedVariables}
 pub use Rattle.sas_output.proofs.RuleLines.{same_is}
 pub use Rattle.sas_output.proofs.Sent.{writes_as}
 pub use Rattle.sas_output.specs.Ending.{output_of, Output}
@@ -94,14 +94,14 @@ pub use Rattle.sas_why.specs.Noting.{HavePlaces, NotedAt, LeftAt, NotesSome, Not
 pub use Rattle.sas_why.specs.Origins.{needs_rules, is_reported, AreOrigins, ReportsDerivation, nowhere, place_cmp, place_at, ArePlaces, AreInOrder, AddsDerivation, OriginsMatchState, HasRule, HasRuleBelow, IsReportedOf, AreReportedBelow, SameOrigins, unreported, AddsRules}
 pub use Rattle.sas_why.specs.Report.{lines_of_keepers, is_kept, IsReport, IsBehind, ReportsOnce, IsReportOf, AddsLines}
 pub use Rattle.sas_why.specs.Retracing.{IsOtherIfAny, Retraces, first_steps, HaveSince, AreNotes}
-pub use Rattle.sas_why.specs.Rounds.{origin_at, origin_now, origin_with_rule, unreached, HaveOrigins, IsReached, OriginsUpToRound, value_in_round, HasOrigin, IsOrigin, HavePassed, ReachesNow, InRound, ContinuesRound, AreAllRules, AreBefore, IsFirstOpen, HasLower, waiting_rules, requiring_at, AreAwaited, added, Reaches, HoldFrom}
+pub use Rattle.sas_why.specs.OriginRounds.{origin_at, origin_now, origin_with_rule, unreached, HaveOrigins, IsReached, OriginsUpToRound, value_in_round, HasOrigin, IsOrigin, HavePassed, ReachesNow, InRound, ContinuesRound, AreAllRules, AreBefore, IsFirstOpen, HasLower, waiting_rules, requiring_at, AreAwaited, added, Reaches, HoldFrom}
 pub use Rattle.sas_why.specs.Verdict.{WhyVerdict}
 pub use Rattle.sas_why.specs.declared.changes.Changes.{Changes}
 pub use Rattle.sas_why.specs.declared.origins.Origins.{Origins}
-pub use Rattle.sas_why.specs.declared.origins.Place.{Place}
+pub use Rattle.sas_why.specs.declared.origins.DerivationPlace.{DerivationPlace}
 pub use Rattle.sas_why.specs.declared.report.Report.{Report}
-pub use Rattle.sas_why.specs.declared.retraced.Other.{Other}
-pub use Rattle.sas_why.specs.declared.retraced.Retraced.{Retraced}
-pub use Rattle.sas_why.specs.declared.rounds.Origin.{Origin}
-pub use Rattle.sas_why.specs.declared.rounds.Rounds.{Rounds}
-pub use Rattle.sas_why.specs.declared.second_pass.Notes.{Notes}
+pub use Rattle.sas_why.specs.declared.plan_history.OtherOperator.{OtherOperator}
+pub use Rattle.sas_why.specs.declared.plan_history.PlanHistory.{PlanHistory}
+pub use Rattle.sas_why.specs.declared.origin_rounds.Origin.{Origin}
+pub use Rattle.sas_why.specs.declared.origin_rounds.OriginRounds.{OriginRounds}
+pub use Rattle.sas_why.specs.declared.second_pass.RunNotes.{RunNotes}

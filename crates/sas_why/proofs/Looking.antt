@@ -1,6 +1,6 @@
 -- It is enough to look at the variables that a step may have changed.
 use Rattle.std.proofs.lemmas.Grind.{common_steps}
-use Rattle.sas_why.proofs.Imports.{◌≡◌, ◌≢◌, ◌⊎◌, ℕ, ◌+◌, ◌<◌, true, false, IsFalse, List, length, get_or, sym, ◌∙◌, ap, subst, inl, inr, arith, All, Contains, cases_eq, get_or_default, cases_Bool, All-contains, Fact, Parts, IsDerived, IsState, Touched, MayHaveChanged, AreDerived, derived_within, ListsChanges, Changes, HavePlaces, NotedAt, LeftAt, NotesSome, NotesChanges, looked_at, CoverChanges}
+use Rattle.sas_why.proofs.Imports.{◌≡◌, ◌≢◌, ◌⊎◌, ℕ, ◌+◌, ◌<◌, true, false, IsFalse, List, length, get_or, sym, ◌∙◌, ap, subst, inl, inr, arith, All, Contains, cases_eq, get_or_default, cases_Bool, All-contains, Fact, Parts, IsDerived, IsState, ChangedVariables, MayHaveChanged, AreDerived, derived_within, ListsChanges, Changes, HavePlaces, NotedAt, LeftAt, NotesSome, NotesChanges, looked_at, CoverChanges}
 
 -- ---- noting twice
 
@@ -76,7 +76,7 @@ all_noted step s old mid new deleted touched cover first of_deleted second of_to
 
 -- ---- what a step may have changed
 
-module _ (p : Parts) (s s' : List ℕ) (deleted : List Fact) (touched : Touched) (derived : List ℕ) (state : IsState p.variables s')
+module _ (p : Parts) (s s' : List ℕ) (deleted : List Fact) (touched : ChangedVariables) (derived : List ℕ) (state : IsState p.variables s')
     (decides : ListsChanges p s s' deleted touched) (are : AreDerived p derived) where
   within : (vars : List ℕ) → All (IsDerived p.variables) vars → All (λ (var : ℕ). var < length s') vars
   within vars only k d lt = (let one = state.one_each in let in_task = derived_within p (get_or vars k d) (only k d lt) in omega (arith, one, in_task))

@@ -1,6 +1,6 @@
 -- What is noted of a run, step by step.
 use Rattle.std.proofs.lemmas.Grind.{common_steps}
-use Rattle.sas_why.proofs.Imports.{◌≡◌, ℕ, ◌+◌, ◌<◌, List, length, get_or, Option, Some, None, sym, ◌∙◌, ap, subst, inl, inr, arith, cases_eq, same_lists, get_or_default, Parts, operator_at, PlanParts, Executed, next_name, next_operator, Executes, IsLaterIfAny, Run, state_at, last_state, StepsSucceed, RunEndsWith, as_many, executed_fits, name_is, IsSince, MayMean, Changes, Other, Retraced, Notes, HavePlaces, AreFirstChanges, NotesChanges, AddsOther, NotesStep, IsOtherIfAny, HaveSince, Retraces, first_steps, AreNotes}
+use Rattle.sas_why.proofs.Imports.{◌≡◌, ℕ, ◌+◌, ◌<◌, List, length, get_or, Option, Some, None, sym, ◌∙◌, ap, subst, inl, inr, arith, cases_eq, same_lists, get_or_default, Parts, operator_at, PlanParts, Executed, next_name, next_operator, Executes, IsLaterIfAny, Run, state_at, last_state, StepsSucceed, RunEndsWith, as_many, executed_fits, name_is, IsSince, MayMean, Changes, OtherOperator, PlanHistory, RunNotes, HavePlaces, AreFirstChanges, NotesChanges, AddsOther, NotesStep, IsOtherIfAny, HaveSince, Retraces, first_steps, AreNotes}
 use Rattle.sas_why.proofs.LongerRuns.{first_many, first_goes, first_last, first_more, first_all, none_since, one_more, since_changed, since_unchanged, may_mean_longer, still_none, may_mean_now}
 
 -- before the first step
@@ -9,7 +9,7 @@ pub notes_start : (run : Run) (e : Executed) (changes : Changes) → Executes ru
 notes_start run e changes executes made first = grind (arith, common_steps, executed_fits, none_since, first_goes, first_many)
 
 -- there is a place for each variable
-pub places : (run : Run) (e : Executed) (notes : Notes) → AreNotes run e notes → HavePlaces (length e.task.variables) notes.changes
+pub places : (run : Run) (e : Executed) (notes : RunNotes) → AreNotes run e notes → HavePlaces (length e.task.variables) notes.changes
 places run e notes are = grind (arith, common_steps, executed_fits)
 
 -- ---- one step more
@@ -47,7 +47,7 @@ module _ (e : Executed) (run : Run) (through : StepsSucceed e.task run) (next : 
   abbrev longer : Run
   longer = one_more run (next_name e) (next_operator e) next
 
-  other_longer : (noted noted' : Option Other) → IsOtherIfAny e.task run noted → AddsOther e noted noted' → IsOtherIfAny e.task longer noted'
+  other_longer : (noted noted' : Option OtherOperator) → IsOtherIfAny e.task run noted → AddsOther e noted noted' → IsOtherIfAny e.task longer noted'
   other_longer (Some other) noted' may adds =
       subst (IsOtherIfAny e.task longer) (sym adds) (may_mean_longer e.task run through (next_name e) (next_operator e) next other.step other.operator may)
   other_longer None None none adds =
@@ -58,8 +58,8 @@ module _ (e : Executed) (run : Run) (through : StepsSucceed e.task run) (next : 
       subst (λ k. MayMean e.task longer k other.operator) (sym (adds.0 ∙ ap (λ k. k + 1) made))
       (may_mean_now e.task run through (next_name e) (next_operator e) next named none other.operator later.0 later.1)
 
-module _ (run : Run) (e : Executed) (notes : Notes) (are : AreNotes run e notes) (left : e.made < length e.operators)
-    (e' : Executed) (notes' : Notes) (step : NotesStep e notes e' notes') (along : Executes run e') where
+module _ (run : Run) (e : Executed) (notes : RunNotes) (are : AreNotes run e notes) (left : e.made < length e.operators)
+    (e' : Executed) (notes' : RunNotes) (step : NotesStep e notes e' notes') (along : Executes run e') where
   through : StepsSucceed e.task run
   through = are.executes.of_plan.through
 
@@ -101,7 +101,7 @@ module _ (run : Run) (e : Executed) (notes : Notes) (are : AreNotes run e notes)
 -- ---- in the end
 
 -- what was noted of all steps, up to the fault
-pub retraced : (p : Parts) (plan : PlanParts) (run : Run) (e : Executed) (notes : Notes) (noted : Retraced) → e.task ≡ p → e.made ≡ length e.operators → AreNotes run e notes
+pub retraced : (p : Parts) (plan : PlanParts) (run : Run) (e : Executed) (notes : RunNotes) (noted : PlanHistory) → e.task ≡ p → e.made ≡ length e.operators → AreNotes run e notes
     → RunEndsWith p plan run (Some noted.fault) → noted.operators.items ≡ e.operators → noted.last ≡ e.state → noted.since.items ≡ notes.changes.since.items → noted.other ≡ notes.other
     → Retraces p plan noted run
 retraced p plan run e notes noted task all are ends operators last since other = record {

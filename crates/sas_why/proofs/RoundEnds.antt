@@ -1,6 +1,6 @@
 -- How a round ends, how the first one begins, and what is known when no rule is left to look at.
 use Rattle.std.proofs.lemmas.Grind.{common_steps}
-use Rattle.sas_why.proofs.Imports.{All, IsFalse, ◌≡◌, ℕ, suc, ◌+◌, ◌<◌, ◌≤◌, true, false, List, [], length, get_or, None, Some, refl, sym, ◌∙◌, ap, subst, inl, inr, arith, Contains, cases_lt, cases_Bool, false≢true, and_parts, get_or-replicate, length-replicate, get_or_default, get_or_past, All-nil, All-contains, Parts, rule_at, IsRuleOn, IsOnLayer, IsLayered, IsSettled, IsClosed, Origin, Rounds, requiring_at, origin_at, IsOrigin, HasOrigin, HaveOrigins, IsReached, OriginsUpToRound, HavePassed, ReachesNow, InRound, unreached, ContinuesRound, AreAllRules, AreBefore, differs, layer_cases, contains_none, reached, HasLayerAndRank, FiresNext, is_given, Fires, ReachedBy, reached_by}
+use Rattle.sas_why.proofs.Imports.{All, IsFalse, ◌≡◌, ℕ, suc, ◌+◌, ◌<◌, ◌≤◌, true, false, List, [], length, get_or, None, Some, refl, sym, ◌∙◌, ap, subst, inl, inr, arith, Contains, cases_lt, cases_Bool, false≢true, and_parts, get_or-replicate, length-replicate, get_or_default, get_or_past, All-nil, All-contains, Parts, rule_at, IsRuleOn, IsOnLayer, IsLayered, IsSettled, IsClosed, Origin, OriginRounds, requiring_at, origin_at, IsOrigin, HasOrigin, HaveOrigins, IsReached, OriginsUpToRound, HavePassed, ReachesNow, InRound, unreached, ContinuesRound, AreAllRules, AreBefore, differs, layer_cases, contains_none, reached, HasLayerAndRank, FiresNext, is_given, Fires, ReachedBy, reached_by}
 use Rattle.sas_why.proofs.Reaching.{reached_up, reached_in, holds_on, Begins, all_or_begins}
 use Rattle.sas_why.proofs.Requiring.{requires_it}
 use Rattle.sas_why.proofs.Origined.{unreached_none}
@@ -16,7 +16,7 @@ pub record AreDue (p : Parts) (s : List ℕ) (over : ℕ) (rules : List ℕ) : T
       → IsFalse (reached p layer s over var) → Contains rules rule
 
 module _ (p : Parts) (s : List ℕ) (layered : IsLayered p) (settled : IsSettled p s) where
-  module _ (r : Rounds) (rules : List ℕ) (inside : InRound p s r rules) (due : AreDue p s r.over rules) where
+  module _ (r : OriginRounds) (rules : List ℕ) (inside : InRound p s r rules) (due : AreDue p s r.over rules) where
     -- what the round reached has its rank and its rule
     reached_now : (v : ℕ) (o : Origin) → origin_at r.origins.items v ≡ Some o → ReachesNow p s r.over v o → IsOrigin p s v o
     reached_now v o at now = record {
@@ -107,7 +107,7 @@ module _ (p : Parts) (s : List ℕ) (layered : IsLayered p) (settled : IsSettled
             ]
 
     -- so the next round begins
-    pub next_round : (r' : Rounds) → r'.over ≡ r.over + 1 → r'.origins.items ≡ r.origins.items → r'.passed.items ≡ r.passed.items → r'.requiring ≡ r.requiring
+    pub next_round : (r' : OriginRounds) → r'.over ≡ r.over + 1 → r'.origins.items ≡ r.origins.items → r'.passed.items ≡ r.passed.items → r'.requiring ≡ r.requiring
         → r'.next.items ≡ [] → r.over ≤ length p.variables → InRound p s r' []
     next_round r' over origins passed requiring next few = record {
       at = record {
@@ -133,7 +133,7 @@ module _ (p : Parts) (s : List ℕ) (layered : IsLayered p) (settled : IsSettled
 
   -- ---- no rule is left
 
-  module _ (r : Rounds) (inside : InRound p s r []) (due : AreDue p s r.over []) where
+  module _ (r : OriginRounds) (inside : InRound p s r []) (due : AreDue p s r.over []) where
     closed : (layer : ℕ) → IsClosed p layer s (reached p layer s r.over)
     closed layer k d lt on can hold = elim (cases_Bool (reached p layer s r.over (get_or p.rules k d).var)) [
       | inl y ↦ y
@@ -162,7 +162,7 @@ module _ (p : Parts) (s : List ℕ) (layered : IsLayered p) (settled : IsSettled
         whole v given = grind (arith, common_steps, and_parts, layer_cases, false≢true, at)
 
 -- a round begins that looks at these rules; each round that isn't the last one reaches a variable
-pub record RoundBegins (p : Parts) (s : List ℕ) (r : Rounds) (rules : List ℕ) : Type 0 where
+pub record RoundBegins (p : Parts) (s : List ℕ) (r : OriginRounds) (rules : List ℕ) : Type 0 where
   pub round : InRound p s r []
   pub none : r.next.items ≡ []
   pub due : AreDue p s r.over rules
@@ -171,14 +171,14 @@ pub record RoundBegins (p : Parts) (s : List ℕ) (r : Rounds) (rules : List ℕ
 
 -- ---- the first round
 
-first_round : (p : Parts) (s : List ℕ) (r : Rounds) → AreBefore p r → InRound p s r []
+first_round : (p : Parts) (s : List ℕ) (r : OriginRounds) → AreBefore p r → InRound p s r []
 first_round p s r before = grind (arith, common_steps, length-replicate, false≢true, contains_none, All-nil, cases_lt, get_or-replicate, get_or_past)
 
-first_unreached : (p : Parts) (r : Rounds) → AreBefore p r → unreached r.origins.items ≡ length p.variables
+first_unreached : (p : Parts) (r : OriginRounds) → AreBefore p r → unreached r.origins.items ≡ length p.variables
 first_unreached p r before = unreached_none (length p.variables) r.origins.items (ap length before.origins ∙ length-replicate (length p.variables) None)
     (λ v lt. ap (λ os. origin_at os v) before.origins ∙ get_or-replicate (length p.variables) v None None lt)
 
-pub first_begins : (p : Parts) (s : List ℕ) (r : Rounds) (rules : List ℕ) → AreBefore p r → AreAllRules p rules → RoundBegins p s r rules
+pub first_begins : (p : Parts) (s : List ℕ) (r : OriginRounds) (rules : List ℕ) → AreBefore p r → AreAllRules p rules → RoundBegins p s r rules
 first_begins p s r rules before all =
     let over = before.over in
     let unreached_all = first_unreached p r before in
@@ -192,7 +192,7 @@ first_begins p s r rules before all =
 
 -- ---- one round after another
 
-pub next_begins : (p : Parts) (s : List ℕ) → IsLayered p → IsSettled p s → (r r' n : Rounds) (rules next : List ℕ) → RoundBegins p s r rules → InRound p s r' rules
+pub next_begins : (p : Parts) (s : List ℕ) → IsLayered p → IsSettled p s → (r r' n : OriginRounds) (rules next : List ℕ) → RoundBegins p s r rules → InRound p s r' rules
     → ContinuesRound r r' → 0 < length rules → next ≡ r'.next.items → n.over ≡ r'.over + 1 → n.origins.items ≡ r'.origins.items → n.passed.items ≡ r'.passed.items
     → n.requiring ≡ r'.requiring → n.next.items ≡ [] → RoundBegins p s n next
 next_begins p s layered settled r r' n rules next begun inside goes some is over origins passed requiring empty =

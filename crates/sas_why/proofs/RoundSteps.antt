@@ -1,6 +1,6 @@
 -- How a round goes on when a rule is looked at, and how it ends.
 use Rattle.std.proofs.lemmas.Grind.{common_steps}
-use Rattle.sas_why.proofs.Imports.{◌≡◌, ◌≢◌, ℕ, suc, ◌<◌, ◌≤◌, ◌⊎◌, true, false, List, [], ◌∷◌, ◌++◌, length, get_or, set, Option, None, Some, refl, sym, ◌∙◌, ap, subst, inl, inr, arith, All, Contains, cases_eq, cases_lt, same_Some, cases_Bool, get_or-set_same, get_or-set_other, length-set, append-nil, All-nil, All-append, All-weaker, Contains-push_cases, Contains-append_left, Contains-append_right, Origin, Rounds, Waiting, requiring_at, origin_at, OriginsUpToRound, IsFirstOpen, HavePassed, ReachesNow, HasLower, AreAwaited, InRound, unreached, ContinuesRound, origin_now, origin_with_rule, added, Reaches, value_in_round, Contains-get_or, Change, Fact, Parts, change_of, rule_at, IsOnLayer, default_of, CanFire, one_layer, reached, FiresNext, Fires, fires_decides, reach}
+use Rattle.sas_why.proofs.Imports.{◌≡◌, ◌≢◌, ℕ, suc, ◌<◌, ◌≤◌, ◌⊎◌, true, false, List, [], ◌∷◌, ◌++◌, length, get_or, set, Option, None, Some, refl, sym, ◌∙◌, ap, subst, inl, inr, arith, All, Contains, cases_eq, cases_lt, same_Some, cases_Bool, get_or-set_same, get_or-set_other, length-set, append-nil, All-nil, All-append, All-weaker, Contains-push_cases, Contains-append_left, Contains-append_right, Origin, OriginRounds, RuleCondition, requiring_at, origin_at, OriginsUpToRound, IsFirstOpen, HavePassed, ReachesNow, HasLower, AreAwaited, InRound, unreached, ContinuesRound, origin_now, origin_with_rule, added, Reaches, value_in_round, Contains-get_or, Change, Fact, Parts, change_of, rule_at, IsOnLayer, default_of, CanFire, one_layer, reached, FiresNext, Fires, fires_decides, reach}
 use Rattle.sas_why.proofs.Requiring.{requiring_exist}
 use Rattle.sas_why.proofs.Origined.{NotEarlier, with_rule_cases, unreached_fewer, unreached_same}
 
@@ -23,7 +23,7 @@ same_at o a b x y = same_Some a b (sym x ∙ y)
 
 -- ---- a rule that doesn't fire
 
-pub looked_none : (p : Parts) (s : List ℕ) (r : Rounds) (rules : List ℕ) (rule : ℕ)
+pub looked_none : (p : Parts) (s : List ℕ) (r : OriginRounds) (rules : List ℕ) (rule : ℕ)
     → ((layer var : ℕ) → IsOnLayer p layer var → FiresNext p s var layer r.over rule → ⊥)
     → InRound p s r rules → InRound p s r (rules ++ rule ∷ [])
 looked_none p s r rules rule none inside = record {
@@ -59,7 +59,7 @@ module _ (p : Parts) (s : List ℕ) (layer rule place over : ℕ) (passed : List
           → value_in_round p m s over (get_or (rule_at p k).conditions j d).var ≡ (get_or (rule_at p k).conditions j d).value
       at m k e on' can j d from to = grind (arith, common_steps, cases_lt, one_layer, here)
 
-pub passed_round : (p : Parts) (s : List ℕ) (r r' : Rounds) (rules : List ℕ) → r'.over ≡ r.over → r'.origins.items ≡ r.origins.items → r'.requiring ≡ r.requiring
+pub passed_round : (p : Parts) (s : List ℕ) (r r' : OriginRounds) (rules : List ℕ) → r'.over ≡ r.over → r'.origins.items ≡ r.origins.items → r'.requiring ≡ r.requiring
     → r'.next.items ≡ r.next.items → HavePassed p s r.over r'.passed.items → InRound p s r rules → InRound p s r' rules
 passed_round p s r r' rules over origins requiring next passed inside = record {
   at = grind (arith, common_steps);
@@ -126,7 +126,7 @@ module _ (p : Parts) (s : List ℕ) (over var rule layer : ℕ) (origins : List 
   set_itself : HasLower over after var rule
   set_itself = grind (arith, common_steps, with_rule_cases, at_var)
 
-  module _ (requiring : List (List Waiting)) (next : List ℕ) where
+  module _ (requiring : List (List RuleCondition)) (next : List ℕ) where
     abbrev next_after : List ℕ
     next_after = next ++ added its (requiring_at requiring var)
 
@@ -156,7 +156,7 @@ module _ (p : Parts) (s : List ℕ) (over var rule layer : ℕ) (origins : List 
         of (Some o) = All-nil (λ k. k < n)
 
 -- the variable of a rule that fires is reached
-pub reach_round : (p : Parts) (s : List ℕ) (r r' : Rounds) (rules : List ℕ) (layer var rule : ℕ) → var < length r.origins.items → IsOnLayer p layer var
+pub reach_round : (p : Parts) (s : List ℕ) (r r' : OriginRounds) (rules : List ℕ) (layer var rule : ℕ) → var < length r.origins.items → IsOnLayer p layer var
     → FiresNext p s var layer r.over rule → Reaches var rule r r' → InRound p s r rules → InRound p s r' (rules ++ rule ∷ [])
 reach_round p s r r' rules layer var rule lt on fires now inside = record {
   at = record {
@@ -183,7 +183,7 @@ reach_round p s r r' rules layer var rule lt on fires now inside = record {
     ]
 
 -- and there is something to look at next only where it was reached for the first time
-pub reach_goes_on : (var rule : ℕ) (r r' : Rounds) → var < length r.origins.items → Reaches var rule r r' → ContinuesRound r r'
+pub reach_goes_on : (var rule : ℕ) (r r' : OriginRounds) → var < length r.origins.items → Reaches var rule r r' → ContinuesRound r r'
 reach_goes_on var rule r r' lt now = at (origin_at r.origins.items var) refl
   where
     at : (old : Option Origin) → origin_at r.origins.items var ≡ old → ContinuesRound r r'
@@ -206,10 +206,10 @@ reach_goes_on var rule r r' lt now = at (origin_at r.origins.items var) refl
         ]
 
 -- the conditions that are known to hold count for nothing there
-pub goes_as : (a b c : Rounds) → b.over ≡ a.over → b.origins.items ≡ a.origins.items → b.next.items ≡ a.next.items → ContinuesRound b c → ContinuesRound a c
+pub goes_as : (a b c : OriginRounds) → b.over ≡ a.over → b.origins.items ≡ a.origins.items → b.next.items ≡ a.next.items → ContinuesRound b c → ContinuesRound a c
 goes_as a b c over origins next goes = grind (arith, common_steps, more)
 
-pub goes_on_more : (a b c : Rounds) → ContinuesRound a b → ContinuesRound b c → ContinuesRound a c
+pub goes_on_more : (a b c : OriginRounds) → ContinuesRound a b → ContinuesRound b c → ContinuesRound a c
 goes_on_more a b c x y = grind (arith, common_steps, more, cases_lt)
 
 -- ---- which rules fire

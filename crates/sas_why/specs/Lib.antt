@@ -3,6 +3,6 @@ pub mod Retracing
 pub mod Noting
 pub mod Conflicts
 pub mod Report
-pub mod Rounds
+pub mod OriginRounds
 pub mod Verdict
 pub mod Explained

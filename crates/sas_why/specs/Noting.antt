@@ -1,13 +1,13 @@
 -- What is noted of each step of a plan.
 use Rattle.std.specs.Prelude.{◌≡◌, ◌≢◌, ◌⊎◌, ℕ, ◌+◌, ◌<◌, if◌then◌else◌, List, length, All, Contains, slice_index, Option, Some, None}
 use Rattle.sas_core.specs.declared.parts.Fact.{Fact}
-use Rattle.sas_meaning.specs.declared.touched.Touched.{Touched}
+use Rattle.sas_meaning.specs.declared.changed_variables.ChangedVariables.{ChangedVariables}
 use Rattle.sas_run.specs.Running.{IsLaterIfAny}
 use Rattle.sas_run.specs.Executions.{Executed, next_operator, Advances}
 use Rattle.sas_run.specs.Stepping.{HasFactOn}
 use Rattle.sas_why.specs.declared.changes.Changes.{Changes}
-use Rattle.sas_why.specs.declared.retraced.Other.{Other}
-use Rattle.sas_why.specs.declared.second_pass.Notes.{Notes}
+use Rattle.sas_why.specs.declared.plan_history.OtherOperator.{OtherOperator}
+use Rattle.sas_why.specs.declared.second_pass.RunNotes.{RunNotes}
 
 -- ---- since when variables have their values
 
@@ -49,7 +49,7 @@ pub record NotesChanges (step : ℕ) (s : List ℕ) (old new : Changes) : Type 0
 -- ---- which variables a step may have changed
 
 -- where any derived variable may have changed, all of them; else those on the list
-abbrev pub looked_at : List ℕ → Touched → List ℕ
+abbrev pub looked_at : List ℕ → ChangedVariables → List ℕ
 looked_at derived touched = if touched.any then derived else touched.vars.items
 
 -- these facts and variables exist, and each variable whose value in the state s isn't the one
@@ -64,7 +64,7 @@ pub record CoverChanges (before s : List ℕ) (deleted : List Fact) (touched : L
 
 -- what is noted with the next step: what was noted before, or else the lowest operator above its
 -- own that it may mean, too, if there is one
-abbrev pub AddsOther : Executed → Option Other → Option Other → Type 0
+abbrev pub AddsOther : Executed → Option OtherOperator → Option OtherOperator → Type 0
 AddsOther e (Some other) noted = noted ≡ Some other
 AddsOther e None None = IsLaterIfAny e.task e.state (next_operator e) None
 AddsOther e None (Some other) = (other.step ≡ e.made + 1)
@@ -73,7 +73,7 @@ AddsOther e None (Some other) = (other.step ≡ e.made + 1)
 -- ---- both
 
 -- the next step was made, and noted
-pub record NotesStep (old : Executed) (notes : Notes) (new : Executed) (notes' : Notes)
+pub record NotesStep (old : Executed) (notes : RunNotes) (new : Executed) (notes' : RunNotes)
     : Type 0 where
   pub operator : ℕ
   pub advances : Advances old operator new

@@ -12,13 +12,13 @@ use Rattle.sas_axioms.specs.LayerRules.{AreRulesOf}
 use Rattle.sas_reasons.specs.Lines.{with_lines}
 use Rattle.sas_run.specs.Runs.{Run, last_state, StepsSucceed}
 use Rattle.sas_reasons.specs.Cause.{failing_lines}
-use Rattle.sas_why.specs.declared.retraced.Retraced.{Retraced}
+use Rattle.sas_why.specs.declared.plan_history.PlanHistory.{PlanHistory}
 use Rattle.sas_why.specs.declared.report.Report.{Report}
 use Rattle.sas_why.specs.Origins.{is_reported, AreOrigins}
 use Rattle.sas_why.specs.Retracing.{HaveSince}
 
 -- the run's last state is noted, and since when its values hold
-pub record IsBehind (p : Parts) (noted : Retraced) (run : Run) : Type 0 where
+pub record IsBehind (p : Parts) (noted : PlanHistory) (run : Run) : Type 0 where
   pub through : StepsSucceed p run
   pub last : noted.last ≡ last_state run
   pub state : IsState p.variables noted.last
@@ -48,11 +48,11 @@ pub record IsReport (p : Parts) (s : List ℕ) (report : Report) : Type 0 where
       → Contains report.lines (RuleRequires rule condition) → ⊥
 
 -- it is a report of the last state of a run
-abbrev pub IsReportOf : Parts → Retraced → Report → Type 0
+abbrev pub IsReportOf : Parts → PlanHistory → Report → Type 0
 IsReportOf p noted report = (run : Run) × IsBehind p noted run × IsReport p noted.last report
 
 -- such lines of a run are added, each line of a rule once
-abbrev pub AddsLines : Parts → Retraced → Report → Report → (Run → List Line → Type 0) → Type 0
+abbrev pub AddsLines : Parts → PlanHistory → Report → Report → (Run → List Line → Type 0) → Type 0
 AddsLines p noted old new Are = (run : Run) → IsBehind p noted run → IsReport p noted.last old
     → (more : List Line)
     × Are run more

@@ -6,13 +6,13 @@ use Rattle.sas_run.specs.Executions.{Executed, Executes}
 use Rattle.sas_run.specs.Runs.{Run, last_state, StepsSucceed, RunEndsWith}
 use Rattle.sas_reasons.specs.Cause.{IsSince}
 use Rattle.sas_reasons.specs.MayMean.{IsOther, MayMean}
-use Rattle.sas_why.specs.declared.second_pass.Notes.{Notes}
-use Rattle.sas_why.specs.declared.retraced.Other.{Other}
-use Rattle.sas_why.specs.declared.retraced.Retraced.{Retraced}
+use Rattle.sas_why.specs.declared.second_pass.RunNotes.{RunNotes}
+use Rattle.sas_why.specs.declared.plan_history.OtherOperator.{OtherOperator}
+use Rattle.sas_why.specs.declared.plan_history.PlanHistory.{PlanHistory}
 
 -- the first step of the run that may mean another operator, and the lowest that it may mean; or
 -- none may
-abbrev pub IsOtherIfAny : Parts → Run → Option Other → Type 0
+abbrev pub IsOtherIfAny : Parts → Run → Option OtherOperator → Type 0
 IsOtherIfAny p run (Some other) = MayMean p run other.step other.operator
 IsOtherIfAny p run None = (k operator : ℕ) → IsOther p run k operator → ⊥
 
@@ -22,7 +22,7 @@ pub record HaveSince (p : Parts) (run : Run) (since : List ℕ) : Type 0 where
   pub each : (var : ℕ) → var < length p.variables → IsSince run var (slice_index since var)
 
 -- this is noted of the run of a plan, up to its fault
-pub record Retraces (p : Parts) (plan : PlanParts) (noted : Retraced) (run : Run) : Type 0 where
+pub record Retraces (p : Parts) (plan : PlanParts) (noted : PlanHistory) (run : Run) : Type 0 where
   pub through : StepsSucceed p run
   pub ends : RunEndsWith p plan run (Some noted.fault)
   pub operators : noted.operators.items ≡ run.operators
@@ -31,7 +31,7 @@ pub record Retraces (p : Parts) (plan : PlanParts) (noted : Retraced) (run : Run
   pub other : IsOtherIfAny p run noted.other
 
 -- so it is of some run
-abbrev pub IsRetraced : Parts → PlanParts → Retraced → Type 0
+abbrev pub IsRetraced : Parts → PlanParts → PlanHistory → Type 0
 IsRetraced p plan noted = (run : Run) × Retraces p plan noted run
 
 -- the run of its first k steps
@@ -43,7 +43,7 @@ first_steps run k = record {
 }
 
 -- these notes are of the steps of the run that were made
-pub record AreNotes (run : Run) (e : Executed) (notes : Notes) : Type 0 where
+pub record AreNotes (run : Run) (e : Executed) (notes : RunNotes) : Type 0 where
   pub executes : Executes run e
   pub values : notes.changes.values.items ≡ e.state
   pub since : HaveSince e.task (first_steps run e.made) notes.changes.since.items

@@ -9,8 +9,8 @@ ghost use Rattle.sas_reasons.specs.Cause.{AreDerivationLines, can_be_given, keep
 ghost use Rattle.sas_why.specs.Report.{IsReportOf, AddsLines};
 
 use crate::origins::requires_rules;
+use crate::plan_history::PlanHistory;
 use crate::report::Report;
-use crate::retraced::Retraced;
 use sas_core::{Fact, Grounded, Items};
 use sas_meaning::{Layered, State};
 use sas_output::Line;
@@ -19,7 +19,7 @@ use std::alloc::AllocError;
 /// Reports the cause of a fact that fails in the last state.
 pub fn report_cause<T: Grounded>(
     task: &Layered<T>,
-    noted: &Retraced,
+    noted: &PlanHistory,
     fact: Fact,
     report: &mut Report,
 ) -> Result<(), AllocError>
@@ -38,7 +38,7 @@ pub fn report_cause<T: Grounded>(
 }
 
 /// Reports the required fact, the actual one, and since when it holds.
-fn report_values(noted: &Retraced, fact: Fact, lines: &mut Items<Line>) -> Result<(), AllocError>
+fn report_values(noted: &PlanHistory, fact: Fact, lines: &mut Items<Line>) -> Result<(), AllocError>
     requires state { fact.var < length noted.now.last }
     requires since { fact.var < length noted.now.since.items }
     ensures { OnOk result (lines.new ≡ lines.old
@@ -66,7 +66,7 @@ fn report_values(noted: &Retraced, fact: Fact, lines: &mut Items<Line>) -> Resul
 /// Reports which rules derive a variable's value, if it isn't its default.
 fn report_givers<T: Grounded>(
     task: &Layered<T>,
-    noted: &Retraced,
+    noted: &PlanHistory,
     var: u32,
     report: &mut Report,
 ) -> Result<(), AllocError>
@@ -103,7 +103,7 @@ fn push_givers(rules: &[u32], lines: &mut Items<Line>) -> Result<(), AllocError>
 /// Reports what the rules of the fact's variable require that fails, or that none of them derives the fact's value.
 fn report_keepers<T: Grounded>(
     task: &Layered<T>,
-    noted: &Retraced,
+    noted: &PlanHistory,
     fact: Fact,
     report: &mut Report,
 ) -> Result<(), AllocError>

@@ -13,8 +13,8 @@ ghost use Rattle.sas_why.specs.Report.{IsBehind, IsReportOf, AddsLines, ReportsO
 use crate::causes::report_cause;
 use crate::conflicts::conflict;
 use crate::likeness::like;
+use crate::plan_history::PlanHistory;
 use crate::report::Report;
-use crate::retraced::Retraced;
 use sas_core::{Grounded, Items, Stepwise};
 use sas_meaning::{Layered, Preconditions, State};
 use sas_output::Line;
@@ -26,7 +26,7 @@ pub fn reasons<T: Grounded, P: Stepwise>(
     alloc: Global,
     layered: &Layered<T>,
     plan: &P,
-    noted: &Retraced,
+    noted: &PlanHistory,
 ) -> Result<Vec<Line>, AllocError>
     requires { IsRetraced layered.now (P.says plan.now) noted.now }
     ensures { IfOk result (λ lines.
@@ -47,7 +47,7 @@ fn lines_of_fault<T: Grounded, P: Stepwise>(
     alloc: Global,
     layered: &Layered<T>,
     plan: &P,
-    noted: &Retraced,
+    noted: &PlanHistory,
 ) -> Result<Items<Line>, AllocError>
     requires { IsRetraced layered.now (P.says plan.now) noted.now }
     ensures { IfOk result (λ lines. (run : Run)
@@ -95,7 +95,7 @@ fn unknown<T: Grounded>(
 fn blocked<T: Grounded>(
     alloc: Global,
     task: &Layered<T>,
-    noted: &Retraced,
+    noted: &PlanHistory,
     name: &[u8],
     step: usize,
 ) -> Result<Items<Line>, AllocError>
@@ -111,7 +111,7 @@ fn blocked<T: Grounded>(
 /// Reports the step, and why each operator of its name isn't applicable.
 fn report_blocked<T: Grounded>(
     task: &Layered<T>,
-    noted: &Retraced,
+    noted: &PlanHistory,
     name: &[u8],
     step: usize,
     report: &mut Report,
@@ -132,7 +132,7 @@ fn report_blocked<T: Grounded>(
 /// Reports the operator, and the cause of each of its preconditions that fails.
 fn report_inapplicable<T: Grounded>(
     task: &Layered<T>,
-    noted: &Retraced,
+    noted: &PlanHistory,
     operator: u32,
     report: &mut Report,
 ) -> Result<(), AllocError>
@@ -189,7 +189,7 @@ fn conflicting<T: Grounded>(
 fn missed<T: Grounded>(
     alloc: Global,
     task: &Layered<T>,
-    noted: &Retraced,
+    noted: &PlanHistory,
 ) -> Result<Items<Line>, AllocError>
     requires { (run : Run) × IsBehind task.now noted.now run }
     ensures { IfOk result (λ lines. (run : Run) → IsBehind task.now noted.now run
@@ -203,7 +203,7 @@ fn missed<T: Grounded>(
 /// Reports each goal fact that fails, and its cause.
 fn report_missed<T: Grounded>(
     task: &Layered<T>,
-    noted: &Retraced,
+    noted: &PlanHistory,
     report: &mut Report,
 ) -> Result<(), AllocError>
     requires { IsReportOf task.now noted.now report.old }

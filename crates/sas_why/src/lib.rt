@@ -7,14 +7,14 @@ mod changes;
 mod conflicts;
 mod faults;
 mod likeness;
+mod origin_rounds;
 mod origins;
+mod plan_history;
 mod report;
-mod retraced;
-mod rounds;
 mod second_pass;
 mod writing;
 
 pub use faults::reasons;
-pub use retraced::{Other, Retraced};
+pub use plan_history::{OtherOperator, PlanHistory};
 pub use second_pass::retrace;
 pub use writing::write_explained;

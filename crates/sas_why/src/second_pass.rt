@@ -7,18 +7,18 @@ ghost use Rattle.sas_why.specs.Noting.{HavePlaces, looked_at, AddsOther, NotesSt
 ghost use Rattle.sas_why.specs.Retracing.{AreNotes, IsRetraced};
 
 use crate::changes::Changes;
-use crate::retraced::{Other, Retraced};
+use crate::plan_history::{OtherOperator, PlanHistory};
 use sas_core::{Grounded, Stepwise};
-use sas_meaning::{Settle, Touched, derived_variables};
+use sas_meaning::{ChangedVariables, Settle, derived_variables};
 use sas_run::{Execution, PlanFault};
 use std::alloc::{AllocError, Global};
 
 /// What is noted of the steps so far.
 #[derive(Drop)]
-pub struct Notes {
+pub struct RunNotes {
     pub changes: Changes,
     /// The first of the steps that may mean another operator, and the lowest such operator.
-    pub other: Option<Other>,
+    pub other: Option<OtherOperator>,
 }
 
 /// Makes the steps of the plan, which has this fault, once more, and notes since when each variable has its value, and which other
@@ -27,20 +27,20 @@ pub fn retrace<E: Settle<T> + Drop, T: Grounded, P: Stepwise>(
     alloc: Global,
     mut execution: Execution<'_, '_, E, T, P>,
     fault: PlanFault,
-) -> Result<Retraced, AllocError>
+) -> Result<PlanHistory, AllocError>
     requires { IsFound execution.task execution.plan (Some fault) execution }
     ensures retraced { IfOk result (IsRetraced execution.entry.task execution.entry.plan) }
     ensures fault { IfOk result (λ noted. noted.fault ≡ fault) }
 {
-    let mut notes = Notes {
+    let mut notes = RunNotes {
         changes: Changes::new(alloc, execution.state())?,
         other: None,
     };
     let derived = derived_variables(alloc, execution.layered())?;
     note_steps(derived.as_slice(), &mut execution, &mut notes);
     let (operators, last) = execution.into_parts();
-    let Notes { changes, other } = notes;
-    Ok(Retraced {
+    let RunNotes { changes, other } = notes;
+    Ok(PlanHistory {
         fault,
         operators,
         last,
@@ -53,7 +53,7 @@ pub fn retrace<E: Settle<T> + Drop, T: Grounded, P: Stepwise>(
 fn note_steps<E: Settle<T> + Drop, T: Grounded, P: Stepwise>(
     derived: &[u32],
     execution: &mut Execution<'_, '_, E, T, P>,
-    notes: &mut Notes,
+    notes: &mut RunNotes,
 )
     requires derived { AreDerived execution.old.task derived.now }
     requires start { execution.old.made ≡ 0 }
@@ -74,7 +74,7 @@ fn note_step<E: Settle<T> + Drop, T: Grounded, P: Stepwise>(
     step: usize,
     derived: &[u32],
     execution: &mut Execution<'_, '_, E, T, P>,
-    notes: &mut Notes,
+    notes: &mut RunNotes,
 )
     requires step { step ≡ execution.old.made + 1 }
     requires left { execution.old.made < length execution.old.operators }
@@ -93,7 +93,7 @@ fn note_step<E: Settle<T> + Drop, T: Grounded, P: Stepwise>(
 }
 
 /// Returns those of the derived variables that may have changed: those on the list, or all where any may have.
-fn touched_among<'a>(derived: &'a [u32], touched: &'a Touched) -> &'a [u32]
+fn touched_among<'a>(derived: &'a [u32], touched: &'a ChangedVariables) -> &'a [u32]
     ensures { result.now ≡ looked_at derived.now touched.now }
 {
     match touched.vars() {
@@ -105,9 +105,9 @@ fn touched_among<'a>(derived: &'a [u32], touched: &'a Touched) -> &'a [u32]
 /// Returns what is noted of other operators with the next step, which has this number.
 fn other_with<E: Settle<T> + Drop, T: Grounded, P: Stepwise>(
     execution: &Execution<'_, '_, E, T, P>,
-    noted: Option<Other>,
+    noted: Option<OtherOperator>,
     step: usize,
-) -> Option<Other>
+) -> Option<OtherOperator>
     requires step { step ≡ execution.now.made + 1 }
     requires left { execution.now.made < length execution.now.operators }
     ensures { AddsOther execution.now noted result }
@@ -116,7 +116,7 @@ fn other_with<E: Settle<T> + Drop, T: Grounded, P: Stepwise>(
         return noted;
     }
     match execution.later() {
-        Some(operator) => Some(Other { step, operator }),
+        Some(operator) => Some(OtherOperator { step, operator }),
         None => None,
     }
 }

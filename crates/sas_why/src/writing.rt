@@ -7,7 +7,7 @@ ghost use Rattle.sas_why.specs.Explained.{IsExplained, MakeAnswer};
 ghost use Rattle.sas_why.specs.Retracing.{IsRetraced};
 
 use crate::faults::reasons;
-use crate::retraced::Retraced;
+use crate::plan_history::PlanHistory;
 use crate::second_pass::retrace;
 use sas_answers::{accept_plan, answer_fault};
 use sas_axioms::Worklist;
@@ -15,7 +15,7 @@ use sas_core::Stepwise;
 use sas_flat::{FlatPlan, FlatTask};
 use sas_lines::Watched;
 use sas_meaning::Layered;
-use sas_output::{Answer, Line, Named, Status, ToolFault, write_reasons};
+use sas_output::{Answer, Line, NameSource, Status, ToolFault, write_reasons};
 use sas_run::Execution;
 use std::alloc::{AllocError, Global};
 use std::io::Write;
@@ -35,7 +35,7 @@ pub fn write_explained<W: Write>(
         out.old out.new result }
 {
     let (verdict, reasons) = explain_plan(alloc, task, plan)?;
-    let named = Named {
+    let named = NameSource {
         task: task.task(),
         plan: Some(plan),
     };
@@ -79,7 +79,7 @@ fn explain_fault(
     alloc: Global,
     task: &Layered<FlatTask>,
     plan: &FlatPlan,
-    noted: &Retraced,
+    noted: &PlanHistory,
 ) -> Result<(Answer, Vec<Line>), AllocError>
     requires { IsRetraced task.now plan.now noted.now }
     ensures { IfOk result (λ found. MakeAnswer task.now plan.now found.0 found.1.items) }

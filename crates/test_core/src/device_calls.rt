@@ -1,25 +1,25 @@
 // Calls of `sas_lines` on devices.
 use sas_lines::trial::Breaks;
-use sas_lines::{Opened, Watched, write_out};
+use sas_lines::{OpenInput, Watched, write_out};
 use std::io;
 use std::io::{Error, Read, Write};
 use test_words::{
-    Asked, ReportedReader, cut, failure, narrow_of, number_in, say, say_debug, say_either,
+    ScriptedReader, TestCall, cut, failure, narrow_of, number_in, say, say_debug, say_either,
     say_line, say_number,
 };
 
 /// An input that follows a text.
-type Input<'a> = Opened<ReportedReader<'a>, ReportedReader<'a>>;
+type Input<'a> = OpenInput<ScriptedReader<'a>, ScriptedReader<'a>>;
 
 /// A writer that follows the bytes of a text, one at each write. For a digit it takes at most this many bytes, for `!` it fails, and for
 /// `~` it fails as interrupted. After each of these it continues with the next byte. After the last byte it takes everything.
 #[derive(Drop)]
-struct ReportedWriter<'a> {
+struct ScriptedWriter<'a> {
     kept: Vec<u8>,
     turns: &'a [u8],
 }
 
-impl<'a> Write for ReportedWriter<'a> {
+impl<'a> Write for ScriptedWriter<'a> {
     fn write(&mut self, buf: &[u8]) -> io::Result<usize> {
         let (turn, rest) = self.turns.split_at(self.turns.len().min(1));
         self.turns = rest;
@@ -38,7 +38,7 @@ impl<'a> Write for ReportedWriter<'a> {
 }
 
 /// Makes the call if it is defined in this file.
-pub fn call_of_devices(rt: &HostRuntime, asked: Asked<'_>) -> Option<()> {
+pub fn call_of_devices(rt: &HostRuntime, asked: TestCall<'_>) -> Option<()> {
     match asked.call {
         "take" => take(rt, asked.kind, asked.bytes),
         "give" => give(rt, asked.bytes),
@@ -50,7 +50,7 @@ pub fn call_of_devices(rt: &HostRuntime, asked: Asked<'_>) -> Option<()> {
 
 /// Calls `Watched::take` of a reader of this kind. Detects a read that is repeated after a failure, and then succeeds.
 fn take(rt: &HostRuntime, kind: &str, bytes: &[u8]) {
-    let device = ReportedReader::new(bytes, 2);
+    let device = ScriptedReader::new(bytes, 2);
     match kind {
         "fails" => say_taken(rt, Breaks::new(bytes, false), bytes.len()),
         "interrupted" => say_taken(rt, Breaks::new(bytes, true), bytes.len()),
@@ -85,13 +85,13 @@ fn say_taken<D: Read + Drop>(rt: &HostRuntime, device: D, most: usize) {
 fn give(rt: &HostRuntime, words: &[u8]) {
     let (turns, bytes) = cut(words, b'|');
     let kept = Vec::new(rt.alloc());
-    let mut out = Watched::new(ReportedWriter { kept, turns });
+    let mut out = Watched::new(ScriptedWriter { kept, turns });
     say_given(rt, &mut out, bytes);
     say_line(rt, out.into_device().kept.as_slice());
 }
 
 /// `give` for a writer that may have failed.
-fn say_given(rt: &HostRuntime, out: &mut Watched<ReportedWriter<'_>>, bytes: &[u8]) {
+fn say_given(rt: &HostRuntime, out: &mut Watched<ScriptedWriter<'_>>, bytes: &[u8]) {
     let mut left = bytes;
     for _ in 0..=bytes.len() {
         if out.failed() {

@@ -2,10 +2,10 @@
 use sas_lines::{
     Lines, Numbers, cost, first_line, number, push_line, push_number, signed, spelling_is_decimal,
 };
-use test_words::{Asked, cut, say, say_bytes, say_debug, say_line, say_text, text_of};
+use test_words::{TestCall, cut, say, say_bytes, say_debug, say_line, say_text, text_of};
 
 /// Makes the call if it is defined in this file.
-pub fn call_of_lines(rt: &HostRuntime, asked: Asked<'_>) -> Option<()> {
+pub fn call_of_lines(rt: &HostRuntime, asked: TestCall<'_>) -> Option<()> {
     spelling_is_decimal();
     match asked.call {
         // Detects a wrong number that both the clause and the code allow.

@@ -11,10 +11,10 @@ use device_calls::call_of_devices;
 use line_calls::call_of_lines;
 use plan_calls::call_of_plans;
 use task_calls::call_of_tasks;
-use test_words::{Asked, answer};
+use test_words::{TestCall, answer};
 
 /// Makes the call, or returns `None` if it doesn't.
-fn call(rt: &HostRuntime, asked: Asked<'_>) -> Option<()> {
+fn call(rt: &HostRuntime, asked: TestCall<'_>) -> Option<()> {
     call_of_plans(rt, asked)
         .or_else(|| call_of_lines(rt, asked))
         .or_else(|| call_of_devices(rt, asked))

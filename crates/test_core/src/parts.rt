@@ -29,12 +29,12 @@ impl<'a> Words<'a> {
 }
 
 /// What some words describe: its fields in order. A list is its length and its items. Without memory a list is cut short.
-trait Described: Drop {
+trait FromWords: Drop {
     fn described(alloc: Global, words: &mut Words<'_>) -> Self;
 }
 
 /// Returns the list that the next words describe.
-fn list_of<T: Described>(alloc: Global, words: &mut Words<'_>) -> Items<T> {
+fn list_of<T: FromWords>(alloc: Global, words: &mut Words<'_>) -> Items<T> {
     let mut items = Items::new(alloc);
     for _ in 0..words.number() {
         let _ = items.push(T::described(alloc, words));
@@ -42,31 +42,31 @@ fn list_of<T: Described>(alloc: Global, words: &mut Words<'_>) -> Items<T> {
     items
 }
 
-impl Described for u32 {
+impl FromWords for u32 {
     fn described(_alloc: Global, words: &mut Words<'_>) -> u32 {
         words.number()
     }
 }
 
-impl Described for Fact {
+impl FromWords for Fact {
     fn described(_alloc: Global, words: &mut Words<'_>) -> Fact {
         fact_of(words.word()).unwrap_or(Fact { var: 0, value: 0 })
     }
 }
 
-impl Described for Items<u8> {
+impl FromWords for Items<u8> {
     fn described(alloc: Global, words: &mut Words<'_>) -> Items<u8> {
         Items::from_vec(Vec::from_slice(alloc, words.word()).unwrap_or(Vec::new(alloc)))
     }
 }
 
-impl Described for Items<Fact> {
+impl FromWords for Items<Fact> {
     fn described(alloc: Global, words: &mut Words<'_>) -> Items<Fact> {
         list_of(alloc, words)
     }
 }
 
-impl Described for Variable {
+impl FromWords for Variable {
     fn described(alloc: Global, words: &mut Words<'_>) -> Variable {
         Variable {
             name: Items::described(alloc, words),
@@ -77,7 +77,7 @@ impl Described for Variable {
 }
 
 /// An effect or a rule.
-impl Described for Effect {
+impl FromWords for Effect {
     fn described(alloc: Global, words: &mut Words<'_>) -> Effect {
         Effect {
             conditions: list_of(alloc, words),
@@ -88,7 +88,7 @@ impl Described for Effect {
     }
 }
 
-impl Described for Operator {
+impl FromWords for Operator {
     fn described(alloc: Global, words: &mut Words<'_>) -> Operator {
         Operator {
             name: Items::described(alloc, words),

@@ -6,11 +6,11 @@ use sas_core::{CostKind, Items, Plan, is_name};
 use sas_text::encode_plan;
 use std::alloc::Global;
 use test_words::{
-    Asked, cut, number_in, plan_of, say, say_debug, say_either, say_number, say_text,
+    TestCall, cut, number_in, plan_of, say, say_debug, say_either, say_number, say_text,
 };
 
 /// Makes the call if it is defined in this file.
-pub fn call_of_plans(rt: &HostRuntime, asked: Asked<'_>) -> Option<()> {
+pub fn call_of_plans(rt: &HostRuntime, asked: TestCall<'_>) -> Option<()> {
     match asked.call {
         "is-name" => say_debug(rt, &is_name(asked.bytes)),
         "items" => say_items(rt, asked.bytes)?,

@@ -4,10 +4,10 @@ ghost use Rattle.std.specs.Prelude.{◌≡◌, ◌↔◌, IsTrue};
 use crate::parts::parts_of;
 use sas_core::{Grounded, Task};
 use sas_text::encode_task;
-use test_words::{Asked, cut, fact_of, say_debug, say_either, say_number, say_text, task_of};
+use test_words::{TestCall, cut, fact_of, say_debug, say_either, say_number, say_text, task_of};
 
 /// Makes the call if it is defined in this file.
-pub fn call_of_tasks(rt: &HostRuntime, asked: Asked<'_>) -> Option<()> {
+pub fn call_of_tasks(rt: &HostRuntime, asked: TestCall<'_>) -> Option<()> {
     match asked.call {
         "new-task" => new_task(rt, asked.bytes),
         "same-tasks" => say_same_tasks(rt, asked.bytes)?,

@@ -5,10 +5,10 @@ mod reader_calls;
 
 use reader_calls::{feed_plan, feed_plan_within, feed_task, feed_task_within, read};
 use sas_text::{plan_laws, task_laws};
-use test_words::{Asked, answer, number_in, say};
+use test_words::{TestCall, answer, number_in, say};
 
 /// Makes the call, or returns `None` if it doesn't.
-fn call(rt: &HostRuntime, asked: Asked<'_>) -> Option<()> {
+fn call(rt: &HostRuntime, asked: TestCall<'_>) -> Option<()> {
     match asked.call {
         "read" => read(rt, asked.kind, asked.bytes),
         "feed-plan" => feed_plan(rt, asked.bytes),
@@ -25,7 +25,7 @@ fn call(rt: &HostRuntime, asked: Asked<'_>) -> Option<()> {
 fn say_laws(rt: &HostRuntime) {
     plan_laws();
     task_laws();
-    sas_core::task_laws();
+    sas_core::range_laws();
     say(rt, "laws");
 }
 

@@ -9,7 +9,7 @@ use sas_text::{
     read_task_text,
 };
 use std::io::Read;
-use test_words::{ReportedReader, say, say_text};
+use test_words::{ScriptedReader, say, say_text};
 
 /// Prints a fault.
 fn say_fault(rt: &HostRuntime, fault: Fault) {
@@ -87,7 +87,7 @@ pub fn read(rt: &HostRuntime, way: &str, text: &[u8]) {
     } else {
         65_536
     };
-    let mut device = Watched::new(ReportedReader::new(text, most));
+    let mut device = Watched::new(ScriptedReader::new(text, most));
     read_device(rt, way, &mut device);
     if device.failed() {
         say(rt, "failed");

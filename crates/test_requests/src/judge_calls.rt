@@ -4,7 +4,7 @@ use sas_lines::Watched;
 use sas_plans::{JudgeFault, PlanBytes, PlanInputs, are_labels, judge, judge_slices};
 use sas_requests::{Status, ToolFault};
 use std::alloc::Global;
-use test_words::{ReportedReader, cut, narrow_of, say_number};
+use test_words::{ScriptedReader, cut, narrow_of, say_number};
 
 /// The answer of a run that is out of memory.
 const OUT_OF_MEMORY: Result<Status, JudgeFault> = Err(JudgeFault::Tool(ToolFault::Memory));
@@ -21,7 +21,7 @@ impl<'a> PlanInputs for PlanList<'a> {
     ghost use Rattle.std.specs.Prelude.{◌≡◌, None};
     ghost use Rattle.sas_plans.specs.Slices.{labels_of};
 
-    type Input = ReportedReader<'a>;
+    type Input = ScriptedReader<'a>;
 
     ghost labels = { λ list. labels_of list.plans.now };
 
@@ -39,13 +39,13 @@ impl<'a> PlanInputs for PlanList<'a> {
         self.plans[number].label
     }
 
-    fn open(&mut self, number: usize) -> Option<ReportedReader<'a>> {
+    fn open(&mut self, number: usize) -> Option<ScriptedReader<'a>> {
         say_number(self.rt, "open", number as u64);
         let text = self.plans[number].bytes;
         if text == b"?".as_slice() {
             return None;
         }
-        Some(ReportedReader::new(text, LONGEST_READ))
+        Some(ScriptedReader::new(text, LONGEST_READ))
     }
 }
 
@@ -73,7 +73,7 @@ pub fn judge_listed(rt: &HostRuntime, bytes: &[u8]) -> Option<()> {
     if !are_labels(plans) {
         return None;
     }
-    let mut task = Watched::new(ReportedReader::new(task, LONGEST_READ));
+    let mut task = Watched::new(ScriptedReader::new(task, LONGEST_READ));
     let mut out = Watched::new(narrow_of(rt.alloc(), writer)?);
     let answer = judge(rt.alloc(), &mut task, &mut PlanList { rt, plans }, &mut out);
     say_answer(rt, &answer, &OUT_OF_MEMORY, out.into_device().kept());

@@ -10,14 +10,14 @@ use run_calls::{answer_question, say_messages};
 use sas_plans::judge_laws;
 use sas_requests::{explain_laws, run_laws, trace_output_laws};
 use std::fmt::Debug;
-use test_words::{Asked, answer, say, say_debug, say_line};
+use test_words::{TestCall, answer, say, say_debug, say_line};
 use tool_calls::{say_endings, say_job};
 
 /// The longest read of an input.
 const LONGEST_READ: usize = 65_536;
 
 /// Makes the call, or returns `None` if it doesn't.
-fn call(rt: &HostRuntime, asked: Asked<'_>) -> Option<()> {
+fn call(rt: &HostRuntime, asked: TestCall<'_>) -> Option<()> {
     match asked.call {
         "run" => answer_question(rt, asked.kind, asked.bytes)?,
         "judge" => judge_listed(rt, asked.bytes)?,

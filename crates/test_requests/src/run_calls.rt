@@ -2,7 +2,7 @@
 use crate::{LONGEST_READ, say_answer};
 use sas_lines::Watched;
 use sas_requests::{Request, ToolFault, explain, run, trace};
-use test_words::{ReportedReader, cut, narrow_of};
+use test_words::{ScriptedReader, cut, narrow_of};
 
 /// Returns the request with this name.
 fn request_of(name: &str) -> Request {
@@ -22,8 +22,8 @@ fn request_of(name: &str) -> Request {
 pub fn answer_question(rt: &HostRuntime, question: &str, bytes: &[u8]) -> Option<()> {
     let (writer, inputs) = cut(bytes, b'|');
     let (plan, task) = cut(inputs, b'|');
-    let mut plan = Watched::new(ReportedReader::new(plan, LONGEST_READ));
-    let mut task = Watched::new(ReportedReader::new(task, LONGEST_READ));
+    let mut plan = Watched::new(ScriptedReader::new(plan, LONGEST_READ));
+    let mut task = Watched::new(ScriptedReader::new(task, LONGEST_READ));
     let mut out = Watched::new(narrow_of(rt.alloc(), writer)?);
     let alloc = rt.alloc();
     let answer = if question == "trace" {

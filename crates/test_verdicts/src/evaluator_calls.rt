@@ -3,20 +3,20 @@ ghost use Rattle.sas_axioms.specs.Worklist.{IsReadyFor};
 
 use crate::runner_calls::call_with_runner;
 use crate::task_calls::{say_state, say_state_fault, state_of};
-use sas_axioms::{Layered, Rounds, Settle, State, Touched, Worklist};
+use sas_axioms::{ChangedVariables, Layered, Rounds, Settle, State, Worklist};
 use sas_core::{Fact, Task};
 use std::alloc::AllocError;
-use test_words::{Asked, say};
+use test_words::{TestCall, say};
 
 /// An evaluator that prints each state after another evaluator has settled it. So it prints each state of a plan. Detects a runner that
 /// settles by another evaluator than its own.
 #[derive(Drop)]
-struct Reporting<'a, E: Settle<Task> + Drop> {
+struct PrintingEvaluator<'a, E: Settle<Task> + Drop> {
     rt: &'a HostRuntime,
     evaluator: E,
 }
 
-impl<'a, E: Settle<Task> + Drop> Settle<Task> for Reporting<'a, E> {
+impl<'a, E: Settle<Task> + Drop> Settle<Task> for PrintingEvaluator<'a, E> {
     ghost ready = { λ t p. E.ready t.evaluator p };
 
     ghost follows = { λ t p s. E.follows t.evaluator p s };
@@ -31,7 +31,7 @@ impl<'a, E: Settle<Task> + Drop> Settle<Task> for Reporting<'a, E> {
         layered: &Layered<Task>,
         gone: &[Fact],
         state: &mut State,
-        touched: &mut Touched,
+        touched: &mut ChangedVariables,
     ) {
         self.evaluator.settle_on(layered, gone, state, touched);
         say_state(self.rt, state);
@@ -39,7 +39,12 @@ impl<'a, E: Settle<Task> + Drop> Settle<Task> for Reporting<'a, E> {
 }
 
 /// Makes the call with an evaluator of this kind.
-pub fn call_by_kind(rt: &HostRuntime, asked: Asked<'_>, pieces: &[&[u8]], layered: &Layered<Task>) {
+pub fn call_by_kind(
+    rt: &HostRuntime,
+    asked: TestCall<'_>,
+    pieces: &[&[u8]],
+    layered: &Layered<Task>,
+) {
     match asked.kind {
         "rounds" => call_with(rt, asked.call, pieces, layered, Rounds),
         _ => match Worklist::new(rt.alloc(), layered) {
@@ -52,7 +57,7 @@ pub fn call_by_kind(rt: &HostRuntime, asked: Asked<'_>, pieces: &[&[u8]], layere
 /// Makes the call with this evaluator, or with one that prints what it settles.
 fn call_with_worklist(
     rt: &HostRuntime,
-    asked: Asked<'_>,
+    asked: TestCall<'_>,
     pieces: &[&[u8]],
     layered: &Layered<Task>,
     worklist: Worklist,
@@ -62,7 +67,13 @@ fn call_with_worklist(
     match asked.kind {
         "reporting" => {
             let evaluator = worklist;
-            call_with(rt, asked.call, pieces, layered, Reporting { rt, evaluator })
+            call_with(
+                rt,
+                asked.call,
+                pieces,
+                layered,
+                PrintingEvaluator { rt, evaluator },
+            )
         }
         _ => call_with(rt, asked.call, pieces, layered, worklist),
     }

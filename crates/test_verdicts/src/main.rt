@@ -16,10 +16,10 @@ use sas_mutex::group_laws;
 use sas_run::verdict_laws;
 use std::alloc::Global;
 use task_calls::{new_layered, new_state};
-use test_words::{Asked, answer, cut, say, say_debug, task_of};
+use test_words::{TestCall, answer, cut, say, say_debug, task_of};
 
 /// Makes the call, or returns `None` if it doesn't. The bytes are the arguments of the call, a `|`, and the file of a task.
-fn call(rt: &HostRuntime, asked: Asked<'_>) -> Option<()> {
+fn call(rt: &HostRuntime, asked: TestCall<'_>) -> Option<()> {
     if asked.call == "laws" {
         say_laws(rt);
         return Some(());
@@ -53,7 +53,7 @@ fn call_on_task(rt: &HostRuntime, call: &str, words: &[u8], task: &Task) -> Opti
 }
 
 /// Makes the call on a task that has to be layered.
-fn call_with_layers(rt: &HostRuntime, asked: Asked<'_>, words: &[u8], task: Task) -> Option<()> {
+fn call_with_layers(rt: &HostRuntime, asked: TestCall<'_>, words: &[u8], task: Task) -> Option<()> {
     let pieces = pieces_of(rt.alloc(), asked.call, words)?;
     let layered = Layered::new(rt.alloc(), task).ok()?;
     match asked.call {

@@ -12,7 +12,7 @@ const SEPARATOR: u8 = 30;
 
 /// A call: its name, its kind, and its bytes.
 #[derive(Clone, Copy)]
-pub struct Asked<'a> {
+pub struct TestCall<'a> {
     pub call: &'a str,
     pub kind: &'a str,
     pub bytes: &'a [u8],
@@ -34,7 +34,7 @@ fn fill<R: Read>(input: &mut R, buffer: &mut [u8]) -> Option<usize>
 }
 
 /// Makes the calls that standard input requests. `call` returns `None` if it doesn't make a call.
-pub fn answer<F: Fn(Asked<'_>) -> Option<()>>(rt: &HostRuntime, call: F)
+pub fn answer<F: Fn(TestCall<'_>) -> Option<()>>(rt: &HostRuntime, call: F)
     requires { F.IsAlwaysCallable call }
 {
     let mut buffer = [0u8; LONGEST];
@@ -50,11 +50,11 @@ pub fn answer<F: Fn(Asked<'_>) -> Option<()>>(rt: &HostRuntime, call: F)
 }
 
 /// Returns the call that some bytes request.
-fn asked_in(given: &[u8]) -> Asked<'_> {
+fn asked_in(given: &[u8]) -> TestCall<'_> {
     let (line, bytes) = cut(given, b'\n');
     let line = text_of(line);
     let (call, kind) = line.split_once(' ').unwrap_or((line, ""));
-    Asked { call, kind, bytes }
+    TestCall { call, kind, bytes }
 }
 
 /// Cuts the bytes at the first separator. Returns the bytes before it and after it. Without a separator, the second part is empty.

@@ -12,17 +12,17 @@ const ROOM: u32 = 131_072;
 /// fails, and for `~` it fails as interrupted. After each of these it continues with the next part. A part that is longer than the buffer
 /// takes several reads. After the last part it returns 0 bytes. A read into more than `most` bytes fails.
 #[derive(Drop)]
-pub struct ReportedReader<'a> {
+pub struct ScriptedReader<'a> {
     part: &'a [u8],
     rest: &'a [u8],
     most: usize,
 }
 
-impl<'a> ReportedReader<'a> {
+impl<'a> ScriptedReader<'a> {
     /// Returns a reader that follows this text.
-    pub fn new(text: &'a [u8], most: usize) -> ReportedReader<'a> {
+    pub fn new(text: &'a [u8], most: usize) -> ScriptedReader<'a> {
         let (part, rest) = cut(text, b'#');
-        ReportedReader { part, rest, most }
+        ScriptedReader { part, rest, most }
     }
 
     /// Moves to the next part.
@@ -33,7 +33,7 @@ impl<'a> ReportedReader<'a> {
     }
 }
 
-impl<'a> Read for ReportedReader<'a> {
+impl<'a> Read for ScriptedReader<'a> {
     fn read(&mut self, buf: &mut [u8]) -> io::Result<usize> {
         if buf.len() > self.most {
             return Err(Error::from(ErrorKind::InvalidInput));

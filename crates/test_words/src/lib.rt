@@ -12,7 +12,7 @@ mod devices;
 mod given;
 mod saying;
 
-pub use asked::{Asked, answer, cut, number_in, text_of};
-pub use devices::{ReportedReader, failure, narrow_of};
+pub use asked::{TestCall, answer, cut, number_in, text_of};
+pub use devices::{ScriptedReader, failure, narrow_of};
 pub use given::{fact_of, plan_of, task_of};
 pub use saying::{say, say_bytes, say_debug, say_either, say_line, say_number, say_text};

@@ -10,7 +10,7 @@ ghost use Rattle.sas_task_judge.specs.TaskJudge.{HasRow, MovesAhead};
 use super::TaskJudge;
 use sas_task_format::Place;
 use sas_task_line::{
-    Event, change_in, effect_before, fact_before, name_before, number_line_before, value_in,
+    Event, change_in, read_effect, read_fact, read_name, read_number_line, value_in,
 };
 
 impl TaskJudge {
@@ -21,7 +21,7 @@ impl TaskJudge {
         ensures some { IfSome result (λ a. MovesAhead self.old bytes.now self.new a.0 a.1.now) }
         ensures none { IfNone result (self.new ≡ self.old) }
     {
-        let (_name, rest) = name_before(bytes)?;
+        let (_name, rest) = read_name(bytes)?;
         self.tracker.more = self.tracker.more.saturating_sub(1);
         Some((Event::Value, rest))
     }
@@ -33,7 +33,7 @@ impl TaskJudge {
         ensures some { IfSome result (λ a. MovesAhead self.old bytes.now self.new a.0 a.1.now) }
         ensures none { IfNone result (self.new ≡ self.old) }
     {
-        let (fact, rest) = fact_before(bytes)?;
+        let (fact, rest) = read_fact(bytes)?;
         if !value_in(&self.tracker.ranges, fact.var, fact.value) {
             return None;
         }
@@ -49,7 +49,7 @@ impl TaskJudge {
         ensures some { IfSome result (λ a. MovesAhead self.old bytes.now self.new a.0 a.1.now) }
         ensures none { IfNone result (self.new ≡ self.old) }
     {
-        let (value, rest) = number_line_before(bytes)?;
+        let (value, rest) = read_number_line(bytes)?;
         if value > self.tracker.most_value() {
             return None;
         }
@@ -65,7 +65,7 @@ impl TaskJudge {
         ensures some { IfSome result (λ a. MovesAhead self.old bytes.now self.new a.0 a.1.now) }
         ensures none { IfNone result (self.new ≡ self.old) }
     {
-        let (change, rest) = effect_before(bytes)?;
+        let (change, rest) = read_effect(bytes)?;
         if !change_in(&self.tracker.ranges, change.var, change.old, change.new) {
             return None;
         }

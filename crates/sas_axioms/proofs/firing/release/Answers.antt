@@ -1,5 +1,5 @@
 -- One more entry is counted.
-use Rattle.sas_axioms.proofs.Imports.{◌+◌, ◌<◌, length, get_or, refl, ap, ◌∙◌, arith, All, Moved, IsOfRule}
+use Rattle.sas_axioms.proofs.Imports.{◌+◌, ◌<◌, length, get_or, refl, ap, ◌∙◌, arith, All, ValueChange, IsOfRule}
 use Rattle.sas_axioms.proofs.Counters.{goes_on_still, popped_running, top_within, can_release, ready_so_far, released_on, released_fired, at_work_again}
 use Rattle.sas_axioms.proofs.CountingEntries.{CanRecount, CountersSoFar, no_entry, counters_before, counters_passed, counters_set, its_count, can_count}
 use Rattle.sas_axioms.proofs.firing.release.Goals as goal
@@ -32,7 +32,7 @@ loop-condition-init g c =
 
 pub count_after-requires : goal.count_after-requires
 count_after-requires g c =
-    let moved : Moved = record { former = c.initial_value.result; value = c.value.result } in
+    let moved : ValueChange = record { former = c.initial_value.result; value = c.value.result } in
     let ws = c.get-condition-items.result.now in
     let w0 = c.args.work.now in
     let can : CanRecount moved ws w0.counters = rw (c.get-condition-items.ensures, (rw c.indexed.view_is at c.initial_value.ensures), c.value.ensures)
@@ -53,7 +53,7 @@ pub fire-requires-clause-hold : goal.fire-requires-clause-hold
 fire-requires-clause-hold g c on =
     let p = c.args.indexed.now in
     let w0 = c.args.work.now in
-    let moved : Moved = record { former = c.initial_value.result; value = c.value.result } in
+    let moved : ValueChange = record { former = c.initial_value.result; value = c.value.result } in
     let ws = c.get-condition-items.result.now in
     let i = c.loop-condition.condition-index in
     let work = c.loop-condition.work in
@@ -72,7 +72,7 @@ loop-condition-preserved g c =
     let p = c.args.indexed.now in
     let s0 = c.args.state.now in
     let w0 = c.args.work.now in
-    let moved : Moved = record { former = c.initial_value.result; value = c.value.result } in
+    let moved : ValueChange = record { former = c.initial_value.result; value = c.value.result } in
     let ws = c.get-condition-items.result.now in
     let i = c.loop-condition.condition-index in
     let s = c.loop-condition.state in

@@ -2,16 +2,16 @@
 use Rattle.sas_axioms.proofs.Imports.{length, refl, ap, inl, ◌∙◌, length-set}
 use Rattle.sas_axioms.proofs.following.count_to.Goals as goal
 
-pub returns-in_err-note-clause-same : goal.returns-in_err-note-clause-same
-returns-in_err-note-clause-same g c = record {
+pub returns-in_err-note_rule-clause-same : goal.returns-in_err-note_rule-clause-same
+returns-in_err-note_rule-clause-same g c = record {
   layer = refl;
   stack = refl;
   one_each = ap length c.set.ensures ∙ length-set c.args.work.now.counters c.args.rule c.args.count;
   sources = refl;
 }
 
-pub returns-in_ok-note-clause-same : goal.returns-in_ok-note-clause-same
-returns-in_ok-note-clause-same g c = record {
+pub returns-in_ok-note_rule-clause-same : goal.returns-in_ok-note_rule-clause-same
+returns-in_ok-note_rule-clause-same g c = record {
   layer = refl;
   stack = refl;
   one_each = ap length c.set.ensures ∙ length-set c.args.work.now.counters c.args.rule c.args.count;
@@ -26,8 +26,8 @@ returns-else-held-count-clause-same g c = record {
   sources = refl;
 }
 
-pub returns-in_ok-note-clause-counts : goal.returns-in_ok-note-clause-counts
-returns-in_ok-note-clause-counts g c = record {
+pub returns-in_ok-note_rule-clause-counts : goal.returns-in_ok-note_rule-clause-counts
+returns-in_ok-note_rule-clause-counts g c = record {
   same = record {
     layer = refl;
     stack = refl;
@@ -35,7 +35,7 @@ returns-in_ok-note-clause-counts g c = record {
     sources = refl;
   };
   counters = c.set.ensures;
-  crossed = λ layer is. inl (c.in_ok-note.ensures.noted layer is);
-  notes = c.in_ok-note.ensures.notes;
-  left = c.in_ok-note.ensures.left;
+  crossed = λ layer is. inl (c.in_ok-note_rule.ensures.noted layer is);
+  notes = c.in_ok-note_rule.ensures.notes;
+  left = c.in_ok-note_rule.ensures.left;
 }

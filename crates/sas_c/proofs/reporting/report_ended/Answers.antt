@@ -6,4 +6,4 @@ pub returns-in-Ok : goal.returns-in-Ok
 returns-in-Ok c = rw c.in-Ok.is (reports_same _ _ _ _ _ _ _ (c.as_slice.ensures.value ∙ ap (λ (v : Vec ℕ). v.items) c.into_device.ensures) c.report.ensures)
 
 pub returns-in-Err : goal.returns-in-Err
-returns-in-Err c = rw c.in-Err.is (reports_fault _ _ _ c.in-Err.fault _ c.number_without.ensures (λ long. (long, refl)))
+returns-in-Err c = rw c.in-Err.is (reports_fault _ _ _ c.in-Err.fault _ c.fault_number.ensures (λ long. (long, refl)))

@@ -1,5 +1,5 @@
 -- The fact is recorded for one more group.
-use Rattle.sas_groups.proofs.Imports.{◌≢◌, ◌<◌, List, length, get_or, IsTrue, subst, sym, ◌∙◌, arith, both_ways, Contains-get_or, each_more, common_steps, Noted, Several, family_of, group_note, IsNotedToo, NotesForGroup}
+use Rattle.sas_groups.proofs.Imports.{◌≢◌, ◌<◌, List, length, get_or, IsTrue, subst, sym, ◌∙◌, arith, both_ways, Contains-get_or, each_more, common_steps, GroupNote, Several, family_of, group_note, IsNotedToo, NotesForGroup}
 use Rattle.sas_groups.proofs.NotesOfFacts.{since_before, takes_still, takes_here, taken_more}
 use Rattle.sas_groups.proofs.notes.note_in_groups.Goals as goal
 use Rattle.sas_groups.proofs.notes.note_in_groups.Goals.{else-is_several-via-then-is_several+else-is_kept, else-is_several-via-else-is_several}
@@ -19,7 +19,7 @@ loop-group-preserved c =
     let inv = c.loop-group.invariant in
     let among = Contains-get_or groups n 0 c.loop-group-test.true in
     let below : place < length now = let e = inv.some.as_many in let h = c.requires n 0 c.loop-group-test.true in omega arith in
-    let too : IsNotedToo (group_note now place) fact after = subst (λ (xs : List Noted). IsNotedToo (group_note xs place) fact after) c.as_slice.ensures c.with-now.ensures in
+    let too : IsNotedToo (group_note now place) fact after = subst (λ (xs : List GroupNote). IsNotedToo (group_note xs place) fact after) c.as_slice.ensures c.with-now.ensures in
     let alone : IsTrue (family_of kept place) → after ≢ Several = λ in_family several. elim c.else-is_several.branch [
       | else-is_several-via-then-is_several+else-is_kept w ↦ both_ways (family_of kept place) (sym w.is_kept.ensures ∙ w.if-is_kept.false) in_family
       | else-is_several-via-else-is_several w ↦ both_ways c.is_several.result w.if-is_several.false (c.is_several.ensures.1 several)

@@ -8,7 +8,7 @@ no_line = Step 0
 pub loop-line-preserved : goal.loop-line-preserved
 loop-line-preserved g c =
     let named = c.args.named.now in
-    pushes_item _ (λ line. line_bytes named.task.now (steps_of named.plan) line ++ 10 ∷ []) _ _ no_line _ _ _ c.loop-line-test.true c.loop-line.invariant c.push_line.ensures
+    pushes_item _ (λ line. line_bytes named.task.now (steps_of named.plan) line ++ 10 ∷ []) _ _ no_line _ _ _ c.loop-line-test.true c.loop-line.invariant c.push_reason.ensures
 
 pub returns : goal.returns
 returns g c =

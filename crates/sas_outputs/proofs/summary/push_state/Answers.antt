@@ -2,7 +2,7 @@ use Rattle.sas_outputs.proofs.Imports.{arith, subst, Pushes, initial_all, initia
 use Rattle.sas_outputs.proofs.summary.push_state.Goals as goal
 
 pub loop-var-preserved : goal.loop-var-preserved
-loop-var-preserved g c = initial_next _ _ _ _ _ _ _ c.loop-var-test.true c.loop-var.invariant c.push_fact.ensures
+loop-var-preserved g c = initial_next _ _ _ _ _ _ _ c.loop-var-test.true c.loop-var.invariant c.push_summary_fact.ensures
 
 pub returns : goal.returns
 returns g c =

@@ -7,5 +7,5 @@ returns-in-None c = judged_name c.args.line.now c.in-Some.rest.now c.in-Some.ens
 pub returns-in-None-behind : goal.returns-in-None-behind
 returns-in-None-behind c = judged_keyword c.args.line.now c.in_default.ensures c.in-None-behind.ensures
 
-pub returns-in-None-cost_of : goal.returns-in-None-cost_of
-returns-in-None-cost_of c = judged_shape c.args.line.now c.in-Some-behind.rest.now c.in-Some-behind.ensures c.in-None-cost_of.ensures.none
+pub returns-in-None-cost_on_line : goal.returns-in-None-cost_on_line
+returns-in-None-cost_on_line c = judged_shape c.args.line.now c.in-Some-behind.rest.now c.in-Some-behind.ensures c.in-None-cost_on_line.ensures.none

@@ -1,23 +1,23 @@
 use Rattle.std.proofs.lemmas.Grind.{common_steps}
-use Rattle.sas_reader.proofs.Imports.{refl, ◌≡◌, ◌≢◌, ◌≤◌, ◌<◌, Bool, true, false, ◌+◌, ◌++◌, ℕ, List, length, ap, subst, ◌∙◌, sym, arith, inl, inr, take, Result, Ok, Err, None, Some, Option, IsTrue, Consumes, IsAtEnd, Consumes-nil, Consumes-trans, Consumes-kept, append-nil, length-take-le, false≢true, Device, Fault, Kind, Reader, Refused, answer, LineIsDue, FaultIn, IsRefused, Stands, ReadFails, unread, early, faulty, ReachesEnd, FeedsMachine}
+use Rattle.sas_reader.proofs.Imports.{refl, ◌≡◌, ◌≢◌, ◌≤◌, ◌<◌, Bool, true, false, ◌+◌, ◌++◌, ℕ, List, length, ap, subst, ◌∙◌, sym, arith, inl, inr, take, Result, Ok, Err, None, Some, Option, IsTrue, Consumes, IsAtEnd, Consumes-nil, Consumes-trans, Consumes-kept, append-nil, length-take-le, false≢true, Device, Fault, Kind, Reader, Refusal, answer, LineIsDue, FaultIn, IsRefused, Stands, ReadFails, unread, early, faulty, ReachesEnd, FeedsMachine}
 use Rattle.sas_reader.specs.declared.fault.Kind.TheVariants as kinds
 use Rattle.sas_reader.proofs.Standing.{accepted_of, fault_of}
 use Rattle.sas_reader.proofs.devices.feed_all.Goals as goal
 
 module _ {M D : Type 0} (led_by : List (List ℕ) → M → Type 0) (ended : M → Type 0) (rejects : M → List ℕ → Kind → Type 0) (halted : M → List ℕ → Kind → M → Type 0) (left : D → Option (List ℕ)) where
   -- a refusal, by its reason other than `Memory`
-  pub refused_as : (limit : ℕ) (old new : Device D) (x r : Refused M) → x ≡ r → (r.fault.kind ≢ kinds.Memory → (b : List ℕ) × Consumes (left old.device) (left new.device) b × ReadFails led_by ended rejects halted limit b (IsAtEnd (left new.device)) r)
+  pub refused_as : (limit : ℕ) (old new : Device D) (x r : Refusal M) → x ≡ r → (r.fault.kind ≢ kinds.Memory → (b : List ℕ) × Consumes (left old.device) (left new.device) b × ReadFails led_by ended rejects halted limit b (IsAtEnd (left new.device)) r)
       → (r.fault.kind ≡ kinds.Memory → (b piece : List ℕ) × Consumes (left old.device) (left new.device) (b ++ piece) × LineIsDue led_by ended limit b piece) → (r.fault.kind ≡ kinds.Read → IsTrue new.failed) → (IsTrue new.failed → r.fault.kind ≡ kinds.Read)
       → FeedsMachine led_by ended rejects halted left limit old new (Err x)
-  refused_as limit old new x r is refused memory read note = subst (λ (y : Refused M). FeedsMachine led_by ended rejects halted left limit old new (Err y)) (sym is) (record { at_end = tt; reached = tt; refused = refused; memory = memory; note = (read, note) })
+  refused_as limit old new x r is refused memory read note = subst (λ (y : Refusal M). FeedsMachine led_by ended rejects halted left limit old new (Err y)) (sym is) (record { at_end = tt; reached = tt; refused = refused; memory = memory; note = (read, note) })
 
   -- the fault that a reader finds at the end of its device
-  at_end : (limit : ℕ) (b : List ℕ) (End : Type 0) (r : Refused M) → End → r.fault.kind ≢ kinds.Read → IsRefused led_by ended rejects halted limit b r → ReadFails led_by ended rejects halted limit b End r
+  at_end : (limit : ℕ) (b : List ℕ) (End : Type 0) (r : Refusal M) → End → r.fault.kind ≢ kinds.Read → IsRefused led_by ended rejects halted limit b r → ReadFails led_by ended rejects halted limit b End r
   at_end limit b End r e ne (inl h) = faulty h ne
   at_end limit b End r e ne (inr h) = early e h
 
   -- a device is read to its end with a reader that has no fault
-  ended_so : (limit : ℕ) (old new : Device D) (b : List ℕ) (r : Reader M) (result : Result M (Refused M)) → ReachesEnd led_by ended rejects halted r result → Stands led_by ended rejects halted r b → r.fault ≡ None → r.limit ≡ limit
+  ended_so : (limit : ℕ) (old new : Device D) (b : List ℕ) (r : Reader M) (result : Result M (Refusal M)) → ReachesEnd led_by ended rejects halted r result → Stands led_by ended rejects halted r b → r.fault ≡ None → r.limit ≡ limit
       → Consumes (left old.device) (left new.device) b → IsAtEnd (left new.device) → (IsTrue new.failed → ⊥) → FeedsMachine led_by ended rejects halted left limit old new result
   ended_so limit old new b r (Ok m) h s none same took over well = record {
     at_end = h.at_end;
@@ -60,7 +60,7 @@ returns-in-Err g c =
     let b = v.read.0 in
     let r = c.loop-n.reader in
     let h = accepted_of g.M.Machine.led_by g.M.Machine.ended g.M.Machine.rejects g.M.Machine.stopped r b v.fault v.read.2 in
-    let e : Refused _ = record { fault = record { line = r.lines + 1; kind = kinds.Read }; machine = r.machine; found = r.found } in
+    let e : Refusal _ = record { fault = record { line = r.lines + 1; kind = kinds.Read }; machine = r.machine; found = r.found } in
     refused_as g.M.Machine.led_by g.M.Machine.ended g.M.Machine.rejects g.M.Machine.stopped g.R.Read.remaining c.args.reader.limit _ _ _ e c.refused.ensures
     (λ ne. (b, Consumes-kept _ _ _ b v.read.1 c.in-Err.ensures.bytes, unread r.machine h.reached (omega (arith, h.taken, r.within, v.limit)) (ap (λ (n : ℕ). n + 1) h.lines) refl))
     (λ is. absurd {0} (apart is))
@@ -84,7 +84,7 @@ returns-in-Err-feed g c =
     let takes = c.in-Err-feed.ensures in
     let s = takes.stands b v.read.2 in
     let not_read : f.kind ≢ kinds.Read = λ e. (takes.kind v.fault).1 e in
-    let e : Refused _ = record { fault = f; machine = next.machine; found = next.found } in
+    let e : Refusal _ = record { fault = f; machine = next.machine; found = next.found } in
     refused_as g.M.Machine.led_by g.M.Machine.ended g.M.Machine.rejects g.M.Machine.stopped g.R.Read.remaining c.args.reader.limit _ _ _ e c.refused-in-Err-feed.ensures
     (λ ne. (b ++ piece, Consumes-trans _ _ _ b piece v.read.1 c.in-Ok.ensures.bytes.0, faulty (subst (λ (l : ℕ). FaultIn g.M.Machine.led_by g.M.Machine.ended g.M.Machine.rejects g.M.Machine.stopped l (b ++ piece) f next.machine next.found) (takes.limit ∙ v.limit) (fault_of g.M.Machine.led_by g.M.Machine.ended g.M.Machine.rejects g.M.Machine.stopped next f (b ++ piece) (answer_err next.fault f (sym takes.answer)) s ne)) not_read))
     (λ is. (b, piece, Consumes-trans _ _ _ b piece v.read.1 c.in-Ok.ensures.bytes.0, subst (λ (l : ℕ). LineIsDue g.M.Machine.led_by g.M.Machine.ended l b piece) v.limit (takes.memory v.fault is b v.read.2)))

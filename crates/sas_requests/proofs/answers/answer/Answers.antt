@@ -6,36 +6,36 @@ pub returns-in-Show : goal.returns-in-Show
 returns-in-Show g c =
     let detail = plan_detail_of c.args.question in
     let request : request_of c.args.question ≡ Show = sym c.request.ensures ∙ c.in-Show.is in
-    let ends = rw (c.detail-detail.ensures, c.plan_detail-plan_detail.ensures) at c.show.ensures in
-    rw request (of_task g.T.Read.remaining g.P.Read.remaining g.W.Write.contents _ _ detail Show refl (TaskBy (detail_of detail) ShowAnswer) (λ b c o out. out) _ _ _ c.show.result c.requires.plan ends)
+    let ends = rw (c.detail-detail.ensures, c.plan_detail-plan_detail.ensures) at c.answer_show.ensures in
+    rw request (of_task g.T.Read.remaining g.P.Read.remaining g.W.Write.contents _ _ detail Show refl (TaskBy (detail_of detail) ShowAnswer) (λ b c o out. out) _ _ _ c.answer_show.result c.requires.plan ends)
 
 pub returns-in-Print : goal.returns-in-Print
 returns-in-Print g c =
     let detail = plan_detail_of c.args.question in
     let request : request_of c.args.question ≡ Print = sym c.request.ensures ∙ c.in-Print.is in
-    let ends = rw (c.detail-detail.ensures, c.plan_detail-plan_detail.ensures) at c.print.ensures in
-    rw request (of_task g.T.Read.remaining g.P.Read.remaining g.W.Write.contents _ _ detail Print refl (TaskBy (detail_of detail) (PrintAnswer task_format)) (λ b c o out. out) _ _ _ c.print.result c.requires.plan ends)
+    let ends = rw (c.detail-detail.ensures, c.plan_detail-plan_detail.ensures) at c.answer_print.ensures in
+    rw request (of_task g.T.Read.remaining g.P.Read.remaining g.W.Write.contents _ _ detail Print refl (TaskBy (detail_of detail) (PrintAnswer task_format)) (λ b c o out. out) _ _ _ c.answer_print.result c.requires.plan ends)
 
 pub returns-in-Check : goal.returns-in-Check
 returns-in-Check g c =
     let detail = plan_detail_of c.args.question in
     let request : request_of c.args.question ≡ Check = sym c.request.ensures ∙ c.in-Check.is in
-    let ends = rw (c.detail-detail.ensures, c.plan_detail-plan_detail.ensures) at c.check.ensures in
-    rw request (of_task g.T.Read.remaining g.P.Read.remaining g.W.Write.contents _ _ detail Check refl (TaskBy (detail_of detail) (CheckBy (detail_of detail))) (λ b c o out. out) _ _ _ c.check.result c.requires.plan ends)
+    let ends = rw (c.detail-detail.ensures, c.plan_detail-plan_detail.ensures) at c.answer_check.ensures in
+    rw request (of_task g.T.Read.remaining g.P.Read.remaining g.W.Write.contents _ _ detail Check refl (TaskBy (detail_of detail) (CheckBy (detail_of detail))) (λ b c o out. out) _ _ _ c.answer_check.result c.requires.plan ends)
 
 pub returns-in-Mutex : goal.returns-in-Mutex
 returns-in-Mutex g c =
     let detail = plan_detail_of c.args.question in
     let request : request_of c.args.question ≡ Mutex = sym c.request.ensures ∙ c.in-Mutex.is in
-    let ends = rw (c.detail-detail.ensures, c.plan_detail-plan_detail.ensures) at c.mutex.ensures in
-    rw request (of_task g.T.Read.remaining g.P.Read.remaining g.W.Write.contents _ _ detail Mutex refl (TaskBy (detail_of detail) (MutexBy (detail_of detail))) (λ b c o out. out) _ _ _ c.mutex.result c.requires.plan ends)
+    let ends = rw (c.detail-detail.ensures, c.plan_detail-plan_detail.ensures) at c.answer_mutex.ensures in
+    rw request (of_task g.T.Read.remaining g.P.Read.remaining g.W.Write.contents _ _ detail Mutex refl (TaskBy (detail_of detail) (MutexBy (detail_of detail))) (λ b c o out. out) _ _ _ c.answer_mutex.result c.requires.plan ends)
 
 pub returns-in-Steps : goal.returns-in-Steps
 returns-in-Steps g c =
     let detail = plan_detail_of c.args.question in
     let request : request_of c.args.question ≡ Steps = sym c.request.ensures ∙ c.in-Steps.is in
-    let ends = rw (c.detail-detail.ensures, c.plan_detail-plan_detail.ensures) at c.steps.ensures in
-    rw request (of_steps g.T.Read.remaining g.P.Read.remaining g.W.Write.contents _ _ detail _ _ _ c.steps.result c.requires.task ends)
+    let ends = rw (c.detail-detail.ensures, c.plan_detail-plan_detail.ensures) at c.answer_steps.ensures in
+    rw request (of_steps g.T.Read.remaining g.P.Read.remaining g.W.Write.contents _ _ detail _ _ _ c.answer_steps.result c.requires.task ends)
 
 pub returns-in-Plan : goal.returns-in-Plan
 returns-in-Plan g c =

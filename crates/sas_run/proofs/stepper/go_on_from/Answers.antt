@@ -1,5 +1,5 @@
 -- The effects are applied, and the result is settled from the state before.
-use Rattle.sas_run.proofs.Imports.{◌≢◌, ◌⊎◌, ℕ, ◌∷◌, List, [], is_some, sym, ◌∙◌, ap, subst, inl, inr, All, cases_eq, All-nil, All-cons, Contains-append_left, Contains-append_right, Contains-push, Fact, Parts, Touched, HaveGone, SameBasic, CoversChanges, layer_cases, HasFactOn, ListsChanges}
+use Rattle.sas_run.proofs.Imports.{◌≢◌, ◌⊎◌, ℕ, ◌∷◌, List, [], is_some, sym, ◌∙◌, ap, subst, inl, inr, All, cases_eq, All-nil, All-cons, Contains-append_left, Contains-append_right, Contains-push, Fact, Parts, ChangedVariables, HaveGone, SameBasic, CoversChanges, layer_cases, HasFactOn, ListsChanges}
 use Rattle.sas_run.proofs.stepper.go_on_from.Goals as goal
 
 -- ---- what is listed
@@ -15,7 +15,7 @@ of_one (fact ∷ facts) var = elim (cases_eq fact.var var) [
 ]
 
 -- from s the effects lead to m, which is settled in s'
-lists_step : (p : Parts) (s m s' : List ℕ) (deleted : List Fact) (touched : Touched) → HaveGone p deleted s m → SameBasic p m s' → CoversChanges p s s' touched → ListsChanges p s s' deleted touched
+lists_step : (p : Parts) (s m s' : List ℕ) (deleted : List Fact) (touched : ChangedVariables) → HaveGone p deleted s m → SameBasic p m s' → CoversChanges p s s' touched → ListsChanges p s s' deleted touched
 lists_step p s m s' deleted touched have basic covers = record {
   basic = have.basic;
   exist = have.exist;

@@ -1,5 +1,5 @@
 -- The given value of one more variable is written and removed.
-use Rattle.sas_run.proofs.Imports.{◌≡◌, ◌<◌, ℕ, List, Option, length, set, None, Some, sym, ap, subst, ◌∙◌, arith, IsTrue, cases_eq, Change, operator_at, effect_at, IsBasic, state_set, Deleted, NotesOn, given_to, no_effect}
+use Rattle.sas_run.proofs.Imports.{◌≡◌, ◌<◌, ℕ, List, Option, length, set, None, Some, sym, ap, subst, ◌∙◌, arith, IsTrue, cases_eq, Change, operator_at, effect_at, IsBasic, state_set, DeletedFacts, NotesOn, given_to, no_effect}
 use Rattle.sas_run.proofs.Ranges.{change_within}
 use Rattle.sas_run.proofs.Giving.{HasGiven, all_taken, others_given, fewer_on_effects, one_more_taken, written_same}
 use Rattle.sas_run.proofs.Deleted.{starting, notes_on, deleted_more}
@@ -16,7 +16,7 @@ loop-effect-preserved g c =
     let given = c.loop-effect.given in
     let inv = c.loop-effect.invariant in
     let deleted = c.loop-effect.deleted.facts.items in
-    let still = λ (after : Deleted) (notes : NotesOn c.loop-effect.deleted after) (noted : IsTrue after.noted). sym notes.noted ∙ noted in
+    let still = λ (after : DeletedFacts) (notes : NotesOn c.loop-effect.deleted after) (noted : IsTrue after.noted). sym notes.noted ∙ noted in
     let v = c.effect_change-var.result.var in
     let on : v ≡ (effect_at o n).var = ap (λ (change : Change). change.var) c.effect_change-var.ensures in
     let exists : v < length p.variables = change_within p c.task.ensures.well_ranged c.args.operator c.requires.operator n (omega arith) c.effect_change-var.result c.effect_change-var.ensures in

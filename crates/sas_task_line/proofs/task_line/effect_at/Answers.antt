@@ -5,4 +5,4 @@ pub returns-then-not-found : goal.returns-then-not-found
 returns-then-not-found c = or_wants (refused_effect_shape _ c.args.line.now (c.in_ok-found.ensures.none c.if-not-found.true))
 
 pub returns-then-not-effect_in_ranges : goal.returns-then-not-effect_in_ranges
-returns-then-not-effect_in_ranges c = or_wants (refused_effect_value _ c.args.line.now c.effect_of.new.effect (c.in_ok-found.ensures.found c.if-not-found.false) (λ t. let exists = c.effect_in_ranges.ensures in let missing = c.if-not-effect_in_ranges.true in cc))
+returns-then-not-effect_in_ranges c = or_wants (refused_effect_value _ c.args.line.now c.parse_effect.new.effect (c.in_ok-found.ensures.found c.if-not-found.false) (λ t. let exists = c.effect_in_ranges.ensures in let missing = c.if-not-effect_in_ranges.true in cc))

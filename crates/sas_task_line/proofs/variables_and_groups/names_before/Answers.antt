@@ -6,5 +6,5 @@ loop-i-init c = none_appended _ _ c.in-Some.count _ c.in-Some.ensures
 
 pub loop-i-preserved : goal.loop-i-preserved
 loop-i-preserved c =
-    let named = c.in-Some-name_before.ensures in
-    one_more_appended _ _ c.in-Some-name_before.name.now c.loop-i.invariant c.in_ok-push.ensures.ok named.1 named.0
+    let named = c.in-Some-read_name.ensures in
+    one_more_appended _ _ c.in-Some-read_name.name.now c.loop-i.invariant c.in_ok-push.ensures.ok named.1 named.0

@@ -1,16 +1,16 @@
-use Rattle.sas_task_reader.proofs.Imports.{◌≡◌, List, ℕ, ap, ◌∙◌, Kind, SoFar, TaskMachine, HasEnded, RejectsLine, LedBy, MachineStopped, table_node, task_format, TaskLineFits, table_start, table_grammar, reads_explained, refuses_explained, Seen, outline_in, kept_of, fault_in, found_in, HasReason}
+use Rattle.sas_task_reader.proofs.Imports.{◌≡◌, List, ℕ, ap, ◌∙◌, Kind, SoFar, TaskMachine, HasEnded, RejectsLine, LedBy, MachineStopped, table_node, task_format, TaskLineFits, table_start, table_grammar, reads_explained, refuses_explained, OutlineSoFar, outline_in, kept_of, fault_in, found_in, HasReason}
 use Rattle.sas_task_reader.proofs.Outlines.{outline_is}
 use Rattle.sas_task_reader.proofs.TaskStanding.{machine_follows, reads_so_far}
 use Rattle.sas_task_reader.proofs.outline.read_outline.Goals as goal
 
 -- what the machine stores
-abbrev Keeps : List (List ℕ) → SoFar → Seen → Type 0
+abbrev Keeps : List (List ℕ) → SoFar → OutlineSoFar → Type 0
 Keeps lines s kept = kept ≡ kept_of s
 
-abbrev Ended : TaskMachine Seen → Type 0
+abbrev Ended : TaskMachine OutlineSoFar → Type 0
 Ended m = HasEnded m.judge
 
-abbrev Refused : TaskMachine Seen → List ℕ → Kind → Type 0
+abbrev Refused : TaskMachine OutlineSoFar → List ℕ → Kind → Type 0
 Refused m line kind = RejectsLine m.judge line kind
 
 pub returns-in-Ok : goal.returns-in-Ok

@@ -11,7 +11,7 @@ first_beside-requires g c =
 pub returns-in_default-clause-none : goal.returns-in_default-clause-none
 returns-in_default-clause-none g c =
     let s = c.args.layered.now.init in
-    exclusive_without s _ (subst (λ (facts : List Fact). find (holds s) facts ≡ None) (rw c.task-task.ensures.task at c.group-facts.ensures) (sym c.first_holding.ensures ∙ c.in_default.is))
+    exclusive_without s _ (subst (λ (facts : List Fact). find (holds s) facts ≡ None) (rw c.task-task.ensures.task at c.group-facts.ensures) (sym c.first_initial.ensures ∙ c.in_default.is))
 
 pub returns-in-None-clause-none : goal.returns-in-None-clause-none
 returns-in-None-clause-none g c =

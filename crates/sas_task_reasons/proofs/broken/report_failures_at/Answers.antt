@@ -1,6 +1,6 @@
 -- The reason of each group that contains the fact set by the effect considers the effect: the notes
 -- decide, the effect never fires, or the reason isn't missing.
-use Rattle.sas_task_reasons.proofs.Imports.{ℕ, ◌+◌, Bool, List, Option, length, ap, subst, sym, ◌∙◌, arith, Contains-get_or, All-contains, IsNotedAt, NeverFires, EffectPlace, verdict_at, clash_never_fires, Greatest, Reason, reason_at, IsReasonSoFar, LacksReason}
+use Rattle.sas_task_reasons.proofs.Imports.{ℕ, ◌+◌, Bool, List, Option, length, ap, subst, sym, ◌∙◌, arith, Contains-get_or, All-contains, IsNotedAt, NeverFires, EffectPlace, verdict_at, clash_never_fires, GreatestFamily, Reason, reason_at, IsReasonSoFar, LacksReason}
 use Rattle.sas_task_reasons.proofs.ReasonsSoFar.{next_effect, not_lacking, pending_more}
 use Rattle.sas_task_reasons.proofs.broken.report_failures_at.Goals as goal
 use Rattle.sas_task_reasons.proofs.broken.report_failures_at.Goals.{then-not-note, else-not-note}
@@ -69,6 +69,6 @@ forget-requires g c = elim c.if-not-note.branch [
 pub returns-clause-kept : goal.returns-clause-kept
 returns-clause-kept g c =
     elim c.if-not-note.branch [
-      | then-not-note w ↦ ap (λ (greatest : Greatest). greatest.kept) w.greatest-is ∙ w.report_groups.ensures.kept
-      | else-not-note w ↦ ap (λ (greatest : Greatest). greatest.kept) w.greatest-is
+      | then-not-note w ↦ ap (λ (greatest : GreatestFamily). greatest.kept) w.greatest-is ∙ w.report_groups.ensures.kept
+      | else-not-note w ↦ ap (λ (greatest : GreatestFamily). greatest.kept) w.greatest-is
     ]

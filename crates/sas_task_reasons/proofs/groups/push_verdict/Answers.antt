@@ -7,9 +7,9 @@ said : (place : ℕ) (words : List ℕ) → codes "group " ++ (decimal place ++ 
 said place words = ap (λ (l : List ℕ). codes "group " ++ l ++ 10 ∷ []) (sym (append_assoc (decimal place) (32 ∷ []) words))
 
 pub returns-in-Initial : goal.returns-in-Initial
-returns-in-Initial g c = rw c.in-Initial.is (subst (Pushes g.W.Write.contents c.args.sink.now _) (said c.args.place (codes "not shown: initial state")) c.push_words-in-Initial.ensures)
+returns-in-Initial g c = rw c.in-Initial.is (subst (Pushes g.W.Write.contents c.args.sink.now _) (said c.args.place (codes "not shown: initial state")) c.push_group_words-in-Initial.ensures)
 
 pub returns-in-Broken : goal.returns-in-Broken
 returns-in-Broken g c =
-    let pushed = rw c.from.ensures at c.push_words-in-Broken.ensures in
+    let pushed = rw c.from.ensures at c.push_group_words-in-Broken.ensures in
     rw c.in-Broken.is (subst (Pushes g.W.Write.contents c.args.sink.now _) (said c.args.place (codes "not shown: operator " ++ decimal c.in-Broken.operator)) pushed)

@@ -1,5 +1,5 @@
 -- The facts that are deleted are noted, and then the derived variables.
-use Rattle.sas_trace.proofs.Imports.{◌<◌, ◌∙◌, sym, ap, subst, All, false≢true, Fact, Touched}
+use Rattle.sas_trace.proofs.Imports.{◌<◌, ◌∙◌, sym, ap, subst, All, false≢true, Fact, ChangedVariables}
 use Rattle.sas_trace.proofs.Listing.{touched_exist, covers_both}
 use Rattle.sas_trace.proofs.changes.list_changes.Goals as goal
 
@@ -22,7 +22,7 @@ pub list_touched-requires-clause-exist : goal.list_touched-requires-clause-exist
 list_touched-requires-clause-exist g c =
     let execution = c.args.execution.now in
     let fits = c.state-then-list_deleted.ensures.fits in
-    let listed = c.in-Some.ensures.some.1 ∙ ap (λ (t : Touched). t.vars.items) c.touched.ensures in
+    let listed = c.in-Some.ensures.some.1 ∙ ap (λ (t : ChangedVariables). t.vars.items) c.touched.ensures in
     rw (listed, c.state-then-list_deleted.ensures.now)
     (touched_exist execution.task c.args.printed.now execution.state execution.deleted execution.touched c.requires.step fits.one_each)
 
@@ -31,14 +31,14 @@ returns-then-list_deleted g c all =
     let execution = c.args.execution.now in
     let fits = c.state.ensures.fits in
     let some = c.in-Some.ensures.some in
-    let listed = some.1 ∙ ap (λ (t : Touched). t.vars.items) c.touched.ensures in
+    let listed = some.1 ∙ ap (λ (t : ChangedVariables). t.vars.items) c.touched.ensures in
     covers_both execution.task c.args.printed.now execution.state execution.deleted execution.touched c.requires.step c.list_deleted.new.listed.items c.list_touched.new.listed.items
     (c.requires.fits ∙ sym fits.one_each)
     (rw (c.state.ensures.now, c.clear.ensures.items) at c.list_deleted.ensures.grows)
     (rw (c.state.ensures.now, c.deleted.ensures) at (c.list_deleted.ensures.noted c.if-list_deleted.true))
     (rw c.state-then-list_deleted.ensures.now at c.list_touched.ensures.grows)
     (rw (c.state-then-list_deleted.ensures.now, listed) at (c.list_touched.ensures.noted all))
-    (ap (λ (t : Touched). t.any) (sym c.touched.ensures) ∙ some.0)
+    (ap (λ (t : ChangedVariables). t.any) (sym c.touched.ensures) ∙ some.0)
 
 pub returns-else-list_deleted : goal.returns-else-list_deleted
 returns-else-list_deleted g c all = absurd (false≢true (sym c.if-list_deleted.false ∙ all))

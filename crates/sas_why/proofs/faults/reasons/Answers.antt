@@ -1,5 +1,5 @@
 -- The lines of the fault, and that of another operator if a step may mean one.
-use Rattle.sas_why.proofs.Imports.{same_Some, List, ◌++◌, ◌∷◌, [], sym, ◌∙◌, ap, subst, IsWhy, Line, CouldBe, Other}
+use Rattle.sas_why.proofs.Imports.{same_Some, List, ◌++◌, ◌∷◌, [], sym, ◌∙◌, ap, subst, IsWhy, Line, CouldBe, OtherOperator}
 use Rattle.sas_why.proofs.Behind.{is_why, some_not_none}
 use Rattle.sas_why.proofs.faults.reasons.Goals as goal
 use Rattle.sas_why.proofs.faults.reasons.Goals.{in-Some+in_ok-push, in_default}
@@ -16,7 +16,7 @@ returns g c =
     (is_why _ _ _ run r _ (c.in_ok-lines.ensures run r) new
     (λ other is. elim c.match-noted.branch [
       | in-Some+in_ok-push w ↦ w.lines-is ∙ (w.in_ok-push.ensures.ok
-          ∙ ap (λ (o : Other). lines ++ CouldBe o.step o.operator ∷ []) (same_Some w.in-Some.other other (sym w.in-Some.is ∙ is)))
+          ∙ ap (λ (o : OtherOperator). lines ++ CouldBe o.step o.operator ∷ []) (same_Some w.in-Some.other other (sym w.in-Some.is ∙ is)))
       | in_default w ↦ absurd (some_not_none other (sym is ∙ w.in_default.is))
     ])
     (λ is. elim c.match-noted.branch [

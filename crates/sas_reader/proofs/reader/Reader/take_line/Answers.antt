@@ -28,10 +28,10 @@ returns-then-has_ended-clause-advances g c =
     })
 
 pub returns-then-not-is_empty-clause-advances : goal.returns-then-not-is_empty-clause-advances
-returns-then-not-is_empty-clause-advances g c = advances_wider g.M.Machine.led_by g.M.Machine.ended g.M.Machine.rejects g.M.Machine.stopped _ _ c.args.piece.now _ _ c.go_on.result c.within_limit-within.ensures c.go_on.ensures.advances
+returns-then-not-is_empty-clause-advances g c = advances_wider g.M.Machine.led_by g.M.Machine.ended g.M.Machine.rejects g.M.Machine.stopped _ _ c.args.piece.now _ _ c.take_cut_line.result c.within_limit-within.ensures c.take_cut_line.ensures.advances
 
 pub returns-in_default-clause-advances : goal.returns-in_default-clause-advances
-returns-in_default-clause-advances g c = advances_wider g.M.Machine.led_by g.M.Machine.ended g.M.Machine.rejects g.M.Machine.stopped _ _ c.args.piece.now _ _ c.go_on-in_default.result c.within_limit-within.ensures c.go_on-in_default.ensures.advances
+returns-in_default-clause-advances g c = advances_wider g.M.Machine.led_by g.M.Machine.ended g.M.Machine.rejects g.M.Machine.stopped _ _ c.args.piece.now _ _ c.take_cut_line-in_default.result c.within_limit-within.ensures c.take_cut_line-in_default.ensures.advances
 
 pub returns-in-Err-clause-advances : goal.returns-in-Err-clause-advances
 returns-in-Err-clause-advances g c =

@@ -1,5 +1,5 @@
 -- No step is known to succeed yet.
-use Rattle.sas_run.proofs.Imports.{refl, ap, ◌∙◌, Deleted, executed_of}
+use Rattle.sas_run.proofs.Imports.{refl, ap, ◌∙◌, DeletedFacts, executed_of}
 use Rattle.sas_run.proofs.Executing.{executes_none}
 use Rattle.sas_run.proofs.Runs.{still}
 use Rattle.sas_run.proofs.execution.Execution.new.Goals as goal
@@ -9,7 +9,7 @@ invariant_of-result g c =
     let progress = c.in_ok-progress.progress in
     record {
       prepared = c.new-2.ensures.prepared;
-      noted = ap (λ (d : Deleted). d.noted) c.new-2.ensures.deleted ∙ c.in-Ok.ensures.noted;
+      noted = ap (λ (d : DeletedFacts). d.noted) c.new-2.ensures.deleted ∙ c.in-Ok.ensures.noted;
       follows = c.in_ok-progress.ensures.follows;
       operators = c.in_ok-found.ensures;
       room = rw c.steps.ensures at c.in_ok-progress.ensures.room;

@@ -15,4 +15,4 @@ returns-in_ok-close-in-Ok-Some-clause-took c = λ some.
 
 pub returns-in_ok-missed-in_default-clause-none : goal.returns-in_ok-missed-in_default-clause-none
 returns-in_ok-missed-in_default-clause-none c = λ none.
-    ap (with_groups (the_view c.self.inside)) (c.cut.ensures.is ∙ lists_opened _ _ _ c.self.invariant.1 c.group_found.ensures.kept) ∙ c.self.view_is
+    ap (with_groups (the_view c.self.inside)) (c.cut.ensures.is ∙ lists_opened _ _ _ c.self.invariant.1 c.read_group.ensures.kept) ∙ c.self.view_is

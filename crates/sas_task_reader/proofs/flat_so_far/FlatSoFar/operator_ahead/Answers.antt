@@ -10,7 +10,7 @@ returns-in_default-push-clause-took c = λ some.
     let found = c.in-Ok-Some.found in
     let (p, e, prevail, effects, ahead) = rw c.in-Ok-Some.field-0-is at c.in-Ok-Some.ensures.found in
     let o = operator found.name.now p e found.cost in
-    let more = operators_more old (record old { prevail = c.operator_found.new.prevail; effects = c.operator_found.new.effects }) refl refl c.self.invariant.2
+    let more = operators_more old (record old { prevail = c.read_operator.new.prevail; effects = c.read_operator.new.effects }) refl refl c.self.invariant.2
     (record { more = p; is = prevail }) (record { more = e; is = effects }) _ _ _ c.in_default-push.ensures.ok in (
       o,
       ahead,
@@ -21,6 +21,6 @@ returns-in_default-push-clause-took c = λ some.
 pub returns-in_ok-missed-in_default-clause-none : goal.returns-in_ok-missed-in_default-clause-none
 returns-in_ok-missed-in_default-clause-none c = λ none.
     let old = c.self.inside.operators in
-    let begun = operators_opened old (record old { prevail = c.operator_found.new.prevail; effects = c.operator_found.new.effects }) refl refl c.self.invariant.2
-    c.operator_found.ensures.prevail c.operator_found.ensures.effects in
+    let begun = operators_opened old (record old { prevail = c.read_operator.new.prevail; effects = c.read_operator.new.effects }) refl refl c.self.invariant.2
+    c.read_operator.ensures.prevail c.read_operator.ensures.effects in
     ap (with_operators (the_view c.self.inside)) (c.cut-in_default.ensures.is ∙ begun.is) ∙ c.self.view_is

@@ -16,19 +16,19 @@ invariant_of-self-in-Some-1 c =
 pub invariant_of-self-in_err-close-in-Ok-Some : goal.invariant_of-self-in_err-close-in-Ok-Some
 invariant_of-self-in_err-close-in-Ok-Some c =
     let i = c.self.invariant in
-    let lists = c.in_err-close-in-Ok-Some.ensures.err ∙ lists_opened _ _ _ i.3 c.rule_found.ensures.kept in
+    let lists = c.in_err-close-in-Ok-Some.ensures.err ∙ lists_opened _ _ _ i.3 c.read_rule.ensures.kept in
     (i.0, i.1, i.2, c.in_err-close-in-Ok-Some.ensures.align, ap length lists ∙ i.4 ∙ sym (ap length c.in_ok-reserve.ensures.items))
 
 pub invariant_of-self-in_err-missed-in_default : goal.invariant_of-self-in_err-missed-in_default
 invariant_of-self-in_err-missed-in_default c =
     let i = c.self.invariant in
-    let lists = c.cut.ensures.is ∙ lists_opened _ _ _ i.3 c.rule_found.ensures.kept in
+    let lists = c.cut.ensures.is ∙ lists_opened _ _ _ i.3 c.read_rule.ensures.kept in
     (i.0, i.1, i.2, c.cut.ensures.align, ap length lists ∙ i.4 ∙ sym (ap length c.in_ok-reserve.ensures.items))
 
 pub invariant_of-self-in_default : goal.invariant_of-self-in_default
 invariant_of-self-in_default c =
     let i = c.self.invariant in
-    let lists = c.cut.ensures.is ∙ lists_opened _ _ _ i.3 c.rule_found.ensures.kept in
+    let lists = c.cut.ensures.is ∙ lists_opened _ _ _ i.3 c.read_rule.ensures.kept in
     (i.0, i.1, i.2, c.cut.ensures.align, ap length lists ∙ i.4 ∙ sym (ap length c.in_ok-reserve.ensures.items))
 
 pub returns-in_ok-push-in-Ok-Some-clause-took : goal.returns-in_ok-push-in-Ok-Some-clause-took
@@ -45,5 +45,5 @@ returns-in_ok-push-in-Ok-Some-clause-took c = λ some.
 
 pub returns-in_ok-missed-in_default-clause-none : goal.returns-in_ok-missed-in_default-clause-none
 returns-in_ok-missed-in_default-clause-none c = λ none.
-    let lists = c.cut.ensures.is ∙ lists_opened _ _ _ c.self.invariant.3 c.rule_found.ensures.kept in
+    let lists = c.cut.ensures.is ∙ lists_opened _ _ _ c.self.invariant.3 c.read_rule.ensures.kept in
     ap (with_rules (the_view c.self.inside)) (ap (λ l. effects_of l (lists_in c.cut.new.self)) c.in_ok-reserve.ensures.items ∙ ap (effects_of c.self.inside.heads.items) lists) ∙ c.self.view_is

@@ -10,7 +10,7 @@ returns-in_default-push-clause-took c = λ some.
     let found = c.in-Ok-Some.found in
     let (values, names, many, ahead) = rw c.in-Ok-Some.field-0-is at c.in-Ok-Some.ensures.found in
     let v = variable found.name.now found.layer values in
-    let more = variables_more old (record old { values = c.variable_found.new.names }) refl refl refl c.self.invariant.0 (record { more = values; is = names }) _ _ _ c.in_default-push.ensures.ok in (
+    let more = variables_more old (record old { values = c.read_variable.new.names }) refl refl refl c.self.invariant.0 (record { more = values; is = names }) _ _ _ c.in_default-push.ensures.ok in (
       v,
       (ahead, sym many),
       one_variable_more (the_view c.self.inside) v c.clear.new.self found.layer c.clear-in-Ok-Some.new.self _ c.clear.ensures refl c.clear-in-Ok-Some.ensures more.is
@@ -20,5 +20,5 @@ returns-in_default-push-clause-took c = λ some.
 pub returns-in_ok-missed-in_default-clause-none : goal.returns-in_ok-missed-in_default-clause-none
 returns-in_ok-missed-in_default-clause-none c = λ none.
     let old = c.self.inside.variables in
-    let begun = variables_opened old (record old { values = c.variable_found.new.names }) refl refl refl c.self.invariant.0 c.variable_found.ensures.kept in
+    let begun = variables_opened old (record old { values = c.read_variable.new.names }) refl refl refl c.self.invariant.0 c.read_variable.ensures.kept in
     ap (with_variables (the_view c.self.inside)) (c.cut-in_default.ensures.is ∙ begun.is) ∙ c.self.view_is

@@ -1,4 +1,4 @@
-use Rattle.sas_task_reader.proofs.Imports.{ap, ◌∙◌, on_ok_weaker, Seen, kept_of}
+use Rattle.sas_task_reader.proofs.Imports.{ap, ◌∙◌, on_ok_weaker, OutlineSoFar, kept_of}
 use Rattle.sas_task_reader.proofs.Outlines.{IsOfRest, seen_after}
 use Rattle.sas_task_reader.proofs.task_outline.TaskOutlineKeeper.keep.Goals as goal
 
@@ -17,6 +17,6 @@ returns-in_default c =
       kept = on_ok_weaker c.keep.result (λ kept lines s is.
           let inside = c.self.view_is ∙ is in
           seen_after c.self.inside.seen c.keep.new.self s inside c.args.event c.args.said.now c.args.line.now of
-          (kept lines (kept_of s).rest (ap (λ (k : Seen). k.rest) inside))) c.keep.ensures.kept;
+          (kept lines (kept_of s).rest (ap (λ (k : OutlineSoFar). k.rest) inside))) c.keep.ensures.kept;
       err = c.keep.ensures.err;
     }

@@ -1,4 +1,4 @@
-use Rattle.sas_task_judge.specs.declared.keeper.VariableKept.{VariableKept}
+use Rattle.sas_task_judge.specs.declared.keeper.KeptVariable.{KeptVariable}
 use Rattle.sas_task_judge.specs.Sections.{behind_variable, VariableWithRange}
 use Rattle.sas_task_format.specs.TaskFormat.{variable_lines}
 use Rattle.sas_task_reader.proofs.Imports.{ℕ, List, ◌++◌, take, ap, ◌∙◌, without_returns}
@@ -8,4 +8,4 @@ use Rattle.sas_task_reader.proofs.task_text.TaskTextKeeper.keep_variable.Goals a
 pub returns : goal.returns
 returns c =
     let (a, ahead) = rw c.in-Some.is at c.in_ok-kept.ensures.found in
-    keeps_text (λ (kept : VariableKept). kept.front) (VariableWithRange c.args.bytes.now) variable_lines behind_variable _ _ c.args.bytes.now c.in-Some.kept a ahead ahead.0.1 (c.in_ok-take.ensures.ok ∙ ap (λ (x : List ℕ). x ++ without_returns (take c.in-Some.kept.front.bytes c.args.bytes.now)) c.self.view_is)
+    keeps_text (λ (kept : KeptVariable). kept.front) (VariableWithRange c.args.bytes.now) variable_lines behind_variable _ _ c.args.bytes.now c.in-Some.kept a ahead ahead.0.1 (c.in_ok-take.ensures.ok ∙ ap (λ (x : List ℕ). x ++ without_returns (take c.in-Some.kept.front.bytes c.args.bytes.now)) c.self.view_is)

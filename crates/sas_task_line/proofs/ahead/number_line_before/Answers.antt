@@ -1,6 +1,0 @@
-use Rattle.sas_task_line.proofs.Imports.{IfSome_then}
-use Rattle.sas_task_line.proofs.AheadReading.{number_is_ahead}
-use Rattle.sas_task_line.proofs.ahead.number_line_before.Goals as goal
-
-pub returns : goal.returns
-returns c = IfSome_then c.number_before.result c.number_before.ensures (λ found h. number_is_ahead c.args.bytes.now found.1.now found.0 h)
