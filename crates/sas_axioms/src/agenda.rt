@@ -37,8 +37,7 @@ const NOTING: usize = 8;
 const MOST_PASSES: usize = 64;
 
 impl Agenda {
-    /// Returns an empty agenda. Each update may process `share` list entries. Allocates all memory that it will need. `Err` means out of
-    /// memory.
+    /// Returns an empty agenda. Each update may process `share` list entries. Allocates all memory that it will need.
     pub fn new(alloc: Global, share: usize) -> Result<Agenda, AllocError>
         ensures { IfOk result IsEmpty }
     {
@@ -90,8 +89,7 @@ impl Agenda {
         Ok(())
     }
 
-    /// Notes the rule, and takes the work for it from what is left. Returns an error if too little work or room is left. Allocates no
-    /// memory.
+    /// Notes the rule, and takes the work for it from what is left. Returns an error if too little work or room is left.
     pub fn note(&mut self, entry: LayerRule) -> Result<(), OverBudget>
         requires { IsOrdered self.old }
         ensures { OnOk result (AddsToAgenda entry.layer entry.rule self.old self.new) }
@@ -149,7 +147,7 @@ impl Agenda {
         }
     }
 
-    /// Makes the rule ready. Returns an error if there is no room. Allocates no memory.
+    /// Makes the rule ready. Returns an error if there is no room.
     pub fn make_ready(&mut self, rule: u32) -> Result<(), OverBudget>
         ensures { OnOk result (IsMadeReady rule self.old self.new) }
     {

@@ -47,7 +47,7 @@ pub fn count_after(
     }
 }
 
-/// Returns the index of all conditions of rules that can fire. `Err` means out of memory.
+/// Returns the index of all conditions of rules that can fire.
 pub fn index_of_all<T: Grounded>(
     alloc: Global,
     layered: &Layered<T>,

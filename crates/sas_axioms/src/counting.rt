@@ -21,7 +21,7 @@ pub struct ConditionCounts {
 }
 
 impl ConditionCounts {
-    /// Returns the counters for the values in the state section. `Err` means out of memory.
+    /// Returns the counters for the values in the state section.
     pub fn new<T: Grounded>(
         alloc: Global,
         layered: &Layered<T>,

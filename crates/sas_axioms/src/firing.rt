@@ -58,8 +58,7 @@ impl Drop for Work {
 }
 
 impl Work {
-    /// Returns the data before the first layer, with this limit on the work of an update. Allocates all memory that will be needed. `Err`
-    /// means out of memory.
+    /// Returns the data before the first layer, with this limit on the work of an update. Allocates all memory that will be needed.
     fn new<T: Grounded>(
         alloc: Global,
         layered: &Layered<T>,
@@ -93,7 +92,7 @@ pub struct LayerSettler {
 
 impl LayerSettler {
     /// Returns an evaluator for the task. `share` is the number of list entries that an update may process. Allocates all memory that will
-    /// be needed. `Err` means out of memory.
+    /// be needed.
     pub fn new<T: Grounded>(
         alloc: Global,
         layered: &Layered<T>,

@@ -14,8 +14,7 @@ pub struct LayerRule {
     pub rule: u32,
 }
 
-/// Returns the rules that can fire, without those that never fire first on their layer, in ascending order of their layers. `Err` means
-/// out of memory.
+/// Returns the rules that can fire, without those that never fire first on their layer, in ascending order of their layers.
 pub fn first_rules<T: Grounded>(
     alloc: Global,
     layered: &Layered<T>,
@@ -95,7 +94,7 @@ pub struct LayerSpan {
     pub end: usize,
 }
 
-/// Returns the layers of the rules, from the lowest to the highest. `Err` means out of memory.
+/// Returns the layers of the rules, from the lowest to the highest.
 pub fn spans_of(alloc: Global, rules: &[LayerRule]) -> Result<Vec<LayerSpan>, AllocError>
     ensures { IfOk result (λ spans. AreSpans rules.now 0 spans.items (length rules.now)) }
 {

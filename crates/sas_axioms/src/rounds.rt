@@ -11,7 +11,6 @@ use sas_core::{Fact, Grounded};
 use sas_meaning::{Layered, Settle, State};
 
 /// An evaluator for any layered task. It processes the layers in ascending order and evaluates the rules of a layer until no value changes.
-/// Allocates no memory.
 #[derive(Clone, Copy, Debug, PartialEq, Eq)]
 pub struct Rounds;
 

@@ -49,7 +49,7 @@ impl Drop for Worklist {
 }
 
 impl Worklist {
-    /// Returns an evaluator for this task. `Err` means out of memory.
+    /// Returns an evaluator for this task.
     pub fn new<T: Grounded>(alloc: Global, layered: &Layered<T>) -> Result<Worklist, AllocError>
         ensures { IfOk result (λ w. IsReadyFor layered.now w) }
     {

@@ -42,7 +42,7 @@ impl<T> From<Vec<T>> for Items<T> {
 }
 
 impl<T> Items<T> {
-    /// Returns an empty list. Allocates no memory.
+    /// Returns an empty list.
     pub fn new(alloc: Global) -> Self
         ensures { result ≡ [] }
     {
@@ -51,14 +51,14 @@ impl<T> Items<T> {
         }
     }
 
-    /// Returns the list of the vector's items. Allocates no memory.
+    /// Returns the list of the vector's items.
     pub fn from_vec(items: Vec<T>) -> Self
         ensures { result ≡ items.items }
     {
         Items { items }
     }
 
-    /// Returns the items as a vector. Allocates no memory.
+    /// Returns the items as a vector.
     pub fn into_vec(self) -> Vec<T>
         ensures { result.items ≡ self }
     {

@@ -47,7 +47,6 @@ impl Model for Plan {
 
 impl Plan {
     /// Returns the plan with these steps if each is a name. Otherwise returns the steps unchanged and the first step that isn't a name.
-    /// Allocates no memory.
     pub fn new(
         steps: Items<Items<u8>>,
         cost: u64,

@@ -32,7 +32,7 @@ impl Model for Task {
 
 impl Task {
     /// Returns the task with these parts if they are well ranged. Otherwise returns the parts unchanged and their first fault in the order
-    /// of the file. Allocates no memory.
+    /// of the file.
     ///
     /// The order of the checks is:
     /// - `NoVariable`, then the number of variables.
@@ -74,7 +74,7 @@ impl Task {
         &self.parts
     }
 
-    /// Converts the task into its parts. Allocates no memory.
+    /// Converts the task into its parts.
     pub fn into_parts(self) -> Parts
         ensures parts { result ≡ self }
         ensures well_ranged { WellRanged self }

@@ -41,7 +41,7 @@ impl Model for Effects {
 }
 
 impl Effects {
-    /// Returns an empty list of effects. Allocates no memory.
+    /// Returns an empty list of effects.
     pub fn new(alloc: Global) -> Self
         ensures { result ≡ [] }
     {
@@ -51,7 +51,7 @@ impl Effects {
         }
     }
 
-    /// Returns the effects with these changes and conditions. Allocates no memory.
+    /// Returns the effects with these changes and conditions.
     pub fn of_parts(changes: Vec<Change>, conditions: Lists<Fact>) -> Self
         requires { length conditions ≤ length changes.items }
         ensures { result ≡ effects_of changes.items conditions }

@@ -31,7 +31,7 @@ fn shift(places: &mut [usize], by: usize)
 }
 
 impl Ends {
-    /// Returns the ends of no lists. Allocates no memory.
+    /// Returns the ends of no lists.
     pub fn new(alloc: Global) -> Self
         ensures { result ≡ [] }
     {
@@ -40,7 +40,7 @@ impl Ends {
         }
     }
 
-    /// Returns these ends. Allocates no memory.
+    /// Returns these ends.
     pub(crate) fn of_places(places: Vec<usize>) -> Self
         ensures { result ≡ places.items }
     {

@@ -51,7 +51,7 @@ fn part<T>(items: &[T], start: usize, end: usize) -> &[T]
 }
 
 impl<T> ListColumns<T> {
-    /// Returns the columns of no lists. Allocates no memory.
+    /// Returns the columns of no lists.
     pub fn new(alloc: Global) -> Self
         ensures { Hold (ListColumnsAlign AreEnds) lists_in result [] }
     {
@@ -103,7 +103,7 @@ impl<T: Copy> ListColumns<T> {
 }
 
 impl<T> Lists<T> {
-    /// Returns an empty list of lists. Allocates no memory.
+    /// Returns an empty list of lists.
     pub fn new(alloc: Global) -> Self
         ensures { result ≡ [] }
     {
@@ -112,7 +112,7 @@ impl<T> Lists<T> {
         }
     }
 
-    /// Returns the lists in these columns. Allocates no memory.
+    /// Returns the lists in these columns.
     pub fn of_columns(columns: ListColumns<T>) -> Self
         requires { ListColumnsAlign AreEnds columns }
         ensures { result ≡ lists_in columns }

@@ -67,7 +67,7 @@ impl Model for Operators {
 }
 
 impl OperatorColumns {
-    /// Returns the columns of no operators. Allocates no memory.
+    /// Returns the columns of no operators.
     pub fn new(alloc: Global) -> Self
         ensures { Hold (OperatorColumnsAlign AreEnds) operators_in result [] }
     {
@@ -161,7 +161,7 @@ impl OperatorColumns {
 }
 
 impl Operators {
-    /// Returns the operators in these columns. Allocates no memory.
+    /// Returns the operators in these columns.
     pub fn of_columns(columns: OperatorColumns) -> Self
         requires { OperatorColumnsAlign AreEnds columns }
         ensures { result ≡ operators_in columns }

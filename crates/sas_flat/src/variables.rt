@@ -56,7 +56,7 @@ impl Model for Variables {
 }
 
 impl VariableColumns {
-    /// Returns the columns of no variables. Allocates no memory.
+    /// Returns the columns of no variables.
     pub fn new(alloc: Global) -> Self
         ensures { Hold (VariableColumnsAlign AreEnds) variables_in result [] }
     {
@@ -117,7 +117,7 @@ impl VariableColumns {
 }
 
 impl Variables {
-    /// Returns the variables in these columns. Allocates no memory.
+    /// Returns the variables in these columns.
     pub fn of_columns(columns: VariableColumns) -> Self
         requires { VariableColumnsAlign AreEnds columns }
         ensures { result ≡ variables_in columns }

@@ -11,7 +11,7 @@ use sas_meaning::Layered;
 use std::alloc::{AllocError, Global};
 
 /// Returns for each fact, by its number, the groups of the task that contain it, each once. `own` are the groups' own lists, `firsts` the
-/// number of each variable's first fact, and `facts` the number of all facts. `Err` means out of memory.
+/// number of each variable's first fact, and `facts` the number of all facts.
 pub fn groups_by_fact<T: Grounded>(
     alloc: Global,
     layered: &Layered<T>,

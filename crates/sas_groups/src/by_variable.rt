@@ -16,7 +16,7 @@ pub const FEW_EFFECTS: u32 = 16;
 /// A hash multiplier, which spreads the effects of different operators.
 const SPREAD: u64 = 2_654_435_769;
 
-/// Returns the effects of large operators, grouped by the hash of operator and variable. `Err` means out of memory.
+/// Returns the effects of large operators, grouped by the hash of operator and variable.
 pub fn effects_by_variable<T: Grounded>(
     alloc: Global,
     layered: &Layered<T>,

@@ -25,7 +25,7 @@ pub fn facts_of<'a, T: Grounded>(
 }
 
 /// Returns an own list for each group of the task. It is empty if the list in the task is ascending and has no duplicates. Empty lists at
-/// the end are left out. `Err` means out of memory.
+/// the end are left out.
 pub fn own_lists<T: Grounded>(
     alloc: Global,
     layered: &Layered<T>,

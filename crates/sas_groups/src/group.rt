@@ -12,7 +12,7 @@ use crate::verdict::Verdict;
 use sas_core::{Fact, Grounded};
 use sas_meaning::Layered;
 
-/// Returns the verdict on a group, using only the group itself as an assumption. Allocates no memory.
+/// Returns the verdict on a group, using only the group itself as an assumption.
 ///
 /// The checks are, in this order: a fact on a derived variable; two different facts that hold in the state section; the first operator that
 /// doesn't preserve the group.

@@ -56,7 +56,7 @@ impl Index {
     ghost use Rattle.sas_groups.specs.Index as spec;
     ghost use Rattle.sas_groups.specs.Index.{IsIndexOf};
 
-    /// Returns the index of the task. `Err` means out of memory.
+    /// Returns the index of the task.
     pub fn new<T: Grounded>(alloc: Global, task: &Layered<T>) -> Result<Index, AllocError>
         ensures { IfOk result (λ index. IsIndexOf task.now index) }
     {
@@ -136,7 +136,7 @@ impl Index {
     }
 }
 
-/// Appends the number of each variable's first fact to the empty list, and returns the number of all facts. `Err` means out of memory.
+/// Appends the number of each variable's first fact to the empty list, and returns the number of all facts.
 fn number_facts<T: Grounded>(
     task: &Layered<T>,
     firsts: &mut Vec<usize>,

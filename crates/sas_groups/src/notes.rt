@@ -103,7 +103,7 @@ impl Drop for Notes {
 }
 
 impl Notes {
-    /// Returns notes without facts. `Err` means out of memory.
+    /// Returns notes without facts.
     pub fn new<T: Grounded>(
         alloc: Global,
         task: &Layered<T>,

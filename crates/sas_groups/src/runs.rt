@@ -11,7 +11,7 @@ use sas_meaning::Layered;
 use std::alloc::{AllocError, Global};
 
 /// Returns for each group of the task the lengths of its runs, which are consecutive facts on the same variable. `own` are the groups' own
-/// lists. `Err` means out of memory.
+/// lists.
 pub fn runs_of_groups<T: Grounded>(
     alloc: Global,
     layered: &Layered<T>,

@@ -87,7 +87,7 @@ impl Model for Lines {
 }
 
 impl Lines {
-    /// Returns a `Lines` without any input. Allocates no memory.
+    /// Returns a `Lines` without any input.
     pub fn new(alloc: Global) -> Self
         ensures line { result.line ≡ [] }
         ensures pending { result.pending ≡ [] }

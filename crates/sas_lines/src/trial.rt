@@ -90,7 +90,7 @@ impl Model for Narrow {
 
 impl Narrow {
     /// Returns a writer that takes at most `piece` bytes per write and `room` bytes in total. Once it is full, a write fails if `fails`,
-    /// else it takes no bytes. `Err` means out of memory.
+    /// else it takes no bytes.
     pub fn new(alloc: Global, piece: usize, room: usize, fails: bool) -> Result<Narrow, AllocError>
         ensures { IfOk result (λ n.
             n ≡ record { kept = []; piece = piece; room = room; fails = fails }) }

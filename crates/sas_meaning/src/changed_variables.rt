@@ -14,7 +14,7 @@ pub struct ChangedVariables {
 }
 
 impl ChangedVariables {
-    /// Returns an empty list without room. Allocates no memory. Once a variable is added, any variable may have changed.
+    /// Returns an empty list without room. Once a variable is added, any variable may have changed.
     pub fn none(alloc: Global) -> ChangedVariables
         ensures { IsCleared result }
     {
@@ -24,7 +24,7 @@ impl ChangedVariables {
         }
     }
 
-    /// Returns an empty list with room for `room` variables. `Err` means out of memory.
+    /// Returns an empty list with room for `room` variables.
     pub fn with_room(alloc: Global, room: usize) -> Result<ChangedVariables, AllocError>
         ensures cleared { IfOk result IsCleared }
         ensures room { IfOk result (λ touched. vec_capacity touched.vars ≡ room) }

@@ -87,7 +87,7 @@ impl<T: Grounded> Layered<T> {
         &self.task
     }
 
-    /// Converts the layered task into its task. Allocates no memory.
+    /// Converts the layered task into its task.
     pub fn into_task(self) -> T
         ensures { T.says result ≡ self }
     {

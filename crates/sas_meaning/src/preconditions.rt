@@ -6,8 +6,7 @@ ghost use Rattle.sas_meaning.specs.Steps.{preconditions};
 use sas_core::{Fact, Grounded};
 use std::marker::Model;
 
-/// Iterates over the preconditions of an operator: its prevail conditions, then the old values that its effects require. Allocates no
-/// memory. In a contract its value is the list of the remaining facts.
+/// Iterates over the preconditions of an operator: its prevail conditions, then the old values that its effects require. In a contract its value is the list of the remaining facts.
 #[derive(Drop)]
 pub struct Preconditions<'a, T: Grounded> {
     task: &'a T,

@@ -58,7 +58,7 @@ impl State {
         })
     }
 
-    /// Returns the state in the state section, in which each derived variable has its default. `Err` means out of memory.
+    /// Returns the state in the state section, in which each derived variable has its default.
     pub fn of_section<T: Grounded>(alloc: Global, task: &T) -> Result<State, AllocError>
         ensures { IfOk result (λ s. s ≡ (T.says task.now).init) }
     {

@@ -25,7 +25,7 @@ use sas_meaning::Layered;
 use std::alloc::{AllocError, Global};
 
 /// Returns the joint verdict on each group of the task, in order. The groups of the greatest family that is preserved jointly are
-/// exclusive. All memory is allocated before the operators are checked. `Err` means out of memory.
+/// exclusive. All memory is allocated before the operators are checked.
 pub fn check_groups<T: Grounded>(
     alloc: Global,
     layered: &Layered<T>,
@@ -88,7 +88,7 @@ fn first_verdicts<T: Grounded>(
     Ok(verdicts)
 }
 
-/// Returns the family of the groups that may be exclusive. `Err` means out of memory.
+/// Returns the family of the groups that may be exclusive.
 fn candidates(alloc: Global, verdicts: &[Verdict]) -> Result<Family, AllocError>
     ensures one_each { IfOk result (λ family. length family.kept ≡ length verdicts.now) }
     ensures exclusive { IfOk result (λ family. (place : ℕ) → place < length verdicts.now
@@ -107,7 +107,7 @@ fn candidates(alloc: Global, verdicts: &[Verdict]) -> Result<Family, AllocError>
     })
 }
 
-/// Returns for each verdict whether it is `Exclusive`. `Err` means out of memory.
+/// Returns for each verdict whether it is `Exclusive`.
 pub fn exclusive_of(alloc: Global, verdicts: &[Verdict]) -> Result<Items<bool>, AllocError>
     ensures one_each { IfOk result (λ kept. length kept ≡ length verdicts.now) }
     ensures exclusive { IfOk result (λ kept. (place : ℕ) → place < length verdicts.now

@@ -39,7 +39,7 @@ impl Drop for Marks {
 }
 
 impl Marks {
-    /// Returns marks without recorded facts. `Err` means out of memory.
+    /// Returns marks without recorded facts.
     pub fn new<T: Grounded>(
         alloc: Global,
         indexed: &IndexedTask<'_, '_, T>,

@@ -48,8 +48,7 @@ const WATCHES_EACH: usize = 2;
 const MOST_WATCHES: usize = u32::MAX as usize - 1;
 
 impl Watches {
-    /// Returns no watches for this many groups and operators. All operators are loose. Allocates all memory that will be needed. `Err`
-    /// means out of memory.
+    /// Returns no watches for this many groups and operators. All operators are loose. Allocates all memory that will be needed.
     pub fn new(alloc: Global, groups: u32, operators: u32) -> Result<Watches, AllocError>
         ensures { IfOk result (λ watches. AreUnwatched groups operators watches) }
     {

@@ -59,7 +59,7 @@ impl<V: Copy> NameTable<V> {
         })
     }
 
-    /// Returns the value of this name, or `None` if it has none. It takes no memory.
+    /// Returns the value of this name, or `None` if it has none.
     pub fn get<L>(&self, place: &L, name: &[u8]) -> Option<V>
     where
         V: NameId<L>,
@@ -73,7 +73,7 @@ impl<V: Copy> NameTable<V> {
     }
 
     /// Returns a value that is that of this name if it identifies the name, or `None` if the name has no value. Reads no name unless no name
-    /// in the map has its digest. It takes no memory.
+    /// in the map has its digest.
     #[inline(always)]
     pub fn likely(&self, name: &[u8]) -> Option<V>
         ensures { result ≡ likely_of self.now name.now }

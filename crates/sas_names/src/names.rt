@@ -64,7 +64,7 @@ impl Names {
         Ok(())
     }
 
-    /// Returns the lowest operator of this name, or `None` if no operator has it. `task` is the task of these names. It takes no memory.
+    /// Returns the lowest operator of this name, or `None` if no operator has it. `task` is the task of these names.
     pub fn first<T: Grounded>(&self, task: &T, name: &[u8]) -> Option<u32>
         requires { AreNames (T.says task.now) self.now }
         ensures { IsNextNamed (T.says task.now) name.now 0 result }
@@ -72,7 +72,7 @@ impl Names {
         self.first.get(task, name)
     }
 
-    /// Returns, for each operator, the next one of the same name. It takes no memory.
+    /// Returns, for each operator, the next one of the same name.
     pub fn next(&self) -> &[Option<u32>]
         ensures { (p : Parts) → AreNames p self.now → (first : ℕ) → IsChain p first result.now }
     {
@@ -108,7 +108,7 @@ impl<'n, T: Grounded> Model for NamedTask<'n, T> {
 
 impl<'n, T: Grounded> NamedTask<'n, T> {
     /// Returns an operator that is the lowest of this name if it has the name, or `None` if no operator has it. Finds it by the digest of
-    /// the name, and reads no name of an operator unless no name has this digest. It takes no memory.
+    /// the name, and reads no name of an operator unless no name has this digest.
     #[inline(always)]
     pub(crate) fn likely(&self, name: &[u8]) -> Option<u32>
         ensures some { IfSome result (IsLikely self.now name.now) }
@@ -117,7 +117,7 @@ impl<'n, T: Grounded> NamedTask<'n, T> {
         self.names.first.likely(name)
     }
 
-    /// Returns the lowest operator of this name, or `None` if no operator has it. `likely` is its likely operator. It takes no memory.
+    /// Returns the lowest operator of this name, or `None` if no operator has it. `likely` is its likely operator.
     #[inline(always)]
     pub(crate) fn confirm(&self, name: &[u8], likely: u32) -> Option<u32>
         requires { IsLikely self.now name.now likely }

@@ -49,7 +49,7 @@ impl StepNames {
         }
     }
 
-    /// Returns the number of the name, or `None` if no step has it. `plan` is the plan of these names. It takes no memory.
+    /// Returns the number of the name, or `None` if no step has it. `plan` is the plan of these names.
     pub fn number<P: Stepwise>(&self, plan: &P, name: &[u8]) -> Option<usize>
         requires { AreStepNames (P.says plan.now).steps self.now }
         ensures { result ≡ value_of (step_names (P.says plan.now).steps) self.now.numbers name.now }
@@ -61,7 +61,7 @@ impl StepNames {
         }
     }
 
-    /// Returns the number of the name of each step. It takes no memory.
+    /// Returns the number of the name of each step.
     pub fn of_steps(&self) -> &[usize]
         ensures { result.now ≡ self.now.of_steps.items }
     {

@@ -91,7 +91,7 @@ impl StepOperators {
         })
     }
 
-    /// Returns both lists, borrowed. It takes no memory.
+    /// Returns both lists, borrowed.
     pub fn found(&self) -> PlanOperators<'_>
         ensures firsts { result.firsts.now ≡ self.now.firsts.items }
         ensures nexts { result.nexts.now ≡ self.now.next.items }
@@ -102,7 +102,7 @@ impl StepOperators {
         }
     }
 
-    /// Returns the next operator of the same name, for each operator of one of the steps' names. It takes no memory.
+    /// Returns the next operator of the same name, for each operator of one of the steps' names.
     pub fn nexts(&self) -> &[Option<u32>]
         ensures { result.now ≡ self.now.next.items }
     {

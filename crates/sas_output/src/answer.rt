@@ -14,7 +14,7 @@ pub struct Answer {
 }
 
 impl Answer {
-    /// Writes the text, and returns its status. It takes no memory. Not to be called after a failure.
+    /// Writes the text, and returns its status. Not to be called after a failure.
     pub fn write<W: Write>(&self, out: &mut Watched<W>) -> Result<Status, ToolFault>
         requires { out.old.failed ≡ false }
         ensures writes { Writes W.contents (Ends (λ output. output ≡ Some (output_of self.now)))

@@ -10,7 +10,7 @@ use sas_task_format::{Mark, WrongWord};
 use std::alloc::AllocError;
 
 /// Appends the reasons why a task is refused for a fault of this kind: the location of the line, what is expected there, which number is
-/// wrong, if any, and what was found. Returns `Err` if out of memory.
+/// wrong, if any, and what was found.
 pub fn push_task_reasons(
     out: &mut Vec<u8>,
     kind: Kind,
@@ -29,8 +29,7 @@ pub fn push_task_reasons(
     push_found(out, kind, found)
 }
 
-/// Appends the reasons why a plan is refused for a fault of this kind: what is expected, and what was found. Returns `Err` if out of
-/// memory.
+/// Appends the reasons why a plan is refused for a fault of this kind: what is expected, and what was found.
 pub fn push_plan_reasons(out: &mut Vec<u8>, kind: Kind, found: &Excerpt) -> Result<(), AllocError>
     ensures { OnOk result (out.new.items ≡ out.old.items
         ++ file_text (plan_reasons kind (kept_bytes found.now) found.now.more)) }

@@ -22,7 +22,7 @@ pub struct PlanReader {
 impl PlanReader {
     ghost use Rattle.sas_plan_file.specs.PlanReader.{plan_view};
 
-    /// Returns a reader that has read nothing yet and refuses more than 4 GiB. It takes no memory.
+    /// Returns a reader that has read nothing yet and refuses more than 4 GiB.
     pub fn new(alloc: Global) -> Self
         ensures { Starts plan_view most_bytes result }
     {

@@ -81,21 +81,21 @@ impl<'t, 'p, E: Settle<T> + Drop, T: Grounded, P: Stepwise> Execution<'t, 'p, E,
         })
     }
 
-    /// Returns the task. It takes no memory.
+    /// Returns the task.
     pub fn layered(&self) -> &'t Layered<T>
         ensures { result.now ≡ self.now.task }
     {
         self.layered
     }
 
-    /// Returns the operators of the steps that are known to succeed. It takes no memory.
+    /// Returns the operators of the steps that are known to succeed.
     pub fn operators(&self) -> &[u32]
         ensures { result.now ≡ self.now.operators }
     {
         self.progress.operators.as_slice()
     }
 
-    /// Returns the current state: the one after the steps made so far. It takes no memory.
+    /// Returns the current state: the one after the steps made so far.
     pub fn state(&self) -> &State
         ensures now { result.now ≡ self.now.state }
         ensures fits { IsState self.now.task.variables self.now.state }
@@ -103,14 +103,14 @@ impl<'t, 'p, E: Settle<T> + Drop, T: Grounded, P: Stepwise> Execution<'t, 'p, E,
         &self.progress.state
     }
 
-    /// Returns the facts that the last step made false. It takes no memory.
+    /// Returns the facts that the last step made false.
     pub fn deleted(&self) -> &[Fact]
         ensures { result.now ≡ self.now.deleted }
     {
         self.stepper.deleted.facts.as_slice()
     }
 
-    /// Returns which derived variables may have changed in the last step. It takes no memory.
+    /// Returns which derived variables may have changed in the last step.
     pub fn touched(&self) -> &ChangedVariables
         ensures { result.now ≡ self.now.touched }
     {
@@ -118,7 +118,7 @@ impl<'t, 'p, E: Settle<T> + Drop, T: Grounded, P: Stepwise> Execution<'t, 'p, E,
     }
 
     /// Makes the plan's steps up to its fault, and returns to the initial state. Returns the fault, or `None` if the plan is valid.
-    /// Afterwards `operators` returns the operators of all steps before the fault. It takes no memory.
+    /// Afterwards `operators` returns the operators of all steps before the fault.
     pub fn find_fault(&mut self) -> Option<PlanFault>
         requires { self.old.operators ≡ [] }
         ensures { IsFound self.old.task self.old.plan result self.new }
@@ -138,7 +138,7 @@ impl<'t, 'p, E: Settle<T> + Drop, T: Grounded, P: Stepwise> Execution<'t, 'p, E,
     }
 
     /// Returns the lowest applicable operator that has the same name as the next step's operator and a higher number. Returns `None` if
-    /// there is no such operator. It takes no memory.
+    /// there is no such operator.
     pub fn later(&self) -> Option<u32>
         requires { self.now.made < length self.now.operators }
         ensures { IsLaterIfAny self.now.task self.now.state (next_operator self.now) result }
@@ -153,7 +153,7 @@ impl<'t, 'p, E: Settle<T> + Drop, T: Grounded, P: Stepwise> Execution<'t, 'p, E,
         )
     }
 
-    /// Makes the next step and returns its operator. Afterwards `deleted` and `touched` return what it changed. It takes no memory.
+    /// Makes the next step and returns its operator. Afterwards `deleted` and `touched` return what it changed.
     pub fn advance(&mut self) -> u32
         requires { self.old.made < length self.old.operators }
         ensures advances { Advances self.old result self.new }

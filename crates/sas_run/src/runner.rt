@@ -91,7 +91,7 @@ impl<'a, E: Settle<T> + Drop, T: Grounded> Runner<'a, E, T> {
         initial_of(alloc, self.layered, &mut self.stepper)
     }
 
-    /// Returns whether the operator's preconditions hold in the state. It takes no memory.
+    /// Returns whether the operator's preconditions hold in the state.
     pub fn applicable(&self, state: &State, operator: u32) -> bool
         requires operator { operator < length self.now.operators }
         requires state { IsState self.now.variables state.now }
@@ -100,7 +100,7 @@ impl<'a, E: Settle<T> + Drop, T: Grounded> Runner<'a, E, T> {
         is_applicable(self.layered, state, operator)
     }
 
-    /// Returns the operator that the name means in the state: the lowest-numbered applicable one of exactly this name. It takes no memory.
+    /// Returns the operator that the name means in the state: the lowest-numbered applicable one of exactly this name.
     pub fn choose(&self, state: &State, name: &[u8]) -> Choice
         requires { IsState self.now.variables state.now }
         ensures { IsChoice self.now state.now name.now result }
@@ -114,8 +114,7 @@ impl<'a, E: Settle<T> + Drop, T: Grounded> Runner<'a, E, T> {
         }
     }
 
-    /// Makes the operator's step in the state. If the operator has no step there, leaves the state unchanged and returns the reason. It
-    /// takes no memory.
+    /// Makes the operator's step in the state. If the operator has no step there, leaves the state unchanged and returns the reason.
     pub fn step(&mut self, state: &mut State, operator: u32) -> Result<(), StepFault>
         requires operator { operator < length self.old.operators }
         requires state { IsState self.old.variables state.old }
@@ -128,7 +127,7 @@ impl<'a, E: Settle<T> + Drop, T: Grounded> Runner<'a, E, T> {
         }
     }
 
-    /// Returns the index of the first fact of the goal that doesn't hold, or `None` if the goal holds. It takes no memory.
+    /// Returns the index of the first fact of the goal that doesn't hold, or `None` if the goal holds.
     pub fn goal(&self, state: &State) -> Option<u32>
         requires { IsState self.now.variables state.now }
         ensures { IsGoalAnswer state.now self.now.goal result }

@@ -131,7 +131,7 @@ pub fn initial_of<E: Settle<T> + Drop, T: Grounded>(
     Ok(state)
 }
 
-/// Sets the state to the initial one again. It takes no memory.
+/// Sets the state to the initial one again.
 pub fn go_back<E: Settle<T> + Drop, T: Grounded>(
     layered: &Layered<T>,
     stepper: &mut Stepper<E>,
@@ -162,8 +162,7 @@ fn set_section<T: Grounded>(task: &Layered<T>, state: &mut State)
     }
 }
 
-/// Makes the step of an applicable operator, from any state. If its effects conflict, leaves the state unchanged and returns the fault. It
-/// takes no memory.
+/// Makes the step of an applicable operator, from any state. If its effects conflict, leaves the state unchanged and returns the fault.
 pub fn step_on<E: Settle<T> + Drop, T: Grounded>(
     layered: &Layered<T>,
     stepper: &mut Stepper<E>,

@@ -36,7 +36,7 @@ impl Tracker {
         }
     }
 
-    /// Moves past the next line, which has this number, if it is one. Returns `Err` if out of memory.
+    /// Moves past the next line, which has this number, if it is one.
     pub fn move_on(&mut self, by: Move, number: u32) -> Result<(), AllocError>
         ensures ok { OnOk result (self.new ≡ after_move by number self.old) }
         ensures err { OnErr result ((to : Place) × (by ≡ moves.Range to)) }

@@ -187,8 +187,7 @@ fn read_operator_begin(bytes: &[u8]) -> Option<(&[u8], &[u8])>
 }
 
 /// Reads a whole operator at the beginning of the bytes, and appends its prevail conditions to `prevail` and its effects to `effects`.
-/// Returns `None` if a fact doesn't exist or the lines have another form; then the operator has to be read line by line. Returns `Err` if
-/// out of memory. After `None` or `Err` some of them may have been appended. The content of `conditions` is unspecified afterwards.
+/// Returns `None` if a fact doesn't exist or the lines have another form; then the operator has to be read line by line. After `None` or `Err` some of them may have been appended. The content of `conditions` is unspecified afterwards.
 #[inline(always)]
 pub fn read_operator<'a>(
     ranges: &Items<u32>,
@@ -239,7 +238,7 @@ fn head_before<'a>(ranges: &Items<u32>, bytes: &'a [u8]) -> Option<(Change, &'a 
 }
 
 /// Reads a whole rule at the beginning of the bytes, and appends its conditions to `conditions`. Returns `None` if a fact doesn't exist or
-/// the lines have another form; then the rule has to be read line by line. Returns `Err` if out of memory. After `None` or `Err` some
+/// the lines have another form; then the rule has to be read line by line. After `None` or `Err` some
 /// conditions may have been appended.
 #[inline(always)]
 pub fn read_rule(

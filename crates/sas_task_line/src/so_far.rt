@@ -128,7 +128,7 @@ impl SoFar {
     }
 
     /// Adds the content of the line. A list that begins is empty already, but setting it here again means that no contract has to require
-    /// it. Returns `Err` if out of memory.
+    /// it.
     pub fn add(
         &mut self,
         line: &[u8],

@@ -39,7 +39,7 @@ impl LineValues {
         }
     }
 
-    /// Stores an effect without conditions. It takes no memory.
+    /// Stores an effect without conditions.
     pub fn say_effect(&mut self, change: Change)
         ensures { self.new.effect ≡ plain_effect change }
     {

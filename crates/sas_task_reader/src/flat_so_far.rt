@@ -89,7 +89,7 @@ impl Model for FlatSoFar {
 }
 
 impl FlatSoFar {
-    /// Returns a store without content. It takes no memory.
+    /// Returns a store without content.
     #[tactic(auto, using(crate::proofs::StoredParts::no_rules))]
     pub fn new(alloc: Global) -> Self
         ensures { result ≡ nothing_yet alloc }
@@ -115,7 +115,7 @@ impl FlatSoFar {
         }
     }
 
-    /// Returns the task with the parts read so far, which must be well ranged. It takes no memory.
+    /// Returns the task with the parts read so far, which must be well ranged.
     pub fn into_task(self) -> FlatTask
         requires { WellRanged self.parts }
         ensures { result ≡ self.parts }

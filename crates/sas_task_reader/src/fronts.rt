@@ -28,7 +28,7 @@ pub struct SectionLists {
 }
 
 impl SectionLists {
-    /// Returns empty lists. It takes no memory.
+    /// Returns empty lists.
     pub fn new(alloc: Global) -> Self {
         SectionLists {
             values: Lists::new(alloc),

@@ -23,7 +23,7 @@ pub struct TaskReader {
 impl TaskReader {
     ghost use Rattle.sas_task_reader.specs.TaskReader.{task_view};
 
-    /// Returns a reader that has read nothing yet and refuses more than 4 GiB. It takes no memory.
+    /// Returns a reader that has read nothing yet and refuses more than 4 GiB.
     pub fn new(alloc: Global) -> Self
         ensures { Starts task_view most_bytes result }
     {

@@ -17,7 +17,7 @@ use sas_groups::Verdict;
 use sas_meaning::Layered;
 use std::alloc::{AllocError, Global};
 
-/// Returns for each group its reason if the verdict is `Derived` or `Initial`, else `None`. `Err` means out of memory.
+/// Returns for each group its reason if the verdict is `Derived` or `Initial`, else `None`.
 pub fn first_reasons<T: Grounded>(
     alloc: Global,
     layered: &Layered<T>,

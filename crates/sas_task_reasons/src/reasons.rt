@@ -17,7 +17,7 @@ use sas_mutex::{Marks, exclusive_of};
 use std::alloc::{AllocError, Global};
 
 /// Returns for each group of the task, in order, the reason for the joint verdict on it, or `None` if it is exclusive. All memory is
-/// allocated before the operators are checked. `Err` means out of memory.
+/// allocated before the operators are checked.
 pub fn group_reasons<T: Grounded>(
     alloc: Global,
     layered: &Layered<T>,
@@ -85,7 +85,7 @@ fn is_broken(verdict: Verdict) -> bool
     matches!(verdict, Verdict::Broken { .. })
 }
 
-/// Returns for each operator whether it breaks a group. `Err` means out of memory.
+/// Returns for each operator whether it breaks a group.
 fn breaking_operators(
     alloc: Global,
     operators: u32,

@@ -23,7 +23,7 @@ const VERSION: u128 = 3;
 trait Encode {
     ghost lines: { Self → List TaskLine };
 
-    /// Appends the lines. Returns `Err` if out of memory.
+    /// Appends the lines.
     fn encode(&self, out: &mut Vec<u8>) -> Result<(), AllocError>
         ensures { OnOk result (out.new.items ≡ out.old.items ++ text_of (lines self.now)) };
 }

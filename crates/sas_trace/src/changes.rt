@@ -9,7 +9,7 @@ use sas_meaning::{Settle, State};
 use sas_run::Execution;
 
 /// Lists the variables whose values in the state of the execution aren't those that were printed, in no order. Returns whether
-/// these are all: not so where any may have changed, or the list has too little room. It takes no memory. Only what the last step
+/// these are all: not so where any may have changed, or the list has too little room. Only what the last step
 /// may have changed is looked at.
 pub fn list_changes<E: Settle<T> + Drop, T: Grounded, P: Stepwise>(
     listed: &mut Vec<u32>,
